@@ -60,16 +60,16 @@ finds_in files c f = record { holds = f.holds; reads = f.reads }
 
 module _ {D : Type 0} {g : Ghosts D} (cap : ℕ) (out err : Growth) (bytes : List ℕ → Option (List ℕ))
     (asked : Asked) (status : Status) (Unread : Type 0) (Noticed : Notice → Type 0)
-    (start : Image) (first : Held (FileStore D g)) (files : Files D)
+    (start : Image) (first : Held (FileStore D g)) (failure : Option Error) (files : Files D)
     (opens : HasCleanDisk (file_state first) → IsOpened first)
     (finds : HasCleanDisk (file_state first) → FindsIn start (file_state first))
-    (it : RunsOver cap out err bytes asked status Unread Noticed first files) where
+    (it : RunsOver cap out err bytes asked status Unread Noticed first failure files) where
   crash : Survives (file_state first) (file_state it.last)
       (MayBeLeft cap out bytes asked status (file_state first).now)
   crash = elim it.ran [
     | inl r ↦ r.crash
     | inr r ↦ refused_crash cap out bytes asked status (file_state first) (file_state it.last)
-        r.back.crash
+        r.0.back.crash
   ]
 
   late : AreClean g files.log files.db → HasCleanDisk (file_state it.last)
@@ -97,7 +97,7 @@ module _ {D : Type 0} {g : Ghosts D} (cap : ℕ) (out err : Growth) (bytes : Lis
   read_first clean = read_as start (file_state first) (finds (early clean)) (sound_first clean)
 
   ran_of : Runs over_files first it.last cap out err bytes asked status Noticed →
-      Ran g cap out err bytes asked status Unread Noticed start files
+      Ran g cap out err bytes asked status Unread Noticed start failure files
   ran_of r = record {
     db = (file_state first).committed;
     old = r.old;
@@ -118,12 +118,14 @@ module _ {D : Type 0} {g : Ghosts D} (cap : ℕ) (out err : Growth) (bytes : Lis
         (sym (settled clean)) (keeps_first clean h keep));
     done = r.done;
     noticed = r.noticed;
-    let_go = subst (λ (e : Held (FileStore D g)). IsClosedAs e files) (sym r.end_is) it.closed;
+    let_go = subst (λ (e : Held (FileStore D g)). IsClosedAs e failure files) (sym r.end_is)
+        it.closed;
   }
 
   refused_of : Refuses over_files first it.last cap out err status Unread Noticed →
-      IsRefused g cap out err bytes asked status Unread Noticed start files
-  refused_of r =
+      failure ≡ None →
+      IsRefused g cap out err bytes asked status Unread Noticed start failure files
+  refused_of r none =
       let foreign = λ (is : r.fault ≡ Foreign) (clean : AreClean g files.log files.db).
       subst (IsForeignFile cap) (settled clean) (r.back.foreign is (late clean)) in
       record {
@@ -137,13 +139,15 @@ module _ {D : Type 0} {g : Ghosts D} (cap : ℕ) (out err : Growth) (bytes : Lis
         ours_is = λ clean. subst (λ (d : Database). IsTrue r.ours ↔ AreOurs d.schema)
             (settled clean) r.ours_is;
         read = read_first;
+        nothing_failed = none;
         foreign = foreign;
         none = λ is clean h keep. kept_is_own cap (file_state first).committed h
             (keeps_first clean h keep) (foreign is clean);
       }
 
-  pub ran_or_refused : RanOrRefused g cap out err bytes asked status Unread Noticed start files
-  ran_or_refused = elim it.ran [ inl r ↦ inl (ran_of r) | inr r ↦ inr (refused_of r) ]
+  pub ran_or_refused : RanOrRefused g cap out err bytes asked status Unread Noticed start failure
+      files
+  ran_or_refused = elim it.ran [ inl r ↦ inl (ran_of r) | inr r ↦ inr (refused_of r.0 r.1) ]
 
   -- each crash leaves what one from the connection could leave
   pub each_leads : SeenMayStay g → LeavesEach it.last files → (image : Image) →
@@ -155,7 +159,7 @@ module _ {D : Type 0} {g : Ghosts D} (cap : ℕ) (out err : Growth) (bytes : Lis
 
   copied_ends : Runs over_files first it.last cap out err bytes asked status Noticed →
       AreClean g files.log files.db → IsCopied it.last files →
-      Ends g cap out err bytes asked status Unread Noticed start files
+      Ends g cap out err bytes asked status Unread Noticed start failure files
   unfolding ran_of
   copied_ends r clean copied = record {
     ran = ran_of r;
@@ -173,14 +177,14 @@ module _ {D : Type 0} {g : Ghosts D} (cap : ℕ) (out err : Growth) (bytes : Lis
   }
 
   left_refused : SeenMayStay g →
-      Refuses over_files first it.last cap out err status Unread Noticed →
+      Refuses over_files first it.last cap out err status Unread Noticed → failure ≡ None →
       AreClean g files.log files.db → LeavesEach it.last files →
-      Refused g cap out err bytes asked status Unread Noticed start files
+      Refused g cap out err bytes asked status Unread Noticed start failure files
   unfolding refused_of
-  left_refused stays r clean left =
+  left_refused stays r none clean left =
       let was = as_it_was stays first it.last files (opens (early clean)) r.back.crash left in
       record {
-        refused = refused_of r;
+        refused = refused_of r none;
         kept = λ h keep image may. still_keeps cap (file_state first).committed image h
             (sound_first clean) (keeps_first clean h keep) (was image may);
         as_was = was;
@@ -191,9 +195,13 @@ module _ {D : Type 0} {g : Ghosts D} {cap : ℕ} {out err : Growth}
     {Noticed : Notice → Type 0} {first : Held (FileStore D g)} {failure : Option Error}
     {files : Files D} where
   pub over : ClosesOrLetsGo cap out err bytes asked status Unread Noticed first failure files →
-      RunsOver cap out err bytes asked status Unread Noticed first files
+      RunsOver cap out err bytes asked status Unread Noticed first failure files
   over (inl it) = record { last = it.last; ran = inl it.ran; closed = it.closed }
-  over (inr it) = record { last = it.last; ran = inr it.refused; closed = it.closed }
+  over (inr it) = record {
+    last = it.last;
+    ran = inr (it.refused, it.nothing_failed);
+    closed = it.closed;
+  }
 
 -- what was committed is copied, or the files of a refused store are let go as they were
 pub ended : {D : Type 0} {g : Ghosts D} → SeenMayStay g → (cap : ℕ) (out err : Growth)
@@ -204,28 +212,35 @@ pub ended : {D : Type 0} {g : Ghosts D} → SeenMayStay g → (cap : ℕ) (out e
     (HasCleanDisk (file_state first) → FindsIn start (file_state first)) →
     ClosesOrLetsGo cap out err bytes asked status Unread Noticed first failure files →
     failure ≡ None → AreClean g files.log files.db →
-    EndsOrRefuses g cap out err bytes asked status Unread Noticed start files
+    EndsOrRefuses g cap out err bytes asked status Unread Noticed start failure files
 ended stays cap out err bytes asked status Unread Noticed start first failure files opens finds
     (inl it) is clean = inl (copied_ends cap out err bytes asked status Unread Noticed start first
-    files opens finds (record { last = it.last; ran = inl it.ran; closed = it.closed }) it.ran clean
-    (it.copied is clean))
+    failure files opens finds (record {
+      last = it.last;
+      ran = inl it.ran;
+      closed = it.closed;
+    }) it.ran clean (it.copied is clean))
 ended stays cap out err bytes asked status Unread Noticed start first failure files opens finds
     (inr it) is clean = inr (left_refused cap out err bytes asked status Unread Noticed start first
-    files opens finds (record { last = it.last; ran = inr it.refused; closed = it.closed }) stays
-    it.refused clean (it.left clean))
+    failure files opens finds (record {
+      last = it.last;
+      ran = inr (it.refused, it.nothing_failed);
+      closed = it.closed;
+    }) stays it.refused it.nothing_failed clean (it.left clean))
 
 -- ---- one more run
 
 pub runs_on : {D : Type 0} (g : Ghosts D) (cap : ℕ) (out err : Growth)
     (bytes : List ℕ → Option (List ℕ)) (asked : Asked) (status : Status) (Unread : Type 0)
-    (Noticed : Notice → Type 0) (start : Image) (files : Files D) →
-    RanOrRefused g cap out err bytes asked status Unread Noticed start files →
+    (Noticed : Notice → Type 0) (start : Image) (failure : Option Error) (files : Files D) →
+    RanOrRefused g cap out err bytes asked status Unread Noticed start failure files →
     AreClean g files.log files.db →
-    RunsAfterAll g cap out err bytes asked status Unread Noticed start files
-runs_on g cap out err bytes asked status Unread Noticed start files end clean runs h first sound
-    keep follow =
+    RunsAfterAll g cap out err bytes asked status Unread Noticed start failure files
+runs_on g cap out err bytes asked status Unread Noticed start failure files end clean runs h first
+    sound keep follow =
     ∥∥₁_map (result cap runs h first start sound follow keep) (λ r.
-    let it : RunsAfter g cap out err bytes asked status Unread Noticed start files runs h = record {
+    let it : RunsAfter g cap out err bytes asked status Unread Noticed start failure files runs h =
+    record {
       left = r;
       run = elim end [
         | inl e ↦ inl (e, e.found clean _ r.keeps)

@@ -21,6 +21,7 @@ use Rattle.sqlite.specs.Held.{Held, AreDatabases}
 use Rattle.sqlite.specs.Closing.{IsCopied}
 use Rattle.sqlite.specs.Files.{HoldsDatabase, IsOpened, file_state}
 use Rattle.sqlite.specs.Start.{FindsIn}
+use Rattle.sqlite.specs.declared.error.Error.{Error}
 use Rattle.sqlite.proofs.Theorems.{opens_again}
 use Rattle.edf_tables.specs.Made.{IsMadeOf}
 use Rattle.edf_holdings.specs.Holdings.{Holdings}
@@ -93,8 +94,8 @@ module _ {D : Type 0} {g : Ghosts D} where
       }
 
   -- where the disk is clean in the end, it was as the files were let go
-  pub clean_last : (c : Held (FileStore D g)) (files : Files D) → IsClosedAs c files →
-      AreClean g files.log files.db → HasCleanDisk (file_state c)
+  pub clean_last : {failure : Option Error} (c : Held (FileStore D g)) (files : Files D) →
+      IsClosedAs c failure files → AreClean g files.log files.db → HasCleanDisk (file_state c)
   clean_last c files it clean =
       let sure = subst (λ (p : D × D). AreClean g p.0 p.1) (sym it.store_is) clean in
       let none : IsClean (view it.store) = no_doubt _ (clean_is it.store.pool ∙ sure) in

@@ -10,6 +10,7 @@ use Rattle.sqlite_wal.specs.Reads.{AreClean}
 use Rattle.sqlite_store.specs.declared.store.FileStore.{FileStore}
 use Rattle.sqlite.specs.State.{HasCleanDisk}
 use Rattle.sqlite.specs.Files.{over_files}
+use Rattle.sqlite.specs.declared.error.Error.{Error}
 use Rattle.edf_fragment.specs.Call.{InputState}
 use Rattle.edf_holdings.specs.Holdings.{Holdings}
 use Rattle.edf_holdings.specs.Reply.{after, replies}
@@ -120,14 +121,16 @@ module _ {D : Type 0} (g : Ghosts D) (cap : ℕ) (out err : Growth) (bytes : Lis
 
 pub closed_step : {D : Type 0} (g : Ghosts D) (cap : ℕ) (out err : Growth)
     (bytes : List ℕ → Option (List ℕ)) (asked : Asked) (status : Status) (Unread : Type 0)
-    (Noticed : Notice → Type 0) (start : Image) (files : Files D) →
-    EndsOrRefuses g cap out err bytes asked status Unread Noticed start files →
+    (Noticed : Notice → Type 0) (start : Image) (failure : Option Error) (files : Files D) →
+    EndsOrRefuses g cap out err bytes asked status Unread Noticed start failure files →
     AreClean g files.log files.db → (image : Image) → outcomes g files.log files.db image →
     IsStep cap out bytes asked status start image
-closed_step g cap out err bytes asked status Unread Noticed start files (inl e) clean image may =
+closed_step g cap out err bytes asked status Unread Noticed start failure files (inl e) clean image
+    may =
     done_step g cap out err bytes status start image e.ran.old e.ran.new e.ran.cap_is
     (e.ran.found clean) (λ h held. (e.kept h held image may).0) (e.ran.clean clean) asked e.ran.done
-closed_step g cap out err bytes asked status Unread Noticed start files (inr r) clean image may =
+closed_step g cap out err bytes asked status Unread Noticed start failure files (inr r) clean image
+    may =
     inr (record {
       printed = none_printed out asked r.refused.said.0;
       keeps = λ h keep. r.kept h keep image may;

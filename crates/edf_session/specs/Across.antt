@@ -4,6 +4,7 @@ use Rattle.sqlite_disk.specs.declared.Disk.{Ghosts}
 use Rattle.sqlite_disk.specs.declared.Files.{Files}
 use Rattle.sqlite_wal.specs.Recovery.{Image}
 use Rattle.sqlite.specs.Files.{over_files}
+use Rattle.sqlite.specs.declared.error.Error.{Error}
 use Rattle.edf_fragment.specs.Told.{Told}
 use Rattle.edf_holdings.specs.Holdings.{Holdings, IsSound}
 use Rattle.edf_holdings.specs.Reply.{after, replies}
@@ -82,14 +83,14 @@ pub record LeaveAfterAll (cap : ℕ) (runs : List PastRun) (h : Holdings) (end :
 
 module _ {D : Type 0} (g : Ghosts D) (cap : ℕ) (out err : Growth)
     (bytes : List ℕ → Option (List ℕ)) (asked : Asked) (status : Status) (Unread : Type 0)
-    (Noticed : Notice → Type 0) (start : Image) (files : Files D) where
+    (Noticed : Notice → Type 0) (start : Image) (failure : Option Error) (files : Files D) where
   -- the store that was opened holds what all of them submitted, of which the headline speaks, and
   -- the command was run over that; or the store was refused for a cause, so never with E45
   pub record RunsAfter (runs : List PastRun) (h : Holdings) : Type 0 where
     pub left : LeaveAfterAll cap runs h start
-    pub run : ((r : Ran g cap out err bytes asked status Unread Noticed start files)
+    pub run : ((r : Ran g cap out err bytes asked status Unread Noticed start failure files)
         × Holds over_files r.old (after cap h left.tolds))
-        ⊎ ((r : IsRefused g cap out err bytes asked status Unread Noticed start files)
+        ⊎ ((r : IsRefused g cap out err bytes asked status Unread Noticed start failure files)
         × HasCause r.fault)
 
   -- whatever runs led to what the files held as this one began

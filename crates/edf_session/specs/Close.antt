@@ -1,17 +1,19 @@
 -- What a run answers, and what the two files hold once it has let them go.
-use Rattle.std.specs.Prelude.{◌≡◌, ◌⊎◌, ◌↔◌, ℕ, Bool, false, List, [], Option, IsTrue}
+use Rattle.std.specs.Prelude.{◌≡◌, ◌⊎◌, ◌↔◌, ℕ, Bool, false, List, [], Option, None, IsTrue, IfSome}
 use Rattle.sqlite_disk.specs.declared.Disk.{Ghosts}
 use Rattle.sqlite_disk.specs.declared.Files.{Files}
 use Rattle.sqlite_wal.specs.Recovery.{Image}
 use Rattle.sqlite_wal.specs.Files.{outcomes}
 use Rattle.sqlite_wal.specs.Reads.{AreClean}
+use Rattle.sqlite_trees.specs.View.{IsClean}
 use Rattle.sqlite_store.specs.declared.store.FileStore.{FileStore}
-use Rattle.sqlite_store.specs.FileStore.{files as store_files}
+use Rattle.sqlite_store.specs.FileStore.{view, files as store_files}
 use Rattle.sqlite.specs.Tree.{Trees}
 use Rattle.sqlite.specs.Effect.{Database}
 use Rattle.sqlite.specs.Held.{Held}
 use Rattle.sqlite.specs.State.{HasCleanDisk}
-use Rattle.sqlite.specs.Files.{HoldsDatabase, over_files, IsClosed}
+use Rattle.sqlite.specs.Files.{HoldsDatabase, over_files, IsClosed, FailsToClose}
+use Rattle.sqlite.specs.declared.error.Error.{Error}
 use Rattle.edf_tables.specs.Schema.{HasBoth, AreOurs}
 use Rattle.edf_tables.specs.Made.{IsMadeOf}
 use Rattle.edf_tables.specs.Others.{KeepsTrees}
@@ -39,16 +41,19 @@ pub record IsUnopened (out err : Growth) (status : Status) (Noticed : Notice →
     pub noticed : Noticed (was_refused fault false)
 
 -- the files are those of the connection's store, which was closed, or could not be: a crash leaves
--- nothing that it could not leave before
-pub record IsClosedAs {D : Type 0} {g : Ghosts D} (last : Held (FileStore D g)) (files : Files D) :
-    Type 0 where
+-- nothing that it could not leave before. A failure that is told has its cause, on a disk that gave
+-- back what was written: a call of the disk failed in the close, or the connection was shut before;
+-- or memory ran out, and of that no cause is said
+pub record IsClosedAs {D : Type 0} {g : Ghosts D} (last : Held (FileStore D g))
+    (failure : Option Error) (files : Files D) : Type 0 where
   pub store : FileStore D g
   pub store_is : store_files store ≡ (files.log, files.db)
   pub closed : IsClosed last store
+  pub told : IfSome failure (λ e. IsClean (view store) → FailsToClose last store e)
 
 module _ {D : Type 0} (g : Ghosts D) (cap : ℕ) (out err : Growth)
     (bytes : List ℕ → Option (List ℕ)) (asked : Asked) (status : Status) (Unread : Type 0)
-    (Noticed : Notice → Type 0) (start : Image) (files : Files D) where
+    (Noticed : Notice → Type 0) (start : Image) (failure : Option Error) (files : Files D) where
   -- whatever became of the close: the store was opened, and the command was run over it. Where the
   -- disk gave back what was written, it holds what the files held, and they held rows that some
   -- submissions leave, or none
@@ -64,10 +69,10 @@ module _ {D : Type 0} (g : Ghosts D) (cap : ℕ) (out err : Growth)
         Holds over_files old h
     pub done : IsDone over_files old new out err bytes asked status
     pub noticed : Noticed (was_opened out.before)
-    pub let_go : IsClosedAs new.connection files
+    pub let_go : IsClosedAs new.connection failure files
 
   -- or the store was refused, a line says so, and no file was opened. The fault has a cause; or it
-  -- is E45, and the files held a database that no submissions leave
+  -- is E45, and the files held a database that no submissions leave. No failure to close is told
   pub record IsRefused : Type 0 where
     pub db : Database
     pub fault : StoreFault
@@ -78,6 +83,7 @@ module _ {D : Type 0} (g : Ghosts D) (cap : ℕ) (out err : Growth)
     pub noticed : Noticed (was_refused fault ours)
     pub ours_is : AreClean g files.log files.db → (IsTrue ours ↔ AreOurs db.schema)
     pub read : AreClean g files.log files.db → AreReadAs start db
+    pub nothing_failed : failure ≡ None
     pub foreign : fault ≡ Foreign → AreClean g files.log files.db → IsForeignFile cap db
     pub none : fault ≡ Foreign → AreClean g files.log files.db → (h : Holdings) →
         ¬ FilesKeep cap start h

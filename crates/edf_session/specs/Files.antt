@@ -10,8 +10,8 @@ use Rattle.edf_tables.specs.Schema.{no_schema, one_schema, HasBoth}
 use Rattle.edf_holdings.specs.Holdings.{Holdings, nothing_held}
 use Rattle.edf_rows.specs.Rows.{AreKept}
 
--- a database keeps these: it has neither table, or the first without a row, and nothing is held; or
--- it has both, whose rows stand for them
+-- a database keeps these: it has no table at all, or only our first, without a row, and nothing is
+-- held; or it has both, whose rows stand for them
 pub data Keeps (cap : ℕ) (db : Database) (h : Holdings) : Type 0 where
   no_table : db.schema ≡ no_schema → h ≡ nothing_held → Keeps cap db h
   one_table : db.schema ≡ one_schema → stored_recordings db.trees ≡ [] → h ≡ nothing_held →

@@ -82,11 +82,6 @@ module _ {S : Type 0} (g : Ghosts S) (start end : Held S) (cap : ℕ) (out err :
     pub unread : Unread
     pub live : IsLive (state g end)
 
-  abbrev pub IsRun : (List ℕ → Option (List ℕ)) → Asked → Status → Type 0 → (Notice → Type 0) →
-      Type 0
-  IsRun bytes asked status Unread Noticed = Runs bytes asked status Noticed
-      ⊎ Refuses status Unread Noticed
-
 -- ---- over files
 
 -- the files hold the trees of a database that a crash at this moment could leave
@@ -105,15 +100,18 @@ pub record LeavesEach {D : Type 0} {g : disk.Ghosts D} (c : Held (FileStore D g)
 module _ {D : Type 0} {g : disk.Ghosts D} (cap : ℕ) (out err : Growth)
     (bytes : List ℕ → Option (List ℕ)) (asked : Asked) (status : Status) (Unread : Type 0)
     (Noticed : Notice → Type 0) where
-  -- the run over the connection, whose store had these files
-  pub record RunsOver (first : Held (FileStore D g)) (files : Files D) : Type 0 where
+  -- the run over the connection, whose store had these files; where it was refused no failure to
+  -- close is told
+  pub record RunsOver (first : Held (FileStore D g)) (failure : Option Error) (files : Files D) :
+      Type 0 where
     pub last : Held (FileStore D g)
-    pub ran : IsRun over_files first last cap out err bytes asked status Unread Noticed
-    pub closed : IsClosedAs last files
+    pub ran : Runs over_files first last cap out err bytes asked status Noticed
+        ⊎ (Refuses over_files first last cap out err status Unread Noticed × (failure ≡ None))
+    pub closed : IsClosedAs last failure files
 
   -- the same, and each crash leaves what one could leave
   pub record Leaves (first : Held (FileStore D g)) (files : Files D) : Type 0 where
-    pub over : RunsOver first files
+    pub over : RunsOver first None files
     pub each : AreClean g files.log files.db → LeavesEach over.last files
 
   -- the store was opened and the command was run; what was committed is copied where no failure is
@@ -123,7 +121,7 @@ module _ {D : Type 0} {g : disk.Ghosts D} (cap : ℕ) (out err : Growth)
     pub last : Held (FileStore D g)
     pub ran : Runs over_files first last cap out err bytes asked status Noticed
     pub copied : failure ≡ None → AreClean g files.log files.db → IsCopied last files
-    pub closed : IsClosedAs last files
+    pub closed : IsClosedAs last failure files
 
   -- or the store was refused, and its files were let go as they were
   pub record LetsGo (first : Held (FileStore D g)) (failure : Option Error) (files : Files D) :
@@ -132,7 +130,7 @@ module _ {D : Type 0} {g : disk.Ghosts D} (cap : ℕ) (out err : Growth)
     pub refused : Refuses over_files first last cap out err status Unread Noticed
     pub nothing_failed : failure ≡ None
     pub left : AreClean g files.log files.db → LeavesEach last files
-    pub closed : IsClosedAs last files
+    pub closed : IsClosedAs last failure files
 
   abbrev pub ClosesOrLetsGo : Held (FileStore D g) → Option Error → Files D → Type 0
   ClosesOrLetsGo first failure files = Closes first failure files ⊎ LetsGo first failure files

@@ -48,12 +48,12 @@ pub fn run_files<D: Disk + Drop, I: Inputs, O: Output, F: Output, W: Watch>(
     ensures ran { IfOk result (λ s. RanOrRefused D.Disk cap (growth O.Output out.old out.new)
         (growth F.Output err.old err.new) (I.bytes inputs.old) (meaning command.now) s.status
         (inputs.new ≡ inputs.old) (IsNoticed (W.noticed watch.old) (W.noticed watch.new))
-        (image_of D.Disk files) s.files) }
+        (image_of D.Disk files) s.failure s.files) }
     ensures ended { IfOk result (λ s. s.failure ≡ None → AreClean D.Disk s.files.log s.files.db →
         EndsOrRefuses D.Disk cap (growth O.Output out.old out.new)
         (growth F.Output err.old err.new) (I.bytes inputs.old) (meaning command.now) s.status
         (inputs.new ≡ inputs.old) (IsNoticed (W.noticed watch.old) (W.noticed watch.new))
-        (image_of D.Disk files) s.files) }
+        (image_of D.Disk files) s.failure s.files) }
     ensures steps { IfOk result (λ s. s.failure ≡ None → AreClean D.Disk s.files.log s.files.db →
         (image : Image) → outcomes D.Disk s.files.log s.files.db image →
         IsStep cap (growth O.Output out.old out.new) (I.bytes inputs.old) (meaning command.now)
@@ -62,7 +62,7 @@ pub fn run_files<D: Disk + Drop, I: Inputs, O: Output, F: Output, W: Watch>(
         RunsAfterAll D.Disk cap (growth O.Output out.old out.new)
         (growth F.Output err.old err.new) (I.bytes inputs.old) (meaning command.now) s.status
         (inputs.new ≡ inputs.old) (IsNoticed (W.noticed watch.old) (W.noticed watch.new))
-        (image_of D.Disk files) s.files) }
+        (image_of D.Disk files) s.failure s.files) }
     ensures one { IfOk result (λ s. AreClean D.Disk s.files.log s.files.db →
         KeepOne cap (image_of D.Disk files)) }
     ensures now { IfOk result (λ s. outcomes D.Disk s.files.log s.files.db

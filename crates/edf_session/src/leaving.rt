@@ -1,6 +1,6 @@
 //! One run over the two files of a store, which lets them go where it should close them.
 
-ghost use Rattle.std.specs.Prelude.{◌≡◌, ◌≤◌, false, IsTrue, IfOk, IfErr};
+ghost use Rattle.std.specs.Prelude.{◌≡◌, ◌≤◌, false, None, IsTrue, IfOk, IfErr};
 ghost use Rattle.sqlite_wal.specs.Files.{outcomes};
 ghost use Rattle.sqlite_wal.specs.Reads.{AreClean};
 ghost use Rattle.sqlite_wal.specs.Recovery.{Image};
@@ -79,7 +79,7 @@ pub fn leave_files<D: Disk + Drop, I: Inputs, O: Output, F: Output, W: Watch>(
     ensures ran { IfOk result (λ s. RanOrRefused D.Disk cap (growth O.Output out.old out.new)
         (growth F.Output err.old err.new) (I.bytes inputs.old) (meaning command.now) s.0
         (inputs.new ≡ inputs.old) (IsNoticed (W.noticed watch.old) (W.noticed watch.new))
-        (image_of D.Disk files) s.1) }
+        (image_of D.Disk files) None s.1) }
     ensures leads { IfOk result (λ s. AreClean D.Disk s.1.log s.1.db →
         (image : Image) → outcomes D.Disk s.1.log s.1.db image →
         LeadsAs cap (growth O.Output out.old out.new) (I.bytes inputs.old) (meaning command.now)

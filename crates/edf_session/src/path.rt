@@ -14,7 +14,7 @@ ghost use Rattle.edf_session.specs.Watch.{IsNoticed};
 ghost use Rattle.edf_session.specs.Files.{KeepOne};
 ghost use Rattle.edf_session.specs.Steps.{IsStep};
 ghost use Rattle.edf_session.specs.Close.{RanOrRefused, EndsOrRefuses, IsUnopened};
-ghost use Rattle.edf_session.specs.Unopened.{IsLeftIdle, IsNeverRead};
+ghost use Rattle.edf_session.specs.Unopened.{IsLeftOf, IsLeftIdle, TellsOutOfReach};
 ghost use Rattle.edf_session.specs.Across.{RunsAfterAll};
 
 use crate::session::{Session, run_and_close};
@@ -28,14 +28,15 @@ use sqlite_disk::Disk;
 
 /// One run over the files of the store that the command names, which are made where there are none:
 /// they are opened, the command is run over their store, and they are closed. New files are asked
-/// for with page sums, of which no clause speaks. `convert`, and a command over a store in memory,
-/// have no files and are not run here (`stored`).
+/// for with page sums; of these, and of the path that is opened, no clause speaks. `convert`, and a
+/// command over a store in memory, have no files and are not run here (`stored`).
 ///
 /// `start` stands for what the files hold at the start, whatever that is. Where the disk gives
 /// back what was written:
 /// - the files held no database, or one that some submissions leave, the store held just that, and
 ///   the command was run over it; or the store was refused for a cause, or with E45, where no
-///   submissions leave what the files held (`ran`);
+///   submissions leave what the files held; and where a close is told as failed, a call of the disk
+///   had failed, or memory ran out (`ran`);
 /// - where they were closed the files then hold, also after a crash and without the log, what the
 ///   store held in the end; or, where it was refused, the rows that they held (`ended`);
 /// - and all named files were submitted in turn, answered as is printed, or nothing changed
@@ -48,10 +49,11 @@ use sqlite_disk::Disk;
 ///
 /// # Errors
 /// The status, where the files were not opened: a line says why, and `watch` is told (`unopened`).
-/// With it comes what is left of them. It keeps what the files kept where they were only read, or
-/// held no database yet (`idle`), so that such a run is one of those that `across` speaks of. None
-/// is left where the files were not read at all: memory ran out, a file can't be opened, or another
-/// program has it (`unreached`).
+/// With it comes what is left of them, which stands for what they held (`left`). It keeps what they
+/// kept where they were only read, or held no database yet (`idle`), so that such a run is one of
+/// those that `across` speaks of. None is given back only where it is told that memory ran out, a
+/// file can't be opened, or another program has it (`unreached`); what was done to the files then
+/// no clause says.
 pub fn run_path<S: Start, I: Inputs, O: Output, F: Output, W: Watch>(
     rt: &HostRuntime,
     start: S,
@@ -68,13 +70,14 @@ pub fn run_path<S: Start, I: Inputs, O: Output, F: Output, W: Watch>(
     ensures ran { IfOk result (λ s. RanOrRefused ⟦<FileFrom<S> as Disk>⟧ cap
         (growth O.Output out.old out.new) (growth F.Output err.old err.new) (I.bytes inputs.old)
         (meaning command.now) s.status (inputs.new ≡ inputs.old)
-        (IsNoticed (W.noticed watch.old) (W.noticed watch.new)) (image_at S.Start) s.files) }
+        (IsNoticed (W.noticed watch.old) (W.noticed watch.new)) (image_at S.Start) s.failure
+        s.files) }
     ensures ended { IfOk result (λ s. s.failure ≡ None →
         AreClean ⟦<FileFrom<S> as Disk>⟧ s.files.log s.files.db →
         EndsOrRefuses ⟦<FileFrom<S> as Disk>⟧ cap (growth O.Output out.old out.new)
         (growth F.Output err.old err.new) (I.bytes inputs.old) (meaning command.now) s.status
         (inputs.new ≡ inputs.old) (IsNoticed (W.noticed watch.old) (W.noticed watch.new))
-        (image_at S.Start) s.files) }
+        (image_at S.Start) s.failure s.files) }
     ensures steps { IfOk result (λ s. s.failure ≡ None →
         AreClean ⟦<FileFrom<S> as Disk>⟧ s.files.log s.files.db →
         (image : Image) → outcomes ⟦<FileFrom<S> as Disk>⟧ s.files.log s.files.db image →
@@ -85,7 +88,7 @@ pub fn run_path<S: Start, I: Inputs, O: Output, F: Output, W: Watch>(
         RunsAfterAll ⟦<FileFrom<S> as Disk>⟧ cap (growth O.Output out.old out.new)
         (growth F.Output err.old err.new) (I.bytes inputs.old) (meaning command.now) s.status
         (inputs.new ≡ inputs.old) (IsNoticed (W.noticed watch.old) (W.noticed watch.new))
-        (image_at S.Start) s.files) }
+        (image_at S.Start) s.failure s.files) }
     ensures one { IfOk result (λ s. AreClean ⟦<FileFrom<S> as Disk>⟧ s.files.log s.files.db →
         KeepOne cap (image_at S.Start)) }
     ensures now { IfOk result (λ s. outcomes ⟦<FileFrom<S> as Disk>⟧ s.files.log s.files.db
@@ -96,8 +99,10 @@ pub fn run_path<S: Start, I: Inputs, O: Output, F: Output, W: Watch>(
         (growth F.Output err.old err.new) e.0
         (IsNoticed (W.noticed watch.old) (W.noticed watch.new))) }
     ensures unread { IfErr result (λ _. inputs.new ≡ inputs.old) }
-    ensures unreached { IfErr result (λ e. e.1 ≡ None → IsNeverRead
+    ensures unreached { IfErr result (λ e. e.1 ≡ None → TellsOutOfReach
+        (growth O.Output out.old out.new) (growth F.Output err.old err.new) e.0
         (IsNoticed (W.noticed watch.old) (W.noticed watch.new))) }
+    ensures left { IfErr result (λ e. IfSome e.1 (IsLeftOf (image_at S.Start))) }
     ensures idle { IfErr result (λ e. IfSome e.1 (IsLeftIdle cap
         (growth O.Output out.old out.new) (I.bytes inputs.old) (meaning command.now) e.0
         (image_at S.Start))) }

@@ -26,8 +26,9 @@ use std::alloc::Global;
 pub struct Session<D: Disk> {
     pub status: Status,
     /// Why what is held could not be copied into the database file as the run ended, if it could
-    /// not. A crash then leaves nothing that one before the close could not leave. Nothing is
-    /// copied where the store was refused.
+    /// not: a call of the disk failed, or memory ran out. A crash then leaves nothing that one
+    /// before the close could not leave. Where the store was refused nothing is copied, and none is
+    /// told.
     pub failure: Option<Error>,
     pub files: Files<D>,
 }
@@ -37,7 +38,7 @@ pub struct Session<D: Disk> {
 fn close<D: Disk + Drop>(conn: Connection<FileStore<D>>) -> (Option<Error>, Files<D>)
     ensures copied { result.0 ≡ None → AreClean D.Disk result.1.log result.1.db →
         IsCopied conn result.1 }
-    ensures closed { IsClosedAs conn result.1 }
+    ensures closed { IsClosedAs conn result.0 result.1 }
 {
     match conn.close_files() {
         Ok(files) => (None, files),
@@ -48,7 +49,7 @@ fn close<D: Disk + Drop>(conn: Connection<FileStore<D>>) -> (Option<Error>, File
 /// Lets the files of a connection go as they are. What is committed stays in the log.
 pub(crate) fn leave<D: Disk + Drop>(conn: Connection<FileStore<D>>) -> Files<D>
     ensures each { AreClean D.Disk result.log result.db → LeavesEach conn result }
-    ensures closed { IsClosedAs conn result }
+    ensures closed { IsClosedAs conn None result }
 {
     conn.into_store().close()
 }

@@ -12,13 +12,13 @@ use edf_store::StoreFault;
 
 /// Who is told how the opening of a store went, as for a person at a terminal.
 ///
-/// A run tells it once, before its command is run, or after the line that says why it is not.
-/// Contracts speak of what it was told, where that is known.
+/// A run tells it once: before its command writes to standard output, or after the line that says
+/// why it is not run. Contracts speak of what it was told, where that is known.
 pub trait Watch {
     // What it was told, in turn, where that is known.
     ghost noticed: { Self → Option (List Notice) };
 
-    /// The store is open, and the command is run next, which writes to `out`.
+    /// The store is open. The command, which writes to `out`, has written nothing.
     fn opened<O: Output>(&mut self, out: &O)
         ensures { IsNoticed (noticed self.old) (noticed self.new)
             (was_opened (O.contents out.now)) };

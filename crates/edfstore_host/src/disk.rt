@@ -1,7 +1,10 @@
 //! Stores in SQLite's files and in memory.
 
-ghost use Rattle.std.specs.Prelude.{◌≡◌, false};
+ghost use Rattle.std.specs.Prelude.{◌≡◌, false, IsTrue, IfOk};
 ghost use Rattle.sqlite.specs.Held.{state};
+ghost use Rattle.sqlite.specs.State.{HasCleanDisk};
+ghost use Rattle.sqlite.specs.Files.{over_files};
+ghost use Rattle.edf_store.specs.Held.{at};
 
 use edf_header::MOST_RECORDS;
 use edf_schema::is_ours;
@@ -35,6 +38,9 @@ pub(crate) fn is_missing(rt: &HostRuntime, path: &str) -> bool {
 /// The store over a connection.
 fn store_over<S: Alter + Drop>(alloc: Global, conn: Connection<S>) -> Result<Store<S>, Refused>
     requires autocommit { (state S.Store conn).in_transaction ≡ false }
+    ensures cap { IfOk result (λ store. store.cap ≡ MOST_RECORDS) }
+    ensures opened { IfOk result (λ store. HasCleanDisk (at S.Store store) →
+        IsTrue (at S.Store store).is_open × ((at S.Store store).in_transaction ≡ false)) }
 {
     let has_our_tables = is_ours(conn.schema());
     match Store::open(alloc, conn, MOST_RECORDS) {
@@ -48,7 +54,14 @@ fn store_over<S: Alter + Drop>(alloc: Global, conn: Connection<S>) -> Result<Sto
 
 /// The store of the file at a path, which is made where there is none. Each page of a new one ends
 /// in SQLite's page sum, and where a file has sums each is compared as it is opened.
-pub fn open_file(rt: &HostRuntime, path: &str) -> Result<Store<FileStore<File>>, Refused> {
+///
+/// A recording may have as many data records in it as a file may have (`cap`). The store is open,
+/// and in no transaction, where the disk gave back what was written (`opened`).
+pub fn open_file(rt: &HostRuntime, path: &str) -> Result<Store<FileStore<File>>, Refused>
+    ensures cap { IfOk result (λ store. store.cap ≡ MOST_RECORDS) }
+    ensures opened { IfOk result (λ store. HasCleanDisk (at over_files store) →
+        IsTrue (at over_files store).is_open × ((at over_files store).in_transaction ≡ false)) }
+{
     match Connection::open_from(rt, path, true, Unknown) {
         Ok(conn) => store_over(rt.alloc(), conn),
         Err((error, _)) => Err(Refused {

@@ -16,7 +16,8 @@ returns-in-Ok-clause-ran g c =
     ran_or_refused c.args.cap out err
     (g.I.Inputs.bytes c.args.inputs.now) (meaning c.args.command.now)
     c.run_and_close.result.status _ _ (image_of g.D.Disk c.args.files)
-    c.in-Ok.conn c.run_and_close.result.files c.in-Ok.ensures.opened
+    c.in-Ok.conn c.run_and_close.result.failure c.run_and_close.result.files
+    c.in-Ok.ensures.opened
     (λ early. finds_in c.args.files c.in-Ok.conn (c.in-Ok.ensures.found early))
     (over c.run_and_close.ensures.closes)
 
@@ -39,7 +40,8 @@ returns-in-Ok-clause-steps g c is clean image may =
     closed_step g.D.Disk c.args.cap out err
     (g.I.Inputs.bytes c.args.inputs.now) (meaning c.args.command.now)
     c.run_and_close.result.status _ _ (image_of g.D.Disk c.args.files)
-    c.run_and_close.result.files (returns-in-Ok-clause-ended g c is clean) clean image may
+    c.run_and_close.result.failure c.run_and_close.result.files
+    (returns-in-Ok-clause-ended g c is clean) clean image may
 
 pub returns-in-Ok-clause-across : goal.returns-in-Ok-clause-across
 returns-in-Ok-clause-across g c clean =
@@ -48,7 +50,8 @@ returns-in-Ok-clause-across g c clean =
     runs_on g.D.Disk c.args.cap out err
     (g.I.Inputs.bytes c.args.inputs.now) (meaning c.args.command.now)
     c.run_and_close.result.status _ _ (image_of g.D.Disk c.args.files)
-    c.run_and_close.result.files (returns-in-Ok-clause-ran g c) clean
+    c.run_and_close.result.failure c.run_and_close.result.files
+    (returns-in-Ok-clause-ran g c) clean
 
 pub returns-in-Ok-clause-one : goal.returns-in-Ok-clause-one
 returns-in-Ok-clause-one g c clean =
@@ -57,7 +60,8 @@ returns-in-Ok-clause-one g c clean =
     keep_one c.args.cap out err
     (g.I.Inputs.bytes c.args.inputs.now) (meaning c.args.command.now)
     c.run_and_close.result.status _ _ (image_of g.D.Disk c.args.files)
-    c.in-Ok.conn c.run_and_close.result.files c.in-Ok.ensures.opened
+    c.in-Ok.conn c.run_and_close.result.failure c.run_and_close.result.files
+    c.in-Ok.ensures.opened
     (λ early. finds_in c.args.files c.in-Ok.conn (c.in-Ok.ensures.found early))
     (over c.run_and_close.ensures.closes) clean
 

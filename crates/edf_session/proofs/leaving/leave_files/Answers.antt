@@ -1,4 +1,4 @@
-use Rattle.std.proofs.Common.{refl}
+use Rattle.std.proofs.Common.{None, refl}
 use Rattle.sqlite.specs.Files.{image_of}
 use Rattle.edfstore_arguments.specs.Arguments.{meaning}
 use Rattle.edf_program.proofs.Puts.{nothing-gets}
@@ -14,7 +14,7 @@ returns-in-Ok-clause-ran g c =
     ran_or_refused c.args.cap out err
     (g.I.Inputs.bytes c.args.inputs.now) (meaning c.args.command.now)
     c.run_and_leave.result.0 _ _ (image_of g.D.Disk c.args.files)
-    c.in-Ok.conn c.run_and_leave.result.1 c.in-Ok.ensures.opened
+    c.in-Ok.conn None c.run_and_leave.result.1 c.in-Ok.ensures.opened
     (λ early. finds_in c.args.files c.in-Ok.conn (c.in-Ok.ensures.found early))
     c.run_and_leave.ensures.leaves.over
 
@@ -25,7 +25,7 @@ returns-in-Ok-clause-leads g c clean image may =
     each_leads c.args.cap out err
     (g.I.Inputs.bytes c.args.inputs.now) (meaning c.args.command.now)
     c.run_and_leave.result.0 _ _ (image_of g.D.Disk c.args.files)
-    c.in-Ok.conn c.run_and_leave.result.1 c.in-Ok.ensures.opened
+    c.in-Ok.conn None c.run_and_leave.result.1 c.in-Ok.ensures.opened
     (λ early. finds_in c.args.files c.in-Ok.conn (c.in-Ok.ensures.found early))
     c.run_and_leave.ensures.leaves.over g.met.D.Disk.seen_may_stay
     (c.run_and_leave.ensures.leaves.each clean) image may

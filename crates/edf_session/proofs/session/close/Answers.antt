@@ -11,4 +11,5 @@ returns-in-Err-clause-closed g c = record {
   store = c.in-Err.store;
   store_is = sym c.close.ensures;
   closed = c.in-Err.ensures.err.0;
+  told = c.in-Err.ensures.err.1;
 }

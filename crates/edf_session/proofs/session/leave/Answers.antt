@@ -11,4 +11,5 @@ returns-clause-closed g c = record {
   store = c.into_store.result;
   store_is = sym c.close.ensures;
   closed = record { quiet = c.into_store.ensures.quiet; sound = c.into_store.ensures.sound };
+  told = tt;
 }
