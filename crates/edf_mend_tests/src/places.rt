@@ -267,22 +267,3 @@ fn zeros_after_the_counted_data_records_are_no_data_records(rt: HostRuntime) {
         assert_eq!(rt; tail_is_so(rt.alloc(), case), Some(true), "{count} {len}");
     }
 }
-
-/// Whether bytes after the last data record are left out only where `count` was asked for; else the
-/// file is refused by the first fault that it has.
-fn tail_is_asked_for(alloc: Global) -> Option<bool> {
-    let before = short_records(alloc, "EDF+C", "1", b"\x01\0\x02\0\0\0".as_slice())?;
-    let kept = outcome_of(alloc, &before, "in.edf out.edf --as annotations")?;
-    let cut = outcome_of(alloc, &before, "in.edf out.edf --as annotations,count")?;
-    Some(
-        kept.text.as_str() == "err: in.edf refused E16 Annotations\nstatus 1\n"
-            && kept.made.is_none()
-            && cut.text.contains("count left_out=2\n")
-            && cut.made.is_some(),
-    )
-}
-
-#[test]
-fn bytes_at_the_end_are_left_out_only_where_that_was_asked_for(rt: HostRuntime) {
-    assert_eq!(rt; tail_is_asked_for(rt.alloc()), Some(true));
-}
