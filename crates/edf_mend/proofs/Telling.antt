@@ -1,5 +1,5 @@
 -- Data records that are rewritten, one after another.
-use Rattle.std.proofs.Common.{◌≡◌, ℕ, ◌+◌, max, List, [], ◌∷◌, ◌++◌, length, refl, sym, ap, ◌∙◌}
+use Rattle.std.proofs.Common.{◌≡◌, ℕ, ◌+◌, ◌<◌, max, List, [], ◌∷◌, ◌++◌, length, refl, sym, ap, ◌∙◌}
 use Rattle.std.proofs.Common.{subst, arith, append_assoc, length-append, inl, inr}
 use Rattle.edf_header.specs.Header.{Layout}
 use Rattle.edf_mend.specs.Edits.{Edit}
@@ -111,7 +111,7 @@ module _ (l : Layout) where
     none,
   )
   moved-same from before after old new (t ∷ ts) shift
-      (gap, o, n, back, later, by, most, pb, pa, at, is, top, rest) same = (
+      (gap, o, n, back, later, by, most, pb, pa, at, past, is, top, rest) same = (
         gap,
         o,
         n,
@@ -122,6 +122,7 @@ module _ (l : Layout) where
         ap (λ (x : List (List ℕ)). x ++ old ∷ []) pb ∙ append_assoc gap (o ∷ back) (old ∷ []),
         ap (λ (x : List (List ℕ)). x ++ new ∷ []) pa ∙ append_assoc gap (n ∷ later) (new ∷ []),
         at,
+        past,
         is,
         top,
         moved-same (t.nth + 1) back later old new ts most rest same,
@@ -131,9 +132,9 @@ module _ (l : Layout) where
   moved-more : (from : ℕ) (before after : List (List ℕ)) (old new : List ℕ)
       (told : List RecordEdits) (t : RecordEdits) (shift by : ℕ) →
       AreRetimed l from before told shift after → IsRetimed l by t.edits old new →
-      t.nth ≡ from + length before →
+      t.nth ≡ from + length before → 0 < t.nth →
       AreRetimed l from (before ++ old ∷ []) (told ++ t ∷ []) (max shift by) (after ++ new ∷ [])
-  moved-more from before after old new [] t shift by (all, none) is at = (
+  moved-more from before after old new [] t shift by (all, none) is at after_first = (
     before,
     old,
     new,
@@ -144,12 +145,14 @@ module _ (l : Layout) where
     refl,
     ap (λ (x : List (List ℕ)). x ++ new ∷ []) all,
     at,
+    after_first,
     is,
     omega (arith, none),
     (refl, refl),
   )
   moved-more from before after old new (s ∷ ts) t shift by
-      (gap, o, n, back, later, first, most, pb, pa, there, one, top, rest) is at = (
+      (gap, o, n, back, later, first, most, pb, pa, there, past, one, top, rest) is at after_first
+      = (
         gap,
         o,
         n,
@@ -160,6 +163,7 @@ module _ (l : Layout) where
         ap (λ (x : List (List ℕ)). x ++ old ∷ []) pb ∙ append_assoc gap (o ∷ back) (old ∷ []),
         ap (λ (x : List (List ℕ)). x ++ new ∷ []) pa ∙ append_assoc gap (n ∷ later) (new ∷ []),
         there,
+        past,
         one,
         omega (arith, top),
         moved-more (s.nth + 1) back later old new ts t most by rest is (omega (
@@ -168,7 +172,7 @@ module _ (l : Layout) where
           there,
           ap (λ (x : List (List ℕ)). length x) pb,
           length-append gap (o ∷ back),
-        )),
+        )) after_first,
       )
 
   -- what is told of one more
@@ -185,11 +189,11 @@ module _ (l : Layout) where
             subst (λ (x : ℕ). Is tells.retimed.items x) (sym still)
             (subst (λ (x : List RecordEdits). Is x told.shift) (sym none)
             (moved-same from before after old new told.retimed.items told.shift all same))
-        | inr (edits, by, one, more, top) ↦
+        | inr (edits, by, past, one, more, top) ↦
             subst (λ (x : ℕ). Is tells.retimed.items x) (sym top)
             (subst (λ (x : List RecordEdits). Is x (max told.shift by)) (sym more)
             (moved-more from before after old new told.retimed.items
-            (record { nth = nth; edits = edits }) told.shift by all one at))
+            (record { nth = nth; edits = edits }) told.shift by all one at past))
       ]
 
   -- what is told stays told
@@ -198,5 +202,5 @@ module _ (l : Layout) where
       IsMoved l nth old before after new → IsMoved l nth old before later new
   moved-still nth old new before after later more top (inl (same, none, still)) =
       inl (same, more ∙ none, top ∙ still)
-  moved-still nth old new before after later more top (inr (edits, by, is, told, most)) =
-      inr (edits, by, is, more ∙ told, top ∙ most)
+  moved-still nth old new before after later more top (inr (edits, by, past, is, told, most)) =
+      inr (edits, by, past, is, more ∙ told, top ∙ most)

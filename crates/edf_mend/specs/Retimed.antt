@@ -52,22 +52,23 @@ pub record IsMovedBy (l : Layout) (by : ℕ) (old new : List ℕ) : Type 0 where
   pub is : IsRead block' l.start Any start' list
   pub by_is : by ≡ apart start start'
 
--- a data record became another by these edits, which moved its start by so many nanoseconds, less
--- than half a sample, and changed nothing else of it
+-- a data record became another by these edits, which moved its start by so many nanoseconds, one or
+-- more and less than half a sample, and changed nothing else of it
 pub record IsRetimed (l : Layout) (by : ℕ) (edits : List Edit) (old new : List ℕ) : Type 0 where
   pub rewritten : IsRewritten l edits old new
   pub moved : IsMovedBy l by old new
+  pub some : 0 < by
   pub half : IsBelowHalfSample l by
 
 -- data records, the first of which has the number `from`, became others: those that are told, in
--- order, start at another time, and each other one is as it was; `shift` is the most by which one
--- was moved, or 0
+-- order, start at another time, and each other one is as it was, that of the number 0 always;
+-- `shift` is the most by which one was moved, or 0
 abbrev pub AreRetimed : Layout → ℕ → List (List ℕ) → List RecordEdits → ℕ → List (List ℕ) → Type 0
 AreRetimed l from before [] shift after = (after ≡ before) × (shift ≡ 0)
 AreRetimed l from before (told ∷ more) shift after =
     (gap : List (List ℕ)) × (old : List ℕ) × (new : List ℕ) × (back : List (List ℕ))
     × (later : List (List ℕ)) × (by : ℕ) × (most : ℕ) × (before ≡ gap ++ old ∷ back)
-    × (after ≡ gap ++ new ∷ later) × (told.nth ≡ from + length gap)
+    × (after ≡ gap ++ new ∷ later) × (told.nth ≡ from + length gap) × (0 < told.nth)
     × IsRetimed l by told.edits old new × (shift ≡ max by most)
     × AreRetimed l (told.nth + 1) back more most later
 

@@ -1,6 +1,6 @@
 //! The rules that were asked for.
 
-ghost use Rattle.std.specs.Prelude.{◌≡◌, ◌≢◌, [], All, Contains, IsTrue, ◌⊎◌, List};
+ghost use Rattle.std.specs.Prelude.{◌≡◌, ◌≢◌, ◌<◌, [], All, Contains, IsTrue, ◌⊎◌, List};
 ghost use Rattle.edf_mend.specs.Asked.{IsAsked};
 ghost use Rattle.edf_mend.specs.declared.rule.Rule.{Rule};
 
@@ -50,4 +50,13 @@ pub(crate) fn keeps_to(only: &[Rule], steps: &[Step]) -> bool
         return true;
     }
     only.is_empty() || are_asked(only, steps)
+}
+
+/// Whether so many bytes at the end may be left out: the rule `count` leaves them out, where any
+/// rule was named.
+pub(crate) fn may_leave_out(only: &[Rule], left_out: usize) -> bool
+    ensures asked { IsTrue result → only.now ≢ [] → 0 < left_out → Contains only.now Rule.Count }
+    ensures none { left_out ≡ 0 → IsTrue result }
+{
+    left_out == 0 || only.is_empty() || is_among(only, Rule::Count)
 }

@@ -6,6 +6,7 @@ mod annotations;
 mod ascii;
 mod asked;
 mod change;
+mod checking;
 mod clock;
 mod code;
 mod count;

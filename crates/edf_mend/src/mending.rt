@@ -2,7 +2,7 @@
 
 ghost use Rattle.std.specs.Prelude.{◌≡◌, ◌≤◌, ◌++◌, [], ℕ, List, Option, Some, None, option_map};
 ghost use Rattle.std.specs.Prelude.{length, IfOk, IfErr, IsTrue, All, MatchResult, ⊤};
-ghost use Rattle.std.specs.Prelude.{◌≢◌, false, codes};
+ghost use Rattle.std.specs.Prelude.{◌+◌, ◌*◌, ◌<◌, ◌≢◌, false, Contains, codes};
 ghost use Rattle.std.specs.Io.KnownBytes.{Consumes, Appends, IsAtEnd};
 ghost use Rattle.edf_header.specs.Fields.{version_field, recording_field};
 ghost use Rattle.edf_header.specs.Key.{Key};
@@ -22,7 +22,7 @@ ghost use Rattle.edf_mend.specs.Inside.Timed.{IsUntold};
 ghost use Rattle.edf_mend.specs.Inside.Whole.{IsWholeHeader};
 
 use crate::accepting::accept_header;
-use crate::asked::keeps_to;
+use crate::asked::{keeps_to, may_leave_out};
 use crate::clock::keeps_clock;
 use crate::code::keeps_patient;
 use crate::drafting::{Draft, draft_header};
@@ -153,18 +153,28 @@ fn says_so(header: &[u8]) -> bool
     header.len() >= 168 && says_mended(&header[88..168])
 }
 
-/// Whether a file may end so: nothing is left out of one without a fault, and any other says that
-/// it was mended.
-fn may_end(survey: &Survey, header: &[u8], left_out: usize) -> bool
+/// Whether a file may end so: nothing is left out of one without a fault; any other says that it
+/// was mended, and bytes at its end are left out only where the rule `count` may do that.
+fn may_end(survey: &Survey, only: &[Rule], header: &[u8], left_out: usize) -> bool
     ensures none { IsTrue result → survey.now.fault ≡ None → left_out ≡ 0 }
     ensures says { IsTrue result → (survey.now.fault ≡ None → ⊥) →
         SaysMended (recording_field header.now) }
+    ensures asked { IsTrue result → only.now ≢ [] → 0 < left_out → Contains only.now Rule.Count }
     ensures same { survey.now.fault ≡ None → left_out ≡ 0 → IsTrue result }
 {
     if survey.fault.is_some() {
-        return says_so(header);
+        return says_so(header) && may_leave_out(only, left_out);
     }
     left_out == 0
+}
+
+/// The fault of a file that may not end so: the first that it has as it is, where bytes at its end
+/// are not to be left out.
+fn fault_at_end(survey: &Survey, only: &[Rule], left_out: usize) -> FragmentFault {
+    match survey.fault {
+        Some(fault) if !may_leave_out(only, left_out) => fault,
+        _ => FragmentFault::Trailing,
+    }
 }
 
 /// Reads a file a second time and writes the mended one. One data record is in memory at a time,
@@ -179,15 +189,17 @@ fn may_end(survey: &Survey, header: &[u8], left_out: usize) -> bool
 /// starts before the one before it ends, or where `only` names the rule. Then each data record
 /// starts so many durations after the first; one that starts half a sample of an ordinary signal
 /// or more from there, whose block has no room for the onset, or whose time-keeping TAL has an
-/// annotation that would move too, is not moved, and the file is refused.
+/// annotation that would move too, is not moved, and the file is refused. Bytes after the last
+/// whole data record are left out where `only` is empty or names the rule `count`.
 ///
 /// # Errors
-/// `Refused` where the file still has a fault, which is the first, where starts can't be told anew,
-/// with the fault that the first reading found, or where the rule `patient` finds no version of
-/// EDF, by the first fault of the file as it is; `Code` where a code of the patient is wanted, and
-/// none was given; `Read` where a read failed, `Write` where a write failed or took none of some
-/// bytes, `Memory` where memory ran out. A front of a file may have been written then. A file that
-/// is a fragment is never refused, and never asked for a code.
+/// `Refused` where the file still has a fault, which is the first, where starts can't be told anew
+/// or bytes at the end are not to be left out, with the fault that the first reading found, or
+/// where the rule `patient` finds no version of EDF, by the first fault of the file as it is;
+/// `Code` where a code of the patient is wanted, and none was given; `Read` where a read failed,
+/// `Write` where a write failed or took none of some bytes, `Memory` where memory ran out. A front
+/// of a file may have been written then. A file that is a fragment is never refused, and never
+/// asked for a code.
 pub fn mend<R: Input, W: Output>(
     alloc: Global,
     input: &mut R,
@@ -204,6 +216,8 @@ pub fn mend<R: Input, W: Output>(
         (R.remaining input.new) (W.contents out.old) (W.contents out.new)) }
     ensures only { IfOk result (λ ledger. only.now ≢ [] →
         All (IsAsked only.now) ledger.steps.items) }
+    ensures left_out { IfOk result (λ ledger. only.now ≢ [] → 0 < ledger.left_out →
+        Contains only.now Rule.Count) }
     ensures welcome { (bytes : List ℕ) (key : Key) (records : List DataRecord) →
         survey.now.fault ≡ None → R.remaining input.old ≡ Some bytes → Spells bytes key records →
         IfErr result IsTrouble }
@@ -240,8 +254,8 @@ pub fn mend<R: Input, W: Output>(
         draft.rewriting,
         &mut telling,
     )?;
-    if !may_end(survey, draft.header.as_slice(), left_out) {
-        return Err(MendFault::Refused(FragmentFault::Trailing));
+    if !may_end(survey, only, draft.header.as_slice(), left_out) {
+        return Err(MendFault::Refused(fault_at_end(survey, only, left_out)));
     }
     Ok(Ledger {
         steps: draft.steps,

@@ -264,7 +264,8 @@ fn retimed(
 }
 
 /// A data record, counted from 0, that starts so many durations after the first one, where that was
-/// asked for. It is as it was where it can't be moved there.
+/// asked for. It is as it was where it can't be moved there, and the first one always, since the
+/// others are counted from it.
 pub(crate) fn mend_clock(
     alloc: Global,
     header: &Header,
@@ -289,6 +290,9 @@ pub(crate) fn mend_clock(
     let Some(first) = telling.first else {
         return Ok(old);
     };
+    if nth == 0 {
+        return Ok(old);
+    }
     let Some(start) = start_after(header, first, nth) else {
         return Ok(old);
     };

@@ -3,13 +3,13 @@
 
 ghost use Rattle.std.specs.Prelude.{◌≡◌, ◌++◌, ◌∷◌, ◌↔◌, ⊤, false, length, IfOk, IfErr, IfSome};
 ghost use Rattle.std.specs.Prelude.{MatchResult, IsTrue, IsUtf8, encode_utf8_all, string_bytes};
-ghost use Rattle.std.specs.Prelude.{All};
+ghost use Rattle.edf_time.specs.Decimal.{IsDecimalFault};
 ghost use Rattle.edf_mend.specs.Answers.{RefusesFor};
 ghost use Rattle.edf_mend.specs.Rewritten.{IsTold};
-ghost use Rattle.edf_mend.specs.Texts.{IsHalf, IsRounded, IsFilled, IsTextEdit, IsRespelled};
+ghost use Rattle.edf_mend.specs.Texts.{IsHalf, IsRounded, IsRespelled};
 ghost use Rattle.edf_mend.specs.Inside.Faults.{IsQuiet};
 
-use crate::change::Change;
+use crate::checking::are_text_changes;
 use crate::fault::MendFault;
 use crate::fields::part;
 use crate::rewriting::{
@@ -21,13 +21,13 @@ use std::alloc::{AllocError, Global};
 use std::str;
 
 /// The byte after the times of a TAL, and after each of its texts.
-const TEXT_END: u8 = 20;
+pub(crate) const TEXT_END: u8 = 20;
 
 /// The byte between an onset and a duration.
-const DURATION_MARK: u8 = 21;
+pub(crate) const DURATION_MARK: u8 = 21;
 
 /// The byte after a TAL.
-const TAL_END: u8 = 0;
+pub(crate) const TAL_END: u8 = 0;
 
 /// The TAL at the front of some bytes, whose times may be too fine, and whose texts any bytes.
 #[derive(Clone, Copy)]
@@ -92,14 +92,16 @@ fn is_half(digits: &[u8]) -> bool
 }
 
 /// A decimal of nine digits after the dot, and further ones, rounded to the nanosecond; none where
-/// there are fewer.
+/// it is too large.
 fn nearest(
     alloc: Global,
     whole: &[u8],
     nine: &[u8],
     finer: &[u8],
 ) -> Result<Option<Vec<u8>>, AllocError>
-    requires { length nine.now ≡ 9 }
+    requires nine { length nine.now ≡ 9 }
+    requires too_fine { IsDecimalFault (whole.now ++ 46 ∷ (nine.now ++ finer.now))
+        DecimalFault.TooFine }
     ensures { IfOk result (λ found. IfSome found
         (λ new. IsRounded (whole.now ++ 46 ∷ (nine.now ++ finer.now)) new.items)) }
 {
@@ -113,13 +115,11 @@ fn nearest(
     Ok(Some(write_seconds(alloc, up)?))
 }
 
-/// A decimal that is finer than a nanosecond, rounded to the nanosecond; none for any other text.
-fn rounded(alloc: Global, text: &[u8]) -> Result<Option<Vec<u8>>, AllocError>
+/// A decimal that is finer than a nanosecond, rounded to it.
+fn round_off(alloc: Global, text: &[u8]) -> Result<Option<Vec<u8>>, AllocError>
+    requires { IsDecimalFault text.now DecimalFault.TooFine }
     ensures { IfOk result (λ found. IfSome found (λ new. IsRounded text.now new.items)) }
 {
-    if !matches!(read_seconds(text), Err(DecimalFault::TooFine)) {
-        return Ok(None);
-    }
     let Some((whole, fraction)) = split_at_byte(text, b'.') else {
         return Ok(None);
     };
@@ -128,6 +128,16 @@ fn rounded(alloc: Global, text: &[u8]) -> Result<Option<Vec<u8>>, AllocError>
     }
     let (nine, finer) = fraction.split_at(9);
     nearest(alloc, whole, nine, finer)
+}
+
+/// A decimal that is finer than a nanosecond, rounded to the nanosecond; none for any other text.
+pub(crate) fn rounded(alloc: Global, text: &[u8]) -> Result<Option<Vec<u8>>, AllocError>
+    ensures { IfOk result (λ found. IfSome found (λ new. IsRounded text.now new.items)) }
+{
+    match read_seconds(text) {
+        Err(DecimalFault::TooFine) => round_off(alloc, text),
+        _ => Ok(None),
+    }
 }
 
 /// Goes on with a time of a TAL.
@@ -139,7 +149,7 @@ fn mend_time(alloc: Global, made: &mut Made, text: &[u8]) -> Result<(), AllocErr
 }
 
 /// A text of Latin-1 as UTF-8 has it.
-fn latin_as_utf8(alloc: Global, text: &[u8]) -> Result<String, AllocError>
+pub(crate) fn latin_as_utf8(alloc: Global, text: &[u8]) -> Result<String, AllocError>
     ensures { IfOk result (λ new. string_bytes new ≡ encode_utf8_all text.now) }
 {
     let mut new = String::new(alloc);
@@ -150,7 +160,7 @@ fn latin_as_utf8(alloc: Global, text: &[u8]) -> Result<String, AllocError>
 }
 
 /// Whether a text is no UTF-8.
-fn is_no_utf8(text: &[u8]) -> bool
+pub(crate) fn is_no_utf8(text: &[u8]) -> bool
     ensures { IsTrue result → ¬ IsUtf8 text.now }
 {
     str::from_utf8(text).is_err()
@@ -243,43 +253,6 @@ fn mend_blocks(alloc: Global, header: &Header, old: &[u8]) -> Result<Made, Alloc
     Ok(made)
 }
 
-/// Whether a change writes zeros in place of bytes that end no text.
-fn is_filled(old: &[u8], new: &[u8]) -> bool
-    ensures { IsTrue result → IsFilled old.now new.now }
-{
-    new.iter().all(|b| *b == 0) && old.iter().all(|b| *b != TEXT_END)
-}
-
-/// Whether a change is one of a text, a time or the fill of a block.
-fn is_text_change(alloc: Global, change: &Change) -> Result<bool, AllocError>
-    ensures { IfOk result (λ is. IsTrue is → IsTextEdit change.now) }
-{
-    let (old, new) = (change.old(), change.new());
-    if is_filled(old, new) {
-        return Ok(true);
-    }
-    if is_no_utf8(old) {
-        let text = latin_as_utf8(alloc, old)?;
-        return Ok(text.as_bytes() == new);
-    }
-    match rounded(alloc, old)? {
-        Some(text) => Ok(text.as_slice() == new),
-        None => Ok(false),
-    }
-}
-
-/// Whether all changes are.
-fn are_text_changes(alloc: Global, changes: &[Change]) -> Result<bool, AllocError>
-    ensures { IfOk result (λ are. IsTrue are → All IsTextEdit changes.now) }
-{
-    for change in changes {
-        if !is_text_change(alloc, change)? {
-            return Ok(false);
-        }
-    }
-    Ok(true)
-}
-
 /// Mends a data record, counted from 0, and tells it where it is another then.
 fn respell(
     alloc: Global,
@@ -301,7 +274,7 @@ fn respell(
     if changes.is_empty() {
         return Ok(old);
     }
-    if !are_text_changes(alloc, changes.as_slice())? {
+    if !are_text_changes(alloc, header, old.as_slice(), changes.as_slice())? {
         return Err(not_rewritten(nth));
     }
     if told.push(RecordChanges::of(nth, changes)).is_err() {

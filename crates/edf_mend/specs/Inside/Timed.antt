@@ -1,5 +1,6 @@
 -- Words of private contracts of data records that start at another time.
-use Rattle.std.specs.Prelude.{◌≡◌, ◌⊎◌, ℕ, ◌+◌, ◌*◌, max, List, [], ◌∷◌, ◌++◌, Option, Some, None}
+use Rattle.std.specs.Prelude.{◌≡◌, ◌⊎◌, ℕ, ◌+◌, ◌*◌, ◌<◌, max, List, [], ◌∷◌, ◌++◌, Option}
+use Rattle.std.specs.Prelude.{Some, None}
 use Rattle.edf_field.specs.Number.{duration_of}
 use Rattle.edf_header.specs.Header.{Layout}
 use Rattle.edf_fragment.specs.Fragment.{DataRecord}
@@ -14,11 +15,12 @@ pub record IsUntold (t : Telling) : Type 0 where
   pub shift : t.shift ≡ 0
   pub first : t.first ≡ None
 
--- a data record is as it was, and nothing is told; or its start moved, and that is told
+-- a data record is as it was, and nothing is told; or it is not the first, its start moved, and
+-- that is told
 abbrev pub IsMoved : Layout → ℕ → List ℕ → Telling → Telling → List ℕ → Type 0
 IsMoved l nth old before after new =
     ((new ≡ old) × (after.retimed.items ≡ before.retimed.items) × (after.shift ≡ before.shift))
-    ⊎ ((edits : List Edit) × (by : ℕ) × IsRetimed l by edits old new
+    ⊎ ((edits : List Edit) × (by : ℕ) × (0 < nth) × IsRetimed l by edits old new
     × (after.retimed.items ≡ before.retimed.items ++ record { nth = nth; edits = edits } ∷ [])
     × (after.shift ≡ max before.shift by))
 

@@ -1,0 +1,39 @@
+use Rattle.std.proofs.Common.{rules, ◌≡◌, ◌++◌, ◌∷◌, [], ◌⊎◌, ◌+◌, ℕ, List, inl, inr, refl, ap}
+use Rattle.std.proofs.Common.{◌∙◌, subst, arith, append_assoc}
+use Rattle.std.proofs.lemmas.Grind.{common_steps}
+use Rattle.edf_time.specs.Decimal.{IsSeconds, short}
+use Rattle.edf_mend.specs.Texts.{IsHalf}
+use Rattle.edf_mend.proofs.texts.nearest.Goals as goal
+use Rattle.edf_mend.proofs.texts.nearest.Goals.{then-is_half, else-is_half}
+
+pub returns : goal.returns
+returns c =
+    let whole = c.args.whole.now in
+    let nine = c.args.nine.now in
+    let finer = c.args.finer.now in
+    let nanos = c.in-Ok.nanos in
+    let new = c.in_ok-write_seconds.field-0.items in
+    let read : c.as_slice.result.now ≡ (whole ++ 46 ∷ []) ++ nine = grind (arith, common_steps) in
+    let value = subst (λ (x : List ℕ). IsSeconds x nanos)
+    (read ∙ append_assoc whole (46 ∷ []) nine) c.in-Ok.ensures.0 in
+    let text : new ≡ short c.if-is_half.up = search rules in
+    let new_is : (IsHalf finer × (new ≡ short (nanos + 1)))
+    ⊎ ((¬ IsHalf finer) × (new ≡ short nanos)) = elim c.if-is_half.branch [
+      | then-is_half w ↦
+          let half : IsHalf finer = search (rules, c.is_half.ensures.0) in
+          inl (half, text ∙ ap short w.up-is)
+      | else-is_half w ↦
+          let less : ¬ IsHalf finer = search (rules, c.is_half.ensures.1) in
+          inr (less, text ∙ ap short w.up-is)
+    ] in
+    record {
+      too_fine = c.requires.too_fine;
+      whole = whole;
+      nine = nine;
+      finer = finer;
+      nanos = nanos;
+      old_is = refl;
+      len = c.requires.nine;
+      value = value;
+      new_is = new_is;
+    }
