@@ -161,11 +161,12 @@ fn work<'l, S: Alter, I: Sources, P: NewFiles>(
         IsWorked S.Store store.old store.new (I.opened sources.old) (I.opened sources.new)
         (P.made files.old) (P.made files.new) (growth ⟦<Text as Output>⟧ out.old out.new)
         (growth ⟦<Text as Output>⟧ why.old why.new)
-        (surroundings (below folders.entry) (I.bytes sources.old) (I.links sources.old))
-        (option_map asked_by asked.entry) submission result }
+        (surroundings (below folders.entry) (I.bytes sources.old) (I.links sources.old)
+        (P.known files.old)) (option_map asked_by asked.entry) submission result }
     ensures cap { store.new.cap ≡ store.old.cap }
     ensures same { I.bytes sources.new ≡ I.bytes sources.old }
     ensures links { I.links sources.new ≡ I.links sources.old }
+    ensures known { P.known files.new ≡ P.known files.old }
 {
     match asked {
         Some(LineCommand::Take { name }) => take(alloc, name, folders.from, store, sources, out),
@@ -184,7 +185,7 @@ fn work<'l, S: Alter, I: Sources, P: NewFiles>(
     }
 }
 
-/// Whether the store takes a transaction. What is held stays.
+/// `true` only where the store takes a transaction. What is held stays.
 pub(crate) fn is_idle<S: Alter>(store: &mut Store<S>) -> bool
     ensures stays { Stays S.Store store.old store.new }
     ensures idle { result ≡ true → IsIdle S.Store store.new }
@@ -222,6 +223,7 @@ fn tell_all<S: Alter, C: Client>(
     ensures told { IsToldOver S.Store store.old store.new out.now.bytes.items why.now.bytes.items
         (got (C.contents client.old) (C.failures client.old) (C.contents client.new)
         (C.failures client.new)) told result }
+    ensures warned { C.warned client.new ≡ C.warned client.old }
 {
     if is_idle(store) {
         let is_out = client.answer(store, out.as_slice(), why.as_slice(), told);
@@ -262,11 +264,12 @@ pub fn serve_line<S: Alter, I: Sources, P: NewFiles, C: Client>(
         (I.opened sources.new) (P.made files.old) (P.made files.new)
         (got (C.contents client.old) (C.failures client.old) (C.contents client.new)
         (C.failures client.new))
-        (surroundings (below folders.entry) (I.bytes sources.old) (I.links sources.old)) line.now
-        result }
+        (C.warned client.old) (C.warned client.new) (surroundings (below folders.entry)
+        (I.bytes sources.old) (I.links sources.old) (P.known files.old)) line.now result }
     ensures cap { store.new.cap ≡ store.old.cap }
     ensures same { I.bytes sources.new ≡ I.bytes sources.old }
     ensures links { I.links sources.new ≡ I.links sources.old }
+    ensures known { P.known files.new ≡ P.known files.old }
 {
     let mut out = Text::new(alloc);
     let mut why = Text::new(alloc);

@@ -8,7 +8,7 @@ ghost use Rattle.edf_holdings.specs.Holdings.{Holdings};
 ghost use Rattle.edf_store.specs.Held.{at, Holds, Stays};
 ghost use Rattle.edf_store.specs.StoreTx.{IsRunning};
 ghost use Rattle.edf_store.specs.Transaction.{IsNextStart, Sees};
-ghost use Rattle.edf_serve.specs.Apart.{IsUntold, IsAskedFor, HasPause, day_long};
+ghost use Rattle.edf_serve.specs.Apart.{IsUntold, IsAskedFor, HasPause, MayWarn, day_long};
 ghost use Rattle.edf_serve.specs.Client.{IsTaken, IsIdle};
 
 use crate::answering::is_idle;
@@ -295,6 +295,7 @@ pub(crate) fn warn_if_apart<S: Alter, C: Client>(
     ensures idle { result ≡ false → IsIdle S.Store store.new }
     ensures contents { C.contents client.new ≡ C.contents client.old }
     ensures failures { C.failures client.new ≡ C.failures client.old }
+    ensures warned { MayWarn (C.warned client.old) (C.warned client.new) name.now }
 {
     let Some(start) = start else {
         return false;

@@ -86,13 +86,15 @@ fn serve_next<S: Alter, L: Lines, I: Sources, P: NewFiles, C: Client>(
     worst: &mut Status,
 ) -> Option<End>
     ensures step { IsStep S.Store (surroundings (below folders.entry) (I.bytes sources.old)
-        (I.links sources.old))
+        (I.links sources.old) (P.known files.old))
         (point_at store.old (L.coming lines.old) (I.opened sources.old) (P.made files.old)
-        (C.contents client.old) (C.failures client.old) worst.old)
+        (C.contents client.old) (C.failures client.old) (C.warned client.old) worst.old)
         (point_at store.new (L.coming lines.new) (I.opened sources.new) (P.made files.new)
-        (C.contents client.new) (C.failures client.new) worst.new) result }
+        (C.contents client.new) (C.failures client.new) (C.warned client.new) worst.new)
+        result }
     ensures same { I.bytes sources.new ≡ I.bytes sources.old }
     ensures links { I.links sources.new ≡ I.links sources.old }
+    ensures known { P.known files.new ≡ P.known files.old }
 {
     match lines.next(line) {
         Ok(true) => {}
@@ -138,11 +140,12 @@ pub fn serve<S: Alter, L: Lines, I: Sources, P: NewFiles, C: Client>(
     worst: &mut Status,
 ) -> End
     ensures served { IsWhole S.Store (surroundings (below folders.entry)
-        (I.bytes sources.old) (I.links sources.old))
+        (I.bytes sources.old) (I.links sources.old) (P.known files.old))
         (point_at store.old (L.coming lines.old) (I.opened sources.old) (P.made files.old)
-        (C.contents client.old) (C.failures client.old) worst.old)
+        (C.contents client.old) (C.failures client.old) (C.warned client.old) worst.old)
         (point_at store.new (L.coming lines.new) (I.opened sources.new) (P.made files.new)
-        (C.contents client.new) (C.failures client.new) worst.new) result }
+        (C.contents client.new) (C.failures client.new) (C.warned client.new) worst.new)
+        result }
 {
     let mut line = Vec::new(alloc);
     for _ in 0..u64::MAX {

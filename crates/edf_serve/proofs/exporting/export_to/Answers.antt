@@ -1,0 +1,65 @@
+use Rattle.std.proofs.Common.{◌≡◌, ◌∙◌, Option, Some, Ok, refl, inl, inr, rules}
+use Rattle.edf_program.proofs.Puts.{nothing-gets}
+use Rattle.edf_program.specs.Output.{growth}
+use Rattle.edf_serve.specs.Files.{BeginsFile, IsCreated}
+use Rattle.edf_serve.proofs.Making.{made-by, undone-by, others-by, others-undone}
+use Rattle.edf_serve.proofs.exporting.export_to.Goals as goal
+
+pub returns-in-Ok-None-clause-exported : goal.returns-in-Ok-None-clause-exported
+returns-in-Ok-None-clause-exported g c =
+    let none = rw c.in-Ok-None.field-0-is at c.in-Ok-None.ensures.made in
+    inr (record {
+      store = refl;
+      none = none.0;
+      said = inl (none.1, none.2, c.tell_there.ensures);
+    })
+
+pub returns-in-Err-clause-exported : goal.returns-in-Err-clause-exported
+returns-in-Err-clause-exported g c =
+    inr (record {
+      store = refl;
+      none = c.in-Err.ensures.made.0;
+      said = inr (c.in-Err.ensures.made.1, c.tell_unwritten.ensures);
+    })
+
+pub returns-then-told-clause-exported : goal.returns-then-told-clause-exported
+returns-then-told-clause-exported g c =
+    let begins = rw c.in-Ok-Some.field-0-is at c.in-Ok-Some.ensures.made in
+    let empty = rw c.in-Ok-Some.field-0-is at c.in-Ok-Some.ensures.empty in
+    let f = c.finish.ensures.ended in
+    let done : c.export_place-told.result ≡ Done = search rules in
+    inl (record {
+      file = growth g.P.Writer.Output c.in-Ok-Some.writer c.export_place-told.new.out;
+      contents = g.O.Output.contents c.export_place-told.new.err;
+      failed = g.O.Output.failures c.export_place-told.new.err;
+      told = c.export_place-told.result;
+      free = begins.free;
+      is_new = empty;
+      exported = c.export_place-told.ensures;
+      there = others-by _ _ _ _ begins f.there;
+      ended = inl (
+        done,
+        (f.finished, made-by _ _ _ _ begins _ f.finished f.ended, f.said),
+      );
+    })
+
+pub returns-clause-exported : goal.returns-clause-exported
+returns-clause-exported g c =
+    let begins = rw c.in-Ok-Some.field-0-is at c.in-Ok-Some.ensures.made in
+    let empty = rw c.in-Ok-Some.field-0-is at c.in-Ok-Some.ensures.empty in
+    inl (record {
+      file = growth g.P.Writer.Output c.in-Ok-Some.writer c.export_place-told.new.out;
+      contents = g.O.Output.contents c.export_place-told.new.err;
+      failed = g.O.Output.failures c.export_place-told.new.err;
+      told = c.export_place-told.result;
+      free = begins.free;
+      is_new = empty;
+      exported = c.export_place-told.ensures;
+      there = others-undone _ _ _ _ begins c.discard.ensures.made;
+      ended = inr (
+        search rules,
+        undone-by _ _ _ _ begins c.discard.ensures.made,
+        nothing-gets _ _,
+        refl,
+      );
+    })
