@@ -206,13 +206,13 @@ pub struct Answered {
     pub status: Status,
     /// Whether all of the answer went out.
     pub is_out: bool,
-    /// Whether the store takes no transaction, since a call that it refused left it in one, or
-    /// closed it.
+    /// Whether the store may take no transaction, as where a call that it refused left it in one,
+    /// or closed it. Where it is `false`, none is open.
     pub is_left: bool,
 }
 
 /// Tells what came of a command, where no file was accepted. The status is trouble where the store
-/// takes no transaction any more.
+/// may take no transaction any more.
 fn tell_all<S: Alter, C: Client>(
     store: &mut Store<S>,
     client: &mut C,
@@ -243,14 +243,16 @@ fn tell_all<S: Alter, C: Client>(
 }
 
 /// Answers a line over the store: the lines of its command, and then `status N`, with N as
-/// `edfstore` would end.
+/// `edfstore` would end, or 3 where the store is left.
 ///
 /// A line that is no command gets `no such command`, and its status is `Usage`. The client is
-/// answered when the command is done, and what it is told is held. Where the store takes no
-/// transaction after the command, the status is trouble.
+/// answered when the command is done: of an accepted file, when as many data records of its
+/// recording are held as it is told. Where the store may take no transaction after another command,
+/// the status is trouble.
 ///
 /// After the answer to an accepted file whose patient has neither code nor name, the store is asked
-/// whether the client is to be warned. Where it takes no transaction after that, the answer stands.
+/// whether the client is to be warned of it, once at most. Where it may take no transaction after
+/// that, the answer stands.
 pub fn serve_line<S: Alter, I: Sources, P: NewFiles, C: Client>(
     alloc: Global,
     line: &[u8],

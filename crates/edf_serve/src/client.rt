@@ -58,9 +58,9 @@ pub trait Client {
         ensures warned { warned self.new ≡ warned self.old };
 
     /// Warns that files of different people may have become one recording: the accepted file of
-    /// this name is of a patient without code and name, and its data records begin more than 24
-    /// hours from those that its recording held. No transaction of the store is open. What was
-    /// answered is as it was.
+    /// this name is of a patient without code and name, all of its data records are new, and in its
+    /// recording two data records, one after the other, begin more than 24 hours apart. No
+    /// transaction of the store is open. What was answered is as it was.
     fn warn<S: Alter>(&mut self, store: &Store<S>, name: &str, receipt: &Receipt)
         requires idle { IsIdle S.Store store.now }
         requires apart { IsApart S.Store store.now receipt.now }
@@ -82,8 +82,9 @@ pub trait Flush: Output {
         ensures done { OnOk result (Self.failures self.new ≡ Self.failures self.old) };
 }
 
-/// A client that reads what a writer gets, which is flushed at the end of each answer. Another
-/// writer gets the warnings.
+/// A client that reads what a writer gets. Another writer gets the warnings.
+///
+/// The first is flushed at the end of each answer; that is tested, and no clause says so.
 #[derive(Drop)]
 pub struct Console<W, E> {
     pub(crate) out: W,

@@ -1,4 +1,4 @@
-//! A session: lines, each answered before the next is read.
+//! A session: lines, answered one after the other.
 
 ghost use Rattle.std.specs.Prelude.{◌≡◌, ℕ, List, Option, MatchResult};
 ghost use Rattle.std.specs.Bool.{MatchBool};
@@ -41,11 +41,11 @@ pub trait Lines {
 pub enum End {
     /// The input ended.
     Ended,
-    /// The input could not be read.
+    /// A read of the input failed, or memory for a line ran out.
     Unread,
     /// An answer could not be written.
     Unwritten,
-    /// The store takes no transaction, and is to be opened anew before the next line.
+    /// The store may take no transaction, and is to be opened anew before the next line.
     Left,
     /// As many lines were answered as one session can have.
     Full,
@@ -128,7 +128,7 @@ fn serve_next<S: Alter, L: Lines, I: Sources, P: NewFiles, C: Client>(
 /// the next line. `worst` becomes the worst of its own and the lines' statuses; trouble where the
 /// input can't be read or an answer can't be written.
 ///
-/// It keeps nothing of a line once it is answered.
+/// Each file that it begins for a line has its path when the line is answered, or was removed.
 pub fn serve<S: Alter, L: Lines, I: Sources, P: NewFiles, C: Client>(
     alloc: Global,
     folders: Folders<'_>,
