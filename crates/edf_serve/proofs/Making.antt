@@ -1,6 +1,6 @@
 -- A file that is begun and ended in one call.
-use Rattle.std.proofs.Common.{◌≡◌, ℕ, Bool, List, [], ◌∷◌, ◌++◌, Option, Some, None, refl, ap, subst}
-use Rattle.std.proofs.Common.{◌∙◌}
+use Rattle.std.proofs.Common.{◌≡◌, ◌∙◌, ℕ, Bool, List, [], ◌∷◌, ◌++◌, Option, Some, None, refl, ap}
+use Rattle.std.proofs.Common.{subst}
 use Rattle.edf_serve.specs.Exported.{IsMade, IsUndone}
 use Rattle.edf_serve.specs.Files.{Made, MadeFile, made_file, Stage, Begun, HasPath, Removed}
 use Rattle.edf_serve.specs.Files.{MayBeThere, KeepsOthers, CountsOne, Adds, Ends, BeginsFile}

@@ -34,8 +34,8 @@ abbrev pub worse : Status → Status → Status
 worse status other = if nat_lt (exit_code status) (exit_code other) then other else status
 
 -- a session between two lines: what is held, the lines that are to come, the paths that were
--- opened, the files that were made, what the client got, of what it was warned, and the worst status
--- so far
+-- opened, the files that were made, what the client got, of which names it was warned, and the
+-- worst status so far
 pub record Point (S : Type 0) : Type 0 where
   pub store : StoreModel S
   pub coming : Coming

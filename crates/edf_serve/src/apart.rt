@@ -255,9 +255,9 @@ fn is_alone(before: Side, after: Side) -> bool
     }
 }
 
-/// Whether the recording of an accepted file, all of whose data records are new, has a pause of more
-/// than 24 hours right before or behind them, and none of its data records is nearer on the other
-/// side. `start` is that of the file, to the second.
+/// Whether the recording of an accepted file, all of whose data records are new, has a pause of
+/// more than 24 hours right before or behind them, and none of its data records is nearer on the
+/// other side. `start` is that of the file, to the second.
 fn is_apart<S: Alter>(
     store: &mut Store<S>,
     receipt: &Receipt,

@@ -19,9 +19,9 @@ pub fn taken_is_held<S: Alter>()
     ensures { TakenIsHeld S.Store }
 {}
 
-/// Where `export` is answered with status 0, and the bytes of new files are known, the file that got
-/// the path holds just the canonical file of the recording at that place, on a disk that returned
-/// what was written.
+/// Where `export` is answered with status 0, and the bytes of new files are known, the file that
+/// got the path holds just the canonical file of the recording at that place, on a disk that
+/// returned what was written.
 pub fn exported_is_canonical<S: Alter>()
     ensures { ExportedIsCanonical S.Store }
 {}

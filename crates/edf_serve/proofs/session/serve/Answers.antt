@@ -12,7 +12,8 @@ returns-in-Some g c =
     let e : c.serve_next-end.result ≡ Some c.in-Some.end = search rules in
     record {
       served = step-ends g.S.Store _ _ _ _ _ i.so_far _
-          (same-surroundings _ _ _ _ _ _ _ i.same i.links i.known) c.serve_next-end.result c.in-Some.end e
+          (same-surroundings _ _ _ _ _ _ _ i.same i.links i.known) c.serve_next-end.result
+          c.in-Some.end e
           c.serve_next-end.ensures.step;
     }
 
