@@ -1,29 +1,26 @@
 -- What the file holds that an `export` line made.
-use Rattle.std.proofs.Common.{◌≡◌, ◌≢◌, ◌⊎◌, ◌∙◌, ℕ, Bool, true, List, [], ◌++◌, Option, Some, None}
-use Rattle.std.proofs.Common.{ap, sym, subst, inl, inr}
+use Rattle.std.proofs.Common.{◌≡◌, ◌≢◌, ◌⊎◌, ◌∙◌, ℕ, Bool, true, false, List, [], Option, Some}
+use Rattle.std.proofs.Common.{None, ap, sym, subst, inl, inr}
+use Rattle.std.specs.Prelude.{if◌then◌else◌}
 use Rattle.std.specs.Io.KnownBytes.{Appends}
 use Rattle.sqlite_trees.specs.declared.store.Store.{Ghosts}
 use Rattle.sqlite.specs.State.{HasCleanDisk}
-use Rattle.edf_header.specs.Key.{Key}
 use Rattle.edf_holdings.specs.Holdings.{Holdings}
-use Rattle.edf_store.specs.Held.{StoreModel, at, Holds, Stays}
+use Rattle.edf_store.specs.Held.{StoreModel, at, Holds}
 use Rattle.edf_export.specs.Export.{export_fault_number}
 use Rattle.edf_export.proofs.Walks.{clean_before}
-use Rattle.edfserve_arguments.specs.Line.{LineAsked}
 use Rattle.edfserve_arguments.specs.Line.LineAsked.{export}
 use Rattle.edf_command.specs.Exporting.{IsRecordingExported, ExportsPlace, HasNoPlace, HasNoList}
-use Rattle.edfruns_command.proofs.Undone.{number-undone}
-use Rattle.edf_program.specs.Output.{Growth, IsWritten, IsTold}
+use Rattle.edf_program.specs.Output.{Growth, IsWritten}
+use Rattle.edf_program.specs.Status.{is_trouble, status_of_number}
 use Rattle.edf_program.specs.declared.status.Status.{Status}
 use Rattle.edf_program.specs.declared.status.Status.TheVariants.{Done, Refused, Trouble}
 use Rattle.edf_serve.specs.Canonical.{HasRecordingAt, ExportedIsCanonical}
-use Rattle.edf_serve.specs.Exported.{IsFileMade, MakesFile, IsExportedTo, IsExportedBelow}
-use Rattle.edf_serve.specs.Exported.{IsMade, IsFinishTold}
-use Rattle.edf_serve.specs.Files.{Made, MadeFile, made_file, HasPath, Adds}
+use Rattle.edf_serve.specs.Exported.{MakesFile, IsExportedBelow, IsMade, IsFinishTold}
+use Rattle.edf_serve.specs.Files.{Made, made_file, HasPath, Adds}
 use Rattle.edf_serve.specs.Parted.{until, from}
 use Rattle.edf_serve.specs.Places.{Links, IsPlace}
-use Rattle.edf_serve.specs.Served.{Surroundings, IsServedAs, IsWorked, IsAnswer}
-use Rattle.edf_serve.specs.Taken.{Submission}
+use Rattle.edf_serve.specs.Served.{IsWorked, IsAnswer}
 use Rattle.edf_serve.specs.declared.answering.Outcome.{Outcome}
 use Rattle.edf_serve.specs.declared.answering.Outcome.TheVariants as outcome
 use Rattle.edf_serve.specs.declared.files.Finished.{Finished}
@@ -42,6 +39,13 @@ refused-not wrong = cc
 
 trouble-not : Trouble ≢ Done
 trouble-not wrong = cc
+
+either-not : (b : Bool) → (if b then Trouble else Refused) ≢ Done
+either-not true wrong = cc
+either-not false wrong = cc
+
+number-not : (n : ℕ) → status_of_number n ≢ Done
+number-not n = either-not (is_trouble n)
 
 -- what a new writer got is all that it holds
 all-of : (before after : Option (List ℕ)) (bytes : List ℕ) → before ≡ Some [] →
@@ -83,7 +87,7 @@ module _ (before after : Made) (path : List ℕ) (file err : Growth) (place : �
             (all-of file.before file.after is.file is_new is.wrote) made;
       }
   holds-one e (inr n) =
-      absurd (not-done err _ _ told (number-undone (export_fault_number n.0)) done n.3)
+      absurd (not-done err _ _ told (number-not (export_fault_number n.0)) done n.3)
 
   pub holds-it : ExportsPlace file err h place told
       ⊎ (HasNoPlace file err h place told ⊎ HasNoList file err told) →
@@ -91,7 +95,7 @@ module _ (before after : Made) (path : List ℕ) (file err : Growth) (place : �
   holds-it (inl e) = holds-one e e.exported
   holds-it (inr (inl n)) = absurd (not-done err _ Refused told refused-not done n.said.1)
   holds-it (inr (inr n)) =
-      absurd (not-done err _ _ told (number-undone _) done n.said.1)
+      absurd (not-done err _ _ told (number-not _) done n.said.1)
 
 module _ {S : Type 0} (g : Ghosts S) (old new : StoreModel S) (before after : Made)
     (out : Growth) (name : List ℕ) (known : Bool) (is_known : known ≡ true) (place : ℕ)
