@@ -1,7 +1,7 @@
-use Rattle.std.proofs.Common.{◌≡◌, ◌∙◌, Option, Some, Ok, refl, inl, inr, rules}
+use Rattle.std.proofs.Common.{◌≡◌, refl, inl, inr, rules}
 use Rattle.edf_program.proofs.Puts.{nothing-gets}
 use Rattle.edf_program.specs.Output.{growth}
-use Rattle.edf_serve.specs.Files.{BeginsFile, IsCreated}
+use Rattle.edf_program.specs.declared.status.Status.TheVariants.{Done}
 use Rattle.edf_serve.proofs.Making.{made-by, undone-by, others-by, others-undone}
 use Rattle.edf_serve.proofs.exporting.export_to.Goals as goal
 
@@ -26,6 +26,9 @@ pub returns-then-told-clause-exported : goal.returns-then-told-clause-exported
 returns-then-told-clause-exported g c =
     let begins = rw c.in-Ok-Some.field-0-is at c.in-Ok-Some.ensures.made in
     let empty = rw c.in-Ok-Some.field-0-is at c.in-Ok-Some.ensures.empty in
+    let before = g.P.NewFiles.made c.args.files.now in
+    let mid = g.P.NewFiles.made c.create.new.self in
+    let after = g.P.NewFiles.made c.finish.new.files in
     let f = c.finish.ensures.ended in
     let done : c.export_place-told.result ≡ Done = search rules in
     inl (record {
@@ -36,10 +39,15 @@ returns-then-told-clause-exported g c =
       free = begins.free;
       is_new = empty;
       exported = c.export_place-told.ensures;
-      there = others-by _ _ _ _ begins f.there;
+      there = others-by before mid after c.args.path.now begins f.there;
       ended = inl (
         done,
-        (f.finished, made-by _ _ _ _ begins _ f.finished f.ended, f.said),
+        (
+          f.finished,
+          made-by before mid after c.args.path.now begins
+              (g.P.Writer.Output.contents c.export_place-told.new.out) f.finished f.ended,
+          f.said,
+        ),
       );
     })
 
@@ -47,6 +55,10 @@ pub returns-clause-exported : goal.returns-clause-exported
 returns-clause-exported g c =
     let begins = rw c.in-Ok-Some.field-0-is at c.in-Ok-Some.ensures.made in
     let empty = rw c.in-Ok-Some.field-0-is at c.in-Ok-Some.ensures.empty in
+    let before = g.P.NewFiles.made c.args.files.now in
+    let mid = g.P.NewFiles.made c.create.new.self in
+    let after = g.P.NewFiles.made c.discard.new.self in
+    let d = c.discard.ensures.made in
     inl (record {
       file = growth g.P.Writer.Output c.in-Ok-Some.writer c.export_place-told.new.out;
       contents = g.O.Output.contents c.export_place-told.new.err;
@@ -55,11 +67,12 @@ returns-clause-exported g c =
       free = begins.free;
       is_new = empty;
       exported = c.export_place-told.ensures;
-      there = others-undone _ _ _ _ begins c.discard.ensures.made;
+      there = others-undone before mid after c.args.path.now begins d;
       ended = inr (
         search rules,
-        undone-by _ _ _ _ begins c.discard.ensures.made,
-        nothing-gets _ _,
+        undone-by before mid after c.args.path.now begins d,
+        nothing-gets (g.O.Output.contents c.export_place-told.new.err)
+            (g.O.Output.failures c.export_place-told.new.err),
         refl,
       );
     })
