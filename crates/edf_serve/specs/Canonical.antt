@@ -22,13 +22,13 @@ use Rattle.edf_serve.specs.declared.answering.Answered.{Answered}
 -- list, from 1; no other bytes are one
 pub record HasRecordingAt (h : Holdings) (place : ℕ) (before after : Made) (path : List ℕ) : Type 0
   where
-  pub keys : List Key
-  pub key : Key
-  pub are_keys : AreKeysOf h keys
-  pub is_at : at_place keys place ≡ Some key
-  pub file : List ℕ
-  pub is_file : IsOnlyFile file key (h key)
-  pub made : Adds before.files after.files (made_file path (HasPath (Some file)))
+    pub keys : List Key
+    pub key : Key
+    pub are_keys : AreKeysOf h keys
+    pub is_at : at_place keys place ≡ Some key
+    pub file : List ℕ
+    pub is_file : IsOnlyFile file key (h key)
+    pub made : Adds before.files after.files (made_file path (HasPath (Some file)))
 
 -- Where `export` was answered with status 0, over files whose bytes are known and a disk that
 -- returned what was written, the path of its name is that of a new file, which holds the recording.
