@@ -8,9 +8,11 @@ use Rattle.sqlite.specs.State.{HasCleanDisk}
 use Rattle.edf_holdings.specs.Holdings.{Holdings}
 use Rattle.edf_store.specs.Held.{StoreModel, at, Holds}
 use Rattle.edf_export.specs.Export.{export_fault_number}
+use Rattle.edf_export.specs.declared.fault.ExportFault.TheVariants.{Store}
 use Rattle.edf_export.proofs.Walks.{clean_before}
 use Rattle.edfserve_arguments.specs.Line.LineAsked.{export}
 use Rattle.edf_command.specs.Exporting.{IsRecordingExported, ExportsPlace, HasNoPlace, HasNoList}
+use Rattle.edf_command.specs.Lines.{export_status}
 use Rattle.edf_program.specs.Output.{Growth, IsWritten}
 use Rattle.edf_program.specs.Status.{is_trouble, status_of_number}
 use Rattle.edf_program.specs.declared.status.Status.{Status}
@@ -95,7 +97,8 @@ module _ (before after : Made) (path : List ℕ) (file err : Growth) (place : �
   holds-it (inl e) = holds-one e e.exported
   holds-it (inr (inl n)) = absurd (not-done err _ Refused told refused-not done n.said.1)
   holds-it (inr (inr n)) =
-      absurd (not-done err _ _ told (number-not _) done n.said.1)
+      absurd (not-done err _ (export_status (Store n.fault)) told
+      (number-not (export_fault_number (Store n.fault))) done n.said.1)
 
 module _ {S : Type 0} (g : Ghosts S) (old new : StoreModel S) (before after : Made)
     (out : Growth) (name : List ℕ) (known : Bool) (is_known : known ≡ true) (place : ℕ)

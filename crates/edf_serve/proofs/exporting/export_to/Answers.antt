@@ -1,4 +1,5 @@
-use Rattle.std.proofs.Common.{◌≡◌, refl, inl, inr, rules}
+use Rattle.std.proofs.Common.{◌≡◌, refl, inl, inr, arith, rules}
+use Rattle.std.proofs.lemmas.Grind.{common_steps}
 use Rattle.edf_program.proofs.Puts.{nothing-gets}
 use Rattle.edf_program.specs.Output.{growth}
 use Rattle.edf_program.specs.declared.status.Status.TheVariants.{Done}
@@ -22,15 +23,16 @@ returns-in-Err-clause-exported g c =
       said = inr (c.in-Err.ensures.made.1, c.tell_unwritten.ensures);
     })
 
-pub returns-then-told-clause-exported : goal.returns-then-told-clause-exported
-returns-then-told-clause-exported g c =
+pub returns-then-eq-clause-exported : goal.returns-then-eq-clause-exported
+returns-then-eq-clause-exported g c =
     let begins = rw c.in-Ok-Some.field-0-is at c.in-Ok-Some.ensures.made in
     let empty = rw c.in-Ok-Some.field-0-is at c.in-Ok-Some.ensures.empty in
     let before = g.P.NewFiles.made c.args.files.now in
     let mid = g.P.NewFiles.made c.create.new.self in
     let after = g.P.NewFiles.made c.finish.new.files in
     let f = c.finish.ensures.ended in
-    let done : c.export_place-told.result ≡ Done = search rules in
+    let done : c.export_place-told.result ≡ Done =
+    first_of (search rules, grind (arith, common_steps)) in
     inl (record {
       file = growth g.P.Writer.Output c.in-Ok-Some.writer c.export_place-told.new.out;
       contents = g.O.Output.contents c.export_place-told.new.err;
