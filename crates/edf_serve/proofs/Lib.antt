@@ -3,9 +3,11 @@ pub mod Held
 pub mod Accepting
 pub mod Submitting
 pub mod Turning
+pub mod Making
 pub mod Below
 pub mod Again
 pub mod Telling
 pub mod Stepping
 pub mod Pauses
 pub mod Sessions
+pub mod Canonical

@@ -1,6 +1,6 @@
 -- The turns of a session, one after another, and its end.
-use Rattle.std.proofs.Common.{◌≡◌, ℕ, ◌+◌, List, [], ◌∷◌, length, Option, Some, None, refl, sym}
-use Rattle.std.proofs.Common.{ap, subst, ◌∙◌, arith}
+use Rattle.std.proofs.Common.{◌≡◌, ℕ, ◌+◌, Bool, List, [], ◌∷◌, length, Option, Some, None, refl}
+use Rattle.std.proofs.Common.{sym, ap, subst, ◌∙◌, arith}
 use Rattle.sqlite_trees.specs.declared.store.Store.{Ghosts}
 use Rattle.edf_store.specs.Held.{StoreModel}
 use Rattle.edf_export.proofs.Walks.{stays_same}
@@ -8,13 +8,14 @@ use Rattle.edf_intake.proofs.Batches.{none_submitted, answers_all}
 use Rattle.edf_serve.specs.Served.{Folders, Surroundings, surroundings}
 use Rattle.edf_serve.specs.Session.{Point, Turn, IsTurn, AreTurns, IsStep}
 use Rattle.edf_serve.specs.Files.{Opened, Made}
-use Rattle.edf_serve.specs.Places.{Links, AddsBelow}
-use Rattle.edf_serve.specs.Session.{EndsInput, StaysBelow}
+use Rattle.edf_serve.specs.Places.{Links, AddsBelow, AddsSuch}
+use Rattle.edf_serve.specs.Session.{EndsInput, StaysBelow, EndsFiles}
 use Rattle.edf_serve.specs.Submissions.{AreSubmittedInTurn, submissions}
 use Rattle.edf_serve.specs.Whole.{IsWhole}
 use Rattle.edf_serve.specs.declared.session.End.{End}
 use Rattle.edf_serve.specs.declared.session.End.TheVariants.{Ended, Unread, Unwritten, Left, Full}
-use Rattle.edf_serve.proofs.Below.{made_path, none-added, turn-below, then-below}
+use Rattle.edf_serve.proofs.Below.{made_path, IsFileOver, none-added, none-such, turn-below}
+use Rattle.edf_serve.proofs.Below.{then-below, turn-ends, then-ends}
 use Rattle.edf_serve.proofs.Turning.{served-in_turn}
 
 -- the turns so far
@@ -26,14 +27,15 @@ pub record SoFar {S : Type 0} (g : Ghosts S) (s : Surroundings) (a b : Point S) 
   pub cap : b.store.cap ≡ a.store.cap
   pub submitted : AreSubmittedInTurn g a.store b.store (submissions turns)
   pub below : StaysBelow g s a b
+  pub ended : EndsFiles g s a b
 
 module _ {S : Type 0} (g : Ghosts S) (s : Surroundings) (a b c : Point S) (count : ℕ)
     (so : SoFar g s a b count) where
   turned : (t : Turn S) → IsTurn g s b c t →
       AreSubmittedInTurn g a.store c.store (submissions (t ∷ so.turns))
-  turned t is = served-in_turn g a.store b.store c.store b.opened c.opened b.made c.made _ s
-      t.line t.answered t.asked t.submission t.text (submissions so.turns) so.cap so.submitted
-      is.served
+  turned t is = served-in_turn g a.store b.store c.store b.opened c.opened b.made c.made _ b.warned
+      c.warned s t.line t.answered t.asked t.submission t.text (submissions so.turns) so.cap
+      so.submitted is.served
 
   begun : (t : Turn S) → IsTurn g s b c t → AreTurns g s a so.turns t.point
   begun t is = subst (λ (p : Point S). AreTurns g s a so.turns p) (sym is.begins) so.are_turns
@@ -50,6 +52,7 @@ module _ {S : Type 0} (g : Ghosts S) (s : Surroundings) (a b c : Point S) (count
     cap = step.1.cap ∙ so.cap;
     submitted = turned step.0 step.1;
     below = then-below g s a b c so.below (turn-below g s b c step.0 step.1);
+    ended = then-ends g s a b c so.ended (turn-ends g s b c step.0 step.1);
   }
 
   same-store : (end : End) → EndsInput g s b c end →
@@ -61,9 +64,13 @@ module _ {S : Type 0} (g : Ghosts S) (s : Surroundings) (a b c : Point S) (count
   same-below end e = (
     subst (λ (o : Opened). AddsBelow (λ path. path) s.folders.from a.opened o) (sym e.opened)
         so.below.0,
-    subst (λ (m : Made). AddsBelow (λ (made : List ℕ × Option (List ℕ)). made.0) s.folders.to
-        a.made m) (sym e.made) so.below.1,
+    subst (λ (m : Made). AddsBelow made_path s.folders.to a.made.files m.files) (sym e.made)
+        so.below.1,
   )
+
+  same-ended : (end : End) → EndsInput g s b c end → EndsFiles g s a c
+  same-ended end e =
+      subst (λ (m : Made). AddsSuch IsFileOver a.made.files m.files) (sym e.made) so.ended
 
   -- or ends
   ends-by : (end : End) → IsStep g s b c (Some end) → IsWhole g s a c end
@@ -77,6 +84,7 @@ module _ {S : Type 0} (g : Ghosts S) (s : Surroundings) (a b c : Point S) (count
     },
     turned step.0 step.1,
     then-below g s a b c so.below (turn-below g s b c step.0 step.1),
+    then-ends g s a b c so.ended (turn-ends g s b c step.0 step.1),
   )
   ends-by Left step = (
     step.0 ∷ so.turns,
@@ -88,6 +96,7 @@ module _ {S : Type 0} (g : Ghosts S) (s : Surroundings) (a b c : Point S) (count
     },
     turned step.0 step.1,
     then-below g s a b c so.below (turn-below g s b c step.0 step.1),
+    then-ends g s a b c so.ended (turn-ends g s b c step.0 step.1),
   )
   ends-by Full step = absurd step
   ends-by Ended step = (
@@ -100,6 +109,7 @@ module _ {S : Type 0} (g : Ghosts S) (s : Surroundings) (a b c : Point S) (count
     },
     same-store Ended step,
     same-below Ended step,
+    same-ended Ended step,
   )
   ends-by Unread step = (
     so.turns,
@@ -111,6 +121,7 @@ module _ {S : Type 0} (g : Ghosts S) (s : Surroundings) (a b c : Point S) (count
     },
     same-store Unread step,
     same-below Unread step,
+    same-ended Unread step,
   )
 
   -- a step, where the surroundings are those of the session
@@ -139,6 +150,7 @@ is-full g s a b count so all = (
   },
   so.submitted,
   so.below,
+  so.ended,
 )
 
 -- no turn yet
@@ -156,12 +168,14 @@ none-yet g s a =
       };
       below = (
         none-added (λ path. path) s.folders.from a.opened a.opened refl,
-        none-added made_path s.folders.to a.made a.made refl,
+        none-added made_path s.folders.to a.made.files a.made.files refl,
       );
+      ended = none-such IsFileOver a.made.files a.made.files refl;
     }
 
-pub same-surroundings : (f : Folders) (b b' : List ℕ → Option (List ℕ)) (l l' : Links) →
-    b' ≡ b → l' ≡ l → surroundings f b' l' ≡ surroundings f b l
-same-surroundings f b b' l l' p q =
-    ap (λ (x : List ℕ → Option (List ℕ)). surroundings f x l') p
-    ∙ ap (λ (y : Links). surroundings f b y) q
+pub same-surroundings : (f : Folders) (b b' : List ℕ → Option (List ℕ)) (l l' : Links)
+    (k k' : Bool) → b' ≡ b → l' ≡ l → k' ≡ k → surroundings f b' l' k' ≡ surroundings f b l k
+same-surroundings f b b' l l' k k' p q r =
+    ap (λ (x : List ℕ → Option (List ℕ)). surroundings f x l' k') p
+    ∙ (ap (λ (y : Links). surroundings f b y k') q
+    ∙ ap (λ (z : Bool). surroundings f b l z) r)

@@ -11,7 +11,8 @@ use Rattle.edf_serve.specs.declared.session.End.TheVariants.{Unwritten, Left}
 module _ {S : Type 0} (g : Ghosts S) (s : Surroundings) (a b : Point S) (line : List ℕ)
     (answered : Answered) (came : ComesNext a.coming b.coming line)
     (served : IsServed g a.store b.store a.opened b.opened a.made b.made
-    (got a.heard a.failed b.heard b.failed) s line answered) (cap : b.store.cap ≡ a.store.cap)
+    (got a.heard a.failed b.heard b.failed) a.warned b.warned s line answered)
+    (cap : b.store.cap ≡ a.store.cap)
     (worst : b.worst ≡ worse a.worst (told_status answered)) where
   abbrev turn : Turn S
   turn = record {

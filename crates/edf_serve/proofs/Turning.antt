@@ -1,5 +1,5 @@
 -- One turn of a session: what it submits.
-use Rattle.std.proofs.Common.{◌≡◌, ℕ, List, ◌++◌, Option, Some, None, sym}
+use Rattle.std.proofs.Common.{◌≡◌, ℕ, Bool, List, ◌++◌, Option, Some, None, sym}
 use Rattle.std.proofs.Common.{subst, inl, inr}
 use Rattle.std.proofs.lemmas.List.{append-nil}
 use Rattle.sqlite_trees.specs.declared.store.Store.{Ghosts}
@@ -8,6 +8,7 @@ use Rattle.edfserve_arguments.specs.Line.{LineAsked}
 use Rattle.edfserve_arguments.specs.Line.LineAsked.{take, list, runs, export}
 use Rattle.edf_program.specs.Output.{Growth}
 use Rattle.edf_program.specs.declared.status.Status.{Status}
+use Rattle.edf_serve.specs.Client.{Warned}
 use Rattle.edf_serve.specs.Exported.{IsExportedBelow}
 use Rattle.edf_serve.specs.Files.{Opened, Made}
 use Rattle.edf_serve.specs.Places.{Links}
@@ -54,16 +55,17 @@ module _ {S : Type 0} (g : Ghosts S) (first old new : StoreModel S) (all : List 
   taken-in_turn opened opened' out name submission links folder bytes o capped (inr (inr n)) =
       none-same submission n.none n.store
 
-  export-in_turn : (made made' : Made) (out : Growth) (name : List ℕ) (links : Links)
-      (folder : Option (List ℕ)) (place : ℕ) (submission : Option Submission) (status : Status) →
-      submission ≡ None → IsExportedBelow g old new made made' out name links folder place status →
+  export-in_turn : (made made' : Made) (out : Growth) (name : List ℕ) (known : Bool)
+      (links : Links) (folder : Option (List ℕ)) (place : ℕ) (submission : Option Submission)
+      (status : Status) → submission ≡ None →
+      IsExportedBelow g old new made made' out name known links folder place status →
       AreSubmittedInTurn g first new (all ++ one_or_none submission)
-  export-in_turn made made' out name links folder place submission status none (inl e) =
+  export-in_turn made made' out name known links folder place submission status none (inl e) =
       elim e.2 [
         | inl f ↦ none-stays submission none f.exported.stays
         | inr n ↦ none-same submission none n.store
       ]
-  export-in_turn made made' out name links folder place submission status none (inr n) =
+  export-in_turn made made' out name known links folder place submission status none (inr n) =
       none-same submission none n.store
 
   pub worked-in_turn : (opened opened' : Opened) (made made' : Made) (out why : Growth)
@@ -86,27 +88,29 @@ module _ {S : Type 0} (g : Ghosts S) (first old new : StoreModel S) (all : List 
   worked-in_turn o o' m m' out why s (Some (runs place)) submission (outcome.Accepted n r b) c w =
       absurd w.3
   worked-in_turn o o' m m' out why s (Some (export place name)) submission (outcome.Told t) c w =
-      export-in_turn m m' out name s.links s.folders.to place submission t w.2.0 w.2.1
+      export-in_turn m m' out name s.known s.links s.folders.to place submission t w.2.0 w.2.1
   worked-in_turn o o' m m' out why s (Some (export place name)) submission
       (outcome.Accepted n r b) c w = absurd w.2
 
 -- the whole turn, once it was answered
 pub served-in_turn : {S : Type 0} (g : Ghosts S) (first old new : StoreModel S)
-    (opened opened' : Opened) (made made' : Made) (sent : Growth) (s : Surroundings)
-    (line : List ℕ) (answered : Answered) (asked : Option LineAsked)
+    (opened opened' : Opened) (made made' : Made) (sent : Growth) (warned warned' : Warned)
+    (s : Surroundings) (line : List ℕ) (answered : Answered) (asked : Option LineAsked)
     (submission : Option Submission) (text : List ℕ) (all : List Submission) →
     old.cap ≡ first.cap → AreSubmittedInTurn g first old all →
-    IsServedAs g old new opened opened' made made' sent s line answered asked submission text →
+    IsServedAs g old new opened opened' made made' sent warned warned' s line answered asked
+    submission text →
     AreSubmittedInTurn g first new (all ++ one_or_none submission)
-served-in_turn {S} g first old new opened opened' made made' sent s line answered asked
-    submission text all capped before is =
+served-in_turn {S} g first old new opened opened' made made' sent warned warned' s line answered
+    asked submission text all capped before is =
     go is.outcome is.answer
   where
     so : AreSubmittedInTurn g first is.mid (all ++ one_or_none submission)
     so = worked-in_turn g first old is.mid all before opened opened' made made' is.out is.why s
         asked submission is.outcome capped is.worked
 
-    go : (o : Outcome) → IsAnswer g is.mid new is.lines is.last o text answered.status →
+    go : (o : Outcome) →
+        IsAnswer g is.mid new is.lines is.last o text answered.is_left answered.status →
         AreSubmittedInTurn g first new (all ++ one_or_none submission)
     go (outcome.Accepted name receipt start) a = elim a.0 [
       | inl same ↦

@@ -9,7 +9,8 @@ use Rattle.edf_fragment.specs.Fragment.{DataRecord}
 use Rattle.edf_holdings.specs.Holdings.{Holdings}
 use Rattle.edf_store.specs.Held.{StoreModel, at, Holds, Stays}
 use Rattle.edf_intake.specs.declared.answer.Receipt.{Receipt}
-use Rattle.edf_serve.specs.Client.{IsTaken}
+use Rattle.edf_serve.specs.Client.{IsTaken, Warned}
+use Rattle.edf_serve.specs.Files.{Adds}
 
 -- the name of the patient: the fourth subfield of the patient identification
 abbrev pub patient_name : Key → List ℕ
@@ -55,6 +56,10 @@ pub record IsApart {S : Type 0} (g : Ghosts S) (store : StoreModel S) (receipt :
 -- code and name is it asked
 abbrev pub IsAskedFor : {S : Type 0} → Ghosts S → StoreModel S → StoreModel S → Receipt → Type 0
 IsAskedFor g old new receipt = (new ≡ old) ⊎ (IsUntold receipt.identity × Stays g old new)
+
+-- a client was warned of none, or once, of this name
+abbrev pub MayWarn : Warned → Warned → List ℕ → Type 0
+MayWarn before after name = (after ≡ before) ⊎ Adds before after name
 
 abbrev pub warned_line : List ℕ → List ℕ
 warned_line name = name ++ (codes " warned: files of different people may have become one recording"

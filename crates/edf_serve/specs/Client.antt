@@ -19,6 +19,10 @@ use Rattle.edf_program.specs.declared.status.Status.TheVariants.{Trouble}
 abbrev pub status_line : Status → List ℕ
 status_line status = codes "status " ++ (decimal (exit_code status) ++ (10 ∷ []))
 
+-- the names of which a client was warned, in turn, where they are known
+abbrev pub Warned : Type 0
+Warned = Option (List (List ℕ))
+
 -- what a client got between two moments, where that is known, and how many of its writes failed
 abbrev pub got : Option (List ℕ) → ℕ → Option (List ℕ) → ℕ → Growth
 got before failed_before after failed_after = record {

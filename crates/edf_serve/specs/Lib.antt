@@ -7,6 +7,7 @@ pub mod Taken
 pub mod Exported
 pub mod RunsListed
 pub mod Served
+pub mod Canonical
 pub mod Session
 pub mod Submissions
 pub mod Whole

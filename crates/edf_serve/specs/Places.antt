@@ -21,9 +21,14 @@ IsPlace links (Some folder) name None = IsPathOf (Some folder) name None
 abbrev pub IsBelowFolder : List ℕ → List ℕ → Type 0
 IsBelowFolder folder path = (name : List ℕ) × IsBelow name × (path ≡ folder ++ (47 ∷ name))
 
+-- what was added to a list that is known is such
+abbrev pub AddsSuch : {A : Type 0} → (A → Type 0) → Option (List A) → Option (List A) → Type 0
+AddsSuch {A} P before after = IfSome before (λ all. (more : List A)
+    × (after ≡ Some (all ++ more)) × AllByRecursion P more)
+
 -- what was added to these lists has such paths, where there is a folder
 abbrev pub AddsBelow : {A : Type 0} → (A → List ℕ) → Option (List ℕ) → Option (List A) →
     Option (List A) → Type 0
 AddsBelow path_of None before after = Unit {0}
-AddsBelow {A} path_of (Some folder) before after = IfSome before (λ all. (more : List A)
-    × (after ≡ Some (all ++ more)) × AllByRecursion (λ x. IsBelowFolder folder (path_of x)) more)
+AddsBelow {A} path_of (Some folder) before after =
+    AddsSuch (λ (x : A). IsBelowFolder folder (path_of x)) before after

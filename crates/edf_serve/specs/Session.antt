@@ -7,9 +7,9 @@ use Rattle.edfserve_arguments.specs.Line.{LineAsked}
 use Rattle.edf_program.specs.Status.{exit_code}
 use Rattle.edf_program.specs.declared.status.Status.{Status}
 use Rattle.edf_program.specs.declared.status.Status.TheVariants.{Trouble}
-use Rattle.edf_serve.specs.Client.{got}
-use Rattle.edf_serve.specs.Files.{Opened, Made}
-use Rattle.edf_serve.specs.Places.{AddsBelow}
+use Rattle.edf_serve.specs.Client.{Warned, got}
+use Rattle.edf_serve.specs.Files.{Opened, Made, MadeFile, IsOver}
+use Rattle.edf_serve.specs.Places.{AddsBelow, AddsSuch}
 use Rattle.edf_serve.specs.Served.{Surroundings, IsServedAs}
 use Rattle.edf_serve.specs.Taken.{Submission}
 use Rattle.edf_serve.specs.declared.answering.Answered.{Answered}
@@ -33,8 +33,9 @@ HasNoLine before after = IfSome before (λ lines. lines ≡ []) × (after ≡ be
 abbrev pub worse : Status → Status → Status
 worse status other = if nat_lt (exit_code status) (exit_code other) then other else status
 
--- a session between two lines: what is held, the lines that are to come, the paths that were opened
--- and made, what the client got, and the worst status so far
+-- a session between two lines: what is held, the lines that are to come, the paths that were
+-- opened, the files that were made, what the client got, of which names it was warned, and the
+-- worst status so far
 pub record Point (S : Type 0) : Type 0 where
   pub store : StoreModel S
   pub coming : Coming
@@ -42,17 +43,19 @@ pub record Point (S : Type 0) : Type 0 where
   pub made : Made
   pub heard : Option (List ℕ)
   pub failed : ℕ
+  pub warned : Warned
   pub worst : Status
 
 abbrev pub point_at : {S : Type 0} → StoreModel S → Coming → Opened → Made → Option (List ℕ) → ℕ →
-    Status → Point S
-point_at store coming opened made heard failed worst = record {
+    Warned → Status → Point S
+point_at store coming opened made heard failed warned worst = record {
   store = store;
   coming = coming;
   opened = opened;
   made = made;
   heard = heard;
   failed = failed;
+  warned = warned;
   worst = worst;
 }
 
@@ -76,8 +79,8 @@ module _ {S : Type 0} (g : Ghosts S) (s : Surroundings) where
     pub begins : t.point ≡ a
     pub came : ComesNext a.coming b.coming t.line
     pub served : IsServedAs g a.store b.store a.opened b.opened a.made b.made
-        (got a.heard a.failed b.heard b.failed) s t.line t.answered t.asked t.submission
-        t.text
+        (got a.heard a.failed b.heard b.failed) a.warned b.warned s t.line t.answered t.asked
+        t.submission t.text
     pub cap : b.store.cap ≡ a.store.cap
     pub worst : b.worst ≡ worse a.worst (told_status t.answered)
 
@@ -94,6 +97,7 @@ module _ {S : Type 0} (g : Ghosts S) (s : Surroundings) where
     pub made : b.made ≡ a.made
     pub heard : b.heard ≡ a.heard
     pub failed : b.failed ≡ a.failed
+    pub warned : b.warned ≡ a.warned
     pub why : ((end ≡ Ended) × HasNoLine a.coming b.coming × (b.worst ≡ a.worst))
         ⊎ ((end ≡ Unread) × (b.worst ≡ Trouble))
 
@@ -124,7 +128,12 @@ module _ {S : Type 0} (g : Ghosts S) (s : Surroundings) where
     pub are_turns : AreTurns a turns last
     pub ends : EndsSession last turns b all end
 
-  -- each path that it opens or makes is one below its folder, where there is one
+  -- each path that it opens, and each under which it begins a file, is one below its folder, where
+  -- there is one
   abbrev pub StaysBelow : Point S → Point S → Type 0
   StaysBelow a b = AddsBelow (λ path. path) s.folders.from a.opened b.opened
-      × AddsBelow (λ (made : List ℕ × Option (List ℕ)). made.0) s.folders.to a.made b.made
+      × AddsBelow (λ (file : MadeFile). file.path) s.folders.to a.made.files b.made.files
+
+  -- each file that it begins has its path in the end, or is removed
+  abbrev pub EndsFiles : Point S → Point S → Type 0
+  EndsFiles a b = AddsSuch (λ (file : MadeFile). IsOver file.stage) a.made.files b.made.files

@@ -161,11 +161,12 @@ fn work<'l, S: Alter, I: Sources, P: NewFiles>(
         IsWorked S.Store store.old store.new (I.opened sources.old) (I.opened sources.new)
         (P.made files.old) (P.made files.new) (growth ⟦<Text as Output>⟧ out.old out.new)
         (growth ⟦<Text as Output>⟧ why.old why.new)
-        (surroundings (below folders.entry) (I.bytes sources.old) (I.links sources.old))
-        (option_map asked_by asked.entry) submission result }
+        (surroundings (below folders.entry) (I.bytes sources.old) (I.links sources.old)
+        (P.known files.old)) (option_map asked_by asked.entry) submission result }
     ensures cap { store.new.cap ≡ store.old.cap }
     ensures same { I.bytes sources.new ≡ I.bytes sources.old }
     ensures links { I.links sources.new ≡ I.links sources.old }
+    ensures known { P.known files.new ≡ P.known files.old }
 {
     match asked {
         Some(LineCommand::Take { name }) => take(alloc, name, folders.from, store, sources, out),
@@ -184,7 +185,7 @@ fn work<'l, S: Alter, I: Sources, P: NewFiles>(
     }
 }
 
-/// Whether the store takes a transaction. What is held stays.
+/// `true` only where the store takes a transaction. What is held stays.
 pub(crate) fn is_idle<S: Alter>(store: &mut Store<S>) -> bool
     ensures stays { Stays S.Store store.old store.new }
     ensures idle { result ≡ true → IsIdle S.Store store.new }
@@ -205,13 +206,13 @@ pub struct Answered {
     pub status: Status,
     /// Whether all of the answer went out.
     pub is_out: bool,
-    /// Whether the store takes no transaction, since a call that it refused left it in one, or
-    /// closed it.
+    /// Whether the store may take no transaction, as where a call that it refused left it in one,
+    /// or closed it. Where it is `false`, none is open.
     pub is_left: bool,
 }
 
 /// Tells what came of a command, where no file was accepted. The status is trouble where the store
-/// takes no transaction any more.
+/// may take no transaction any more.
 fn tell_all<S: Alter, C: Client>(
     store: &mut Store<S>,
     client: &mut C,
@@ -222,6 +223,7 @@ fn tell_all<S: Alter, C: Client>(
     ensures told { IsToldOver S.Store store.old store.new out.now.bytes.items why.now.bytes.items
         (got (C.contents client.old) (C.failures client.old) (C.contents client.new)
         (C.failures client.new)) told result }
+    ensures warned { C.warned client.new ≡ C.warned client.old }
 {
     if is_idle(store) {
         let is_out = client.answer(store, out.as_slice(), why.as_slice(), told);
@@ -241,14 +243,16 @@ fn tell_all<S: Alter, C: Client>(
 }
 
 /// Answers a line over the store: the lines of its command, and then `status N`, with N as
-/// `edfstore` would end.
+/// `edfstore` would end, or 3 where the store is left.
 ///
 /// A line that is no command gets `no such command`, and its status is `Usage`. The client is
-/// answered when the command is done, and what it is told is held. Where the store takes no
-/// transaction after the command, the status is trouble.
+/// answered when the command is done: of an accepted file, when as many data records of its
+/// recording are held as it is told. Where the store may take no transaction after another command,
+/// the status is trouble.
 ///
 /// After the answer to an accepted file whose patient has neither code nor name, the store is asked
-/// whether the client is to be warned. Where it takes no transaction after that, the answer stands.
+/// whether the client is to be warned of it, once at most. Where it may take no transaction after
+/// that, the answer stands.
 pub fn serve_line<S: Alter, I: Sources, P: NewFiles, C: Client>(
     alloc: Global,
     line: &[u8],
@@ -262,11 +266,12 @@ pub fn serve_line<S: Alter, I: Sources, P: NewFiles, C: Client>(
         (I.opened sources.new) (P.made files.old) (P.made files.new)
         (got (C.contents client.old) (C.failures client.old) (C.contents client.new)
         (C.failures client.new))
-        (surroundings (below folders.entry) (I.bytes sources.old) (I.links sources.old)) line.now
-        result }
+        (C.warned client.old) (C.warned client.new) (surroundings (below folders.entry)
+        (I.bytes sources.old) (I.links sources.old) (P.known files.old)) line.now result }
     ensures cap { store.new.cap ≡ store.old.cap }
     ensures same { I.bytes sources.new ≡ I.bytes sources.old }
     ensures links { I.links sources.new ≡ I.links sources.old }
+    ensures known { P.known files.new ≡ P.known files.old }
 {
     let mut out = Text::new(alloc);
     let mut why = Text::new(alloc);

@@ -1,5 +1,5 @@
-//! Files of a patient without code and name, which lie more than 24 hours from all others of their
-//! recording.
+//! Files of a patient without code and name, beside which their recording has a pause of more than
+//! 24 hours.
 
 ghost use Rattle.std.specs.Prelude.{◌≡◌, ◌⊎◌, ℕ, ◌+◌, ◌*◌, ◌<◌, ◌≤◌, [], true, false, Some, IfSome};
 ghost use Rattle.std.specs.Prelude.{IfOk, OnOk};
@@ -8,7 +8,7 @@ ghost use Rattle.edf_holdings.specs.Holdings.{Holdings};
 ghost use Rattle.edf_store.specs.Held.{at, Holds, Stays};
 ghost use Rattle.edf_store.specs.StoreTx.{IsRunning};
 ghost use Rattle.edf_store.specs.Transaction.{IsNextStart, Sees};
-ghost use Rattle.edf_serve.specs.Apart.{IsUntold, IsAskedFor, HasPause, day_long};
+ghost use Rattle.edf_serve.specs.Apart.{IsUntold, IsAskedFor, HasPause, MayWarn, day_long};
 ghost use Rattle.edf_serve.specs.Client.{IsTaken, IsIdle};
 
 use crate::answering::is_idle;
@@ -175,7 +175,9 @@ fn leap<S: Alter>(
 }
 
 /// The start of the last of `count` data records in nanoseconds, of which the first begins at
-/// `first`. It leaps over those that follow one another without a gap.
+/// `first`, where they follow one another without a gap or the leaps meet each gap. A leap that
+/// lands on a data record takes all between for there, and then the answer may be the start of an
+/// earlier one.
 fn last_start<S: Alter>(
     store: &mut Store<S>,
     identity: &Identity,
@@ -220,7 +222,8 @@ fn side_before<S: Alter>(
     }
 }
 
-/// What begins after a file's last data record, of `count` from `first` on.
+/// What begins after a file's last data record, of `count` from `first` on, as far as leaps find
+/// it.
 fn side_after<S: Alter>(
     store: &mut Store<S>,
     identity: &Identity,
@@ -252,9 +255,9 @@ fn is_alone(before: Side, after: Side) -> bool
     }
 }
 
-/// Whether the data records of an accepted file, all of them new, begin more than 24 hours from
-/// those that its recording held, of which there are some. `start` is that of the file, to the
-/// second.
+/// Whether the recording of an accepted file, all of whose data records are new, has a pause of
+/// more than 24 hours right before or behind them, and none of its data records is nearer on the
+/// other side. `start` is that of the file, to the second.
 fn is_apart<S: Alter>(
     store: &mut Store<S>,
     receipt: &Receipt,
@@ -295,6 +298,7 @@ pub(crate) fn warn_if_apart<S: Alter, C: Client>(
     ensures idle { result ≡ false → IsIdle S.Store store.new }
     ensures contents { C.contents client.new ≡ C.contents client.old }
     ensures failures { C.failures client.new ≡ C.failures client.old }
+    ensures warned { MayWarn (C.warned client.old) (C.warned client.new) name.now }
 {
     let Some(start) = start else {
         return false;

@@ -1,6 +1,6 @@
 //! Who is answered.
 
-ghost use Rattle.std.specs.Prelude.{◌≡◌, ℕ, List, Option, ◌++◌, OnOk, OnErr};
+ghost use Rattle.std.specs.Prelude.{◌≡◌, ℕ, List, Option, None, ◌++◌, OnOk, OnErr};
 ghost use Rattle.std.specs.List.{flat_map};
 ghost use Rattle.edf_fragment.specs.Failures.{one_more};
 ghost use Rattle.edf_command.specs.Lines.{accepted_line};
@@ -8,7 +8,8 @@ ghost use Rattle.edf_program.specs.Output.{IsPut, growth};
 ghost use Rattle.edf_program.specs.declared.status.Status.TheVariants.{Done};
 ghost use Rattle.edf_program.specs.Output.{IsWritten};
 ghost use Rattle.edf_serve.specs.Apart.{IsApart, warned_line};
-ghost use Rattle.edf_serve.specs.Client.{IsTaken, IsIdle, IsIdleAfter, got, status_line};
+ghost use Rattle.edf_serve.specs.Client.{IsTaken, IsIdle, IsIdleAfter, Warned, got, status_line};
+ghost use Rattle.edf_serve.specs.Files.{Adds};
 
 use edf_fragment::Output;
 use edf_intake::Receipt;
@@ -27,6 +28,9 @@ pub trait Client {
     // How many writes failed so far, or took none of some bytes.
     ghost failures: { Self → ℕ };
 
+    // The names of which it was warned, in turn, where they are known.
+    ghost warned: { Self → Warned };
+
     /// Tells that the file of this name was accepted, and that all was done. The store is as the
     /// submission left it, so it holds the data records that the receipt counts (the law
     /// `taken_is_held`), and no transaction of it is open. `false` where a write failed, and else
@@ -34,9 +38,10 @@ pub trait Client {
     fn accept<S: Alter>(&mut self, store: &Store<S>, name: &str, receipt: &Receipt) -> bool
         requires idle { IsIdle S.Store store.now }
         requires taken { IsTaken S.Store store.now receipt.now }
-        ensures { IsPut (got (contents self.old) (failures self.old) (contents self.new)
+        ensures put { IsPut (got (contents self.old) (failures self.old) (contents self.new)
             (failures self.new)) (accepted_line name.now receipt.now.new receipt.now.known
-            ++ status_line Done) result };
+            ++ status_line Done) result }
+        ensures warned { warned self.new ≡ warned self.old };
 
     /// Tells lines, and why no more of them are told, and the status. No transaction of the store
     /// is open, but after trouble. `false` where a write failed, and else all of it is out.
@@ -48,18 +53,20 @@ pub trait Client {
         status: Status,
     ) -> bool
         requires { IsIdleAfter S.Store store.now status }
-        ensures { IsPut (got (contents self.old) (failures self.old) (contents self.new)
-            (failures self.new)) (lines.now ++ (why.now ++ status_line status)) result };
+        ensures put { IsPut (got (contents self.old) (failures self.old) (contents self.new)
+            (failures self.new)) (lines.now ++ (why.now ++ status_line status)) result }
+        ensures warned { warned self.new ≡ warned self.old };
 
     /// Warns that files of different people may have become one recording: the accepted file of
-    /// this name is of a patient without code and name, and its data records begin more than 24
-    /// hours from those that its recording held. No transaction of the store is open. What was
-    /// answered is as it was.
+    /// this name is of a patient without code and name, all of its data records are new, and in its
+    /// recording two data records, one after the other, begin more than 24 hours apart. No
+    /// transaction of the store is open. What was answered is as it was.
     fn warn<S: Alter>(&mut self, store: &Store<S>, name: &str, receipt: &Receipt)
         requires idle { IsIdle S.Store store.now }
         requires apart { IsApart S.Store store.now receipt.now }
         ensures contents { contents self.new ≡ contents self.old }
-        ensures failures { failures self.new ≡ failures self.old };
+        ensures failures { failures self.new ≡ failures self.old }
+        ensures warned { Adds (warned self.old) (warned self.new) name.now };
 }
 
 /// A writer that may keep what it got back until it is flushed.
@@ -75,8 +82,9 @@ pub trait Flush: Output {
         ensures done { OnOk result (Self.failures self.new ≡ Self.failures self.old) };
 }
 
-/// A client that reads what a writer gets, which is flushed at the end of each answer. Another
-/// writer gets the warnings.
+/// A client that reads what a writer gets. Another writer gets the warnings.
+///
+/// The first is flushed at the end of each answer; that is tested, and no clause says so.
 #[derive(Drop)]
 pub struct Console<W, E> {
     pub(crate) out: W,
@@ -123,6 +131,8 @@ impl<W: Flush, E: Output> Client for Console<W, E> {
     ghost contents = { λ client. W.Output.contents client.out };
 
     ghost failures = { λ client. W.Output.failures client.out };
+
+    ghost warned = { λ _. None };
 
     fn accept<S: Alter>(&mut self, _store: &Store<S>, name: &str, receipt: &Receipt) -> bool {
         let mut new = Buffer::new();

@@ -50,8 +50,9 @@ fn finish<P: NewFiles, O: Output>(
     files: &mut P,
     out: &mut O,
 ) -> Status
-    ensures { IsFileEnded (P.made files.old) (P.made files.new) name.now path.now
+    ensures ended { IsFileEnded (P.made files.old) (P.made files.new) name.now path.now
         (P.Writer.contents writer) (growth O.Output out.old out.new) result }
+    ensures known { P.known files.new ≡ P.known files.old }
 {
     match files.finish(writer, path) {
         Finished::Named { bytes } => tell(out, exported_line(alloc, name, bytes), Status::Done),
@@ -71,8 +72,10 @@ fn export_to<S: Alter, P: NewFiles, O: Output>(
     out: &mut O,
 ) -> Status
     ensures exported { IsExportedTo S.Store store.old store.new (P.made files.old)
-        (P.made files.new) (growth O.Output out.old out.new) name.now place path.now result }
+        (P.made files.new) (growth O.Output out.old out.new) name.now (P.known files.old) place
+        path.now result }
     ensures cap { store.new.cap ≡ store.old.cap }
+    ensures known { P.known files.new ≡ P.known files.old }
 {
     let mut writer = match files.create(alloc, path) {
         Ok(Some(writer)) => writer,
@@ -100,9 +103,10 @@ pub(crate) fn export<S: Alter, I: Sources, P: NewFiles, O: Output>(
     out: &mut O,
 ) -> Status
     ensures exported { IsExportedBelow S.Store store.old store.new (P.made files.old)
-        (P.made files.new) (growth O.Output out.old out.new) name.now
+        (P.made files.new) (growth O.Output out.old out.new) name.now (P.known files.old)
         (I.links sources.now) (option_map (λ f. f.now) folder.entry) place result }
     ensures cap { store.new.cap ≡ store.old.cap }
+    ensures known { P.known files.new ≡ P.known files.old }
 {
     match place_of(alloc, folder, name, sources) {
         Ok(Some(path)) => export_to(alloc, place, name, path.as_str(), store, files, out),

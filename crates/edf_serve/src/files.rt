@@ -1,7 +1,9 @@
 //! What opens the files that lines name, and what makes them.
 
-ghost use Rattle.std.specs.Prelude.{◌≡◌, List, ℕ, Option, IfOk, IfSome, MatchResult};
-ghost use Rattle.edf_serve.specs.Files.{Opened, Made, Adds, IsFinished};
+ghost use Rattle.std.specs.Prelude.{◌≡◌, [], List, ℕ, Bool, true, Option, Some, IfOk, IfSome};
+ghost use Rattle.std.specs.Prelude.{MatchResult};
+ghost use Rattle.edf_serve.specs.Files.{Opened, Made, Adds, IsCreated, IsFinished, IsDiscarded};
+ghost use Rattle.edf_serve.specs.Files.{KeepsOthers};
 ghost use Rattle.edf_serve.specs.Places.{Links};
 
 use edf_fragment::{Input, Output};
@@ -63,24 +65,33 @@ pub trait NewFiles {
     /// The writers.
     type Writer: Output + Drop;
 
-    // The paths that files got, and what each then held where that is known, in turn, where they
-    // are known.
+    // Whether the bytes of the files that are made here are known.
+    ghost known: { Self → Bool };
+
+    // What is known of the files that were begun here, and of what is there.
     ghost made: { Self → Made };
 
-    /// A writer of a new, empty file. `None` where something of that path is there, which is as it
-    /// was.
+    /// Begins a file: a writer of a new, empty one. `None` where something of that path may be
+    /// there, which is as it was.
     ///
     /// # Errors
     /// Where no file could be made.
     fn create(&mut self, alloc: Global, path: &str) -> io::Result<Option<Self::Writer>>
-        ensures { made self.new ≡ made self.old };
+        ensures made { IsCreated (made self.old) (made self.new) path.now result }
+        ensures empty { IfOk result (λ begun. IfSome begun (λ writer. known self.old ≡ true →
+            Self.Writer.contents writer ≡ Some [])) }
+        ensures known { known self.new ≡ known self.old };
 
-    /// Ends a file, all of which was written, and gives it the path.
+    /// Ends the file that was begun last, all of which was written, and gives it the path. It is
+    /// removed where it does not get it.
     fn finish(&mut self, writer: Self::Writer, path: &str) -> Finished
-        ensures { IsFinished (made self.old) (made self.new) path.now
-            (Self.Writer.contents writer) result };
+        ensures made { IsFinished (made self.old) (made self.new) path.now
+            (Self.Writer.contents writer) result }
+        ensures there { KeepsOthers (made self.old).there (made self.new).there path.now }
+        ensures known { known self.new ≡ known self.old };
 
-    /// Removes what was written of a file.
+    /// Removes what was written of the file that was begun last.
     fn discard(&mut self, writer: Self::Writer, path: &str)
-        ensures { made self.new ≡ made self.old };
+        ensures made { IsDiscarded (made self.old) (made self.new) path.now }
+        ensures known { known self.new ≡ known self.old };
 }

@@ -1,11 +1,15 @@
 //! Laws of sessions: each function has one for a contract, and does nothing.
 
+ghost use Rattle.edf_serve.specs.Canonical.{ExportedIsCanonical};
 ghost use Rattle.edf_serve.specs.Client.{TakenIsHeld};
 ghost use Rattle.edf_serve.specs.Submissions.{BrokenOffEndsAlike};
 
 use sqlite::Alter;
 
-/// A session that is broken off after any line and begun again with all its files ends alike.
+/// A session that ended after some line, and whose answers told what their files tell, ends alike
+/// where it is begun again with all its files: another session submits what its files told, and
+/// more, and leaves what one session leaves that is not broken off. So where the bytes of the files
+/// are known, and no answer is for memory, the store or a reader that failed.
 pub fn broken_off<S: Alter>()
     ensures { BrokenOffEndsAlike S.Store }
 {}
@@ -13,4 +17,11 @@ pub fn broken_off<S: Alter>()
 /// What the receipt of an accepted file tells is held by the store that the submission left.
 pub fn taken_is_held<S: Alter>()
     ensures { TakenIsHeld S.Store }
+{}
+
+/// Where `export` is answered with status 0, and the bytes of new files are known, the file that
+/// got the path holds just the canonical file of the recording at that place, on a disk that
+/// returned what was written.
+pub fn exported_is_canonical<S: Alter>()
+    ensures { ExportedIsCanonical S.Store }
 {}

@@ -1,4 +1,4 @@
-//! A session: lines, each answered before the next is read.
+//! A session: lines, answered one after the other.
 
 ghost use Rattle.std.specs.Prelude.{◌≡◌, ℕ, List, Option, MatchResult};
 ghost use Rattle.std.specs.Bool.{MatchBool};
@@ -41,11 +41,11 @@ pub trait Lines {
 pub enum End {
     /// The input ended.
     Ended,
-    /// The input could not be read.
+    /// A read of the input failed, or memory for a line ran out.
     Unread,
     /// An answer could not be written.
     Unwritten,
-    /// The store takes no transaction, and is to be opened anew before the next line.
+    /// The store may take no transaction, and is to be opened anew before the next line.
     Left,
     /// As many lines were answered as one session can have.
     Full,
@@ -86,13 +86,15 @@ fn serve_next<S: Alter, L: Lines, I: Sources, P: NewFiles, C: Client>(
     worst: &mut Status,
 ) -> Option<End>
     ensures step { IsStep S.Store (surroundings (below folders.entry) (I.bytes sources.old)
-        (I.links sources.old))
+        (I.links sources.old) (P.known files.old))
         (point_at store.old (L.coming lines.old) (I.opened sources.old) (P.made files.old)
-        (C.contents client.old) (C.failures client.old) worst.old)
+        (C.contents client.old) (C.failures client.old) (C.warned client.old) worst.old)
         (point_at store.new (L.coming lines.new) (I.opened sources.new) (P.made files.new)
-        (C.contents client.new) (C.failures client.new) worst.new) result }
+        (C.contents client.new) (C.failures client.new) (C.warned client.new) worst.new)
+        result }
     ensures same { I.bytes sources.new ≡ I.bytes sources.old }
     ensures links { I.links sources.new ≡ I.links sources.old }
+    ensures known { P.known files.new ≡ P.known files.old }
 {
     match lines.next(line) {
         Ok(true) => {}
@@ -126,7 +128,7 @@ fn serve_next<S: Alter, L: Lines, I: Sources, P: NewFiles, C: Client>(
 /// the next line. `worst` becomes the worst of its own and the lines' statuses; trouble where the
 /// input can't be read or an answer can't be written.
 ///
-/// It keeps nothing of a line once it is answered.
+/// Each file that it begins for a line has its path when the line is answered, or was removed.
 pub fn serve<S: Alter, L: Lines, I: Sources, P: NewFiles, C: Client>(
     alloc: Global,
     folders: Folders<'_>,
@@ -138,11 +140,12 @@ pub fn serve<S: Alter, L: Lines, I: Sources, P: NewFiles, C: Client>(
     worst: &mut Status,
 ) -> End
     ensures served { IsWhole S.Store (surroundings (below folders.entry)
-        (I.bytes sources.old) (I.links sources.old))
+        (I.bytes sources.old) (I.links sources.old) (P.known files.old))
         (point_at store.old (L.coming lines.old) (I.opened sources.old) (P.made files.old)
-        (C.contents client.old) (C.failures client.old) worst.old)
+        (C.contents client.old) (C.failures client.old) (C.warned client.old) worst.old)
         (point_at store.new (L.coming lines.new) (I.opened sources.new) (P.made files.new)
-        (C.contents client.new) (C.failures client.new) worst.new) result }
+        (C.contents client.new) (C.failures client.new) (C.warned client.new) worst.new)
+        result }
 {
     let mut line = Vec::new(alloc);
     for _ in 0..u64::MAX {

@@ -1,6 +1,7 @@
 //! The files that `export` writes.
 
-ghost use Rattle.std.specs.Prelude.{None};
+ghost use Rattle.std.specs.Prelude.{false};
+ghost use Rattle.edf_serve.specs.Files.{nothing_known};
 
 use edf_serve::{Finished, NewFiles as ServedFiles};
 use edf_system::{NewFile, NewFiles, Terminal};
@@ -44,7 +45,9 @@ fn end<'rt>(files: &mut NewFiles<'rt>, writer: NewFile<'rt>) -> Finished {
 impl<'rt> ServedFiles for PartFiles<'rt> {
     type Writer = NewFile<'rt>;
 
-    ghost made = { λ _. None };
+    ghost known = { λ _. false };
+
+    ghost made = { λ _. nothing_known };
 
     fn create(&mut self, alloc: Global, name: &str) -> io::Result<Option<NewFile<'rt>>> {
         if self.files.is_there(name) {

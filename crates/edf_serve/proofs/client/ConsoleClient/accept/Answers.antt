@@ -17,8 +17,8 @@ module _ (name a new b known d code : List ℕ) where
       ≡ name ++ (a ++ (new ++ (b ++ (known ++ (10 ∷ (d ++ (code ++ (10 ∷ [])))))))) = cc in
       same ∙ sym regrouped
 
-pub returns : goal.returns
-returns g c =
+pub returns-clause-put : goal.returns-clause-put
+returns-clause-put g c =
     let Put : List ℕ → Type 0 = λ bytes.
     IsPut (growth g.W.Output c.args.self.now.out c.send.new.out) bytes c.send.result in
     subst Put (told c.args.name.now (codes " accepted new=") (decimal c.args.receipt.now.new)
