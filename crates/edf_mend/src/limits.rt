@@ -8,7 +8,8 @@ ghost use Rattle.edf_mend.specs.Signals.{IsOrdinaryAt};
 use crate::signals::{cell, front_of, is_annotations, keeps_number};
 use edf_field::physical_values_differ;
 
-/// Whether the number in the field of eight bytes at `old` of a signal's row is now the one at `new`.
+/// Whether the number in the field of eight bytes at `old` of a signal's row is now the one at
+/// `new`.
 fn is_moved(
     before: &[u8],
     n: usize,

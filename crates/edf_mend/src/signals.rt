@@ -109,7 +109,8 @@ pub(crate) fn is_annotations(label: &[u8]) -> bool
     label == b"EDF Annotations ".as_slice()
 }
 
-/// Whether a label is that of annotations signals, or all of it before a byte that is not printable.
+/// Whether a label is that of annotations signals, or all of it before a byte that is not
+/// printable.
 fn names_annotations(label: &[u8]) -> bool
     ensures { NamesAnnotations label.now → IsTrue result }
 {

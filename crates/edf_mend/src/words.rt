@@ -19,7 +19,8 @@ fn keeps_text_of(
     at: usize,
     width: usize,
 ) -> bool
-    ensures { IsTrue result → KeepsText (cell before.now n i at width) (cell after.now m i at width) }
+    ensures { IsTrue result →
+        KeepsText (cell before.now n i at width) (cell after.now m i at width) }
 {
     match (cell(before, n, i, at, width), cell(after, m, i, at, width)) {
         (Some(old), Some(new)) => keeps_text(old, new),

@@ -26,7 +26,8 @@ const CASES: &[Case] = &[
         ],
         &[
             "y='13'>Apnea</text>",
-            "y='13'>3, 1.3 per recorded hour</text><path class='x' d='M122 23h2M212 23h1M975 23h1'/>",
+            "y='13'>3, 1.3 per recorded hour</text>\
+            <path class='x' d='M122 23h2M212 23h1M975 23h1'/>",
             "y='45'>Schl\u{e4}ft \u{2013} &lt;rechts&gt;</text>",
             "y='45'>1, 0.4 per recorded hour</text><path class='x' d='M117 55h1'/>",
             "annotation, as long as it lasts",
