@@ -14,14 +14,7 @@ use std::str;
 
 /// The fields of the fixed part that may be transliterated, with their widths: all but the patient
 /// field, when the file starts and how long a data record lasts.
-const TEXTS: [(usize, usize); 6] = [
-    (0, 8),
-    (88, 80),
-    (184, 8),
-    (192, 44),
-    (236, 8),
-    (252, 4),
-];
+const TEXTS: [(usize, usize); 6] = [(0, 8), (88, 80), (184, 8), (192, 44), (236, 8), (252, 4)];
 
 /// Letters of Latin-1 as ASCII has them.
 fn latin_letters(letter: char) -> &'static str {

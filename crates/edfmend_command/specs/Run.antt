@@ -53,15 +53,15 @@ IsFragmentFile bytes = (known : List ℕ) × (key : Key) × (records : List Data
 -- was changed by these alone
 pub record IsMendedFile (bytes given : Option (List ℕ)) (rules : List Rule) (ledger : Ledger)
     (new : List ℕ) : Type 0 where
-    pub fault : Option FragmentFault
-    pub surveyed : SurveysAs bytes fault
-    pub old : List ℕ
-    pub old_is : IfSome bytes (λ known. known ≡ old)
-    pub mended : IsMended old given ledger new
-    pub kept : fault ≡ None → (new ≡ old) × TellsNone ledger
-    pub welcome : IsFragmentFile bytes → fault ≡ None
-    pub only : rules ≢ [] → All (IsAsked rules) ledger.steps.items
-    pub says : ¬ TellsNone ledger → SaysMended (recording_field mended.new_header)
+  pub fault : Option FragmentFault
+  pub surveyed : SurveysAs bytes fault
+  pub old : List ℕ
+  pub old_is : IfSome bytes (λ known. known ≡ old)
+  pub mended : IsMended old given ledger new
+  pub kept : fault ≡ None → (new ≡ old) × TellsNone ledger
+  pub welcome : IsFragmentFile bytes → fault ≡ None
+  pub only : rules ≢ [] → All (IsAsked rules) ledger.steps.items
+  pub says : ¬ TellsNone ledger → SaysMended (recording_field mended.new_header)
 
 -- why there is none: a code is asked for only where none was given, and a fragment is not refused
 pub record IsNotMended (bytes given : Option (List ℕ)) (why : MendFault) : Type 0 where

@@ -85,6 +85,12 @@ pub(crate) fn refuse<F: Output>(
         }
         MendFault::Read => tell_why(err, old_name, b" refused E40 Read\n", kept, Status::Trouble),
         MendFault::Memory => tell_why(err, old_name, MEMORY, kept, Status::Trouble),
-        MendFault::Write => tell_why(err, new_name, b" refused E43 Write\n", kept, Status::Trouble),
+        MendFault::Write => tell_why(
+            err,
+            new_name,
+            b" refused E43 Write\n",
+            kept,
+            Status::Trouble,
+        ),
     }
 }
