@@ -146,13 +146,15 @@ first-failed bytes given Write trouble = record { asked = λ e. cc; welcome = λ
 first-failed bytes given Memory trouble = record { asked = λ e. cc; welcome = λ file. tt }
 
 pub stops-by : (bytes given : Option (List ℕ)) (rules : List Rule)
-    (fault : Option FragmentFault) (why : MendFault) → IsTrouble why → StopsMending bytes given rules fault why
+    (fault : Option FragmentFault) (why : MendFault) → IsTrouble why →
+    StopsMending bytes given rules fault why
 stops-by bytes given rules fault why trouble =
     let not = first-failed bytes given why trouble in
     record { asked = not.asked; welcome = λ e file. not.welcome file }
 
 module _ (bytes given : Option (List ℕ)) (rules : List Rule) (fault : Option FragmentFault)
-    (left before after : Option (List ℕ)) (same : left ≡ bytes) (surveyed : SurveysAs bytes fault) where
+    (left before after : Option (List ℕ)) (same : left ≡ bytes)
+    (surveyed : SurveysAs bytes fault) where
   pub both-read : (result : Result Ledger MendFault) →
       MatchResult result (MendsAs left given rules fault before after)
       (StopsMending left given rules fault) →
@@ -161,8 +163,8 @@ module _ (bytes given : Option (List ℕ)) (rules : List Rule) (fault : Option F
   both-read (Ok ledger) answer =
       let m = subst (λ (b : Option (List ℕ)). MendsAs b given rules fault before after ledger) same
       answer in
-      (m.new, is-mended bytes given fault surveyed before after ledger m)
-  both-read (Err why) answer = is-not-mended bytes given fault surveyed why
+      (m.new, is-mended bytes given rules fault surveyed before after ledger m)
+  both-read (Err why) answer = is-not-mended bytes given rules fault surveyed why
       (subst (λ (b : Option (List ℕ)). StopsMending b given rules fault why) same answer)
 
 -- ---- after it was asked whether there is something of a name

@@ -96,7 +96,8 @@ pub says-undone : (err : Growth) (old_name new_name : List ℕ) (why : MendFault
     (kept : Option (List ℕ)) (status : Status) →
     SaysWhy err old_name new_name why kept status → status ≢ Done
 says-undone err old_name new_name why kept status (inl said) = undone err
-    (at_fault old_name new_name why ++ (why_text why ++ kept_line kept)) (kept_status kept (why_status why)) status
+    (at_fault old_name new_name why ++ (why_text why ++ kept_line kept))
+    (kept_status kept (why_status why)) status
     (kept-undone kept (why_status why) (why-undone why)) said
 says-undone err old_name new_name why kept status (inr said) = undone err
     (old_name ++ (why_text fault.Memory ++ kept_line kept)) Trouble status (λ done. cc) said

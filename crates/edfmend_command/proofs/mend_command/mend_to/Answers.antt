@@ -26,8 +26,8 @@ returns-in-Ok-make_file-clause-done g c =
     inr (inl (record {
       new = makes.mends.new;
       ledger = c.in-Ok-make_file.ledger;
-      is_mended = is-mended bytes given c.args.rules.now fault c.in-Ok.ensures.surveyed makes.start makes.held
-          c.in-Ok-make_file.ledger makes.mends;
+      is_mended = is-mended bytes given c.args.rules.now fault c.in-Ok.ensures.surveyed
+          makes.start makes.held c.in-Ok-make_file.ledger makes.mends;
       free = free-of (g.M.Maker.there old c.args.name.now) c.is_there.result
           c.is_there.ensures.answer c.if-is_there.false;
       held = makes.held;
@@ -63,7 +63,8 @@ returns-in-Err-make_file-clause-done g c =
     (c.in-Ok.ensures.same c.args.file.now) stop c.in-Err-make_file.ensures.answer in
     inr (inr (record {
       why = stop.fault;
-      is_why = is-not-mended bytes given c.args.rules.now fault c.in-Ok.ensures.surveyed stop.fault stops.stops;
+      is_why = is-not-mended bytes given c.args.rules.now fault c.in-Ok.ensures.surveyed stop.fault
+          stops.stops;
       free = free-of (g.M.Maker.there old c.args.name.now) c.is_there.result
           c.is_there.ensures.answer c.if-is_there.false;
       is_left = stop.is_left;
@@ -73,7 +74,8 @@ returns-in-Err-make_file-clause-done g c =
           (g.O.Output.failures c.args.out.now);
       said = subst (λ (k : Option (List ℕ)). SaysWhy
           (growth g.F.Output c.args.err.now c.refuse-in-Err-make_file.new.err) c.args.file.now
-          c.args.name.now stop.fault k c.refuse-in-Err-make_file.result) c.left_name.ensures c.refuse-in-Err-make_file.ensures;
+          c.args.name.now stop.fault k c.refuse-in-Err-make_file.result) c.left_name-left.ensures
+          c.refuse-in-Err-make_file.ensures;
     }))
 
 pub returns-in-Err-make_file-clause-opened : goal.returns-in-Err-make_file-clause-opened
@@ -85,5 +87,5 @@ returns-in-Err-make_file-clause-opened g c =
     c.in-Err-make_file.ensures.opened)
     (says-undone (growth g.F.Output c.args.err.now c.refuse-in-Err-make_file.new.err)
     c.args.file.now c.args.name.now c.in-Err-make_file.stop.fault
-    (option_map (λ name. name.now) c.left_name.result)
+    (option_map (λ name. name.now) c.left_name-left.result)
     c.refuse-in-Err-make_file.result c.refuse-in-Err-make_file.ensures)

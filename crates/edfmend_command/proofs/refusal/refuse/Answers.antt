@@ -6,25 +6,30 @@ use Rattle.edfmend_command.proofs.refusal.refuse.Goals as goal
 
 pub returns-in-Err : goal.returns-in-Err
 returns-in-Err g c = says-memory (growth g.F.Output c.args.err.now c.tell_why-in-Err.new.err)
-    c.args.old_name.now c.args.new_name.now c.args.fault (option_map (λ name. name.now) c.args.kept)
+    c.args.old_name.now c.args.new_name.now
+    c.args.fault (option_map (λ name. name.now) c.args.kept)
     c.tell_why-in-Err.result c.tell_why-in-Err.ensures
 
 pub returns-in-Code : goal.returns-in-Code
 returns-in-Code g c = says (growth g.F.Output c.args.err.now c.tell_why-in-Code.new.err)
-    c.args.old_name.now c.args.new_name.now c.args.fault Code (option_map (λ name. name.now) c.args.kept)
+    c.args.old_name.now c.args.new_name.now
+    c.args.fault Code (option_map (λ name. name.now) c.args.kept)
     c.tell_why-in-Code.result c.in-Code.is c.tell_why-in-Code.ensures
 
 pub returns-in-Read : goal.returns-in-Read
 returns-in-Read g c = says (growth g.F.Output c.args.err.now c.tell_why-in-Read.new.err)
-    c.args.old_name.now c.args.new_name.now c.args.fault Read (option_map (λ name. name.now) c.args.kept)
+    c.args.old_name.now c.args.new_name.now
+    c.args.fault Read (option_map (λ name. name.now) c.args.kept)
     c.tell_why-in-Read.result c.in-Read.is c.tell_why-in-Read.ensures
 
 pub returns-in-Memory : goal.returns-in-Memory
 returns-in-Memory g c = says (growth g.F.Output c.args.err.now c.tell_why-in-Memory.new.err)
-    c.args.old_name.now c.args.new_name.now c.args.fault Memory (option_map (λ name. name.now) c.args.kept)
+    c.args.old_name.now c.args.new_name.now
+    c.args.fault Memory (option_map (λ name. name.now) c.args.kept)
     c.tell_why-in-Memory.result c.in-Memory.is c.tell_why-in-Memory.ensures
 
 pub returns-in-Write : goal.returns-in-Write
 returns-in-Write g c = says (growth g.F.Output c.args.err.now c.tell_why-in-Write.new.err)
-    c.args.old_name.now c.args.new_name.now c.args.fault Write (option_map (λ name. name.now) c.args.kept)
+    c.args.old_name.now c.args.new_name.now
+    c.args.fault Write (option_map (λ name. name.now) c.args.kept)
     c.tell_why-in-Write.result c.in-Write.is c.tell_why-in-Write.ensures
