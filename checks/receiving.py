@@ -371,7 +371,7 @@ def unrenamed(given, folder: Path) -> None:
         try:
             site.rename(site.write("first.edf", source.read_bytes(), 1), "first.edf", b"")
             settle([site], 20)          # now it watches
-            shutil.copy(source, home / "inbox/there.edf")
+            shutil.copyfile(source, home / "inbox/there.edf")
             if options:
                 settle([site], 20)
             time.sleep(8)
