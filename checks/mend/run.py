@@ -177,6 +177,12 @@ GUESSES = (
     ("zeros after EDF+C without annotations", without_annotations(GOOD).ljust(4096, b"\0"),
      "refused E29 Trailing"),
 )
+# The same where a rule is named that leaves nothing out
+UNASKED = (
+    ("a piece after an unknown count", by_hand.unknown(GOOD) + b"abc",
+     "refused E21 CutRecord record=4"),
+    ("a piece after the last data record", GOOD + b"abc", "refused E29 Trailing"),
+)
 
 
 def mend(checks: Checks, mender: mended.Mender, what: str, data: bytes, words, rules) -> bytes:
@@ -254,10 +260,11 @@ def by_bytes(checks: Checks, mender: mended.Mender) -> list:
 
 def guesses(checks: Checks, mender: mended.Mender) -> None:
     checks.begin("what could only be guessed")
-    for what, data, why in GUESSES:
-        ran = mender.mend(data)
-        checks.same(what, (ran.outcome(), mender.left()),
-                    ((b"", f"in.edf {why}\n".encode(), 1), []))
+    for words, cases in (((), GUESSES), (("--as", "ascii,patient"), UNASKED)):
+        for what, data, why in cases:
+            ran = mender.mend(data, *words)
+            checks.same(what, (ran.outcome(), mender.left()),
+                        ((b"", f"in.edf {why}\n".encode(), 1), []))
 
 
 def untouched(checks: Checks, mender: mended.Mender) -> None:
