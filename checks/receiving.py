@@ -4,19 +4,21 @@ killed again and again; each export is then the recorder's card.
     python3 -m checks.receiving [--program PATH] [--edfserve PATH] [--seed SEED] [--control] [KILLS]
 
 Uploads are slow, broken off and begun again, sent twice, renamed while nothing receives, of count
--1 and written data record by record, under names with spaces and letters beyond ASCII, by `cp` and
-`mv` and, where it is installed, by OpenSSH's `sftp`. Two files of each recorder, of count -1, are
+-1 and written data record by record, under names with spaces and letters beyond ASCII, and names
+that begin as the end of an answer does, by `cp` and `mv` and, where it is installed, by OpenSSH's
+`sftp`. Two files of each recorder, of count -1, are
 written under their names, and never renamed: one is kept open, and rests inside a data record for
 longer than RECEIVE_STILL, one is opened anew for each piece. `receive` and its `edfserve` are
 killed 50 times if KILLS is left out, and begun again as systemd does it. One store's disk is
 filled, and has room again. In the morning all is begun again, and the card comes. Then each upload
 is in taken/ or refused/, nothing was taken in part, and each export is that of the card. Before
-that one file is put into a folder without a rename: it waits, or is taken by --on-close.
+that one file is put into a folder without a rename: it waits, or is taken by --on-close; and one
+comes whose name is no UTF-8: it waits, and is told by its name, until it is renamed.
 
 --control runs other `receive`s, each of which must lose something: one takes files whose names say
 that they are still written, one any that lie there, one at its start any that lie there, one then
-also those that are open, one moves a file before its answer, one forgets what came while nothing
-received.
+also those that are open, one moves a file before its answer, one takes a file's line for the end of
+an answer, one forgets what came while nothing received.
 """
 import errno
 import os
@@ -34,7 +36,7 @@ from checks.lib.checks import Lost, end
 
 RECEIVE = arguments.TOP / "examples/receiving/receive"
 SFTP, SFTP_SERVER = shutil.which("sftp"), Path("/usr/lib/openssh/sftp-server")
-NAMES = ("part {:02}.edf", "Nacht Müller {:02}.edf", "p{:02}.EDF", "部分-{:02}.edf")
+NAMES = ("part {:02}.edf", "Nacht Müller {:02}.edf", "status 1 {:02}.EDF", "部分-{:02}.edf")
 MOST_SECONDS = 120      # until all that came is answered, and in a control
 IN_CONTROL = 15
 RECORDS, FRAGMENTS = 960, 24
@@ -56,6 +58,7 @@ CONTROLS = {
         ('  put_away "inbox/.taking/$1" $place\n',
          '  [ $place = taken ] || put_away "taken/$1" refused\n'),
         ("cd inbox/.taking ", "cd taken ")),
+    "takes a file's line for the end of its answer": (('"status "[0-3] ]]', '"status "* ]]'),),
     "forgets what came while it was down": (
         ("for name in inbox/*; do early[${name##*/}]=1; done\nsweep\n",
          "due=$((SECONDS + wait))\n"),
@@ -388,6 +391,30 @@ def unrenamed(given, folder: Path) -> None:
             site.end()
 
 
+def unnameable(given, folder: Path) -> None:
+    """A file whose name is no UTF-8 waits, and is told by its name, until it is renamed."""
+    data = (arguments.TOP / "examples/oximeter/part1.edf").read_bytes()
+    home = folder / "no name"
+    (home / "inbox").mkdir(parents=True)
+    site = Site(home, [], home, RECEIVE, surroundings(given, 2), random.Random(0))
+    name = os.fsdecode("Müller.edf".encode("latin-1"))
+    site.start()
+    try:
+        for each in ("first.edf", name, "last.edf"):
+            site.rename(site.write(each, data, 1), each, data)
+        settle([site], IN_CONTROL, besides=(name,))
+        told = (home / "journal").read_bytes().count(b"receive: M\xfcller.edf: no UTF-8")
+        taken = sorted(path.name for path in (home / "taken").iterdir())
+        if (told, taken) != (1, ["first.edf", "last.edf"]):
+            raise Lost(f"of a name that is no UTF-8 told {told} times, taken {taken}")
+        os.rename(site.inbox / ".taking" / name, site.inbox / ".taking/renamed.edf")
+        settle([site], IN_CONTROL)
+        if not (home / "taken/renamed.edf").exists():
+            raise Lost("a file that was renamed in .taking is not taken")
+    finally:
+        site.end()
+
+
 def tried(given, script: Path, folder: Path, seconds: float = MOST_SECONDS) -> int:
     """One night of three recorders; how many uploads were looked at."""
     disk = Disk(folder / "disk")
@@ -439,6 +466,7 @@ def main() -> None:
     with measure.scratch() as scratch:
         try:
             unrenamed(given, Path(scratch))
+            unnameable(given, Path(scratch))
             count = tried(given, RECEIVE, Path(scratch))
         except Lost as why:
             print(f"LOST OR IN PART: {why}")

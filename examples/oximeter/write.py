@@ -61,6 +61,7 @@ def file_of(nths: range) -> bytes:
 
 
 folder = Path(sys.argv[1]) if len(sys.argv) > 1 else Path(__file__).resolve().parent
+folder.mkdir(parents=True, exist_ok=True)
 size = RECORDS // PARTS
 for part in range(PARTS):
     (folder / f"part{part + 1}.edf").write_bytes(file_of(range(size * part, size * (part + 1))))
