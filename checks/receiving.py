@@ -46,17 +46,17 @@ RESTS = {True: 8, False: 2.5}
 CONTROLS = {
     "takes a file whose name says that it is still written": (
         ("events=moved_to\n", "events=create,moved_to,modify\n"),
-        (".* | *.part | *$'\\n'*", ".taking | *$'\\n'*")),
+        (".* | *.part)", ".taking)")),
     "takes any file that lies there": (
         ('! is_still "inbox/$name"', "false"), ('[ -n "${early[$name]:-}" ]', "true")),
     "takes at its start any file that lies there": (('! is_still "inbox/$name"', "false"),),
     "takes at its start a file that is open": (("! perl", "! false"),),
     "moves a file before its answer": (
         ('  printf \'take %s\\n\' "$1" >&"$ask" || fail "edfserve has ended"\n',
-         '  put_away "inbox/.taking/$1" taken; sleep 0.1\n'
+         '  put_away "inbox/.taking/$1" "taken/$1"; sleep 0.1\n'
          '  printf \'take %s\\n\' "$1" >&"$ask" || fail "edfserve has ended"\n'),
-        ('  put_away "inbox/.taking/$1" $place\n',
-         '  [ $place = taken ] || put_away "taken/$1" refused\n'),
+        ('  put_away "inbox/.taking/$1" "$place"\n',
+         '  [[ $place == taken/* ]] || put_away "taken/$1" "$place"\n'),
         ("cd inbox/.taking ", "cd taken ")),
     "takes a file's line for the end of its answer": (('"status "[0-3] ]]', '"status "* ]]'),),
     "forgets what came while it was down": (
