@@ -130,7 +130,7 @@ class Site:
         """Begins it again where it ended, as systemd does."""
         while not self.is_over:
             with self.lock:
-                if self.child is not None and self.child.poll() is not None:
+                if not self.is_over and self.child is not None and self.child.poll() is not None:
                     self.end()
                     self.start()
             time.sleep(0.05)
