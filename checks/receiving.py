@@ -5,15 +5,16 @@ killed again and again; each export is then the recorder's card.
 
 Uploads are slow, broken off and begun again, sent twice, renamed while nothing receives, of count
 -1 and written data record by record, under names with spaces and letters beyond ASCII, and names
-that begin as the end of an answer does, by `cp` and `mv` and, where it is installed, by OpenSSH's
-`sftp`. Two files of each recorder, of count -1, are
+that begin as the end of an answer does, by `cp` and `mv` and, where it is installed, by both
+renames of OpenSSH's `sftp`. Two files of each recorder, of count -1, are
 written under their names, and never renamed: one is kept open, and rests inside a data record for
 longer than RECEIVE_STILL, one is opened anew for each piece. `receive` and its `edfserve` are
 killed 50 times if KILLS is left out, and begun again as systemd does it. One store's disk is
 filled, and has room again. In the morning all is begun again, and the card comes. Then each upload
 is in taken/ or refused/, nothing was taken in part, and each export is that of the card. Before
 that one file is put into a folder without a rename: it waits, or is taken by --on-close; and one
-comes whose name is no UTF-8: it waits, and is told by its name, until it is renamed.
+comes whose name is no UTF-8: it waits, and is told by its name, until it is renamed; so does one
+whose name is too long.
 
 --control runs other `receive`s, each of which must lose something: one takes files whose names say
 that they are still written, one any that lie there, one at its start any that lie there, one then
@@ -46,17 +47,17 @@ RESTS = {True: 8, False: 2.5}
 CONTROLS = {
     "takes a file whose name says that it is still written": (
         ("events=moved_to\n", "events=create,moved_to,modify\n"),
-        (".* | *.part | *$'\\n'*", ".taking | *$'\\n'*")),
+        (".* | *.part)", ".taking)")),
     "takes any file that lies there": (
         ('! is_still "inbox/$name"', "false"), ('[ -n "${early[$name]:-}" ]', "true")),
     "takes at its start any file that lies there": (('! is_still "inbox/$name"', "false"),),
     "takes at its start a file that is open": (("! perl", "! false"),),
     "moves a file before its answer": (
         ('  printf \'take %s\\n\' "$1" >&"$ask" || fail "edfserve has ended"\n',
-         '  put_away "inbox/.taking/$1" taken; sleep 0.1\n'
+         '  put_away "inbox/.taking/$1" "taken/$1"; sleep 0.1\n'
          '  printf \'take %s\\n\' "$1" >&"$ask" || fail "edfserve has ended"\n'),
-        ('  put_away "inbox/.taking/$1" $place\n',
-         '  [ $place = taken ] || put_away "taken/$1" refused\n'),
+        ('  put_away "inbox/.taking/$1" "$place"\n',
+         '  [[ $place == taken/* ]] || put_away "taken/$1" "$place"\n'),
         ("cd inbox/.taking ", "cd taken ")),
     "takes a file's line for the end of its answer": (('"status "[0-3] ]]', '"status "* ]]'),),
     "forgets what came while it was down": (
@@ -129,7 +130,7 @@ class Site:
         """Begins it again where it ended, as systemd does."""
         while not self.is_over:
             with self.lock:
-                if self.child is not None and self.child.poll() is not None:
+                if not self.is_over and self.child is not None and self.child.poll() is not None:
                     self.end()
                     self.start()
             time.sleep(0.05)
@@ -173,8 +174,9 @@ class Site:
         if way == "sftp" and SFTP and SFTP_SERVER.exists():
             source = self.folder / "outside"
             source.write_bytes(data)
+            rename = self.rng.choice(("rename", "rename -l"))       # -l: by a link and a removal
             lines = f'put "{source}" "{self.inbox}/{name}.part"\n' \
-                    f'rename "{self.inbox}/{name}.part" "{self.inbox}/{name}"\n'
+                    f'{rename} "{self.inbox}/{name}.part" "{self.inbox}/{name}"\n'
             if measure.ran(SFTP, "-q", "-b", "-", "-D", SFTP_SERVER, given=lines.encode()).status:
                 raise OSError(errno.ENOSPC, "sftp failed")
             self.sent[name] = data
@@ -214,6 +216,7 @@ class Site:
                 self.upload(f"again {form.format(at)}", data)
             if at == 3:
                 self.upload("cut.edf", data[:-100])
+                self.upload("cut.edf.txt", data[:-200])
             time.sleep(self.rng.uniform(0, 0.2))
         for it in writers:
             it.join()
@@ -227,7 +230,7 @@ class Site:
 
     def is_quiet(self, besides: tuple) -> bool:
         """Whether each upload is put away, besides these."""
-        left = [*self.inbox.glob("*.edf"), *self.inbox.glob("*.EDF"),
+        left = [*self.inbox.glob("*.edf"), *self.inbox.glob("*.EDF"), *self.inbox.glob("*.txt"),
                 *(self.inbox / ".taking").glob("*")]
         return not [path for path in left if not path.name.startswith((".", *besides))]
 
@@ -250,7 +253,7 @@ def look(site: Site, program: Path) -> int:
                  if not path.name.endswith(".txt") and path.read_bytes() == data]
         if not found:
             raise Lost(f"{name} is in neither taken/ nor refused/")
-        is_cut = name == "cut.edf"
+        is_cut = name.startswith("cut.edf")
         if (found[0].parent.name == "refused") != is_cut:
             raise Lost(f"{name} is in {found[0].parent.name}/")
     line = site.folder / "refused/cut.edf.txt"
@@ -358,7 +361,7 @@ def night_of(sites: list, disk: Disk, given, seconds: float) -> int:
 
 def surroundings(given, still: int) -> dict:
     return {"PATH": f"{given.edfserve.parent}:{os.environ['PATH']}", "RECEIVE_WAIT": "1",
-            "RECEIVE_STILL": str(still)}
+            "RECEIVE_STILL": str(still), "LC_ALL": "C.UTF-8"}
 
 
 def unrenamed(given, folder: Path) -> None:
@@ -392,21 +395,25 @@ def unrenamed(given, folder: Path) -> None:
 
 
 def unnameable(given, folder: Path) -> None:
-    """A file whose name is no UTF-8 waits, and is told by its name, until it is renamed."""
+    """A file whose name is no UTF-8 waits, and is told by its name, until it is renamed; one whose
+    name is too long to be put away is left alone and told."""
     data = (arguments.TOP / "examples/oximeter/part1.edf").read_bytes()
     home = folder / "no name"
     (home / "inbox").mkdir(parents=True)
     site = Site(home, [], home, RECEIVE, surroundings(given, 2), random.Random(0))
-    name = os.fsdecode("Müller.edf".encode("latin-1"))
+    name, long = os.fsdecode("Nacht Ü".encode("latin-1")), 250 * "x"
     site.start()
     try:
-        for each in ("first.edf", name, "last.edf"):
-            site.rename(site.write(each, data, 1), each, data)
+        for each in ("first.edf", long, name, "last.edf"):
+            whole = data[:-1] if each == long else data
+            os.rename(site.write("new", whole, 1), site.inbox / each)
+        time.sleep(5)
         settle([site], IN_CONTROL, besides=(name,))
-        told = (home / "journal").read_bytes().count(b"receive: M\xfcller.edf: no UTF-8")
+        journal = (home / "journal").read_bytes()
+        told = [journal.count(words) for words in (b"receive: Nacht \xdc: no UTF-8", b"x: no file")]
         taken = sorted(path.name for path in (home / "taken").iterdir())
-        if (told, taken) != (1, ["first.edf", "last.edf"]):
-            raise Lost(f"of a name that is no UTF-8 told {told} times, taken {taken}")
+        if (told, taken) != ([1, 1], ["first.edf", "last.edf"]):
+            raise Lost(f"of a name that is no UTF-8, and a long one, told {told}, taken {taken}")
         os.rename(site.inbox / ".taking" / name, site.inbox / ".taking/renamed.edf")
         settle([site], IN_CONTROL)
         if not (home / "taken/renamed.edf").exists():
