@@ -6,15 +6,15 @@ killed again and again; each export is then the recorder's card.
 Uploads are slow, broken off and begun again, sent twice, renamed while nothing receives, of count
 -1 and written data record by record, under names with spaces and letters beyond ASCII, and names
 that begin as the end of an answer does, by `cp` and `mv` and, where it is installed, by both
-renames of OpenSSH's `sftp`. Two files of each recorder, of count -1, are
-written under their names, and never renamed: one is kept open, and rests inside a data record for
-longer than RECEIVE_STILL, one is opened anew for each piece. `receive` and its `edfserve` are
-killed 50 times if KILLS is left out, and begun again as systemd does it. One store's disk is
-filled, and has room again. In the morning all is begun again, and the card comes. Then each upload
-is in taken/ or refused/, nothing was taken in part, and each export is that of the card. Before
-that one file is put into a folder without a rename: it waits, or is taken by --on-close; and one
-comes whose name is no UTF-8: it waits, and is told by its name, until it is renamed; so does one
-whose name is too long.
+renames of OpenSSH's `sftp`. Two files of each recorder, of count -1, are written under their names,
+and never renamed: one is kept open, and rests inside a data record for longer than RECEIVE_STILL,
+one is opened anew for each piece. `receive` and its `edfserve` are killed 50 times if KILLS is left
+out, and begun again as systemd does it. One store's disk is filled, and has room again. In the
+morning all is begun again, and the card comes. Then each upload is in taken/ or refused/, nothing
+was taken in part, and each export is that of the card. Before that one file is put into a folder
+without a rename: it waits, or is taken by --on-close; and one comes whose name is no UTF-8: it
+waits, and is told by its name, until it is renamed. One whose name is too long is told and left
+alone.
 
 --control runs other `receive`s, each of which must lose something: one takes files whose names say
 that they are still written, one any that lie there, one at its start any that lie there, one then
