@@ -9,51 +9,34 @@ must be another. A line names each edit of which this is not so. --only looks at
 crate alone.
 """
 import re
-from dataclasses import dataclass
-from pathlib import Path
 
 from checks.lib import arguments
 from checks.lib.checks import end
 
-HERE, CRATES = Path(__file__).resolve().parent, arguments.TOP / "crates"
+from .texts import CRATES, Edit, edits
+
 PART = re.compile(r"file: (.+)\n((?:old: .*\nnew: .*\n)+)")
 PAIR = re.compile(r"old: (.*)\nnew: (.*)\n")
 
 
-@dataclass(frozen=True)
-class Edit:
-    """An edit and the crate whose files it changes."""
-    path: Path
-    crate: str
-
-    def __str__(self) -> str:
-        return str(self.path.relative_to(arguments.TOP))
-
-    def fault(self) -> str:
-        """Why it can't be applied, or nothing."""
-        text, sources = self.path.read_text(), {}
-        if not text or PART.sub("", text):
-            return "is not made of lines file:, old: and new:"
-        for name, pairs in PART.findall(text):
-            path = CRATES / self.crate / name
-            if not path.is_file():
-                return f"changes crates/{self.crate}/{name}, which is not there"
-            for old, new in PAIR.findall(pairs):
-                source = sources.setdefault(name, path.read_text())
-                count = source.count(old)
-                if count != 1:
-                    return f"has an old text that stands {count} times in {name}: {old.strip()}"
-                if old == new:
-                    return f"has a new text that is the old one: {old.strip()}"
-                sources[name] = source.replace(old, new)
-        return ""
-
-
-def edits(crates: list) -> list:
-    """All edits, or those of these crates."""
-    found = [Edit(path, path.parent.name) for path in sorted(HERE.glob("*/*.edit"))]
-    found += [Edit(path, path.parents[1].name) for path in sorted(CRATES.glob("*/must-fail/*"))]
-    return [edit for edit in found if not crates or edit.crate in crates]
+def fault(edit: Edit) -> str:
+    """Why an edit can't be applied, or nothing."""
+    sources = {}
+    if not edit.text or PART.sub("", edit.text):
+        return "is not made of lines file:, old: and new:"
+    for name, pairs in PART.findall(edit.text):
+        path = CRATES / edit.crate / name
+        if not path.is_file():
+            return f"changes crates/{edit.crate}/{name}, which is not there"
+        for old, new in PAIR.findall(pairs):
+            source = sources.setdefault(name, path.read_text())
+            count = source.count(old)
+            if count != 1:
+                return f"has an old text that stands {count} times in {name}: {old.strip()}"
+            if old == new:
+                return f"has a new text that is the old one: {old.strip()}"
+            sources[name] = source.replace(old, new)
+    return ""
 
 
 def main() -> None:
@@ -62,9 +45,9 @@ def main() -> None:
     found = edits(parser.read().only)
     failed = 0
     for edit in found:
-        if fault := edit.fault():
+        if why := fault(edit):
             failed += 1
-            print(f"{edit} {fault}")
+            print(f"{edit} {why}")
     end(len(found), failed)
 
 
