@@ -1,5 +1,5 @@
--- A list of submissions: nothing yet, one input more, and all of it where each answer tells a
--- reply.
+-- A list of submissions: nothing yet, one input more, all of it as one list, and all of it where
+-- each answer tells a reply.
 use Rattle.std.proofs.Common.{◌≡◌, ℕ, ◌⊎◌, List, [], ◌∷◌, ◌++◌, map, Option, Some, None, Ok, Err}
 use Rattle.std.proofs.Common.{refl, sym, ap, subst, ◌∙◌, inl, inr, append_assoc, append-nil, arith}
 use Rattle.std.specs.List.{AllByRecursion, AllZip}
@@ -23,6 +23,7 @@ use Rattle.edf_holdings.proofs.Replies.{replies-append}
 use Rattle.edf_holdings.proofs.Settled.{after-append}
 use Rattle.edf_rows.specs.Rows.{AreKept}
 use Rattle.edf_store.specs.Held.{StoreModel, at, Holds, Stays}
+use Rattle.edf_store.proofs.Begun.{stays_same}
 use Rattle.edf_store.proofs.Held.{others_committed_then}
 use Rattle.edf_intake.specs.Refusal.{Cause, OfForm, OfConflict, OfRead, OfMemory, OfStore}
 use Rattle.edf_intake.specs.Refusal.{Answer, reply_told, cause}
@@ -35,8 +36,8 @@ use Rattle.edf_store.specs.declared.fault.StoreFault.TheVariants.{Failed as Fail
 use Rattle.edf_intake.specs.Submitted.{IsRefusal, IsSubmitted, IsEnded}
 use Rattle.edf_intake.specs.Batch.{Turn, somes, told_in, replies_in, MayBeAnswered, IsTurn}
 use Rattle.edf_intake.specs.Batch.{AreUnended, IsOwnCause, IsOwnRefusal, AreLeftBy, AreEnded}
-use Rattle.edf_intake.specs.Batch.{AreSubmitted}
-use Rattle.edf_intake.specs.Batch.{AnswersAll}
+use Rattle.edf_intake.specs.Batch.{SubmitsOne, AreSubmitted, AreSubmittedAsList}
+use Rattle.edf_intake.specs.Batch.{InTurnIsAsList, AnswersAll}
 use Rattle.edf_intake.proofs.Turns.{IsMade, told-next, replies-next, map-next, all-next, turn_of}
 
 -- what was no refusal of a clean disk is none later
@@ -113,7 +114,7 @@ ended-next g old new (a ∷ []) last ended = ended
 ended-next g old new (a ∷ b ∷ more) last ended = ended-next g old new (b ∷ more) last ended
 
 module _ {S : Type 0} (g : Ghosts S) where
-  pub none_submitted : (old : StoreModel S) → Stays g old old → AreSubmitted g old old [] [] []
+  pub none_submitted : (old : StoreModel S) → Stays g old old → AreSubmittedAsList g old old [] [] []
   none_submitted old stays = record {
     turns = [];
     froms_are = refl;
@@ -129,9 +130,9 @@ module _ {S : Type 0} (g : Ghosts S) where
   }
 
   module _ (old mid new : StoreModel S) (froms tos : List InputState) (answers : List Answer)
-      (capped : mid.cap ≡ old.cap) (all : AreSubmitted g old mid froms tos answers) where
+      (capped : mid.cap ≡ old.cap) (all : AreSubmittedAsList g old mid froms tos answers) where
     next_turn : (t : Turn) → IsMade g mid new t →
-        AreSubmitted g old new (froms ++ t.from ∷ []) (tos ++ t.to ∷ []) (answers ++ t.answer ∷ [])
+        AreSubmittedAsList g old new (froms ++ t.from ∷ []) (tos ++ t.to ∷ []) (answers ++ t.answer ∷ [])
     next_turn t m = record {
       turns = all.turns ++ t ∷ [];
       froms_are = map-next (λ (u : Turn). u.from) all.turns t
@@ -172,10 +173,58 @@ module _ {S : Type 0} (g : Ghosts S) where
 
     pub next_submitted : (from to : InputState) (answer : Answer) →
         IsSubmitted g mid new from to answer →
-        AreSubmitted g old new (froms ++ from ∷ []) (tos ++ to ∷ []) (answers ++ answer ∷ [])
+        AreSubmittedAsList g old new (froms ++ from ∷ []) (tos ++ to ∷ []) (answers ++ answer ∷ [])
     next_submitted from to answer is =
         let t = turn_of g mid new from to answer is in
         next_turn (record { from = from; to = to; answer = answer; told = t.0 }) t.1
+
+-- one call more
+pub submitted_next : {S : Type 0} (g : Ghosts S) (old mid new : StoreModel S)
+    (froms tos : List InputState) (answers : List Answer) (from to : InputState)
+    (answer : Answer) → AreSubmitted g old mid froms tos answers →
+    SubmitsOne g mid new from to answer →
+    AreSubmitted g old new (froms ++ from ∷ []) (tos ++ to ∷ []) (answers ++ answer ∷ [])
+submitted_next {S} g old mid new [] [] [] from to answer same one =
+    (new, subst (λ (s : StoreModel S). SubmitsOne g s new from to answer) same one, refl)
+submitted_next g old mid new [] [] (r ∷ rs) from to answer none one = absurd none
+submitted_next g old mid new [] (t ∷ ts) rs from to answer none one = absurd none
+submitted_next g old mid new (f ∷ fs) [] rs from to answer none one = absurd none
+submitted_next g old mid new (f ∷ fs) (t ∷ ts) [] from to answer none one = absurd none
+submitted_next g old mid new (f ∷ fs) (t ∷ ts) (r ∷ rs) from to answer (first, it, rest) one =
+    (first, it, submitted_next g first mid new fs ts rs from to answer rest one)
+
+-- calls in turn, after a list
+list_then : {S : Type 0} (g : Ghosts S) (old mid new : StoreModel S)
+    (froms tos : List InputState) (answers : List Answer) (fs ts : List InputState)
+    (rs : List Answer) → mid.cap ≡ old.cap → AreSubmittedAsList g old mid froms tos answers →
+    AreSubmitted g mid new fs ts rs →
+    AreSubmittedAsList g old new (froms ++ fs) (tos ++ ts) (answers ++ rs)
+list_then {S} g old mid new froms tos answers [] [] [] capped all same =
+    subst (λ (l : List InputState). AreSubmittedAsList g old new l (tos ++ []) (answers ++ []))
+    (sym (append-nil froms))
+    (subst (λ (l : List InputState). AreSubmittedAsList g old new froms l (answers ++ []))
+    (sym (append-nil tos))
+    (subst (λ (l : List Answer). AreSubmittedAsList g old new froms tos l)
+    (sym (append-nil answers))
+    (subst (λ (s : StoreModel S). AreSubmittedAsList g old s froms tos answers) (sym same) all)))
+list_then g old mid new froms tos answers [] [] (r ∷ rs) capped all none = absurd none
+list_then g old mid new froms tos answers [] (t ∷ ts) rs capped all none = absurd none
+list_then g old mid new froms tos answers (f ∷ fs) [] rs capped all none = absurd none
+list_then g old mid new froms tos answers (f ∷ fs) (t ∷ ts) [] capped all none = absurd none
+list_then g old mid new froms tos answers (f ∷ fs) (t ∷ ts) (r ∷ rs) capped all (next, it, rest) =
+    let one = next_submitted g old mid next froms tos answers capped all f t r it.submitted in
+    let more = list_then g old next new (froms ++ f ∷ []) (tos ++ t ∷ []) (answers ++ r ∷ []) fs ts
+    rs ((turn_of g mid next f t r it.submitted).1.cap ∙ capped) one rest in
+    subst (λ (l : List InputState). AreSubmittedAsList g old new l (tos ++ t ∷ ts)
+    (answers ++ r ∷ rs)) (append_assoc froms (f ∷ []) fs)
+    (subst (λ (l : List InputState). AreSubmittedAsList g old new ((froms ++ f ∷ []) ++ fs) l
+    (answers ++ r ∷ rs)) (append_assoc tos (t ∷ []) ts)
+    (subst (λ (l : List Answer). AreSubmittedAsList g old new ((froms ++ f ∷ []) ++ fs)
+    ((tos ++ t ∷ []) ++ ts) l) (append_assoc answers (r ∷ []) rs) more))
+
+pub in_turn : {S : Type 0} (g : Ghosts S) → InTurnIsAsList g
+in_turn g old new froms tos answers all = list_then g old old new [] [] [] froms tos answers refl
+    (none_submitted g old (stays_same g old)) all
 
 -- ---- what known bytes tell
 
@@ -241,7 +290,7 @@ all_told (t ∷ ts) (x ∷ xs) (y ∷ ys) each known e =
     )
 
 pub answers_all : {S : Type 0} (g : Ghosts S) (old new : StoreModel S) (froms tos : List InputState)
-    (answers : List Answer) → AreSubmitted g old new froms tos answers →
+    (answers : List Answer) → AreSubmittedAsList g old new froms tos answers →
     AnswersAll g old new froms answers
 answers_all g old new froms tos answers all tolds given known e h held =
     let said = all_told all.turns tolds given all.each

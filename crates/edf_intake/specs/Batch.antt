@@ -1,5 +1,5 @@
--- What a list of submissions answers, and what it leaves: first the plain case, where each answer
--- tells a reply; then every case, input by input; and last what a crash may leave.
+-- What a list of submissions answers, and what it leaves: first call by call; then what all of it
+-- comes to, where each answer tells a reply, and in every case, with what a crash may leave.
 use Rattle.std.specs.Prelude.{◌≡◌, ◌⊎◌, ℕ, List, [], ◌∷◌, ◌++◌, map, Option, Some, None, Ok}
 use Rattle.std.specs.Prelude.{Err}
 use Rattle.std.specs.List.{AllByRecursion, AllZip}
@@ -10,12 +10,30 @@ use Rattle.edf_fragment.specs.Told.{Told, Fragment, Fault, Tells}
 use Rattle.edf_holdings.specs.Holdings.{Holdings}
 use Rattle.edf_holdings.specs.Reply.{Reply, Form, Accepted, after_one, after, replies}
 use Rattle.edf_rows.specs.Rows.{AreKept}
+use Rattle.edf_store.specs.Call.{IsBusy}
 use Rattle.edf_store.specs.Held.{StoreModel, at, Holds, KeepsCommittedOthers}
 use Rattle.edf_intake.specs.Refusal.{Answer, reply_told, IsStopped, IsInDoubt, cause}
 use Rattle.edf_intake.specs.Refusal.{Cause, OfStore}
-use Rattle.edf_intake.specs.Submitted.{IsRefusal, IsEnded}
+use Rattle.edf_intake.specs.Submitted.{IsRefusal, IsSubmitted, IsEnded, found_busy}
 use Rattle.edf_fragment.specs.Call.{InputState}
 use Rattle.edf_intake.specs.Input.{Hears, FailsToRead, ReadsFront}
+
+-- one call of `submit`: its answer, what it leaves, and that no input is read where the store was
+-- found in a transaction
+pub record SubmitsOne {S : Type 0} (g : Ghosts S) (old new : StoreModel S) (from to : InputState)
+    (answer : Answer) : Type 0 where
+  pub submitted : IsSubmitted g old new from to answer
+  pub ended : IsEnded g new answer
+  pub busy : IsBusy g old → (to ≡ from) × (answer ≡ found_busy)
+
+-- The inputs were submitted one after another, each to the store that the one before left. So each
+-- that was accepted was held in a store that was open, be it shut in the end.
+abbrev pub AreSubmitted : {S : Type 0} → Ghosts S → StoreModel S → StoreModel S →
+    List InputState → List InputState → List Answer → Type 0
+AreSubmitted g old new [] [] [] = new ≡ old
+AreSubmitted {S} g old new (from ∷ froms) (to ∷ tos) (answer ∷ answers) = (mid : StoreModel S)
+    × SubmitsOne g old mid from to answer × AreSubmitted g mid new froms tos answers
+AreSubmitted g old new froms tos answers = ⊥
 
 -- the input's bytes are known, and tell this
 abbrev pub WillTell : InputState → Told → Type 0
@@ -96,22 +114,29 @@ pub record AreLeftBy (cap : ℕ) (h : Holdings) (turns : List Turn) (rows : Tree
       ⊎ AreUnended cap (after cap h (told_in first)) rest rows
 
 module _ {S : Type 0} (g : Ghosts S) (old new : StoreModel S) where
-  -- every case: the inputs were submitted in turn. Those answered E40 to E42 or E45 add nothing;
+  -- every case: the inputs together are one list. Those answered E40 to E42 or E45 add nothing;
   -- the others are answered and leave what they would without those; a crash leaves what it could
   -- leave before, or what some first inputs leave
-  pub record AreSubmitted (froms tos : List InputState) (answers : List Answer) : Type 0 where
-    pub turns : List Turn
-    pub froms_are : map (λ (t : Turn). t.from) turns ≡ froms
-    pub tos_are : map (λ (t : Turn). t.to) turns ≡ tos
-    pub answers_are : map (λ (t : Turn). t.answer) turns ≡ answers
-    pub each : AllByRecursion IsTurn turns
-    pub refusals : AllByRecursion (IsOwnRefusal g new) answers
-    pub replies_are : HasCleanDisk (at g new) → (h : Holdings) → Holds g old h →
-        replies_in turns ≡ replies old.cap h (told_in turns)
-    pub holdings : (h : Holdings) → Holds g old h → Holds g new (after old.cap h (told_in turns))
-    pub others : KeepsCommittedOthers (at g old) (at g new)
-    pub crash : Survives (at g old) (at g new) (λ rows. (h : Holdings) → Holds g old h →
-        AreLeftBy old.cap h turns rows)
+  pub record AreSubmittedAsList (froms tos : List InputState) (answers : List Answer) : Type 0
+    where
+      pub turns : List Turn
+      pub froms_are : map (λ (t : Turn). t.from) turns ≡ froms
+      pub tos_are : map (λ (t : Turn). t.to) turns ≡ tos
+      pub answers_are : map (λ (t : Turn). t.answer) turns ≡ answers
+      pub each : AllByRecursion IsTurn turns
+      pub refusals : AllByRecursion (IsOwnRefusal g new) answers
+      pub replies_are : HasCleanDisk (at g new) → (h : Holdings) → Holds g old h →
+          replies_in turns ≡ replies old.cap h (told_in turns)
+      pub holdings : (h : Holdings) → Holds g old h → Holds g new (after old.cap h (told_in turns))
+      pub others : KeepsCommittedOthers (at g old) (at g new)
+      pub crash : Survives (at g old) (at g new) (λ rows. (h : Holdings) → Holds g old h →
+          AreLeftBy old.cap h turns rows)
+
+-- what was submitted one after another is one list
+abbrev pub InTurnIsAsList : {S : Type 0} → Ghosts S → Type 0
+InTurnIsAsList {S} g = (old new : StoreModel S) (froms tos : List InputState)
+    (answers : List Answer) → AreSubmitted g old new froms tos answers →
+    AreSubmittedAsList g old new froms tos answers
 
 -- after the last input no transaction is open, as its answer says; without inputs the store is as
 -- it was

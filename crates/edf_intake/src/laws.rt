@@ -4,6 +4,9 @@ ghost use Rattle.edf_holdings.specs.Laws.{HeldIsKnown, AcceptedAgain, RefusedAga
 ghost use Rattle.edf_holdings.specs.Laws.{FromTheFront, AnyOrder, Reordered, AloneIsFree, Recut};
 ghost use Rattle.edf_holdings.specs.Laws.{FreeOfSame};
 ghost use Rattle.edf_holdings.specs.Meaning.{OwnList};
+ghost use Rattle.edf_intake.specs.Batch.{InTurnIsAsList};
+
+use sqlite::Alter;
 
 /// A list acts once: a fragment that is held is accepted with nothing new; a later repeat of a
 /// member that was accepted is accepted with nothing new, and one of a refused member is refused
@@ -40,3 +43,11 @@ pub fn recut()
     edf_holdings::laws::recut();
     edf_holdings::meaning::intake();
 }
+
+/// Inputs that are submitted one after another are submitted as one list. What is held then is what
+/// the list leaves, and the answers are the replies to it, but for members for which memory ran
+/// out, or a read or the store failed: these add nothing. A crash leaves what some first members
+/// leave.
+pub fn as_one_list<S: Alter>()
+    ensures { InTurnIsAsList S.Store }
+{}

@@ -1,15 +1,14 @@
 use Rattle.std.proofs.Common.{◌≡◌, ◌≤◌, ℕ, length, ◌+◌, ◌++◌, ◌∷◌, [], List, map, take, refl, sym}
-use Rattle.std.proofs.Common.{subst, ◌∙◌, arith, rules}
+use Rattle.std.proofs.Common.{ap, subst, ◌∙◌, arith, rules}
 use Rattle.std.proofs.Math.ListN.{set}
 use Rattle.std.proofs.lemmas.List.{take_all}
 use Rattle.sqlite_trees.specs.declared.store.Store.{Ghosts}
 use Rattle.edf_store.specs.Held.{StoreModel}
 use Rattle.edf_intake.specs.Refusal.{Answer}
 use Rattle.edf_fragment.specs.Call.{InputState, input_state}
-use Rattle.edf_intake.specs.Submitted.{IsSubmitted}
-use Rattle.edf_intake.specs.Batch.{AreSubmitted, AreEnded}
+use Rattle.edf_intake.specs.Batch.{SubmitsOne, AreSubmitted, AreEnded}
 use Rattle.edf_intake.proofs.Fronts.{olds_more, nows_more, others_same}
-use Rattle.edf_intake.proofs.Batches.{none_submitted, next_submitted, ended-next, answers_all}
+use Rattle.edf_intake.proofs.Batches.{submitted_next, ended-next, in_turn, answers_all}
 use Rattle.edf_intake.proofs.submission.submit_all.Goals as goal
 
 -- all of the list was gone through
@@ -31,7 +30,7 @@ loop-input-init g c =
       cap = refl;
       submitted = subst (λ (l : List Answer).
           AreSubmitted g.S.Store c.args.store.now c.args.store.now [] [] l) (sym none)
-          (none_submitted g.S.Store c.args.store.now (search rules));
+          refl;
       ended = subst (λ (l : List Answer). AreEnded g.S.Store c.args.store.now c.args.store.now l)
           (sym none) refl;
       others = refl;
@@ -52,13 +51,20 @@ loop-input-preserved g c =
     c.input-item.is in
     let made = nows_more state olds nows i old new c.loop-input-test.true inv.others
     c.input-item.is in
-    let step = next_submitted g.S.Store c.args.store.now c.loop-input.store
-    c.submit-answer.new.store (map state (take i olds)) (map state (take i nows))
-    c.loop-input.answers.items inv.cap inv.submitted
-    (state old) (state new) c.submit-answer.result
-    (subst (λ (r : g.row.R.Denot). IsSubmitted g.S.Store c.loop-input.store
+    let one : SubmitsOne g.S.Store c.loop-input.store c.submit-answer.new.store (state old)
+    (state new) c.submit-answer.result =
+    subst (λ (r : g.row.R.Denot). SubmitsOne g.S.Store c.loop-input.store
     c.submit-answer.new.store (state r) (state new) c.submit-answer.result)
-    (sym c.input-item.is) c.submit-answer.ensures.submitted) in
+    (sym c.input-item.is) (record {
+      submitted = c.submit-answer.ensures.submitted;
+      ended = c.submit-answer.ensures.ended;
+      busy = λ is.
+          let it = c.submit-answer.ensures.busy is in
+          (ap state it.0, it.1);
+    }) in
+    let step = submitted_next g.S.Store c.args.store.now c.loop-input.store
+    c.submit-answer.new.store (map state (take i olds)) (map state (take i nows))
+    c.loop-input.answers.items (state old) (state new) c.submit-answer.result inv.submitted one in
     record {
       cap = c.submit-answer.ensures.cap ∙ inv.cap;
       submitted = subst (λ (l : List Answer).
@@ -97,6 +103,8 @@ returns-clause-answered g c =
     let state = input_state g.R.Input in
     answers_all g.S.Store c.args.store.now c.loop-input.store (map state c.args.inputs.now)
     (map state c.loop-input.inputs) c.loop-input.answers.items
+    (in_turn g.S.Store c.args.store.now c.loop-input.store (map state c.args.inputs.now)
+    (map state c.loop-input.inputs) c.loop-input.answers.items
     (all_submitted g.S.Store c.args.store.now c.loop-input.store state c.args.inputs.now
     c.loop-input.inputs c.loop-input.input-index c.loop-input.answers.items
-    c.loop-input-test.false c.loop-input.auto.inputs inv.submitted)
+    c.loop-input-test.false c.loop-input.auto.inputs inv.submitted))
