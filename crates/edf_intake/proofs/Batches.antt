@@ -114,7 +114,8 @@ ended-next g old new (a ∷ []) last ended = ended
 ended-next g old new (a ∷ b ∷ more) last ended = ended-next g old new (b ∷ more) last ended
 
 module _ {S : Type 0} (g : Ghosts S) where
-  pub none_submitted : (old : StoreModel S) → Stays g old old → AreSubmittedAsList g old old [] [] []
+  pub none_submitted : (old : StoreModel S) → Stays g old old →
+      AreSubmittedAsList g old old [] [] []
   none_submitted old stays = record {
     turns = [];
     froms_are = refl;
@@ -132,7 +133,8 @@ module _ {S : Type 0} (g : Ghosts S) where
   module _ (old mid new : StoreModel S) (froms tos : List InputState) (answers : List Answer)
       (capped : mid.cap ≡ old.cap) (all : AreSubmittedAsList g old mid froms tos answers) where
     next_turn : (t : Turn) → IsMade g mid new t →
-        AreSubmittedAsList g old new (froms ++ t.from ∷ []) (tos ++ t.to ∷ []) (answers ++ t.answer ∷ [])
+        AreSubmittedAsList g old new (froms ++ t.from ∷ []) (tos ++ t.to ∷ [])
+        (answers ++ t.answer ∷ [])
     next_turn t m = record {
       turns = all.turns ++ t ∷ [];
       froms_are = map-next (λ (u : Turn). u.from) all.turns t

@@ -13,7 +13,7 @@ use Rattle.edf_store.proofs.Held.{others_committed_then}
 use Rattle.edf_intake.specs.Refusal.{Answer, Cause, OfForm, OfConflict, OfRead, OfMemory, OfStore}
 use Rattle.edf_intake.specs.Refusal.{cause}
 use Rattle.edf_intake.specs.Submitted.{IsRefusal, IsSubmitted}
-use Rattle.edf_intake.specs.Batch.{AreSubmitted, IsOwnCause, IsOwnRefusal}
+use Rattle.edf_intake.specs.Batch.{AreSubmittedAsList, IsOwnCause, IsOwnRefusal}
 use Rattle.edf_intake.proofs.Batches.{next_submitted, answers_all}
 use Rattle.edf_intake.proofs.Turns.{map-next}
 use Rattle.edf_serve.specs.Taken.{Submission}
@@ -58,8 +58,8 @@ answers all = map (λ (s : Submission). s.answer) all
 
 module _ {S : Type 0} (g : Ghosts S) (old mid new : StoreModel S) where
   -- a call that changes nothing of what is held
-  later : (fs ts : List InputState) (rs : List Answer) → AreSubmitted g old mid fs ts rs →
-      Stays g mid new → AreSubmitted g old new fs ts rs
+  later : (fs ts : List InputState) (rs : List Answer) → AreSubmittedAsList g old mid fs ts rs →
+      Stays g mid new → AreSubmittedAsList g old new fs ts rs
   later fs ts rs all stays = record {
     turns = all.turns;
     froms_are = all.froms_are;
@@ -92,13 +92,13 @@ module _ {S : Type 0} (g : Ghosts S) (old mid new : StoreModel S) where
   more-in_turn all s capped before is =
       let it = next_submitted g old mid new (froms all) (tos all) (answers all) capped
       before.submitted s.from s.to s.answer is in
-      let all_is : AreSubmitted g old new (froms (all ++ (s ∷ []))) (tos (all ++ (s ∷ [])))
+      let all_is : AreSubmittedAsList g old new (froms (all ++ (s ∷ []))) (tos (all ++ (s ∷ [])))
       (answers (all ++ (s ∷ []))) =
-      subst (λ (l : List InputState). AreSubmitted g old new l (tos (all ++ (s ∷ [])))
+      subst (λ (l : List InputState). AreSubmittedAsList g old new l (tos (all ++ (s ∷ [])))
       (answers (all ++ (s ∷ [])))) (sym (map-next (λ (s : Submission). s.from) all s))
-      (subst (λ (l : List InputState). AreSubmitted g old new (froms all ++ (s.from ∷ [])) l
+      (subst (λ (l : List InputState). AreSubmittedAsList g old new (froms all ++ (s.from ∷ [])) l
       (answers (all ++ (s ∷ [])))) (sym (map-next (λ (s : Submission). s.to) all s))
-      (subst (λ (l : List Answer). AreSubmitted g old new (froms all ++ (s.from ∷ []))
+      (subst (λ (l : List Answer). AreSubmittedAsList g old new (froms all ++ (s.from ∷ []))
       (tos all ++ (s.to ∷ [])) l) (sym (map-next (λ (s : Submission). s.answer) all s)) it)) in
       record {
         submitted = all_is;

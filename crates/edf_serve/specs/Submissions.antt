@@ -6,7 +6,7 @@ use Rattle.edf_fragment.specs.Told.{Told}
 use Rattle.edf_holdings.specs.Holdings.{Holdings, IsSound}
 use Rattle.edf_holdings.specs.Reply.{Reply, after}
 use Rattle.edf_store.specs.Held.{StoreModel, Holds}
-use Rattle.edf_intake.specs.Batch.{AreSubmitted, AnswersAll, WillTell}
+use Rattle.edf_intake.specs.Batch.{AreSubmittedAsList, AnswersAll, WillTell}
 use Rattle.edf_intake.specs.Refusal.{reply_told}
 use Rattle.edf_serve.specs.Session.{Turn}
 use Rattle.edf_serve.specs.Taken.{Submission}
@@ -24,7 +24,7 @@ submissions (t ∷ before) = submissions before ++ one_or_none t.submission
 -- the answers are the replies to it
 pub record AreSubmittedInTurn {S : Type 0} (g : Ghosts S) (old new : StoreModel S)
     (all : List Submission) : Type 0 where
-  pub submitted : AreSubmitted g old new (map (λ (s : Submission). s.from) all)
+  pub submitted : AreSubmittedAsList g old new (map (λ (s : Submission). s.from) all)
       (map (λ (s : Submission). s.to) all) (map (λ (s : Submission). s.answer) all)
   pub answered : AnswersAll g old new (map (λ (s : Submission). s.from) all)
       (map (λ (s : Submission). s.answer) all)

@@ -20,6 +20,7 @@ use Rattle.edf_intake.specs.Refusal.{Answer}
 use Rattle.edf_fragment.specs.Call.{InputState}
 use Rattle.edf_intake.specs.Submitted.{IsSubmitted}
 use Rattle.edf_intake.specs.Batch.{Turn, somes, AreUnended, AreLeftBy}
+use Rattle.edf_intake.proofs.Batches.{in_turn}
 use Rattle.edf_intake.proofs.Turns.{turn_of}
 use Rattle.edfstore_arguments.specs.Arguments.{Asked}
 use Rattle.edfstore_arguments.specs.Arguments.Asked.{take, list, export, convert}
@@ -78,7 +79,7 @@ module _ {S : Type 0} (g : Ghosts S) (bytes : List ℕ → Option (List ℕ)) (o
       TakesFiles g old new out err bytes files status → Survives (at g old) (at g new)
       (Left g old out bytes (take store files) status)
   all_left old new store files status t =
-      let s = t.submitted in
+      let s = in_turn g old new t.froms t.tos t.answers t.submitted in
       let same : map (λ (u : Turn). u.from.left) s.turns ≡ map bytes files =
       sym (map-map (λ (f : InputState). f.left) (λ (u : Turn). u.from) s.turns)
       ∙ ap (λ (l : List InputState). map (λ (f : InputState). f.left) l) s.froms_are ∙ t.opened in

@@ -14,6 +14,7 @@ use Rattle.edf_rows.specs.Rows.{AreKept}
 use Rattle.edf_store.specs.Held.{StoreModel, at, KeepsCommittedOthers}
 use Rattle.edf_store.specs.Open.{IsOpened}
 use Rattle.edf_store.proofs.Held.{others_committed_then}
+use Rattle.edf_intake.proofs.Batches.{in_turn}
 use Rattle.edf_intake.proofs.Turns.{turn_of}
 use Rattle.edfstore_arguments.specs.Arguments.{Asked}
 use Rattle.edfstore_arguments.specs.Arguments.Asked.{take, list, export, convert}
@@ -58,7 +59,8 @@ module _ {S : Type 0} (g : Ghosts S) (bytes : List ℕ → Option (List ℕ)) (o
 
   taken_others : (old new : StoreModel S) (names : List (List ℕ)) (status : Status) →
       IsTaken g old new out err bytes names status → KeepsCommittedOthers (at g old) (at g new)
-  taken_others old new names status (inl t) = t.submitted.others
+  taken_others old new names status (inl t) =
+      (in_turn g old new t.froms t.tos t.answers t.submitted).others
   taken_others old new names status (inr none) = same_others old new none.0
 
   converted_others : (old new : StoreModel S) (name : List ℕ) (status : Status) →

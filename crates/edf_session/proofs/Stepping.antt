@@ -18,6 +18,7 @@ use Rattle.edf_store.specs.Held.{StoreModel, at, Holds}
 use Rattle.edf_intake.specs.Refusal.{Answer}
 use Rattle.edf_intake.specs.Submitted.{IsSubmitted}
 use Rattle.edf_intake.specs.Batch.{Turn, told_in, replies_in}
+use Rattle.edf_intake.proofs.Batches.{in_turn}
 use Rattle.edf_intake.proofs.Turns.{turn_of}
 use Rattle.edfstore_arguments.specs.Arguments.{Asked}
 use Rattle.edfstore_arguments.specs.Arguments.Asked.{take, list, export, convert}
@@ -80,7 +81,7 @@ module _ {D : Type 0} (g : Ghosts D) (cap : ℕ) (out err : Growth) (bytes : Lis
     keeps = same_keep none.0;
   })
   taken_step store files (inl t) =
-      let s = t.submitted in
+      let s = in_turn over_files old new t.froms t.tos t.answers t.submitted in
       inl (
         s.turns,
         record {
