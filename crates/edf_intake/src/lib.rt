@@ -4,8 +4,9 @@
 //! - [`submit_all`]: a list of them, each in turn, also after refused ones.
 //! - [`Receipt`], [`Refusal`]: how a submission is answered.
 //! - [`clash`], [`Clash`]: whether two data records of one recording clash, and how.
-//! - [`laws`]: repeats add nothing, and lists without conflicts end alike, however ordered or cut;
-//!   functions that do nothing, each with laws for a contract.
+//! - [`laws`]: what is submitted in turn is one list, repeats add nothing, and lists without
+//!   conflicts end alike, however ordered or cut; functions that do nothing, each with laws for a
+//!   contract.
 #![tactic(auto)]
 
 mod answer;
