@@ -26,8 +26,8 @@ pub record SubmitsOne {S : Type 0} (g : Ghosts S) (old new : StoreModel S) (from
   pub ended : IsEnded g new answer
   pub busy : IsBusy g old → (to ≡ from) × (answer ≡ found_busy)
 
--- The inputs were submitted one after another, each to the store that the one before left. So each
--- that was accepted was held in a store that was open, be it shut in the end.
+-- The inputs were submitted one after another, each to the store that the one before left. So as
+-- each accepted one was answered, the store was open and held it, also where it is shut later.
 abbrev pub AreSubmitted : {S : Type 0} → Ghosts S → StoreModel S → StoreModel S →
     List InputState → List InputState → List Answer → Type 0
 AreSubmitted g old new [] [] [] = new ≡ old

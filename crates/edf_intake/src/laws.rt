@@ -44,10 +44,10 @@ pub fn recut()
     edf_holdings::meaning::intake();
 }
 
-/// Inputs that are submitted one after another are submitted as one list. What is held then is what
-/// the list leaves, and the answers are the replies to it, but for members for which memory ran
-/// out, or a read or the store failed: these add nothing. A crash leaves what some first members
-/// leave.
+/// What is submitted one after another is one list. What is held then is what the list leaves, and
+/// the answers are the replies to it, but for members for which memory ran out, or a read or the
+/// store failed: these add nothing. A crash leaves what some first members leave, perhaps with the
+/// next.
 pub fn as_one_list<S: Alter>()
     ensures { InTurnIsAsList S.Store }
 {}

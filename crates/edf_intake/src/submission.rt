@@ -62,7 +62,8 @@ pub fn submit<S: Alter, R: Input>(
 }
 
 /// Submits each input in turn, also after refused ones, and gives one answer for each, in
-/// their order.
+/// their order. Each is as one call of [`submit`], so an accepted one was held as it was answered,
+/// whatever came after it.
 ///
 /// # Errors
 /// `AllocError` where there is no memory for the answers; then nothing was read or submitted.
