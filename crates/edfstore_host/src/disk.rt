@@ -54,8 +54,8 @@ fn store_over<S: Alter + Drop>(alloc: Global, conn: Connection<S>) -> Result<Sto
     }
 }
 
-/// The files at a path, opened. Where another program has them, and where nothing was done for that,
-/// they are tried again for two seconds; every other refusal comes at once.
+/// Opens the files at a path. Where another program has them, this is tried again for two seconds.
+/// Every other refusal comes at once.
 fn open_when_free(
     rt: &HostRuntime,
     path: &str,

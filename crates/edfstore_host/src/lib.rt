@@ -102,7 +102,7 @@ fn tell_failure(rt: &HostRuntime, terminal: &Terminal<'_>, path: &str, session: 
 /// these it was.
 ///
 /// # Errors
-/// Why the store is refused. Nothing was printed.
+/// Why the store is refused, of which no line was printed.
 fn run_once(
     rt: &HostRuntime,
     terminal: &Terminal<'_>,

@@ -8,8 +8,8 @@ use std::cell::Cell;
 use std::time::Duration;
 use std::{io, thread};
 
-/// How often such a store is tried again, after a pause each: for two seconds. So a command meets
-/// no lock of the one before it, as in `edfstore list s.db | while read ..`, which ends meanwhile.
+/// How often such a store is tried again, after a pause each: for two seconds. The command before,
+/// as in `edfstore list s.db | while read ..`, has ended by then.
 pub(crate) const TRIES: u32 = 200;
 
 /// How long a pause lasts, in milliseconds.
@@ -25,9 +25,8 @@ pub(crate) fn is_held(error: &Error) -> bool {
     matches!(error, Error::SqliteFailure(ErrorCode::DatabaseBusy))
 }
 
-/// A stream that passes on what is written once the store is open. What is written before is the
-/// line that refuses the store; it is dropped, for who drops it knows whether the store is tried
-/// again.
+/// A stream that passes on what is written once the store is open. Before that only the line is
+/// written that refuses the store. It is dropped, since the store may be tried again.
 #[derive(Drop)]
 pub(crate) struct Muted<'s, F: Output> {
     pub(crate) stream: &'s mut F,
