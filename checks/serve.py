@@ -4,11 +4,11 @@
 
 A client that waits for each answer, one that sends all at once, one that stops reading; names with
 spaces and beyond ASCII, and names that lead out of the folders of --from and --to; lines that are
-none, of the greatest length and longer, cut by the end of the input; a store that is refused; a
-full disk, and room again; files without a patient's code and name, of which a warning comes where
-they begin more than 24 hours apart. Over a pipe, a named pipe, and by socat a socket, where it is
-installed. Then COUNT sessions (100 if left out) are killed at a random moment and begun again: what
-was answered is held, and in the end all of it is.
+none, of the greatest length and longer, cut by the end of the input; a store that is refused, or
+that another session has; a full disk, and room again; files without a patient's code and name, of
+which a warning comes where they begin more than 24 hours apart. Over a pipe, a named pipe, and by
+socat a socket, where it is installed. Then COUNT sessions (100 if left out) are killed at a random
+moment and begun again: what was answered is held, and in the end all of it is.
 """
 import os
 import random
@@ -236,6 +236,30 @@ def refused_store(checks: Checks, given) -> None:
     checks.same("standard output and status", (ran.out, ran.status), (b"", 3))
     checks.same("the refusal and its cause", (first, len(cause)), (printed.NO_STORE, 1))
     checks.same("the file is as it was", checks.content("s.db"), b"no database at all" * 100)
+    (checks.folder / "link.db").symlink_to("later.db")
+    before = checks.names()
+    for path, why in (("none/s.db", printed.NO_FOLDER), ("link.db", printed.DEAD_LINK),
+                      ("", printed.NO_NAME), ("new.db/", printed.NO_NAME)):
+        ran = measure.ran(given.edfserve, path, given=b"list\n", folder=checks.folder)
+        refusal = printed.NO_STORE + printed.cause(path, why)
+        checks.compare(f"edfserve '{path}'", ran, "", refusal, 3)
+    checks.same("nothing was made", checks.names(), before)
+
+
+def held_store(checks: Checks, given) -> None:
+    """A store that another session has: it is waited for, two seconds at most."""
+    checks.begin("a store that another session has")
+    client = Client(given.edfserve, checks.folder)
+    checks.same("list", client.ask("list"), status(0))
+    ran = over_a_pipe(checks, given)(b"list\n")
+    checks.compare("the second session", ran, "",
+                   printed.NO_STORE + printed.cause("s.db", printed.BUSY), 3)
+    checks.same("it waits", 2 <= ran.seconds < 6, True)
+    waiting = Client(given.edfserve, checks.folder)
+    waiting.send("list")
+    time.sleep(0.5)
+    checks.same("the end of the first", client.end(), (0, "", ""))
+    checks.same("the third session", waiting.end(), (0, status(0), ""))
 
 
 def full_disk(checks: Checks, given) -> None:
@@ -415,6 +439,7 @@ def main() -> None:
         stops_reading(checks, given)
         lengths(checks, given)
         refused_store(checks, given)
+        held_store(checks, given)
         people(checks, given)
         full_disk(checks, given)
         try:

@@ -5,6 +5,9 @@ and statuses that follow.
 
 It needs bash and sqlite3 (the command).
 """
+import fcntl
+import threading
+from contextlib import contextmanager
 from pathlib import Path
 
 from checks.lib import arguments, edf, faults, measure, printed
@@ -15,6 +18,8 @@ FILES = edf.small_files()
 Q, P5 = FILES["Q"], FILES["P5"]
 ONE, TWO = (printed.recording(1, records, "2002-03-02T23:59:50", "P7", "N1") for records in (1, 2))
 UNWRITTEN = printed.fault("export", faults.write())
+LOCKED = 512, 1 << 30   # how many bytes of a file SQLite locks, and from where on
+WAITED = 2.0            # seconds for which a store is tried again that another program has
 
 
 def begun(checks: Checks, case: str, held: bool = False) -> None:
@@ -83,21 +88,45 @@ def pipes(checks: Checks) -> None:
 
 def stores(checks: Checks) -> None:
     begun(checks, "stores", held=True)
-    checks.shell("edfstore take none/s.db a.edf", err=NO_STORE, status=3)
-    checks.shell("edfstore list none/s.db; edfstore list typo.db; ls none typo.db* 2> /dev/null",
-                 status=2)
-    checks.shell("edfstore export typo.db 1", err=printed.no_recording(1), status=1)
-    checks.shell("ls typo.db* 2> /dev/null", status=2)
     checks.shell("mkdir folder; edfstore take folder a.edf", err=NO_STORE, status=3)
     checks.shell("cp a.edf before.edf; edfstore list a.edf", err=NO_STORE, status=3)
-    checks.shell("cmp before.edf a.edf && edfstore export '' 1", err=printed.no_recording(1),
-                 status=1)
-    checks.shell("edfstore take '' a.edf", err=NO_STORE, status=3)
+    checks.shell("cmp before.edf a.edf")
     checks.shell("cp s.db copy.db; edfstore list copy.db", ONE)
     checks.shell("edfstore take :memory: a.edf p.edf a.edf",
                  printed.lines(("a.edf", NEW), ("p.edf", NEW), ("a.edf", KNOWN)))
     checks.shell("edfstore export s.db 1 | edfstore take other.db -; "
                  "edfstore export other.db 1 | cmp - a.edf", printed.line("-", NEW))
+
+
+def paths(checks: Checks) -> None:
+    """A path that names no file is new in a folder that is there, and nowhere else."""
+    begun(checks, "paths without a file", held=True)
+    checks.shell("mkdir there; ln -s none/s.db away.db; ln -s later.db link.db; ln -s none dead")
+    before = checks.names()
+    for path in ("new.db", "./new.db", "there/new.db", "there/../new.db", '"$PWD/new.db"'):
+        checks.shell(f"edfstore list {path}")
+        checks.shell(f"edfstore export {path} 1", err=printed.no_recording(1), status=1)
+    for path in ("none/s.db", "there/none/s.db", "none/../s.db", "/none/s.db", "dead/s.db",
+                 "away.db", "link.db", "./link.db", "''", "new.db/", "none/", "dead/"):
+        for words in (f"list {path}", f"export {path} 1", f"take {path} a.edf"):
+            checks.shell(f"edfstore {words}", err=NO_STORE, status=3)
+    checks.same("nothing was made", (checks.names(), list(checks.folder.glob("there/*"))),
+                (before, []))
+    checks.shell("mkdir gone; cd gone; rmdir ../gone; edfstore list s.db", err=NO_STORE, status=3)
+    checks.shell("edfstore take there/new.db a.edf; edfstore list there/new.db",
+                 printed.line("a.edf", NEW) + ONE)
+    checks.shell("edfstore take later.db a.edf; edfstore export link.db 1 | cmp - a.edf",
+                 printed.line("a.edf", NEW))
+
+
+@contextmanager
+def held(store: Path, seconds: float = None):
+    """The lock of a store's file is held, and after so many seconds given back."""
+    with open(store, "r+b") as file:
+        fcntl.lockf(file, fcntl.LOCK_EX, *LOCKED)
+        if seconds is not None:
+            threading.Timer(seconds, fcntl.lockf, (file, fcntl.LOCK_UN, *LOCKED)).start()
+        yield
 
 
 def at_once(checks: Checks) -> None:
@@ -109,6 +138,47 @@ def at_once(checks: Checks) -> None:
     checks.shell("edfstore list s.db", TWO)
     checks.shell("\"$PROGRAM\" take s.db f & p=$!; sleep 0.5; kill -9 $p; wait $p 2> /dev/null; "
                  "edfstore list s.db", TWO)
+    checks.shell("edfstore take s.db f > lines & sleep 0.5; (sleep 0.5; cat a.edf > f) & "
+                 "edfstore list s.db; wait; cat lines", TWO + printed.line("f", KNOWN))
+
+
+def waited(checks: Checks) -> None:
+    """How long a store is waited for, and that nothing is done to it meanwhile."""
+    begun(checks, "how long a store is waited for", held=True)
+    for path in checks.folder.glob("s.db-*"):
+        path.unlink()
+    store, names, bytes_held = checks.folder / "s.db", checks.names(), checks.content("s.db")
+    for words in (("list", "s.db"), ("export", "s.db", "1"), ("take", "s.db", "p.edf")):
+        with held(store):
+            ran = checks.program.ran(*words)
+        checks.compare(f"{words}, the lock held", ran, err=NO_STORE, out="", status=3)
+        checks.same(f"{words}: it waits", WAITED <= ran.seconds < 3 * WAITED, True)
+        checks.same(f"{words}: the store", (checks.names(), checks.content("s.db")),
+                    (names, bytes_held))
+        with held(store, WAITED / 4):
+            ran = checks.program.ran("list", "s.db")
+        checks.compare(f"{words}, the lock held for a while", ran, ONE, "", 0)
+        for path in checks.folder.glob("s.db-*"):
+            path.unlink()
+    checks.shell("head -c 9000 s.db > cut.db; sqlite3 other.db 'CREATE TABLE night (a)'; "
+                 "cp s.db one.db; ln one.db two.db; mkdir folder")
+    for path in ("cut.db", "other.db", "two.db", "folder", "a.edf", "none/s.db", "/dev/full"):
+        ran = checks.program.ran("list", path)
+        checks.same(f"{path}: no wait", (ran.status, ran.seconds < WAITED), (3, True))
+
+
+def one_after_another(checks: Checks) -> None:
+    """Exports in a loop over the lines of a list, which may still have the store."""
+    begun(checks, "exports of a list's lines")
+    checks.file("x.edf", FILES["X"])
+    checks.file("u.edf", FILES["U"])
+    checks.shell("edfstore take s.db a.edf x.edf u.edf",
+                 printed.lines(("a.edf", NEW), ("x.edf", NEW), ("u.edf", printed.accepted(2))))
+    checks.shell("for i in {1..40}; do edfstore list s.db | while read -r place rest; do "
+                 "edfstore export s.db $place > $place.edf || echo refused; done; done")
+    checks.shell("edfstore take again.db 1.edf 2.edf 3.edf | wc -l", "3\n")
+    checks.shell("for i in {1..3}; do \"$PROGRAM\" take s.db p.edf & done | sort",
+                 2 * printed.line("p.edf", KNOWN) + printed.line("p.edf", NEW))
 
 
 def main() -> None:
@@ -116,7 +186,7 @@ def main() -> None:
     measure.need("bash", "sqlite3")
     with measure.scratch() as name:
         checks = Checks(given.program, Path(name))
-        for case in (names, streams, pipes, stores, at_once):
+        for case in (names, streams, pipes, stores, paths, at_once, waited, one_after_another):
             case(checks)
     checks.end()
 

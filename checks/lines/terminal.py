@@ -59,7 +59,6 @@ def new_stores(checks: Checks) -> None:
     begun(checks, "a path that is not there makes a store for take alone")
     on_terminal(checks, "list typo.db", err=cause("typo.db", printed.MISSING))
     on_terminal(checks, "list typo.db", err=cause("typo.db", printed.MISSING))
-    on_terminal(checks, "list none/typo.db", err=cause("none/typo.db", printed.MISSING))
     on_terminal(checks, "export other.db 1", status=1,
                 err=cause("other.db", printed.MISSING) + printed.no_recording(1))
     on_terminal(checks, "take third.db a.edf", printed.line("a.edf", NEW),
@@ -85,11 +84,15 @@ def how_far(checks: Checks) -> None:
 def causes(checks: Checks) -> None:
     begun(checks, "why a store is refused")
     (checks.folder / "folder").mkdir()
-    checks.shell("cp s.db one.db; ln one.db two.db")
+    checks.shell("cp s.db one.db; ln one.db two.db; ln -s later.db link.db; ln -s none dead")
     for path, why in (("a.edf/s.db", printed.FILE_ON_PATH), ("folder", printed.NO_PLAIN_FILE),
                       ("/dev/full", printed.NO_PLAIN_FILE), ("two.db", printed.NO_PLAIN_FILE),
-                      ("a.edf", printed.NO_DATABASE), ("file:s.db", printed.NO_PATH)):
-        on_terminal(checks, f"list {path}", err=NO_STORE + cause(path, why), status=3)
+                      ("a.edf", printed.NO_DATABASE), ("file:s.db", printed.NO_PATH),
+                      ("none/s.db", printed.NO_FOLDER), ("dead/s.db", printed.NO_FOLDER),
+                      ("link.db", printed.DEAD_LINK), ("", printed.NO_NAME),
+                      ("new.db/", printed.NO_NAME)):
+        for words in (f"list {path}", f"export {path} 1", f"take {path} a.edf"):
+            on_terminal(checks, words, err=NO_STORE + cause(path, why), status=3)
     checks.shell("sqlite3 other.db 'CREATE TABLE night (a)'")
     on_terminal(checks, "list other.db", err=FOREIGN + cause("other.db", printed.OTHER_TABLES),
                 status=3)

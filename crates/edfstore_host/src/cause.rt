@@ -3,12 +3,14 @@
 ghost use Rattle.std.specs.Prelude.{None};
 
 use crate::disk::Refused;
+use crate::path::{is_address, look_at, why_none};
 use edf_fragment::Output;
 use edf_session::Watch;
 use edf_store::StoreFault;
 use edf_system::{FULL, Terminal, tell_system_error};
 use sqlite::{Error, ErrorCode};
 use sqlite_std_file::{OpenError, Unknown};
+use std::cell::Cell;
 
 const BUSY: &str = "another program has it open; run this again when that has ended";
 
@@ -22,11 +24,14 @@ const DAMAGED: &str = "the file is damaged, or it has page sums and sqlite3 wrot
     (ANALYZE, VACUUM, .backup), or it was copied without its -wal, so copy both; if sqlite3 did, \
     'sqlite3 OLD.db .dump | sqlite3 NEW.db' makes a store that opens, without sums";
 
-/// Prints why the store could not be opened. SQLite's port gives no cause, so the path is opened
-/// again to get one.
+/// Prints why the store could not be opened. SQLite's port gives no cause, so where the path tells
+/// none, it is opened again to get one.
 fn tell_unopened(rt: &HostRuntime, terminal: &Terminal<'_>, path: &str) {
-    if path.starts_with("file:") {
+    if is_address(path) {
         return terminal.say(path, "a path that begins with 'file:' is written './file:'");
+    }
+    if let Some(words) = why_none(look_at(rt, path)) {
+        return terminal.say(path, words);
     }
     match sqlite_std_file::open(rt, path, Unknown) {
         Ok(_) => terminal.say(
@@ -87,22 +92,23 @@ pub fn tell_cause(rt: &HostRuntime, terminal: &Terminal<'_>, path: &str, refused
     }
 }
 
-/// Tells a person how the store of a path was opened.
+/// Tells a person that a new store was made, and keeps why a store was refused.
 #[derive(Drop)]
 pub(crate) struct Teller<'t> {
-    pub(crate) rt: &'t HostRuntime,
     pub(crate) terminal: &'t Terminal<'t>,
     pub(crate) path: &'t str,
     /// Whether there was no file.
     pub(crate) is_new: bool,
-    /// Whether the store was refused, and that was told.
-    pub(crate) was_refused: bool,
+    /// Whether the store was opened.
+    pub(crate) is_open: &'t Cell<bool>,
+    pub(crate) refused: Option<Refused>,
 }
 
 impl Watch for Teller<'_> {
     ghost noticed = { λ _. None };
 
     fn opened<O: Output>(&mut self, _out: &O) {
+        self.is_open.set(true);
         if self.is_new {
             self.terminal
                 .say(self.path, "no such file; made a new, empty store");
@@ -110,11 +116,9 @@ impl Watch for Teller<'_> {
     }
 
     fn refused(&mut self, fault: &StoreFault, has_our_tables: bool) {
-        self.was_refused = true;
-        let refused = Refused {
+        self.refused = Some(Refused {
             fault: *fault,
             has_our_tables,
-        };
-        tell_cause(self.rt, self.terminal, self.path, &refused);
+        });
     }
 }

@@ -1,22 +1,22 @@
 //! Stores in SQLite's files and in memory.
 
 ghost use Rattle.std.specs.Prelude.{◌≡◌, false, IsTrue, IfOk};
-ghost use Rattle.sqlite.specs.Held.{state};
+ghost use Rattle.sqlite.specs.Held.{state, IsNew};
 ghost use Rattle.sqlite.specs.State.{HasCleanDisk};
 ghost use Rattle.sqlite.specs.Files.{over_files};
 ghost use Rattle.edf_store.specs.Held.{at};
 
+use crate::waiting::{TRIES, is_held, pause};
 use edf_header::MOST_RECORDS;
 use edf_schema::is_ours;
 use edf_session::Session;
 use edf_store::{Store, StoreFault};
-use sqlite::{Alter, Connection, Error, ErrorCode, Unknown};
+use sqlite::{Alter, Connection, Error, ErrorCode, Leftover, Unknown};
 use sqlite_disk::{Disk, Tally};
 use sqlite_std_file::File;
 use sqlite_store::FileStore;
 use sqlite_trees::memory::MemStore;
 use std::alloc::Global;
-use std::fs;
 
 /// Why a store was not opened.
 #[derive(Clone, Copy, Drop)]
@@ -27,11 +27,13 @@ pub struct Refused {
     pub(crate) has_our_tables: bool,
 }
 
-/// Whether there is nothing at the path. Where the system does not answer, there may be something.
-pub(crate) fn is_missing(rt: &HostRuntime, path: &str) -> bool {
-    match fs::exists(rt, path) {
-        Ok(is_there) => !is_there,
-        Err(_) => false,
+impl Refused {
+    /// Whether another program has the store.
+    pub(crate) fn is_held(&self) -> bool {
+        match self.fault {
+            StoreFault::Store(Some(error)) => is_held(&error),
+            _ => false,
+        }
     }
 }
 
@@ -52,8 +54,26 @@ fn store_over<S: Alter + Drop>(alloc: Global, conn: Connection<S>) -> Result<Sto
     }
 }
 
+/// Opens the files at a path. Where another program has them, this is tried again for two seconds.
+/// Every other refusal comes at once.
+fn open_when_free(
+    rt: &HostRuntime,
+    path: &str,
+) -> Result<Connection<FileStore<File>>, (Error, Option<Leftover<File>>)>
+    ensures fresh { IfOk result IsNew }
+{
+    for _ in 0..TRIES {
+        match Connection::open_from(rt, path, true, Unknown) {
+            Err((error, None)) if is_held(&error) => pause(rt),
+            opened => return opened,
+        }
+    }
+    Connection::open_from(rt, path, true, Unknown)
+}
+
 /// The store of the file at a path, which is made where there is none. Each page of a new one ends
-/// in SQLite's page sum, and where a file has sums each is compared as it is opened.
+/// in SQLite's page sum, and where a file has sums each is compared as it is opened. A store that
+/// another program has is waited for, two seconds at most.
 ///
 /// A recording may have as many data records in it as a file may have (`cap`). The store is open,
 /// and in no transaction, where the disk gave back what was written (`opened`).
@@ -62,7 +82,7 @@ pub fn open_file(rt: &HostRuntime, path: &str) -> Result<Store<FileStore<File>>,
     ensures opened { IfOk result (λ store. HasCleanDisk (at over_files store) →
         IsTrue (at over_files store).is_open × ((at over_files store).in_transaction ≡ false)) }
 {
-    match Connection::open_from(rt, path, true, Unknown) {
+    match open_when_free(rt, path) {
         Ok(conn) => store_over(rt.alloc(), conn),
         Err((error, _)) => Err(Refused {
             fault: StoreFault::from(error),

@@ -14,20 +14,25 @@ ghost use Rattle.edf_command.specs.Command.{store_path};
 
 mod cause;
 mod disk;
+mod path;
+mod waiting;
 
 pub use cause::tell_cause;
 use cause::{Teller, tell_error};
 pub use disk::{Refused, close_file, open_file};
-use disk::{failure_of, is_missing, open_memory};
+use disk::{failure_of, open_memory};
 use edf_command::{Order, Status, read_command, refuse_store, run, store_path};
 use edf_fragment::Counted;
 use edf_header::MOST_RECORDS;
 use edf_session::{Session, run_path};
 use edf_store::Store;
 use edf_system::{Files, Streams, Terminal, refuse_words, words};
+use path::{AtPath, look_at};
 use sqlite::{Alter, Unknown};
 use sqlite_std_file::File;
+use std::cell::Cell;
 use std::process::ExitCode;
+use waiting::{Muted, TRIES, pause};
 
 /// The command that words ask for, or the status where there is none.
 fn command_of(rt: &HostRuntime, words: &[String]) -> Result<Order, Status> {
@@ -82,11 +87,6 @@ fn makes_store(command: &Order) -> bool {
     }
 }
 
-/// Whether SQLite reads the path as more than a file's name, and refuses it.
-fn is_address(path: &str) -> bool {
-    path.starts_with("file:")
-}
-
 /// Prints what failed of the disk in a run that is trouble, over a store that was opened.
 fn tell_failure(rt: &HostRuntime, terminal: &Terminal<'_>, path: &str, session: &Session<File>) {
     if session.status == Status::Trouble
@@ -97,9 +97,84 @@ fn tell_failure(rt: &HostRuntime, terminal: &Terminal<'_>, path: &str, session: 
     }
 }
 
-/// Runs a command over the file of the store that it names. Where there is no such file, `take`
-/// makes it, and the others find an empty store and leave none. For a person it prints which of
-/// these it was, and why a store is refused.
+/// Runs a command once over the file of the store that it names. Where there is no such file, `take`
+/// makes it, and the others find an empty store and leave none; for a person it prints which of
+/// these it was.
+///
+/// # Errors
+/// Why the store is refused, of which no line was printed.
+fn run_once(
+    rt: &HostRuntime,
+    terminal: &Terminal<'_>,
+    path: &str,
+    command: &Order,
+    inputs: &mut Files<'_>,
+    streams: &mut Streams<'_>,
+) -> Result<Status, Refused>
+    requires named { store_path (meaning command.now) ≡ Some path.now }
+{
+    let is_new = look_at(rt, path) == AtPath::Nothing;
+    if is_new && !makes_store(command) {
+        terminal.say(path, "no such file");
+        return Ok(run_in_memory(rt, command, inputs, streams));
+    }
+    let is_open = Cell::new(false);
+    let mut teller = Teller {
+        terminal,
+        path,
+        is_new,
+        is_open: &is_open,
+        refused: None,
+    };
+    let mut err = Muted {
+        stream: &mut streams.err,
+        is_open: &is_open,
+    };
+    let ended = run_path(
+        rt,
+        Unknown,
+        MOST_RECORDS,
+        command,
+        inputs,
+        &mut streams.out,
+        &mut err,
+        &mut teller,
+    );
+    if let Some(refused) = teller.refused {
+        return Err(refused);
+    }
+    match ended {
+        Ok(session) => {
+            tell_failure(rt, terminal, path, &session);
+            Ok(session.status)
+        }
+        Err((status, _)) => Ok(status),
+    }
+}
+
+/// The same, and where another program has the store, it is tried again for two seconds. Every other
+/// refusal comes at once.
+fn run_when_free(
+    rt: &HostRuntime,
+    terminal: &Terminal<'_>,
+    path: &str,
+    command: &Order,
+    inputs: &mut Files<'_>,
+    streams: &mut Streams<'_>,
+) -> Result<Status, Refused>
+    requires named { store_path (meaning command.now) ≡ Some path.now }
+{
+    for _ in 0..TRIES {
+        match run_once(rt, terminal, path, command, inputs, streams) {
+            Err(refused) if refused.is_held() => pause(rt),
+            ended => return ended,
+        }
+    }
+    run_once(rt, terminal, path, command, inputs, streams)
+}
+
+/// Runs a command over the file of the store that it names, or prints that the store is refused,
+/// and for a person why.
 fn run_on_file(
     rt: &HostRuntime,
     terminal: &Terminal<'_>,
@@ -110,35 +185,13 @@ fn run_on_file(
 ) -> Status
     requires named { store_path (meaning command.now) ≡ Some path.now }
 {
-    let is_new = is_missing(rt, path) && !is_address(path);
-    if is_new && !makes_store(command) {
-        terminal.say(path, "no such file");
-        return run_in_memory(rt, command, inputs, streams);
-    }
-    let mut teller = Teller {
-        rt,
-        terminal,
-        path,
-        is_new,
-        was_refused: false,
-    };
-    match run_path(
-        rt,
-        Unknown,
-        MOST_RECORDS,
-        command,
-        inputs,
-        &mut streams.out,
-        &mut streams.err,
-        &mut teller,
-    ) {
-        Ok(session) => {
-            if !teller.was_refused {
-                tell_failure(rt, terminal, path, &session);
-            }
-            session.status
+    match run_when_free(rt, terminal, path, command, inputs, streams) {
+        Ok(status) => status,
+        Err(refused) => {
+            let status = refuse_store(&refused.fault, &mut streams.err);
+            tell_cause(rt, terminal, path, &refused);
+            status
         }
-        Err((status, _)) => status,
     }
 }
 
