@@ -10,7 +10,7 @@ use crate::recording::Recording;
 use crate::rows::Folded;
 use crate::scale::Scale;
 use crate::ticks::write_ticks;
-use crate::times::{DAY, clock_label, date_label, instant_label, span_text};
+use crate::times::{DAY, clock_label, date_label, instant_label, span_text, times_text};
 use std::alloc::{AllocError, Global};
 
 /// Writes a row with data records, its bars and gaps, and the ticks above them, and answers what
@@ -70,16 +70,21 @@ fn write_narrow(
 }
 
 fn write_mark(svg: &mut String, alloc: Global, mark: &Mark, row: Extent) -> Result<(), AllocError> {
+    write_box(svg, mark, row)?;
     let title = mark_title(alloc, mark)?;
-    let (x, width) = mark.place(row);
-    let (class, y, height) = if mark.is_gap() {
-        ("g", 15, 14)
-    } else {
-        ("r", 16, 12)
-    };
-    write!(svg, "<rect class='{class}' x='{x}' y='{y}' ")?;
-    write!(svg, "width='{width}' height='{height}'>")?;
     write!(svg, "<title>{title}</title></rect>")
+}
+
+/// Writes the box of a mark, up to its title.
+fn write_box(svg: &mut String, mark: &Mark, row: Extent) -> Result<(), AllocError> {
+    let (x, width) = mark.place(row);
+    if mark.is_gap() {
+        write!(svg, "<rect class='g' x='{x}' y='15' ")?;
+        write!(svg, "width='{width}' height='14'>")
+    } else {
+        write!(svg, "<rect class='r' x='{x}' y='16' ")?;
+        write!(svg, "width='{width}' height='12'>")
+    }
 }
 
 /// Writes the gaps narrower than a pixel as thin marks above the bar.
@@ -100,18 +105,23 @@ fn write_thin(svg: &mut String, alloc: Global, marks: &Marks) -> Result<(), Allo
 
 /// What a mark stands for, and its exact times.
 fn mark_title(alloc: Global, mark: &Mark) -> Result<String, AllocError> {
-    let from = instant_label(alloc, mark.whole.from)?;
-    let to = instant_label(alloc, mark.whole.to)?;
+    let held = mark_text(alloc, mark)?;
+    let times = times_text(alloc, mark.whole)?;
+    format!(in alloc; "{held}, {times}")
+}
+
+/// What a mark stands for: `gap of 45 s`, `1 record` or `3 records in 2 runs`.
+fn mark_text(alloc: Global, mark: &Mark) -> Result<String, AllocError> {
     if mark.is_gap() {
         let span = span_text(alloc, mark.whole.length())?;
-        return format!(in alloc; "gap of {span}, {from} to {to}");
+        return format!(in alloc; "gap of {span}");
     }
     let records = counted(alloc, mark.records, "record")?;
     if mark.runs == 1 {
-        return format!(in alloc; "{records}, {from} to {to}");
+        return Ok(records);
     }
     let runs = counted(alloc, u64::from(mark.runs), "run")?;
-    format!(in alloc; "{records} in {runs}, {from} to {to}")
+    format!(in alloc; "{records} in {runs}")
 }
 
 /// Writes when lights went off or on as lines through the row.
@@ -122,14 +132,21 @@ fn write_lights(
     row: Extent,
 ) -> Result<(), AllocError> {
     for (at, light) in lights {
-        let (x, label) = (Pixels::at(*at, row), light.label());
-        let instant = instant_label(alloc, *at)?;
-        write!(
-            svg,
-            "<path class='o' d='M{x} 0V32'><title>{label}, {instant}</title></path>"
-        )?;
+        write_light(svg, alloc, Pixels::at(*at, row), *at, *light)?;
     }
     Ok(())
+}
+
+fn write_light(
+    svg: &mut String,
+    alloc: Global,
+    x: Pixels,
+    at: u64,
+    light: Light,
+) -> Result<(), AllocError> {
+    write!(svg, "<path class='o' d='M{x} 0V32'>")?;
+    let (label, instant) = (light.label(), instant_label(alloc, at)?);
+    write!(svg, "<title>{label}, {instant}</title></path>")
 }
 
 /// Writes the names of the lights, and the lengths of the gaps, below them, where they fit: of the
@@ -142,13 +159,7 @@ fn write_labels(
     row: Extent,
 ) -> Result<(), AllocError> {
     let mut found = Vec::new(alloc);
-    for mark in marks {
-        if mark.is_gap() {
-            let length = mark.whole.length();
-            let text = span_text(alloc, length)?;
-            found.push(Label::new(mark.middle(row), text, length))?;
-        }
-    }
+    push_gaps(&mut found, alloc, marks, row)?;
     push_lights(&mut found, alloc, lights, row)?;
     found.sort_by_key(|label| label.middle())?;
     let mut labels = Labels::new(alloc);
@@ -156,6 +167,22 @@ fn write_labels(
         labels.offer(label)?;
     }
     labels.write(svg, 41)
+}
+
+fn push_gaps(
+    found: &mut Vec<Label>,
+    alloc: Global,
+    marks: &[Mark],
+    row: Extent,
+) -> Result<(), AllocError> {
+    for mark in marks {
+        if mark.is_gap() {
+            let length = mark.whole.length();
+            let text = span_text(alloc, length)?;
+            found.push(Label::new(mark.middle(row), text, length))?;
+        }
+    }
+    Ok(())
 }
 
 fn push_lights(
@@ -197,10 +224,14 @@ pub(crate) fn write_folded_row(
     bins: &Bins,
     folded: Folded,
 ) -> Result<(), AllocError> {
-    let alloc = bins.alloc();
     let text = folded_text(bins, folded)?;
-    let from = instant_label(alloc, folded.gap.from)?;
-    let to = instant_label(alloc, folded.gap.to)?;
+    write_folded_text(svg, text.as_str())?;
+    let times = times_text(bins.alloc(), folded.gap)?;
+    write!(svg, "<title>gap, {times}</title></g>")
+}
+
+/// Writes the thin row with this text, up to its title.
+fn write_folded_text(svg: &mut String, text: &str) -> Result<(), AllocError> {
     let width = text_width(text.len(), FONT).plus(Pixels::whole(16));
     let middle = Pixels::whole(LEFT).plus(Pixels::whole(RIGHT)).half();
     let x = middle.minus(width.half());
@@ -213,8 +244,7 @@ pub(crate) fn write_folded_row(
         svg,
         "<rect class='w' x='{x}' y='4' width='{width}' height='16'/>"
     )?;
-    write!(svg, "<text class='m' x='{middle}' y='16'>{text}</text>")?;
-    write!(svg, "<title>gap, {from} to {to}</title></g>")
+    write!(svg, "<text class='m' x='{middle}' y='16'>{text}</text>")
 }
 
 /// `no data for 213 days`, and the annotations in it where there are some.

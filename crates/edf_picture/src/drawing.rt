@@ -93,28 +93,43 @@ impl Sketch {
     ) -> Result<String, AllocError>
         ensures { IfOk result (λ picture. IsPicture lines.now (string_bytes picture)) }
     {
+        let mut svg = String::new(alloc);
+        self.write(&mut svg, alloc, title, recorded)?;
+        with_metadata(alloc, svg.as_str(), lines)
+    }
+
+    /// Writes the picture without its metadata.
+    fn write(
+        &self,
+        svg: &mut String,
+        alloc: Global,
+        title: &Title<'_>,
+        recorded: &Recorded<'_>,
+    ) -> Result<(), AllocError> {
         let duration = recorded.duration;
         let joined = Joined::of(alloc, recorded.stretches, duration, recorded.tolerance)?;
         let recording = Recording::new(&joined.stretches, duration);
         let heading = Heading::new(alloc, title, &recording, &joined, self.counts(&recording))?;
         let mut drawn = Drawn::new(alloc);
-        self.draw_overview(alloc, &recording, &mut drawn)?;
-        self.draw_rows(alloc, &recording, &mut drawn)?;
+        self.draw_parts(alloc, &recording, recorded.signals, &mut drawn)?;
+        drawn.write_below(svg, alloc, &heading)
+    }
+
+    /// Draws what stands below the heading, part by part.
+    fn draw_parts(
+        &self,
+        alloc: Global,
+        recording: &Recording<'_>,
+        signals: &[Signal<'_>],
+        drawn: &mut Drawn,
+    ) -> Result<(), AllocError> {
+        self.draw_overview(alloc, recording, drawn)?;
+        self.draw_rows(alloc, recording, drawn)?;
         let table = Table {
-            signals: recorded.signals,
-            duration,
+            signals,
+            duration: recording.duration,
         };
-        drawn.draw_table(alloc, table)?;
-        let legend = Legend::of(alloc, drawn.shown)?;
-        let top = heading.height().saturating_add(legend.height());
-        let mut svg = String::new(alloc);
-        heading.write_start(&mut svg, top.saturating_add(drawn.foot).saturating_add(16))?;
-        heading.write(&mut svg)?;
-        legend.write(&mut svg, heading.height())?;
-        write!(svg, "<g transform='translate(0 {top})'>\n")?;
-        svg.push_str(drawn.svg.as_str())?;
-        svg.push_str("</g>\n")?;
-        with_metadata(alloc, svg.as_str(), lines)
+        drawn.draw_table(alloc, table)
     }
 
     fn counts(&self, recording: &Recording<'_>) -> Counts {
@@ -225,6 +240,28 @@ impl Drawn {
             foot: 0,
             shown: Shown::nothing(),
         }
+    }
+
+    /// Writes the heading, the legend, and what is drawn below them.
+    fn write_below(
+        &self,
+        svg: &mut String,
+        alloc: Global,
+        heading: &Heading,
+    ) -> Result<(), AllocError> {
+        let legend = Legend::of(alloc, self.shown)?;
+        let top = heading.height().saturating_add(legend.height());
+        heading.write_start(svg, top.saturating_add(self.foot).saturating_add(16))?;
+        heading.write(svg)?;
+        legend.write(svg, heading.height())?;
+        self.write(svg, top)
+    }
+
+    /// Writes it below so many pixels.
+    fn write(&self, svg: &mut String, top: u64) -> Result<(), AllocError> {
+        write!(svg, "<g transform='translate(0 {top})'>\n")?;
+        svg.push_str(self.svg.as_str())?;
+        svg.push_str("</g>\n")
     }
 
     /// Draws the table of signals, if there are some.

@@ -2,7 +2,7 @@ use crate::joining::Joined;
 use crate::numbers::{counted, thousands};
 use crate::pixels::LEFT;
 use crate::recording::Recording;
-use crate::times::instant_label;
+use crate::times::times_text;
 use edf_markup::escaped;
 use std::alloc::{AllocError, Global};
 
@@ -94,21 +94,26 @@ impl Heading {
 
     /// Writes what stands before anything that is drawn, from the attributes of the SVG on.
     pub(crate) fn write_start(&self, svg: &mut String, height: u64) -> Result<(), AllocError> {
-        let (name, time) = (self.name.as_str(), self.time.as_str());
-        let (summary, annotations) = (self.summary.as_str(), self.annotations.as_str());
         svg.push_str("xmlns='http://www.w3.org/2000/svg' role='img' ")?;
         svg.push_str("aria-labelledby='edf-title edf-desc' ")?;
         write!(
             svg,
             "width='1000' height='{height}' viewBox='0 0 1000 {height}'>"
         )?;
+        self.write_names(svg)?;
+        svg.push_str(STYLE)?;
+        write!(svg, "<rect class='w' width='1000' height='{height}'/>")
+    }
+
+    /// Writes the title and the description, which programs read out.
+    fn write_names(&self, svg: &mut String) -> Result<(), AllocError> {
+        let (name, time) = (self.name.as_str(), self.time.as_str());
+        let (summary, annotations) = (self.summary.as_str(), self.annotations.as_str());
         write!(svg, "<title id='edf-title'>{name}</title>")?;
         write!(
             svg,
             "<desc id='edf-desc'>{time}. {summary}. {annotations}.</desc>"
-        )?;
-        svg.push_str(STYLE)?;
-        write!(svg, "<rect class='w' width='1000' height='{height}'/>")
+        )
     }
 
     /// Writes the lines of the heading.
@@ -148,32 +153,44 @@ impl Title<'_> {
 
     fn lines(&self, alloc: Global) -> Result<Vec<String>, AllocError> {
         let mut lines = Vec::new(alloc);
+        self.push_lines(&mut lines, alloc)?;
+        Ok(lines)
+    }
+
+    fn push_lines(&self, lines: &mut Vec<String>, alloc: Global) -> Result<(), AllocError> {
         let length = self.patient.len().saturating_add(self.investigation.len());
         if length <= ONE_LINE {
             lines.push(self.line(alloc, SHOWN)?)?;
-            return Ok(lines);
+            return Ok(());
         }
-        let patient = escaped(alloc, self.patient, SHOWN)?;
-        let investigation = escaped(alloc, self.investigation, SHOWN)?;
-        lines.push(format!(in alloc; "Patient {patient}")?)?;
-        lines.push(format!(in alloc; "Investigation {investigation}")?)?;
-        Ok(lines)
+        lines.push(code_line(alloc, "Patient", self.patient)?)?;
+        lines.push(code_line(alloc, "Investigation", self.investigation)?)?;
+        Ok(())
     }
+}
+
+fn code_line(alloc: Global, name: &str, code: &[u8]) -> Result<String, AllocError> {
+    let code = escaped(alloc, code, SHOWN)?;
+    format!(in alloc; "{name} {code}")
 }
 
 fn time_line(alloc: Global, recording: &Recording<'_>) -> Result<String, AllocError> {
     if recording.stretches.is_empty() {
         return String::from_str(alloc, "no time");
     }
-    let from = instant_label(alloc, recording.all.from)?;
-    let to = instant_label(alloc, recording.all.to)?;
-    format!(in alloc; "{from} to {to}")
+    times_text(alloc, recording.all)
 }
 
 impl Counts {
     /// `2,963 annotations, 960 of them sleep stages; 3 outside the recording's time, not drawn`.
     fn line(self, alloc: Global) -> Result<String, AllocError> {
         let mut line = counted(alloc, self.all, "annotation")?;
+        self.push_parts(&mut line, alloc)?;
+        Ok(line)
+    }
+
+    /// Adds how many of them are stages, and how many are not drawn.
+    fn push_parts(self, line: &mut String, alloc: Global) -> Result<(), AllocError> {
         if self.stages > 0 {
             let stages = thousands(alloc, self.stages)?;
             write!(line, ", {stages} of them sleep stages")?;
@@ -185,6 +202,6 @@ impl Counts {
             let outside = thousands(alloc, self.outside)?;
             write!(line, "; {outside} outside the recording's time, not drawn")?;
         }
-        Ok(line)
+        Ok(())
     }
 }

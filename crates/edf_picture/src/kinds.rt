@@ -97,8 +97,7 @@ impl Kinds {
     /// Takes an annotation.
     pub(crate) fn add(&mut self, span: Extent, text: &str) -> Result<(), AllocError> {
         if self.is_first(text) {
-            let owned = String::from_str(self.alloc, text)?;
-            self.kinds.insert(owned, Kind::new(self.alloc))?;
+            self.begin(text)?;
         }
         match self.kinds.get_mut(text) {
             Some(kind) => kind.add(span, self.width)?,
@@ -108,6 +107,12 @@ impl Kinds {
         if self.held > SPANS {
             self.widen()?;
         }
+        Ok(())
+    }
+
+    fn begin(&mut self, text: &str) -> Result<(), AllocError> {
+        let owned = String::from_str(self.alloc, text)?;
+        self.kinds.insert(owned, Kind::new(self.alloc))?;
         Ok(())
     }
 

@@ -42,22 +42,9 @@ impl Lanes {
     /// The most frequent texts first; of those with one count the one that comes first by its
     /// bytes. The last lane is for all others.
     pub(crate) fn of(alloc: Global, kinds: &Kinds) -> Result<Lanes, AllocError> {
-        let mut ranked = Vec::new(alloc);
-        for (text, kind) in kinds.kinds() {
-            ranked.push(Ranked {
-                text: text.as_str(),
-                kind,
-            })?;
-        }
-        ranked.sort_by_key(|one| u64::MAX.saturating_sub(one.kind.count()))?;
+        let ranked = rank(alloc, kinds)?;
         let mut lanes = Vec::new(alloc);
-        for one in ranked.iter().take(LANES) {
-            lanes.push(one.lane(alloc)?)?;
-        }
-        let (_, rest) = ranked.split_at(LANES.min(ranked.len()));
-        if !rest.is_empty() || kinds.untold().count() > 0 {
-            lanes.push(others(alloc, rest, kinds.untold())?)?;
-        }
+        push_lanes(&mut lanes, alloc, &ranked, kinds.untold())?;
         Ok(Lanes { lanes })
     }
 
@@ -87,6 +74,35 @@ impl Lanes {
     }
 }
 
+/// All texts, in the order of their lanes.
+fn rank(alloc: Global, kinds: &Kinds) -> Result<Vec<Ranked<'_>>, AllocError> {
+    let mut ranked = Vec::new(alloc);
+    for (text, kind) in kinds.kinds() {
+        ranked.push(Ranked {
+            text: text.as_str(),
+            kind,
+        })?;
+    }
+    ranked.sort_by_key(|one| u64::MAX.saturating_sub(one.kind.count()))?;
+    Ok(ranked)
+}
+
+fn push_lanes(
+    lanes: &mut Vec<Lane>,
+    alloc: Global,
+    ranked: &[Ranked<'_>],
+    untold: &Kind,
+) -> Result<(), AllocError> {
+    for one in ranked.iter().take(LANES) {
+        lanes.push(one.lane(alloc)?)?;
+    }
+    let (_, rest) = ranked.split_at(LANES.min(ranked.len()));
+    if !rest.is_empty() || untold.count() > 0 {
+        lanes.push(others(alloc, rest, untold)?)?;
+    }
+    Ok(())
+}
+
 impl Ranked<'_> {
     fn lane(self, alloc: Global) -> Result<Lane, AllocError> {
         let mut spans = Vec::new(alloc);
@@ -111,30 +127,43 @@ fn push_spans(spans: &mut Vec<Extent>, kind: &Kind) -> Result<(), AllocError> {
     Ok(())
 }
 
-/// The lane of all that have none of their own: `others, of 4 texts`.
+/// The lane of all that have none of their own.
 fn others(alloc: Global, rest: &[Ranked<'_>], untold: &Kind) -> Result<Lane, AllocError> {
     let mut count = untold.count();
-    let mut spans = Vec::new(alloc);
-    push_spans(&mut spans, untold)?;
     for one in rest {
         count = count.saturating_add(one.kind.count());
-        push_spans(&mut spans, one.kind)?;
     }
-    spans.sort_by_key(|span| span.from)?;
-    let texts = u64::try_from(rest.len()).unwrap_or(u64::MAX);
-    let number = thousands(alloc, texts)?;
-    let label = if untold.count() > 0 {
-        format!(in alloc; "others, of more than {number} texts")?
-    } else if texts == 1 {
-        String::from_str(alloc, "others, of 1 text")?
-    } else {
-        format!(in alloc; "others, of {number} texts")?
-    };
+    let mut spans = Vec::new(alloc);
+    push_others(&mut spans, rest, untold)?;
     Ok(Lane {
-        label,
+        label: others_text(alloc, rest.len(), untold.count() > 0)?,
         count,
         spans,
     })
+}
+
+fn push_others(
+    spans: &mut Vec<Extent>,
+    rest: &[Ranked<'_>],
+    untold: &Kind,
+) -> Result<(), AllocError> {
+    push_spans(spans, untold)?;
+    for one in rest {
+        push_spans(spans, one.kind)?;
+    }
+    spans.sort_by_key(|span| span.from)
+}
+
+/// `others, of 4 texts`; `of more than 4 texts` where some are not told apart.
+fn others_text(alloc: Global, texts: usize, are_more: bool) -> Result<String, AllocError> {
+    let number = thousands(alloc, u64::try_from(texts).unwrap_or(u64::MAX))?;
+    if are_more {
+        format!(in alloc; "others, of more than {number} texts")
+    } else if texts == 1 {
+        String::from_str(alloc, "others, of 1 text")
+    } else {
+        format!(in alloc; "others, of {number} texts")
+    }
 }
 
 impl Lane {
@@ -146,17 +175,25 @@ impl Lane {
         recording: &Recording<'_>,
         top: u64,
     ) -> Result<(), AllocError> {
-        let (label, rate) = (
-            self.label.as_str(),
-            rate_text(alloc, self.count, recording)?,
-        );
         let (y, middle) = (top.saturating_add(13), top.saturating_add(23));
         write!(svg, "<path class='l' d='M{LEFT} {middle}H{RIGHT}'/>")?;
-        write!(svg, "<text class='v' x='{LEFT}' y='{y}'>{label}</text>")?;
-        write!(svg, "<text class='v e' x='{RIGHT}' y='{y}'>{rate}</text>")?;
+        self.write_texts(svg, alloc, recording, y)?;
         svg.push_str("<path class='x' d='")?;
         write_bars(svg, &self.spans, recording, middle)?;
         svg.push_str("'/>")
+    }
+
+    fn write_texts(
+        &self,
+        svg: &mut String,
+        alloc: Global,
+        recording: &Recording<'_>,
+        y: u64,
+    ) -> Result<(), AllocError> {
+        let label = self.label.as_str();
+        write!(svg, "<text class='v' x='{LEFT}' y='{y}'>{label}</text>")?;
+        let rate = rate_text(alloc, self.count, recording)?;
+        write!(svg, "<text class='v e' x='{RIGHT}' y='{y}'>{rate}</text>")
     }
 }
 

@@ -15,9 +15,9 @@ pub(crate) enum Light {
 
 impl Light {
     fn named(text: &str) -> Option<Light> {
-        match text.as_bytes() {
-            b"Lights off" => Some(Light::Off),
-            b"Lights on" => Some(Light::On),
+        match text {
+            "Lights off" => Some(Light::Off),
+            "Lights on" => Some(Light::On),
             _ => None,
         }
     }

@@ -97,17 +97,34 @@ impl<'a> Recording<'a> {
         if self.stretches.is_empty() {
             return String::from_str(alloc, "no data record");
         }
+        let recorded = self.recorded_text(alloc)?;
+        let missing = self.missing_text(alloc)?;
+        format!(in alloc; "{recorded}, {missing}")
+    }
+
+    /// `28,755 records of 1 s, 2 runs`.
+    fn recorded_text(&self, alloc: Global) -> Result<String, AllocError> {
         let records = counted(alloc, self.records(), "record")?;
         let each = seconds_text(alloc, self.duration)?;
         let runs = counted(alloc, self.runs(), "run")?;
+        format!(in alloc; "{records} of {each}, {runs}")
+    }
+
+    /// `no gap, 100 % of 8 h 00 min`, or the share and what is missing.
+    fn missing_text(&self, alloc: Global) -> Result<String, AllocError> {
+        let share = self.share_text(alloc)?;
         let missing = self.missing();
-        let gaps = counted(alloc, missing.gaps, "gap")?;
-        let share = percent(alloc, self.recorded(), self.all.length())?;
-        let span = span_text(alloc, self.all.length())?;
         if missing.gaps == 0 {
-            return format!(in alloc; "{records} of {each}, {runs}, {gaps}, {share} of {span}");
+            return format!(in alloc; "no gap, {share}");
         }
         let missing = missing.text(alloc)?;
-        format!(in alloc; "{records} of {each}, {runs}, {share} of {span}; missing {missing}")
+        format!(in alloc; "{share}; missing {missing}")
+    }
+
+    /// `99.8 % of 8 h 00 min`.
+    fn share_text(&self, alloc: Global) -> Result<String, AllocError> {
+        let share = percent(alloc, self.recorded(), self.all.length())?;
+        let span = span_text(alloc, self.all.length())?;
+        format!(in alloc; "{share} of {span}")
     }
 }

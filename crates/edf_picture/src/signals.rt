@@ -54,25 +54,40 @@ impl Table<'_> {
 
     /// Writes it: labels, rates and dimensions, and how many are not shown.
     pub(crate) fn write(self, svg: &mut String, alloc: Global) -> Result<(), AllocError> {
-        let all = u64::try_from(self.signals.len()).unwrap_or(u64::MAX);
-        let count = counted(alloc, all, "ordinary signal")?;
-        write!(svg, "<text class='f' x='{LEFT}' y='14'>{count}</text>")?;
+        self.write_count(svg, alloc)?;
         for (place, signal) in self.signals.iter().take(SHOWN).enumerate() {
-            let column = place.checked_div(self.lines()).unwrap_or(0);
-            let line = place.checked_rem(self.lines()).unwrap_or(0);
-            let x = u64::try_from(column).unwrap_or(0);
-            let y = u64::try_from(line).unwrap_or(0);
-            let x = x.saturating_mul(ACROSS).saturating_add(LEFT);
-            let y = y.saturating_mul(LINE).saturating_add(TOP);
+            let (x, y) = self.place_of(place);
             signal.write(svg, alloc, self.duration, x, y)?;
         }
         if self.signals.len() > SHOWN {
-            let more = u64::try_from(self.signals.len().saturating_sub(SHOWN)).unwrap_or(0);
-            let more = thousands(alloc, more)?;
-            let y = self.height().saturating_sub(LINE);
-            write!(svg, "<text x='{LEFT}' y='{y}'>and {more} more</text>")?;
+            self.write_more(svg, alloc)?;
         }
         Ok(())
+    }
+
+    /// Writes how many signals there are.
+    fn write_count(self, svg: &mut String, alloc: Global) -> Result<(), AllocError> {
+        let all = u64::try_from(self.signals.len()).unwrap_or(u64::MAX);
+        let count = counted(alloc, all, "ordinary signal")?;
+        write!(svg, "<text class='f' x='{LEFT}' y='14'>{count}</text>")
+    }
+
+    /// Where the signal at this place of the header stands, column by column.
+    fn place_of(self, place: usize) -> (u64, u64) {
+        let column = place.checked_div(self.lines()).unwrap_or(0);
+        let line = place.checked_rem(self.lines()).unwrap_or(0);
+        let x = u64::try_from(column).unwrap_or(0);
+        let y = u64::try_from(line).unwrap_or(0);
+        let x = x.saturating_mul(ACROSS).saturating_add(LEFT);
+        (x, y.saturating_mul(LINE).saturating_add(TOP))
+    }
+
+    /// Writes how many signals are not shown.
+    fn write_more(self, svg: &mut String, alloc: Global) -> Result<(), AllocError> {
+        let more = u64::try_from(self.signals.len().saturating_sub(SHOWN)).unwrap_or(0);
+        let more = thousands(alloc, more)?;
+        let y = self.height().saturating_sub(LINE);
+        write!(svg, "<text x='{LEFT}' y='{y}'>and {more} more</text>")
     }
 }
 
@@ -85,14 +100,25 @@ impl Signal<'_> {
         x: u64,
         y: u64,
     ) -> Result<(), AllocError> {
-        let label = escaped(alloc, trimmed(self.label), 16)?;
-        let dimension = escaped(alloc, trimmed(self.dimension), 8)?;
-        let rate = rate_text(alloc, self.samples, duration)?;
         let (end, after) = (x.saturating_add(206), x.saturating_add(214));
-        write!(svg, "<text x='{x}' y='{y}'>{label}</text>")?;
+        write_text(svg, alloc, x, y, self.label, 16)?;
+        let rate = rate_text(alloc, self.samples, duration)?;
         write!(svg, "<text class='e' x='{end}' y='{y}'>{rate}</text>")?;
-        write!(svg, "<text x='{after}' y='{y}'>{dimension}</text>")
+        write_text(svg, alloc, after, y, self.dimension, 8)
     }
+}
+
+/// Writes at most so many characters of a field.
+fn write_text(
+    svg: &mut String,
+    alloc: Global,
+    x: u64,
+    y: u64,
+    field: &[u8],
+    limit: usize,
+) -> Result<(), AllocError> {
+    let text = escaped(alloc, trimmed(field), limit)?;
+    write!(svg, "<text x='{x}' y='{y}'>{text}</text>")
 }
 
 /// The field without the spaces at its end.
@@ -119,7 +145,11 @@ fn rate_text(alloc: Global, samples: u32, duration: u64) -> Result<String, Alloc
         return String::from_str(alloc, "under 0.001 Hz");
     }
     let whole = thousands(alloc, thousandths / 1_000)?;
-    let part = thousandths % 1_000;
+    hertz_text(alloc, whole.as_str(), thousandths % 1_000)
+}
+
+/// A rate of whole hertz and thousandths, with no more decimals than it has.
+fn hertz_text(alloc: Global, whole: &str, part: u64) -> Result<String, AllocError> {
     if part == 0 {
         return format!(in alloc; "{whole} Hz");
     }

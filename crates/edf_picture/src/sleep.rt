@@ -70,14 +70,28 @@ impl Slept {
         alloc: Global,
         hypnogram: Hypnogram,
     ) -> Result<String, AllocError> {
+        let mut line = String::from_str(alloc, "Minutes:")?;
+        self.push_stages(&mut line, alloc, hypnogram)?;
+        Ok(line)
+    }
+
+    /// Adds each stage, by its name.
+    fn push_stages(
+        self,
+        line: &mut String,
+        alloc: Global,
+        hypnogram: Hypnogram,
+    ) -> Result<(), AllocError> {
         let [wake, rem, one, two, three] = hypnogram.names();
-        let (wakeful, dreaming) = (minutes(alloc, self.wake)?, minutes(alloc, self.rem)?);
-        let (first, second) = (minutes(alloc, self.one)?, minutes(alloc, self.two)?);
-        let third = minutes(alloc, self.three)?;
-        format!(in alloc;
-            "Minutes: {wake} {wakeful}, {rem} {dreaming}, {one} {first}, {two} {second}, \
-                {three} {third}"
-        )
+        push_stage(line, alloc, wake, self.wake)?;
+        line.push(',')?;
+        push_stage(line, alloc, rem, self.rem)?;
+        line.push(',')?;
+        push_stage(line, alloc, one, self.one)?;
+        line.push(',')?;
+        push_stage(line, alloc, two, self.two)?;
+        line.push(',')?;
+        push_stage(line, alloc, three, self.three)
     }
 
     /// `Total sleep time 397.5 min; sleep efficiency 86.4 % of the 460.0 min from lights off to
@@ -88,20 +102,29 @@ impl Slept {
         if self.bed == 0 {
             return format!(in alloc; "Total sleep time {sleep} min");
         }
+        let efficiency = self.efficiency_text(alloc)?;
+        format!(in alloc; "Total sleep time {sleep} min; {efficiency}")
+    }
+
+    fn efficiency_text(self, alloc: Global) -> Result<String, AllocError> {
         let time = minutes(alloc, self.bed)?;
         if self.missing >= MINUTE {
             let missing = minutes(alloc, self.missing)?;
             return format!(in alloc;
-                "Total sleep time {sleep} min; no sleep efficiency: {missing} of the {time} min \
+                "no sleep efficiency: {missing} of the {time} min \
                     from lights off to lights on are missing"
             );
         }
         let efficiency = percent(alloc, self.in_bed, self.bed)?;
         format!(in alloc;
-            "Total sleep time {sleep} min; sleep efficiency {efficiency} of the {time} min \
-                from lights off to lights on"
+            "sleep efficiency {efficiency} of the {time} min from lights off to lights on"
         )
     }
+}
+
+fn push_stage(line: &mut String, alloc: Global, name: &str, nanos: u64) -> Result<(), AllocError> {
+    let time = minutes(alloc, nanos)?;
+    write!(line, " {name} {time}")
 }
 
 /// Minutes with one decimal, cut.

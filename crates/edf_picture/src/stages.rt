@@ -24,16 +24,16 @@ impl Stage {
 
 /// The stage that a text names, and whether by a name with an N (EDF+, standard texts).
 fn named_stage(text: &str) -> Option<(Stage, bool)> {
-    match text.as_bytes() {
-        b"Sleep stage W" => Some((Stage::Wake, false)),
-        b"Sleep stage R" | b"Sleep stage REM" => Some((Stage::Rem, false)),
-        b"Sleep stage 1" => Some((Stage::One, false)),
-        b"Sleep stage 2" => Some((Stage::Two, false)),
-        b"Sleep stage 3" | b"Sleep stage 4" => Some((Stage::Three, false)),
-        b"Sleep stage N1" => Some((Stage::One, true)),
-        b"Sleep stage N2" => Some((Stage::Two, true)),
-        b"Sleep stage N3" => Some((Stage::Three, true)),
-        b"Sleep stage ?" | b"Sleep stage M" => Some((Stage::Untold, false)),
+    match text {
+        "Sleep stage W" => Some((Stage::Wake, false)),
+        "Sleep stage R" | "Sleep stage REM" => Some((Stage::Rem, false)),
+        "Sleep stage 1" => Some((Stage::One, false)),
+        "Sleep stage 2" => Some((Stage::Two, false)),
+        "Sleep stage 3" | "Sleep stage 4" => Some((Stage::Three, false)),
+        "Sleep stage N1" => Some((Stage::One, true)),
+        "Sleep stage N2" => Some((Stage::Two, true)),
+        "Sleep stage N3" => Some((Stage::Three, true)),
+        "Sleep stage ?" | "Sleep stage M" => Some((Stage::Untold, false)),
         _ => None,
     }
 }

@@ -1,3 +1,4 @@
+use crate::extent::Extent;
 use crate::numbers::thousands;
 use edf_time::{Instant, instant_text, write_seconds};
 use std::alloc::{AllocError, Global};
@@ -17,15 +18,24 @@ pub(crate) fn span_text(alloc: Global, nanos: u64) -> Result<String, AllocError>
     if nanos < MINUTE {
         return seconds_text(alloc, nanos);
     }
-    if nanos < HOUR {
-        let (minutes, seconds) = (nanos / MINUTE, nanos / SECOND % 60);
-        return format!(in alloc; "{minutes} min {seconds:02} s");
-    }
     if nanos < 2 * DAY {
-        let (hours, minutes) = (nanos / HOUR, nanos / MINUTE % 60);
-        return format!(in alloc; "{hours} h {minutes:02} min");
+        return hours_text(
+            alloc,
+            nanos / HOUR,
+            nanos / MINUTE % 60,
+            nanos / SECOND % 60,
+        );
     }
     days_text(alloc, nanos / DAY, nanos / HOUR % 24)
+}
+
+/// A minute or more, but less than two days.
+fn hours_text(alloc: Global, hours: u64, minutes: u64, seconds: u64) -> Result<String, AllocError> {
+    if hours == 0 {
+        format!(in alloc; "{minutes} min {seconds:02} s")
+    } else {
+        format!(in alloc; "{hours} h {minutes:02} min")
+    }
 }
 
 /// A decimal of seconds: `0.25 s`.
@@ -52,6 +62,13 @@ fn days_text(alloc: Global, days: u64, hours: u64) -> Result<String, AllocError>
 /// An instant as a person reads it: `2002-03-02 22:00:00`, and its fraction where it has one.
 pub(crate) fn instant_label(alloc: Global, nanos: u64) -> Result<String, AllocError> {
     instant_part(alloc, nanos, 0, 30)
+}
+
+/// Two instants: `2002-03-02 22:00:00 to 2002-03-03 06:00:00`.
+pub(crate) fn times_text(alloc: Global, times: Extent) -> Result<String, AllocError> {
+    let from = instant_label(alloc, times.from)?;
+    let to = instant_label(alloc, times.to)?;
+    format!(in alloc; "{from} to {to}")
 }
 
 /// Its day: `2002-03-02`.

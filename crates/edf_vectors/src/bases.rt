@@ -24,12 +24,17 @@ fn signal(letter: u8) -> Option<Signal<'static>> {
     }
 }
 
-/// The header of Q with the signals of these letters instead of its own.
-fn header_of(alloc: Global, letters: &[u8]) -> Option<Vec<u8>> {
+/// The signals of these letters.
+fn signals_of(alloc: Global, letters: &[u8]) -> Option<Vec<Signal<'static>>> {
     let mut signals = Vec::new(alloc);
     for letter in letters {
         signals.push(signal(*letter)?).ok()?;
     }
+    Some(signals)
+}
+
+/// The header of Q with these signals instead of its own.
+fn header_with(alloc: Global, signals: &[Signal<'_>]) -> Option<Vec<u8>> {
     let count = signals.len();
     let bytes = count.saturating_mul(256).saturating_add(256);
     let count = format!(in alloc; "{count}").ok()?;
@@ -37,7 +42,7 @@ fn header_of(alloc: Global, letters: &[u8]) -> Option<Vec<u8>> {
     let header = q()
         .signals(count.as_str())
         .header_bytes(bytes.as_str())
-        .listed(signals.as_slice());
+        .listed(signals);
     file(alloc, &header, &[]).ok()
 }
 
@@ -54,7 +59,7 @@ fn named(alloc: Global, name: &[u8]) -> Option<Vec<u8>> {
         b"K" => file_k(alloc).ok(),
         b"U" => file_u(alloc).ok(),
         b"V" => file_v(alloc).ok(),
-        letters => header_of(alloc, letters),
+        letters => header_with(alloc, signals_of(alloc, letters)?.as_slice()),
     }
 }
 
@@ -78,50 +83,48 @@ fn shape_of(name: &[u8]) -> Shape {
     }
 }
 
-/// Where a field of the fixed part of a header is, and its width.
-fn fixed_field(name: &[u8]) -> Option<(usize, usize)> {
-    match name {
-        b"version" => Some((0, 8)),
-        b"patient" => Some((8, 80)),
-        b"recording" => Some((88, 80)),
-        b"startdate" => Some((168, 8)),
-        b"starttime" => Some((176, 8)),
-        b"header bytes" => Some((184, 8)),
-        b"reserved" => Some((192, 44)),
-        b"count" => Some((236, 8)),
-        b"duration" => Some((244, 8)),
-        b"signals" => Some((252, 4)),
-        _ => None,
-    }
-}
+/// The fields of the fixed part of a header, one after the other, each with its width.
+const FIXED: &[(&str, usize)] = &[
+    ("version", 8),
+    ("patient", 80),
+    ("recording", 80),
+    ("startdate", 8),
+    ("starttime", 8),
+    ("header bytes", 8),
+    ("reserved", 44),
+    ("count", 8),
+    ("duration", 8),
+    ("signals", 4),
+];
 
-/// The same of an identity: `dated` is `D`, or `X` where there is no date; `rest` is what comes
-/// after the startdate.
-fn identity_field(name: &[u8]) -> Option<(usize, usize)> {
-    match name {
-        b"patient" => Some((0, 80)),
-        b"dated" => Some((80, 1)),
-        b"rest" => Some((81, 69)),
-        b"duration" => Some((150, 8)),
-        _ => None,
-    }
-}
+/// Those of an identity: `dated` is `D`, or `X` where there is no date; `rest` is what comes after
+/// the startdate.
+const IDENTITY: &[(&str, usize)] = &[("patient", 80), ("dated", 1), ("rest", 69), ("duration", 8)];
 
-/// Where a field of a signal is in its row, and its width.
-fn signal_field(name: &[u8]) -> Option<(usize, usize)> {
-    match name {
-        b"label" => Some((0, 16)),
-        b"transducer" => Some((16, 80)),
-        b"dimension" => Some((96, 8)),
-        b"physical minimum" => Some((104, 8)),
-        b"physical maximum" => Some((112, 8)),
-        b"digital minimum" => Some((120, 8)),
-        b"digital maximum" => Some((128, 8)),
-        b"prefiltering" => Some((136, 80)),
-        b"samples" => Some((216, 8)),
-        b"reserved" => Some((224, 32)),
-        _ => None,
+/// Those of a signal.
+const SIGNAL: &[(&str, usize)] = &[
+    ("label", 16),
+    ("transducer", 80),
+    ("dimension", 8),
+    ("physical minimum", 8),
+    ("physical maximum", 8),
+    ("digital minimum", 8),
+    ("digital maximum", 8),
+    ("prefiltering", 80),
+    ("samples", 8),
+    ("reserved", 32),
+];
+
+/// Where the field of this name is, and its width.
+fn field_in(fields: &[(&str, usize)], name: &[u8]) -> Option<(usize, usize)> {
+    let mut at = 0usize;
+    for (field, width) in fields {
+        if field.as_bytes() == name {
+            return Some((at, *width));
+        }
+        at = at.wrapping_add(*width);
     }
+    None
 }
 
 /// Where a field is, and its width, which is 0 for an offset.
@@ -129,14 +132,14 @@ fn field(name: &[u8], shape: Shape) -> Option<(usize, usize)> {
     match name {
         [b'0'..=b'9', ..] => Some((size(name), 0)),
         [name @ .., b' ', nth @ b'1'..=b'9'] => {
-            let (at, width) = signal_field(name)?;
+            let (at, width) = field_in(SIGNAL, name)?;
             let before = at.wrapping_mul(shape.signals);
             let earlier = width.wrapping_mul(usize::from(nth.wrapping_sub(b'1')));
             let at = shape.signals_at.wrapping_add(before).wrapping_add(earlier);
             Some((at, width))
         }
-        _ if shape.signals_at == 158 => identity_field(name),
-        _ => fixed_field(name),
+        _ if shape.signals_at == 158 => field_in(IDENTITY, name),
+        _ => field_in(FIXED, name),
     }
 }
 
@@ -169,12 +172,16 @@ fn change(bytes: &mut Vec<u8>, shape: Shape, change: &[u8]) -> Option<()> {
 /// The bytes that the first cell names, with the changes of the others.
 pub(crate) fn changed(alloc: Global, cells: &[Vec<u8>]) -> Option<Vec<u8>> {
     let (name, changes) = cells.split_first()?;
-    let shape = shape_of(name);
     let mut bytes = named(alloc, name)?;
-    for text in changes {
-        change(&mut bytes, shape, text)?;
-    }
+    change_each(&mut bytes, shape_of(name), changes)?;
     Some(bytes)
+}
+
+fn change_each(bytes: &mut Vec<u8>, shape: Shape, changes: &[Vec<u8>]) -> Option<()> {
+    for text in changes {
+        change(bytes, shape, text)?;
+    }
+    Some(())
 }
 
 /// The number in the first cell, and the bytes that the others name.

@@ -20,8 +20,7 @@ pub(crate) fn list(
     let mut text = String::new(alloc);
     for note in notes {
         let onset = note.onset().since(file_start);
-        let shown = format!(in alloc; "|{onset} {:?} {}", note.duration(), note.text())?;
-        text.push_str(shown.as_str())?;
+        write!(text, "|{onset} {:?} {}", note.duration(), note.text())?;
     }
     Ok(text)
 }
@@ -147,15 +146,22 @@ pub(crate) fn annotation(alloc: Global, cells: &[Vec<u8>]) -> Option<String> {
     let [duration, text] = cells else {
         return None;
     };
-    let duration = match duration.as_slice() {
-        b"none" => None,
-        digits => Some(number(digits)),
-    };
     let copy = Vec::from_slice(alloc, text).ok()?;
     let text = String::from_utf8(copy).ok()?;
-    let Some(note) = Note::new(Instant::at(EVENING)?, duration, text) else {
-        return String::from_str(alloc, "none").ok();
-    };
+    match Note::new(Instant::at(EVENING)?, duration_in(duration), text) {
+        Some(note) => note_text(alloc, &note),
+        None => String::from_str(alloc, "none").ok(),
+    }
+}
+
+fn duration_in(cell: &[u8]) -> Option<u64> {
+    match cell {
+        b"none" => None,
+        digits => Some(number(digits)),
+    }
+}
+
+fn note_text(alloc: Global, note: &Note) -> Option<String> {
     let text = quoted(alloc, note.text().as_bytes()).ok()?;
     format!(in alloc; "{} {:?} {text}", note.onset().nanos(), note.duration()).ok()
 }

@@ -31,13 +31,18 @@ fn push_repeated(alloc: Global, bytes: &mut Vec<u8>, text: &str) -> Result<(), A
     let mut unit = Vec::new(alloc);
     push_bytes(&mut unit, parts.next().unwrap_or(""))?;
     for count in parts {
-        let mut all = Vec::new(alloc);
-        for _ in 0..number(count.as_bytes()) {
-            all.extend_from_slice(&unit)?;
-        }
-        unit = all;
+        unit = repeated(alloc, &unit, number(count.as_bytes()))?;
     }
     bytes.extend_from_slice(&unit)
+}
+
+/// Bytes, so many times.
+fn repeated(alloc: Global, unit: &[u8], count: u64) -> Result<Vec<u8>, AllocError> {
+    let mut all = Vec::new(alloc);
+    for _ in 0..count {
+        all.extend_from_slice(unit)?;
+    }
+    Ok(all)
 }
 
 /// The bytes of a cell, in which `{3*ab}` stands for three times `ab`, `{2*3*ab}` for twice that.
@@ -100,10 +105,7 @@ pub(crate) fn quoted(alloc: Global, bytes: &[u8]) -> Result<String, AllocError> 
     for byte in bytes {
         match *byte {
             32..=126 => text.push(char::from(*byte))?,
-            other => {
-                let spelled = format!(in alloc; "\\{other:02x}")?;
-                text.push_str(spelled.as_str())?;
-            }
+            other => write!(text, "\\{other:02x}")?,
         }
     }
     text.push('"')?;
@@ -118,6 +120,11 @@ pub(crate) fn fault_text<F: Debug>(alloc: Global, number: u8, fault: &F) -> Opti
 /// The fields of these widths, one after the other, without the spaces that fill them.
 pub(crate) fn fields(alloc: Global, bytes: &[u8], widths: &[usize]) -> Option<String> {
     let mut text = String::new(alloc);
+    push_fields(&mut text, bytes, widths)?;
+    Some(text)
+}
+
+fn push_fields(text: &mut String, bytes: &[u8], widths: &[usize]) -> Option<()> {
     let mut rest = bytes;
     for width in widths {
         let (field, after) = rest.split_at_checked(*width)?;
@@ -125,5 +132,5 @@ pub(crate) fn fields(alloc: Global, bytes: &[u8], widths: &[usize]) -> Option<St
         text.push_str(str::from_utf8(field).ok()?.trim_end()).ok()?;
         text.push('|').ok()?;
     }
-    Some(text)
+    Some(())
 }

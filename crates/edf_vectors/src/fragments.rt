@@ -31,11 +31,21 @@ fn records_text(
     let nanos = start.nanos();
     let len = records.len();
     let mut text = format!(in alloc; "start {nanos} count {count:?} records {len}").ok()?;
+    push_records(&mut text, alloc, start, records)?;
+    Some(text)
+}
+
+fn push_records(
+    text: &mut String,
+    alloc: Global,
+    start: Instant,
+    records: &[Record],
+) -> Option<()> {
     for record in records {
         let one = record_text(alloc, record, start)?;
         text.push_str(one.as_str()).ok()?;
     }
-    Some(text)
+    Some(())
 }
 
 /// The data records of a fragment.
@@ -67,11 +77,20 @@ fn read_on<R: Input>(reader: &mut FragmentReader<'_, R>, records: &mut Vec<Recor
 pub(crate) fn pieces(alloc: Global, cells: &[Vec<u8>]) -> Option<String> {
     let (step, bytes) = counted(alloc, cells)?;
     let mut input = Counted::new(Source::whole(&bytes, usize::try_from(step).ok()?));
-    let mut fragment = OpenFragment::read(alloc, &mut input).ok()?;
+    let fragment = OpenFragment::read(alloc, &mut input).ok()?;
+    read_pieces(alloc, &mut input, fragment)
+}
+
+/// Reads an open fragment to its end.
+fn read_pieces<R: Input>(
+    alloc: Global,
+    input: &mut R,
+    mut fragment: OpenFragment,
+) -> Option<String> {
     let start = fragment.header().start();
     let mut records = Vec::new(alloc);
-    records.push(fragment.next(&mut input).ok()??).ok()?;
-    let mut reader = FragmentReader::of(&mut input, fragment);
+    records.push(fragment.next(input).ok()??).ok()?;
+    let mut reader = FragmentReader::of(input, fragment);
     read_on(&mut reader, &mut records)?;
     if reader.header().start() != start {
         return None;
@@ -81,14 +100,17 @@ pub(crate) fn pieces(alloc: Global, cells: &[Vec<u8>]) -> Option<String> {
 
 /// Annotations at Q's start, with this text.
 fn notes(alloc: Global, count: usize, text: &[u8]) -> Option<Vec<Note>> {
-    let start = Instant::at(EVENING)?;
     let text = str::from_utf8(text).ok()?;
     let mut list = Vec::new(alloc);
     for _ in 0..count {
-        let text = String::from_str(alloc, text).ok()?;
-        list.push(Note::new(start, None, text)?).ok()?;
+        list.push(note(alloc, text)?).ok()?;
     }
     Some(list)
+}
+
+fn note(alloc: Global, text: &str) -> Option<Note> {
+    let text = String::from_str(alloc, text).ok()?;
+    Note::new(Instant::at(EVENING)?, None, text)
 }
 
 /// How many annotations a data record has that is made of these samples and of so many annotations
@@ -120,8 +142,12 @@ pub(crate) fn clashes(alloc: Global, cells: &[Vec<u8>]) -> Option<String> {
     let start = Instant::at(EVENING)?;
     let first = one(alloc, start, b"\x01\0", b"Turn")?;
     let second = one(alloc, start.after(signed(later))?, samples, text)?;
-    let same = first.same(&second);
-    let one = clash(&first, &second, 1_000_000_000);
-    let other = clash(&second, &first, 1_000_000_000);
+    clash_text(alloc, &first, &second)
+}
+
+fn clash_text(alloc: Global, first: &Record, second: &Record) -> Option<String> {
+    let same = first.same(second);
+    let one = clash(first, second, 1_000_000_000);
+    let other = clash(second, first, 1_000_000_000);
     format!(in alloc; "same {same} {one:?} {other:?}").ok()
 }

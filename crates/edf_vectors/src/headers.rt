@@ -2,10 +2,10 @@
 
 use crate::bases::{changed, counted};
 use crate::cells::{fault_text, fields};
-use edf_header::{Header, HeaderFault, Identity, read_fixed, read_signals, write_header};
+use edf_header::{Block, Header, HeaderFault, Identity, read_fixed, read_signals, write_header};
 use edf_sample::named::identity_q;
 use edf_time::Instant;
-use std::alloc::Global;
+use std::alloc::{AllocError, Global};
 
 /// The widths of an identity of one ordinary signal.
 const IDENTITY: &[usize] = &[80, 1, 69, 8, 16, 80, 8, 8, 8, 8, 8, 80, 8, 32];
@@ -69,12 +69,17 @@ pub(crate) fn header(alloc: Global, cells: &[Vec<u8>]) -> Option<String> {
 /// How many annotations blocks a data record has; the offset and the bytes of each.
 pub(crate) fn offsets(alloc: Global, cells: &[Vec<u8>]) -> Option<String> {
     let header = read(alloc, &changed(alloc, cells)?)?.ok()?;
-    let mut text = format!(in alloc; "{}", header.blocks().len()).ok()?;
-    for block in header.blocks() {
-        let one = format!(in alloc; " {}:{}", block.at, block.bytes).ok()?;
-        text.push_str(one.as_str()).ok()?;
-    }
+    let mut text = String::new(alloc);
+    push_offsets(&mut text, header.blocks()).ok()?;
     Some(text)
+}
+
+fn push_offsets(text: &mut String, blocks: &[Block]) -> Result<(), AllocError> {
+    write!(text, "{}", blocks.len())?;
+    for block in blocks {
+        write!(text, " {}:{}", block.at, block.bytes)?;
+    }
+    Ok(())
 }
 
 /// How many bytes an identity has, and its fields up to those of the first ordinary signal.
@@ -90,16 +95,21 @@ pub(crate) fn identity_of(alloc: Global, cells: &[Vec<u8>]) -> Option<String> {
     spelled(alloc, &header.into_identity())
 }
 
+/// Whether an identity is that of Q.
+fn is_of_q(alloc: Global, identity: &Identity) -> Option<bool> {
+    let of_q = Identity::from_bytes(alloc, &identity_q(alloc).ok()?).ok()?;
+    Some(of_q.same(identity))
+}
+
 /// The parts of an identity, and whether it is that of Q.
 fn parts(alloc: Global, identity: &Identity) -> Option<String> {
-    let of_q = Identity::from_bytes(alloc, &identity_q(alloc).ok()?).ok()?;
     let code = str::from_utf8(identity.patient_code()).ok()?;
     let test = str::from_utf8(identity.investigation_code()).ok()?;
     let nanos = identity.duration();
     let signals = identity.signals();
     let bytes = identity.ordinary_bytes();
     let dated = identity.dated();
-    let same = of_q.same(identity);
+    let same = is_of_q(alloc, identity)?;
     format!(in alloc;
         "{code} {test} duration {nanos} signals {signals} bytes {bytes} dated {dated} same {same}"
     ).ok()
@@ -133,17 +143,25 @@ pub(crate) fn may_start(alloc: Global, cells: &[Vec<u8>]) -> Option<String> {
 pub(crate) fn canonical(alloc: Global, cells: &[Vec<u8>]) -> Option<String> {
     let (second, bytes) = counted(alloc, cells)?;
     let identity = Identity::from_bytes(alloc, &bytes).ok()?;
-    let start = Instant::at(second.wrapping_mul(1_000_000_000))?;
+    canonical_text(
+        alloc,
+        &identity,
+        Instant::at(second.wrapping_mul(1_000_000_000))?,
+    )
+}
+
+fn canonical_text(alloc: Global, identity: &Identity, start: Instant) -> Option<String> {
     if !identity.may_start(start) {
         return String::from_str(alloc, "may not start").ok();
     }
-    let written = write_header(alloc, &identity, start, 1, 3).ok()?;
+    let written = write_header(alloc, identity, start, 1, 3).ok()?;
+    let same = names(alloc, &written, identity)?;
     let text = fields(alloc, &written, HEADER)?;
-    let read = read(alloc, &written)?.ok()?;
-    format!(in alloc;
-        "{} {text} {}",
-        written.len(),
-        read.identity().same(&identity)
-    )
-    .ok()
+    format!(in alloc; "{} {text} {same}", written.len()).ok()
+}
+
+/// Whether a header's identity is this one.
+fn names(alloc: Global, bytes: &[u8], identity: &Identity) -> Option<bool> {
+    let header = read(alloc, bytes)?.ok()?;
+    Some(header.identity().same(identity))
 }

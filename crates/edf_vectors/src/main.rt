@@ -84,6 +84,19 @@ fn answer(alloc: Global, case: &str) -> Option<String> {
     }
 }
 
+/// What is written of a case that has this answer.
+fn compared(
+    alloc: Global,
+    case: &str,
+    answer: &str,
+    expected: &str,
+) -> Result<Option<String>, AllocError> {
+    if answer == expected {
+        return Ok(None);
+    }
+    Ok(Some(format!(in alloc; "{case} = {answer}, and not {expected}")?))
+}
+
 /// What is written of a line: a title, or a case that has no answer, or another than it expects.
 fn shown(alloc: Global, line: &str) -> Result<Option<String>, AllocError> {
     if line.is_empty() {
@@ -94,8 +107,7 @@ fn shown(alloc: Global, line: &str) -> Result<Option<String>, AllocError> {
     }
     let (case, expected) = line.split_once(" = ").unwrap_or((line, ""));
     match answer(alloc, case) {
-        Some(answer) if answer.as_str() == expected => Ok(None),
-        Some(answer) => Ok(Some(format!(in alloc; "{case} = {answer}, and not {expected}")?)),
+        Some(answer) => compared(alloc, case, answer.as_str(), expected),
         None => Ok(Some(format!(in alloc; "{line} has no answer")?)),
     }
 }

@@ -5,7 +5,7 @@ use edf_time::{
     Day, Instant, date_field, id_date, id_date_text, instant_text, read_seconds, seconds_len,
     start_of, time_field, write_seconds,
 };
-use std::alloc::Global;
+use std::alloc::{AllocError, Global};
 
 /// The nanoseconds of a decimal.
 pub(crate) fn decimal(alloc: Global, cells: &[Vec<u8>]) -> Option<String> {
@@ -64,15 +64,19 @@ pub(crate) fn before(alloc: Global, cells: &[Vec<u8>]) -> Option<String> {
 /// The texts of an instant: its startdate, its starttime, its date in an identification, and the
 /// text that a person is shown.
 fn texts(alloc: Global, at: Instant) -> Option<String> {
-    let mut text = Vec::from_slice(alloc, &date_field(at)).ok()?;
-    text.push(b' ').ok()?;
-    text.extend_from_slice(&time_field(at)).ok()?;
-    text.push(b' ').ok()?;
-    text.extend_from_slice(&id_date_text(at)).ok()?;
-    text.push(b' ').ok()?;
-    text.extend_from_slice(instant_text(alloc, at).ok()?.as_slice())
-        .ok()?;
+    let mut text = Vec::new(alloc);
+    push_texts(&mut text, alloc, at).ok()?;
     String::from_utf8(text).ok()
+}
+
+fn push_texts(text: &mut Vec<u8>, alloc: Global, at: Instant) -> Result<(), AllocError> {
+    text.extend_from_slice(&date_field(at))?;
+    text.push(b' ')?;
+    text.extend_from_slice(&time_field(at))?;
+    text.push(b' ')?;
+    text.extend_from_slice(&id_date_text(at))?;
+    text.push(b' ')?;
+    text.extend_from_slice(instant_text(alloc, at)?.as_slice())
 }
 
 /// The texts of an instant, its second, the seconds that its startdate and starttime name beside
@@ -86,13 +90,19 @@ pub(crate) fn instant(alloc: Global, cells: &[Vec<u8>]) -> Option<String> {
         return String::from_str(alloc, "outside").ok();
     };
     let text = texts(alloc, at)?;
+    let seconds = seconds(alloc, at)?;
+    let same = id_date(&id_date_text(at)) == Some(at.day());
+    let digits = at.has_two_digit_year();
+    format!(in alloc; "{text} {seconds} {same} {digits}").ok()
+}
+
+/// The second of an instant, and those that its texts name.
+fn seconds(alloc: Global, at: Instant) -> Option<String> {
     let whole = at.second().nanos() / 1_000_000_000;
     let day = id_date(&id_date_text(at));
     let dated = second(alloc, &date_field(at), &time_field(at), day)?;
     let undated = second(alloc, &date_field(at), &time_field(at), None)?;
-    let same = day == Some(at.day());
-    let digits = at.has_two_digit_year();
-    format!(in alloc; "{text} {whole} {dated} {undated} {same} {digits}").ok()
+    format!(in alloc; "{whole} {dated} {undated}").ok()
 }
 
 /// Where an instant is after it is moved.
