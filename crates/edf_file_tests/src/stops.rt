@@ -104,19 +104,6 @@ const ENDS: &[(&str, usize, usize, Option<FragmentFault>)] = &[
     ("k", 798, 799, None),
 ];
 
-#[test]
-fn nothing_is_read_after_an_end_or_a_failed_read(rt: HostRuntime) {
-    let whole = drained_both(rt.alloc(), "q", usize::MAX, false);
-    assert_eq!(rt; whole, Some((None, 779)));
-    for (name, stop, reads, fault) in ENDS.iter().copied() {
-        let ended = drained_both(rt.alloc(), name, stop, false);
-        assert_eq!(rt; ended, Some((fault, reads)), "{stop} bytes of {name}");
-        let failed = drained_both(rt.alloc(), name, stop, true);
-        let read = Some(FragmentFault::Read);
-        assert_eq!(rt; failed, Some((read, reads)), "{stop} bytes of {name}");
-    }
-}
-
 /// The fault of Q and three spaces, with another text from an offset on, and the number of reads.
 fn drained_other(alloc: Global, at: usize, text: &[u8]) -> Option<(Option<FragmentFault>, usize)> {
     let mut bytes = file_q(alloc).ok()?;
@@ -158,7 +145,15 @@ const REFUSALS: &[(usize, &[u8], usize, FragmentFault)] = &[
 ];
 
 #[test]
-fn a_refusal_has_its_fault_and_nothing_is_read_after_it(rt: HostRuntime) {
+fn nothing_is_read_after_an_end_a_failed_read_or_a_refusal(rt: HostRuntime) {
+    let whole = drained_both(rt.alloc(), "q", usize::MAX, false);
+    assert_eq!(rt; whole, Some((None, 779)));
+    for (name, stop, reads, fault) in ENDS.iter().copied() {
+        for (fails, expected) in [(false, fault), (true, Some(FragmentFault::Read))] {
+            let drained = drained_both(rt.alloc(), name, stop, fails);
+            assert_eq!(rt; drained, Some((expected, reads)), "{stop} bytes of {name}");
+        }
+    }
     for (at, text, reads, fault) in REFUSALS.iter().copied() {
         let drained = drained_other(rt.alloc(), at, text);
         assert_eq!(rt; drained, Some((Some(fault), reads)), "at {at}");
@@ -172,16 +167,6 @@ fn filled(bytes: &[u8], cut: usize) -> (Filled, [u8; 5]) {
     let kind = io::ErrorKind::Interrupted;
     let mut input = Counted::new(Source::failing(bytes, cut, kind));
     (fill(&mut input, &mut buffer), buffer)
-}
-
-#[test]
-fn a_buffer_is_filled_or_the_input_ends_or_a_read_fails(rt: HostRuntime) {
-    let eight = b"abcdefgh".as_slice();
-    assert_eq!(rt; filled(eight, 8), (Filled::Full, *b"abcde"));
-    assert_eq!(rt; filled(eight, 5), (Filled::Full, *b"abcde"));
-    assert_eq!(rt; filled(b"abc", 8), (Filled::Cut { at: 3 }, *b"abc.."));
-    let (failed, _) = filled(eight, 4);
-    assert_eq!(rt; failed, Filled::Failed);
 }
 
 /// Whether the first 300 bytes of Q are sent to a writer of this room, and whether just those went
@@ -206,7 +191,13 @@ const ROOMS: &[(usize, bool)] = &[
 ];
 
 #[test]
-fn bytes_are_sent_whole_or_a_write_failed(rt: HostRuntime) {
+fn a_buffer_is_filled_or_sent_whole_or_it_is_told_why_not(rt: HostRuntime) {
+    let eight = b"abcdefgh".as_slice();
+    assert_eq!(rt; filled(eight, 8), (Filled::Full, *b"abcde"));
+    assert_eq!(rt; filled(eight, 5), (Filled::Full, *b"abcde"));
+    assert_eq!(rt; filled(b"abc", 8), (Filled::Cut { at: 3 }, *b"abc.."));
+    let (failed, _) = filled(eight, 4);
+    assert_eq!(rt; failed, Filled::Failed);
     for (room, whole) in ROOMS.iter().copied() {
         for full in [false, true] {
             let sent = sends(rt.alloc(), room, full);

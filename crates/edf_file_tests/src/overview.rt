@@ -1,20 +1,19 @@
 //! What pictures show over the whole recording, by coordinates worked out by hand: from 112 at the
 //! recording's start to 976 at its end, ten seconds for a pixel.
 
-use crate::picture::{SECOND, drawn, stretch};
+use crate::picture::{SECOND, drawn, has_all, stretch};
 use edf_picture::{Recorded, Signal, Sketch, Stretch, Title};
 use edf_time::Instant;
-use std::alloc::{AllocError, Global};
-use std::test::Fail;
+use std::alloc::Global;
 
 /// The second at which the recording starts, from 1985-01-01 on. It has 8,640.
 const START: u64 = 79_200;
 
 /// The second of the onset, the seconds of the duration, 0 where there is none, and the text.
-type Event = (u64, u64, &'static str);
+type Event<'a> = (u64, u64, &'a str);
 
 /// Events, and what the picture has of them.
-type Case = (&'static [Event], &'static [&'static str]);
+type Case = (&'static [Event<'static>], &'static [&'static str]);
 
 const CASES: &[Case] = &[
     (
@@ -89,48 +88,46 @@ fn instant(second: u64) -> Option<Instant> {
     Instant::at(second.saturating_add(START).saturating_mul(SECOND))
 }
 
-fn add_events(sketch: &mut Sketch, events: &[Event]) -> Result<(), Fail> {
-    for (second, seconds, text) in events.iter().copied() {
-        let onset = instant(second).ok_or("onset")?;
-        let duration = if seconds > 0 {
-            Some(seconds.saturating_mul(SECOND))
-        } else {
-            None
-        };
-        sketch.add_annotation(onset, duration, text)?;
-    }
-    Ok(())
+/// Adds an annotation.
+fn add_event(sketch: &mut Sketch, event: Event<'_>) -> Option<()> {
+    let (second, seconds, text) = event;
+    let duration = if seconds > 0 {
+        Some(seconds.saturating_mul(SECOND))
+    } else {
+        None
+    };
+    sketch.add_annotation(instant(second)?, duration, text).ok()
 }
 
-#[test]
-fn each_text_has_its_lane(rt: HostRuntime) -> Result<(), Fail> {
-    let alloc = rt.alloc();
-    let whole = [stretch(START * SECOND, 8_640).ok_or("whole")?];
-    for (events, parts) in CASES.iter().copied() {
-        let mut sketch = Sketch::new(alloc);
-        add_events(&mut sketch, events)?;
-        let svg = drawn(alloc, &sketch, b"P7", &whole)?;
-        for part in parts {
-            assert!(rt; svg.contains(*part), "{part}");
-        }
+/// The whole recording with these events.
+fn of_events(alloc: Global, events: &[Event<'_>]) -> Option<String> {
+    let mut sketch = Sketch::new(alloc);
+    for event in events.iter().copied() {
+        add_event(&mut sketch, event)?;
     }
-    Ok(())
+    drawn(alloc, &sketch, b"P7", &[stretch(START * SECOND, 8_640)?]).ok()
 }
 
 /// Adds an annotation of each of so many texts, numbered from 0, and one more of those below 20.
-fn add_texts(alloc: Global, sketch: &mut Sketch, count: u64) -> Result<(), Fail> {
+fn add_texts(alloc: Global, sketch: &mut Sketch, count: u64) -> Option<()> {
     for number in 0..count {
-        let text = format!(in alloc; "Event {number:04}")?;
-        let onset = instant(number).ok_or("onset")?;
-        sketch.add_annotation(onset, None, text.as_str())?;
+        let text = format!(in alloc; "Event {number:04}").ok()?;
+        add_event(sketch, (number, 0, text.as_str()))?;
         if number < 20 {
-            sketch.add_annotation(onset, None, text.as_str())?;
+            add_event(sketch, (number, 0, text.as_str()))?;
         }
     }
-    Ok(())
+    Some(())
 }
 
-/// How many texts there are, and what the lane of the others says.
+/// The whole recording with so many texts.
+fn of_texts(alloc: Global, count: u64) -> Option<String> {
+    let mut sketch = Sketch::new(alloc);
+    add_texts(alloc, &mut sketch, count)?;
+    drawn(alloc, &sketch, b"P7", &[stretch(START * SECOND, 8_640)?]).ok()
+}
+
+/// How many texts there are, what the lane of the others says, and its rate.
 const TEXTS: &[(u64, &str, &str)] = &[
     (9, "others, of 1 text", "2, 0.8 per recorded hour"),
     (20, "others, of 12 texts", "24, 10.0 per recorded hour"),
@@ -141,20 +138,12 @@ const TEXTS: &[(u64, &str, &str)] = &[
     ),
 ];
 
-#[test]
-fn the_eight_most_frequent_texts_have_lanes(rt: HostRuntime) -> Result<(), Fail> {
-    let alloc = rt.alloc();
-    let whole = [stretch(START * SECOND, 8_640).ok_or("whole")?];
-    for (count, others, rate) in TEXTS.iter().copied() {
-        let mut sketch = Sketch::new(alloc);
-        add_texts(alloc, &mut sketch, count)?;
-        let svg = drawn(alloc, &sketch, b"P7", &whole)?;
-        assert!(rt; svg.contains(">Event 0007</text>"), "{count}");
-        assert!(rt; !svg.contains(">Event 0008</text>"), "{count}");
-        let lane = format!(in alloc; ">{others}</text><text class='v e' x='976' y='269'>{rate}<")?;
-        assert!(rt; svg.contains(lane.as_str()), "{count}");
-    }
-    Ok(())
+/// Whether the eight most frequent of so many texts have lanes, and the others one.
+fn have_lanes(alloc: Global, count: u64, others: &str, rate: &str) -> Option<bool> {
+    let svg = of_texts(alloc, count)?;
+    let lane = format!(in alloc; ">{others}</text><text class='v e' x='976' y='269'>{rate}<").ok()?;
+    let is_last = !svg.contains(">Event 0008</text>");
+    Some(is_last && has_all(Some(svg), &[">Event 0007</text>", lane.as_str()]))
 }
 
 /// The picture of stretches, with these signals and this tolerance.
@@ -163,7 +152,7 @@ fn viewed(
     stretches: &[Stretch],
     signals: &[Signal<'_>],
     tolerance: u64,
-) -> Result<String, AllocError> {
+) -> Option<String> {
     let title = Title {
         patient: b"P7",
         investigation: b"N1",
@@ -174,7 +163,7 @@ fn viewed(
         signals,
         tolerance,
     };
-    Sketch::new(alloc).draw(alloc, &title, &recorded, &[])
+    Sketch::new(alloc).draw(alloc, &title, &recorded, &[]).ok()
 }
 
 /// A tolerance, and what the heading says of two gaps, of half a second and of ten seconds.
@@ -203,42 +192,57 @@ const TOLERANCES: &[(u64, &str)] = &[
     ),
 ];
 
-#[test]
-fn short_gaps_are_joined_and_told(rt: HostRuntime) -> Result<(), Fail> {
-    let alloc = rt.alloc();
-    let first = stretch(START * SECOND, 60).ok_or("first")?;
-    let second = stretch(START * SECOND + 60 * SECOND + SECOND / 2, 60).ok_or("second")?;
-    let third = stretch(START * SECOND + 130 * SECOND + SECOND / 2, 60).ok_or("third")?;
-    let stretches = [first, second, third];
-    for (tolerance, line) in TOLERANCES.iter().copied() {
-        let svg = viewed(alloc, &stretches, &[], tolerance)?;
-        assert!(rt; svg.contains(line), "{line}");
-    }
-    Ok(())
+/// Three minutes with gaps of half a second and of ten seconds, with this tolerance.
+fn with_tolerance(alloc: Global, tolerance: u64) -> Option<String> {
+    let first = stretch(START * SECOND, 60)?;
+    let second = stretch(START * SECOND + 60 * SECOND + SECOND / 2, 60)?;
+    let third = stretch(START * SECOND + 130 * SECOND + SECOND / 2, 60)?;
+    viewed(alloc, &[first, second, third], &[], tolerance)
 }
 
-#[test]
-fn signals_have_a_table(rt: HostRuntime) -> Result<(), Fail> {
-    let alloc = rt.alloc();
-    let whole = stretch(START * SECOND, 60).ok_or("whole")?;
+/// A minute with 640 signals, of 1 Hz, 2 Hz and so on.
+fn with_signals(alloc: Global) -> Option<String> {
     let mut signals = Vec::new(alloc);
     for samples in 1..641u32 {
-        signals.push(Signal {
-            label: b"EEG <Fpz>       ",
-            dimension: b"uV      ",
-            samples,
-        })?;
+        signals
+            .push(Signal {
+                label: b"EEG <Fpz>       ",
+                dimension: b"uV      ",
+                samples,
+            })
+            .ok()?;
     }
-    let svg = viewed(alloc, &[whole], &signals, 0)?;
-    for part in [
-        ">640 ordinary signals</text>",
-        "<text x='112' y='34'>EEG &lt;Fpz&gt;</text><text class='e' x='318' y='34'>1 Hz</text>\
-            <text x='326' y='34'>uV</text>",
-        "<text class='e' x='894' y='153'>24 Hz</text>",
-        ">and 616 more</text>",
-    ] {
-        assert!(rt; svg.contains(part), "{part}");
+    viewed(alloc, &[stretch(START * SECOND, 60)?], &signals, 0)
+}
+
+/// What it says of them.
+const SIGNALS: &[&str] = &[
+    ">640 ordinary signals</text>",
+    "<text x='112' y='34'>EEG &lt;Fpz&gt;</text><text class='e' x='318' y='34'>1 Hz</text>\
+        <text x='326' y='34'>uV</text>",
+    "<text class='e' x='894' y='153'>24 Hz</text>",
+    ">and 616 more</text>",
+];
+
+#[test]
+fn a_picture_has_lanes_joined_gaps_and_signals(rt: HostRuntime) {
+    let alloc = rt.alloc();
+    for (events, parts) in CASES.iter().copied() {
+        assert!(rt; has_all(of_events(alloc, events), parts), "{parts:?}");
     }
-    assert!(rt; !svg.contains(">25 Hz</text>"));
-    Ok(())
+    for (count, others, rate) in TEXTS.iter().copied() {
+        assert_eq!(rt;
+            have_lanes(alloc, count, others, rate),
+            Some(true),
+            "{count}"
+        );
+    }
+    for (tolerance, line) in TOLERANCES.iter().copied() {
+        assert!(rt;
+            has_all(with_tolerance(alloc, tolerance), &[line]),
+            "{line}"
+        );
+    }
+    assert!(rt; has_all(with_signals(alloc), SIGNALS));
+    assert!(rt; !has_all(with_signals(alloc), &[">25 Hz</text>"]));
 }

@@ -18,6 +18,12 @@ pub(crate) fn bytes_of(alloc: Global, name: &str) -> Option<Vec<u8>> {
 /// The fault of opening a fragment and those of three calls after that, where there is one.
 type Faults = (Option<FragmentFault>, [Option<FragmentFault>; 3]);
 
+/// A read failed.
+const READ: Option<FragmentFault> = Some(FragmentFault::Read);
+
+/// It was answered before that the reader failed.
+const OVER: Option<FragmentFault> = Some(FragmentFault::Failed);
+
 fn faults(alloc: Global, input: Source<'_>) -> Faults {
     let mut input = Counted::new(input);
     match FragmentReader::open(alloc, &mut input) {
@@ -36,34 +42,26 @@ fn faults_of_failing(alloc: Global, name: &str, cut: usize, kind: io::ErrorKind)
     Some(faults(alloc, Source::failing(&bytes, cut, kind)))
 }
 
-#[test]
-fn a_failed_read_is_answered_once_and_then_only_that_the_reader_failed(rt: HostRuntime) {
-    let read = Some(FragmentFault::Read);
-    let failed = Some(FragmentFault::Failed);
-    for (name, cut, expected) in [
-        ("q", 0usize, (read, [None; 3])),
-        ("q", 255, (read, [None; 3])),
-        ("q", 256, (read, [None; 3])),
-        ("q", 300, (read, [None; 3])),
-        ("q", 767, (read, [None; 3])),
-        ("q", 768, (None, [read, failed, failed])),
-        ("q", 770, (None, [read, failed, failed])),
-        ("q", 777, (None, [read, failed, failed])),
-        ("q", 778, (None, [None, read, failed])),
-        ("k", 768, (None, [read, failed, failed])),
-        ("k", 777, (None, [read, failed, failed])),
-        ("k", 778, (None, [None, read, failed])),
-        ("k", 787, (None, [None, read, failed])),
-        ("k", 788, (None, [None, None, read])),
-    ] {
-        for kind in [io::ErrorKind::BrokenPipe, io::ErrorKind::Interrupted] {
-            let faults = faults_of_failing(rt.alloc(), name, cut, kind);
-            assert_eq!(rt; faults, Some(expected), "{name} at {cut}");
-        }
-    }
-}
+/// A file, from which byte on its reads fail, and its faults.
+const FAILED: &[(&str, usize, Faults)] = &[
+    ("q", 0, (READ, [None; 3])),
+    ("q", 255, (READ, [None; 3])),
+    ("q", 256, (READ, [None; 3])),
+    ("q", 300, (READ, [None; 3])),
+    ("q", 767, (READ, [None; 3])),
+    ("q", 768, (None, [READ, OVER, OVER])),
+    ("q", 770, (None, [READ, OVER, OVER])),
+    ("q", 777, (None, [READ, OVER, OVER])),
+    ("q", 778, (None, [None, READ, OVER])),
+    ("k", 768, (None, [READ, OVER, OVER])),
+    ("k", 777, (None, [READ, OVER, OVER])),
+    ("k", 778, (None, [None, READ, OVER])),
+    ("k", 787, (None, [None, READ, OVER])),
+    ("k", 788, (None, [None, None, READ])),
+];
 
-/// After how many bytes of K without its count, from none on, a failed read is answered as one.
+/// After how many bytes of K without its count, from none on, a failed read is answered as one,
+/// also where a data record ends.
 fn failed_reads(alloc: Global, kind: io::ErrorKind) -> Option<usize> {
     let bytes = bytes_of(alloc, "k")?;
     for len in 0..799usize {
@@ -74,13 +72,6 @@ fn failed_reads(alloc: Global, kind: io::ErrorKind) -> Option<usize> {
         }
     }
     Some(799)
-}
-
-#[test]
-fn a_failed_read_is_no_end_also_where_a_record_ends(rt: HostRuntime) {
-    for kind in [io::ErrorKind::BrokenPipe, io::ErrorKind::Interrupted] {
-        assert_eq!(rt; failed_reads(rt.alloc(), kind), Some(799));
-    }
 }
 
 /// The faults of two data records of which the second begins within the first.
@@ -94,11 +85,20 @@ fn faults_of_two(alloc: Global) -> Option<Faults> {
 }
 
 #[test]
-fn a_record_that_begins_inside_the_one_before_is_refused(rt: HostRuntime) {
+fn a_fault_is_answered_once_and_then_only_that_the_reader_failed(rt: HostRuntime) {
+    for kind in [io::ErrorKind::BrokenPipe, io::ErrorKind::Interrupted] {
+        for (name, cut, expected) in FAILED.iter().copied() {
+            let faults = faults_of_failing(rt.alloc(), name, cut, kind);
+            assert_eq!(rt; faults, Some(expected), "{name} at {cut}");
+        }
+        assert_eq!(rt; failed_reads(rt.alloc(), kind), Some(799));
+    }
     let order = FragmentFault::Tal {
         nth: 2,
         fault: TalFault::Order,
     };
-    let expected = (None, [None, Some(order), Some(FragmentFault::Failed)]);
-    assert_eq!(rt; faults_of_two(rt.alloc()), Some(expected));
+    assert_eq!(rt;
+        faults_of_two(rt.alloc()),
+        Some((None, [None, Some(order), OVER]))
+    );
 }

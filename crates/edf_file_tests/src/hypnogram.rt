@@ -1,11 +1,10 @@
 //! The line of the stages of sleep, by coordinates worked out by hand: from 112 at the recording's
 //! start to 976 at its end, Wake at 12, REM at 30, then N1, N2 and N3 each 18 lower.
 
-use crate::picture::{SECOND, drawn, stretch};
+use crate::picture::{SECOND, drawn, has_all, stretch};
 use edf_picture::{Sketch, Stretch};
 use edf_time::Instant;
 use std::alloc::{AllocError, Global};
-use std::test::Fail;
 
 /// The second at which the recordings start, from 1985-01-01 on.
 const START: i64 = 79_200;
@@ -209,49 +208,39 @@ fn stretches(alloc: Global, runs: &[(i64, u32)]) -> Result<Vec<Stretch>, AllocEr
     Ok(list)
 }
 
-#[test]
-fn a_stage_is_drawn_where_it_was_recorded(rt: HostRuntime) -> Result<(), Fail> {
-    let alloc = rt.alloc();
-    for (name, runs, stages, line, lowest) in NIGHTS.iter().copied() {
-        let mut sketch = Sketch::new(alloc);
-        for equal in stages.iter().copied() {
-            add_stages(alloc, &mut sketch, equal)?;
-        }
-        let svg = drawn(alloc, &sketch, b"P7", &stretches(alloc, runs)?)?;
-        let path = format!(in alloc; "<path class='s' d='{line}'>")?;
-        assert!(rt; svg.contains(path.as_str()), "{name}");
-        let label = format!(in alloc; " y='88'>{lowest}</text>")?;
-        assert!(rt; svg.contains(label.as_str()), "{name}");
+/// Whether a night has its line, and the name of its lowest stage.
+fn is_so(alloc: Global, night: &Night) -> Option<bool> {
+    let (_, runs, stages, line, lowest) = *night;
+    let mut sketch = Sketch::new(alloc);
+    for equal in stages.iter().copied() {
+        add_stages(alloc, &mut sketch, equal).ok()?;
     }
-    Ok(())
+    let svg = drawn(alloc, &sketch, b"P7", &stretches(alloc, runs).ok()?).ok()?;
+    let path = format!(in alloc; "<path class='s' d='{line}'>").ok()?;
+    let label = format!(in alloc; " y='88'>{lowest}</text>").ok()?;
+    Some(has_all(Some(svg), &[path.as_str(), label.as_str()]))
 }
 
 /// How many milliseconds are missing before each half minute. Half a pixel has 5 s or more.
 const DRIFTS: &[u64] = &[1, 4_999];
 
-#[test]
-fn drift_does_not_dash_the_line(rt: HostRuntime) -> Result<(), Fail> {
-    let alloc = rt.alloc();
-    for missing in DRIFTS.iter().copied() {
-        let mut sketch = Sketch::new(alloc);
-        let mut runs = Vec::new(alloc);
-        let mut start = 79_200u64.saturating_mul(SECOND);
-        for _ in 0..288 {
-            let run = stretch(start, 30).ok_or("run")?;
-            sketch.add_annotation(run.first, Some(30 * SECOND), "Sleep stage N2")?;
-            runs.push(run)?;
-            let step = missing
-                .saturating_mul(1_000_000)
-                .saturating_add(30 * SECOND);
-            start = start.saturating_add(step);
-        }
-        let svg = drawn(alloc, &sketch, b"P7", &runs)?;
-        assert!(rt;
-            svg.contains("<path class='s' d='M112 66H976'>"),
-            "{missing}"
-        );
+/// A stage for each half minute of a recording, before each of which so much is missing.
+fn drifting(alloc: Global, missing: u64) -> Option<String> {
+    let mut sketch = Sketch::new(alloc);
+    let mut runs = Vec::new(alloc);
+    let mut start = 79_200u64.saturating_mul(SECOND);
+    let step = missing
+        .saturating_mul(1_000_000)
+        .saturating_add(30 * SECOND);
+    for _ in 0..288 {
+        let run = stretch(start, 30)?;
+        sketch
+            .add_annotation(run.first, Some(30 * SECOND), "Sleep stage N2")
+            .ok()?;
+        runs.push(run).ok()?;
+        start = start.saturating_add(step);
     }
-    Ok(())
+    drawn(alloc, &sketch, b"P7", &runs).ok()
 }
 
 /// Adds a stage at every second of so many, N2 at the odd ones and else Wake.
@@ -278,19 +267,33 @@ fn add_changes(sketch: &mut Sketch, count: i64, backwards: bool) -> Result<(), A
 /// for half a pixel, whose middle is an odd one.
 const CHANGES: &[(i64, bool, bool)] = &[(32_768, false, false), (32_769, true, true)];
 
+/// A day with so many changes.
+fn changing(alloc: Global, count: i64, backwards: bool) -> Option<String> {
+    let mut sketch = Sketch::new(alloc);
+    add_changes(&mut sketch, count, backwards).ok()?;
+    let day = stretches(alloc, &[(0, 86_400)]).ok()?;
+    drawn(alloc, &sketch, b"P7", &day).ok()
+}
+
 #[test]
-fn the_first_changes_of_stage_are_drawn(rt: HostRuntime) -> Result<(), Fail> {
+fn a_stage_is_drawn_where_it_was_recorded(rt: HostRuntime) {
     let alloc = rt.alloc();
-    for (count, backwards, lacks_some) in CHANGES.iter().copied() {
-        let mut sketch = Sketch::new(alloc);
-        add_changes(&mut sketch, count, backwards)?;
-        let svg = drawn(alloc, &sketch, b"P7", &stretches(alloc, &[(0, 86_400)])?)?;
-        assert!(rt;
-            svg.contains("<path class='s' d='M112 66H439.5'>"),
-            "{count}"
-        );
-        let is_said = svg.contains("(the first ones are drawn)");
-        assert_eq!(rt; is_said, lacks_some, "{count}");
+    for night in NIGHTS {
+        let name = night.0;
+        assert_eq!(rt; is_so(alloc, night), Some(true), "{name}");
     }
-    Ok(())
+    for missing in DRIFTS.iter().copied() {
+        let is_whole = has_all(
+            drifting(alloc, missing),
+            &["<path class='s' d='M112 66H976'>"],
+        );
+        assert!(rt; is_whole, "{missing}");
+    }
+    for (count, backwards, lacks_some) in CHANGES.iter().copied() {
+        let svg = changing(alloc, count, backwards);
+        let is_drawn = has_all(svg, &["<path class='s' d='M112 66H439.5'>"]);
+        let svg = changing(alloc, count, backwards);
+        let is_said = has_all(svg, &["(the first ones are drawn)"]);
+        assert_eq!(rt; (is_drawn, is_said), (true, lacks_some), "{count}");
+    }
 }

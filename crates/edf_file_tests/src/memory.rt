@@ -3,7 +3,7 @@
 ghost use Rattle.std.specs.Prelude.{None, map, string_bytes};
 
 use crate::files::two_gaps;
-use crate::folder::Folder;
+use crate::folder::{Folder, free};
 use edf_fragment::Counted;
 use edf_program::{Inputs, Status};
 use edf_sample::{Scarce, Sink, Source};
@@ -66,7 +66,7 @@ fn run_under(
     scarce: &mut Scarce,
     budget: usize,
 ) -> Option<Served> {
-    let bytes = two_gaps(alloc).ok()?;
+    let bytes = two_gaps(alloc)?;
     let mut out_bytes = Vec::with_capacity(alloc, 10_000).ok()?;
     let mut err_bytes = Vec::with_capacity(alloc, 1_000).ok()?;
     let names = Vec::new(alloc);
@@ -74,7 +74,7 @@ fn run_under(
         bytes: &bytes,
         names,
     };
-    let mut folder = Folder::new(alloc);
+    let mut folder = Folder::new(alloc, free());
     if !scarce.leave(alloc, budget) {
         return None;
     }
