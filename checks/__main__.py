@@ -100,7 +100,7 @@ CHECKS = (
     Check("warned", "answers that the documents warn of", counts=(100, 1_000)),
     Check("hypnogram", "nights with gaps and stages of sleep, drawn", (EDFRUNS,),
           counts=(200, 2_000)),
-    Check("lines.stored", "stored runs", (EDFSTORE, EDFRUNS)),
+    Check("lines.stored", "stored runs", (EDFSTORE, EDFRUNS, EDFMEND)),
     Check("serve", "answers of edfserve to its clients, kills", (EDFSTORE, EDFSERVE),
           counts=(20, 100)),
     Check("receiving", "uploads into a receiving folder", (EDFSTORE, EDFSERVE), counts=(10, 50),

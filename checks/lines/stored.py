@@ -1,23 +1,25 @@
 """The files of the programs' stored runs, which the gate runs: compared with those made here, and
 run; or written anew.
 
-    python3 -m checks.lines.stored [--program PATH] [--edfruns PATH] [--write]
+    python3 -m checks.lines.stored [--program PATH] [--edfruns PATH] [--edfmend PATH] [--write]
 
---write writes stdin, stdout and data/ of the three crates. PATH is edfstore; edfruns is the one
-that bin/edfruns runs where it is left out. What goes in is built field by field; what must come
-out is written by hand, below and in lib/stories.py, and compared with the plain model. Of the
-program's own making is only the store held.db: the identity, start and samples of each row of it
-are compared with the model. It needs no SQLite but Python's.
+--write writes stdin, stdout and data/ of the three crates. PATH is a program, of edfstore, edfruns
+and edfmend; the one that its script in bin runs where it is left out. What goes in is built field
+by field; what must come out is written by hand, below and in lib/stories.py, lib/run_stories.py
+and lib/mend_stories.py, and compared with the plain model. Of the program's own making is only the
+store held.db: the identity, start and samples of each row of it are compared with the model. It
+needs no SQLite but Python's.
 
-The stories are played by edfstore too, over a new file for each store. Those of a store with
-another cap than its own are left to the gate.
+The stories are played by the programs too, over a new file for each store. Those of a store with
+another cap than edfstore's own are left to the gate.
 """
 import shutil
 import sqlite3
 import sys
 from pathlib import Path
 
-from checks.lib import arguments, edf, measure, model, named, printed, stories
+from checks.lib import (arguments, edf, measure, mend_stories, model, named, printed, run_stories,
+                        stories)
 from checks.lib.by_hand import MARCH_3, OVERLAPS
 from checks.lib.checks import end
 
@@ -27,6 +29,8 @@ Q, P5, R9, K, U = (FILES[letter] for letter in ("Q", "P5", "R9", "K", "U"))
 HOUR = 3610     # seconds from Q's start to one in the morning
 MANY = 600
 STORED = "edfstore_stored_run"
+PROGRAMS = ("edfstore", "edfruns", "edfmend")
+OVER_FILES = ("edfruns", "edfmend", "cat")      # how a line begins that needs no store
 
 
 def nap() -> bytes:
@@ -206,27 +210,45 @@ def run(program: Path, crate: Path, folder: Path) -> bool:
     return is_well
 
 
-def played(program: Path, order: str, room: Path, nth: int) -> list:
+def all_stories() -> stories.Script:
+    """The stories of the three programs."""
+    script = stories.script(named.files() | run_stories.files())
+    run_stories.play(script)
+    mend_stories.play(script)
+    return script
+
+
+def answered(programs: dict, words: list, room: Path) -> tuple:
+    """What a command writes to standard output and to standard error, and how it ends."""
+    if words[0] == "cat":
+        return (room / words[1]).read_bytes(), b"", []
+    program = programs.get(words[0])
+    given = words[1:] if program else words
+    ran = measure.ran(program or programs["edfstore"], *given, folder=room)
+    return ran.out, ran.err, [stories.ended(ran.status)]
+
+
+def played(programs: dict, order: str, room: Path, nth: int) -> list:
     """The lines of a command of a story, over the nth store."""
     words, _, name = order.partition(" = ")
     given = [f"{nth}.db" if word == "night.db" else word for word in words.split()]
-    ran = measure.ran(program, *given, folder=room)
-    out = ran.out.decode("latin-1")
+    out, err, last = answered(programs, given, room)
+    text = out.decode("latin-1")
     if name:
-        out = stories.just(name, len(ran.out), ran.out == (room / name).read_bytes())
-    err = stories.on_error(ran.err.decode()).splitlines() if ran.err else []
-    return [*out.splitlines(), *err, stories.ended(ran.status)]
+        text = stories.just(name, len(out), out == (room / name).read_bytes())
+    error = stories.on_error(err.decode()).splitlines() if err else []
+    return [*text.splitlines(), *error, *last]
 
 
-def play(program: Path, script: stories.Script, room: Path) -> tuple:
-    """How many commands of the stories of its own cap the program was given, and how many it
-    answered otherwise than it must."""
+def play(programs: dict, script: stories.Script, room: Path) -> tuple:
+    """How many commands of the stories the programs were given, but for those of a store with
+    another cap, and how many they answered otherwise than they must."""
     nth, is_asked, wrong, done = 0, False, 0, 0
     for order, expected in script.lines:
         if order.startswith("store "):
             nth, is_asked = nth + 1, order == f"store {stories.MOST}"
-        elif is_asked and not order.startswith("#"):
-            written = played(program, order, room, nth)
+        elif not order.startswith("#") and (is_asked or order.startswith(OVER_FILES)):
+            written = played(programs, order, room, nth)
             done += 1
             if written != list(expected):
                 wrong += 1
@@ -243,11 +265,11 @@ def write(files: dict) -> None:
 
 
 def main() -> None:
-    parser = arguments.Parser(__doc__, arguments.BOTH)
+    parser = arguments.Parser(__doc__, PROGRAMS)
     parser.add_argument("--write", action="store_true", help="write the files anew")
     given = parser.read()
     by_model()
-    script = stories.script(named.files())
+    script = all_stories()
     with measure.scratch() as name:
         folder = Path(name)
         files = files_of(store(given.program, folder), script)
@@ -259,7 +281,8 @@ def main() -> None:
         ran = [run(given.program, CRATES / "edfstore", folder),
                run(given.program, CRATES / STORED, folder),
                run(given.edfruns, CRATES / "edfruns", folder)]
-        done, wrong = play(given.program, script, folder / STORED)
+        programs = {"edfstore": given.program, "edfruns": given.edfruns, "edfmend": given.edfmend}
+        done, wrong = play(programs, script, folder / STORED)
     end(len(ran) + done, len(others) + ran.count(False) + wrong)
 
 

@@ -3,12 +3,18 @@
 //! - `# TEXT`: a title, of the lines after it;
 //! - `store N`: an empty store in memory, whose recordings have N data records at most;
 //! - `edfstore WORDS`: the program by these words, over stores that are files;
-//! - other words: a command over the store in memory. After ` = NAME` a line says whether standard
-//!   output has just the bytes of that file, in place of the bytes.
+//! - `edfruns WORDS`, `edfmend WORDS`: a command of these programs, over files;
+//! - `cat FILE`: the bytes of a file;
+//! - other words: a command over the store in memory.
 //!
-//! Each line is written out. After a command comes what it writes: to standard output, and to
-//! standard error after `err: `, if it is over the store in memory; then a line with its status.
+//! After ` = NAME` a line says whether standard output has just the bytes of that file, in place of
+//! the bytes. Each line is written out. After a command comes what it writes: to standard output,
+//! and to standard error after `err: `, but for that of `edfstore WORDS`; then a line with its
+//! status.
 #![tactic(auto)]
+
+mod file_programs;
+mod folder;
 
 use edf_command::{Status, read_command, run};
 use edf_fragment::Counted;
@@ -91,15 +97,8 @@ fn print_out(rt: &HostRuntime, out: &[u8], name: Option<&str>) -> io::Result<()>
     }
 }
 
-/// Plays a command over a store, with the name of the file that it is to write.
-fn play_command(
-    rt: &HostRuntime,
-    store: &mut Store<MemStore>,
-    line: &str,
-    name: Option<&str>,
-) -> io::Result<()> {
-    let words = words_of(rt, line)?;
-    let outcome = run_over(rt, store, words.as_slice());
+/// Writes out how a command ended, with the name of the file that it is to write.
+fn print_outcome(rt: &HostRuntime, outcome: &Outcome, name: Option<&str>) -> io::Result<()> {
     print_out(rt, outcome.out.as_slice(), name)?;
     if !outcome.err.is_empty() {
         print!(rt; "err: ")?;
@@ -108,7 +107,18 @@ fn play_command(
     println!(rt; "status {}", outcome.status.code())
 }
 
-/// Plays a line that is neither a title nor the program's words.
+/// Plays a command over a store, with the name of the file that it is to write.
+fn play_command(
+    rt: &HostRuntime,
+    store: &mut Store<MemStore>,
+    line: &str,
+    name: Option<&str>,
+) -> io::Result<()> {
+    let words = words_of(rt, line)?;
+    print_outcome(rt, &run_over(rt, store, words.as_slice()), name)
+}
+
+/// Plays a line that is neither a title nor words of a program.
 fn play_over(rt: &HostRuntime, store: &mut Option<Store<MemStore>>, line: &str) -> io::Result<()> {
     if let Some(cap) = line.strip_prefix("store ") {
         *store = empty_store(rt.alloc(), cap);
@@ -130,7 +140,7 @@ fn play_all(rt: &HostRuntime) -> io::Result<()> {
         println!(rt; "{line}")?;
         if let Some(words) = line.strip_prefix("edfstore ") {
             run_line(rt, words)?;
-        } else if !line.starts_with('#') {
+        } else if !line.starts_with('#') && !file_programs::play(rt, line)? {
             play_over(rt, &mut store, line)?;
         }
     }

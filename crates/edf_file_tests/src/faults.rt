@@ -1,0 +1,221 @@
+//! Readers and writers that fail, and files that change.
+
+use crate::files::file_named;
+use crate::folder::{Limits, free};
+use crate::shelf::Shelf;
+use crate::stage::{outcome_of, story};
+use edf_program::Status;
+use std::alloc::Global;
+
+/// Commands, the file of each and its length, and whether its second reading fails.
+const READINGS: &[(&str, &str, usize, bool)] = &[
+    ("edfruns list two.edf", "two.edf", 1_008, false),
+    ("edfruns picture two.edf", "two.edf", 1_008, false),
+    ("edfruns split two.edf night", "two.edf", 1_008, false),
+    ("edfruns split two.edf night", "two.edf", 1_008, true),
+    ("edfruns canonical two.edf", "two.edf", 1_008, false),
+    ("edfruns canonical two.edf", "two.edf", 1_008, true),
+    ("edfmend falling.edf out.edf", "falling.edf", 778, false),
+    ("edfmend falling.edf out.edf", "falling.edf", 778, true),
+];
+
+/// What a command prints where a reading fails from a byte on.
+fn story_of_failing(alloc: Global, line: &str, cut: usize, is_second: bool) -> Option<String> {
+    let (first, second) = if is_second {
+        (usize::MAX, cut)
+    } else {
+        (cut, usize::MAX)
+    };
+    let shelf = Shelf::new(alloc).failing(first, second);
+    story(alloc, shelf, free(), usize::MAX, line)
+}
+
+/// From which byte of a reading on a command is not refused for a read that fails, or leaves a
+/// file; `None` where it is refused from each one on.
+fn unrefused(alloc: Global, reading: &(&str, &str, usize, bool)) -> Option<usize> {
+    let (line, name, length, is_second) = *reading;
+    let expected = format!(in alloc; "err: {name} refused E40 Read\nstatus 3, 0 files\n").ok();
+    for cut in 0..=length {
+        if story_of_failing(alloc, line, cut, is_second) != expected {
+            return Some(cut);
+        }
+    }
+    None
+}
+
+#[test]
+fn a_reading_that_fails_is_refused_and_leaves_no_file(rt: HostRuntime) {
+    for reading in READINGS {
+        let (line, is_second) = (reading.0, reading.3);
+        assert_eq!(rt; unrefused(rt.alloc(), reading), None, "{line}, {is_second}");
+    }
+}
+
+/// Commands, the file of each, and what its second reading finds in its place.
+const CHANGES: &[(&str, &str, &[&str])] = &[
+    (
+        "edfruns canonical two.edf",
+        "two.edf",
+        &[
+            "one.edf",
+            "cut.edf",
+            "loose.edf",
+            "tenths.edf",
+            "overlap.edf",
+            "grown.edf",
+        ],
+    ),
+    (
+        "edfruns split two.edf night",
+        "two.edf",
+        &[
+            "one.edf",
+            "cut.edf",
+            "loose.edf",
+            "tenths.edf",
+            "overlap.edf",
+            "grown.edf",
+        ],
+    ),
+    (
+        "edfruns split strays.edf night --by-onset",
+        "strays.edf",
+        &["two.edf"],
+    ),
+];
+
+/// Whether a command says that its file changed, and leaves none, where its second reading finds
+/// the other.
+fn is_told(alloc: Global, line: &str, name: &str, other: &str) -> Option<bool> {
+    let shelf = Shelf::new(alloc).changed(file_named(alloc, other)?);
+    let printed = story(alloc, shelf, free(), usize::MAX, line)?;
+    let expected = format!(in alloc;
+        "err: {name} changed between its readings\nstatus 3, 0 files\n"
+    ).ok()?;
+    Some(printed == expected)
+}
+
+#[test]
+fn a_file_that_changed_between_its_readings_is_refused_and_leaves_no_file(rt: HostRuntime) {
+    for (line, name, others) in CHANGES.iter().copied() {
+        for other in others.iter().copied() {
+            let told = is_told(rt.alloc(), line, name, other);
+            assert_eq!(rt; told, Some(true), "{line}, {other}");
+        }
+    }
+}
+
+/// Commands, what their folder can't do, and what they print.
+fn folders() -> [(&'static str, Limits, &'static str); 10] {
+    let (split, mend) = ("edfruns split two.edf night", "edfmend falling.edf out.edf");
+    let first = "err: night-1.edf refused E43 Write\nstatus 3, 0 files\n";
+    let second = "err: night-2.edf refused E43 Write\nstatus 3, 0 files\n";
+    let third = "err: night-3.edf refused E43 Write\nstatus 3, 0 files\n";
+    let mended = "err: out.edf refused E43 Write\nstatus 3, 0 files\n";
+    let kept = "err: night-3.edf refused E43 Write\nnight-1.edf could not be removed\n\
+        status 3, 1 files\n";
+    let half = "err: harry.edf names no code of a patient: give one by --patient CODE\n\
+        out.edf.part could not be removed\nstatus 3, 1 files\n";
+    let free = free();
+    [
+        (split, Limits { room: 0, ..free }, first),
+        (split, Limits { room: 800, ..free }, first),
+        (split, Limits { unmade: 1, ..free }, first),
+        (split, Limits { unmade: 3, ..free }, third),
+        (
+            split,
+            Limits {
+                unfinished: 2,
+                ..free
+            },
+            second,
+        ),
+        (
+            split,
+            Limits {
+                unmade: 3,
+                unremoved: 1,
+                ..free
+            },
+            kept,
+        ),
+        (mend, Limits { unmade: 1, ..free }, mended),
+        (mend, Limits { room: 0, ..free }, mended),
+        (mend, Limits { room: 777, ..free }, mended),
+        (
+            "edfmend harry.edf out.edf",
+            Limits {
+                unremoved: 1,
+                ..free
+            },
+            half,
+        ),
+    ]
+}
+
+#[test]
+fn a_file_that_cannot_be_made_or_removed_is_named_and_no_other_is_left(rt: HostRuntime) {
+    for (line, limits, expected) in folders() {
+        let shelf = Shelf::new(rt.alloc());
+        let printed = story(rt.alloc(), shelf, limits, usize::MAX, line);
+        let is_so = printed.is_some_and(|text| text.as_str() == expected);
+        assert!(rt; is_so, "{line}: {expected}");
+    }
+}
+
+/// Room on standard output, and what a list of three files prints.
+const LISTS: &[(usize, &str)] = &[
+    (
+        5,
+        "one.eerr: standard output refused E43 Write\nstatus 3, 0 files\n",
+    ),
+    (
+        60,
+        "one.edf 1 records=2 first=2002-03-02T23:59:50 seconds=2\ntent\
+        err: standard output refused E43 Write\nstatus 3, 0 files\n",
+    ),
+    (
+        200,
+        "one.edf 1 records=2 first=2002-03-02T23:59:50 seconds=2\n\
+        tenths.edf 1 records=4 first=2002-03-02T23:59:50 seconds=0.4\n\
+        err: none.edf refused E40 Read\nstatus 3, 0 files\n",
+    ),
+];
+
+/// Commands that write more than a hundred bytes, and how many files are left where standard output
+/// does not take them: a mended file stays where its ledger can't be told.
+const WRITERS: &[(&str, usize)] = &[
+    ("edfruns list two.edf", 0),
+    ("edfruns write two.edf 2", 0),
+    ("edfruns canonical two.edf", 0),
+    ("edfruns split two.edf night", 0),
+    ("edfruns picture two.edf", 0),
+    ("edfmend falling.edf out.edf", 1),
+];
+
+/// How a line of words ends with room for so many bytes on standard output, how many bytes went
+/// out, and how many files are left.
+fn outcome_with_room(alloc: Global, line: &str, room: usize) -> Option<(Status, usize, usize)> {
+    let outcome = outcome_of(alloc, Shelf::new(alloc), free(), room, line)?;
+    Some((outcome.status, outcome.out.len(), outcome.left))
+}
+
+#[test]
+fn lines_and_files_that_cannot_be_written_are_trouble(rt: HostRuntime) {
+    for (room, expected) in LISTS.iter().copied() {
+        let line = "edfruns list one.edf tenths.edf none.edf";
+        let printed = story(rt.alloc(), Shelf::new(rt.alloc()), free(), room, line);
+        let is_so = printed.is_some_and(|text| text.as_str() == expected);
+        assert!(rt; is_so, "{room}");
+    }
+    for (line, left) in WRITERS.iter().copied() {
+        for room in [0usize, 1, 59, 100] {
+            let outcome = outcome_with_room(rt.alloc(), line, room);
+            assert_eq!(rt;
+                outcome,
+                Some((Status::Trouble, room, left)),
+                "{line}, {room}"
+            );
+        }
+    }
+}

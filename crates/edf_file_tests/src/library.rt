@@ -1,0 +1,165 @@
+//! Functions of `edf_runs` and `edf_mend` that are called one by one.
+
+use crate::files::{
+    file_named, first_strays, second_run, second_strays, strays, third_run, two_gaps,
+};
+use edf_fragment::{Counted, FragmentFault, Input, OpenFragment};
+use edf_header::HeaderFault;
+use edf_mend::{Ledger, MendFault, Rule, Step, Survey, mend, survey_file};
+use edf_runs::{
+    Listing, Run, Written, add_record, list_runs, reopen, skip_run, write_counted, write_run,
+};
+use edf_sample::{Sink, Source};
+use std::alloc::Global;
+
+/// Reads the next data record, and adds it to the runs.
+fn gather_next<R: Input>(
+    fragment: &mut OpenFragment,
+    input: &mut R,
+    runs: &mut Vec<Run>,
+) -> Option<()> {
+    let data_record = fragment.next(input).ok()??;
+    let duration = fragment.header().identity().duration();
+    add_record(runs, &data_record, duration).ok()
+}
+
+/// How many data records and annotations samples each run of two gaps has, by a caller that reads
+/// itself.
+fn gathered(alloc: Global) -> Option<Vec<(u32, u32)>> {
+    let bytes = two_gaps(alloc)?;
+    let mut input = Counted::new(Source::whole(&bytes, 100));
+    let mut fragment = OpenFragment::read(alloc, &mut input).ok()?;
+    let mut runs = Vec::new(alloc);
+    for _ in 0..6u8 {
+        gather_next(&mut fragment, &mut input, &mut runs)?;
+    }
+    let mut sizes = Vec::new(alloc);
+    for run in &runs {
+        sizes.push((run.records(), run.block_samples())).ok()?;
+    }
+    Some(sizes)
+}
+
+/// A second reading, past the runs before one.
+fn past<R: Input>(
+    alloc: Global,
+    input: &mut R,
+    listing: &Listing,
+    number: u32,
+) -> Option<OpenFragment> {
+    let mut fragment = reopen(alloc, input, listing).ok()?;
+    for before in 1..number {
+        skip_run(&mut fragment, input, listing.run(before)?).ok()?;
+    }
+    Some(fragment)
+}
+
+/// What is told of the file of a run that is written, where it is this one, counted or not.
+fn written(alloc: Global, bytes: &[u8], number: u32, file: &[u8]) -> Option<Written> {
+    let mut first_reading = Counted::new(Source::whole(bytes, 100));
+    let listing = list_runs(alloc, &mut first_reading).ok()?;
+    let run = listing.run(number)?;
+    let mut got = Vec::new(alloc);
+    let mut input = Counted::new(Source::whole(bytes, 7));
+    let mut fragment = past(alloc, &mut input, &listing, number)?;
+    let mut out = Counted::new(Sink::whole(&mut got, 100));
+    let told = write_counted(alloc, &mut fragment, &mut input, run, &mut out).ok()?;
+    drop(out);
+    let mut again = Vec::new(alloc);
+    let mut input = Counted::new(Source::whole(bytes, 9));
+    let mut fragment = past(alloc, &mut input, &listing, number)?;
+    let mut out = Counted::new(Sink::whole(&mut again, 90));
+    let len = write_run(alloc, &mut fragment, &mut input, run, &mut out).ok()?;
+    drop(out);
+    if got == again && got.as_slice() == file && len == told.bytes {
+        Some(told)
+    } else {
+        None
+    }
+}
+
+/// The same of files of the tests.
+fn told(
+    alloc: Global,
+    bytes: Option<Vec<u8>>,
+    number: u32,
+    file: Option<Vec<u8>>,
+) -> Option<(u64, u64, u64)> {
+    let told = written(alloc, &bytes?, number, &file?)?;
+    Some((told.bytes, told.annotations, told.outside))
+}
+
+#[test]
+fn runs_are_gathered_and_written(rt: HostRuntime) {
+    let alloc = rt.alloc();
+    let expected = [(3u32, 10u32), (2, 17), (1, 3)];
+    assert!(rt; gathered(alloc).is_some_and(|sizes| sizes.as_slice() == expected.as_slice()));
+    for (bytes, number, file, expected) in [
+        (
+            two_gaps(alloc),
+            2u32,
+            second_run(alloc),
+            (844u64, 2u64, 2u64),
+        ),
+        (two_gaps(alloc), 3, third_run(alloc), (778, 0, 0)),
+        (strays(alloc), 1, first_strays(alloc), (840, 4, 3)),
+        (strays(alloc), 2, second_strays(alloc), (856, 5, 4)),
+    ] {
+        assert_eq!(rt;
+            told(alloc, bytes, number, file),
+            Some(expected),
+            "{number}"
+        );
+    }
+}
+
+/// Mends a file in a second reading.
+fn mended(
+    alloc: Global,
+    bytes: &[u8],
+    survey: &Survey,
+    only: &[Rule],
+    got: &mut Vec<u8>,
+) -> Result<Ledger, MendFault> {
+    let mut input = Counted::new(Source::whole(bytes, 9));
+    let mut out = Counted::new(Sink::whole(got, 11));
+    mend(alloc, &mut input, &mut out, survey, only, None)
+}
+
+/// Whether the first change of a step is that of the physical minimum to 510.
+fn is_first_of_falling(step: &Step) -> bool {
+    match step.changes().first() {
+        Some(change) => {
+            step.rule().name() == "digital"
+                && change.at() == 464
+                && change.old() == b"-440    ".as_slice()
+                && change.new() == b"510     ".as_slice()
+        }
+        None => false,
+    }
+}
+
+/// What a first reading finds of a file whose digital limits fall, how many bytes and data records
+/// are mended, how many are added and left out, and whether the first change is told.
+fn fallen(alloc: Global) -> Option<(Option<FragmentFault>, u64, usize, u32, bool)> {
+    let bytes = file_named(alloc, "falling.edf")?;
+    let survey = survey_file(alloc, Counted::new(Source::whole(&bytes, 7))).ok()?;
+    let mut got = Vec::new(alloc);
+    let ledger = mended(alloc, &bytes, &survey, &[Rule::Digital], &mut got).ok()?;
+    let is_told = ledger.added == 0
+        && ledger.left_out == 0
+        && is_first_of_falling(ledger.steps.first()?);
+    Some((
+        survey.fault,
+        survey.bytes,
+        got.len(),
+        ledger.records,
+        is_told,
+    ))
+}
+
+#[test]
+fn a_file_is_surveyed_and_mended(rt: HostRuntime) {
+    let fault = FragmentFault::Header(HeaderFault::Digital { signal: 1 });
+    assert_eq!(rt; fallen(rt.alloc()), Some((Some(fault), 778, 778, 1, true)));
+}

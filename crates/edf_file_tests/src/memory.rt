@@ -1,0 +1,137 @@
+//! Memory that runs out, under each budget until one suffices.
+
+ghost use Rattle.std.specs.Prelude.{None, map, string_bytes};
+
+use crate::files::two_gaps;
+use crate::folder::{Folder, free};
+use edf_fragment::Counted;
+use edf_program::{Inputs, Status};
+use edf_sample::{Scarce, Sink, Source};
+use edfruns_command::{RunsCommand, run_runs};
+use std::alloc::{AllocError, Global};
+
+/// One file, whatever the name.
+#[derive(Drop)]
+struct Held<'a> {
+    bytes: &'a [u8],
+    /// The names that were opened, in turn.
+    names: Vec<String>,
+}
+
+impl<'a> Inputs for Held<'a> {
+    type Reader = Counted<Source<'a>>;
+
+    ghost bytes = { λ _ _. None };
+
+    ghost opened = { λ held. map string_bytes held.names.items };
+
+    fn open(&mut self, alloc: Global, name: &str) -> Result<Counted<Source<'a>>, AllocError> {
+        self.names.push(String::from_str(alloc, name)?)?;
+        Ok(Counted::new(Source::whole(self.bytes, 300)))
+    }
+}
+
+/// How a budget served.
+#[derive(Clone, Copy, Debug, PartialEq, Eq)]
+enum Served {
+    /// Memory ran out.
+    Short,
+    /// It sufficed.
+    Whole,
+}
+
+/// How the budget served under which a command ended so, wrote so and left so many files; `None`
+/// where it may not. For want of memory a file may also count as one that can't be written.
+fn how_served(status: Status, out: &[u8], err: &[u8], files: usize) -> Option<Served> {
+    match status {
+        Status::Done if err.is_empty() && !out.is_empty() => Some(Served::Whole),
+        Status::Trouble if files == 0 && out.is_empty() => {
+            let is_printed = err.is_empty()
+                || err == b"two.edf refused E41 Memory\n".as_slice()
+                || err.starts_with(b"night-") && err.ends_with(b".edf refused E43 Write\n");
+            if is_printed {
+                Some(Served::Short)
+            } else {
+                None
+            }
+        }
+        _ => None,
+    }
+}
+
+/// Runs a command over two gaps under a budget.
+fn run_under(
+    alloc: Global,
+    command: &RunsCommand,
+    scarce: &mut Scarce,
+    budget: usize,
+) -> Option<Served> {
+    let bytes = two_gaps(alloc)?;
+    let mut out_bytes = Vec::with_capacity(alloc, 10_000).ok()?;
+    let mut err_bytes = Vec::with_capacity(alloc, 1_000).ok()?;
+    let names = Vec::new(alloc);
+    let mut held = Held {
+        bytes: &bytes,
+        names,
+    };
+    let mut folder = Folder::new(alloc, free());
+    if !scarce.leave(alloc, budget) {
+        return None;
+    }
+    let mut out = Counted::new(Sink::whole(&mut out_bytes, 1_000));
+    let mut err = Counted::new(Sink::whole(&mut err_bytes, 1_000));
+    let status = run_runs(alloc, command, &mut held, &mut folder, &mut out, &mut err);
+    drop((out, err));
+    scarce.ease();
+    how_served(status, &out_bytes, &err_bytes, folder.left())
+}
+
+/// Under how many budgets memory runs out until one suffices; `None` where one is served otherwise,
+/// or none suffices.
+fn short_until_whole(alloc: Global, command: &RunsCommand) -> Option<u32> {
+    let mut scarce = Scarce::new(alloc).ok()?;
+    for turn in 0..10_000u32 {
+        let budget = if turn == 0 {
+            0
+        } else {
+            (turn as usize).saturating_mul(16).saturating_add(1_084)
+        };
+        match run_under(alloc, command, &mut scarce, budget)? {
+            Served::Short => {}
+            Served::Whole => return Some(turn),
+        }
+    }
+    None
+}
+
+/// The command to split two gaps.
+fn split(alloc: Global, is_by_onset: bool) -> Option<RunsCommand> {
+    Some(RunsCommand::Split {
+        file: String::from_str(alloc, "two.edf").ok()?,
+        prefix: String::from_str(alloc, "night").ok()?,
+        is_by_onset,
+    })
+}
+
+/// The commands to list two gaps and to split it, as it is and by onset.
+fn commands(alloc: Global) -> Option<[RunsCommand; 3]> {
+    let mut files = Vec::new(alloc);
+    files.push(String::from_str(alloc, "two.edf").ok()?).ok()?;
+    let list = RunsCommand::List {
+        files,
+        tolerance: Some(7_500_000_000),
+    };
+    Some([list, split(alloc, false)?, split(alloc, true)?])
+}
+
+#[test]
+fn a_command_without_memory_writes_nothing_and_leaves_no_file(rt: HostRuntime) {
+    let Some(commands) = commands(rt.alloc()) else {
+        assert!(rt; false, "out of memory");
+        return;
+    };
+    for command in &commands {
+        let short = short_until_whole(rt.alloc(), command);
+        assert!(rt; matches!(short, Some(10..)), "{command:?}: {short:?}");
+    }
+}

@@ -1,0 +1,138 @@
+//! Pictures, by what their texts say.
+
+use edf_picture::{Recorded, Sketch, Stretch, Title};
+use edf_time::Instant;
+use std::alloc::{AllocError, Global};
+
+pub(crate) const SECOND: u64 = 1_000_000_000;
+
+const MINUTE: u64 = 60 * SECOND;
+
+const HOUR: u64 = 60 * MINUTE;
+
+const DAY: u64 = 24 * HOUR;
+
+/// Data records of a second from an instant on, in nanoseconds.
+pub(crate) fn stretch(first: u64, records: u32) -> Option<Stretch> {
+    let later = u64::from(records).saturating_sub(1).saturating_mul(SECOND);
+    Some(Stretch {
+        first: Instant::at(first)?,
+        last: Instant::at(first.saturating_add(later))?,
+        records,
+    })
+}
+
+/// The picture of stretches under a patient's code, with the annotations of a sketch.
+pub(crate) fn drawn(
+    alloc: Global,
+    sketch: &Sketch,
+    patient: &[u8],
+    stretches: &[Stretch],
+) -> Result<String, AllocError> {
+    let title = Title {
+        patient,
+        investigation: b"N1",
+    };
+    let recorded = Recorded {
+        duration: SECOND,
+        stretches,
+        signals: &[],
+        tolerance: 0,
+    };
+    sketch.draw(alloc, &title, &recorded, b"1 & <2>\n")
+}
+
+/// Whether there is a picture, and it has all parts.
+pub(crate) fn has_all(svg: Option<String>, parts: &[&str]) -> bool {
+    let Some(svg) = svg else {
+        return false;
+    };
+    for part in parts.iter().copied() {
+        if !svg.contains(part) {
+            return false;
+        }
+    }
+    true
+}
+
+/// Two runs with a gap of 45 seconds, under a patient's code that XML spells otherwise, with three
+/// annotations: two of sleep, of which one is after the recording's end.
+fn night(alloc: Global) -> Option<String> {
+    let mut sketch = Sketch::new(alloc);
+    let onset = Instant::at(22 * HOUR + 30 * SECOND)?;
+    sketch.add_annotation(onset, None, "Lights off").ok()?;
+    sketch
+        .add_annotation(onset, Some(30 * SECOND), "Sleep stage N1")
+        .ok()?;
+    let late = Instant::at(11 * DAY)?;
+    sketch.add_annotation(late, None, "Sleep stage ?").ok()?;
+    let stretches = [
+        stretch(22 * HOUR, 14_400)?,
+        stretch(26 * HOUR + 45 * SECOND, 14_355)?,
+    ];
+    drawn(alloc, &sketch, b"P<7&\"'>", &stretches).ok()
+}
+
+/// What it says.
+const NIGHT: &[&str] = &[
+    "<title id='edf-title'>Patient P&lt;7&amp;&quot;&#39;&gt;, investigation N1</title>",
+    ">1985-01-01 22:00:00 to 1985-01-02 06:00:00<",
+    ">28,755 records of 1 s, 2 runs, 99.8 % of 8 h 00 min; \
+        missing 45 s in 1 gap, longest 45 s<",
+    ">3 annotations, 2 of them sleep stages; 1 outside the recording's time, not drawn<",
+    "<title>gap of 45 s, 1985-01-02 02:00:00 to 1985-01-02 02:00:45</title>",
+    "<title>14,400 records, 1985-01-01 22:00:00 to 1985-01-02 02:00:00</title>",
+    ">45 s</text>",
+    ">N1</text>",
+    "<metadata>1 &amp; &lt;2&gt;\n</metadata>\n</svg>\n",
+];
+
+/// What the picture of two stretches of a minute says of the gap between them, and of all.
+const GAPS: &[(u64, &str, &str)] = &[
+    (1, "0.000000001 s", "2 runs, 99.9 % of"),
+    (SECOND / 4, "0.25 s", "99.7 % of"),
+    (
+        MINUTE,
+        "1 min 00 s",
+        "120 records of 1 s, 2 runs, 66.6 % of 3 min 00 s",
+    ),
+    (8 * HOUR, "8 h 00 min", "0.4 % of 8 h 02 min"),
+    (
+        3 * DAY + 4 * HOUR,
+        "3 days 04 h",
+        "under 0.1 % of 3 days 04 h",
+    ),
+    (213 * DAY, "213 days", "under 0.1 % of 213 days"),
+    (14_610 * DAY, "40.0 years", "under 0.1 % of 40.0 years"),
+];
+
+/// Two stretches of a minute with a gap.
+fn with_gap(alloc: Global, gap: u64) -> Option<String> {
+    let first = stretch(22 * HOUR, 60)?;
+    let last = stretch((22 * HOUR + MINUTE).saturating_add(gap), 60)?;
+    drawn(alloc, &Sketch::new(alloc), b"P7", &[first, last]).ok()
+}
+
+/// Ten minutes without a gap.
+fn ten_minutes(alloc: Global) -> Option<String> {
+    let recorded = stretch(22 * HOUR + 3 * MINUTE, 600)?;
+    drawn(alloc, &Sketch::new(alloc), b"P7", &[recorded]).ok()
+}
+
+/// What it says: they fill the width.
+const TEN_MINUTES: &[&str] = &[
+    "x='112' y='16' width='864' height='12'><title>600 records,",
+    ">22:03</text>",
+];
+
+#[test]
+fn runs_and_gaps_are_drawn_and_named(rt: HostRuntime) {
+    let alloc = rt.alloc();
+    assert!(rt; has_all(night(alloc), NIGHT));
+    assert_eq!(rt; night(alloc), night(alloc));
+    for (gap, span, share) in GAPS.iter().copied() {
+        assert!(rt; has_all(with_gap(alloc, gap), &[span, share]), "{span}");
+    }
+    assert!(rt; has_all(ten_minutes(alloc), TEN_MINUTES));
+    assert!(rt; !has_all(ten_minutes(alloc), &[">gap</text>"]));
+}

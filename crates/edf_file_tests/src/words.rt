@@ -1,0 +1,87 @@
+//! What words print that no stored run shows: the version, what is read from standard input, that
+//! pictures are SVG. And the text of a fault.
+
+use crate::stage::plain_story;
+use edf_header::HeaderFault;
+use edf_program::VERSION;
+use std::alloc::Global;
+
+/// A line of words, and how what it prints begins and ends.
+const PRINTED: &[(&str, &str, &str)] = &[
+    (
+        "edfruns list -",
+        "1 records=3 first=2002-03-02T23:59:50.25 seconds=3 gap=7.5\n",
+        "3 records=1 first=2002-03-03T01:00:00 seconds=1\nstatus 0, 0 files\n",
+    ),
+    ("edfruns picture -", "<svg ", "</svg>\nstatus 0, 0 files\n"),
+    (
+        "edfruns picture two.edf",
+        "<svg ",
+        "</svg>\nstatus 0, 0 files\n",
+    ),
+    (
+        "edfruns picture two.edf --tolerance 0",
+        "<svg ",
+        "</svg>\nstatus 0, 0 files\n",
+    ),
+    (
+        "edfruns picture --tolerance 1.000000000 tenths.edf",
+        "<svg ",
+        "</svg>\nstatus 0, 0 files\n",
+    ),
+];
+
+/// Whether a line of words prints what begins and ends so.
+fn prints(alloc: Global, line: &str, beginning: &str, end: &str) -> bool {
+    match plain_story(alloc, line) {
+        Some(text) => text.as_str().starts_with(beginning) && text.as_str().ends_with(end),
+        None => false,
+    }
+}
+
+/// What is printed where a line asks for the version of a program.
+fn is_version(alloc: Global, program: &str) -> Option<bool> {
+    let line = format!(in alloc; "{program} --version").ok()?;
+    let expected = format!(in alloc; "{program} {VERSION}\nstatus 0, 0 files\n").ok()?;
+    Some(plain_story(alloc, line.as_str())? == expected)
+}
+
+#[test]
+fn words_print_what_they_ask_for(rt: HostRuntime) {
+    for (line, beginning, end) in PRINTED.iter().copied() {
+        assert!(rt; prints(rt.alloc(), line, beginning, end), "{line}");
+    }
+    for program in ["edfruns", "edfmend"] {
+        assert_eq!(rt; is_version(rt.alloc(), program), Some(true), "{program}");
+    }
+}
+
+/// Whether a fault is shown as this text.
+fn is_shown_as(alloc: Global, fault: HeaderFault, text: &str) -> Option<bool> {
+    let shown = format!(in alloc; "{fault}").ok()?;
+    Some(shown.as_str() == text)
+}
+
+/// A fault, its text, and its number.
+const FAULTS: &[(HeaderFault, &str, u8)] = &[
+    (HeaderFault::Cut, "the file has fewer than 256 bytes", 1),
+    (
+        HeaderFault::Unprintable { offset: 20 },
+        "byte 20 is not printable",
+        2,
+    ),
+    (
+        HeaderFault::Physical { signal: 3 },
+        "signal 3 has no two different physical values",
+        17,
+    ),
+    (HeaderFault::Memory, "out of memory", 41),
+];
+
+#[test]
+fn a_fault_says_what_is_wrong(rt: HostRuntime) {
+    for (fault, text, number) in FAULTS.iter().copied() {
+        let told = (fault.number(), is_shown_as(rt.alloc(), fault, text));
+        assert_eq!(rt; told, (number, Some(true)));
+    }
+}
