@@ -94,17 +94,17 @@ pub fn tell_cause(rt: &HostRuntime, terminal: &Terminal<'_>, path: &str, refused
 
 /// Tells a person that a new store was made, and keeps why a store was refused.
 #[derive(Drop)]
-pub(crate) struct Teller<'t> {
+pub(crate) struct Teller<'t, 'c> {
     pub(crate) terminal: &'t Terminal<'t>,
     pub(crate) path: &'t str,
     /// Whether there was no file.
     pub(crate) is_new: bool,
     /// Whether the store was opened.
-    pub(crate) is_open: &'t Cell<bool>,
+    pub(crate) is_open: &'c Cell<bool>,
     pub(crate) refused: Option<Refused>,
 }
 
-impl Watch for Teller<'_> {
+impl Watch for Teller<'_, '_> {
     ghost noticed = { λ _. None };
 
     fn opened<O: Output>(&mut self, _out: &O) {

@@ -28,12 +28,12 @@ pub(crate) fn is_held(error: &Error) -> bool {
 /// A stream that passes on what is written once the store is open. Before that only the line is
 /// written that refuses the store. It is dropped, since the store may be tried again.
 #[derive(Drop)]
-pub(crate) struct Muted<'s, F: Output> {
+pub(crate) struct Muted<'s, 'c, F: Output> {
     pub(crate) stream: &'s mut F,
-    pub(crate) is_open: &'s Cell<bool>,
+    pub(crate) is_open: &'c Cell<bool>,
 }
 
-impl<F: Output> Output for Muted<'_, F> {
+impl<F: Output> Output for Muted<'_, '_, F> {
     ghost contents = { λ _. None };
 
     ghost failures = { λ muted. F.Output.failures muted.stream.now };
