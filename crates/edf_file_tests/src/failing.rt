@@ -18,12 +18,6 @@ pub(crate) fn bytes_of(alloc: Global, name: &str) -> Option<Vec<u8>> {
 /// The fault of opening a fragment and those of three calls after that, where there is one.
 type Faults = (Option<FragmentFault>, [Option<FragmentFault>; 3]);
 
-/// A read failed.
-const READ: Option<FragmentFault> = Some(FragmentFault::Read);
-
-/// It was answered before that the reader failed.
-const OVER: Option<FragmentFault> = Some(FragmentFault::Failed);
-
 fn faults(alloc: Global, input: Source<'_>) -> Faults {
     let mut input = Counted::new(input);
     match FragmentReader::open(alloc, &mut input) {
@@ -42,23 +36,26 @@ fn faults_of_failing(alloc: Global, name: &str, cut: usize, kind: io::ErrorKind)
     Some(faults(alloc, Source::failing(&bytes, cut, kind)))
 }
 
-/// A file, from which byte on its reads fail, and its faults.
-const FAILED: &[(&str, usize, Faults)] = &[
-    ("q", 0, (READ, [None; 3])),
-    ("q", 255, (READ, [None; 3])),
-    ("q", 256, (READ, [None; 3])),
-    ("q", 300, (READ, [None; 3])),
-    ("q", 767, (READ, [None; 3])),
-    ("q", 768, (None, [READ, OVER, OVER])),
-    ("q", 770, (None, [READ, OVER, OVER])),
-    ("q", 777, (None, [READ, OVER, OVER])),
-    ("q", 778, (None, [None, READ, OVER])),
-    ("k", 768, (None, [READ, OVER, OVER])),
-    ("k", 777, (None, [READ, OVER, OVER])),
-    ("k", 778, (None, [None, READ, OVER])),
-    ("k", 787, (None, [None, READ, OVER])),
-    ("k", 788, (None, [None, None, READ])),
-];
+/// Files, from which byte on the reads of each fail, and its faults.
+fn failed() -> [(&'static str, usize, Faults); 14] {
+    let (read, over) = (Some(FragmentFault::Read), Some(FragmentFault::Failed));
+    [
+        ("q", 0, (read, [None; 3])),
+        ("q", 255, (read, [None; 3])),
+        ("q", 256, (read, [None; 3])),
+        ("q", 300, (read, [None; 3])),
+        ("q", 767, (read, [None; 3])),
+        ("q", 768, (None, [read, over, over])),
+        ("q", 770, (None, [read, over, over])),
+        ("q", 777, (None, [read, over, over])),
+        ("q", 778, (None, [None, read, over])),
+        ("k", 768, (None, [read, over, over])),
+        ("k", 777, (None, [read, over, over])),
+        ("k", 778, (None, [None, read, over])),
+        ("k", 787, (None, [None, read, over])),
+        ("k", 788, (None, [None, None, read])),
+    ]
+}
 
 /// After how many bytes of K without its count, from none on, a failed read is answered as one,
 /// also where a data record ends.
@@ -87,7 +84,7 @@ fn faults_of_two(alloc: Global) -> Option<Faults> {
 #[test]
 fn a_fault_is_answered_once_and_then_only_that_the_reader_failed(rt: HostRuntime) {
     for kind in [io::ErrorKind::BrokenPipe, io::ErrorKind::Interrupted] {
-        for (name, cut, expected) in FAILED.iter().copied() {
+        for (name, cut, expected) in failed() {
             let faults = faults_of_failing(rt.alloc(), name, cut, kind);
             assert_eq!(rt; faults, Some(expected), "{name} at {cut}");
         }
@@ -97,8 +94,6 @@ fn a_fault_is_answered_once_and_then_only_that_the_reader_failed(rt: HostRuntime
         nth: 2,
         fault: TalFault::Order,
     };
-    assert_eq!(rt;
-        faults_of_two(rt.alloc()),
-        Some((None, [None, Some(order), OVER]))
-    );
+    let expected = (None, [None, Some(order), Some(FragmentFault::Failed)]);
+    assert_eq!(rt; faults_of_two(rt.alloc()), Some(expected));
 }

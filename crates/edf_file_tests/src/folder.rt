@@ -41,7 +41,7 @@ impl Output for Page {
 }
 
 /// What a folder can't do.
-#[derive(Clone, Copy, Drop)]
+#[derive(Clone, Copy)]
 pub(crate) struct Limits {
     /// How many bytes each new file takes.
     pub(crate) room: usize,
