@@ -84,6 +84,11 @@ impl<'rt> Folder<'rt> {
     }
 }
 
+/// Whether a file is gone, which is removed if it is there.
+fn is_removed(rt: &HostRuntime, name: &str) -> bool {
+    fs::symlink_metadata(rt, name).is_err() || fs::remove_file(rt, name).is_ok()
+}
+
 impl Outputs for Folder<'_> {
     type Writer = Page;
 
@@ -133,8 +138,9 @@ impl Outputs for Folder<'_> {
     }
 
     fn remove(&mut self, place: usize) -> bool {
+        let rt = self.rt;
         let is_gone = match self.runs.name(place) {
-            Some(name) => !self.has(name) || fs::remove_file(self.rt, name).is_ok(),
+            Some(name) => is_removed(rt, name),
             None => false,
         };
         self.runs.end(place, is_gone);
