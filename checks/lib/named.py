@@ -2,8 +2,8 @@
 for names, they are of Q's recording, cut and changed. Those that are exported are spelled as
 exports are.
 """
-from .by_hand import (COUNT, HEADER_BYTES, LABEL, LAST_SECOND, MARCH_3, RECORDING, RESERVED,
-                      SIGNALS, SIZE, STARTDATE, STARTTIME, canonical, column, field)
+from .by_hand import (COUNT, HEADER_BYTES, LABEL, LAST_SECOND, MARCH_3, PATIENT, RECORDING,
+                      RESERVED, SIGNALS, SIZE, STARTDATE, STARTTIME, canonical, column, field)
 from .edf import Header, Signal, annotations_signal, fragment, keeping, small_files, tal
 
 LETTERS = small_files()
@@ -14,6 +14,7 @@ END_OF_2084 = {"startdate": "31.12.84", "starttime": "23.59.59",
                "recording": "Startdate 31-DEC-2084 N1 T3 REC5"}
 UNDATED_END = END_OF_2084 | {"recording": "Startdate X N1 T3 REC5"}
 UNDATED_EVENING = UNDATED_END | {"starttime": "23.59.57"}
+CODES = [f"P{number:03}" for number in range(60)]
 P5_BEHIND_Q = (TWO, keeping("+15") + tal("+15.5", "Snore") + tal("+15.5", "Turn"))
 
 
@@ -81,6 +82,11 @@ def expected() -> dict:
         "n1_and_n2.edf": canonical(second(0), second(1), starttime="01.00.00", **MARCH_3),
         "n2_and_n3.edf": canonical((second(1)[0], keeping("+0")), (second(2)[0], keeping("+1")),
                                    starttime="01.00.01", **MARCH_3),
+        "canonical_p5.edf": canonical(
+            (TWO, keeping("+0") + tal("+0.5", "Snore") + tal("+0.5", "Turn")),
+            starttime="00.00.05", **MARCH_3),
+        "q_p5_and_k.edf": canonical((ONE, keeping("+0")), P5_BEHIND_Q,
+                                    *((second(n)[0], keeping(f"+{3610 + n}")) for n in range(3))),
         "canonical_k.edf": field(K, RESERVED, "EDF+D"),
         "canonical_u.edf": column(field(U, RESERVED, "EDF+D"), SIZE, 2, "11")[:768] + b"\1\0\2\0" +
         keeping("+0") + tal("+0.5", "Lights off") + b"\3\0\4\0" + keeping("+1").ljust(22, b"\0"),
@@ -132,6 +138,10 @@ def of_other_years() -> dict:
                                         (SIX, keeping("+61")), **UNDATED_END),
         "undated_night.edf": canonical(start, later, (THREE, keeping("+2")), (FIVE, keeping("+3")),
                                        (SIX, keeping("+63")), **UNDATED_EVENING),
+        "undated_last_second.edf": evening(start, **UNDATED_END),
+        "first_second_of_2085.edf": evening(
+            (TWO, keeping("+0")), startdate="01.01.yy", starttime="00.00.00",
+            recording="Startdate 01-JAN-2085 N1 T3 REC5"),
         "end_and_first.edf": evening(start, (ONE, keeping("+15")),
                                      **END_OF_2084 | {"starttime": "23.59.50"}),
         "q_and_2102.edf": evening(start, (ONE, keeping("+3155673600")), samples=7),
@@ -162,6 +172,20 @@ def uncounted() -> dict:
         "uncounted_half.edf": without_count(half, 792),
         "uncounted_half_one.edf": without_count(half, 780),
     }
+
+
+# How much there is of K's file as it grows, without its count
+GROWN = (255, 256, 767, 768, 777, 778, 779, 787, 788, 789, 797, 798)
+
+
+def growing() -> dict:
+    return {f"grown_{size}.edf": without_count(K, size) for size in GROWN}
+
+
+def many() -> dict:
+    """Q's file under sixty patient codes, which its samples repeat."""
+    return {f"many/{code}.edf": patched(field(Q, PATIENT, f"{code} F 02-MAY-1951 X"), 768,
+                                        code.encode()) for code in CODES}
 
 
 def p5_in_blocks(first: bytes, later: bytes) -> bytes:
@@ -204,5 +228,5 @@ def promising() -> dict:
 
 def files() -> dict:
     """Every file of the stories by its name."""
-    return (fitting() | refused() | expected() | of_other_years() | uncounted() |
-            several_signals() | promising())
+    return (fitting() | refused() | expected() | of_other_years() | uncounted() | growing() |
+            several_signals() | promising() | many())

@@ -7,10 +7,11 @@ ones, or a refusal.
 """
 from itertools import permutations
 
-from . import faults, model, printed
+from . import faults, model, named, printed
 from .by_hand import DIFFERS, OVERLAPS
 
 MOST = model.MOST_RECORDS       # data records of a recording
+NIGHT = "night.db"
 Q_START, OF_2102 = "2002-03-02T23:59:50", "2102-03-02T23:59:50"
 MISSING = faults.read()
 # Files that each store refuses
@@ -82,6 +83,7 @@ class Script:
 
     def __init__(self, files: dict):
         self.files, self.store, self.lines = files, model.Store(), []
+        self.begin, self.name = "", NIGHT
 
     def line(self, order: str, *lines) -> None:
         self.lines.append((order, lines))
@@ -94,21 +96,37 @@ class Script:
         self.line(f"# {text}")
 
     def empty(self, cap: int = MOST) -> None:
-        self.store = model.Store(cap)
+        self.store, self.begin, self.name = model.Store(cap), "", NIGHT
         self.line(f"store {cap}")
+
+    def over_files(self, name: str, cap: int = MOST) -> None:
+        """The commands that follow are runs of their own over the store of this name, which is a
+        file and holds nothing, unless `hold` says what."""
+        self.store, self.begin, self.name = model.Store(cap), f"files {cap} ", name
+
+    def hold(self, name: str) -> None:
+        """The store has the data records of a file."""
+        self.store.take(self.files[name])
+
+    def command(self, words: str, *lines) -> None:
+        self.line(f"{self.begin}{words}", *lines)
+
+    def is_refused(self, on_errors: str) -> None:
+        """The store can't be opened."""
+        self.command(f"list {self.name}", on_error(on_errors), ended(3))
 
     def take(self, *given) -> None:
         """Files in turn, each with its answer after its name."""
         names, answers = zip(*(text.split(" ", 1) for text in given))
         lines = [f"{name} {answered(answer)}" for name, answer in zip(names, answers)]
-        self.line(f"take night.db {' '.join(names)}", *lines, ended(status_of(answers)))
+        self.command(f"take {self.name} {' '.join(names)}", *lines, ended(status_of(answers)))
         self.same([f"{name} {self.answer(name)}" for name in names], lines)
 
     def answer(self, name: str) -> str:
         return self.store.take(self.files[name]) if name in self.files else printed.refused(MISSING)
 
     def list(self, *lines) -> None:
-        self.line("list night.db", *lines, ended(0))
+        self.command(f"list {self.name}", *lines, ended(0))
         self.same(self.store.lines().splitlines(), list(lines))
 
     def export(self, *names) -> None:
@@ -116,10 +134,11 @@ class Script:
         place."""
         for place, name in enumerate(names, 1):
             data = self.files[name]
-            self.line(f"export night.db {place} = {name}", just(name, len(data)), ended(0))
+            self.command(f"export {self.name} {place} = {name}", just(name, len(data)), ended(0))
             self.same(self.store.export(place), data)
         after = len(names) + 1
-        self.line(f"export night.db {after}", on_error(printed.no_recording(after)), ended(1))
+        self.command(f"export {self.name} {after}", on_error(printed.no_recording(after)),
+                     ended(1))
         self.same(len(self.store.held), len(names))
 
     def over(self, *given, cap: int = MOST, lists=None, exports=None) -> None:
@@ -374,6 +393,43 @@ def without_a_count(script: Script) -> None:
                 f"uncounted_k_cut.edf {faults.cut_record(3)}", cap=2)
 
 
+def that_grows(script: Script) -> None:
+    script.title("a file without a count is taken data record by data record as it grows")
+    answers = {255: faults.cut(), 256: faults.cut_signals(), 767: faults.cut_signals(),
+               768: faults.cut_record(1), 777: faults.cut_record(1), 778: "1 0",
+               779: faults.cut_record(2), 787: faults.cut_record(2), 788: "1 1",
+               789: faults.cut_record(3), 797: faults.cut_record(3), 798: "1 2"}
+    script.over(*(f"grown_{size}.edf {answer}" for size, answer in answers.items()),
+                exports=["canonical_k.edf"])
+
+
+def in_runs(script: Script) -> None:
+    script.title("commands that are runs of their own find what those before them left")
+    script.over_files("runs.db")
+    for given, export in (("p5.edf 1 0", "canonical_p5.edf"), ("q.edf 1 0", "q_and_p5.edf"),
+                          (f"half.edf {OVERLAPS}", "q_and_p5.edf"), ("k.edf 3 0", "q_p5_and_k.edf"),
+                          ("n2.edf 0 1", "q_p5_and_k.edf")):
+        script.take(given)
+        script.export(export)
+    script.list(listed(1, 5, Q_START))
+    script.title("a cap is that of each run")
+    script.over_files("capped.db", 2)
+    script.take("n1.edf 1 0", f"k.edf {faults.full(1, 2, 2)}", "n2.edf 1 0")
+    script.take(f"n3.edf {faults.full(2, 1, 2)}", "n1.edf 0 1")
+    script.export("n1_and_n2.edf")
+
+
+def of_many_recordings(script: Script) -> None:
+    script.title("sixty recordings are given back in the order of their identities")
+    count = len(named.CODES)
+    codes = [named.CODES[7 * turn % count] for turn in range(count)]
+    script.over_files("many.db")
+    script.take(*(f"many/{code}.edf 1 0" for code in codes))
+    script.list(*(listed(place, 1, Q_START, code, "N1")
+                  for place, code in enumerate(named.CODES, 1)))
+    script.export(*(f"many/{code}.edf" for code in named.CODES))
+
+
 def of_several_signals(script: Script) -> None:
     script.title("annotations count in the order of the blocks and not by their block, and an "
                  "export has one annotations signal")
@@ -397,7 +453,7 @@ def script(files: dict) -> Script:
     """All stories."""
     made = Script(files)
     for play in (that_fit, of_bad_form, that_clash, of_a_full_recording, that_are_missing,
-                 converted, in_all_orders, sent_again, of_other_years, without_a_count,
-                 of_several_signals):
+                 converted, in_all_orders, sent_again, of_other_years, without_a_count, that_grows,
+                 of_several_signals, in_runs, of_many_recordings):
         play(made)
     return made

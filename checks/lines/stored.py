@@ -5,10 +5,10 @@ run; or written anew.
 
 --write writes stdin, stdout and data/ of the three crates. PATH is a program, of edfstore, edfruns
 and edfmend; the one that its script in bin runs where it is left out. What goes in is built field
-by field; what must come out is written by hand, below and in lib/stories.py, lib/run_stories.py
-and lib/mend_stories.py, and compared with the plain model. Of the program's own making is only the
-store held.db: the identity, start and samples of each row of it are compared with the model. It
-needs no SQLite but Python's.
+by field; what must come out is written by hand, below and in lib/stories.py and the other files of
+stories there, and compared with the plain model. Of the program's own making is only the store
+held.db: the identity, start and samples of each row of it are compared with the model. The stores
+of lib/foreign.py are made by Python's SQLite, and no other is needed.
 
 The stories are played by the programs too, over a new file for each store. Those of a store with
 another cap than edfstore's own are left to the gate.
@@ -18,7 +18,8 @@ import sqlite3
 import sys
 from pathlib import Path
 
-from checks.lib import (arguments, edf, measure, mend_stories, model, named, printed, run_stories,
+from checks.lib import (arguments, chance, edf, foreign, measure, mend_stories, model, named,
+                        printed, run_stories,
                         stories)
 from checks.lib.by_hand import MARCH_3, OVERLAPS
 from checks.lib.checks import end
@@ -31,6 +32,7 @@ MANY = 600
 STORED = "edfstore_stored_run"
 PROGRAMS = ("edfstore", "edfruns", "edfmend")
 OVER_FILES = ("edfruns", "edfmend", "cat")      # how a line begins that needs no store
+OWN_RUN = f"files {stories.MOST} "      # and one whose store is a file
 
 
 def nap() -> bytes:
@@ -116,7 +118,7 @@ def of_the_program() -> list:
     """Words of the program over files, each with what it writes to standard output and its
     status."""
     return [("list held.db", LISTED, 0), ("export held.db 2", exported(), 0),
-            ("convert cut.edf", b"", 1), ("export held.db 0", b"", 2)]
+            ("convert cut.edf", b"", 1), ("export held.db 0", b"", 2), ("take held.db", b"", 2)]
 
 
 def orders_of(script: stories.Script) -> tuple:
@@ -175,12 +177,14 @@ def rows_by_model() -> list:
 
 
 def is_stored(path: str, expected: bytes, folder: Path) -> bool:
-    """Whether a stored file is this one; of a store its rows are compared."""
+    """Whether a stored file is this one; of a store what it has is compared."""
     at = CRATES / path
     if not at.exists():
         return False
-    if at.suffix == ".db":
+    if at.name == "held.db":
         return rows(at, folder) == rows_by_model()
+    if at.suffix == ".db":
+        return foreign.dump(at.read_bytes()) == foreign.dump(expected)
     return at.read_bytes() == expected
 
 
@@ -212,7 +216,9 @@ def run(program: Path, crate: Path, folder: Path) -> bool:
 
 def all_stories() -> stories.Script:
     """The stories of the three programs."""
-    script = stories.script(named.files() | run_stories.files())
+    script = stories.script(named.files() | foreign.files() | chance.files() | run_stories.files())
+    foreign.play(script)
+    chance.play(script)
     run_stories.play(script)
     mend_stories.play(script)
     return script
@@ -229,8 +235,8 @@ def answered(programs: dict, words: list, room: Path) -> tuple:
 
 
 def played(programs: dict, order: str, room: Path, nth: int) -> list:
-    """The lines of a command of a story, over the nth store."""
-    words, _, name = order.partition(" = ")
+    """The lines of a command of a story, over the nth store, unless it names one that is a file."""
+    words, _, name = order.removeprefix(OWN_RUN).partition(" = ")
     given = [f"{nth}.db" if word == "night.db" else word for word in words.split()]
     out, err, last = answered(programs, given, room)
     text = out.decode("latin-1")
@@ -240,14 +246,22 @@ def played(programs: dict, order: str, room: Path, nth: int) -> list:
     return [*text.splitlines(), *error, *last]
 
 
+def can_be_asked(order: str, is_own: bool) -> bool:
+    """Whether the programs can be given a line: it is no title, and its store, if it has one, has
+    the program's own cap, as the one in memory has or has not."""
+    if order.startswith("files "):
+        return order.startswith(OWN_RUN)
+    return not order.startswith("#") and (is_own or order.startswith(OVER_FILES))
+
+
 def play(programs: dict, script: stories.Script, room: Path) -> tuple:
     """How many commands of the stories the programs were given, but for those of a store with
     another cap, and how many they answered otherwise than they must."""
-    nth, is_asked, wrong, done = 0, False, 0, 0
+    nth, is_own, wrong, done = 0, False, 0, 0
     for order, expected in script.lines:
         if order.startswith("store "):
-            nth, is_asked = nth + 1, order == f"store {stories.MOST}"
-        elif not order.startswith("#") and (is_asked or order.startswith(OVER_FILES)):
+            nth, is_own = nth + 1, order == f"store {stories.MOST}"
+        elif can_be_asked(order, is_own):
             written = played(programs, order, room, nth)
             done += 1
             if written != list(expected):

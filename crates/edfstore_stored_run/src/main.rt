@@ -3,6 +3,8 @@
 //! - `# TEXT`: a title, of the lines after it;
 //! - `store N`: an empty store in memory, whose recordings have N data records at most;
 //! - `edfstore WORDS`: the program by these words, over stores that are files;
+//! - `files N WORDS`: a command over the files of the store that it names, a run of its own, whose
+//!   recordings have N data records at most;
 //! - `edfruns WORDS`, `edfmend WORDS`: a command of these programs, over files;
 //! - `cat FILE`: the bytes of a file;
 //! - other words: a command over the store in memory.
@@ -15,6 +17,7 @@
 
 mod file_programs;
 mod folder;
+mod over_files;
 
 use edf_command::{Status, read_command, run};
 use edf_fragment::Counted;
@@ -140,6 +143,8 @@ fn play_all(rt: &HostRuntime) -> io::Result<()> {
         println!(rt; "{line}")?;
         if let Some(words) = line.strip_prefix("edfstore ") {
             run_line(rt, words)?;
+        } else if let Some(line) = line.strip_prefix("files ") {
+            over_files::play(rt, line)?;
         } else if !line.starts_with('#') && !file_programs::play(rt, line)? {
             play_over(rt, &mut store, line)?;
         }

@@ -1,0 +1,81 @@
+//! Commands over stores that are files, each a run of its own, as those of the program are.
+
+ghost use Rattle.std.specs.Prelude.{None};
+
+use crate::{Outcome, print_outcome, words_of};
+use edf_command::{Order, Status, read_command, store_path};
+use edf_fragment::{Counted, Output};
+use edf_header::MOST_RECORDS;
+use edf_sample::Sink;
+use edf_session::{Watch, run_path};
+use edf_store::StoreFault;
+use edf_system::{Files, Terminal};
+use sqlite::Unknown;
+use std::io;
+
+/// Nobody is told how an opening went.
+#[derive(Drop)]
+struct Unwatched;
+
+impl Watch for Unwatched {
+    ghost noticed = { λ _. None };
+
+    fn opened<O: Output>(&mut self, _: &O) {}
+
+    fn refused(&mut self, _: &StoreFault, _: bool) {}
+}
+
+/// Runs a command over the files of its store, whose recordings have `cap` data records at most.
+fn run_at<O: Output, F: Output>(
+    rt: &HostRuntime,
+    cap: u32,
+    command: &Order,
+    out: &mut O,
+    err: &mut F,
+) -> Status {
+    let terminal = Terminal::new(rt, "file", 0);
+    let mut inputs = Files::new(rt, &terminal);
+    match store_path(command) {
+        Some(_) if cap > 0 && cap <= MOST_RECORDS => {
+            let watch = &mut Unwatched;
+            match run_path(rt, Unknown, cap, command, &mut inputs, out, err, watch) {
+                Ok(session) => session.status,
+                Err((status, _)) => status,
+            }
+        }
+        _ => Status::Usage,
+    }
+}
+
+/// Does what words ask for, over the files of a store.
+fn outcome_of(rt: &HostRuntime, cap: u32, words: &[String]) -> Outcome {
+    let mut out_bytes = Vec::new(rt.alloc());
+    let mut err_bytes = Vec::new(rt.alloc());
+    let mut out = Counted::new(Sink::whole(&mut out_bytes, 1_000));
+    let mut err = Counted::new(Sink::whole(&mut err_bytes, 1_000));
+    let status = match read_command(rt.alloc(), words, &mut out, &mut err) {
+        Ok(command) => run_at(rt, cap, &command, &mut out, &mut err),
+        Err(status) => status,
+    };
+    drop((out, err));
+    Outcome {
+        out: out_bytes,
+        err: err_bytes,
+        status,
+    }
+}
+
+/// Plays a command with a cap before it, and with the name of the file that it is to write behind
+/// it, where there is one.
+pub(crate) fn play(rt: &HostRuntime, line: &str) -> io::Result<()> {
+    let Some((cap, line)) = line.split_once(' ') else {
+        return println!(rt; "no command");
+    };
+    let cap = cap.parse::<u32>().unwrap_or(0);
+    let (command, name) = match line.split_once(" = ") {
+        Some((command, name)) => (command, Some(name)),
+        None => (line, None),
+    };
+    let words = words_of(rt, command)?;
+    print_outcome(rt, &outcome_of(rt, cap, words.as_slice()), name)
+}
