@@ -1,4 +1,4 @@
-//! Data records added and looked for, and room asked for, each in a transaction of its own.
+//! Data records added, and looked for with room for more, each in a transaction of its own.
 
 ghost use Rattle.std.specs.Prelude.{◌≡◌, IfOk};
 ghost use Rattle.edf_store.specs.Transaction.{IsOf, EachHasRecord};
@@ -108,84 +108,51 @@ pub(crate) fn put<S: Alter>(
     }
 }
 
-/// The data records that meet the interval of the identity's duration from an instant on.
+/// What a transaction answers of a recording.
+#[derive(Drop)]
+pub(crate) struct Found {
+    /// Whether there is room for so many more data records.
+    pub(crate) has_room: bool,
+    /// The first start of a data record that is at an instant or later.
+    pub(crate) next: Option<Instant>,
+    /// The data records that meet the interval of the identity's duration from that instant on.
+    pub(crate) near: Vec<Record>,
+}
+
+/// Asks of the identity's recording, which is made where it is missing, in a transaction that is
+/// given up.
 ///
 /// # Errors
 /// The store's.
-pub(crate) fn near<S: Alter>(
-    store: &mut Store<S>,
-    identity: &Identity,
-    start: Instant,
-) -> Result<Vec<Record>, StoreFault> {
-    let mut tx = store.transaction()?;
-    let found = find(&mut tx, identity, start);
-    tx.give_up()?;
-    found
-}
-
-fn find<S: Alter>(
-    tx: &mut StoreTx<'_, S>,
-    identity: &Identity,
-    start: Instant,
-) -> Result<Vec<Record>, StoreFault>
-    requires running { IsRunning S.Store tx.old }
-    ensures same_reference { tx.new.store.ghost_name ≡ tx.old.store.ghost_name }
-{
-    let id = tx.recording(identity)?;
-    tx.near(id, start, identity.duration())
-}
-
-/// The first start of the identity's data records that is `from` or later.
-///
-/// # Errors
-/// The store's.
-pub(crate) fn next_start<S: Alter>(
+pub(crate) fn find<S: Alter>(
     store: &mut Store<S>,
     identity: &Identity,
     from: Instant,
-) -> Result<Option<Instant>, StoreFault> {
-    let mut tx = store.transaction()?;
-    let found = find_next(&mut tx, identity, from);
-    tx.give_up()?;
-    found
-}
-
-fn find_next<S: Alter>(
-    tx: &mut StoreTx<'_, S>,
-    identity: &Identity,
-    from: Instant,
-) -> Result<Option<Instant>, StoreFault>
-    requires running { IsRunning S.Store tx.old }
-    ensures same_reference { tx.new.store.ghost_name ≡ tx.old.store.ghost_name }
-{
-    let id = tx.recording(identity)?;
-    tx.next_start(id, from)
-}
-
-/// Whether the identity's recording, which is made where it is missing, has room for `more` more
-/// data records.
-///
-/// # Errors
-/// The store's.
-pub(crate) fn has_room<S: Alter>(
-    store: &mut Store<S>,
-    identity: &Identity,
     more: u32,
-) -> Result<bool, StoreFault> {
+) -> Result<Found, StoreFault> {
     let mut tx = store.transaction()?;
-    let fits = ask(&mut tx, identity, more);
+    let found = ask(&mut tx, identity, from, more);
     tx.give_up()?;
-    fits
+    found
 }
 
 fn ask<S: Alter>(
     tx: &mut StoreTx<'_, S>,
     identity: &Identity,
+    from: Instant,
     more: u32,
-) -> Result<bool, StoreFault>
+) -> Result<Found, StoreFault>
     requires running { IsRunning S.Store tx.old }
     ensures same_reference { tx.new.store.ghost_name ≡ tx.old.store.ghost_name }
 {
     let id = tx.recording(identity)?;
-    tx.has_room(id, identity.duration(), more)
+    let duration = identity.duration();
+    let has_room = tx.has_room(id, duration, more)?;
+    let next = tx.next_start(id, from)?;
+    let near = tx.near(id, from, duration)?;
+    Ok(Found {
+        has_room,
+        next,
+        near,
+    })
 }

@@ -1,26 +1,26 @@
 //! Answers by value, which no line of a command shows.
 
-use crate::held::{CAP, Q_START, empty_store, held, store_of_both, store_of_q, taken};
-use crate::intake::{Answer, take};
+use crate::held::{CAP, empty_store, held, store_of_q};
 use crate::printed::{FOREIGN, NO_MEMORY, NO_STORE, lines};
 use edf_command::refuse_store;
 use edf_export::{ExportFault, export};
 use edf_fragment::Counted;
 use edf_header::Identity;
-use edf_intake::submit;
+use edf_intake::{submit, submit_all};
 use edf_sample::named::{file_q, file_r9, file_u, identity_q};
 use edf_sample::{Sink, Source, file, patched, q};
-use edf_store::{Store, StoreFault};
-use edf_time::Instant;
-use sqlite::{Alter, MemStore};
+use edf_store::StoreFault;
 use std::alloc::Global;
 
 /// How many answers a list of no files has, and how many data records are held then.
 fn of_no_files(alloc: Global) -> Option<(usize, u32)> {
     let mut store = empty_store(alloc, CAP)?;
-    let answers = take(alloc, &mut store, &[])?;
+    let mut none: Vec<Counted<Source<'static>>> = Vec::new(alloc);
+    let count = submit_all(alloc, &mut store, none.as_mut_slice())
+        .ok()?
+        .len();
     let (records, _) = held(alloc, &mut store)?;
-    Some((answers.len(), records))
+    Some((count, records))
 }
 
 #[test]
@@ -41,22 +41,22 @@ fn is_named(alloc: Global, bytes: &[u8]) -> Option<bool> {
     Some(receipt.identity.same(&identity(alloc)?))
 }
 
-/// Q's data record under this recording field, from this startdate on.
-fn q_of(alloc: Global, recording: &'static str, date: &'static str) -> Option<Vec<u8>> {
+/// Whether the receipt of Q's data record names it under this recording field, from this startdate
+/// on.
+fn is_named_so(alloc: Global, recording: &'static str, date: &'static str) -> Option<bool> {
     let header = q().recording(recording).start(date, "23.59.50");
-    file(alloc, &header, &[b"\x01\0\xff\xff+0\x14\x14\0\0"]).ok()
+    let bytes = file(alloc, &header, &[b"\x01\0\xff\xff+0\x14\x14\0\0"]).ok()?;
+    is_named(alloc, &bytes)
 }
 
 /// Whether the receipts of Q, R9, and Q on the last day name Q's recording, and those of Q without
 /// a date and of U.
 fn named(alloc: Global) -> Option<[bool; 5]> {
-    let last = q_of(alloc, "Startdate 31-DEC-2184 N1 T3 REC5", "31.12.yy")?;
-    let undated = q_of(alloc, "Startdate X N1 T3 REC5", "02.03.02")?;
     Some([
         is_named(alloc, &file_q(alloc).ok()?)?,
         is_named(alloc, &file_r9(alloc).ok()?)?,
-        is_named(alloc, &last)?,
-        is_named(alloc, &undated)?,
+        is_named_so(alloc, "Startdate 31-DEC-2184 N1 T3 REC5", "31.12.yy")?,
+        is_named_so(alloc, "Startdate X N1 T3 REC5", "02.03.02")?,
         is_named(alloc, &file_u(alloc).ok()?)?,
     ])
 }
@@ -86,42 +86,6 @@ fn a_recording_that_is_not_held_is_not_exported(rt: HostRuntime) {
     let answer = not_exported(rt.alloc());
     assert_eq!(rt; answer, Some((ExportFault::NoRecording, 0, false)));
     assert_eq!(rt; ExportFault::NoRecording.number(), 44);
-}
-
-/// Where a recording's first data record starts, by a walk that is then left.
-fn first_start<S: Alter>(
-    store: &mut Store<S>,
-    identity: &Identity,
-) -> Result<Option<Instant>, StoreFault> {
-    let mut some = store.records(identity)?;
-    match some.next()? {
-        Some(data_record) => Ok(Some(data_record.start())),
-        None => Ok(None),
-    }
-}
-
-/// How many data records Q's recording has, and where the first and the last start.
-fn summed(store: &mut Store<MemStore>, identity: &Identity) -> Option<(u32, Instant, Instant)> {
-    let summary = store.summary(identity).ok()??;
-    Some((summary.records, summary.first, summary.last))
-}
-
-/// Whether the summary of P5 and Q is right after a walk over them that is left at Q, and what Q is
-/// answered then.
-fn q_after_a_walk(alloc: Global) -> Option<(bool, Answer)> {
-    let first = Instant::at(Q_START)?;
-    let last = first.after(15_000_000_000)?;
-    let mut store = store_of_both(alloc)?;
-    let identity = identity(alloc)?;
-    let is_first = first_start(&mut store, &identity).ok()? == Some(first);
-    let stays = summed(&mut store, &identity)? == (2, first, last);
-    let answer = taken(alloc, &mut store, &file_q(alloc).ok()?);
-    Some((is_first && stays, answer))
-}
-
-#[test]
-fn a_walk_that_is_left_changes_nothing(rt: HostRuntime) {
-    assert_eq!(rt; q_after_a_walk(rt.alloc()), Some((true, Ok((0, 1)))));
 }
 
 /// The status where a store has this fault as it is opened, and whether just this answer is

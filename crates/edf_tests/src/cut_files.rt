@@ -1,12 +1,11 @@
 //! Files that are cut at every byte, and a text of the most bytes and one of a byte more.
 
-use crate::held::{CAP, answer_beside_q, empty_store, holds, holds_q, store_of_q, taken};
-use crate::intake::Answer;
+use crate::held::{Answer, held, holds_q, store_of_q, taken};
 use edf_fragment::FragmentFault;
 use edf_header::HeaderFault;
 use edf_intake::Refusal;
-use edf_sample::named::{file_k, file_q, file_u, file_v};
-use edf_sample::{file, patched, q};
+use edf_sample::named::{file_q, file_u, file_v};
+use edf_sample::{file, q};
 use edf_tal::TalFault;
 use std::alloc::{AllocError, Global};
 
@@ -56,66 +55,36 @@ fn a_file_that_is_cut_anywhere_is_refused_by_what_is_cut(rt: HostRuntime) {
     assert_eq!(rt; of_two_annotations_signals, Some(1_050));
 }
 
-/// What a store must answer to the first `len` bytes of K without its count, where it was sent each
-/// shorter front before.
-fn answer_of_front(len: usize) -> Answer {
-    match len {
-        778 => Ok((1, 0)),
-        788 => Ok((1, 1)),
-        798 => Ok((1, 2)),
-        789.. => Err(Refusal::Form(FragmentFault::CutRecord { nth: 3 })),
-        _ => Err(Refusal::Form(cut_to(len, 768, 778))),
-    }
-}
-
-/// How many fronts of that file, each a byte longer, are answered so; and whether the store then
-/// holds the canonical file of K.
-fn grows(alloc: Global) -> Option<(usize, bool)> {
-    let card = file_k(alloc).ok()?;
-    let bytes = patched(alloc, &card, 236, b"-1").ok()?;
-    let mut store = empty_store(alloc, CAP)?;
-    for len in 0..=bytes.len() {
-        if taken(alloc, &mut store, bytes.get(..len)?) != answer_of_front(len) {
-            return Some((len, false));
-        }
-    }
-    let expected = patched(alloc, &card, 196, b"D").ok()?;
-    Some((bytes.len(), holds(alloc, &mut store, 3, &expected)))
-}
-
-#[test]
-fn a_file_that_grows_is_taken_record_by_record(rt: HostRuntime) {
-    assert_eq!(rt; grows(rt.alloc()), Some((798, true)));
-}
-
 /// One data record with one annotation, whose text has `len` bytes, in a block of `samples`
 /// samples.
 fn long_text(alloc: Global, len: usize, samples: &str) -> Option<Vec<u8>> {
     let text = vec![in alloc; b'a'; len].ok()?;
-    let header = q().annotations_samples(samples);
+    let header = q()
+        .start("02.03.02", "23.59.52")
+        .annotations_samples(samples);
     let begin = b"\x01\0\xff\xff+0\x14\x14\0+0\x14";
-    file(alloc, &header, &[begin, &text, b"\x14\0"]).ok()
+    let fill: &[u8] = if len % 2 == 0 { b"" } else { b"\0" };
+    file(alloc, &header, &[begin, &text, b"\x14\0", fill]).ok()
 }
 
-/// What an empty store answers to a text of the most bytes that a data record may have.
-fn answer_to_longest(alloc: Global) -> Option<Answer> {
-    let bytes = long_text(alloc, 1_000_000, "500005")?;
-    Some(taken(alloc, &mut empty_store(alloc, CAP)?, &bytes))
-}
-
-/// What a store of Q answers to a text of one byte more, and whether it still holds Q alone.
-fn answer_to_too_long(alloc: Global) -> Option<(Answer, bool)> {
-    let mut bytes = long_text(alloc, 1_000_001, "500006")?;
-    bytes.push(0).ok()?;
-    answer_beside_q(alloc, &bytes)
+/// What a store of Q answers to such a text two seconds after Q, and how many data records it has
+/// then.
+fn answer_to_text(alloc: Global, len: usize, samples: &str) -> Option<(Answer, u32)> {
+    let bytes = long_text(alloc, len, samples)?;
+    let mut store = store_of_q(alloc)?;
+    let answer = taken(alloc, &mut store, &bytes);
+    let (records, _) = held(alloc, &mut store)?;
+    Some((answer, records))
 }
 
 #[test]
 fn a_text_is_accepted_up_to_a_million_bytes(rt: HostRuntime) {
-    assert_eq!(rt; answer_to_longest(rt.alloc()), Some(Ok((1, 0))));
+    let longest = answer_to_text(rt.alloc(), 1_000_000, "500005");
+    assert_eq!(rt; longest, Some((Ok((1, 0)), 2)));
     let many = Refusal::Form(FragmentFault::Tal {
         nth: 1,
         fault: TalFault::TooMany,
     });
-    assert_eq!(rt; answer_to_too_long(rt.alloc()), Some((Err(many), true)));
+    let too_long = answer_to_text(rt.alloc(), 1_000_001, "500006");
+    assert_eq!(rt; too_long, Some((Err(many), 1)));
 }

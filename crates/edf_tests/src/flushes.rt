@@ -130,11 +130,12 @@ fn other_rooms(alloc: Global, full: bool) -> Option<Option<usize>> {
 }
 
 #[test]
-fn a_writer_that_fails_around_the_end_of_a_write_has_the_front_of_the_file(rt: HostRuntime) {
-    assert_eq!(rt; other_rooms(rt.alloc(), false), Some(None));
-}
-
-#[test]
-fn a_writer_that_takes_none_around_the_end_of_a_write_has_the_front_of_the_file(rt: HostRuntime) {
-    assert_eq!(rt; other_rooms(rt.alloc(), true), Some(None));
+fn a_writer_that_fails_or_takes_none_around_the_end_of_a_write_has_the_front(rt: HostRuntime) {
+    for full in [false, true] {
+        assert_eq!(rt;
+            other_rooms(rt.alloc(), full),
+            Some(None),
+            "takes none: {full}"
+        );
+    }
 }

@@ -1,15 +1,15 @@
 //! Stores, what they answer and what they hold.
 
-use crate::intake::Answer;
-use crate::three_files::q_and_p5;
+use edf_disk_sample::q_and_p5;
 use edf_export::export;
 use edf_fragment::{Counted, Input};
 use edf_header::{Identity, MOST_RECORDS};
-use edf_intake::submit;
+use edf_intake::{Refusal, submit};
 use edf_sample::named::{file_p5, file_q};
 use edf_sample::{Sink, Source};
 use edf_store::Store;
-use sqlite::{Alter, Connection, MemStore};
+use sqlite::{Alter, Connection, FileStore, Files, MemStore, Options};
+use sqlite_disk::Disk;
 use std::alloc::Global;
 
 /// The program's cap.
@@ -18,13 +18,36 @@ pub(crate) const CAP: u32 = MOST_RECORDS;
 /// 2002-03-02 23:59:50, where file Q starts, in nanoseconds from 1985-01-01 00:00:00.
 pub(crate) const Q_START: u64 = 541_727_990_000_000_000;
 
-/// An empty store.
-pub(crate) fn empty_store(alloc: Global, cap: u32) -> Option<Store<MemStore>> {
-    if cap == 0 || cap > CAP {
+/// How many data records of a file were added and were there; or why it was refused.
+pub(crate) type Answer = Result<(u32, u32), Refusal>;
+
+/// The store of a connection that is in no transaction.
+pub(crate) fn store_of<S: Alter + Drop>(
+    alloc: Global,
+    conn: Connection<S>,
+    cap: u32,
+) -> Option<Store<S>> {
+    if cap == 0 || cap > CAP || !conn.is_autocommit() {
         return None;
     }
-    let conn = Connection::open_in_memory(alloc).ok()?;
     Store::open(alloc, conn, cap).ok()
+}
+
+/// An empty store.
+pub(crate) fn empty_store(alloc: Global, cap: u32) -> Option<Store<MemStore>> {
+    store_of(alloc, Connection::open_in_memory(alloc).ok()?, cap)
+}
+
+/// A store over disks, where they can be opened.
+pub(crate) fn opened<D: Disk + Drop>(
+    alloc: Global,
+    files: Files<D>,
+) -> Option<Store<FileStore<D>>> {
+    if !files.may_be_used() {
+        return None;
+    }
+    let conn = Connection::open_files(alloc, files, Options::new(1)).ok()?;
+    store_of(alloc, conn, CAP)
 }
 
 /// What a reader's file is answered.
@@ -53,11 +76,12 @@ pub(crate) fn store_of_q(alloc: Global) -> Option<Store<MemStore>> {
     Some(store)
 }
 
-/// A store of P5 and Q.
+/// A store of P5 and Q, in this order.
 pub(crate) fn store_of_both(alloc: Global) -> Option<Store<MemStore>> {
-    let bytes = file_p5(alloc).ok()?;
-    let mut store = store_of_q(alloc)?;
-    taken(alloc, &mut store, &bytes).ok()?;
+    let (p5, q) = (file_p5(alloc).ok()?, file_q(alloc).ok()?);
+    let mut store = empty_store(alloc, CAP)?;
+    taken(alloc, &mut store, &p5).ok()?;
+    taken(alloc, &mut store, &q).ok()?;
     Some(store)
 }
 

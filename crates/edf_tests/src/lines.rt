@@ -3,9 +3,10 @@
 ghost use Rattle.std.specs.Prelude.{None, map, string_bytes};
 
 use crate::held::{CAP, empty_store, holds_both, store_of_both};
-use crate::printed::{LISTED, NEW, NO_PLACE_2, UNWRITTEN, lines};
-use crate::three_files::q_and_p5;
+use crate::printed::{BOTH_NEW, LISTED, NO_EXPORT, NO_PLACE_2};
+use crate::words::command;
 use edf_command::{Inputs, Order, Status, run};
+use edf_disk_sample::q_and_p5;
 use edf_fragment::Counted;
 use edf_sample::named::{file_p5, file_q};
 use edf_sample::{Sink, Source};
@@ -46,19 +47,8 @@ impl<'a> Inputs for Shelf<'a> {
     }
 }
 
-/// The command to take both.
-pub(crate) fn take_both(alloc: Global) -> Option<Order> {
-    let mut files = Vec::new(alloc);
-    files.push(String::from_str(alloc, "p5.edf").ok()?).ok()?;
-    files.push(String::from_str(alloc, "q.edf").ok()?).ok()?;
-    let store = String::from_str(alloc, "night.db").ok()?;
-    Some(Order::Take { store, files })
-}
-
-/// What that command writes where both files are new.
-pub(crate) fn both_new(alloc: Global) -> Option<String> {
-    lines(alloc, &[("p5.edf", NEW), ("q.edf", NEW)]).ok()
-}
+/// The words that take both.
+pub(crate) const TAKE: &str = "take night.db p5.edf q.edf";
 
 /// What a command wrote.
 #[derive(Drop)]
@@ -97,93 +87,102 @@ pub(crate) fn ran(
     run(alloc, command, store, shelf, &mut out, &mut err)
 }
 
-/// Takes both files into an empty store with room for `out` bytes of lines. The status; and whether
-/// just these bytes of the two lines went out, and nothing else, and the store holds both.
-fn took(alloc: Global, out: usize, full: bool) -> Option<(Status, bool)> {
+/// The front of so many bytes.
+fn front_of(bytes: &[u8], len: usize) -> &[u8] {
+    bytes.get(..len).unwrap_or(bytes)
+}
+
+/// Does what words ask for over a store of both files, or over an empty one. The status; and
+/// whether just the fronts that fit of these texts went to the two, and the store then holds both.
+fn fills(
+    alloc: Global,
+    line: &str,
+    has_both: bool,
+    room: Room,
+    (out, err): (&[u8], &[u8]),
+) -> Option<(Status, bool)> {
     let (p5, q) = (file_p5(alloc).ok()?, file_q(alloc).ok()?);
     let mut shelf = Shelf::new(alloc, &p5, &q);
-    let mut store = empty_store(alloc, CAP)?;
+    let mut store = if has_both {
+        store_of_both(alloc)?
+    } else {
+        empty_store(alloc, CAP)?
+    };
     let mut said = silence(alloc)?;
-    let command = take_both(alloc)?;
-    let err = 100;
-    let room = Room { out, err, full };
+    let command = command(alloc, line)?;
     let status = ran(alloc, &command, &mut store, &mut shelf, &mut said, room);
-    let front = said.out.as_slice() == both_new(alloc)?.as_bytes().get(..out)?;
-    let front = front && said.err.is_empty();
-    Some((status, front && holds_both(alloc, &mut store)))
+    let fits = said.out.as_slice() == front_of(out, room.out)
+        && said.err.as_slice() == front_of(err, room.err);
+    Some((status, fits && holds_both(alloc, &mut store)))
 }
 
 #[test]
 fn files_are_taken_whose_lines_cannot_be_written(rt: HostRuntime) {
     for full in [false, true] {
-        for room in 0..59usize {
-            let took = took(rt.alloc(), room, full);
-            assert_eq!(rt; took, Some((Status::Trouble, true)), "room for {room}");
+        for out in 0..60usize {
+            let room = Room {
+                out,
+                err: 100,
+                full,
+            };
+            let ended = fills(rt.alloc(), TAKE, false, room, (BOTH_NEW, b""));
+            let status = if out < 59 {
+                Status::Trouble
+            } else {
+                Status::Done
+            };
+            assert_eq!(rt; ended, Some((status, true)), "room for {out}");
         }
-        assert_eq!(rt; took(rt.alloc(), 59, full), Some((Status::Done, true)));
     }
-}
-
-/// Runs a command over a store of P5 and Q.
-fn ran_over_both(alloc: Global, command: &Order, out: usize, err: usize) -> Option<(Status, Said)> {
-    let mut shelf = Shelf::new(alloc, b"", b"");
-    let mut store = store_of_both(alloc)?;
-    let mut said = silence(alloc)?;
-    let full = false;
-    let room = Room { out, err, full };
-    let status = ran(alloc, command, &mut store, &mut shelf, &mut said, room);
-    Some((status, said))
-}
-
-/// Lists the recording with room for `out` bytes. The status; and whether just these bytes of its
-/// line went out, and nothing else.
-fn listed(alloc: Global, out: usize) -> Option<(Status, bool)> {
-    let store = String::from_str(alloc, "night.db").ok()?;
-    let (status, said) = ran_over_both(alloc, &Order::List { store }, out, 100)?;
-    let front = said.out.as_slice() == LISTED.get(..out)?;
-    Some((status, front && said.err.is_empty()))
 }
 
 #[test]
 fn a_list_whose_line_cannot_be_written_is_trouble(rt: HostRuntime) {
-    for room in 0..66usize {
-        let listed = listed(rt.alloc(), room);
-        assert_eq!(rt; listed, Some((Status::Trouble, true)), "room for {room}");
+    let (err, full) = (100, false);
+    for out in 0..67usize {
+        let room = Room { out, err, full };
+        let ended = fills(rt.alloc(), "list night.db", true, room, (LISTED, b""));
+        let status = if out < 66 {
+            Status::Trouble
+        } else {
+            Status::Done
+        };
+        assert_eq!(rt; ended, Some((status, true)), "room for {out}");
     }
-    assert_eq!(rt; listed(rt.alloc(), 66), Some((Status::Done, true)));
-}
-
-/// Exports the recording at a place with room for `out` and `err` bytes.
-fn sent(alloc: Global, place: u32, out: usize, err: usize) -> Option<(Status, Said)> {
-    let store = String::from_str(alloc, "night.db").ok()?;
-    ran_over_both(alloc, &Order::Export { store, place }, out, err)
-}
-
-/// The status where there is room for `out` bytes of the file; and whether just these bytes went
-/// out, and a line that says why no more.
-fn sent_file(alloc: Global, out: usize) -> Option<(Status, bool)> {
-    let expected = q_and_p5(alloc)?;
-    let (status, said) = sent(alloc, 1, out, 100)?;
-    let front = said.out.as_slice() == expected.get(..out)?;
-    let line = lines(alloc, &[("export", UNWRITTEN)]).ok()?;
-    Some((status, front && said.err.as_slice() == line.as_bytes()))
-}
-
-/// The status where there is room for `err` bytes of the line about a place that is not there; and
-/// whether just these bytes went out.
-fn missed_place(alloc: Global, err: usize) -> Option<(Status, bool)> {
-    let (status, said) = sent(alloc, 2, 100, err)?;
-    let front = said.err.as_slice() == NO_PLACE_2.get(..err)?;
-    Some((status, front && said.out.is_empty()))
 }
 
 #[test]
-fn an_export_whose_file_or_line_cannot_be_written_is_trouble(rt: HostRuntime) {
-    for room in 0..24usize {
-        let file = sent_file(rt.alloc(), 35 * room);
-        assert_eq!(rt; file, Some((Status::Trouble, true)), "{room}");
-        let line = missed_place(rt.alloc(), room);
-        assert_eq!(rt; line, Some((Status::Trouble, true)), "{room}");
+fn an_export_whose_file_cannot_be_written_is_trouble(rt: HostRuntime) {
+    let Some(file) = q_and_p5(rt.alloc()) else {
+        panic!(rt; "no memory");
+    };
+    let (err, full) = (100, false);
+    for part in 0..24usize {
+        let out = 35 * part;
+        let room = Room { out, err, full };
+        let texts = (file.as_slice(), NO_EXPORT);
+        let ended = fills(rt.alloc(), "export night.db 1", true, room, texts);
+        assert_eq!(rt; ended, Some((Status::Trouble, true)), "room for {out}");
     }
-    assert_eq!(rt; missed_place(rt.alloc(), 24), Some((Status::Refused, true)));
+}
+
+#[test]
+fn an_export_whose_line_cannot_be_written_is_trouble(rt: HostRuntime) {
+    let (out, full) = (100, false);
+    for err in 0..25usize {
+        let room = Room { out, err, full };
+        let ended = fills(
+            rt.alloc(),
+            "export night.db 2",
+            true,
+            room,
+            (b"", NO_PLACE_2),
+        );
+        let status = if err < 24 {
+            Status::Trouble
+        } else {
+            Status::Refused
+        };
+        assert_eq!(rt; ended, Some((status, true)), "room for {err}");
+    }
 }

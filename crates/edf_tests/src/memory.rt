@@ -1,12 +1,14 @@
 //! Memory that runs out, under one budget after another until one suffices.
 
-use crate::held::{CAP, empty_store, held, holds, holds_both, store_of_both, submitted, taken};
-use crate::intake::Answer;
+use crate::held::{
+    Answer, CAP, empty_store, held, holds, holds_both, store_of_both, submitted, taken,
+};
 use crate::large::{large_file, store_of_large};
-use crate::lines::{Room, Said, Shelf, both_new, ran, silence, take_both};
-use crate::printed::{NEW, NO_MEMORY, lines};
-use crate::three_files::q_and_p5;
+use crate::lines::{Room, Said, Shelf, TAKE, ran, silence};
+use crate::printed::{BOTH_NEW, NEW, NO_MEMORY, lines};
+use crate::words::command;
 use edf_command::Status;
+use edf_disk_sample::q_and_p5;
 use edf_export::{ExportFault, export};
 use edf_fragment::Counted;
 use edf_intake::{Receipt, Refusal, submit_all};
@@ -32,7 +34,7 @@ enum Trial {
 }
 
 /// How a budget served.
-#[derive(Clone, Copy, Debug, PartialEq, Eq)]
+#[derive(Clone, Copy)]
 enum Served {
     /// Nothing was begun: no file was submitted, or no byte went out.
     Unbegun,
@@ -253,7 +255,7 @@ fn served_take(alloc: Global, status: Status, said: &Said, records: u32) -> Opti
     let out = said.out.as_slice();
     let is_short = names_shortage(alloc, out, records)?;
     match status {
-        Status::Done if out == both_new(alloc)?.as_bytes() && records == 2 => Some(Served::Whole),
+        Status::Done if out == BOTH_NEW && records == 2 => Some(Served::Whole),
         Status::Trouble if out.is_empty() => Some(Served::Silent),
         Status::Trouble if is_short => Some(Served::Short),
         _ => None,
@@ -264,7 +266,7 @@ fn served_take(alloc: Global, status: Status, said: &Said, records: u32) -> Opti
 fn take_under(alloc: Global, scarce: &mut Scarce, budget: usize) -> Option<Served> {
     let (p5, q) = (file_p5(alloc).ok()?, file_q(alloc).ok()?);
     let mut shelf = Shelf::new(alloc, &p5, &q);
-    let command = take_both(alloc)?;
+    let command = command(alloc, TAKE)?;
     let mut store = empty_store(alloc, CAP)?;
     let mut said = silence(alloc)?;
     if !scarce.leave(alloc, budget) {
@@ -312,32 +314,11 @@ fn budget(trial: Trial, turn: usize) -> usize {
     }
 }
 
-/// Under how many budgets a trial ended in each way, until one sufficed.
-#[derive(Clone, Copy, Debug, Default, PartialEq, Eq)]
-struct Counts {
-    unbegun: u32,
-    silent: u32,
-    short: u32,
-    late: u32,
-}
+/// Under how many budgets a trial ended in each way but the last, by the order of [`Served`].
+type Counts = [u32; 4];
 
-impl Counts {
-    /// One budget more; whether it sufficed.
-    fn add(&mut self, served: Served) -> bool {
-        let count = match served {
-            Served::Unbegun => &mut self.unbegun,
-            Served::Silent => &mut self.silent,
-            Served::Short => &mut self.short,
-            Served::Late => &mut self.late,
-            Served::Whole => return true,
-        };
-        *count = count.saturating_add(1);
-        false
-    }
-}
-
-/// Tries a trial under one budget after another; `None` where an answer is another than those of a
-/// [`Served`], or no budget suffices.
+/// Tries a trial under one budget after another until one suffices; `None` where an answer is
+/// another than those of a [`Served`], or no budget suffices.
 fn tried_until_whole(alloc: Global, trial: Trial) -> Option<Counts> {
     // The stack grows now, while there are pages for it.
     let mut ample = store_of_both(alloc)?;
@@ -345,31 +326,39 @@ fn tried_until_whole(alloc: Global, trial: Trial) -> Option<Counts> {
         return None;
     }
     let mut scarce = Scarce::new(alloc).ok()?;
-    let mut counts = Counts::default();
+    let mut counts = [0u32; 4];
     for turn in 0..32_000usize {
         let served = tried(alloc, trial, &mut scarce, budget(trial, turn))?;
-        if counts.add(served) {
+        let Some(count) = counts.get_mut(served as usize) else {
             return Some(counts);
-        }
+        };
+        *count = count.saturating_add(1);
     }
     None
 }
 
+/// Whether each count is in its range.
+fn are_in(counts: Option<Counts>, ranges: &[(u32, u32); 4]) -> bool {
+    let Some(counts) = counts else {
+        return false;
+    };
+    for (count, (least, most)) in counts.iter().copied().zip(ranges.iter().copied()) {
+        if count < least || count > most {
+            return false;
+        }
+    }
+    true
+}
+
+const NEVER: (u32, u32) = (0, 0);
+
+const ONCE_OR_MORE: (u32, u32) = (1, u32::MAX);
+
 #[test]
 fn submissions_without_memory_leave_what_is_held_and_are_accepted_again(rt: HostRuntime) {
     let counts = tried_until_whole(rt.alloc(), Trial::Submissions);
-    assert!(rt;
-        matches!(
-            counts,
-            Some(Counts {
-                unbegun: 0,
-                silent: 0,
-                short: 100..,
-                late: 0
-            })
-        ),
-        "{counts:?}"
-    );
+    let ranges = [NEVER, NEVER, (100, u32::MAX), NEVER];
+    assert!(rt; are_in(counts, &ranges), "{counts:?}");
 }
 
 /// A walk reads each of the three data records when the one before it was written, so memory runs
@@ -377,68 +366,28 @@ fn submissions_without_memory_leave_what_is_held_and_are_accepted_again(rt: Host
 #[test]
 fn an_export_without_memory_is_not_begun_or_writes_a_front_of_its_file(rt: HostRuntime) {
     let counts = tried_until_whole(rt.alloc(), Trial::Export);
-    assert!(rt;
-        matches!(
-            counts,
-            Some(Counts {
-                unbegun: 1..,
-                silent: 0,
-                short: 1..,
-                late: _
-            })
-        ),
-        "{counts:?}"
-    );
+    let ranges = [ONCE_OR_MORE, NEVER, ONCE_OR_MORE, (0, u32::MAX)];
+    assert!(rt; are_in(counts, &ranges), "{counts:?}");
 }
 
 /// The file fits the buffer, so nothing of it is written before the data records are read.
 #[test]
 fn an_export_of_two_small_records_without_memory_is_not_begun(rt: HostRuntime) {
     let counts = tried_until_whole(rt.alloc(), Trial::SmallExport);
-    assert!(rt;
-        matches!(
-            counts,
-            Some(Counts {
-                unbegun: 1..,
-                silent: 0,
-                short: 0,
-                late: 0
-            })
-        ),
-        "{counts:?}"
-    );
+    let ranges = [ONCE_OR_MORE, NEVER, NEVER, NEVER];
+    assert!(rt; are_in(counts, &ranges), "{counts:?}");
 }
 
 #[test]
 fn a_list_without_memory_for_its_answers_is_not_begun(rt: HostRuntime) {
     let counts = tried_until_whole(rt.alloc(), Trial::List);
-    assert!(rt;
-        matches!(
-            counts,
-            Some(Counts {
-                unbegun: 1..,
-                silent: 0,
-                short: 100..,
-                late: 0
-            })
-        ),
-        "{counts:?}"
-    );
+    let ranges = [ONCE_OR_MORE, NEVER, (100, u32::MAX), NEVER];
+    assert!(rt; are_in(counts, &ranges), "{counts:?}");
 }
 
 #[test]
 fn a_take_without_memory_names_what_became_of_each_file(rt: HostRuntime) {
     let counts = tried_until_whole(rt.alloc(), Trial::Command);
-    assert!(rt;
-        matches!(
-            counts,
-            Some(Counts {
-                unbegun: 1..,
-                silent: ..=1_000,
-                short: 1_000..,
-                late: 0
-            })
-        ),
-        "{counts:?}"
-    );
+    let ranges = [ONCE_OR_MORE, (0, 1_000), (1_000, u32::MAX), NEVER];
+    assert!(rt; are_in(counts, &ranges), "{counts:?}");
 }

@@ -10,8 +10,6 @@ pub(crate) const NO_MEMORY: &str = "refused E41 Memory";
 
 pub(crate) const NO_STORE: &str = "refused E42 Store";
 
-pub(crate) const UNWRITTEN: &str = "refused E43 Write";
-
 pub(crate) const FOREIGN: &str = "refused E45 Foreign";
 
 /// The lines of files, or of what the program was at, each with its answer.
@@ -25,6 +23,12 @@ pub(crate) fn lines(alloc: Global, answers: &[(&str, &str)]) -> Result<String, A
     }
     Ok(text)
 }
+
+/// What a `take` of P5 and Q prints where both are new.
+pub(crate) const BOTH_NEW: &[u8] = b"p5.edf accepted new=1 known=0\nq.edf accepted new=1 known=0\n";
+
+/// What an export is answered whose file can't be written.
+pub(crate) const NO_EXPORT: &[u8] = b"export refused E43 Write\n";
 
 /// P5 and Q in a list of recordings.
 pub(crate) const LISTED: &[u8] =

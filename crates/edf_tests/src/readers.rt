@@ -1,7 +1,6 @@
 //! Readers that fail.
 
-use crate::held::{answer_beside_q, holds_q, store_of_q, submitted, taken};
-use crate::intake::Answer;
+use crate::held::{Answer, answer_beside_q, holds_q, store_of_q, submitted, taken};
 use edf_fragment::{Counted, FragmentFault};
 use edf_intake::Refusal;
 use edf_sample::named::file_p5;
@@ -42,18 +41,19 @@ fn failed_reads(alloc: Global, count: &[u8], kind: ErrorKind) -> Option<(usize, 
     Some((803, taken(alloc, &mut store, &bytes)))
 }
 
-#[test]
-fn a_reader_that_fails_anywhere_leaves_what_is_held(rt: HostRuntime) {
-    for kind in [ErrorKind::Other, ErrorKind::Interrupted] {
-        let failed = failed_reads(rt.alloc(), b"1", kind);
-        assert_eq!(rt; failed, Some((803, Ok((1, 0)))));
-    }
-}
+/// The count of a file, 1 or unknown, and how a read fails. A failed read is not the end.
+const FAILS: &[(&[u8], ErrorKind)] = &[
+    (b"1", ErrorKind::Other),
+    (b"1", ErrorKind::Interrupted),
+    (b"-1", ErrorKind::Other),
+];
 
 #[test]
-fn a_reader_that_fails_is_not_at_its_end_where_the_count_is_unknown(rt: HostRuntime) {
-    let failed = failed_reads(rt.alloc(), b"-1", ErrorKind::Other);
-    assert_eq!(rt; failed, Some((803, Ok((1, 0)))));
+fn a_reader_that_fails_anywhere_leaves_what_is_held(rt: HostRuntime) {
+    for (count, kind) in FAILS.iter().copied() {
+        let failed = failed_reads(rt.alloc(), count, kind);
+        assert_eq!(rt; failed, Some((803, Ok((1, 0)))), "{count:?} {kind:?}");
+    }
 }
 
 /// What P5 is answered from a reader that fails once and then goes on, how many reads there were,

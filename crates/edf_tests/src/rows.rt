@@ -96,65 +96,64 @@ fn a_record_without_annotations_has_a_block(rt: HostRuntime) {
     assert_eq!(rt; block.as_deref(), Some(BLOCK));
 }
 
-/// A start, a block, and whether they are a row of a data record.
-const STARTS: &[(i64, &[u8], bool)] = &[
-    (START, BLOCK, true),
-    (0, b"+0\x14\x14\0", true),
-    (3_155_759_999_000_000_000, b"+3155759999\x14\x14\0", true),
-    (3_155_760_000_000_000_000, b"+3155760000\x14\x14\0", true),
-    (6_311_433_599_000_000_000, b"+6311433599\x14\x14\0", true),
-    (6_311_433_600_000_000_000, b"+6311433600\x14\x14\0", false),
-    (-1, b"-0.000000001\x14\x14\0", false),
-    (START + 1, BLOCK, false),
-    (-START, BLOCK, false),
-];
-
-#[test]
-fn a_start_is_that_of_the_block_and_inside_the_window(rt: HostRuntime) {
-    for (start, block, good) in STARTS.iter().copied() {
-        let is_row = is_a_row(rt.alloc(), start, FOUR, block);
-        assert_eq!(rt; is_row, Some(good), "{start}");
-    }
-}
-
-/// The samples of a row, and whether it is that of a data record.
-const SAMPLES: &[(&[u8], bool)] = &[
-    (FOUR, true),
-    (b"", false),
-    (b"\x01\x00", false),
-    (b"\x01\x00\xff\xff\x00\x00", false),
-];
-
-#[test]
-fn a_row_has_as_many_samples_as_the_identity_says(rt: HostRuntime) {
-    for (samples, good) in SAMPLES.iter().copied() {
-        let is_row = is_a_row(rt.alloc(), START, samples, BLOCK);
-        assert_eq!(rt; is_row, Some(good), "{samples:?}");
-    }
-}
-
-/// A block, and whether it is spelled as it would be written.
-const SPELLINGS: &[(&[u8], bool)] = &[
-    (BLOCK, true),
-    (TWO, true),
-    (b"+541727990.0\x14\x14\0", false),
-    (b"+0541727990\x14\x14\0", false),
-    (b"+541727990\x14\x14\0\0", false),
-    (b"+541727990\x14Turn\x14\0", false),
-    (b"+541727990\x14\x14Turn\x14\0", false),
+/// A start, samples and a block, and whether they are a row of a data record.
+const ROWS: &[(i64, &[u8], &[u8], bool)] = &[
+    // the start is that of the block, and inside the window
+    (START, FOUR, BLOCK, true),
+    (0, FOUR, b"+0\x14\x14\0", true),
     (
+        3_155_759_999_000_000_000,
+        FOUR,
+        b"+3155759999\x14\x14\0",
+        true,
+    ),
+    (
+        3_155_760_000_000_000_000,
+        FOUR,
+        b"+3155760000\x14\x14\0",
+        true,
+    ),
+    (
+        6_311_433_599_000_000_000,
+        FOUR,
+        b"+6311433599\x14\x14\0",
+        true,
+    ),
+    (
+        6_311_433_600_000_000_000,
+        FOUR,
+        b"+6311433600\x14\x14\0",
+        false,
+    ),
+    (-1, FOUR, b"-0.000000001\x14\x14\0", false),
+    (START + 1, FOUR, BLOCK, false),
+    (-START, FOUR, BLOCK, false),
+    // there are as many samples as the identity says
+    (START, b"", BLOCK, false),
+    (START, b"\x01\x00", BLOCK, false),
+    (START, b"\x01\x00\xff\xff\x00\x00", BLOCK, false),
+    // the block is spelled as it would be written
+    (START, FOUR, TWO, true),
+    (START, FOUR, b"+541727990.0\x14\x14\0", false),
+    (START, FOUR, b"+0541727990\x14\x14\0", false),
+    (START, FOUR, b"+541727990\x14\x14\0\0", false),
+    (START, FOUR, b"+541727990\x14Turn\x14\0", false),
+    (START, FOUR, b"+541727990\x14\x14Turn\x14\0", false),
+    (
+        START,
+        FOUR,
         b"+541727990\x14\x14\0+541727991\x14Snore\x14Turn\x14\0",
         false,
     ),
-    (b"+541727990\x14\x14\0+1\x14\xff\x14\0", false),
-    (b"", false),
-    (b"+541727990\x14\x14", false),
+    (START, FOUR, b"+541727990\x14\x14\0+1\x14\xff\x14\0", false),
+    (START, FOUR, b"", false),
+    (START, FOUR, b"+541727990\x14\x14", false),
 ];
 
 #[test]
-fn a_block_is_spelled_as_it_would_be_written(rt: HostRuntime) {
-    for (block, good) in SPELLINGS.iter().copied() {
-        let is_row = is_a_row(rt.alloc(), START, FOUR, block);
-        assert_eq!(rt; is_row, Some(good), "{block:?}");
+fn a_row_is_that_of_a_record_by_its_start_its_samples_and_its_spelling(rt: HostRuntime) {
+    for (start, samples, block, good) in ROWS.iter().copied() {
+        let is_row = is_a_row(rt.alloc(), start, samples, block);
+        assert_eq!(rt; is_row, Some(good), "{start} {samples:?} {block:?}");
     }
 }

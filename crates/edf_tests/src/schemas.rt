@@ -1,6 +1,8 @@
 //! The tables of a file, which the check makes, leaves or refuses.
 
+use crate::held::{Answer, CAP, store_of, store_of_q, taken};
 use edf_audit::audit;
+use edf_sample::named::file_p5;
 use sqlite::{Connection, MemStore};
 use std::alloc::Global;
 
@@ -34,81 +36,113 @@ fn audited(alloc: Global, made: &str, more: &str) -> Option<(bool, i64, bool)> {
     Some((kept, count, after == before))
 }
 
-/// What makes the file, and whether it has all of our tables.
-const OURS: &[(&str, bool)] = &[("", false), (RECORDING, false), (BOTH, true)];
-
-#[test]
-fn a_file_of_our_tables_alone_gets_those_that_are_missing(rt: HostRuntime) {
-    for (made, stays) in OURS.iter().copied() {
-        let answer = audited(rt.alloc(), made, "");
-        assert_eq!(rt; answer, Some((true, 4, stays)), "{made}");
-    }
-}
-
-/// What is made after both tables, and how many tables, indexes and views the file has then.
-const BESIDE: &[(&str, i64)] = &[
-    ("CREATE TABLE another (x)", 5),
-    ("CREATE VIEW starts AS SELECT start FROM record", 5),
+/// What makes the file, what is made after it, whether the file is ours, how many tables, indexes
+/// and views it has then, and whether all of them are as they were.
+const MADE: &[(&str, &str, (bool, i64, bool))] = &[
+    // our tables alone: those that are missing are made
+    ("", "", (true, 4, false)),
+    (RECORDING, "", (true, 4, false)),
+    (BOTH, "", (true, 4, true)),
+    // others after ours
+    (BOTH, "CREATE TABLE another (x)", (true, 5, true)),
     (
+        BOTH,
+        "CREATE VIEW starts AS SELECT start FROM record",
+        (true, 5, true),
+    ),
+    (
+        BOTH,
         "CREATE TABLE note (of INTEGER REFERENCES recording (id))",
-        5,
+        (true, 5, true),
     ),
     (
+        BOTH,
         "CREATE TABLE another (x UNIQUE); CREATE INDEX by_x ON another (x); CREATE TABLE third (y)",
-        8,
+        (true, 8, true),
     ),
-];
-
-#[test]
-fn a_file_with_others_after_our_tables_is_ours_and_stays(rt: HostRuntime) {
-    for (more, count) in BESIDE.iter().copied() {
-        let answer = audited(rt.alloc(), BOTH, more);
-        assert_eq!(rt; answer, Some((true, count, true)), "{more}");
-    }
-}
-
-/// What makes the file, what is made after it, and how many tables, indexes and views it has.
-const FOREIGN: &[(&str, &str, i64)] = &[
-    ("", "CREATE TABLE record (x)", 1),
-    (RECORDING, "CREATE TABLE record (x)", 3),
-    (RECORDING, "CREATE TABLE another (x)", 3),
-    (RECORDING, "CREATE VIEW ids AS SELECT id FROM recording", 3),
-    ("CREATE TABLE another (x)", BOTH, 5),
-    ("CREATE VIEW one AS SELECT 1", "", 1),
-    (BOTH, "CREATE INDEX by_block ON record (block)", 5),
-    (BOTH, "CREATE UNIQUE INDEX by_id ON recording (id)", 5),
+    // others beside the first of ours, before ours, or on ours
+    ("", "CREATE TABLE record (x)", (false, 1, true)),
+    (RECORDING, "CREATE TABLE record (x)", (false, 3, true)),
+    (RECORDING, "CREATE TABLE another (x)", (false, 3, true)),
+    (
+        RECORDING,
+        "CREATE VIEW ids AS SELECT id FROM recording",
+        (false, 3, true),
+    ),
+    ("CREATE TABLE another (x)", BOTH, (false, 5, true)),
+    ("CREATE VIEW one AS SELECT 1", "", (false, 1, true)),
+    (
+        BOTH,
+        "CREATE INDEX by_block ON record (block)",
+        (false, 5, true),
+    ),
+    (
+        BOTH,
+        "CREATE UNIQUE INDEX by_id ON recording (id)",
+        (false, 5, true),
+    ),
+    // the first of ours with other columns
     (
         "",
         "CREATE TABLE recording (id INTEGER PRIMARY KEY, identity BLOB NOT NULL UNIQUE)",
-        2,
+        (false, 2, true),
     ),
     (
         "",
         "CREATE TABLE recording (id INTEGER PRIMARY KEY, identity TEXT NOT NULL UNIQUE) STRICT",
-        2,
+        (false, 2, true),
     ),
     (
         "",
         "CREATE TABLE recording (id INTEGER PRIMARY KEY, identity BLOB NOT NULL UNIQUE, \
             sex TEXT) STRICT",
-        2,
+        (false, 2, true),
     ),
     (
         "",
         "CREATE TABLE recording (id INTEGER PRIMARY KEY, identity BLOB UNIQUE) STRICT",
-        2,
+        (false, 2, true),
     ),
     (
         "",
         "CREATE TABLE recording (id INTEGER PRIMARY KEY, identity BLOB NOT NULL) STRICT",
-        1,
+        (false, 1, true),
     ),
 ];
 
 #[test]
-fn a_file_of_another_schema_is_foreign_and_stays(rt: HostRuntime) {
-    for (made, more, left) in FOREIGN.iter().copied() {
-        let answer = audited(rt.alloc(), made, more);
-        assert_eq!(rt; answer, Some((false, left, true)), "{more}");
+fn a_file_is_ours_by_its_schema_and_keeps_what_it_has(rt: HostRuntime) {
+    for (made, more, answer) in MADE.iter().copied() {
+        let got = audited(rt.alloc(), made, more);
+        assert_eq!(rt; got, Some(answer), "{made} {more}");
     }
+}
+
+/// A table of another tool, which may refer to ours, with an index and a view.
+const BESIDE: &str = "CREATE TABLE note (id INTEGER PRIMARY KEY, text TEXT NOT NULL UNIQUE, \
+        of INTEGER REFERENCES recording (id)); \
+    CREATE INDEX by_recording ON note (of); \
+    CREATE VIEW starts AS SELECT start FROM record; \
+    INSERT INTO note (text, of) VALUES ('seen by a nurse', 1), ('for the report', NULL)";
+
+const NOTES: &str = "SELECT group_concat(id || ' ' || text || ' ' || coalesce(of, 0)) FROM note";
+
+/// What P5 is answered by a store of Q into which another tool put a table, and what that table has
+/// then.
+fn added_beside(alloc: Global) -> Option<(Answer, String)> {
+    let mut conn = store_of_q(alloc)?.into_connection();
+    conn.execute_batch(BESIDE).ok()?;
+    let mut store = store_of(alloc, conn, CAP)?;
+    let answer = taken(alloc, &mut store, &file_p5(alloc).ok()?);
+    let mut conn = store.into_connection();
+    Some((answer, conn.query_row(NOTES, &[]).ok()?.get(0).ok()?))
+}
+
+#[test]
+fn a_file_is_taken_beside_the_table_of_another_tool(rt: HostRuntime) {
+    let Some((answer, notes)) = added_beside(rt.alloc()) else {
+        panic!(rt; "a statement or a call was refused");
+    };
+    assert_eq!(rt; answer, Ok((1, 0)));
+    assert_eq!(rt; notes.as_str(), "1 seen by a nurse 1,2 for the report 0");
 }

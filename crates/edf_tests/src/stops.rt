@@ -1,134 +1,139 @@
-//! The log stops at each of its calls in turn, and then the database file.
+//! A run that stops at each of its calls in turn: of the log, and then of the database file.
 
-use crate::held::{CAP, empty_store, held, taken};
-use crate::run::{Stop, run};
-use crate::three_files::three_files;
+use crate::session::{CLOSES, End, LOSSES, Place, Ran, accepted, held, run, take};
+use edf_disk_sample::{Night, three_files};
 use std::alloc::Global;
 use std::process::Abort;
 
-/// A stop of the log, or of the database file, after `passed` calls.
-fn stop(is_log: bool, passed: u64, frames: usize) -> Stop {
-    Stop {
-        log_calls: if is_log { passed } else { u64::MAX },
-        db_calls: if is_log { u64::MAX } else { passed },
-        log_loses: false,
-        db_loses: false,
-        frames,
+/// What became of a run that was to stop.
+#[derive(Clone, Copy)]
+enum Fate {
+    /// It stopped nowhere.
+    Ended,
+    /// Its store was refused.
+    Refused,
+    /// It stopped after its store was opened, and had told so many of the files as accepted.
+    Broken(usize),
+}
+
+/// What became of a run, where it said so.
+fn fate_of(ran: &Ran, told: usize) -> Option<Fate> {
+    if ran.was_refused() {
+        Some(Fate::Refused)
+    } else if !ran.was_opened() {
+        None
+    } else if ran.closed && told == 3 {
+        Some(Fate::Ended)
+    } else {
+        Some(Fate::Broken(told))
     }
 }
 
-/// The same stop, where power fails: each file that is named loses what was not synced.
-fn losing(mut stop: Stop, log: bool, db: bool) -> Stop {
-    stop.log_loses = log;
-    stop.db_loses = db;
-    stop
-}
-
-/// How many runs were stopped with none, one, two and three submissions accepted, up to the first
-/// run that met no stop; `None` where each run met one.
-fn stopped(
-    rt: &impl Abort,
-    alloc: Global,
-    is_log: bool,
-    frames: usize,
-    loses: (bool, bool),
-) -> Option<[usize; 4]> {
-    let night = three_files(alloc)?;
-    let mut stops = [0usize; 4];
-    for passed in 0..1000u64 {
-        let at = losing(stop(is_log, passed, frames), loses.0, loses.1);
-        let outcome = run(alloc, &night, at);
-        assert!(rt;
-            outcome.is_front() && outcome.whole,
-            "{passed}: {outcome:?}"
-        );
-        if outcome.is_unstopped() {
-            return Some(stops);
-        }
-        if let Some(count) = stops.get_mut(outcome.accepted) {
-            *count = count.saturating_add(1);
+/// Runs of which the first takes the files before `first` and ends, where there are any; the next
+/// is to take the others of P5, Q and K and to stop, and the last takes all. What became of the one
+/// between, where the files then hold those that were accepted, and at most one more, and at the
+/// end all.
+fn night_that_stops(alloc: Global, night: &Night, first: usize, end: End) -> Option<Fate> {
+    let mut place = Place::new(alloc);
+    if first > 0 {
+        let before = run(alloc, night, &mut place, &take(alloc, 0, first)?, CLOSES)?;
+        if !before.closed {
+            return None;
         }
     }
-    None
-}
-
-/// Whether runs were stopped before each of the submissions and after the last, and then one was
-/// not.
-fn is_met_everywhere(stops: Option<[usize; 4]>) -> bool {
-    let Some(counts) = stops else {
-        return false;
-    };
-    counts.iter().all(|count| *count > 0)
-}
-
-/// Whether runs were stopped before the first submission and after the last, and then one was not.
-fn is_met_at_the_ends(stops: Option<[usize; 4]>) -> bool {
-    let Some(counts) = stops else {
-        return false;
-    };
-    counts[0] > 0 && counts[3] > 0
-}
-
-/// Whether the log, and whether the database file, loses what was not synced. Where neither does,
-/// the program died and the machine went on.
-const LOSSES: &[(bool, bool)] = &[(false, false), (true, true), (true, false), (false, true)];
-
-#[test]
-fn what_was_accepted_is_held_wherever_the_log_stops(rt: HostRuntime) {
-    for loses in LOSSES.iter().copied() {
-        let stops = stopped(&rt, rt.alloc(), true, 1000, loses);
-        assert!(rt; is_met_everywhere(stops), "{loses:?}: {stops:?}");
-    }
-}
-
-#[test]
-fn what_was_accepted_is_held_wherever_the_database_file_stops(rt: HostRuntime) {
-    for loses in LOSSES.iter().copied() {
-        let stops = stopped(&rt, rt.alloc(), false, 1000, loses);
-        assert!(rt; is_met_at_the_ends(stops), "{loses:?}: {stops:?}");
-    }
-}
-
-#[test]
-fn what_was_accepted_is_held_wherever_a_log_that_is_copied_soon_stops(rt: HostRuntime) {
-    for loses in LOSSES.iter().copied() {
-        let stops = stopped(&rt, rt.alloc(), true, 2, loses);
-        assert!(rt; is_met_everywhere(stops), "{loses:?}: {stops:?}");
-    }
-}
-
-#[test]
-fn what_was_accepted_is_held_wherever_the_copying_of_the_log_stops(rt: HostRuntime) {
-    for loses in LOSSES.iter().copied() {
-        let stops = stopped(&rt, rt.alloc(), false, 2, loses);
-        assert!(rt; is_met_everywhere(stops), "{loses:?}: {stops:?}");
-    }
-}
-
-/// How many data records a store holds after the first `count` files, and how long their canonical
-/// file is; `None` where it is not the expected one.
-fn held_after(alloc: Global, count: usize) -> Option<(u32, usize)> {
-    let night = three_files(alloc)?;
-    let mut store = empty_store(alloc, CAP)?;
-    for file in night.files.get(..count)? {
-        taken(alloc, &mut store, file.as_slice()).ok()?;
-    }
-    let (records, bytes) = held(alloc, &mut store)?;
-    if bytes.as_slice() == night.exports.get(count)?.as_slice() {
-        Some((records, bytes.len()))
+    let stopped = run(alloc, night, &mut place, &take(alloc, first, 3)?, end)?;
+    let told = accepted(&stopped).saturating_add(first);
+    let front = held(alloc, night, &place)?;
+    let last = run(alloc, night, &mut place, &take(alloc, 0, 3)?, CLOSES)?;
+    let all = held(alloc, night, &place)?;
+    let is_front = told <= front && front <= told.saturating_add(1);
+    if is_front && last.closed && accepted(&last) == 3 && all == 3 {
+        fate_of(&stopped, told)
     } else {
         None
     }
 }
 
-#[test]
-fn a_store_that_nothing_stops_exports_the_expected_file_after_each(rt: HostRuntime) {
-    for (count, holds) in [
-        (0usize, (0u32, 0usize)),
-        (1, (1, 800)),
-        (2, (2, 840)),
-        (3, (5, 948)),
-    ] {
-        assert_eq!(rt; held_after(rt.alloc(), count), Some(holds), "{count} files");
+/// How a run ends that stops after so many calls of the log, or of the database file.
+fn end_after(is_log: bool, calls: u64, frames: usize, loses: (bool, bool)) -> End {
+    let mut end = CLOSES.losing(loses);
+    end.frames = frames;
+    if is_log {
+        end.log_calls = calls;
+    } else {
+        end.db_calls = calls;
     }
+    end
+}
+
+/// How many runs were broken off with none, one, two and three of the files accepted, and how many
+/// were refused.
+type Stops = [u32; 5];
+
+/// What became of runs up to the first that met no stop; `None` where each run met one.
+fn stopped(
+    rt: &impl Abort,
+    alloc: Global,
+    first: usize,
+    is_log: bool,
+    frames: usize,
+    loses: (bool, bool),
+) -> Option<Stops> {
+    let night = three_files(alloc)?;
+    let mut stops = [0u32; 5];
+    for calls in 0..1000u64 {
+        let end = end_after(is_log, calls, frames, loses);
+        let fate = night_that_stops(alloc, &night, first, end);
+        assert!(rt; fate.is_some(), "{end:?}");
+        let index = match fate? {
+            Fate::Ended => return Some(stops),
+            Fate::Refused => 4,
+            Fate::Broken(told) => told,
+        };
+        let count = stops.get_mut(index)?;
+        *count = count.saturating_add(1);
+    }
+    None
+}
+
+/// Whether runs were refused, and broken off with each of these numbers of files accepted.
+fn is_met(stops: Option<Stops>, met: &[usize]) -> bool {
+    let Some(stops) = stops else {
+        return false;
+    };
+    for told in met.iter().copied() {
+        if stops.get(told).copied().unwrap_or(0) == 0 {
+            return false;
+        }
+    }
+    stops[4] > 0
+}
+
+/// With how many of the files accepted a run of one kind must have stopped at its log, and at its
+/// database file.
+type Met = (&'static [usize], &'static [usize]);
+
+/// Tries all stops of runs that take the files from `first` on, with each loss.
+fn try_stops(rt: &impl Abort, alloc: Global, first: usize, frames: usize, met: Met) {
+    for (is_log, met) in [(true, met.0), (false, met.1)] {
+        for loses in LOSSES.iter().copied() {
+            let stops = stopped(rt, alloc, first, is_log, frames, loses);
+            assert!(rt; is_met(stops, met), "{is_log} {loses:?}: {stops:?}");
+        }
+    }
+}
+
+#[test]
+fn what_was_accepted_is_held_wherever_the_log_or_the_database_file_stops(rt: HostRuntime) {
+    try_stops(&rt, rt.alloc(), 0, 1000, (&[0, 1, 2, 3], &[3]));
+}
+
+#[test]
+fn what_was_accepted_is_held_wherever_a_log_that_is_copied_soon_stops(rt: HostRuntime) {
+    try_stops(&rt, rt.alloc(), 0, 2, (&[0, 1, 2, 3], &[0, 1, 2, 3]));
+}
+
+#[test]
+fn a_night_whose_second_run_stops_ends_as_one_that_runs_once(rt: HostRuntime) {
+    try_stops(&rt, rt.alloc(), 1, 1000, (&[1, 2, 3], &[3]));
 }

@@ -1,7 +1,7 @@
 //! Exports to writers that take their bytes in pieces, and stop.
 
 use crate::held::store_of_both;
-use crate::three_files::q_and_p5;
+use edf_disk_sample::q_and_p5;
 use edf_export::{ExportFault, export};
 use edf_fragment::Counted;
 use edf_header::Identity;

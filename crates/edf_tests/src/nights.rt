@@ -1,7 +1,7 @@
 //! A night in twenty runs.
 
-use crate::run::{CLOSES, End, Place, Ran, accepted, held, run, take};
 use crate::seconds::{FILES, twenty_seconds};
+use crate::session::{CLOSES, End, Place, Ran, accepted, held, run, take};
 use edf_disk_sample::Night;
 use std::alloc::Global;
 
@@ -28,27 +28,20 @@ fn end_of(number: u64) -> End {
     end.losing((number % 4 > 1, number % 2 == 1))
 }
 
-/// How many runs were closed, broken off and refused, and how many let their files go.
-#[derive(Clone, Copy, Debug, PartialEq, Eq)]
-struct Fates {
-    closed: u32,
-    broken: u32,
-    refused: u32,
-    let_go: u32,
-}
+/// How many runs were closed, broken off, refused, and let their files go.
+type Fates = [u32; 4];
 
-/// One more of the runs that came to the same.
-fn count(fates: &mut Fates, ran: &Ran, end: End) {
-    let fate = if !ran.was_opened() {
-        &mut fates.refused
+/// Which of these a run was.
+fn fate_of(ran: &Ran, end: End) -> usize {
+    if !ran.was_opened() {
+        2
     } else if !end.closes {
-        &mut fates.let_go
+        3
     } else if ran.closed {
-        &mut fates.closed
+        0
     } else {
-        &mut fates.broken
-    };
-    *fate = fate.saturating_add(1);
+        1
+    }
 }
 
 /// A run takes the file of its number, and before it those of which nobody was told that they are
@@ -67,7 +60,8 @@ fn told_after(
     if !ran.was_opened() && !ran.was_refused() {
         return None;
     }
-    count(fates, &ran, end);
+    let count = fates.get_mut(fate_of(&ran, end))?;
+    *count = count.saturating_add(1);
     let told = told.saturating_add(accepted(&ran));
     let held = held(alloc, night, place)?;
     if told <= held && held <= told.saturating_add(1) {
@@ -82,12 +76,7 @@ fn told_after(
 fn night_of_runs(alloc: Global) -> Option<Fates> {
     let night = twenty_seconds(alloc)?;
     let mut place = Place::new(alloc);
-    let mut fates = Fates {
-        closed: 0,
-        broken: 0,
-        refused: 0,
-        let_go: 0,
-    };
+    let mut fates = [0u32; 4];
     let mut told = 0usize;
     for number in 0..FILES {
         told = told_after(alloc, &night, &mut place, told, number, &mut fates)?;
@@ -103,11 +92,5 @@ fn night_of_runs(alloc: Global) -> Option<Fates> {
 
 #[test]
 fn a_night_in_twenty_runs_exports_as_one_that_runs_once(rt: HostRuntime) {
-    let fates = Fates {
-        closed: 4,
-        broken: 8,
-        refused: 4,
-        let_go: 4,
-    };
-    assert_eq!(rt; night_of_runs(rt.alloc()), Some(fates));
+    assert_eq!(rt; night_of_runs(rt.alloc()), Some([4, 8, 4, 4]));
 }

@@ -1,4 +1,4 @@
-//! A run of a command, over files that are named and a disk that may stop.
+//! A run of the program, over files that are named and a disk that may stop.
 
 ghost use Rattle.std.specs.Prelude.{None, map, string_bytes};
 
@@ -53,6 +53,8 @@ pub(crate) struct End {
     /// How many calls reach the log, and how many the database file.
     pub(crate) log_calls: u64,
     pub(crate) db_calls: u64,
+    /// How long the log may grow before it is copied into the database file.
+    pub(crate) frames: usize,
     /// Whether both files are closed, or let go as they are.
     pub(crate) closes: bool,
     /// Whether the log then loses what was not synced, and whether the database file does.
@@ -64,6 +66,7 @@ pub(crate) struct End {
 pub(crate) const CLOSES: End = End {
     log_calls: u64::MAX,
     db_calls: u64::MAX,
+    frames: 1000,
     closes: true,
     log_loses: false,
     db_loses: false,
@@ -120,7 +123,7 @@ impl<'a> Inputs for Shelf<'a> {
 }
 
 /// How often a store was opened, and how often refused.
-#[derive(Clone, Copy, Debug, PartialEq, Eq, Drop)]
+#[derive(Drop)]
 pub(crate) struct Openings {
     pub(crate) opened: u32,
     pub(crate) refused: u32,
@@ -194,7 +197,7 @@ fn run_over<D: Disk + Drop>(
     files: Files<D>,
     command: &Order,
     shelf: &mut Shelf<'_>,
-    closes: bool,
+    end: End,
 ) -> Option<Ran> {
     if !files.may_be_used() {
         return None;
@@ -202,10 +205,11 @@ fn run_over<D: Disk + Drop>(
     let mut ran = Ran::new(alloc)?;
     let mut out = Counted::new(Sink::whole(&mut ran.out, 1_000));
     let mut err = Counted::new(Sink::whole(&mut ran.err, 1_000));
-    let options = Options::new(1);
+    let mut options = Options::new(1);
+    options.checkpoint_frames = end.frames;
     let cap = MOST_RECORDS;
     let watch = &mut ran.openings;
-    let (status, closed) = if closes {
+    let (status, closed) = if end.closes {
         match run_files(
             alloc, files, options, cap, command, shelf, &mut out, &mut err, watch,
         ) {
@@ -239,7 +243,7 @@ pub(crate) fn run(
     let mut shelf = Shelf { night, names };
     let (log_calls, db_calls) = (end.log_calls, end.db_calls);
     let files = stopping(&mut place.log, &mut place.db, log_calls, db_calls);
-    let ran = run_over(alloc, files, command, &mut shelf, end.closes);
+    let ran = run_over(alloc, files, command, &mut shelf, end);
     if end.log_loses {
         place.log.crash();
     }
