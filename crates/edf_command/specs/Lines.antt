@@ -13,7 +13,7 @@ use Rattle.edf_intake.specs.declared.answer.Refusal.{Refusal}
 use Rattle.edf_export.specs.Export.{export_fault_number, export_fault_name}
 use Rattle.edf_export.specs.declared.fault.ExportFault.{ExportFault}
 use Rattle.edf_command.specs.Refusals.{refusal_text}
-use Rattle.edf_program.specs.Text.{refused_line, memory_line}
+use Rattle.edf_program.specs.Text.{fault_text, refused_line, memory_line}
 use Rattle.edf_program.specs.Status.{status_of_number}
 use Rattle.edf_program.specs.declared.status.Status.{Status}
 use Rattle.edf_program.specs.declared.status.Status.TheVariants.{Done, Refused, Trouble}
@@ -104,3 +104,10 @@ export_status fault = status_of_number (export_fault_number fault)
 -- the store can't be opened
 abbrev pub store_refused_line : StoreFault → List ℕ
 store_refused_line fault = refused_line (codes "store") (number fault) (store_fault_name fault)
+
+-- ---- after it was run
+
+-- what is held could not be copied into the database file
+abbrev pub store_not_closed_line : StoreFault → List ℕ
+store_not_closed_line fault = codes "store not closed "
+    ++ fault_text (number fault) (store_fault_name fault) (10 ∷ [])

@@ -1,15 +1,17 @@
-//! What the program does with its words, before a command is run and where it can't be.
+//! What the program does with its words, before a command is run and where it can't be; and what it
+//! says where a store can't be closed.
 
 ghost use Rattle.std.specs.Prelude.{◌≡◌, option_map};
 ghost use Rattle.edfstore_arguments.specs.Arguments.{meaning};
 ghost use Rattle.edf_command.specs.Command.{IsCommandRead, store_path};
-ghost use Rattle.edf_command.specs.Lines.{store_refused_line};
+ghost use Rattle.edf_command.specs.Lines.{store_refused_line, store_not_closed_line};
 ghost use Rattle.edf_program.specs.Output.{growth, IsWritten};
 
 use edf_fragment::Output;
-use edf_program::{Status, tell_fault, tell_refused};
+use edf_program::{Status, tell_fault, tell_parts, tell_refused};
 use edf_store::StoreFault;
 use edfstore_arguments::{Order, parse};
+use itoa::Buffer;
 use std::alloc::Global;
 
 /// The command that the words after the program's name ask for.
@@ -57,4 +59,22 @@ pub fn refuse_store<F: Output>(fault: &StoreFault, err: &mut F) -> Status
         (growth F.Output err.old err.new) (store_refused_line fault.now) Status.Trouble result }
 {
     tell_refused(err, "store", fault.number(), fault.name(), Status::Trouble)
+}
+
+/// Prints why a store can't be closed: what is held is in its log, and not in the database file
+/// alone. Printing takes no memory.
+pub fn tell_store_not_closed<F: Output>(fault: &StoreFault, err: &mut F) -> Status
+    ensures { IsWritten (growth F.Output err.old err.new) (store_not_closed_line fault.now)
+        Status.Trouble result }
+{
+    let mut buffer = Buffer::new();
+    let digits = buffer.format(fault.number());
+    let parts = [
+        b"store not closed E".as_slice(),
+        digits.as_bytes(),
+        b" ",
+        fault.name().as_bytes(),
+        b"\n",
+    ];
+    tell_parts(err, &parts, Status::Trouble)
 }
