@@ -1,7 +1,6 @@
 -- An opening that failed changed nothing of what the files keep.
-use Rattle.std.proofs.Common.{◌≡◌, ◌⊎◌, inl, inr, ℕ, List, [], ◌∷◌, Option, Some, None, Bool}
-use Rattle.std.proofs.Common.{cond, refl, sym, subst, ap, ap₂, ◌∙◌}
-use Rattle.std.specs.Prelude.{IsSome, option_map}
+use Rattle.std.proofs.Common.{◌≡◌, ◌⊎◌, inl, inr, ℕ, List, [], ◌∷◌, Bool}
+use Rattle.std.proofs.Common.{cond, IsTrue, refl, sym, subst, ap₂}
 use Rattle.std.proofs.Math.Logic.{∥∥₁_elim, ∥∥₁_map}
 use Rattle.sqlite_disk.specs.declared.Disk.{Ghosts}
 use Rattle.sqlite_disk.specs.declared.Files.{Files}
@@ -11,27 +10,20 @@ use Rattle.sqlite_wal.specs.Recovery.{Image}
 use Rattle.sqlite_wal.specs.Files.{outcomes}
 use Rattle.sqlite.specs.Tree.{Trees}
 use Rattle.sqlite.specs.declared.error.Error.{Error}
-use Rattle.sqlite.specs.declared.error.Error.TheVariants.{SqliteFailure}
-use Rattle.sqlite.specs.declared.error.ErrorCode.TheVariants.{CannotOpen, DatabaseBusy}
-use Rattle.sqlite.specs.declared.error.ErrorCode.TheVariants.{OutOfMemory}
-use Rattle.sqlite.specs.declared.file.Leftover.{Leftover}
 use Rattle.sqlite.specs.declared.file.Leftover.TheVariants as left
-use Rattle.sqlite.specs.Files.{HoldsDatabase, IsNothing, IsEmpty, IsUnderWay, image_of}
-use Rattle.sqlite.specs.Files.{IsCleanLeft, LeavesFiles}
+use Rattle.sqlite_wal.specs.Reads.{AreClean}
+use Rattle.sqlite_store.specs.Unopened.{state_of}
+use Rattle.sqlite_store.specs.declared.store.open.Unopened.{Unopened}
+use Rattle.sqlite.specs.Files.{HoldsDatabase, IsNothing, IsEmpty, IsUnderWay}
 use Rattle.sqlite.proofs.ListingLemmas.{empty_is_sound}
 use Rattle.edf_tables.specs.Schema.{no_schema}
+use Rattle.edf_fragment.specs.Told.{Told}
 use Rattle.edf_holdings.specs.Holdings.{Holdings, nothing_held}
-use Rattle.edf_store.specs.Fault.{IsRefusalOf}
-use Rattle.edf_store.specs.declared.fault.StoreFault.{StoreFault}
-use Rattle.edf_store.specs.declared.fault.StoreFault.TheVariants.{Store}
-use Rattle.edfstore_arguments.specs.Arguments.{Asked}
-use Rattle.edf_program.specs.Output.{Growth, Gets}
-use Rattle.edf_program.specs.declared.status.Status.{Status}
+use Rattle.edf_holdings.specs.Reply.{after}
 use Rattle.edf_session.specs.Files.{no_table, FilesKeep}
-use Rattle.edf_session.specs.Steps.{KeepsAll, EndsIdle}
-use Rattle.edf_session.specs.Unopened.{IsLeftIdle, IsOutOfReach}
+use Rattle.edf_session.specs.Run.{IsLeftOf}
+use Rattle.edf_session.specs.Turns.{idle, StepsBy}
 use Rattle.edf_session.proofs.Nothing.{nothing_holds}
-use Rattle.edf_session.proofs.Stepping.{none_printed}
 
 nothing_left : (cap : ℕ) (image : Image) (h : Holdings) → IsNothing image →
     FilesKeep cap image h → h ≡ nothing_held
@@ -52,35 +44,41 @@ empty_keeps cap image h is (db, holds, empty) = inr (
   },
 )
 
-module _ {D : Type 0} (g : Ghosts D) (cap : ℕ) (out : Growth)
-    (bytes : List ℕ → Option (List ℕ)) (asked : Asked) (status : Status) (start : Image)
-    (files : Files D) (silent : Gets out []) (seen : image_of g files ≡ start)
-    (only : (image : Image) → outcomes g files.log files.db image → image ≡ image_of g files) where
-  idle : (image : Image) → KeepsAll cap start image →
-      EndsIdle cap out bytes asked status start image
-  idle image keeps = record { printed = none_printed out asked silent; keeps = keeps }
+-- what files kept is what they keep
+pub still : (cap : ℕ) (start end : Image) → ((h : Holdings) → FilesKeep cap start h →
+    ∥ FilesKeep cap end h ∥₁) → StepsBy cap idle start end
+still cap start end keeps h keep = ∥∥₁_map (keeps h keep) (λ kept.
+    let r : (tolds : List Told) × (tolds ≡ []) × FilesKeep cap end (after cap h tolds) =
+    ([], refl, kept) in r)
 
-  old_one : (image : Image) → outcomes g files.log files.db image →
-      EndsIdle cap out bytes asked status start image
-  old_one image may = idle image (λ h keep.
-      ∣ subst (λ (i : Image). FilesKeep cap i h) (sym (only image may ∙ seen)) keep ∣₁)
+old_one : (cap : ℕ) (start image : Image) → image ≡ start → StepsBy cap idle start image
+old_one cap start image same = still cap start image (λ h keep.
+    ∣ subst (λ (i : Image). FilesKeep cap i h) (sym same) keep ∣₁)
 
-  under_way : IsNothing start → (image : Image) → IsUnderWay g files image →
-      EndsIdle cap out bytes asked status start image
-  under_way nothing image (inl may) = old_one image may
-  under_way nothing image (inr (inl none)) = idle image (λ h keep.
+module _ {D : Type 0} (g : Ghosts D) (cap : ℕ) (start : Image) where
+  under_way : (files : Files D) → ((image : Image) → outcomes g files.log files.db image →
+      image ≡ start) → IsNothing start → (image : Image) → IsUnderWay g files image →
+      StepsBy cap idle start image
+  under_way files only nothing image (inl may) = old_one cap start image (only image may)
+  under_way files only nothing image (inr (inl none)) = still cap start image (λ h keep.
       let r : FilesKeep cap image h = inl (none, nothing_left cap start h nothing keep) in ∣ r ∣₁)
-  under_way nothing image (inr (inr held)) = idle image (λ h keep.
+  under_way files only nothing image (inr (inr held)) = still cap start image (λ h keep.
       ∥∥₁_map held (empty_keeps cap image h (nothing_left cap start h nothing keep)))
 
-  pub left_idle : (rest : Leftover D g) → (IsCleanLeft rest → LeavesFiles files rest) →
-      IsLeftIdle cap out bytes asked status start rest
-  left_idle (left.Files now) leaves = λ clean image may. old_one image (leaves clean image may)
-  left_idle (left.Unopened now) leaves = λ clean nothing image may. elim (leaves clean) [
-    | inl it ↦ under_way nothing image (it.1 image may)
-    | inr it ↦ absurd (it.0 (subst IsNothing (sym seen) nothing))
+  pub read_idle : (error : Error) (now : Files D) → IsLeftOf {g = g} start error (left.Files now) →
+      AreClean g now.log now.db → (image : Image) → outcomes g now.log now.db image →
+      StepsBy cap idle start image
+  read_idle error now it clean image may =
+      old_one cap start image (it.settled image ((it.leaves clean).1 image may))
+
+  pub begun_idle : (error : Error) (now : Unopened D g) →
+      IsLeftOf {g = g} start error (left.Unopened now) → IsTrue (state_of now).is_clean →
+      IsNothing start → (image : Image) → (state_of now).may_leave image →
+      StepsBy cap idle start image
+  begun_idle error now it clean nothing image may = elim (it.leaves clean).1 [
+    | inl some ↦ under_way it.files it.settled nothing image (some.1 image may)
+    | inr some ↦ absurd (some.0 (subst IsNothing (sym it.held) nothing))
   ]
-  left_idle (left.Store it) leaves = tt
 
 -- ---- a file that was synced as it was opened, and of which nothing was asked since
 
@@ -105,21 +103,3 @@ fresh_only mixes log db is_log want events key c which is may =
     let two : (c ≡ cond want log db) ⊎ (c ≡ cond want log db) =
     subst (λ (e : List Event). FileLeft mixes log db want e c) is one in
     elim two [ inl e ↦ e | inr e ↦ e ]
-
-pub some_before : {A B : Type 0} (f : A → B) (o : Option A) (x : Option B) →
-    option_map f o ≡ x → IsSome x → IsSome o
-some_before f (Some a) x is some = refl
-some_before f None x is some = subst IsSome (sym is) some
-
--- ---- files that were not opened at all
-
-pub out_of_reach : (error : Error) (fault : StoreFault) → IsRefusalOf error fault →
-    (error ≡ SqliteFailure CannotOpen) ⊎ ((error ≡ SqliteFailure OutOfMemory)
-    ⊎ (error ≡ SqliteFailure DatabaseBusy)) → IsOutOfReach fault
-out_of_reach error fault r (inl is) =
-    inr (inl (r.other (λ e. absurd (let no = sym is ∙ e in cc))
-    ∙ ap (λ (x : Error). Store (Some x)) is))
-out_of_reach error fault r (inr (inl is)) = inl (r.memory is)
-out_of_reach error fault r (inr (inr is)) =
-    inr (inr (r.other (λ e. absurd (let no = sym is ∙ e in cc))
-    ∙ ap (λ (x : Error). Store (Some x)) is))

@@ -15,6 +15,7 @@ use Rattle.sqlite_store.specs.declared.store.FileStore.{FileStore}
 use Rattle.sqlite_store.specs.FileStore.{view, faults, recovers, is_shielded, files as store_files}
 use Rattle.sqlite_store.specs.Laws.{settled_at}
 use Rattle.sqlite.specs.Tree.{Trees}
+use Rattle.sqlite.specs.Schema.{Schema}
 use Rattle.sqlite.specs.Effect.{Database, IsDatabase}
 use Rattle.sqlite.specs.State.{HasCleanDisk, Survives}
 use Rattle.sqlite.specs.Held.{Held, AreDatabases}
@@ -24,18 +25,15 @@ use Rattle.sqlite.specs.Start.{FindsIn}
 use Rattle.sqlite.specs.declared.error.Error.{Error}
 use Rattle.sqlite.proofs.Theorems.{opens_again}
 use Rattle.edf_tables.specs.Made.{IsMadeOf}
+use Rattle.edf_fragment.specs.Told.{Told}
 use Rattle.edf_holdings.specs.Holdings.{Holdings}
-use Rattle.edfstore_arguments.specs.Arguments.{Asked}
-use Rattle.edf_program.specs.Output.{Growth}
-use Rattle.edf_program.specs.declared.status.Status.{Status}
-use Rattle.edf_command.specs.Run.{files_of}
+use Rattle.edf_holdings.specs.Reply.{after}
+use Rattle.edf_intake.specs.Batch.{Turn}
 use Rattle.edf_session.specs.Files.{Keeps, TreesKeep, FilesKeep}
-use Rattle.edf_session.specs.Front.{IsAfterFront, answers_in, PrintsFirst}
-use Rattle.edf_session.specs.Steps.{LeadsAs}
-use Rattle.edf_session.specs.Close.{IsClosedAs}
-use Rattle.edf_session.specs.Inside.{MayBeLeft, HoldsLeft, LeavesEach}
-use Rattle.edf_session.proofs.Fronts.{no_front}
+use Rattle.edf_session.specs.Close.{IsLetGo}
+use Rattle.edf_session.specs.Turns.{IsFront, Leads}
 use Rattle.edf_session.proofs.Keeping.{found_keeps, made_keeps}
+use Rattle.edf_session.proofs.Working.{no_front, MayBeLeft}
 
 same_keep : (cap : ℕ) (db : Database) (trees : Trees) (h : Holdings) → trees ≡ db.trees →
     IsDatabase db → Keeps cap db h → TreesKeep cap trees h
@@ -71,6 +69,12 @@ still_keeps cap db image h sound keeps as_was = ∥∥₁_map as_was (λ it.
     ) in r)
 
 module _ {D : Type 0} {g : Ghosts D} where
+  -- each crash from here on leaves files that hold what one could leave
+  abbrev pub LeavesEach : Held (FileStore D g) → Files D → Type 0
+  LeavesEach c files = HasCleanDisk (file_state c) × ((image : Image) →
+      outcomes g files.log files.db image →
+      ∥ ((db : Trees) × (file_state c).may_leave db × HoldsDatabase image db) ∥₁)
+
   -- the files of a store that is let go
   pub leaves : (c : Held (FileStore D g)) (store : FileStore D g) (files : Files D) →
       (files.log, files.db) ≡ store_files store → IsQuiet view faults recovers is_shielded c.store
@@ -79,74 +83,63 @@ module _ {D : Type 0} {g : Ghosts D} where
       LeavesEach c files
   leaves c store files same quiet numbered sound clean =
       let sure = subst (λ (p : D × D). AreClean g p.0 p.1) same clean in
-      let none : IsClean (view store) = no_doubt _ (clean_is store.pool ∙ sure) in
-      record {
-        was_clean = omega (arith, quiet.clean, none);
-        each = λ image may.
+      let none : IsClean (view store) = no_doubt _ (clean_is store.pool ∙ sure) in (
+        omega (arith, quiet.clean, none),
+        λ image may.
             ∥∥₁_map (opens_again store (numbered none) (sound none) image
             (may_leave_is store.pool image sure (subst (λ (p : D × D). outcomes g p.0 p.1 image)
             same may))) (λ it.
-            let r : HoldsLeft c image = record {
-              db = it.0;
-              may = quiet.outcomes it.0 it.1;
-              holds = it.2;
-            } in r);
-      }
+            let r : (db : Trees) × (file_state c).may_leave db × HoldsDatabase image db =
+            (it.0, quiet.outcomes it.0 it.1, it.2) in r),
+      )
 
   -- where the disk is clean in the end, it was as the files were let go
   pub clean_last : {failure : Option Error} (c : Held (FileStore D g)) (files : Files D) →
-      IsClosedAs c failure files → AreClean g files.log files.db → HasCleanDisk (file_state c)
+      IsLetGo c failure files → AreClean g files.log files.db → HasCleanDisk (file_state c)
   clean_last c files it clean =
       let sure = subst (λ (p : D × D). AreClean g p.0 p.1) (sym it.store_is) clean in
       let none : IsClean (view it.store) = no_doubt _ (clean_is it.store.pool ∙ sure) in
-      omega (arith, it.closed.quiet.clean, none)
+      omega (arith, it.quiet.quiet.clean, none)
 
-  pub leads : SeenMayStay g → (cap : ℕ) (out : Growth) (bytes : List ℕ → Option (List ℕ))
-      (asked : Asked) (status : Status) (start : Image) (first last : Held (FileStore D g))
-      (files : Files D) → (HasCleanDisk (file_state first) → IsOpened first) →
-      (HasCleanDisk (file_state first) → FindsIn start (file_state first)) →
-      Survives (file_state first) (file_state last) (MayBeLeft cap out bytes asked status
-      (file_state first).now) → LeavesEach last files → (image : Image) →
-      outcomes g files.log files.db image → LeadsAs cap out bytes asked status start image
-  leads stays cap out bytes asked status start first last files opens finds s left image may h keep
-      =
-      let early : HasCleanDisk (file_state first) = omega (arith, s.clean, left.was_clean) in
-      let opened = opens early in
-      let sound = opened.1 opened.0.is_open in
-      let keeps = found_keeps cap start (file_state first) h keep (finds early) sound.1 in
-      let now = subst (λ (d : Database). Keeps cap d h) (sym opened.0.clean) keeps in
-      ∥∥₁_map (left.each image may) (λ it.
-      let r : (z : Holdings) × (front : IsAfterFront cap bytes (files_of asked) h z)
-      × PrintsFirst out asked status (answers_in front.front.turns) × FilesKeep cap image z =
-      elim (s.crash left.was_clean it.db it.may) [
-        | inl early ↦ (
-          h,
-          no_front cap bytes (files_of asked) h,
-          inl refl,
-          inr (
-            it.db,
-            ∣ it.holds ∣₁,
-            same_keep cap (file_state first).committed it.db h
-                (settled_at first.store stays it.db opened.0.is_open early) sound.1 keeps,
-          ),
-        )
-        | inr made ↦
-            let rows = made h now in
-            let inside = it.holds.2 in (
-              rows.left,
-              rows.front,
-              rows.printed,
-              inr (
-                it.db,
-                ∣ it.holds ∣₁,
-                record {
-                  schema = inside.schema;
-                  is_database = inside.sound;
-                  keeps = rows.keeps inside.schema inside.sound;
-                },
-              ),
-            )
-      ] in r)
+  module _ (stays : SeenMayStay g) (cap : ℕ) (start : Image) (turns : List Turn)
+      (first last : Held (FileStore D g)) (opens : HasCleanDisk (file_state first) → IsOpened first)
+      (finds : HasCleanDisk (file_state first) → FindsIn start (file_state first))
+      (s : Survives (file_state first) (file_state last)
+      (MayBeLeft cap turns (file_state first).now)) (clean : HasCleanDisk (file_state last)) where
+    -- rows that a crash may leave are of a database that keeps what some first of the turns leave
+    pub rows_left : (h : Holdings) → FilesKeep cap start h → (rows : Trees) →
+        (file_state last).may_leave rows → (schema : Schema) →
+        IsDatabase (record { schema = schema; trees = rows }) →
+        (tolds : List Told) × IsFront turns tolds × TreesKeep cap rows (after cap h tolds)
+    rows_left h keep rows may schema sound =
+        let early : HasCleanDisk (file_state first) = omega (arith, s.clean, clean) in
+        let opened = opens early in
+        let was = opened.1 opened.0.is_open in
+        let keeps = found_keeps cap start (file_state first) h keep (finds early) was.1 in
+        elim (s.crash clean rows may) [
+          | inl old ↦ (
+            [],
+            no_front turns,
+            same_keep cap (file_state first).committed rows h
+                (settled_at first.store stays rows opened.0.is_open old) was.1 keeps,
+          )
+          | inr left ↦
+              let same = sym opened.0.clean in
+              let it = left h (subst (λ (d : Database). Keeps cap d h) same keeps) in (
+                it.tolds,
+                it.front,
+                record { schema = schema; is_database = sound; keeps = it.keeps schema sound },
+              )
+        ]
+
+    pub leads : (files : Files D) → LeavesEach last files → (image : Image) →
+        outcomes g files.log files.db image → Leads cap (λ h. IsFront turns) start image
+    leads files left image may h keep =
+        ∥∥₁_map (left.1 image may) (λ (rows, could, holds).
+        let it = rows_left h keep rows could holds.2.schema holds.2.sound in
+        let r : (tolds : List Told) × IsFront turns tolds
+        × FilesKeep cap image (after cap h tolds) =
+        (it.0, it.1, inr (rows, ∣ holds ∣₁, it.2)) in r)
 
   -- the rows of a store that was refused are as they were, where missing tables may have been made
   pub as_it_was : SeenMayStay g → (first last : Held (FileStore D g)) (files : Files D) →
@@ -155,15 +148,15 @@ module _ {D : Type 0} {g : Ghosts D} where
       outcomes g files.log files.db image → ∥ ((rows : Trees) × HoldsDatabase image rows
       × ((rows ≡ (file_state first).committed.trees)
       ⊎ IsMadeOf (file_state first).committed rows)) ∥₁
-  as_it_was stays first last files opened s left image may = ∥∥₁_map (left.each image may) (λ it.
+  as_it_was stays first last files opened s left image may = ∥∥₁_map (left.1 image may) (λ it.
       let r : (rows : Trees) × HoldsDatabase image rows
       × ((rows ≡ (file_state first).committed.trees)
       ⊎ IsMadeOf (file_state first).committed rows) = (
-        it.db,
-        it.holds,
-        elim (s.crash left.was_clean it.db it.may) [
-          | inl early ↦ inl (settled_at first.store stays it.db opened.0.is_open early)
-          | inr made ↦ inr (subst (λ (d : Database). IsMadeOf d it.db) opened.0.clean made)
+        it.0,
+        it.2,
+        elim (s.crash left.0 it.0 it.1) [
+          | inl early ↦ inl (settled_at first.store stays it.0 opened.0.is_open early)
+          | inr made ↦ inr (subst (λ (d : Database). IsMadeOf d it.0) opened.0.clean made)
         ],
       ) in r)
 

@@ -36,8 +36,3 @@ pub record AreReadAs (image : Image) (db : Database) : Type 0 where
   pub is_database : IsDatabase db
   pub found : AreFoundIn image db.trees
   pub only : (held : Trees) → HoldsDatabase image held → db.trees ≡ held
-
--- the files keep no two holdings
-abbrev pub KeepOne : ℕ → Image → Type 0
-KeepOne cap image = (h other : Holdings) → FilesKeep cap image h → FilesKeep cap image other →
-    h ≡ other

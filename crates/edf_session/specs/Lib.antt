@@ -1,8 +1,4 @@
-pub mod Watch
 pub mod Files
-pub mod Front
-pub mod Steps
+pub mod Turns
+pub mod Run
 pub mod Close
-pub mod Unopened
-pub mod Across
-pub mod Inside

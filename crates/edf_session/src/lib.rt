@@ -1,22 +1,30 @@
-//! One run of the program over the two files of a store, and many runs, one after another.
+//! One run of the program over the two files of a store, and many runs and sessions, one after
+//! another.
 //!
-//! - [`run_path`], [`run_files`]: a run over the files at a path, or over two files: they are
-//!   opened, a command is run, and they are closed.
+//! - [`run_opened`], [`run_files`]: a run over files that were opened for it, or over two files
+//!   that it opens: a command is run, and they are closed. [`open_path`] opens those at a path.
 //! - [`leave_files`]: the same, where the files are let go before they are closed, as a crash does.
-//! - [`Session`], [`Watch`]: what a run answered, and who is told how its opening went.
-//! - [`laws`]: what many runs leave.
+//! - [`close`], [`leave`], [`refuse`]: how the files of a store are let go, and how it is told that
+//!   it was refused, for a session.
+//! - [`Session`], [`Watch`], [`Cap`]: what a run answered, who is told how its opening went, and
+//!   how many data records a recording may have.
+//! - [`laws`]: what many runs and sessions leave.
 #![tactic(auto)]
 
+mod cap;
 mod files;
 pub mod laws;
 mod leaving;
+mod opened;
+mod over;
 mod path;
-mod run;
 mod session;
 mod watch;
 
+pub use cap::Cap;
 pub use files::run_files;
 pub use leaving::leave_files;
-pub use path::run_path;
-pub use session::Session;
-pub use watch::Watch;
+pub use opened::run_opened;
+pub use path::open_path;
+pub use session::{Session, close, leave};
+pub use watch::{Watch, refuse};

@@ -1,94 +1,118 @@
-//! One run over an open connection, as it ends.
+//! What a run answered, and how its files are let go.
 
-ghost use Rattle.std.specs.Prelude.{◌≡◌, ◌≤◌, false, None};
+ghost use Rattle.std.specs.Prelude.{◌≡◌, None, Some};
+ghost use Rattle.sqlite_wal.specs.Files.{outcomes};
 ghost use Rattle.sqlite_wal.specs.Reads.{AreClean};
+ghost use Rattle.sqlite_wal.specs.Recovery.{Image};
+ghost use Rattle.sqlite_store.specs.FileStore.{files as store_files};
 ghost use Rattle.sqlite.specs.Closing.{IsCopied};
-ghost use Rattle.sqlite.specs.Files.{file_state};
-ghost use Rattle.edfstore_arguments.specs.Arguments.{meaning};
+ghost use Rattle.sqlite.specs.Files.{HoldsDatabase, file_state};
+ghost use Rattle.sqlite.specs.State.{HasCleanDisk, store_error};
+ghost use Rattle.sqlite.specs.Tree.{Trees};
 ghost use Rattle.edf_program.specs.Output.{growth};
-ghost use Rattle.edf_command.specs.Run.{files_of};
-ghost use Rattle.edf_command.specs.Taking.{HasOpened};
-ghost use Rattle.edf_session.specs.Watch.{IsNoticed};
-ghost use Rattle.edf_session.specs.Close.{IsClosedAs};
-ghost use Rattle.edf_session.specs.Inside.{LeavesEach, ClosesOrLetsGo};
+ghost use Rattle.edf_program.specs.declared.status.Status.{Status};
+ghost use Rattle.edf_session.specs.Close.{IsLetGo, IsCloseTold};
 
-use crate::run::run_over;
-use crate::watch::Watch;
-use edf_command::{Inputs, Order, Status};
+use edf_command::{Status, tell_store_not_closed};
 use edf_fragment::Output;
-use edf_header::MOST_RECORDS;
-use sqlite::{Connection, Error, FileStore, Files};
+use edf_store::StoreFault;
+use sqlite::{Connection, Error, ErrorCode, FileStore, Files};
 use sqlite_disk::Disk;
-use std::alloc::Global;
+use sqlite_trees::error::StoreError;
+use sqlite_trees::store::Store;
 
 /// What a run answered, and the files that it had.
 #[derive(Drop)]
 pub struct Session<D: Disk> {
+    /// Trouble where the files could not be closed.
     pub status: Status,
     /// Why what is held could not be copied into the database file as the run ended, if it could
-    /// not: a call of the disk failed, or memory ran out. A crash then leaves nothing that one
-    /// before the close could not leave. Where the store was refused nothing is copied, and none is
-    /// told.
+    /// not: a call of the disk failed, or memory ran out. A line says so. Where the store was
+    /// refused nothing is copied, and none is told.
     pub failure: Option<Error>,
     pub files: Files<D>,
 }
 
-/// Copies what is held into the database file, and closes both files; or tells why it could not be
-/// copied.
-fn close<D: Disk + Drop>(conn: Connection<FileStore<D>>) -> (Option<Error>, Files<D>)
-    ensures copied { result.0 ≡ None → AreClean D.Disk result.1.log result.1.db →
-        IsCopied conn result.1 }
-    ensures closed { IsClosedAs conn result.0 result.1 }
+/// The error of a store, as `sqlite` tells it.
+fn error_of(error: StoreError) -> Error
+    ensures { result ≡ store_error error }
 {
-    match conn.close_files() {
-        Ok(files) => (None, files),
-        Err((error, store)) => (Some(error), store.close()),
+    Error::SqliteFailure(match error {
+        StoreError::OutOfMemory => ErrorCode::OutOfMemory,
+        StoreError::Io => ErrorCode::SystemIoFailure,
+        StoreError::Corrupt => ErrorCode::DatabaseCorrupt,
+        StoreError::Full => ErrorCode::DiskFull,
+        StoreError::Broken => ErrorCode::Closed,
+        StoreError::Unstorable => ErrorCode::TooBig,
+    })
+}
+
+/// Lets the files of a store go that could not be copied, and tells why, which is trouble.
+fn give_up<D: Disk + Drop, F: Output>(
+    store: FileStore<D>,
+    error: StoreError,
+    err: &mut F,
+) -> Session<D>
+    ensures failure { result.failure ≡ Some (store_error error) }
+    ensures files { (result.files.log, result.files.db) ≡ store_files store }
+    ensures told { (before : Status) → IsCloseTold (growth F.Output err.old err.new)
+        result.failure before result.status }
+{
+    let error = error_of(error);
+    Session {
+        status: tell_store_not_closed(&StoreFault::from(error), err),
+        failure: Some(error),
+        files: store.close(),
+    }
+}
+
+/// Copies what is held into the database file, and closes both files; or tells why it could not be
+/// copied, which is trouble. Where a failure of the disk had shut the store, nothing is copied, and
+/// the files are let go as they are.
+pub fn close<D: Disk + Drop, F: Output>(
+    conn: Connection<FileStore<D>>,
+    status: Status,
+    err: &mut F,
+) -> Session<D>
+    ensures copied { result.failure ≡ None → AreClean D.Disk result.files.log result.files.db →
+        IsCopied conn result.files }
+    ensures shut { result.failure ≡ Some (Error.SqliteFailure ErrorCode.Closed) →
+        AreClean D.Disk result.files.log result.files.db →
+        HasCleanDisk (file_state conn) × ((image : Image) →
+        outcomes D.Disk result.files.log result.files.db image →
+        ∥ ((db : Trees) × (file_state conn).may_leave db × HoldsDatabase image db) ∥₁) }
+    ensures let_go { IsLetGo conn result.failure result.files }
+    ensures told { IsCloseTold (growth F.Output err.old err.new) result.failure status
+        result.status }
+{
+    let mut store = conn.into_store();
+    // Again, for what only this store's rollback says of the log.
+    store.rollback();
+    if store.is_broken() {
+        return give_up(store, StoreError::Broken, err);
+    }
+    match store.checkpoint() {
+        Ok(()) => Session {
+            status,
+            failure: None,
+            files: store.close(),
+        },
+        Err(error) => give_up(store, error, err),
     }
 }
 
 /// Lets the files of a connection go as they are. What is committed stays in the log.
-pub(crate) fn leave<D: Disk + Drop>(conn: Connection<FileStore<D>>) -> Files<D>
-    ensures each { AreClean D.Disk result.log result.db → LeavesEach conn result }
-    ensures closed { IsClosedAs conn None result }
+pub fn leave<D: Disk + Drop>(conn: Connection<FileStore<D>>, status: Status) -> Session<D>
+    ensures each { AreClean D.Disk result.files.log result.files.db →
+        HasCleanDisk (file_state conn) × ((image : Image) →
+        outcomes D.Disk result.files.log result.files.db image →
+        ∥ ((db : Trees) × (file_state conn).may_leave db × HoldsDatabase image db) ∥₁) }
+    ensures let_go { IsLetGo conn result.failure result.files }
+    ensures as_was { (result.status ≡ status) × (result.failure ≡ None) }
 {
-    conn.into_store().close()
-}
-
-/// A run that copies what it commits into the database file as it ends. The files of a store that
-/// is refused are let go as they are: another program's file is not written.
-pub(crate) fn run_and_close<D: Disk + Drop, I: Inputs, O: Output, F: Output, W: Watch>(
-    alloc: Global,
-    conn: Connection<FileStore<D>>,
-    cap: u32,
-    command: &Order,
-    inputs: &mut I,
-    out: &mut O,
-    err: &mut F,
-    watch: &mut W,
-) -> Session<D>
-    requires cap_from { 1 ≤ cap }
-    requires cap_to { cap ≤ MOST_RECORDS }
-    requires autocommit { (file_state conn).in_transaction ≡ false }
-    ensures closes { ClosesOrLetsGo cap (growth O.Output out.old out.new)
-        (growth F.Output err.old err.new) (I.bytes inputs.old) (meaning command.now) result.status
-        (inputs.new ≡ inputs.old) (IsNoticed (W.noticed watch.old) (W.noticed watch.new)) conn
-        result.failure result.files }
-    ensures opened { HasOpened
-        (I.opened inputs.old) (I.opened inputs.new) (files_of (meaning command.now)) result.status }
-{
-    match run_over::<FileStore<D>, I, O, F, W>(alloc, conn, cap, command, inputs, out, err, watch) {
-        Ok((status, back)) => {
-            let (failure, files) = close(back);
-            Session {
-                status,
-                failure,
-                files,
-            }
-        }
-        Err((status, back)) => Session {
-            status,
-            failure: None,
-            files: leave(back),
-        },
+    Session {
+        status,
+        failure: None,
+        files: conn.into_store().close(),
     }
 }

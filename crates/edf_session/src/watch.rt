@@ -4,7 +4,7 @@ ghost use Rattle.std.specs.Prelude.{List, Option};
 ghost use Rattle.edf_program.specs.Output.{growth, IsWritten};
 ghost use Rattle.edf_program.specs.declared.status.Status;
 ghost use Rattle.edf_command.specs.Lines.{store_refused_line};
-ghost use Rattle.edf_session.specs.Watch.{Notice, was_opened, was_refused, IsNoticed};
+ghost use Rattle.edf_session.specs.Run.{Notice, was_opened, was_refused, IsNoticed};
 
 use edf_command::{Status, refuse_store};
 use edf_fragment::Output;
@@ -31,7 +31,7 @@ pub trait Watch {
 }
 
 /// Prints that a store is refused, and tells it.
-pub(crate) fn refuse<F: Output, W: Watch>(
+pub fn refuse<F: Output, W: Watch>(
     fault: &StoreFault,
     has_our_tables: bool,
     err: &mut F,

@@ -5,9 +5,8 @@ ghost use Rattle.std.specs.Prelude.{None, map, string_bytes};
 use edf_command::{Inputs, Order, Status};
 use edf_disk_sample::{Night, stopping};
 use edf_fragment::{Counted, Output};
-use edf_header::MOST_RECORDS;
 use edf_sample::{Sink, Source};
-use edf_session::{Watch, leave_files, run_files};
+use edf_session::{Cap, Watch, leave_files, run_files};
 use edf_store::StoreFault;
 use sqlite::{Files, Options};
 use sqlite_disk::{Crash, Disk, Memory};
@@ -179,6 +178,13 @@ impl Ran {
             && self.out.is_empty()
             && self.err.as_slice() == b"store refused E42 Store\n".as_slice()
     }
+
+    /// Whether its store was opened and could not be closed, and it said so at the end.
+    pub(crate) fn was_left(&self) -> bool {
+        self.was_opened()
+            && self.status == Status::Trouble
+            && self.err.as_slice() == b"store not closed E42 Store\n".as_slice()
+    }
 }
 
 /// The command to take the files of these numbers. One past the last can't be read.
@@ -207,7 +213,7 @@ fn run_over<D: Disk + Drop>(
     let mut err = Counted::new(Sink::whole(&mut ran.err, 1_000));
     let mut options = Options::new(1);
     options.checkpoint_frames = end.frames;
-    let cap = MOST_RECORDS;
+    let cap = Cap::most();
     let watch = &mut ran.openings;
     let (status, closed) = if end.closes {
         match run_files(
@@ -220,7 +226,7 @@ fn run_over<D: Disk + Drop>(
         match leave_files(
             alloc, files, options, cap, command, shelf, &mut out, &mut err, watch,
         ) {
-            Ok((status, _files)) => (status, false),
+            Ok(session) => (session.status, false),
             Err((status, _left)) => (status, false),
         }
     };

@@ -24,8 +24,10 @@ fn fate_of(ran: &Ran, told: usize) -> Option<Fate> {
         None
     } else if ran.closed && told == 3 {
         Some(Fate::Ended)
-    } else {
+    } else if ran.closed || ran.was_left() {
         Some(Fate::Broken(told))
+    } else {
+        None
     }
 }
 
