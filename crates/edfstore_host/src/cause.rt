@@ -10,7 +10,6 @@ use edf_store::StoreFault;
 use edf_system::{FULL, Terminal, tell_system_error};
 use sqlite::{Error, ErrorCode};
 use sqlite_std_file::{OpenError, Unknown};
-use std::cell::Cell;
 
 const BUSY: &str = "another program has it open; run this again when that has ended";
 
@@ -94,21 +93,18 @@ pub fn tell_cause(rt: &HostRuntime, terminal: &Terminal<'_>, path: &str, refused
 
 /// Tells a person that a new store was made, and keeps why a store was refused.
 #[derive(Drop)]
-pub(crate) struct Teller<'t, 'c> {
+pub(crate) struct Teller<'t> {
     pub(crate) terminal: &'t Terminal<'t>,
     pub(crate) path: &'t str,
     /// Whether there was no file.
     pub(crate) is_new: bool,
-    /// Whether the store was opened.
-    pub(crate) is_open: &'c Cell<bool>,
     pub(crate) refused: Option<Refused>,
 }
 
-impl Watch for Teller<'_, '_> {
+impl Watch for Teller<'_> {
     ghost noticed = { λ _. None };
 
     fn opened<O: Output>(&mut self, _out: &O) {
-        self.is_open.set(true);
         if self.is_new {
             self.terminal
                 .say(self.path, "no such file; made a new, empty store");

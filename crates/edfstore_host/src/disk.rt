@@ -1,17 +1,21 @@
 //! Stores in SQLite's files and in memory.
 
 ghost use Rattle.std.specs.Prelude.{◌≡◌, false, IsTrue, IfOk};
-ghost use Rattle.sqlite.specs.Held.{state, IsNew};
+ghost use Rattle.sqlite_wal.specs.Files.{image_at};
+ghost use Rattle.sqlite.specs.Steps.{over_memory};
+ghost use Rattle.sqlite.specs.Held.{state};
 ghost use Rattle.sqlite.specs.State.{HasCleanDisk};
 ghost use Rattle.sqlite.specs.Files.{over_files};
-ghost use Rattle.edf_store.specs.Held.{at};
+ghost use Rattle.edf_holdings.specs.Holdings.{nothing_held};
+ghost use Rattle.edf_store.specs.Held.{at, Holds};
+ghost use Rattle.edf_session.specs.Run.{IsOpening};
 
 use crate::waiting::{TRIES, is_held, pause};
 use edf_header::MOST_RECORDS;
 use edf_schema::is_ours;
-use edf_session::Session;
+use edf_session::{Session, open_path};
 use edf_store::{Store, StoreFault};
-use sqlite::{Alter, Connection, Error, ErrorCode, Leftover, Unknown};
+use sqlite::{Alter, Connection, Error, ErrorCode, Leftover, Start, Unknown};
 use sqlite_disk::{Disk, Tally};
 use sqlite_std_file::File;
 use sqlite_store::FileStore;
@@ -25,16 +29,6 @@ pub struct Refused {
     /// Whether the file was opened and has no table, the first of a store's two alone, or both and
     /// perhaps others after them.
     pub(crate) has_our_tables: bool,
-}
-
-impl Refused {
-    /// Whether another program has the store.
-    pub(crate) fn is_held(&self) -> bool {
-        match self.fault {
-            StoreFault::Store(Some(error)) => is_held(&error),
-            _ => false,
-        }
-    }
 }
 
 /// The store over a connection.
@@ -56,19 +50,19 @@ fn store_over<S: Alter + Drop>(alloc: Global, conn: Connection<S>) -> Result<Sto
 
 /// Opens the files at a path. Where another program has them, this is tried again for two seconds.
 /// Every other refusal comes at once.
-fn open_when_free(
+pub(crate) fn open_when_free(
     rt: &HostRuntime,
     path: &str,
 ) -> Result<Connection<FileStore<File>>, (Error, Option<Leftover<File>>)>
-    ensures fresh { IfOk result IsNew }
+    ensures { IsOpening (image_at ⟦<Unknown as Start>⟧) result }
 {
     for _ in 0..TRIES {
-        match Connection::open_from(rt, path, true, Unknown) {
+        match open_path(rt, path, Unknown) {
             Err((error, None)) if is_held(&error) => pause(rt),
             opened => return opened,
         }
     }
-    Connection::open_from(rt, path, true, Unknown)
+    open_path(rt, path, Unknown)
 }
 
 /// The store of the file at a path, which is made where there is none. Each page of a new one ends
@@ -124,7 +118,9 @@ pub(crate) fn failure_of<D: Disk>(session: &Session<D>) -> Option<Error> {
 }
 
 /// An empty store.
-pub(crate) fn open_memory(alloc: Global) -> Result<Store<MemStore>, StoreFault> {
+pub(crate) fn open_memory(alloc: Global) -> Result<Store<MemStore>, StoreFault>
+    ensures empty { IfOk result (λ store. Holds over_memory store nothing_held) }
+{
     match Connection::open_in_memory(alloc) {
         Ok(conn) => Store::open(alloc, conn, MOST_RECORDS),
         Err(_) => Err(StoreFault::Memory),

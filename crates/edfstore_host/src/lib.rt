@@ -8,9 +8,13 @@
 //!   [`Refused`], [`tell_cause`]: why it was not opened.
 #![tactic(auto)]
 
-ghost use Rattle.std.specs.Prelude.{◌≡◌, Some};
+ghost use Rattle.std.specs.Prelude.{◌≡◌, Some, None, true};
+ghost use Rattle.sqlite_wal.specs.Files.{image_at};
 ghost use Rattle.edfstore_arguments.specs.Arguments.{meaning};
 ghost use Rattle.edf_command.specs.Command.{store_path};
+ghost use Rattle.edf_program.specs.Output.{growth};
+ghost use Rattle.edf_session.specs.Run.{IsNoticed, run_of};
+ghost use Rattle.edfstore_host.specs.OnFile.{OnlyReads, FindsNothing, IsRunOnFile};
 
 mod cause;
 mod disk;
@@ -20,19 +24,20 @@ mod waiting;
 pub use cause::tell_cause;
 use cause::{Teller, tell_error};
 pub use disk::{Refused, close_file, open_file};
-use disk::{failure_of, open_memory};
-use edf_command::{Order, Status, read_command, refuse_store, run, store_path};
-use edf_fragment::Counted;
+use disk::{failure_of, open_memory, open_when_free};
+use edf_command::{
+    Inputs, Order, Status, read_command, refuse_store, run, store_path, tell_no_recording,
+};
+use edf_fragment::{Counted, Output};
 use edf_header::MOST_RECORDS;
-use edf_session::{Session, run_path};
-use edf_store::Store;
-use edf_system::{Files, Streams, Terminal, refuse_words, words};
+use edf_session::{Cap, Session, run_opened};
+use edf_system::{Clearing, Files, Streams, Terminal, refuse_words, words};
 use path::{AtPath, look_at};
-use sqlite::{Alter, Unknown};
+use sqlite::{Start, Unknown};
+use sqlite_disk::Disk;
 use sqlite_std_file::File;
-use std::cell::Cell;
+use std::io::{Stderr, Stdout};
 use std::process::ExitCode;
-use waiting::{Muted, TRIES, pause};
 
 /// The command that words ask for, or the status where there is none.
 fn command_of(rt: &HostRuntime, words: &[String]) -> Result<Order, Status> {
@@ -61,29 +66,26 @@ fn streams_of<'t>(rt: &'t HostRuntime, terminal: &'t Terminal<'t>, command: &Ord
     }
 }
 
-/// Runs a command over an open store.
-fn run_over<S: Alter>(
-    rt: &HostRuntime,
-    command: &Order,
-    store: &mut Store<S>,
-    inputs: &mut Files<'_>,
-    streams: &mut Streams<'_>,
-) -> Status {
-    run(
-        rt.alloc(),
-        command,
-        store,
-        inputs,
-        &mut streams.out,
-        &mut streams.err,
-    )
+/// Whether the command makes no store where its path names no file.
+fn only_reads(command: &Order) -> bool
+    ensures { result ≡ true → OnlyReads (meaning command.now) }
+{
+    match command {
+        Order::List { .. } | Order::Export { .. } => true,
+        Order::Take { .. } | Order::Convert { .. } => false,
+    }
 }
 
-/// Whether the command makes a store where its path names no file.
-fn makes_store(command: &Order) -> bool {
+/// What a command that makes no store answers where there is none: what an empty one has.
+fn find_nothing<'t>(command: &Order, streams: &mut Streams<'t>) -> Status
+    requires reads { OnlyReads (meaning command.now) }
+    ensures { FindsNothing (meaning command.now)
+        (growth ⟦<Counted<Clearing<'t, Stdout>> as Output>⟧ streams.old.out streams.new.out)
+        (growth ⟦<Counted<Clearing<'t, Stderr>> as Output>⟧ streams.old.err streams.new.err) result }
+{
     match command {
-        Order::Take { .. } => true,
-        Order::List { .. } | Order::Export { .. } | Order::Convert { .. } => false,
+        Order::Export { store: _, place } => tell_no_recording(&mut streams.err, *place),
+        Order::Take { .. } | Order::List { .. } | Order::Convert { .. } => Status::Done,
     }
 }
 
@@ -97,114 +99,83 @@ fn tell_failure(rt: &HostRuntime, terminal: &Terminal<'_>, path: &str, session: 
     }
 }
 
-/// Runs a command once over the file of the store that it names. Where there is no such file, `take`
-/// makes it, and the others find an empty store and leave none; for a person it prints which of
-/// these it was.
+/// Runs a command over the file of the store that it names. Where there is no such file, `take`
+/// makes it, and the others find nothing and leave none; for a person it prints which of these it
+/// was, and why a store is refused. A store that another program has is waited for, two seconds at
+/// most.
 ///
-/// # Errors
-/// Why the store is refused, of which no line was printed.
-fn run_once(
+/// Of the path that is opened, and of what the system does with it, no clause speaks: these lines
+/// are to be read.
+fn run_on_file<'x, 't, 'i>(
     rt: &HostRuntime,
-    terminal: &Terminal<'_>,
-    path: &str,
+    terminal: &'x Terminal<'x>,
+    path: &'x str,
     command: &Order,
-    inputs: &mut Files<'_>,
-    streams: &mut Streams<'_>,
-) -> Result<Status, Refused>
+    inputs: &mut Files<'i>,
+    streams: &mut Streams<'t>,
+) -> Status
     requires named { store_path (meaning command.now) ≡ Some path.now }
+    ensures { let out = growth ⟦<Counted<Clearing<'t, Stdout>> as Output>⟧ streams.old.out
+        streams.new.out in
+        let err = growth ⟦<Counted<Clearing<'t, Stderr>> as Output>⟧ streams.old.err streams.new.err in
+        IsRunOnFile (run_of ⟦<File as Disk>⟧ MOST_RECORDS (image_at ⟦<Unknown as Start>⟧) (
+          meaning command.now,
+          ⟦<Files<'i> as Inputs>⟧.bytes inputs.old,
+          ⟦<Files<'i> as Inputs>⟧.opened inputs.old,
+          ⟦<Files<'i> as Inputs>⟧.opened inputs.new,
+          out,
+        ) err
+        (IsNoticed None None) (inputs.new ≡ inputs.old)) (meaning command.now) out result }
 {
     let is_new = look_at(rt, path) == AtPath::Nothing;
-    if is_new && !makes_store(command) {
+    if is_new && only_reads(command) {
         terminal.say(path, "no such file");
-        return Ok(run_in_memory(rt, command, inputs, streams));
+        return find_nothing(command, streams);
     }
-    let is_open = Cell::new(false);
+    let opened = open_when_free(rt, path);
     let mut teller = Teller {
         terminal,
         path,
         is_new,
-        is_open: &is_open,
         refused: None,
     };
-    let mut err = Muted {
-        stream: &mut streams.err,
-        is_open: &is_open,
-    };
-    let ended = run_path(
-        rt,
-        Unknown,
-        MOST_RECORDS,
+    let ended = run_opened(
+        rt.alloc(),
+        opened,
+        Cap::most(),
         command,
         inputs,
         &mut streams.out,
-        &mut err,
+        &mut streams.err,
         &mut teller,
     );
     if let Some(refused) = teller.refused {
-        return Err(refused);
+        tell_cause(rt, terminal, path, &refused);
     }
     match ended {
         Ok(session) => {
-            tell_failure(rt, terminal, path, &session);
-            Ok(session.status)
+            if teller.refused.is_none() {
+                tell_failure(rt, terminal, path, &session);
+            }
+            session.status
         }
-        Err((status, _)) => Ok(status),
+        Err((status, _)) => status,
     }
 }
 
-/// The same, and where another program has the store, it is tried again for two seconds. Every other
-/// refusal comes at once.
-fn run_when_free(
-    rt: &HostRuntime,
-    terminal: &Terminal<'_>,
-    path: &str,
-    command: &Order,
-    inputs: &mut Files<'_>,
-    streams: &mut Streams<'_>,
-) -> Result<Status, Refused>
-    requires named { store_path (meaning command.now) ≡ Some path.now }
-{
-    for _ in 0..TRIES {
-        match run_once(rt, terminal, path, command, inputs, streams) {
-            Err(refused) if refused.is_held() => pause(rt),
-            ended => return ended,
-        }
-    }
-    run_once(rt, terminal, path, command, inputs, streams)
-}
-
-/// Runs a command over the file of the store that it names, or prints that the store is refused,
-/// and for a person why.
-fn run_on_file(
-    rt: &HostRuntime,
-    terminal: &Terminal<'_>,
-    path: &str,
-    command: &Order,
-    inputs: &mut Files<'_>,
-    streams: &mut Streams<'_>,
-) -> Status
-    requires named { store_path (meaning command.now) ≡ Some path.now }
-{
-    match run_when_free(rt, terminal, path, command, inputs, streams) {
-        Ok(status) => status,
-        Err(refused) => {
-            let status = refuse_store(&refused.fault, &mut streams.err);
-            tell_cause(rt, terminal, path, &refused);
-            status
-        }
-    }
-}
-
-/// Runs a command over an empty store in memory.
+/// Runs a command that has no path over an empty store in memory.
 fn run_in_memory(
     rt: &HostRuntime,
     command: &Order,
     inputs: &mut Files<'_>,
     streams: &mut Streams<'_>,
-) -> Status {
+) -> Status
+    requires memory { store_path (meaning command.now) ≡ None }
+{
     match open_memory(rt.alloc()) {
         Ok(mut store) => {
-            let status = run_over(rt, command, &mut store, inputs, streams);
+            let (out, err) = (&mut streams.out, &mut streams.err);
+            let status = run(rt.alloc(), command, &mut store, inputs, out, err);
             drop(store.into_connection());
             status
         }
