@@ -30,7 +30,7 @@ from concurrent.futures import ThreadPoolExecutor, as_completed
 from dataclasses import dataclass
 from pathlib import Path
 
-from checks.lib import arguments, checks, measure
+from checks.lib import arguments, checks, disks, measure
 
 MEMORY, ENOUGH = Path("/dev/shm"), 4e9
 SHOWN = 40          # lines of the output of a check that failed
@@ -103,6 +103,8 @@ CHECKS = (
     Check("lines.stored", "stored runs", (EDFSTORE, EDFRUNS, EDFMEND)),
     Check("serve", "answers of edfserve to its clients, kills", (EDFSTORE, EDFSERVE),
           counts=(20, 100)),
+    Check("full", "nights onto small disks", (EDFSTORE, EDFSERVE), counts=(38, 186),
+          needs=("a tmpfs",)),
     Check("receiving", "uploads into a receiving folder", (EDFSTORE, EDFSERVE), counts=(10, 50),
           needs=("inotifywait",), is_on_disk=True, is_for_long=True),
     Check("mend.run", "files spoilt by hand, mended", (EDFSTORE, EDFMEND)),
@@ -149,7 +151,7 @@ class Outcome:
 
 
 def is_here(name: str) -> bool:
-    """Whether this command or package is here."""
+    """Whether this command or package is here, or what else a check needs."""
     if name == "time":
         return Path("/usr/bin/time").exists()
     if name == "python3-mne":
@@ -157,6 +159,8 @@ def is_here(name: str) -> bool:
         return subprocess.run([DEBIANS_OWN, "-c", line], check=False).returncode == 0
     if name == "libedf-dev":
         return Path("/usr/include/edflib.h").exists()
+    if name == "a tmpfs":
+        return disks.may_mount()
     return shutil.which(name) is not None
 
 

@@ -20,7 +20,7 @@ import time
 from pathlib import Path
 from subprocess import PIPE
 
-from checks.lib import arguments, faults, measure, model, night, printed
+from checks.lib import arguments, disks, faults, measure, model, night, printed
 from checks.lib.checks import Lost, end
 
 NIGHT = night.Night(records=7_200, samples=(256, 256), fragments=40)
@@ -132,24 +132,19 @@ def filled(bench: Bench, store: Path, answers: collections.Counter) -> None:
 
 def full_disk(bench: Bench, megabytes: int) -> None:
     """The night onto a file system that is too small for it, which then grows."""
-    place = bench.folder / "small"
-    place.mkdir(exist_ok=True)
-    if measure.ran("mount", "-t", "tmpfs", "-o", f"size={megabytes}m", "edfstore-bench",
-                   place).status:
-        print("a full disk: left out, since this user may not mount a tmpfs")
-        return
-    try:
-        store, answers = place / "s.db", collections.Counter()
+    with disks.Disk(bench.folder / "small", 1_024 * megabytes) as disk:
+        if not disk.is_mounted:
+            print("a full disk: left out, since this user may not mount a tmpfs")
+            return
+        store, answers = disk.place / "s.db", collections.Counter()
         for _ in range(3):
             filled(bench, store, answers)
-        measure.done("mount", "-o", f"remount,size={20 * megabytes + 200}m", place)
+        disk.grow(1_024 * (20 * megabytes + 200))
         taken = bench.program.ran("take", store, *bench.parts)
         if taken.status or bench.front(store) != len(bench.parts):
             raise Lost(f"after room was made: {taken.out[-300:]!r} {taken.err!r}")
         print(f"a disk of {megabytes} MB, taken 3 times: {dict(answers)}; each file whole or not "
               "at all, and all of them once there was room")
-    finally:
-        measure.done("umount", place)
 
 
 def shrinking(bench: Bench, times: int) -> None:
