@@ -115,12 +115,11 @@ class Bench:
         expected = held.lines(), held.export(1)
         compare("what the file and its log hold", self.found(disk, STORE, LOG), expected)
         is_alone = self.found(disk, STORE) == expected
-        told = ran.err.decode().splitlines(keepends=True)
-        is_told = printed.NOT_CLOSED in told
-        compare("the line, and whether the file alone has not all", is_told, not is_alone)
-        compare("other lines", [line for line in told if line != printed.NOT_CLOSED
-                                and not line.startswith(f"{STORE}: ")], [])
-        compare("the status", ran.status, 3 if is_told or is_full else 0)
+        told = {line for line in ran.err.decode().splitlines(keepends=True)
+                if not line.startswith(f"{STORE}: ")}       # causes
+        compare(f"standard error, where the file alone has {'all' if is_alone else 'not all'}",
+                told, set() if is_alone else {printed.NOT_CLOSED})
+        compare("the status", ran.status, 0 if is_alone and not is_full else 3)
         return is_alone
 
     def try_night(self, name: str, way, disk: Path) -> str:
@@ -142,10 +141,12 @@ class Bench:
                     rooms[self.try_night(name, way, disk.place)] += 1
             except Lost as why:
                 self.wrong.append(f"{name}, on a disk of {size} kB: {why}")
-        told = f"{name}: " + ", ".join(f"{rooms[room]} disks had {room}" for room in ROOMS)
-        self.told.append(told)
-        if sum(rooms.values()) == count and len(rooms) < len(ROOMS):
-            self.wrong.append(f"{told}: one of each kind must be there")
+        if sum(rooms.values()) < count:
+            return
+        self.told.append(f"{name}: of {count} disks " +
+                         ", ".join(f"{rooms[room]} had {room}" for room in ROOMS))
+        if len(rooms) < len(ROOMS):
+            self.wrong.append(f"{self.told[-1]}: one of each kind must be there")
 
     def try_all(self, count: int) -> "Bench":
         self.try_disks("edfstore", taken, count)
