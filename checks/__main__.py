@@ -85,6 +85,8 @@ CHECKS = (
     Check("kill.run", "stops at random moments", counts=(100, 1_000), is_on_disk=True),
     Check("refused.run", "allocations, reads, writes and syncs refused", counts=(10, 1),
           needs=("cc",)),
+    Check("full", "nights onto small disks", (EDFSTORE, EDFSERVE), counts=(38, 186),
+          needs=("tmpfs",)),
     Check("fuzz.run", "random files against the model", counts=(20_000, 100_000)),
     Check("fuzz.sizes", "files of the greatest headers and records", needs=("time",)),
     Check("odd", "files that are no stores, foreign rows", needs=("time",)),
@@ -103,8 +105,6 @@ CHECKS = (
     Check("lines.stored", "stored runs", (EDFSTORE, EDFRUNS, EDFMEND)),
     Check("serve", "answers of edfserve to its clients, kills", (EDFSTORE, EDFSERVE),
           counts=(20, 100)),
-    Check("full", "nights onto small disks", (EDFSTORE, EDFSERVE), counts=(38, 186),
-          needs=("a tmpfs",)),
     Check("receiving", "uploads into a receiving folder", (EDFSTORE, EDFSERVE), counts=(10, 50),
           needs=("inotifywait",), is_on_disk=True, is_for_long=True),
     Check("mend.run", "files spoilt by hand, mended", (EDFSTORE, EDFMEND)),
@@ -159,7 +159,7 @@ def is_here(name: str) -> bool:
         return subprocess.run([DEBIANS_OWN, "-c", line], check=False).returncode == 0
     if name == "libedf-dev":
         return Path("/usr/include/edflib.h").exists()
-    if name == "a tmpfs":
+    if name == "tmpfs":
         return disks.may_mount()
     return shutil.which(name) is not None
 

@@ -6,18 +6,18 @@ and the status tell that it is not.
 The night of examples/oximeter, its parts and then its card, comes by `edfstore take` and by a
 session of `edfserve` onto COUNT disks (38 if left out, 3 at least) of 360 to 1,100 kB. The least
 have no room for the log of all files, others none for the copy of it in the database file, the
-greatest for both. Root may mount them; for another user nothing is tried. Each file is answered as
-by the plain model, or E42. With its log the database file holds what was accepted, as a second
-store lists and exports it. The line `store not closed E42 Store` stands on standard error just
-where the database file, copied without its log, does not hold it. The status is 3 where that line
-stands or a file was answered E42, else 0. The same is so of `edfstore list` after it, on the same
-disk.
+greatest for both. It needs root, who may mount them. Each file is answered as by the plain model,
+or E42. With its log the database file holds what was accepted, as a second store lists and exports
+it. The line `store not closed E42 Store` stands on standard error just where the database file,
+copied without its log, does not hold it. The status is 3 where that line stands or a file was
+answered E42, else 0. The same is so of `edfstore list` after it, on the same disk.
 
 --control runs other programs instead, each of which must fail: one says nothing of a close that
 failed, as 1.2.0 did, one leaves its line out, one prints it and ends well, one prints it always,
 one cuts the database file, one tells files as accepted for which there was no room.
 """
 import shutil
+import sys
 from collections import Counter
 from pathlib import Path
 
@@ -104,7 +104,8 @@ class Bench:
         room = self.folder / "room"
         room.mkdir()
         for name in names:
-            shutil.copy(disk / name, room)
+            if (disk / name).exists():
+                shutil.copy(disk / name, room)
         listed, exported = (measure.ran(self.second, *words, folder=room)
                             for words in (("list", STORE), ("export", STORE, 1)))
         shutil.rmtree(room)
@@ -112,7 +113,7 @@ class Bench:
 
     def is_closed(self, disk: Path, held: model.Store, ran: measure.Ran, is_full: bool) -> bool:
         """Compares how a program ended with what it left; whether the file alone has all."""
-        expected = held.lines(), held.export(1)
+        expected = held.lines(), held.export(1) if held.held else b""
         compare("what the file and its log hold", self.found(disk, STORE, LOG), expected)
         is_alone = self.found(disk, STORE) == expected
         told = {line for line in ran.err.decode().splitlines(keepends=True)
@@ -181,7 +182,7 @@ def main() -> None:
     if given.count < 3:
         parser.error("three disks at least")
     if not disks.may_mount():
-        parser.error("this user may not mount a tmpfs")
+        sys.exit("this needs root, or another user who may mount a tmpfs")
     programs = {"edfstore": given.program, "edfserve": given.edfserve}
     with measure.scratch() as name:
         folder = Path(name)
