@@ -30,7 +30,7 @@ from concurrent.futures import ThreadPoolExecutor, as_completed
 from dataclasses import dataclass
 from pathlib import Path
 
-from checks.lib import arguments, checks, measure
+from checks.lib import arguments, checks, disks, measure
 
 MEMORY, ENOUGH = Path("/dev/shm"), 4e9
 SHOWN = 40          # lines of the output of a check that failed
@@ -85,6 +85,8 @@ CHECKS = (
     Check("kill.run", "stops at random moments", counts=(100, 1_000), is_on_disk=True),
     Check("refused.run", "allocations, reads, writes and syncs refused", counts=(10, 1),
           needs=("cc",)),
+    Check("full", "nights onto small disks", (EDFSTORE, EDFSERVE), counts=(38, 186),
+          needs=("tmpfs",)),
     Check("fuzz.run", "random files against the model", counts=(20_000, 100_000)),
     Check("fuzz.sizes", "files of the greatest headers and records", needs=("time",)),
     Check("odd", "files that are no stores, foreign rows", needs=("time",)),
@@ -149,7 +151,7 @@ class Outcome:
 
 
 def is_here(name: str) -> bool:
-    """Whether this command or package is here."""
+    """Whether this command or package is here, or what else a check needs."""
     if name == "time":
         return Path("/usr/bin/time").exists()
     if name == "python3-mne":
@@ -157,6 +159,8 @@ def is_here(name: str) -> bool:
         return subprocess.run([DEBIANS_OWN, "-c", line], check=False).returncode == 0
     if name == "libedf-dev":
         return Path("/usr/include/edflib.h").exists()
+    if name == "tmpfs":
+        return disks.may_mount()
     return shutil.which(name) is not None
 
 

@@ -260,9 +260,10 @@ def in_sentences(checks: Checks, bare: Bare) -> None:
     checks.same("edfmend --dry-run", run("edfmend --dry-run in.edf")[2], 0)
     checks.same("edfmend", run("edfmend in.edf out.edf")[2], 0)
     listed = run("edfruns list *.edf > runs; cat runs")
-    checks.same("edfruns list *.edf", (listed[0].count(b"\n") > 2, listed[1].splitlines(), listed[2]),
-                (True, [b"cut.edf refused E21 CutRecord record=60",
-                        b"in.edf refused E9 NotPlus"], 0))
+    refused = [b"cut.edf refused E21 CutRecord record=60", b"in.edf refused E9 NotPlus"]
+    checks.same("edfruns list *.edf",
+                (listed[0].count(b"\n") > 2, listed[1].splitlines(), listed[2]),
+                (True, refused, 0))
 
 
 def on_a_bare_debian(checks: Checks, package: Path, folder: Path, given) -> None:

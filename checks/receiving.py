@@ -34,6 +34,7 @@ from pathlib import Path
 
 from checks.lib import arguments, measure, model, night
 from checks.lib.checks import Lost, end
+from checks.lib.disks import Disk
 
 RECEIVE = arguments.TOP / "examples/receiving/receive"
 SFTP, SFTP_SERVER = shutil.which("sftp"), Path("/usr/lib/openssh/sftp-server")
@@ -265,33 +266,6 @@ def look(site: Site, program: Path) -> int:
     return len(site.sent)
 
 
-class Disk:
-    """A small disk, which is filled and has room again; an ordinary folder where nobody may
-    mount."""
-
-    def __init__(self, place: Path):
-        self.place = place
-        place.mkdir()
-        self.is_mounted = not measure.ran("mount", "-t", "tmpfs", "-o", "size=64m", "edfstore",
-                                          place).status
-
-    def fill(self) -> None:
-        if self.is_mounted:
-            try:
-                with open(self.place / "filler", "wb") as made:
-                    for _ in range(64):
-                        made.write(bytes(1 << 20))
-            except OSError:
-                pass
-
-    def empty(self) -> None:
-        (self.place / "filler").unlink(missing_ok=True)
-
-    def end(self) -> None:
-        if self.is_mounted:
-            measure.ran("umount", "-l", self.place)
-
-
 def sites_in(folder: Path, disk: Disk, script: Path, added: dict, seed: int) -> list:
     sites = []
     for nth in range(3):
@@ -424,7 +398,7 @@ def unnameable(given, folder: Path) -> None:
 
 def tried(given, script: Path, folder: Path, seconds: float = MOST_SECONDS) -> int:
     """One night of three recorders; how many uploads were looked at."""
-    disk = Disk(folder / "disk")
+    disk = Disk(folder / "disk", 64 * 1_024)
     sites = sites_in(folder, disk, script, surroundings(given, STILL), given.seed)
     try:
         return night_of(sites, disk, given, seconds)

@@ -21,7 +21,8 @@ from datetime import datetime, timedelta
 from pathlib import Path
 from subprocess import PIPE
 
-from checks.lib import arguments, edf, faults, measure, model, named, night, printed, runs, serving
+from checks.lib import (arguments, disks, edf, faults, measure, model, named, night, printed, runs,
+                        serving)
 from checks.lib.checks import Checks, Lost, compare, end
 from checks.lib.serving import NO_COMMAND, Client, exported, status
 
@@ -174,7 +175,8 @@ def below_a_folder(checks: Checks, given) -> None:
     client = Client(given.edfserve, checks.folder, "--from", "in", "--to", "out")
     for name in ("../p.edf", "/etc/passwd", "deep/../../p.edf", "..", "away/p.edf", "link.edf",
                  str(checks.folder / "in/p.edf")):
-        checks.same(f"take {name}", client.ask(f"take {name}"), serving.is_outside(name) + status(1))
+        checks.same(f"take {name}", client.ask(f"take {name}"),
+                    serving.is_outside(name) + status(1))
     for name, answer in (("p.edf", printed.NEW), ("deep/p.edf", printed.KNOWN),
                          ("./p.edf", printed.KNOWN)):
         checks.same(f"take {name}", client.ask(f"take {name}"),
@@ -264,23 +266,15 @@ def held_store(checks: Checks, given) -> None:
 
 def full_disk(checks: Checks, given) -> None:
     checks.begin("a full disk, and room again")
-    disk = checks.folder / "disk"
-    disk.mkdir()
-    if measure.ran("mount", "-t", "tmpfs", "-o", "size=3m", "edfserve", disk).status:
-        print("a full disk: nobody may mount here, left out")
-        return
-    try:
+    with disks.Disk(checks.folder / "disk", 3 * 1_024) as disk:
+        if not disk.is_mounted:
+            print("a full disk: left out, since this user may not mount a tmpfs")
+            return
         names, held = laid(checks.folder), model.Store()
-        client = Client(given.edfserve, disk)
+        client = Client(given.edfserve, disk.place)
         parts = [f"../{name}" for name in names]
         client.ask(f"take {parts[0]}"), held.take((checks.folder / names[0]).read_bytes())
-        filler = disk / "filler"
-        with open(filler, "wb", buffering=0) as made:
-            try:
-                while True:
-                    made.write(bytes(4096))
-            except OSError:
-                pass
+        disk.fill()
         answer = client.ask("export 1 x.edf")
         checks.same("export: its status", answer.endswith(status(3)), True)
         answer = client.ask(f"take {parts[1]}")
@@ -288,18 +282,16 @@ def full_disk(checks: Checks, given) -> None:
             held.take((checks.folder / names[1]).read_bytes())
         else:
             checks.same("take: its status", answer.endswith(status(3)), True)
-        checks.same("nothing was made", (disk / "x.edf").exists(), False)
-        filler.unlink()
+        checks.same("nothing was made", (disk.place / "x.edf").exists(), False)
+        disk.empty()
         for name in names[1:]:
             answer = held.take((checks.folder / name).read_bytes())
             checks.same(name, client.ask(f"take ../{name}"),
                         printed.line(f"../{name}", answer) + status(0))
         checks.same("export", client.ask("export 1 x.edf"),
                     exported("x.edf", held.export(1)) + status(0))
-        checks.same("the exported file", (disk / "x.edf").read_bytes(), held.export(1))
+        checks.same("the exported file", (disk.place / "x.edf").read_bytes(), held.export(1))
         checks.same("the end", client.end()[0], 3)
-    finally:
-        measure.ran("umount", "-l", disk)
 
 
 def dated(clock: datetime, patient: str = NOBODY, onsets=("0", "1")) -> bytes:

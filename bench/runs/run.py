@@ -8,11 +8,11 @@ Best of COUNT runs of each, 3 if left out; --short: a night of 12.8 MB.
 A night of 195 MB: its card, which is one run, and the same night with three gaps, which is four.
 `list` and `picture` read once, `write`, `canonical` and `split` twice. Each word is run from a
 file, right after a `cat` of that file: into another file for those three, which write as much, and
-to /dev/null for the others. `list` and `picture` read a pipe too, right after a `cat` between pipes.
-From file to file `cat` lets the kernel copy, and no byte passes through it; between pipes it reads
-and writes. What is written is compared with the plain model's, but for the picture. Then the same
-words on a night of 7,200 records of 1.7 kB, whose instructions callgrind counts. It needs time and
-valgrind; about 1.5 GB in TMPDIR.
+to /dev/null for the others. `list` and `picture` read a pipe too, right after a `cat` between
+pipes. From file to file `cat` lets the kernel copy, and no byte passes through it; between pipes it
+reads and writes. What is written is compared with the plain model's, but for the picture. Then the
+same words on a night of 7,200 records of 1.7 kB, whose instructions callgrind counts. It needs time
+and valgrind; about 1.5 GB in TMPDIR.
 """
 import os
 import sys

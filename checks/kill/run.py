@@ -20,7 +20,7 @@ import time
 from pathlib import Path
 from subprocess import PIPE
 
-from checks.lib import arguments, faults, measure, model, night, printed
+from checks.lib import arguments, disks, faults, measure, model, night, printed
 from checks.lib.checks import Lost, end
 
 NIGHT = night.Night(records=7_200, samples=(256, 256), fragments=40)
@@ -53,21 +53,25 @@ class Bench:
             if number := printed.number(line):
                 self.refusals[number] += 1
 
-    def exported(self, store: Path) -> bytes:
+    def read(self, *words, is_full: bool) -> bytes:
+        """What a program prints of a store, which on a full disk it may be unable to close."""
+        ran = self.program.ran(*words)
+        self.count(ran.err)
+        is_open = is_full and (ran.status, ran.err.decode()) == (3, printed.NOT_CLOSED)
+        if not is_open and (ran.status or ran.err):
+            raise Lost(f"{words[0]} ended with status {ran.status}: {ran.err!r}")
+        return ran.out
+
+    def exported(self, store: Path, is_full: bool = False) -> bytes:
         """The export, after the list; nothing where nothing is held."""
-        listed = self.program.ran("list", store)
-        self.count(listed.err)
-        if listed.status or listed.err:
-            raise Lost(f"list ended with status {listed.status}: {listed.err!r}")
-        if not listed.out:
+        listed = self.read("list", store, is_full=is_full)
+        if not listed:
             return b""
-        export = self.program.ran("export", store, 1)
-        if export.status:
-            raise Lost(f"export ended with status {export.status}: {export.err!r}")
-        counts = [(1, int(export.out[236:244]))]        # as the header of the export has it
-        if printed.counts_listed(listed.out.decode()) != counts:
-            raise Lost(f"the list is {listed.out!r}, and of the export {counts}")
-        return export.out
+        export = self.read("export", store, 1, is_full=is_full)
+        counts = [(1, int(export[236:244]))]        # as the header of the export has it
+        if printed.counts_listed(listed.decode()) != counts:
+            raise Lost(f"the list is {listed!r}, and of the export {counts}")
+        return export
 
     def front(self, store: Path) -> int:
         """How many files from the front the store holds; the bench ends where it holds anything
@@ -124,32 +128,28 @@ def filled(bench: Bench, store: Path, answers: collections.Counter) -> None:
         answers[printed.kind(answer)] += 1
         if printed.is_accepted(answer):
             held.take(part.read_bytes())
-    if not lines or printed.is_store_refused(taken.err) or bench.program.ran("list", store).status:
+    refused = map(printed.is_store_refused, (taken.err, bench.program.ran("list", store).err))
+    if not lines or any(refused):
         return
-    if bench.exported(store) != export_of(held):
+    if bench.exported(store, is_full=True) != export_of(held):
         raise Lost("on a full disk the export is not that of the accepted files")
 
 
 def full_disk(bench: Bench, megabytes: int) -> None:
     """The night onto a file system that is too small for it, which then grows."""
-    place = bench.folder / "small"
-    place.mkdir(exist_ok=True)
-    if measure.ran("mount", "-t", "tmpfs", "-o", f"size={megabytes}m", "edfstore-bench",
-                   place).status:
-        print("a full disk: left out, since this user may not mount a tmpfs")
-        return
-    try:
-        store, answers = place / "s.db", collections.Counter()
+    with disks.Disk(bench.folder / "small", 1_024 * megabytes) as disk:
+        if not disk.is_mounted:
+            print("a full disk: left out, since this user may not mount a tmpfs")
+            return
+        store, answers = disk.place / "s.db", collections.Counter()
         for _ in range(3):
             filled(bench, store, answers)
-        measure.done("mount", "-o", f"remount,size={20 * megabytes + 200}m", place)
+        disk.grow(1_024 * (20 * megabytes + 200))
         taken = bench.program.ran("take", store, *bench.parts)
         if taken.status or bench.front(store) != len(bench.parts):
             raise Lost(f"after room was made: {taken.out[-300:]!r} {taken.err!r}")
         print(f"a disk of {megabytes} MB, taken 3 times: {dict(answers)}; each file whole or not "
               "at all, and all of them once there was room")
-    finally:
-        measure.done("umount", place)
 
 
 def shrinking(bench: Bench, times: int) -> None:

@@ -7,8 +7,8 @@ record, unless it is said otherwise.
 """
 from dataclasses import replace
 
-from . import faults, mended, printed, stories
-from .edf import ANNOTATIONS_LABEL, Header, Signal, annotations_signal, fragment, keeping, tal
+from . import faults, mended, model, printed, stories
+from .edf import Header, Signal, annotations_signal, fragment, keeping, tal
 
 RECORDING = "Startdate 02-MAR-2002 N1 T3 REC5"
 SAMPLES = b"\x10\x00\x20\x01"
@@ -18,7 +18,7 @@ EEG = Signal()
 # Files
 
 def of(signal: Signal = EEG, noted: Signal = annotations_signal(3), **fields) -> bytes:
-    """Q with this ordinary signal, this annotations signal and these fields, and another sample."""
+    """Q with this ordinary signal, this annotations signal and these fields, and other samples."""
     return Header((signal, noted), **fields).to_bytes() + SAMPLES + keeping("+0") + b"\0"
 
 
@@ -57,15 +57,13 @@ def no_code(name: str) -> str:
 
 # Stories
 
-class MendScript:
-    """Commands of `edfmend` in a script, to which their files are added."""
+class MendScript(stories.OverFiles):
+    """Commands of `edfmend`, whose files are added to those of the script."""
+    program = "edfmend"
 
     def __init__(self, script: stories.Script):
-        self.script, self.files = script, script.files
+        super().__init__(script)
         self.names = {data: name for name, data in self.files.items()}
-
-    def title(self, text: str) -> None:
-        self.script.title(text)
 
     def add(self, name: str, data: bytes) -> str:
         """The name of a file: of the one that is there with these bytes, or this one."""
@@ -75,23 +73,18 @@ class MendScript:
             self.files[name], self.names[data] = data, name
         return self.names[data]
 
-    def writes(self, words: str, lines: str = "", error: str = "", status: int = 0) -> None:
-        err = stories.on_error(error).splitlines() if error else []
-        self.script.line(f"edfmend {words}", *lines.splitlines(), *err, stories.ended(status))
-
     def makes(self, words: str, made: str, lines: str, expected: str) -> None:
         """A command that makes a file with the bytes of another."""
         self.writes(words, lines)
-        self.script.line(f"cat {made} = {expected}",
-                         stories.just(expected, len(self.files[expected])))
+        self.has(made, expected)
 
     def mends(self, name: str, before: bytes, after: bytes, lines: str, words: str = "") -> tuple:
         """A file is mended into another. The names of both."""
         given, wanted = (self.add(f"{name}{kind}.edf", data)
                          for kind, data in (("", before), ("_mended", after)))
         self.makes(f"{given} {name}_made.edf{words}", f"{name}_made.edf", lines, wanted)
-        self.script.same((mended.spells(after), mended.samples(after, after)),
-                         ("", mended.samples(before, after)[:len(mended.samples(after, after))]))
+        self.same((model.refusal(after), mended.samples(after, after)),
+                  ("", mended.samples(before, after)))
         return given, wanted
 
     def refuses(self, name: str, data: bytes, fault: str, words: str = "",
@@ -100,7 +93,7 @@ class MendScript:
         fault, which comes first and which a rule mends."""
         given = self.add(f"{name}.edf", data)
         self.writes(f"{given} {name}_made.edf{words}", error=printed.fault(given, fault), status=1)
-        self.script.same(mended.spells(data), by_model or fault)
+        self.same(model.refusal(data), by_model or fault)
 
     def asks(self, name: str, data: bytes) -> None:
         """A file names no code of a patient."""
@@ -195,7 +188,7 @@ def copied_and_refused(script: MendScript) -> None:
     script.asks("harry", of(patient="Haagse Harry"))
     script.refuses("no_month", of(startdate="02.13.02"), faults.startdate())
     script.writes("dot.edf good.edf", error=printed.is_there("good.edf"), status=1)
-    script.script.line("cat good.edf = good.edf", stories.just("good.edf", len(of())))
+    script.has("good.edf", "good.edf")
     script.title("what is no EDF is refused, and asked for no code")
     script.refuses("archive", b"PK\x03\x04".ljust(512), faults.unprintable(2))
     script.refuses("letter", b"Dear reader, ".ljust(512), faults.version())

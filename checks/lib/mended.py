@@ -39,15 +39,6 @@ def samples(data: bytes, made: bytes) -> list:
     return found
 
 
-def spells(data: bytes) -> str:
-    """The refusal of a file by the plain model, or nothing."""
-    try:
-        model.read(data)
-    except model.Refused as why:
-        return str(why)
-    return ""
-
-
 class Mender:
     """The program, over files of one folder."""
 
@@ -76,7 +67,7 @@ class Mender:
         if self.left() != ["out.edf"]:
             raise Lost(f"{self.left()} is left")
         made = self.made.read_bytes()
-        refused = spells(made)
+        refused = model.refusal(made)
         if refused:
             raise Lost(f"what was made is refused: {refused}")
         if samples(made, made) != samples(data, made)[:len(samples(made, made))]:

@@ -373,6 +373,15 @@ def read(data: bytes) -> tuple:
     return layout.key, records
 
 
+def refusal(data: bytes) -> str:
+    """The first fault of a file, or nothing."""
+    try:
+        read(data)
+    except Refused as fault:
+        return str(fault)
+    return ""
+
+
 # What is written
 
 def shortest(nanos: int) -> bytes:

@@ -75,6 +75,14 @@ UNWRITTEN_OUTPUT = fault("standard output", faults.write())
 NO_STORE, FOREIGN = fault("store", faults.store()), fault("store", faults.foreign())
 
 
+def not_closed(text: str) -> str:
+    """The line of a store whose database file alone may lack what was accepted, and why."""
+    return line("store not closed", text)
+
+
+NOT_CLOSED = not_closed(faults.store())
+
+
 def is_store_refused(on_error: bytes) -> bool:
     """Whether standard error says that the store could not be opened."""
     return line("store", refused("")).rstrip().encode() in on_error

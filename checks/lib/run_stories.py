@@ -146,34 +146,15 @@ def thousand_lines() -> list:
 
 # Stories
 
-class RunScript:
-    """Commands of `edfruns` in a script, which has their files."""
-
-    def __init__(self, script: stories.Script):
-        self.script, self.files = script, script.files
-
-    def writes(self, words: str, *lines, error: str = "", status: int = 0, name: str = "") -> None:
-        """A command with what it writes: lines or the bytes of a file, and to standard error."""
-        out = "".join(lines).splitlines()
-        if name:
-            out = [stories.just(name, len(self.files[name]))]
-        err = stories.on_error(error).splitlines() if error else []
-        self.script.line(f"edfruns {words}{f' = {name}' if name else ''}", *out, *err,
-                         stories.ended(status))
-
-    def same(self, got, expected) -> None:
-        self.script.same(got, expected)
-
-    def made(self, name: str, expected: str) -> None:
-        """That a file has the bytes of another."""
-        self.script.line(f"cat {name} = {expected}", stories.just(expected,
-                                                                  len(self.files[expected])))
+class RunScript(stories.OverFiles):
+    """Commands of `edfruns`."""
+    program = "edfruns"
 
     def refused(self, words: str, name: str, fault: str) -> None:
         """A command over one file, which is refused."""
         self.writes(words, error=printed.fault(name, fault), status=stories.status_of([fault]))
         if name in self.files:
-            self.same(refusal_of(self.files[name]), fault)
+            self.same(model.refusal(self.files[name]), fault)
 
     def misspelled(self, words: str, why: str, usage: str) -> None:
         """Words that ask for nothing."""
@@ -202,17 +183,8 @@ class RunScript:
         self.same("".join(told), runs.split_lines(prefix, found))
 
 
-def refusal_of(data: bytes) -> str:
-    """The first fault of a file by the model."""
-    try:
-        model.read(data)
-    except model.Refused as why:
-        return str(why)
-    return ""
-
-
 def listed(script: RunScript) -> None:
-    script.script.title("a line for each run of a file, with the gap after it")
+    script.title("a line for each run of a file, with the gap after it")
     script.listed("one.edf", ONE)
     script.listed("nanosecond.edf", printed.run(1, 1, FIRST, "1", "0.000000001"),
                   printed.run(2, 1, "2002-03-02T23:59:51.000000001", "1"))
@@ -220,7 +192,7 @@ def listed(script: RunScript) -> None:
     script.listed("tenths.edf", TENTHS)
     script.listed("two.edf", *TWO)
     script.listed("thousand.edf", *thousand_lines())
-    script.script.title("the runs of several files, each with its name, and those that are refused")
+    script.title("the runs of several files, each with its name, and those that are refused")
     ones, days = made_of("one.edf", ONE), [made_of("day.edf", line) for line in DAY]
     cut, unread = printed.fault("cut_night.edf", CUT), printed.fault("none.edf", stories.MISSING)
     script.writes("list one.edf tenths.edf", ones, made_of("tenths.edf", TENTHS))
@@ -230,7 +202,7 @@ def listed(script: RunScript) -> None:
 
 
 def joined(script: RunScript) -> None:
-    script.script.title("runs with gaps up to a tolerance have one line")
+    script.title("runs with gaps up to a tolerance have one line")
     script.joined("list --tolerance 7.5 two.edf", "two.edf", 7_500_000_000,
                   printed.run(1, 5, f"{FIRST}.25", "12.5", "3597.25", " joined=1 missing=7.5"),
                   printed.run(2, 1, LAST, "1", "", " joined=0 missing=0"))
@@ -241,13 +213,13 @@ def joined(script: RunScript) -> None:
     script.joined("list --tolerance 1 thousand.edf", "thousand.edf", 1_000_000_000,
                   printed.run(1, THOUSAND, NEXT, "1999", "", " joined=999 missing=999"))
     script.writes("list two.edf one.edf --tolerance=4000",
-                  "two.edf ", printed.run(1, 6, f"{FIRST}.25", "3610.75", "",
-                                          " joined=2 missing=3604.75"),
-                  "one.edf ", printed.run(1, 2, FIRST, "2", "", " joined=0 missing=0"))
+                  made_of("two.edf", printed.run(1, 6, f"{FIRST}.25", "3610.75", "",
+                                                 " joined=2 missing=3604.75")),
+                  made_of("one.edf", printed.run(1, 2, FIRST, "2", "", " joined=0 missing=0")))
 
 
 def written(script: RunScript) -> None:
-    script.script.title("the file of a run, and what is told of it")
+    script.title("the file of a run, and what is told of it")
     for number, name in enumerate(("first_run.edf", "second_run.edf", "third_run.edf"), 1):
         script.written(f"write two.edf {number:0{number}}", runs.read_runs, "two.edf", number,
                        TWO_AS_THEY_ARE[number - 1], name)
@@ -255,12 +227,12 @@ def written(script: RunScript) -> None:
         script.written(f"write strays.edf {number}", runs.read_runs, "strays.edf", number,
                        printed.counted(STRAYS[number - 1], *counts),
                        ("first_strays.edf", "second_strays.edf")[number - 1])
-    script.script.title("each annotation in the run of its onset")
+    script.title("each annotation in the run of its onset")
     script.written("write --by-onset strays.edf 1", runs.read_by_onset, "strays.edf", 1,
                    printed.counted(STRAYS[0], 5, 3), "first_by_onset.edf")
     script.written("write strays.edf 2 --by-onset", runs.read_by_onset, "strays.edf", 2,
                    printed.counted(STRAYS[1], 4, 2), "second_by_onset.edf")
-    script.script.title("the canonical file")
+    script.title("the canonical file")
     for name, expected in (("loose.edf", "canonical_loose.edf"), ("one.edf", "canonical_one.edf"),
                            ("two.edf", "two.edf")):
         script.writes(f"canonical {name}", name=expected)
@@ -269,50 +241,50 @@ def written(script: RunScript) -> None:
 
 
 def split(script: RunScript) -> None:
-    script.script.title("a file for each run, and none is written over")
+    script.title("a file for each run, and none is written over")
     script.split("split two.edf night", runs.read_runs, "two.edf", "night", TWO_AS_THEY_ARE)
     three = ("first_run.edf", "second_run.edf", "third_run.edf")
     for number, name in enumerate(three, 1):
-        script.made(f"night-{number}.edf", name)
+        script.has(f"night-{number}.edf", name)
     script.writes("split two.edf night", error=printed.is_there("night-1.edf"), status=1)
-    script.made("night-1.edf", "first_run.edf")
+    script.has("night-1.edf", "first_run.edf")
     script.split("split --by-onset two.edf onset", runs.read_by_onset, "two.edf", "onset",
                  TWO_BY_ONSET)
     script.split("split strays.edf strays --by-onset", runs.read_by_onset, "strays.edf", "strays",
                  [printed.counted(STRAYS[0], 5, 3), printed.counted(STRAYS[1], 4, 2)])
-    script.made("strays-1.edf", "first_by_onset.edf")
-    script.made("strays-2.edf", "second_by_onset.edf")
-    script.script.title("names have as many digits as the last")
+    script.has("strays-1.edf", "first_by_onset.edf")
+    script.has("strays-2.edf", "second_by_onset.edf")
+    script.title("names have as many digits as the last")
     script.split("split thousand.edf n", runs.read_runs, "thousand.edf", "n",
                  [printed.counted(line, 0, 0) for line in thousand_lines()])
-    script.script.title("the first file of an earlier split with other digits is found")
+    script.title("the first file of an earlier split with other digits is found")
     for name in ("third-3.edf", "early-01.edf", "wide-00000001.edf"):
         script.writes(f"split two.edf {name.split('-')[0]}", error=printed.is_there(name), status=1)
-    script.script.title("other files of the prefix are left alone")
+    script.title("other files of the prefix are left alone")
     script.split("split two.edf spared", runs.read_runs, "two.edf", "spared", TWO_AS_THEY_ARE)
     for name in ("spared-4.edf", "spared-02.edf", "spared-000000001.edf", "spared1.edf"):
-        script.made(name, "q.edf")
-    script.script.title("a data record has ten thousand annotations at most")
+        script.has(name, "q.edf")
+    script.title("a data record has ten thousand annotations at most")
     script.split("split --by-onset full.edf full", runs.read_by_onset, "full.edf", "full",
                  [printed.counted(ONE, 10_000, 0)])
     script.writes("write crowded.edf 1 --by-onset", error=printed.crowded(1), status=1)
 
 
 def refused(script: RunScript) -> None:
-    script.script.title("a file with a fault is refused, and nothing is written or made of it")
+    script.title("a file with a fault is refused, and nothing is written or made of it")
     for words in ("list cut_night.edf", "split cut_night.edf cut", "canonical cut_night.edf",
                   "split --by-onset cut_night.edf cut", "picture cut_night.edf"):
         script.refused(words, "cut_night.edf", CUT)
     script.refused("write overlap.edf 1", "overlap.edf", faults.order(2))
     script.refused("split --by-onset empty.edf cut", "empty.edf", faults.cut())
     script.refused("picture none.edf", "none.edf", stories.MISSING)
-    script.script.title("a number that no run has")
+    script.title("a number that no run has")
     for number in (4, 4_294_967_295):
         script.writes(f"write two.edf {number}", error=printed.no_run(number), status=1)
 
 
 def misspelled(script: RunScript) -> None:
-    script.script.title("words that ask for nothing")
+    script.title("words that ask for nothing")
     twice = ("FILE is read twice, which standard input can't be: write it to a file first")
     script.misspelled("write - 1", twice, "write [OPTIONS] <FILE> <N>")
     script.misspelled("canonical -", twice, "canonical <FILE>")

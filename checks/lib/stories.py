@@ -168,6 +168,31 @@ class Script:
             self.same(self.answer(name), printed.refused(expected))
 
 
+class OverFiles:
+    """Commands of a program that knows no store, over the files of a script."""
+    program = ""
+
+    def __init__(self, script: Script):
+        self.script, self.files = script, script.files
+
+    def title(self, text: str) -> None:
+        self.script.title(text)
+
+    def same(self, got, expected) -> None:
+        self.script.same(got, expected)
+
+    def writes(self, words: str, *lines, error: str = "", status: int = 0, name: str = "") -> None:
+        """A command with what it writes: lines or the bytes of a file, and to standard error."""
+        out = [just(name, len(self.files[name]))] if name else "".join(lines).splitlines()
+        err = on_error(error).splitlines() if error else []
+        self.script.line(f"{self.program} {words}{f' = {name}' if name else ''}", *out, *err,
+                         ended(status))
+
+    def has(self, name: str, expected: str) -> None:
+        """A file that was made or is there has the bytes of another."""
+        self.script.line(f"cat {name} = {expected}", just(expected, len(self.files[expected])))
+
+
 def that_fit(script: Script) -> None:
     script.title("files that fit are accepted with what they add, and exported once and by their "
                  "starts")

@@ -10,7 +10,7 @@ import threading
 from contextlib import contextmanager
 from pathlib import Path
 
-from checks.lib import arguments, edf, faults, measure, printed
+from checks.lib import arguments, edf, faults, measure, model, printed
 from checks.lib.checks import Checks
 from checks.lib.printed import KNOWN, NEW, NO_STORE, UNREAD
 
@@ -124,9 +124,11 @@ def held(store: Path, seconds: float = None):
     """The lock of a store's file is held, and after so many seconds given back."""
     with open(store, "r+b") as file:
         fcntl.lockf(file, fcntl.LOCK_EX, *LOCKED)
+        ending = threading.Timer(seconds or 0, fcntl.lockf, (file, fcntl.LOCK_UN, *LOCKED))
         if seconds is not None:
-            threading.Timer(seconds, fcntl.lockf, (file, fcntl.LOCK_UN, *LOCKED)).start()
+            ending.start()
         yield
+        ending.cancel()
 
 
 def at_once(checks: Checks) -> None:
@@ -148,16 +150,17 @@ def waited(checks: Checks) -> None:
     for path in checks.folder.glob("s.db-*"):
         path.unlink()
     store, names, bytes_held = checks.folder / "s.db", checks.names(), checks.content("s.db")
-    for words in (("list", "s.db"), ("export", "s.db", "1"), ("take", "s.db", "p.edf")):
+    for words, out in (("list s.db", ONE), ("export s.db 1", Q),
+                       ("take s.db p.edf", printed.line("p.edf", NEW))):
         with held(store):
-            ran = checks.program.ran(*words)
+            ran = checks.program.ran(*words.split())
         checks.compare(f"{words}, the lock held", ran, err=NO_STORE, out="", status=3)
         checks.same(f"{words}: it waits", WAITED <= ran.seconds < 3 * WAITED, True)
         checks.same(f"{words}: the store", (checks.names(), checks.content("s.db")),
                     (names, bytes_held))
         with held(store, WAITED / 4):
-            ran = checks.program.ran("list", "s.db")
-        checks.compare(f"{words}, the lock held for a while", ran, ONE, "", 0)
+            ran = checks.program.ran(*words.split())
+        checks.compare(f"{words}, the lock held for a while", ran, out, "", 0)
         for path in checks.folder.glob("s.db-*"):
             path.unlink()
     checks.shell("head -c 9000 s.db > cut.db; sqlite3 other.db 'CREATE TABLE night (a)'; "
@@ -170,13 +173,14 @@ def waited(checks: Checks) -> None:
 def one_after_another(checks: Checks) -> None:
     """Exports in a loop over the lines of a list, which may still have the store."""
     begun(checks, "exports of a list's lines")
-    checks.file("x.edf", FILES["X"])
-    checks.file("u.edf", FILES["U"])
-    checks.shell("edfstore take s.db a.edf x.edf u.edf",
-                 printed.lines(("a.edf", NEW), ("x.edf", NEW), ("u.edf", printed.accepted(2))))
+    store = model.Store()
+    for name, data in (("a.edf", Q), ("x.edf", FILES["X"]), ("u.edf", FILES["U"])):
+        checks.file(name, data)
+        checks.take("s.db", (name, store.take(data)))
     checks.shell("for i in {1..40}; do edfstore list s.db | while read -r place rest; do "
                  "edfstore export s.db $place > $place.edf || echo refused; done; done")
-    checks.shell("edfstore take again.db 1.edf 2.edf 3.edf | wc -l", "3\n")
+    checks.same("the exports", [checks.content(f"{place}.edf") for place in (1, 2, 3)],
+                [store.export(place) for place in (1, 2, 3)])
     checks.shell("for i in {1..3}; do \"$PROGRAM\" take s.db p.edf & done | sort",
                  2 * printed.line("p.edf", KNOWN) + printed.line("p.edf", NEW))
 

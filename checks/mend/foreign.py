@@ -16,7 +16,7 @@ import tempfile
 import warnings
 from pathlib import Path
 
-from checks.lib import arguments, measure, mended
+from checks.lib import arguments, measure, mended, model
 from checks.lib.checks import Checks
 from checks.lib.edf import Header, Signal, annotations_signal, fragment, keeping
 from checks.mend.by_edfbrowser import TOOLS, by_edfbrowser
@@ -107,7 +107,7 @@ def look(checks: Checks, given, name: str, path: Path, dump: Path, folder: Path)
     mender = mended.Mender(given.edfmend, folder / name)
     mender.folder.mkdir()
     data = path.read_bytes()
-    refused = mended.spells(data)
+    refused = model.refusal(data)
     ran = mender.mend(data)
     if ran.status == 1:
         ran = mender.mend(data, *CODE)

@@ -3,9 +3,10 @@
     python3 -m checks.mend.run [--edfmend PATH] [--program PATH]
 
 Each mended file is accepted by the plain model and by `edfstore`, has the samples that were there,
-and is mended to itself, with an empty ledger. The ledger names the rule. Some mended files are spelled
-by hand, byte for byte. A good file is copied; a file that is there is not written over; where a
-code is wanted, and none is given, or where what is there could only be guessed, nothing is made.
+and is mended to itself, with an empty ledger. The ledger names the rule. Some mended files are
+spelled by hand, byte for byte. A good file is copied; a file that is there is not written over;
+where a code is wanted, and none is given, or where what is there could only be guessed, nothing is
+made.
 """
 import itertools
 import tempfile
@@ -137,7 +138,8 @@ BY_HAND = (
      identified("P7 F 02-MAY-1951 X", "Startdate 24-dez-2026 PSG-1 T7 Nox Room_2"), (),
      identified("P7 F 02-MAY-1951 X", "Startdate 24-DEC-2026 PSG-1 T7 Nox Room_2 mended")),
     ("a recording field with just room for the mark",
-     identified("P7 F 02-may-1951 X", FULL), (), identified("P7 F 02-MAY-1951 X", f"{FULL} mended")),
+     identified("P7 F 02-may-1951 X", FULL), (),
+     identified("P7 F 02-MAY-1951 X", f"{FULL} mended")),
     ("a code of letters that ASCII does not have", identified(CYRILLIC, FULL), CODE,
      identified("S-0118 F 02-MAY-1951 Mueller", f"{FULL} mended")),
     ("a code with one such letter", identified("Ж-7 F X X".encode(), FULL), CODE,

@@ -8,12 +8,14 @@ every COUNTth from the first on, alone or with all that follow, until a run meet
 `take` of two files into a new store, of `list` and `export` of a store of both, and of a
 `convert`. The first of the files, which `convert` is given too, is of unknown count and has two
 annotations signals. A run ends with status 0 and all that is expected, or with status 3 and a front
-of it, in whole lines where no write was refused; what was accepted is held, and what could not be
-read is not; and without refusals both files are then taken or known, and the export is that of the
-plain model. It stops with status 1 at the first loss.
+of it, in whole lines where no write was refused; what was accepted is held, by the database file
+alone where the status is 0, and what could not be read is not; and without refusals both files are
+then taken or known, and the export is that of the plain model. It stops with status 1 at the first
+loss.
 """
 import collections
 import re
+import shutil
 from dataclasses import dataclass
 from pathlib import Path
 
@@ -38,16 +40,20 @@ ANSWERED = {"memory": (faults.read(), faults.memory()), "disk": (faults.read(), 
 REFUSALS = {kind: {*map(printed.refused, given)} for kind, given in ANSWERED.items()}
 
 
-def on_error(names: tuple, given: tuple) -> re.Pattern:
-    """The line of one of these names and refusals, or nothing."""
+def on_error(names: tuple, given: tuple, not_closed: str) -> re.Pattern:
+    """The line of one of these names and refusals, or nothing; and the line of a store that was not
+    closed for that reason, or nothing."""
     one_of = (f"({'|'.join(words)})" for words in (names, given))
-    return re.compile(f"({printed.fault(*one_of)})?\\Z".encode())
+    last = printed.not_closed(not_closed)
+    return re.compile(f"({printed.fault(*one_of)})?({last})?\\Z".encode())
 
 
 # What may stand on standard error of a run that was refused something.
 SAID = {
-    "memory": on_error(("command", "take", "list", "store", "export", "-"), ANSWERED["memory"]),
-    "disk": on_error(("list", "store", "export", "-"), (*ANSWERED["disk"], faults.write())),
+    "memory": on_error(("command", "take", "list", "store", "export", "-"), ANSWERED["memory"],
+                       faults.memory()),
+    "disk": on_error(("list", "store", "export", "-"), (*ANSWERED["disk"], faults.write()),
+                     faults.store()),
 }
 
 
@@ -126,6 +132,15 @@ def answered(bench: Bench, ran: measure.Ran, refusal: Refusal) -> dict:
     return answers
 
 
+def in_one_file(bench: Bench, store: Path) -> None:
+    """The database file alone holds both files."""
+    alone = bench.folder / "alone.db"
+    measure.remove_store(alone)
+    shutil.copy(store, alone)
+    bench.whole(("list", alone), bench.lines)
+    bench.whole(("export", alone, "1"), bench.export)
+
+
 def take(bench: Bench, refusal: Refusal) -> bool:
     """Whether a call was refused of a `take` into a new store, which is then taken again without
     refusals."""
@@ -133,6 +148,8 @@ def take(bench: Bench, refusal: Refusal) -> bool:
     measure.remove_store(store)
     ran, met = bench.under("take", store, *FILES, refusal=refusal)
     answers = answered(bench, ran, refusal)
+    if ran.status == 0:
+        in_one_file(bench, store)
     again, _ = bench.under("take", store, *FILES)
     for line, name in zip(again.out.decode().splitlines(keepends=True), FILES):
         may = {NEW: {KNOWN}, printed.UNREAD: {NEW}}.get(answers.get(name), {NEW, KNOWN})
