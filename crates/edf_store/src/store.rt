@@ -57,6 +57,14 @@ impl<S: Alter> Store<S> {
         self.cap
     }
 
+    /// Whether the connection is in a transaction, as where a refused call left it in one. Then
+    /// every call that begins one is refused.
+    pub fn is_busy(&self) -> bool
+        ensures { result ≡ (at S.Store self.now).in_transaction }
+    {
+        !self.conn.is_autocommit()
+    }
+
     /// The connection, as it is.
     pub fn into_connection(self) -> Connection<S>
         ensures { result ≡ self.connection }
