@@ -73,6 +73,7 @@ def lines(*pairs) -> str:
 
 UNWRITTEN_OUTPUT = fault("standard output", faults.write())
 NO_STORE, FOREIGN = fault("store", faults.store()), fault("store", faults.foreign())
+NOT_CLOSED = line("store not closed", faults.store())
 
 
 def not_closed(text: str) -> str:

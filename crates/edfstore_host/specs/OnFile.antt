@@ -19,7 +19,7 @@ OnlyReads (list store) = Unit {0}
 OnlyReads (export store place) = Unit {0}
 OnlyReads (convert file) = ⊥
 
--- what such a command answers where there is none: an empty list, or that there is no such recording
+-- what such a command answers where there is none: an empty list, or no recording at its place
 abbrev pub FindsNothing : Asked → Growth → Growth → Status → Type 0
 FindsNothing (take store files) out err status = ⊥
 FindsNothing (list store) out err status = Gets out [] × Gets err [] × (status ≡ Done)

@@ -81,7 +81,8 @@ fn find_nothing<'t>(command: &Order, streams: &mut Streams<'t>) -> Status
     requires reads { OnlyReads (meaning command.now) }
     ensures { FindsNothing (meaning command.now)
         (growth ⟦<Counted<Clearing<'t, Stdout>> as Output>⟧ streams.old.out streams.new.out)
-        (growth ⟦<Counted<Clearing<'t, Stderr>> as Output>⟧ streams.old.err streams.new.err) result }
+        (growth ⟦<Counted<Clearing<'t, Stderr>> as Output>⟧ streams.old.err streams.new.err)
+        result }
 {
     match command {
         Order::Export { store: _, place } => tell_no_recording(&mut streams.err, *place),
@@ -117,7 +118,8 @@ fn run_on_file<'x, 't, 'i>(
     requires named { store_path (meaning command.now) ≡ Some path.now }
     ensures { let out = growth ⟦<Counted<Clearing<'t, Stdout>> as Output>⟧ streams.old.out
         streams.new.out in
-        let err = growth ⟦<Counted<Clearing<'t, Stderr>> as Output>⟧ streams.old.err streams.new.err in
+        let err = growth ⟦<Counted<Clearing<'t, Stderr>> as Output>⟧ streams.old.err
+        streams.new.err in
         IsRunOnFile (run_of ⟦<File as Disk>⟧ MOST_RECORDS (image_at ⟦<Unknown as Start>⟧) (
           meaning command.now,
           ⟦<Files<'i> as Inputs>⟧.bytes inputs.old,
