@@ -69,7 +69,7 @@ fn serve_path(rt: &HostRuntime, path: &str, session: &mut Session<'_>) -> Status
             Err(refused) => return refuse(rt, path, &refused),
         };
         let end = serve_over(rt, &mut store, session);
-        drop(close_file(store));
+        session.worst = close_file(rt, path, store, session.worst);
         match end {
             End::Left => {
                 Terminal::journal(rt).say(path, OPENED_ANEW);

@@ -96,22 +96,6 @@ fn disk_failure(tally: Tally) -> Option<Error> {
     }
 }
 
-/// Closes the store of a file. What it holds was committed, and is in the log where it can't be
-/// copied into the file.
-///
-/// The answer is what failed of the disk while the store was open, or as it was closed, if that is
-/// known.
-pub fn close_file(store: Store<FileStore<File>>) -> Option<Error> {
-    match store.into_connection().close_files() {
-        Ok(files) => disk_failure(files.tally()),
-        Err((error, left)) => {
-            let failure = disk_failure(left.tally());
-            drop(left.close());
-            failure.or(Some(error))
-        }
-    }
-}
-
 /// What failed of the disk in a run, or as its files were closed, if that is known.
 pub(crate) fn failure_of<D: Disk>(session: &Session<D>) -> Option<Error> {
     disk_failure(session.files.tally()).or(session.failure)

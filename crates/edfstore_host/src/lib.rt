@@ -8,11 +8,12 @@
 //!   [`Refused`], [`tell_cause`]: why it was not opened.
 #![tactic(auto)]
 
-ghost use Rattle.std.specs.Prelude.{◌≡◌, Some, None, true};
+ghost use Rattle.std.specs.Prelude.{◌≡◌, ◌⊎◌, Some, None, true};
 ghost use Rattle.sqlite_wal.specs.Files.{image_at};
 ghost use Rattle.edfstore_arguments.specs.Arguments.{meaning};
 ghost use Rattle.edf_command.specs.Command.{store_path};
 ghost use Rattle.edf_program.specs.Output.{growth};
+ghost use Rattle.edf_program.specs.declared.status.Status.TheVariants.{Trouble};
 ghost use Rattle.edf_session.specs.Run.{IsNoticed, run_of};
 ghost use Rattle.edfstore_host.specs.OnFile.{OnlyReads, FindsNothing, IsRunOnFile};
 
@@ -23,17 +24,18 @@ mod waiting;
 
 pub use cause::tell_cause;
 use cause::{Teller, tell_error};
-pub use disk::{Refused, close_file, open_file};
+pub use disk::{Refused, open_file};
 use disk::{failure_of, open_memory, open_when_free};
 use edf_command::{
     Inputs, Order, Status, read_command, refuse_store, run, store_path, tell_no_recording,
 };
 use edf_fragment::{Counted, Output};
 use edf_header::MOST_RECORDS;
-use edf_session::{Cap, Session, run_opened};
+use edf_session::{Cap, Session, close, run_opened};
+use edf_store::Store;
 use edf_system::{Clearing, Files, Streams, Terminal, refuse_words, words};
 use path::{AtPath, look_at};
-use sqlite::{Start, Unknown};
+use sqlite::{FileStore, Start, Unknown};
 use sqlite_disk::Disk;
 use sqlite_std_file::File;
 use std::io::{Stderr, Stdout};
@@ -98,6 +100,26 @@ fn tell_failure(rt: &HostRuntime, terminal: &Terminal<'_>, path: &str, session: 
     {
         tell_error(rt, terminal, path, failure);
     }
+}
+
+/// Closes the store of a file: what it holds is copied into the database file. Where it can't be, it
+/// is in the log alone, a line says so, and the cause is printed, also where no terminal is.
+///
+/// The answer is how it went before, or trouble where the store could not be closed.
+pub fn close_file(
+    rt: &HostRuntime,
+    path: &str,
+    store: Store<FileStore<File>>,
+    status: Status,
+) -> Status
+    ensures { (result ≡ status) ⊎ (result ≡ Trouble) }
+{
+    let mut err = Counted::new(rt.stderr());
+    let session = close(store.into_connection(), status, &mut err);
+    if session.failure.is_some() {
+        tell_failure(rt, &Terminal::journal(rt), path, &session);
+    }
+    session.status
 }
 
 /// Runs a command over the file of the store that it names. Where there is no such file, `take`
