@@ -20,8 +20,8 @@ use sqlite::{Connection, Files, Leftover, Options};
 use sqlite_disk::Disk;
 use std::alloc::Global;
 
-/// One run over two files, on any disk, which lets them go where it should close them: nothing is
-/// copied, and no failure is told (`left`).
+/// One run over two files, on any disk, which lets them go where it should close them, without
+/// copying anything. No failure is told (`left`).
 ///
 /// It answers as a run that is closed. Where the disk gave back what was written, the files that
 /// come back, and what a crash then leaves, hold what some first of its files leave of what they

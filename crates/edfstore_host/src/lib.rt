@@ -128,7 +128,7 @@ pub fn close_file(
 /// most.
 ///
 /// Of the path that is opened, and of what the system does with it, no clause speaks: these lines
-/// are to be read.
+/// are to be read. At the type `Unknown` what is said of a clean disk is said of empty files alone.
 fn run_on_file<'x, 't, 'i>(
     rt: &HostRuntime,
     terminal: &'x Terminal<'x>,
