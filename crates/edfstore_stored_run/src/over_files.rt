@@ -5,9 +5,8 @@ ghost use Rattle.std.specs.Prelude.{None};
 use crate::{Outcome, print_outcome, words_of};
 use edf_command::{Order, Status, read_command, store_path};
 use edf_fragment::{Counted, Output};
-use edf_header::MOST_RECORDS;
 use edf_sample::Sink;
-use edf_session::{Watch, run_path};
+use edf_session::{Cap, Watch, open_path, run_opened};
 use edf_store::StoreFault;
 use edf_system::{Files, Terminal};
 use sqlite::Unknown;
@@ -35,15 +34,23 @@ fn run_at<O: Output, F: Output>(
 ) -> Status {
     let terminal = Terminal::new(rt, "file", 0);
     let mut inputs = Files::new(rt, &terminal);
-    match store_path(command) {
-        Some(_) if cap > 0 && cap <= MOST_RECORDS => {
-            let watch = &mut Unwatched;
-            match run_path(rt, Unknown, cap, command, &mut inputs, out, err, watch) {
-                Ok(session) => session.status,
-                Err((status, _)) => status,
-            }
-        }
-        _ => Status::Usage,
+    let (Some(path), Some(cap)) = (store_path(command), Cap::of(cap)) else {
+        return Status::Usage;
+    };
+    let opened = open_path(rt, path, Unknown);
+    let watch = &mut Unwatched;
+    match run_opened(
+        rt.alloc(),
+        opened,
+        cap,
+        command,
+        &mut inputs,
+        out,
+        err,
+        watch,
+    ) {
+        Ok(session) => session.status,
+        Err((status, _)) => status,
     }
 }
 
