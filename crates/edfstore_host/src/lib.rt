@@ -8,12 +8,11 @@
 //!   [`Refused`], [`tell_cause`]: why it was not opened.
 #![tactic(auto)]
 
-ghost use Rattle.std.specs.Prelude.{◌≡◌, ◌⊎◌, Some, None, true};
+ghost use Rattle.std.specs.Prelude.{◌≡◌, Some, None, true};
 ghost use Rattle.sqlite_wal.specs.Files.{image_at};
 ghost use Rattle.edfstore_arguments.specs.Arguments.{meaning};
 ghost use Rattle.edf_command.specs.Command.{store_path};
 ghost use Rattle.edf_program.specs.Output.{growth};
-ghost use Rattle.edf_program.specs.declared.status.Status.TheVariants.{Trouble};
 ghost use Rattle.edf_session.specs.Run.{IsNoticed, run_of};
 ghost use Rattle.edfstore_host.specs.OnFile.{OnlyReads, FindsNothing, IsRunOnFile};
 
@@ -111,9 +110,7 @@ pub fn close_file(
     path: &str,
     store: Store<FileStore<File>>,
     status: Status,
-) -> Status
-    ensures { (result ≡ status) ⊎ (result ≡ Trouble) }
-{
+) -> Status {
     let mut err = Counted::new(rt.stderr());
     let session = close(store.into_connection(), status, &mut err);
     if session.failure.is_some() {
