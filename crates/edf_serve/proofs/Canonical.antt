@@ -1,6 +1,6 @@
 -- What the file holds that an `export` line made.
 use Rattle.std.proofs.Common.{◌≡◌, ◌≢◌, ◌⊎◌, ◌∙◌, ℕ, Bool, true, false, List, [], Option, Some}
-use Rattle.std.proofs.Common.{None, ap, sym, subst, inl, inr}
+use Rattle.std.proofs.Common.{None, ap, refl, sym, subst, inl, inr, IfSome, length}
 use Rattle.std.specs.Prelude.{if◌then◌else◌}
 use Rattle.std.specs.Io.KnownBytes.{Appends}
 use Rattle.sqlite_trees.specs.declared.store.Store.{Ghosts}
@@ -10,24 +10,25 @@ use Rattle.edf_store.specs.Held.{StoreModel, at, Holds}
 use Rattle.edf_export.specs.Export.{export_fault_number}
 use Rattle.edf_export.specs.declared.fault.ExportFault.TheVariants.{Store}
 use Rattle.edf_export.proofs.Walks.{clean_before}
-use Rattle.edfserve_arguments.specs.Line.LineAsked.{export}
 use Rattle.edf_command.specs.Exporting.{IsRecordingExported, ExportsPlace, HasNoPlace, HasNoList}
 use Rattle.edf_command.specs.Lines.{export_status}
 use Rattle.edf_program.specs.Output.{Growth, IsWritten}
 use Rattle.edf_program.specs.Status.{is_trouble, status_of_number}
 use Rattle.edf_program.specs.declared.status.Status.{Status}
 use Rattle.edf_program.specs.declared.status.Status.TheVariants.{Done, Refused, Trouble}
-use Rattle.edf_serve.specs.Canonical.{HasRecordingAt, ExportedIsCanonical}
-use Rattle.edf_serve.specs.Exported.{MakesFile, IsExportedBelow, IsMade, IsFinishTold}
-use Rattle.edf_serve.specs.Files.{Made, made_file, HasPath, Adds}
-use Rattle.edf_serve.specs.Parted.{until, from}
-use Rattle.edf_serve.specs.Places.{Links, IsPlace}
-use Rattle.edf_serve.specs.Served.{IsWorked, IsAnswer}
-use Rattle.edf_serve.specs.declared.answering.Outcome.{Outcome}
-use Rattle.edf_serve.specs.declared.answering.Outcome.TheVariants as outcome
+use Rattle.edf_serve.specs.Exchange.{Exchange, IsServed, IsWorked, IsAnswered, IsAfterTold}
+use Rattle.edf_serve.specs.Exporting.{MakesFile, IsExportedAs, IsFinishTold}
+use Rattle.edf_serve.specs.Files.{Made, Paths, HasPath, Tries, IsPlace, to_folder}
+use Rattle.edf_serve.specs.Laws.{HasRecordingAt, ExportedIsCanonical}
+use Rattle.edf_serve.specs.Work.{Point, EndsAs, grown}
+use Rattle.edf_serve.specs.declared.answering.Answered.{Answered}
+use Rattle.edf_serve.specs.declared.answering.End.{End}
+use Rattle.edf_serve.specs.declared.answering.End.TheVariants as end
 use Rattle.edf_serve.specs.declared.files.Finished.{Finished}
 use Rattle.edf_serve.specs.declared.files.Finished.TheVariants.{Named, IsThere, Failed}
-use Rattle.edf_serve.proofs.Telling.{told-done}
+use Rattle.edf_serve.specs.declared.files.Folders.{Folders}
+use Rattle.edf_serve.specs.declared.room.Outcome.{Outcome}
+use Rattle.edf_serve.specs.declared.room.Outcome.TheVariants as outcome
 
 -- a line that is written with another status is not answered by the first
 not-done : (out : Growth) (line : List ℕ) (wanted status : Status) → wanted ≢ Done →
@@ -59,91 +60,152 @@ all-of before after bytes empty wrote =
     by None wrote = absurd wrote
     by (Some held) wrote = ap (λ (b : List ℕ). Some b) wrote
 
--- a file that was written whole and of which `exported` is told got its path
-made-whole : (before after : Made) (name path : List ℕ) (contents : Option (List ℕ)) (out : Growth)
-    (status : Status) (finished : Finished) → IsMade before after path contents finished →
+-- the first status is not of a file that has no path
+named-only : (name : List ℕ) (out : Growth) (finished : Finished) (status : Status) →
     IsFinishTold name out finished status → status ≡ Done →
-    Adds before.files after.files (made_file path (HasPath contents))
-made-whole before after name path contents out status (Named bytes) made told done = made.0
-made-whole before after name path contents out status IsThere made told done =
+    (bytes : ℕ) × (finished ≡ Named bytes)
+named-only name out (Named bytes) status told done = (bytes, refl)
+named-only name out IsThere status told done =
     absurd (not-done out _ Refused status refused-not done told)
-made-whole before after name path contents out status Failed made told done =
+named-only name out Failed status told done =
     absurd (not-done out _ Trouble status trouble-not done told)
 
-module _ (before after : Made) (path : List ℕ) (file err : Growth) (place : ℕ) (h : Holdings)
-    (told : Status) (done : told ≡ Done) (is_new : file.before ≡ Some [])
-    (made : Adds before.files after.files (made_file path (HasPath file.after))) where
-  holds-one : (e : ExportsPlace file err h place told) →
-      IsRecordingExported file err h e.key told → HasRecordingAt h place before after path
-  holds-one e (inl x) =
-      let is = x.0.1 in
-      record {
-        keys = e.keys;
-        key = e.key;
-        are_keys = e.are_keys;
-        is_at = e.is_at;
-        file = is.file;
-        is_file = record { canonical = is.canonical; only = is.only };
-        made = subst (λ (o : Option (List ℕ)).
-            Adds before.files after.files (made_file path (HasPath o)))
-            (all-of file.before file.after is.file is_new is.wrote) made;
-      }
-  holds-one e (inr n) =
-      absurd (not-done err _ _ told (number-not (export_fault_number n.0)) done n.3)
+module _ {S : Type 0} (g : Ghosts S) (folders : Folders) (a b : Point S) (x : Exchange S)
+    (place : ℕ) (name : List ℕ) (made : Made) (served : IsServed g x b folders a)
+    (known : a.made ≡ Some made) (clean : HasCleanDisk (at g x.work.new.store)) (h : Holdings)
+    (held : Holds g a.store h) (same : x.work.new.made ≡ b.made) where
+  old-made : x.work.old.made ≡ a.made
+  old-made = ap (λ (p : Point S). p.made) served.begins
 
-  pub holds-it : ExportsPlace file err h place told
-      ⊎ (HasNoPlace file err h place told ⊎ HasNoList file err told) →
-      HasRecordingAt h place before after path
-  holds-it (inl e) = holds-one e e.exported
-  holds-it (inr (inl n)) = absurd (not-done err _ Refused told refused-not done n.said.1)
-  holds-it (inr (inr n)) =
-      absurd (not-done err _ (export_status (Store n.fault)) told
-      (number-not (export_fault_number (Store n.fault))) done n.said.1)
+  old-paths : x.work.old.paths ≡ a.paths
+  old-paths = ap (λ (p : Point S). p.paths) served.begins
 
-module _ {S : Type 0} (g : Ghosts S) (old new : StoreModel S) (before after : Made)
-    (out : Growth) (name : List ℕ) (known : Bool) (is_known : known ≡ true) (place : ℕ)
-    (status : Status) (done : status ≡ Done) (clean : HasCleanDisk (at g new)) (h : Holdings)
-    (held : Holds g old h) where
-  by-file : (path : List ℕ) → MakesFile g old new before after out name known place path status →
-      HasRecordingAt h place before after path
-  by-file path m = elim m.ended [
+  old-holds : Holds g x.work.old.store h
+  old-holds = subst (λ (s : StoreModel S). Holds g s h)
+      (sym (ap (λ (p : Point S). p.store) served.begins)) held
+
+  abbrev Tried-so : List ℕ → Option Finished → Option (List ℕ) → ℕ → Type 0
+  Tried-so path how contents failed = Tries a.made b.made (record {
+    path = path;
+    how = how;
+    contents = contents;
+    failed = failed;
+  })
+
+  tries : (path : List ℕ) (status : Status) (m : MakesFile g x.work name path status place) →
+      Tried-so path m.how m.file.after m.file.failed_after
+  tries path status m = subst (λ (o : Option Made). Tries a.made o (record {
+    path = path;
+    how = m.how;
+    contents = m.file.after;
+    failed = m.file.failed_after;
+  })) same (subst (λ (o : Option Made). Tries o x.work.new.made (record {
+    path = path;
+    how = m.how;
+    contents = m.file.after;
+    failed = m.file.failed_after;
+  })) old-made m.tries)
+
+  module _ (path : List ℕ) (leads : IsPlace a.paths (to_folder folders) name (Some path))
+      (status : Status) (m : MakesFile g x.work name path status place) (done : m.told ≡ Done)
+      (bytes : ℕ) (how : m.how ≡ Some (Named bytes)) where
+    is-new : (m.file.before ≡ Some []) × (m.file.failed_before ≡ 0)
+    is-new =
+        let f = subst (λ (o : Option Made). IfSome o (λ it. ¬ HasPath it path
+        × (m.file.before ≡ Some []) × (m.file.failed_before ≡ 0))) (old-made ∙ known) m.new in
+        (f.1, f.2)
+
+    had-none : IfSome a.made (λ it. ¬ HasPath it path)
+    had-none =
+        let f = subst (λ (o : Option Made). IfSome o (λ it. ¬ HasPath it path
+        × (m.file.before ≡ Some []) × (m.file.failed_before ≡ 0))) (old-made ∙ known) m.new in
+        subst (λ (o : Option Made). IfSome o (λ it. ¬ HasPath it path)) (sym known) f.0
+
+    holds-one : (e : ExportsPlace m.file m.out h place m.told) →
+        IsRecordingExported m.file m.out h e.key m.told → HasRecordingAt g folders a b h place name
+    holds-one e (inl r) =
+        let is = r.0.1 in
+        let contents : m.file.after ≡ Some is.file =
+        all-of m.file.before m.file.after is.file is-new.0 is.wrote in
+        let size : length is.file ≡ bytes =
+        subst (λ (o : Option (List ℕ)). IfSome o (λ it. length it ≡ bytes)) contents
+        (m.sized bytes how) in
+        let how2 : m.how ≡ Some (Named (length is.file)) =
+        how ∙ ap (λ (n : ℕ). Some (Named n)) (sym size) in
+        record {
+          path = path;
+          leads = leads;
+          new = had-none;
+          keys = e.keys;
+          key = e.key;
+          are_keys = e.are_keys;
+          is_at = e.is_at;
+          file = is.file;
+          is_file = record { canonical = is.canonical; only = is.only };
+          made = subst (λ (w : Option Finished). Tried-so path w (Some is.file) 0) how2
+              (subst (λ (o : Option (List ℕ)). Tried-so path m.how o 0) contents
+              (subst (λ (n : ℕ). Tried-so path m.how m.file.after n) (r.1 ∙ is-new.1)
+              (tries path status m)));
+        }
+    holds-one e (inr n) =
+        absurd (not-done m.out _ _ m.told (number-not (export_fault_number n.0)) done n.3)
+
+    pub holds-it : ExportsPlace m.file m.out h place m.told
+        ⊎ (HasNoPlace m.file m.out h place m.told ⊎ HasNoList m.file m.out m.told) →
+        HasRecordingAt g folders a b h place name
+    holds-it (inl e) = holds-one e e.exported
+    holds-it (inr (inl n)) = absurd (not-done m.out _ Refused m.told refused-not done n.said.1)
+    holds-it (inr (inr n)) =
+        absurd (not-done m.out _ (export_status (Store n.fault)) m.told
+        (number-not (export_fault_number (Store n.fault))) done n.said.1)
+
+  by-file : (path : List ℕ) → IsPlace a.paths (to_folder folders) name (Some path) →
+      (status : Status) → status ≡ Done → (m : MakesFile g x.work name path status place) →
+      HasRecordingAt g folders a b h place name
+  by-file path leads status done m = elim m.ended [
     | inl f ↦
-        holds-it before after path m.file (until out m.contents m.failed) place h m.told f.0
-        (m.is_new is_known)
-        (made-whole before after name path m.file.after (from out m.contents m.failed) status f.1.0
-        f.1.1 f.1.2 done) (m.exported.exported clean h held)
+        let n = named-only name _ f.1.0 status f.1.2 done in
+        holds-it path leads status m f.0 n.0 (f.1.1 ∙ ap (λ (w : Finished). Some w) n.1)
+        (m.exported.exported clean h old-holds)
     | inr n ↦ absurd (n.0 (sym n.3 ∙ done))
   ]
 
-  by-export : (links : Links) (folder : Option (List ℕ)) →
-      IsExportedBelow g old new before after out name known links folder place status →
-      (path : List ℕ) × IsPlace links folder name (Some path)
-      × HasRecordingAt h place before after path
-  by-export links folder (inl e) = elim e.2 [
-    | inl m ↦ (e.0, e.1, by-file e.0 m)
-    | inr n ↦ elim n.said [
-      | inl there ↦ absurd (not-done out _ Refused status refused-not done there.2)
-      | inr unwritten ↦ absurd (not-done out _ Trouble status trouble-not done unwritten.1)
-    ]
+  pub by-export : (status : Status) → status ≡ Done →
+      IsExportedAs g x.work name folders place status → HasRecordingAt g folders a b h place name
+  by-export status done (inl n) = elim n.2 [
+    | inl outside ↦ absurd (not-done _ _ Refused status refused-not done outside.1)
+    | inr memory ↦ absurd (not-done _ _ Trouble status trouble-not done memory)
   ]
-  by-export links folder (inr n) = elim n.said [
-    | inl outside ↦ absurd (not-done out _ Refused status refused-not done outside.1)
-    | inr memory ↦ absurd (not-done out _ Trouble status trouble-not done memory)
-  ]
+  by-export status done (inr (path, leads, inl m)) =
+      by-file path (subst (λ (p : Paths). IsPlace p (to_folder folders) name (Some path)) old-paths
+      leads) status done m
+  by-export status done (inr (path, leads, inr n)) =
+      let named = named-only name (grown x.work.old.out x.work.new.out) n.how status n.said done in
+      absurd (n.unnamed named.0 named.1)
+
+-- an answer with the first status is of a command with it
+told-done : {S : Type 0} (g : Ghosts S) (x : Exchange S) (b : Point S) (told : Status)
+    (is_doubtful : Bool) (status : Status) (goes : Option End) →
+    IsAfterTold g x b told is_doubtful status goes → status ≡ Done → told ≡ Done
+told-done g x b told d status None a done = sym a.0 ∙ done
+told-done g x b told d status (Some end.Left) a done =
+    absurd (trouble-not (sym a.0 ∙ done))
+told-done g x b told d status (Some end.Ended) a done = absurd a
+told-done g x b told d status (Some end.Unread) a done = absurd a
+told-done g x b told d status (Some end.Unwritten) a done = absurd a
+told-done g x b told d status (Some end.Lost) a done = absurd a
+told-done g x b told d status (Some end.Full) a done = absurd a
 
 pub exported_is_canonical : {S : Type 0} (g : Ghosts S) → ExportedIsCanonical g
-exported_is_canonical {S} g old new opened opened' made made' sent warned warned' s line answered
-    place name submission text is known done clean h held =
-    go is.outcome is.worked is.answer
+exported_is_canonical {S} g folders a b x place name made served asked known done clean h held =
+    go x.work.outcome (subst (IsWorked g folders x.work) asked served.worked).1 served.answered
   where
-    go : (o : Outcome) →
-        IsWorked g old is.mid opened opened' made made' is.out is.why s (Some (export place name))
-        submission o →
-        IsAnswer g is.mid new is.lines is.last o text answered.is_left answered.status →
-        (path : List ℕ) × IsPlace s.links s.folders.to name (Some path)
-        × HasRecordingAt h place made made' path
-    go (outcome.Told told) w a =
-        by-export g old is.mid made made' is.out name s.known known place told
-        (told-done answered.is_left told answered.status a.2 done)
-        (clean_before g is.mid new a.0 clean) h held s.links s.folders.to w.2.1
-    go (outcome.Accepted n receipt start) w a = absurd w.2
+    go : (o : Outcome) → EndsAs x.work (IsExportedAs g x.work name folders place) o →
+        IsAnswered g x b o → HasRecordingAt g folders a b h place name
+    go (outcome.Told told d) e answer =
+        by-export g folders a b x place name made served known
+        (clean_before g x.work.new.store b.store answer.stays clean) h held
+        (sym (ap (λ (p : Point S). p.made) answer.same)) told
+        (told-done g x b told d answer.status answer.goes answer.after
+        (sym (ap (λ (r : Answered). r.status) answer.tells.answered) ∙ done)) e.1
+    go (outcome.Accepted n receipt start) e answer = absurd e

@@ -15,7 +15,7 @@ use Rattle.edf_holdings.proofs.Sound.{stays_sound}
 use Rattle.edf_store.specs.Held.{StoreModel, at, Holds}
 use Rattle.edf_intake.specs.Submitted.{Accepts}
 use Rattle.edf_intake.specs.declared.answer.Receipt.{Receipt}
-use Rattle.edf_serve.specs.Client.{HasTaken, TakenIsHeld}
+use Rattle.edf_serve.specs.Laws.{HoldsFile, TakenIsHeld}
 
 module _ {S : Type 0} (g : Ghosts S) (old new : StoreModel S) (from to : InputState)
     (receipt : Receipt)
@@ -63,23 +63,23 @@ module _ {S : Type 0} (g : Ghosts S) (old new : StoreModel S) (from to : InputSt
       cc both
 
   pub holds-taken : (h : Holdings) → IsSound old.cap h → Holds g old h →
-      HasCleanDisk (at g new) → (k : Holdings) × Holds g new k × HasTaken k receipt
+      HasCleanDisk (at g new) →
+      HoldsFile g new receipt (record { old = old; from = from; to = to; submitted = accepts }) h
   holds-taken h sound held clean =
-      let later = accepts.leaves.holdings h held in
-      let answer = accepts.reply_is clean h held in
       let told = Fragment receipt.identity accepts.records in
+      let answer = accepts.reply_is clean h held in
       let after : IsSound old.cap (after_one old.cap h told) =
-      stays_sound old.cap h (told ∷ []) sound (told-sound, tt) in (
-        after_one old.cap h told,
-        later,
-        record {
-          records = accepts.records;
-          sound =
-              spelled-sound accepts.read.bytes receipt.identity accepts.records accepts.read.spells;
-          counted = all-counted h sound after answer;
-          held = all-held h sound answer;
-        },
-      )
+      stays_sound old.cap h (told ∷ []) sound (told-sound, tt) in
+      record {
+        records = accepts.records;
+        read = accepts.read;
+        counted = all-counted h sound after answer;
+        is_open = accepts.leaves.is_open clean;
+        held = after_one old.cap h told;
+        held_is = refl;
+        holds = accepts.leaves.holdings h held;
+        each = all-held h sound answer;
+      }
 
 pub taken_is_held : {S : Type 0} (g : Ghosts S) → TakenIsHeld g
 taken_is_held g store receipt taken h sound held clean =

@@ -7,7 +7,15 @@ use Rattle.edf_fragment.specs.Failures.{one_more}
 use Rattle.edf_program.specs.Output.{Gets, GetsFront, IsWritten}
 use Rattle.edf_program.specs.declared.status.Status.{Status}
 use Rattle.edf_program.specs.declared.status.Status.TheVariants.{Done, Trouble}
-use Rattle.edf_serve.specs.Client.{got}
+use Rattle.edf_program.specs.Output.{Growth}
+
+abbrev got : Option (List ℕ) → ℕ → Option (List ℕ) → ℕ → Growth
+got before fb after fa = record {
+  before = before;
+  failed_before = fb;
+  after = after;
+  failed_after = fa;
+}
 
 module _ (before : Option (List ℕ)) (fb : ℕ) (mid : Option (List ℕ)) (fm : ℕ)
     (after : Option (List ℕ)) (fa : ℕ) (bytes : List ℕ) (same : after ≡ mid) where

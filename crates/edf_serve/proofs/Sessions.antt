@@ -1,181 +1,300 @@
--- The turns of a session, one after another, and its end.
-use Rattle.std.proofs.Common.{◌≡◌, ℕ, ◌+◌, Bool, List, [], ◌∷◌, length, Option, Some, None, refl}
-use Rattle.std.proofs.Common.{sym, ap, subst, ◌∙◌, arith}
+-- The lines of a session, answered one after another, and its end.
+use Rattle.std.proofs.Common.{◌≡◌, ◌⊎◌, ◌∙◌, ℕ, ◌+◌, List, [], ◌∷◌, ◌++◌, length, map, Option, Some, None}
+use Rattle.std.proofs.Common.{refl, sym, ap, subst, inl, inr, append_assoc, arith}
+use Rattle.std.proofs.lemmas.List.{append-nil}
+use Rattle.std.specs.List.{AllByRecursion}
+use Rattle.std.specs.Option.{option_map, option_to_list}
 use Rattle.sqlite_trees.specs.declared.store.Store.{Ghosts}
-use Rattle.edf_store.specs.Held.{StoreModel}
+use Rattle.edf_store.specs.Held.{StoreModel, Stays}
 use Rattle.edf_export.proofs.Walks.{stays_same}
-use Rattle.edf_intake.proofs.Batches.{none_submitted, answers_all}
-use Rattle.edf_serve.specs.Served.{Folders, Surroundings, surroundings}
-use Rattle.edf_serve.specs.Session.{Point, Turn, IsTurn, AreTurns, IsStep}
-use Rattle.edf_serve.specs.Files.{Opened, Made}
-use Rattle.edf_serve.specs.Places.{Links, AddsBelow, AddsSuch}
-use Rattle.edf_serve.specs.Session.{EndsInput, StaysBelow, EndsFiles}
-use Rattle.edf_serve.specs.Submissions.{AreSubmittedInTurn, submissions}
-use Rattle.edf_serve.specs.Whole.{IsWhole}
-use Rattle.edf_serve.specs.declared.session.End.{End}
-use Rattle.edf_serve.specs.declared.session.End.TheVariants.{Ended, Unread, Unwritten, Left, Full}
-use Rattle.edf_serve.proofs.Below.{made_path, IsFileOver, none-added, none-such, turn-below}
-use Rattle.edf_serve.proofs.Below.{then-below, turn-ends, then-ends}
-use Rattle.edf_serve.proofs.Turning.{served-in_turn}
+use Rattle.edf_intake.proofs.Batches.{none_submitted}
+use Rattle.edf_intake.proofs.Turns.{map-next}
+use Rattle.edf_serve.specs.Exchange.{Exchange, IsAnswered}
+use Rattle.edf_serve.specs.Files.{Paths, Made, Tried, opens, from_folder, to_folder, LiesBelow}
+use Rattle.edf_serve.specs.Files.{MakesBelow}
+use Rattle.edf_serve.specs.Session.{Moment, IsExchange, AreExchanges, IsStep, IsWhole}
+use Rattle.edf_serve.specs.Session.{AreSubmittedInTurn, IsSession, submissions, status_at}
+use Rattle.edf_serve.specs.Work.{Point, Submission}
+use Rattle.edf_serve.specs.declared.answering.End.{End}
+use Rattle.edf_serve.specs.declared.answering.End.TheVariants as end
+use Rattle.edf_serve.specs.declared.files.Folders.{Folders}
+use Rattle.edf_serve.specs.declared.room.Outcome.{Outcome}
+use Rattle.edf_serve.specs.declared.room.Outcome.TheVariants as outcome
+use Rattle.edf_serve.proofs.Orderly.{IsOrderly, orderly}
+use Rattle.edf_serve.proofs.Submitting.{stays-in_turn, more-in_turn}
 
--- the turns so far
-pub record SoFar {S : Type 0} (g : Ghosts S) (s : Surroundings) (a b : Point S) (count : ℕ) :
-    Type 0 where
-  pub turns : List (Turn S)
-  pub are_turns : AreTurns g s a turns b
-  pub counted : length turns ≡ count
-  pub cap : b.store.cap ≡ a.store.cap
-  pub submitted : AreSubmittedInTurn g a.store b.store (submissions turns)
-  pub below : StaysBelow g s a b
-  pub ended : EndsFiles g s a b
+-- after these were opened too
+abbrev opened-with : Paths → List (List ℕ) → Paths
+opened-with paths more = record paths {
+  opened = option_map (λ (before : List (List ℕ)). before ++ more) paths.opened;
+}
 
-module _ {S : Type 0} (g : Ghosts S) (s : Surroundings) (a b c : Point S) (count : ℕ)
-    (so : SoFar g s a b count) where
-  turned : (t : Turn S) → IsTurn g s b c t →
-      AreSubmittedInTurn g a.store c.store (submissions (t ∷ so.turns))
-  turned t is = served-in_turn g a.store b.store c.store b.opened c.opened b.made c.made _ b.warned
-      c.warned s t.line t.answered t.asked t.submission t.text (submissions so.turns) so.cap
-      so.submitted is.served
+nothing-opened : (paths : Paths) → paths ≡ opened-with paths []
+nothing-opened paths = ap (λ (o : Option (List (List ℕ))). record paths { opened = o })
+    (by paths.opened)
+  where
+    by : (o : Option (List (List ℕ))) →
+        o ≡ option_map (λ (before : List (List ℕ)). before ++ []) o
+    by None = refl
+    by (Some all) = ap (λ (l : List (List ℕ)). Some l) (sym (append-nil all))
 
-  begun : (t : Turn S) → IsTurn g s b c t → AreTurns g s a so.turns t.point
-  begun t is = subst (λ (p : Point S). AreTurns g s a so.turns p) (sym is.begins) so.are_turns
+one-opened : (paths : Paths) (more : List (List ℕ)) (path : List ℕ) →
+    opens (opened-with paths more) path ≡ opened-with paths (more ++ (path ∷ []))
+one-opened paths more path = ap (λ (o : Option (List (List ℕ))). record paths { opened = o })
+    (by paths.opened)
+  where
+    by : (o : Option (List (List ℕ))) → option_map (λ (all : List (List ℕ)). all ++ (path ∷ []))
+        (option_map (λ (before : List (List ℕ)). before ++ more) o)
+        ≡ option_map (λ (before : List (List ℕ)). before ++ (more ++ (path ∷ []))) o
+    by None = refl
+    by (Some all) = ap (λ (l : List (List ℕ)). Some l) (append_assoc all more (path ∷ []))
 
-  from-there : (t : Turn S) → IsTurn g s b c t → IsTurn g s t.point c t
-  from-there t is = subst (λ (p : Point S). IsTurn g s p c t) (sym is.begins) is
+all-append : {A : Type 0} (P : A → Type 0) (xs ys : List A) → AllByRecursion P xs →
+    AllByRecursion P ys → AllByRecursion P (xs ++ ys)
+all-append P [] ys a b = b
+all-append P (x ∷ xs) ys a b = (a.0, all-append P xs ys a.1 b)
 
-  -- it goes on
-  goes-on : IsStep g s b c None → SoFar g s a c (count + 1)
-  goes-on step = record {
-    turns = step.0 ∷ so.turns;
-    are_turns = (begun step.0 step.1, from-there step.0 step.1, step.2, step.3);
-    counted = omega (arith, so.counted);
-    cap = step.1.cap ∙ so.cap;
-    submitted = turned step.0 step.1;
-    below = then-below g s a b c so.below (turn-below g s b c step.0 step.1);
-    ended = then-ends g s a b c so.ended (turn-ends g s b c step.0 step.1);
-  }
+made-both : (folder : Option (List ℕ)) (a b c : Option Made) → MakesBelow folder a b →
+    MakesBelow folder b c → MakesBelow folder a c
+made-both folder None b c p q = tt
+made-both folder (Some made) b c p q =
+    let r = subst (λ (o : Option Made). MakesBelow folder o c) p.1 q in (
+      p.0 ++ r.0,
+      r.1 ∙ ap (λ (l : List Tried). Some (record made { tried = l }))
+          (append_assoc made.tried p.0 r.0),
+      all-append (λ (t : Tried). LiesBelow folder t.path) p.0 r.0 p.2 r.2,
+    )
 
-  same-store : (end : End) → EndsInput g s b c end →
-      AreSubmittedInTurn g a.store c.store (submissions so.turns)
-  same-store end e = subst (λ (t : StoreModel S).
-      AreSubmittedInTurn g a.store t (submissions so.turns)) (sym e.store) so.submitted
-
-  same-below : (end : End) → EndsInput g s b c end → StaysBelow g s a c
-  same-below end e = (
-    subst (λ (o : Opened). AddsBelow (λ path. path) s.folders.from a.opened o) (sym e.opened)
-        so.below.0,
-    subst (λ (m : Made). AddsBelow made_path s.folders.to a.made.files m.files) (sym e.made)
-        so.below.1,
-  )
-
-  same-ended : (end : End) → EndsInput g s b c end → EndsFiles g s a c
-  same-ended end e =
-      subst (λ (m : Made). AddsSuch IsFileOver a.made.files m.files) (sym e.made) so.ended
-
-  -- or ends
-  ends-by : (end : End) → IsStep g s b c (Some end) → IsWhole g s a c end
-  ends-by Unwritten step = (
-    step.0 ∷ so.turns,
-    record {
-      last = b;
-      turns = so.turns;
-      are_turns = so.are_turns;
-      ends = (step.0, step.1, step.2, refl);
-    },
-    turned step.0 step.1,
-    then-below g s a b c so.below (turn-below g s b c step.0 step.1),
-    then-ends g s a b c so.ended (turn-ends g s b c step.0 step.1),
-  )
-  ends-by Left step = (
-    step.0 ∷ so.turns,
-    record {
-      last = b;
-      turns = so.turns;
-      are_turns = so.are_turns;
-      ends = (step.0, step.1, step.2, step.3, refl);
-    },
-    turned step.0 step.1,
-    then-below g s a b c so.below (turn-below g s b c step.0 step.1),
-    then-ends g s a b c so.ended (turn-ends g s b c step.0 step.1),
-  )
-  ends-by Full step = absurd step
-  ends-by Ended step = (
-    so.turns,
-    record {
-      last = b;
-      turns = so.turns;
-      are_turns = so.are_turns;
-      ends = (step, refl);
-    },
-    same-store Ended step,
-    same-below Ended step,
-    same-ended Ended step,
-  )
-  ends-by Unread step = (
-    so.turns,
-    record {
-      last = b;
-      turns = so.turns;
-      are_turns = so.are_turns;
-      ends = (step, refl);
-    },
-    same-store Unread step,
-    same-below Unread step,
-    same-ended Unread step,
-  )
-
-  -- a step, where the surroundings are those of the session
-  pub step-ends : (t : Surroundings) → t ≡ s → (result : Option End) (end : End) →
-      result ≡ Some end → IsStep g t b c result → IsWhole g s a c end
-  step-ends t same result end e step =
-      ends-by end (subst (λ (r : Option End). IsStep g s b c r) e
-      (subst (λ (u : Surroundings). IsStep g u b c result) same step))
-
-  pub step-goes_on : (t : Surroundings) → t ≡ s → (result : Option End) → result ≡ None →
-      IsStep g t b c result → SoFar g s a c (count + 1)
-  step-goes_on t same result e step =
-      goes-on (subst (λ (r : Option End). IsStep g s b c r) e
-      (subst (λ (u : Surroundings). IsStep g u b c result) same step))
-
--- as many lines as a session can have
-pub is-full : {S : Type 0} (g : Ghosts S) (s : Surroundings) (a b : Point S) (count : ℕ)
-    (so : SoFar g s a b count) → count ≡ 18446744073709551615 → IsWhole g s a b Full
-is-full g s a b count so all = (
-  so.turns,
-  record {
-    last = b;
-    turns = so.turns;
-    are_turns = so.are_turns;
-    ends = (refl, refl, so.counted ∙ all);
-  },
-  so.submitted,
-  so.below,
-  so.ended,
+made-same : (folder : Option (List ℕ)) (a : Option Made) → MakesBelow folder a a
+made-same folder None = tt
+made-same folder (Some made) = (
+  [],
+  ap (λ (l : List Tried). Some (record made { tried = l })) (sym (append-nil made.tried)),
+  tt,
 )
 
--- no turn yet
-pub none-yet : {S : Type 0} (g : Ghosts S) (s : Surroundings) (a : Point S) → SoFar g s a a 0
-none-yet g s a =
-    let none = none_submitted g a.store (stays_same g a.store) in
-    record {
-      turns = [];
-      are_turns = refl;
-      counted = refl;
-      cap = refl;
-      submitted = record {
-        submitted = none;
-        answered = answers_all g a.store a.store [] [] [] none;
-      };
-      below = (
-        none-added (λ path. path) s.folders.from a.opened a.opened refl,
-        none-added made_path s.folders.to a.made.files a.made.files refl,
-      );
-      ended = none-such IsFileOver a.made.files a.made.files refl;
-    }
+module _ {S : Type 0} (g : Ghosts S) (folders : Folders) (a : Point S) where
+  -- what was submitted since `a`
+  pub record Took (b : Point S) (all : List Submission) : Type 0 where
+    pub submitted : AreSubmittedInTurn g a.store b.store all
+    pub opened : b.paths ≡ opened-with a.paths (map (λ (s : Submission). s.path) all)
+    pub given : AllByRecursion (λ (s : Submission). (s.from.left ≡ a.paths.bytes s.path)
+        × LiesBelow (from_folder folders) s.path) all
 
-pub same-surroundings : (f : Folders) (b b' : List ℕ → Option (List ℕ)) (l l' : Links)
-    (k k' : Bool) → b' ≡ b → l' ≡ l → k' ≡ k → surroundings f b' l' k' ≡ surroundings f b l k
-same-surroundings f b b' l l' k k' p q r =
-    ap (λ (x : List ℕ → Option (List ℕ)). surroundings f x l' k') p
-    ∙ (ap (λ (y : Links). surroundings f b y k') q
-    ∙ ap (λ (z : Bool). surroundings f b l z) r)
+  took-none : (b c : Point S) (all : List Submission) → Took b all →
+      (c.store ≡ b.store) ⊎ Stays g b.store c.store → c.paths ≡ b.paths → Took c all
+  took-none b c all took stays paths = record {
+    submitted = elim stays [
+      | inl same ↦ subst (λ (s : StoreModel S). AreSubmittedInTurn g a.store s all) (sym same)
+          took.submitted
+      | inr stays ↦ stays-in_turn g a.store b.store c.store all took.submitted stays
+    ];
+    opened = paths ∙ took.opened;
+    given = took.given;
+  }
+
+  took-more : (b c : Point S) (all : List Submission) (s : Submission) → Took b all →
+      c.store.cap ≡ b.store.cap → AreSubmittedInTurn g a.store c.store (all ++ (s ∷ [])) →
+      s.from.left ≡ b.paths.bytes s.path → LiesBelow (from_folder folders) s.path →
+      c.paths ≡ opens b.paths s.path → Took c (all ++ (s ∷ []))
+  took-more b c all s took cap submitted given below paths = record {
+    submitted = submitted;
+    opened = paths ∙ (ap (λ (p : Paths). opens p s.path) took.opened
+        ∙ (one-opened a.paths (map (λ (s : Submission). s.path) all) s.path
+        ∙ ap (opened-with a.paths) (sym (map-next (λ (s : Submission). s.path) all s))));
+    given = all-append (λ (s : Submission). (s.from.left ≡ a.paths.bytes s.path)
+        × LiesBelow (from_folder folders) s.path) all (s ∷ []) took.given
+        ((given ∙ ap (λ (p : Paths). p.bytes s.path) took.opened, below), tt);
+  }
+
+module _ {S : Type 0} (g : Ghosts S) (folders : Folders) where
+  -- what the answer left of what the work did
+  left-store : (x : Exchange S) (b : Point S) (o : Outcome) → IsAnswered g x b o →
+      ((b.store ≡ x.work.new.store) ⊎ Stays g x.work.new.store b.store)
+      × (b.paths ≡ x.work.new.paths) × (b.made ≡ x.work.new.made)
+  left-store x b (outcome.Told told is_doubtful) t =
+      (inr t.stays, ap (λ (p : Point S). p.paths) t.same, ap (λ (p : Point S). p.made) t.same)
+  left-store x b (outcome.Accepted name receipt start) (inl t) = (
+    elim t.asked [ inl same ↦ inl same | inr asked ↦ inr asked.1 ],
+    ap (λ (p : Point S). p.paths) t.same,
+    ap (λ (p : Point S). p.made) t.same,
+  )
+  left-store x b (outcome.Accepted name receipt start) (inr t) = (
+    inl (ap (λ (p : Point S). p.store) t.same),
+    ap (λ (p : Point S). p.paths) t.same,
+    ap (λ (p : Point S). p.made) t.same,
+  )
+
+  -- one exchange, by what any command does
+  worked : (a : Point S) (x : Exchange S) (all : List Submission) →
+      Took g folders a x.work.old all → x.work.new.store.cap ≡ x.work.old.store.cap →
+      IsOrderly g folders x.work →
+      Took g folders a x.work.new (all ++ option_to_list x.work.submission)
+  worked a x all took cap is = elim is.took [
+    | inl none ↦ subst (λ (o : Option Submission).
+        Took g folders a x.work.new (all ++ option_to_list o)) (sym none.none)
+        (subst (Took g folders a x.work.new) (sym (append-nil all))
+        (took-none g folders a x.work.old x.work.new all took none.stays none.paths))
+    | inr one ↦ subst (λ (o : Option Submission).
+        Took g folders a x.work.new (all ++ option_to_list o)) (sym one.is_it)
+        (took-more g folders a x.work.old x.work.new all one.it took cap
+        (more-in_turn g a.store x.work.old.store x.work.new.store all one.it cap took.submitted
+        one.submitted) one.given one.below one.paths)
+  ]
+
+  made-by : (a b : Option Made) → b ≡ a → MakesBelow (to_folder folders) a b
+  made-by a b same = subst (MakesBelow (to_folder folders) a) (sym same)
+      (made-same (to_folder folders) a)
+
+  cap-mid : (x : Exchange S) (point : Point S) (o : Outcome) → IsAnswered g x point o →
+      (cap : ℕ) → point.store.cap ≡ cap → x.work.new.store.cap ≡ cap
+  cap-mid x point o is cap same = elim (left-store x point o is).0 [
+    | inl e ↦ sym (ap (λ (s : StoreModel S). s.cap) e) ∙ same
+    | inr stays ↦ sym stays.cap ∙ same
+  ]
+
+  -- the answers so far
+  pub record SoFar (a b : Moment S) (count : ℕ) : Type 0 where
+    pub all : List (Exchange S)
+    pub answered : AreExchanges g folders a all b
+    pub counted : length all ≡ count
+    pub took : Took g folders a.at b.at (submissions all)
+    pub made : MakesBelow (to_folder folders) a.at.made b.at.made
+
+  module _ (a b c : Moment S) (count : ℕ) (so : SoFar a b count) where
+    took-next : (x : Exchange S) → IsExchange g folders b c x →
+        Took g folders a.at c.at (submissions (x ∷ so.all))
+    took-next x is =
+        let w = x.work in
+        let begins = ap (λ (p : Point S). p.store) is.served.begins in
+        let found = took-none g folders a.at b.at w.old (submissions so.all) so.took (inl begins)
+        (ap (λ (p : Point S). p.paths) is.served.begins) in
+        let cap : w.new.store.cap ≡ w.old.store.cap = cap-mid x is.point w.outcome
+        is.served.answered w.old.store.cap
+        (is.served.cap ∙ sym (ap (λ (s : StoreModel S). s.cap) begins)) in
+        let left = left-store x is.point w.outcome is.served.answered in
+        let all = submissions so.all ++ option_to_list w.submission in
+        let did = worked a.at x (submissions so.all) found cap
+        (orderly g folders w x.asked is.served.worked) in
+        let told = took-none g folders a.at w.new is.point all did left.0 left.1 in
+        took-none g folders a.at is.point c.at all told
+        (inl (ap (λ (p : Point S). p.store) is.worst)) (ap (λ (p : Point S). p.paths) is.worst)
+
+    made-next : (x : Exchange S) → IsExchange g folders b c x →
+        MakesBelow (to_folder folders) a.at.made c.at.made
+    made-next x is =
+        let w = x.work in
+        let folder = to_folder folders in
+        let left = left-store x is.point w.outcome is.served.answered in
+        let begun = made-both folder a.at.made b.at.made w.old.made so.made
+        (made-by b.at.made w.old.made (ap (λ (p : Point S). p.made) is.served.begins)) in
+        let did = made-both folder a.at.made w.old.made w.new.made begun
+        (orderly g folders w x.asked is.served.worked).made in
+        made-both folder a.at.made w.new.made c.at.made did (made-by w.new.made c.at.made
+        (ap (λ (p : Point S). p.made) is.worst ∙ left.2))
+
+    -- the end of a session whose last answer or none came so
+    whole : (d : Moment S) (why : End) (all : List (Exchange S)) →
+        d ≡ record c { at = record c.at { worst = status_at why c.at.worst } } →
+        Took g folders a.at c.at (submissions all) →
+        MakesBelow (to_folder folders) a.at.made c.at.made → IsSession g folders a d all why →
+        IsWhole g folders a d why
+    whole d why all status took made session =
+        let point = ap (λ (m : Moment S). m.at) status in
+        let now = took-none g folders a.at c.at d.at (submissions all) took
+        (inl (ap (λ (p : Point S). p.store) point)) (ap (λ (p : Point S). p.paths) point) in
+        record {
+          all = all;
+          session = session;
+          submitted = now.submitted;
+          opened = now.opened;
+          given = now.given;
+          made = made-both (to_folder folders) a.at.made c.at.made d.at.made made
+              (made-by c.at.made d.at.made (ap (λ (p : Point S). p.made) point));
+        }
+
+    ends-with : (d : Moment S) (why : End) (x : Option (Exchange S)) →
+        IsStep g folders b c x (Some why) →
+        d ≡ record c { at = record c.at { worst = status_at why c.at.worst } } →
+        IsWhole g folders a d why
+    ends-with d why (Some x) step status = whole d why (x ∷ so.all) status (took-next x step.0)
+        (made-next x step.0) (record {
+          mid = b;
+          before = so.all;
+          answered = so.answered;
+          last = c;
+          ends = inl (Some x, step, refl);
+          status = status;
+        })
+    ends-with d why None step status = whole d why so.all status
+        (took-none g folders a.at b.at c.at (submissions so.all) so.took
+        (inl (ap (λ (p : Point S). p.store) step.3)) (ap (λ (p : Point S). p.paths) step.3))
+        (made-both (to_folder folders) a.at.made b.at.made c.at.made so.made
+        (made-by b.at.made c.at.made (ap (λ (p : Point S). p.made) step.3))) (record {
+          mid = b;
+          before = so.all;
+          answered = so.answered;
+          last = c;
+          ends = inl (None, step, refl);
+          status = status;
+        })
+
+    pub step-ends : (d : Moment S) (result : Option End) (why : End) → result ≡ Some why →
+        ((x : Option (Exchange S)) × IsStep g folders b c x result) →
+        d ≡ record c { at = record c.at { worst = status_at why c.at.worst } } →
+        IsWhole g folders a d why
+    step-ends d result why e step status =
+        ends-with d why step.0 (subst (IsStep g folders b c step.0) e step.1) status
+
+    -- it goes on
+    goes-on : (x : Option (Exchange S)) → IsStep g folders b c x None → SoFar a c (count + 1)
+    goes-on (Some x) step = record {
+      all = x ∷ so.all;
+      answered = (b, so.answered, step);
+      counted = omega (arith, so.counted);
+      took = took-next x step.0;
+      made = made-next x step.0;
+    }
+    goes-on None step = absurd (let one = step.1 in cc)
+
+    pub step-goes_on : (result : Option End) → result ≡ None →
+        ((x : Option (Exchange S)) × IsStep g folders b c x result) → SoFar a c (count + 1)
+    step-goes_on result e step = goes-on step.0 (subst (IsStep g folders b c step.0) e step.1)
+
+  -- as many lines as a session can have
+  pub is-full : (a b : Moment S) (count : ℕ) (so : SoFar a b count) →
+      count ≡ 18446744073709551615 →
+      IsWhole g folders a (record b { at = record b.at { worst = status_at end.Full b.at.worst } })
+      end.Full
+  is-full a b count so all = record {
+    all = so.all;
+    session = record {
+      mid = b;
+      before = so.all;
+      answered = so.answered;
+      last = b;
+      ends = inr (refl, refl, refl, so.counted ∙ all);
+      status = refl;
+    };
+    submitted = so.took.submitted;
+    opened = so.took.opened;
+    given = so.took.given;
+    made = so.made;
+  }
+
+  -- no line yet
+  pub none-yet : (a : Moment S) → SoFar a a 0
+  none-yet a = record {
+    all = [];
+    answered = refl;
+    counted = refl;
+    took = record {
+      submitted = record {
+        cap = refl;
+        submitted = none_submitted g a.at.store (stays_same g a.at.store);
+      };
+      opened = nothing-opened a.at.paths;
+      given = tt;
+    };
+    made = made-same (to_folder folders) a.at.made;
+  }

@@ -1,5 +1,5 @@
 -- What a session submits, turn after turn.
-use Rattle.std.proofs.Common.{◌≡◌, List, [], ◌∷◌, ◌++◌, map, Some, None, Ok, Err}
+use Rattle.std.proofs.Common.{◌≡◌, List, [], ◌∷◌, ◌∙◌, ◌++◌, map, Some, None, Ok, Err}
 use Rattle.std.proofs.Common.{sym, subst, arith}
 use Rattle.std.specs.List.{AllByRecursion}
 use Rattle.sqlite_trees.specs.declared.store.Store.{Ghosts}
@@ -14,10 +14,10 @@ use Rattle.edf_intake.specs.Refusal.{Answer, Cause, OfForm, OfConflict, OfRead, 
 use Rattle.edf_intake.specs.Refusal.{cause}
 use Rattle.edf_intake.specs.Submitted.{IsRefusal, IsSubmitted}
 use Rattle.edf_intake.specs.Batch.{AreSubmittedAsList, IsOwnCause, IsOwnRefusal}
-use Rattle.edf_intake.proofs.Batches.{next_submitted, answers_all}
+use Rattle.edf_intake.proofs.Batches.{next_submitted}
 use Rattle.edf_intake.proofs.Turns.{map-next}
-use Rattle.edf_serve.specs.Taken.{Submission}
-use Rattle.edf_serve.specs.Submissions.{AreSubmittedInTurn}
+use Rattle.edf_serve.specs.Session.{AreSubmittedInTurn}
+use Rattle.edf_serve.specs.Work.{Submission}
 
 -- what was no refusal of a clean disk is none later
 own-one : {S : Type 0} (g : Ghosts S) (mid new : StoreModel S) →
@@ -78,30 +78,25 @@ module _ {S : Type 0} (g : Ghosts S) (old mid new : StoreModel S) where
 
   pub stays-in_turn : (all : List Submission) → AreSubmittedInTurn g old mid all →
       Stays g mid new → AreSubmittedInTurn g old new all
-  stays-in_turn all before stays =
-      let it = later (froms all) (tos all) (answers all) before.submitted stays in
-      record {
-        submitted = it;
-        answered = answers_all g old new (froms all) (tos all) (answers all) it;
-      }
+  stays-in_turn all before stays = record {
+    cap = stays.cap ∙ before.cap;
+    submitted = later (froms all) (tos all) (answers all) before.submitted stays;
+  }
 
   -- one more
-  pub more-in_turn : (all : List Submission) (s : Submission) → mid.cap ≡ old.cap →
+  pub more-in_turn : (all : List Submission) (s : Submission) → new.cap ≡ mid.cap →
       AreSubmittedInTurn g old mid all → IsSubmitted g mid new s.from s.to s.answer →
       AreSubmittedInTurn g old new (all ++ (s ∷ []))
   more-in_turn all s capped before is =
-      let it = next_submitted g old mid new (froms all) (tos all) (answers all) capped
+      let it = next_submitted g old mid new (froms all) (tos all) (answers all) before.cap
       before.submitted s.from s.to s.answer is in
-      let all_is : AreSubmittedAsList g old new (froms (all ++ (s ∷ []))) (tos (all ++ (s ∷ [])))
-      (answers (all ++ (s ∷ []))) =
-      subst (λ (l : List InputState). AreSubmittedAsList g old new l (tos (all ++ (s ∷ [])))
-      (answers (all ++ (s ∷ [])))) (sym (map-next (λ (s : Submission). s.from) all s))
-      (subst (λ (l : List InputState). AreSubmittedAsList g old new (froms all ++ (s.from ∷ [])) l
-      (answers (all ++ (s ∷ [])))) (sym (map-next (λ (s : Submission). s.to) all s))
-      (subst (λ (l : List Answer). AreSubmittedAsList g old new (froms all ++ (s.from ∷ []))
-      (tos all ++ (s.to ∷ [])) l) (sym (map-next (λ (s : Submission). s.answer) all s)) it)) in
       record {
-        submitted = all_is;
-        answered = answers_all g old new (froms (all ++ (s ∷ []))) (tos (all ++ (s ∷ [])))
-            (answers (all ++ (s ∷ []))) all_is;
+        cap = capped ∙ before.cap;
+        submitted = subst (λ (l : List InputState).
+            AreSubmittedAsList g old new l (tos (all ++ (s ∷ []))) (answers (all ++ (s ∷ []))))
+            (sym (map-next (λ (s : Submission). s.from) all s))
+            (subst (λ (l : List InputState). AreSubmittedAsList g old new (froms all ++ (s.from ∷ [])) l
+            (answers (all ++ (s ∷ [])))) (sym (map-next (λ (s : Submission). s.to) all s))
+            (subst (λ (l : List Answer). AreSubmittedAsList g old new (froms all ++ (s.from ∷ []))
+            (tos all ++ (s.to ∷ [])) l) (sym (map-next (λ (s : Submission). s.answer) all s)) it));
       }

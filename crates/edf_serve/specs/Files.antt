@@ -1,104 +1,101 @@
--- Files that are opened and made, by their paths.
-use Rattle.std.specs.Prelude.{◌≡◌, ◌≢◌, ℕ, Bool, true, false, List, [], ◌∷◌, ◌++◌, length, Option}
-use Rattle.std.specs.Prelude.{Some, None, IfSome, Result, Ok, Err}
-use Rattle.edf_fragment.specs.Failures.{one_more}
+-- Where names lead, which files are opened, and which are made.
+use Rattle.std.specs.Prelude.{◌≡◌, ◌≢◌, ◌⊎◌, ℕ, ◌+◌, ◌-◌, Bool, true, false, List, [], ◌∷◌, ◌++◌, length}
+use Rattle.std.specs.Prelude.{Contains, Option, Some, None, IfSome, option_map, Result, Ok, Err}
+use Rattle.std.specs.List.{AllByRecursion}
+use Rattle.edfserve_arguments.specs.Below.{IsBelow, IsPathOf}
 use Rattle.edf_serve.specs.declared.files.Finished.{Finished}
 use Rattle.edf_serve.specs.declared.files.Finished.TheVariants.{Named, IsThere, Failed}
+use Rattle.edf_serve.specs.declared.files.Folders.{Folders}
 
--- the paths that were opened, in turn, where they are known
-abbrev pub Opened : Type 0
-Opened = Option (List (List ℕ))
+-- one more, where all of them are known
+abbrev pub and_one : {A : Type 0} → Option (List A) → A → Option (List A)
+and_one {A} all one = option_map (λ (xs : List A). xs ++ (one ∷ [])) all
 
--- how far a file is that was begun: it is being written, or was left half written; it has its path,
--- and held this when it got it, where that is known; or it was removed
-pub data Stage : Type 0 where
-  Begun : Stage
-  HasPath : Option (List ℕ) → Stage
-  Removed : Stage
+-- the folders below which files are opened and made, where there are any
+abbrev pub from_folder : Folders → Option (List ℕ)
+from_folder folders = option_map (λ f. f.now) folders.from
 
--- it has its path, or was removed
-abbrev pub IsOver : Stage → Type 0
-IsOver Begun = ⊥
-IsOver (HasPath contents) = Unit {0}
-IsOver Removed = Unit {0}
+abbrev pub to_folder : Folders → Option (List ℕ)
+to_folder folders = option_map (λ f. f.now) folders.to
 
--- a file that was begun: the path that it is to get, and how far it is
-pub record MadeFile : Type 0 where
+-- where there is a folder, the path is that of a name that leads below it
+abbrev pub LiesBelow : Option (List ℕ) → List ℕ → Type 0
+LiesBelow None path = Unit {0}
+LiesBelow (Some folder) path = (name : List ℕ) × IsBelow name × (path ≡ folder ++ (47 ∷ name))
+
+-- what is known of paths: the bytes that one stands for; whether a part of a name below a folder is
+-- a link; and those that were opened, in turn
+pub record Paths : Type 0 where
+  pub bytes : List ℕ → Option (List ℕ)
+  pub links : List ℕ → List ℕ → Option Bool
+  pub opened : Option (List (List ℕ))
+
+-- after this one was opened too
+abbrev pub opens : Paths → List ℕ → Paths
+opens paths path = record paths { opened = and_one paths.opened path }
+
+-- Without a folder a name stands for itself. With one it stands for the path below it, if it leads
+-- below it and no part of it is a link; else for nothing. Where links are not known, it may be either.
+abbrev pub IsPlace : Paths → Option (List ℕ) → List ℕ → Option (List ℕ) → Type 0
+IsPlace paths None name path = path ≡ Some name
+IsPlace paths (Some folder) name (Some path) = IsPathOf (Some folder) name (Some path)
+    × IfSome (paths.links folder name) (λ b. b ≡ false)
+IsPlace paths (Some folder) name None = IsPathOf (Some folder) name None
+    ⊎ (paths.links folder name ≢ Some false)
+
+-- a file that was to be made: its path; what became of it, but nothing where it was begun and
+-- removed; what was written to it, where that is known; and how many of these writes failed
+pub record Tried : Type 0 where
   pub path : List ℕ
-  pub stage : Stage
+  pub how : Option Finished
+  pub contents : Option (List ℕ)
+  pub failed : ℕ
 
-abbrev pub made_file : List ℕ → Stage → MadeFile
-made_file path stage = record { path = path; stage = stage }
+-- it could not be begun
+abbrev pub not_begun : List ℕ → Finished → Tried
+not_begun path how = record { path = path; how = Some how; contents = None; failed = 0 }
 
--- what is known of files: those that were begun, in turn; whether there is something of a path; and
--- how many could not be begun or ended
+-- of files that are made: of which paths there was something at first; those that were to be made,
+-- in turn; and how many of these were begun and not ended
 pub record Made : Type 0 where
-  pub files : Option (List MadeFile)
-  pub there : List ℕ → Option Bool
-  pub failed : Option ℕ
+  pub there : List ℕ → Bool
+  pub tried : List Tried
+  pub begun : ℕ
 
-abbrev pub nothing_known : Made
-nothing_known = record { files = None; there = λ path. None; failed = None }
+-- something is there of this path: it was at first, or a file got it
+abbrev pub HasPath : Made → List ℕ → Type 0
+HasPath made path = (made.there path ≡ true) ⊎ ((bytes : ℕ) × (t : Tried) × Contains made.tried t
+    × (t.path ≡ path) × (t.how ≡ Some (Named bytes)))
 
--- nothing of this path is known to be there
-abbrev pub IsFree : (List ℕ → Option Bool) → List ℕ → Type 0
-IsFree there path = IfSome (there path) (λ is_there. is_there ≡ false)
+-- where all is known, this was tried, and no more
+abbrev pub Tries : Option Made → Option Made → Tried → Type 0
+Tries old new one = IfSome old (λ made. new ≡ Some (record made {
+  tried = made.tried ++ (one ∷ []);
+}))
 
--- nothing of this path is known not to be there
-abbrev pub MayBeThere : (List ℕ → Option Bool) → List ℕ → Type 0
-MayBeThere there path = IfSome (there path) (λ is_there. is_there ≡ true)
+-- a file was begun, of whose path nothing was there; or something was; or none could be begun
+abbrev pub IsCreated : {W E : Type 0} → Option Made → Option Made → List ℕ → Result (Option W) E →
+    Type 0
+IsCreated old new path (Ok (Some writer)) = IfSome old (λ made. ¬ HasPath made path
+    × (new ≡ Some (record made { begun = made.begun + 1 })))
+IsCreated old new path (Ok None) = IfSome old (λ made. HasPath made path)
+    × Tries old new (not_begun path IsThere)
+IsCreated old new path (Err error) = Tries old new (not_begun path Failed)
 
--- of other paths there is what there was
-abbrev pub KeepsOthers : (List ℕ → Option Bool) → (List ℕ → Option Bool) → List ℕ → Type 0
-KeepsOthers before after path = (other : List ℕ) → other ≢ path → after other ≡ before other
+-- a file that was begun is ended: it has its path and so many bytes, where it was written whole and
+-- nothing had the path; else it was removed
+pub record IsEnded (old new : Option Made) (one : Tried) : Type 0 where
+  pub ended : IfSome old (λ made. new ≡ Some (record made {
+    tried = made.tried ++ (one ∷ []);
+    begun = made.begun - 1;
+  }))
+  pub bytes : (n : ℕ) → one.how ≡ Some (Named n) → IfSome one.contents (λ held. length held ≡ n)
+  pub named : (n : ℕ) → one.how ≡ Some (Named n) → IfSome old (λ made. ¬ HasPath made one.path
+      × (one.failed ≡ 0))
+  pub there : one.how ≡ Some IsThere → IfSome old (λ made. HasPath made one.path)
 
--- one more failed, after those that are known
-abbrev pub CountsOne : Option ℕ → Option ℕ → Type 0
-CountsOne before after = IfSome before (λ failed. after ≡ Some (one_more failed))
-
--- one more, after those that are known
-abbrev pub Adds : {A : Type 0} → Option (List A) → Option (List A) → A → Type 0
-Adds before after one = IfSome before (λ all. after ≡ Some (all ++ (one ∷ [])))
-
--- the last of the files was begun under this path, and is now so far; no other changed
-abbrev pub Ends : Option (List MadeFile) → Option (List MadeFile) → List ℕ → Stage → Type 0
-Ends before after path stage = IfSome before (λ all. (front : List MadeFile) →
-    all ≡ front ++ (made_file path Begun ∷ []) →
-    after ≡ Some (front ++ (made_file path stage ∷ [])))
-
--- a file was begun under this path, where nothing is known to be
-pub record BeginsFile (before after : Made) (path : List ℕ) : Type 0 where
-  pub free : IsFree before.there path
-  pub begun : Adds before.files after.files (made_file path Begun)
-  pub there : after.there ≡ before.there
-  pub failed : after.failed ≡ before.failed
-
--- none was begun
-pub record BeginsNone (before after : Made) : Type 0 where
-  pub files : after.files ≡ before.files
-  pub there : after.there ≡ before.there
-
--- a file was begun; or something may have its path; or none could be begun, which counts
-abbrev pub IsCreated : {W E : Type 0} → Made → Made → List ℕ → Result (Option W) E → Type 0
-IsCreated before after path (Ok (Some writer)) = BeginsFile before after path
-IsCreated before after path (Ok None) = BeginsNone before after × MayBeThere before.there path
-    × (after.failed ≡ before.failed)
-IsCreated before after path (Err error) = BeginsNone before after
-    × CountsOne before.failed after.failed
-
--- a file that was begun gets its path exactly where it is whole, and has this many bytes; else it
--- is removed, since something may have the path, or since it could not be ended, which counts
-abbrev pub IsFinished : Made → Made → List ℕ → Option (List ℕ) → Finished → Type 0
-IsFinished before after path contents (Named bytes) =
-    Ends before.files after.files path (HasPath contents)
-    × IfSome contents (λ held. length held ≡ bytes) × (after.failed ≡ before.failed)
-IsFinished before after path contents IsThere = Ends before.files after.files path Removed
-    × MayBeThere before.there path × (after.failed ≡ before.failed)
-IsFinished before after path contents Failed = Ends before.files after.files path Removed
-    × CountsOne before.failed after.failed
-
--- a file that was begun is removed
-pub record IsDiscarded (before after : Made) (path : List ℕ) : Type 0 where
-  pub gone : Ends before.files after.files path Removed
-  pub there : after.there ≡ before.there
-  pub failed : after.failed ≡ before.failed
+-- all files that were to be made lie below the folder, and each that was begun was ended
+abbrev pub MakesBelow : Option (List ℕ) → Option Made → Option Made → Type 0
+MakesBelow folder old new = IfSome old (λ made. (more : List Tried)
+    × (new ≡ Some (record made { tried = made.tried ++ more }))
+    × AllByRecursion (λ (t : Tried). LiesBelow folder t.path) more)

@@ -1,139 +1,102 @@
--- What the lines of a session do in turn: each is answered from what the line before left.
-use Rattle.std.specs.Prelude.{◌≡◌, ◌⊎◌, ℕ, true, false, List, [], ◌∷◌, length, Option}
-use Rattle.std.specs.Prelude.{Some, None, IfSome, if◌then◌else◌, nat_lt, cond}
+-- What the lines of a session do in turn, what they submit together, and how it ends.
+use Rattle.std.specs.Prelude.{◌≡◌, ◌⊎◌, ℕ, List, [], ◌∷◌, ◌++◌, length, map, Option, Some, None}
+use Rattle.std.specs.Prelude.{if◌then◌else◌, nat_lt, option_map}
+use Rattle.std.specs.List.{AllByRecursion}
+use Rattle.std.specs.Option.{option_to_list}
 use Rattle.sqlite_trees.specs.declared.store.Store.{Ghosts}
 use Rattle.edf_store.specs.Held.{StoreModel}
-use Rattle.edfserve_arguments.specs.Line.{LineAsked}
+use Rattle.edf_intake.specs.Batch.{AreSubmittedAsList}
 use Rattle.edf_program.specs.Status.{exit_code}
 use Rattle.edf_program.specs.declared.status.Status.{Status}
 use Rattle.edf_program.specs.declared.status.Status.TheVariants.{Trouble}
-use Rattle.edf_serve.specs.Client.{Warned, got}
-use Rattle.edf_serve.specs.Files.{Opened, Made, MadeFile, IsOver}
-use Rattle.edf_serve.specs.Places.{AddsBelow, AddsSuch}
-use Rattle.edf_serve.specs.Served.{Surroundings, IsServedAs}
-use Rattle.edf_serve.specs.Taken.{Submission}
-use Rattle.edf_serve.specs.declared.answering.Answered.{Answered}
-use Rattle.edf_serve.specs.declared.session.End.{End}
-use Rattle.edf_serve.specs.declared.session.End.TheVariants.{Ended, Unread, Unwritten, Left, Full}
-
--- the lines that are to come, where they are known
-abbrev pub Coming : Type 0
-Coming = Option (List (List ℕ))
-
--- this line came, and the others are left
-abbrev pub ComesNext : Coming → Coming → List ℕ → Type 0
-ComesNext before after line = IfSome before (λ lines. (rest : List (List ℕ))
-    × (lines ≡ line ∷ rest) × (after ≡ Some rest))
-
--- there was none
-abbrev pub HasNoLine : Coming → Coming → Type 0
-HasNoLine before after = IfSome before (λ lines. lines ≡ []) × (after ≡ before)
+use Rattle.edf_serve.specs.Files.{from_folder, to_folder, LiesBelow, MakesBelow}
+use Rattle.edf_serve.specs.Lines.{Coming, IsNext}
+use Rattle.edf_serve.specs.Exchange.{Exchange, IsServed}
+use Rattle.edf_serve.specs.Work.{Point, Submission}
+use Rattle.edf_serve.specs.declared.answering.End.{End}
+use Rattle.edf_serve.specs.declared.answering.End.TheVariants as end
+use Rattle.edf_serve.specs.declared.files.Folders.{Folders}
+use Rattle.edf_serve.specs.declared.lines.Next.TheVariants as next
 
 -- the worse of two statuses: that with the higher number
 abbrev pub worse : Status → Status → Status
 worse status other = if nat_lt (exit_code status) (exit_code other) then other else status
 
--- a session between two lines: what is held, the lines that are to come, the paths that were
--- opened, the files that were made, what the client got, of which names it was warned, and the
--- worst status so far
-pub record Point (S : Type 0) : Type 0 where
-  pub store : StoreModel S
+-- the status of a session that ends so: trouble at every end but that of the input
+abbrev pub status_at : End → Status → Status
+status_at end.Ended worst = worst
+status_at other worst = Trouble
+
+-- what was submitted for lines, of which the last stands first, in their order
+abbrev pub submissions : {S : Type 0} → List (Exchange S) → List Submission
+submissions [] = []
+submissions (x ∷ before) = submissions before ++ option_to_list x.work.submission
+
+-- all of it together, as `submit_all` has it: what is held in the end is what the list leaves, the
+-- answers are the replies to it, and a crash leaves what some first of them leave
+pub record AreSubmittedInTurn {S : Type 0} (g : Ghosts S) (old new : StoreModel S)
+    (all : List Submission) : Type 0 where
+  pub cap : new.cap ≡ old.cap
+  pub submitted : AreSubmittedAsList g old new (map (λ (s : Submission). s.from) all)
+      (map (λ (s : Submission). s.to) all) (map (λ (s : Submission). s.answer) all)
+
+-- the input ended; or it could not be read, or a line of it does not end
+abbrev pub EndsInput : Coming → Coming → End → Type 0
+EndsInput before after end.Ended = IsNext before after next.Ended
+EndsInput before after end.Unread = IsNext before after next.Failed
+EndsInput before after end.Full = IsNext before after next.Endless
+EndsInput before after other = ⊥
+
+-- a session between two lines, and what is to come of its input
+pub record Moment (S : Type 0) : Type 0 where
+  pub at : Point S
   pub coming : Coming
-  pub opened : Opened
-  pub made : Made
-  pub heard : Option (List ℕ)
-  pub failed : ℕ
-  pub warned : Warned
-  pub worst : Status
 
-abbrev pub point_at : {S : Type 0} → StoreModel S → Coming → Opened → Made → Option (List ℕ) → ℕ →
-    Warned → Status → Point S
-point_at store coming opened made heard failed warned worst = record {
-  store = store;
-  coming = coming;
-  opened = opened;
-  made = made;
-  heard = heard;
-  failed = failed;
-  warned = warned;
-  worst = worst;
-}
-
--- a turn: where it began, the line, what it asks for, what was submitted for it, the text of its
--- answer, and how it was answered
-pub record Turn (S : Type 0) : Type 0 where
-  pub point : Point S
-  pub line : List ℕ
-  pub asked : Option LineAsked
-  pub submission : Option Submission
-  pub text : List ℕ
-  pub answered : Answered
-
--- what a turn adds to the worst status: trouble where its answer did not go out
-abbrev pub told_status : Answered → Status
-told_status answered = cond answered.is_out answered.status Trouble
-
-module _ {S : Type 0} (g : Ghosts S) (s : Surroundings) where
+module _ {S : Type 0} (g : Ghosts S) (folders : Folders) where
   -- one line was read, its command was done, and it was answered
-  pub record IsTurn (a b : Point S) (t : Turn S) : Type 0 where
-    pub begins : t.point ≡ a
-    pub came : ComesNext a.coming b.coming t.line
-    pub served : IsServedAs g a.store b.store a.opened b.opened a.made b.made
-        (got a.heard a.failed b.heard b.failed) a.warned b.warned s t.line t.answered t.asked
-        t.submission t.text
-    pub cap : b.store.cap ≡ a.store.cap
-    pub worst : b.worst ≡ worse a.worst (told_status t.answered)
+  pub record IsExchange (a b : Moment S) (x : Exchange S) : Type 0 where
+    pub came : IsNext a.coming b.coming next.Line × (x.line ≡ b.coming.line)
+    pub point : Point S
+    pub served : IsServed g x point folders a.at
+    pub worst : b.at ≡ record point { worst = worse point.worst x.answered.status }
 
-  -- lines were answered one after the other, the last first, and each answer went out
-  abbrev pub AreTurns : Point S → List (Turn S) → Point S → Type 0
-  AreTurns a [] b = b ≡ a
-  AreTurns a (t ∷ before) b = AreTurns a before t.point × IsTurn t.point b t
-      × (t.answered.is_out ≡ true) × (t.answered.is_left ≡ false)
+  -- a line is answered, after which the session goes on, or ends so; or no line came, and it ends
+  abbrev pub IsStep : Moment S → Moment S → Option (Exchange S) → Option End → Type 0
+  IsStep a b (Some x) goes = IsExchange a b x × (x.answered.after ≡ goes)
+  IsStep a b None goes = (why : End) × (goes ≡ Some why) × EndsInput a.coming b.coming why
+      × (b.at ≡ a.at)
 
-  -- the input ended, or it could not be read, which is trouble
-  pub record EndsInput (a b : Point S) (end : End) : Type 0 where
-    pub store : b.store ≡ a.store
-    pub opened : b.opened ≡ a.opened
-    pub made : b.made ≡ a.made
-    pub heard : b.heard ≡ a.heard
-    pub failed : b.failed ≡ a.failed
-    pub warned : b.warned ≡ a.warned
-    pub why : ((end ≡ Ended) × HasNoLine a.coming b.coming × (b.worst ≡ a.worst))
-        ⊎ ((end ≡ Unread) × (b.worst ≡ Trouble))
+  -- lines were answered one after the other, the last first, and the session went on after each
+  abbrev pub AreExchanges : Moment S → List (Exchange S) → Moment S → Type 0
+  AreExchanges a [] b = b ≡ a
+  AreExchanges a (x ∷ before) b = (mid : Moment S) × AreExchanges a before mid
+      × IsStep mid b (Some x) None
 
-  -- after one more step the session goes on, or ends so
-  abbrev pub IsStep : Point S → Point S → Option End → Type 0
-  IsStep a b None = (t : Turn S) × IsTurn a b t × (t.answered.is_out ≡ true)
-      × (t.answered.is_left ≡ false)
-  IsStep a b (Some Unwritten) = (t : Turn S) × IsTurn a b t × (t.answered.is_out ≡ false)
-  IsStep a b (Some Left) = (t : Turn S) × IsTurn a b t × (t.answered.is_out ≡ true)
-      × (t.answered.is_left ≡ true)
-  IsStep a b (Some Full) = ⊥
-  IsStep a b (Some end) = EndsInput a b end
+  -- A whole session, and its lines with their answers, the last first. While the input gives a line,
+  -- the line is answered, up to where an answer did not go out, or the store was left or lost, or as
+  -- many were answered as can be counted. Every end but that of the input is trouble.
+  pub record IsSession (a b : Moment S) (all : List (Exchange S)) (why : End) : Type 0 where
+    pub mid : Moment S
+    pub before : List (Exchange S)
+    pub answered : AreExchanges a before mid
+    pub last : Moment S
+    pub ends : ((x : Option (Exchange S)) × IsStep mid last x (Some why)
+        × (all ≡ option_to_list x ++ before))
+        ⊎ ((why ≡ end.Full) × (last ≡ mid) × (all ≡ before)
+        × (length before ≡ 18446744073709551615))
+    pub status : b ≡ record last { at = record last.at { worst = status_at why last.at.worst } }
 
-  -- what comes after these turns of a session, and all of its turns
-  abbrev pub EndsSession : Point S → List (Turn S) → Point S → List (Turn S) → End → Type 0
-  EndsSession a turns b all Full = (b ≡ a) × (all ≡ turns) × (length turns ≡ 18446744073709551615)
-  EndsSession a turns b all Unwritten = (t : Turn S) × IsTurn a b t
-      × (t.answered.is_out ≡ false) × (all ≡ t ∷ turns)
-  EndsSession a turns b all Left = (t : Turn S) × IsTurn a b t × (t.answered.is_out ≡ true)
-      × (t.answered.is_left ≡ true) × (all ≡ t ∷ turns)
-  EndsSession a turns b all end = EndsInput a b end × (all ≡ turns)
-
-  -- a whole session, and its turns, the last first. While the input gives a line, the line has its
-  -- turn, up to where an answer did not go out or the store was left
-  pub record IsSession (a b : Point S) (all : List (Turn S)) (end : End) : Type 0 where
-    pub last : Point S
-    pub turns : List (Turn S)
-    pub are_turns : AreTurns a turns last
-    pub ends : EndsSession last turns b all end
-
-  -- each path that it opens, and each under which it begins a file, is one below its folder, where
-  -- there is one
-  abbrev pub StaysBelow : Point S → Point S → Type 0
-  StaysBelow a b = AddsBelow (λ path. path) s.folders.from a.opened b.opened
-      × AddsBelow (λ (file : MadeFile). file.path) s.folders.to a.made.files b.made.files
-
-  -- each file that it begins has its path in the end, or is removed
-  abbrev pub EndsFiles : Point S → Point S → Type 0
-  EndsFiles a b = AddsSuch (λ (file : MadeFile). IsOver file.stage) a.made.files b.made.files
+  -- The files of all lines were submitted as one list, and just those were opened, each with the
+  -- bytes of its path. Each file that was begun was ended. Where there are folders, all paths lie
+  -- below them.
+  pub record IsWhole (a b : Moment S) (why : End) : Type 0 where
+    pub all : List (Exchange S)
+    pub session : IsSession a b all why
+    pub submitted : AreSubmittedInTurn g a.at.store b.at.store (submissions all)
+    pub opened : b.at.paths ≡ record a.at.paths {
+      opened = option_map (λ (before : List (List ℕ)). before
+          ++ map (λ (s : Submission). s.path) (submissions all)) a.at.paths.opened;
+    }
+    pub given : AllByRecursion (λ (s : Submission). (s.from.left ≡ a.at.paths.bytes s.path)
+        × LiesBelow (from_folder folders) s.path) (submissions all)
+    pub made : MakesBelow (to_folder folders) a.at.made b.at.made

@@ -1,194 +1,124 @@
 //! One line, answered.
 
-ghost use Rattle.std.specs.Prelude.{◌≡◌, ◌⊎◌, ℕ, List, Option, IsTrue, true, option_map};
-ghost use Rattle.edfserve_arguments.specs.Line.{LineAsked, asked_by};
-ghost use Rattle.edf_command.specs.Lines.{refused_file_line};
-ghost use Rattle.edf_command.specs.Refusals.{IsSpelling};
-ghost use Rattle.edf_intake.specs.Refusal.{refusal_number};
-ghost use Rattle.edf_program.specs.Output.{growth, IsWritten, IsTold};
-ghost use Rattle.edf_program.specs.Status.{status_of_number};
-ghost use Rattle.edf_store.specs.Held.{Stays};
-ghost use Rattle.edf_serve.specs.Client.{IsIdle, got};
-ghost use Rattle.edf_serve.specs.Served.{IsWorked, IsToldOver, IsServed, below};
-ghost use Rattle.edf_serve.specs.Served.{surroundings};
-ghost use Rattle.edf_serve.specs.Taken.{Submission, IsPathTaken, IsFileTaken, outside_line};
+ghost use Rattle.std.specs.Prelude.{◌≡◌, ◌⊎◌, ◌++◌, Option, Some, None, IsTrue, true, false, cond};
+ghost use Rattle.std.specs.Prelude.{option_map};
+ghost use Rattle.edfserve_arguments.specs.Line.{asked_by};
+ghost use Rattle.edf_command.specs.Listing.{AreRecordingsListed};
+ghost use Rattle.edf_store.specs.Held.{at, Stays};
+ghost use Rattle.edf_serve.specs.Client.{IsIdle, IsOpenSince, Looks, looked};
+ghost use Rattle.edf_serve.specs.Exchange.{Exchange, IsWorked, IsServed, TellsLines, TellsLost};
+ghost use Rattle.edf_serve.specs.Work.{Submission, Work, EndsAs, point, grown};
 
 use crate::apart::warn_if_apart;
 use crate::client::Client;
 use crate::exporting::export;
-use crate::files::{NewFiles, Sources};
-use crate::fronted::Fronted;
-use crate::places::place_of;
-use crate::runs::list_runs;
-use crate::text::Text;
-use edf_command::{list, refused_file_line};
-use edf_fragment::Output;
-use edf_intake::{Receipt, Refusal, submit};
-use edf_program::{Status, status_of_number, tell, tell_bytes, tell_memory, tell_parts};
-use edf_store::Store;
-use edf_time::Instant;
+use crate::files::{Folders, NewFiles, Sources};
+use crate::room::{Outcome, Room};
+use crate::running::list_runs;
+use crate::standing::StoreFiles;
+use crate::taking::take;
+use edf_command::list;
+use edf_program::{Status, tell_bytes, tell_refused};
+use edf_store::{Store, StoreFault};
 use edfserve_arguments::{LineCommand, parse_line};
 use sqlite::Alter;
 use std::alloc::Global;
 
-/// The folders below which files are opened and made, where there are any.
-#[derive(Clone, Copy, Drop)]
-pub struct Folders<'f> {
-    /// That of the files of `take`.
-    pub from: Option<&'f str>,
-    /// That of the files of `export`.
-    pub to: Option<&'f str>,
+/// Why a session ends.
+#[derive(Clone, Copy, Debug, PartialEq, Eq, Drop)]
+pub enum End {
+    /// The input ended.
+    Ended,
+    /// A read of the input failed.
+    Unread,
+    /// An answer could not be written.
+    Unwritten,
+    /// The store may take no transaction, and is to be opened anew before the next line.
+    Left,
+    /// The path of the store does not stand for its files any more.
+    Lost,
+    /// As many lines were answered as one session can have, or one does not end.
+    Full,
 }
 
-/// What came of a line's command, before anything of it goes out.
-#[derive(Drop)]
-pub(crate) enum Outcome<'l> {
-    /// The file of that name was accepted.
-    Accepted {
-        /// The name.
-        name: &'l str,
-        /// What was accepted.
-        receipt: Receipt,
-        /// The start that its header names, to the second, where memory sufficed for it.
-        start: Option<Instant>,
-    },
-    /// All else, whose lines are written.
-    Told {
-        /// How it went.
-        status: Status,
-    },
+/// What came of a line, once it was answered.
+#[derive(Clone, Copy, Debug, PartialEq, Eq, Drop)]
+pub(crate) struct Answered {
+    /// How its command went.
+    pub(crate) status: Status,
+    /// Why the session ends after it, if it does: the store is left, or lost, or not all of the
+    /// answer went out.
+    pub(crate) after: Option<End>,
 }
 
-/// Prints that a name does not lead below the folder. Printing takes no memory.
-pub(crate) fn tell_outside<O: Output>(out: &mut O, name: &str) -> Status
-    ensures { IsWritten (growth O.Output out.old out.new) (outside_line name.now) Status.Refused
-        result }
-{
-    let parts = [name.as_bytes(), b" is outside of the folder\n".as_slice()];
-    tell_parts(out, &parts, Status::Refused)
-}
-
-/// Writes the line of a refused file.
-fn tell_refusal<O: Output>(alloc: Global, name: &str, refusal: Refusal, out: &mut O) -> Status
-    ensures { (spell : ℕ → List ℕ) → IsSpelling spell → IsTold (growth O.Output out.old out.new)
-        (refused_file_line spell name.now refusal)
-        (status_of_number (refusal_number refusal)) result }
-{
-    let status = status_of_number(refusal.number());
-    let line = refused_file_line(alloc, name, &refusal);
-    tell(out, line, status)
-}
-
-/// Submits the file of a path, and writes its line where it is refused.
-fn submit_file<'l, S: Alter, I: Sources>(
+/// Lists the recordings, as `edfstore list` does.
+fn list_all<'l, S: Alter, I: Sources, P: NewFiles, C: Client, K: StoreFiles>(
     alloc: Global,
-    name: &'l str,
-    path: &str,
     store: &mut Store<S>,
-    sources: &mut I,
-    out: &mut Text,
+    room: &mut Room<I, P, C, K>,
 ) -> Outcome<'l>
-    ensures taken { (submission : Option Submission) ×
-        IsPathTaken S.Store store.old store.new (I.opened sources.old) (I.opened sources.new)
-        (growth ⟦<Text as Output>⟧ out.old out.new) name.now submission path.now
-        (I.bytes sources.old) result }
+    ensures listed { (let w : Work S = record {
+      old = point I.Sources P.NewFiles C.Client K.StoreFiles store.old room.old;
+      new = point I.Sources P.NewFiles C.Client K.StoreFiles store.new room.new;
+      submission = None;
+      outcome = result;
+    } in
+        (w.new ≡ record w.old { store = w.new.store; out = w.new.out; why = w.new.why })
+        × EndsAs w (AreRecordingsListed S.Store store.old store.new (grown w.old.out w.new.out)
+        (grown w.old.why w.new.why)) result) }
     ensures cap { store.new.cap ≡ store.old.cap }
-    ensures same { I.bytes sources.new ≡ I.bytes sources.old }
-    ensures links { I.links sources.new ≡ I.links sources.old }
 {
-    match sources.open(alloc, path) {
-        Ok(reader) => {
-            let mut fronted = Fronted::new(alloc, reader);
-            match submit(alloc, store, &mut fronted) {
-                Ok(receipt) => Outcome::Accepted {
-                    name,
-                    receipt,
-                    start: fronted.start(),
-                },
-                Err(refusal) => Outcome::Told {
-                    status: tell_refusal(alloc, name, refusal, out),
-                },
-            }
-        }
-        Err(_) => Outcome::Told {
-            status: tell_memory(out, "take"),
-        },
+    let status = list(alloc, store, &mut room.out, &mut room.why);
+    Outcome::Told {
+        status,
+        is_doubtful: status == Status::Trouble,
     }
 }
 
-/// Submits the file of that name below the folder, where there is one, and writes its line where it
-/// is refused.
-fn take<'l, S: Alter, I: Sources>(
-    alloc: Global,
-    name: &'l str,
-    folder: Option<&str>,
-    store: &mut Store<S>,
-    sources: &mut I,
-    out: &mut Text,
-) -> Outcome<'l>
-    ensures taken { (submission : Option Submission) ×
-        IsFileTaken S.Store store.old store.new (I.opened sources.old) (I.opened sources.new)
-        (growth ⟦<Text as Output>⟧ out.old out.new) name.now submission
-        (I.links sources.old) (option_map (λ f. f.now) folder.entry) (I.bytes sources.old) result }
-    ensures cap { store.new.cap ≡ store.old.cap }
-    ensures same { I.bytes sources.new ≡ I.bytes sources.old }
-    ensures links { I.links sources.new ≡ I.links sources.old }
-{
-    match place_of(alloc, folder, name, sources) {
-        Ok(Some(path)) => submit_file(alloc, name, path.as_str(), store, sources, out),
-        Ok(None) => Outcome::Told {
-            status: tell_outside(out, name),
-        },
-        Err(_) => Outcome::Told {
-            status: tell_memory(out, "take"),
-        },
-    }
-}
-
-/// Does what a line asks for, and writes its lines to `out`, and to `why` why there are no more of
-/// them.
-fn work<'l, S: Alter, I: Sources, P: NewFiles>(
+/// Does what a line asks for, and writes its lines, and why there are no more of them.
+fn work<'l, S: Alter, I: Sources, P: NewFiles, C: Client, K: StoreFiles>(
     alloc: Global,
     asked: Option<LineCommand<'l>>,
     folders: Folders<'_>,
     store: &mut Store<S>,
-    sources: &mut I,
-    files: &mut P,
-    out: &mut Text,
-    why: &mut Text,
+    room: &mut Room<I, P, C, K>,
 ) -> Outcome<'l>
-    ensures worked { (submission : Option Submission) ×
-        IsWorked S.Store store.old store.new (I.opened sources.old) (I.opened sources.new)
-        (P.made files.old) (P.made files.new) (growth ⟦<Text as Output>⟧ out.old out.new)
-        (growth ⟦<Text as Output>⟧ why.old why.new)
-        (surroundings (below folders.entry) (I.bytes sources.old) (I.links sources.old)
-        (P.known files.old)) (option_map asked_by asked.entry) submission result }
+    ensures worked { (submission : Option Submission) × IsWorked S.Store folders.entry
+        (record {
+          old = point I.Sources P.NewFiles C.Client K.StoreFiles store.old room.old;
+          new = point I.Sources P.NewFiles C.Client K.StoreFiles store.new room.new;
+          submission = submission;
+          outcome = result;
+        }) (option_map asked_by asked.entry) }
     ensures cap { store.new.cap ≡ store.old.cap }
-    ensures same { I.bytes sources.new ≡ I.bytes sources.old }
-    ensures links { I.links sources.new ≡ I.links sources.old }
-    ensures known { P.known files.new ≡ P.known files.old }
 {
     match asked {
-        Some(LineCommand::Take { name }) => take(alloc, name, folders.from, store, sources, out),
-        Some(LineCommand::List) => Outcome::Told {
-            status: list(alloc, store, out, why),
-        },
-        Some(LineCommand::Runs { place }) => Outcome::Told {
-            status: list_runs(alloc, place, store, out),
-        },
-        Some(LineCommand::Export { place, name }) => Outcome::Told {
-            status: export(alloc, place, name, folders.to, store, sources, files, out),
-        },
+        Some(LineCommand::Take { name }) => take(alloc, name, folders, store, room),
+        Some(LineCommand::List) => list_all(alloc, store, room),
+        Some(LineCommand::Runs { place }) => list_runs(alloc, place, store, room),
+        Some(LineCommand::Export { place, name }) => {
+            export(alloc, place, name, folders, store, room)
+        }
         None => Outcome::Told {
-            status: tell_bytes(out, b"no such command\n", Status::Usage),
+            status: tell_bytes(&mut room.out, b"no such command\n", Status::Usage),
+            is_doubtful: false,
         },
     }
 }
 
-/// `true` only where the store takes a transaction. What is held stays.
-pub(crate) fn is_idle<S: Alter>(store: &mut Store<S>) -> bool
+/// Whether the store is in a transaction.
+pub(crate) fn is_busy<S: Alter>(store: &Store<S>) -> bool
+    ensures { result ≡ (at S.Store store.now).in_transaction }
+{
+    store.is_busy()
+}
+
+/// `true` only where the store was open and took a transaction, which was given up. What is held
+/// stays.
+pub(crate) fn takes_transaction<S: Alter>(store: &mut Store<S>) -> bool
     ensures stays { Stays S.Store store.old store.new }
     ensures idle { result ≡ true → IsIdle S.Store store.new }
+    ensures open { result ≡ true → IsOpenSince S.Store store.old store.new }
 {
     match store.transaction() {
         Ok(transaction) => match transaction.give_up() {
@@ -199,99 +129,143 @@ pub(crate) fn is_idle<S: Alter>(store: &mut Store<S>) -> bool
     }
 }
 
-/// What came of a line, once it was answered.
-#[derive(Clone, Copy, Debug, PartialEq, Eq, Drop)]
-pub struct Answered {
-    /// How its command went.
-    pub status: Status,
-    /// Whether all of the answer went out.
-    pub is_out: bool,
-    /// Whether the store may take no transaction, as where a call that it refused left it in one,
-    /// or closed it. Where it is `false`, none is open.
-    pub is_left: bool,
+/// Whether the store is left: it is in a transaction, or it refused one where it may be in one.
+fn is_left<S: Alter>(store: &mut Store<S>, is_doubtful: bool) -> bool
+    ensures stays { Stays S.Store store.old store.new }
+    ensures idle { result ≡ false → IsIdle S.Store store.new }
+    ensures open { result ≡ false →
+        (is_doubtful ≡ false) ⊎ IsOpenSince S.Store store.old store.new }
+    ensures why { result ≡ true →
+        IsTrue (at S.Store store.new).in_transaction ⊎ (is_doubtful ≡ true) }
+{
+    if is_busy(store) {
+        return true;
+    }
+    if !is_doubtful {
+        return false;
+    }
+    !takes_transaction(store)
 }
 
-/// Tells what came of a command, where no file was accepted. The status is trouble where the store
-/// may take no transaction any more.
-fn tell_all<S: Alter, C: Client>(
-    store: &mut Store<S>,
-    client: &mut C,
-    out: &Text,
-    why: &Text,
-    told: Status,
-) -> Answered
-    ensures told { IsToldOver S.Store store.old store.new out.now.bytes.items why.now.bytes.items
-        (got (C.contents client.old) (C.failures client.old) (C.contents client.new)
-        (C.failures client.new)) told result }
-    ensures warned { C.warned client.new ≡ C.warned client.old }
+/// Why a session ends after an answer, if it does.
+fn ends_by(is_out: bool, goes: Option<End>) -> Option<End>
+    ensures { result ≡ cond is_out goes (Some End.Unwritten) }
 {
-    if is_idle(store) {
-        let is_out = client.answer(store, out.as_slice(), why.as_slice(), told);
-        Answered {
-            status: told,
-            is_out,
-            is_left: false,
-        }
-    } else {
-        let is_out = client.answer(store, out.as_slice(), why.as_slice(), Status::Trouble);
-        Answered {
+    if is_out { goes } else { Some(End::Unwritten) }
+}
+
+/// Tells what came of a command that accepted no file. The status is trouble where the store is
+/// left.
+fn tell_all<S: Alter, I: Sources, P: NewFiles, C: Client, K: StoreFiles>(
+    store: &mut Store<S>,
+    room: &mut Room<I, P, C, K>,
+    told: Status,
+    is_doubtful: bool,
+) -> Answered
+    ensures told { (x : Exchange S) → TellsLines S.Store (record x {
+      work = record x.work {
+        new = point I.Sources P.NewFiles C.Client K.StoreFiles store.old room.old;
+      };
+      answered = result;
+    }) (point I.Sources P.NewFiles C.Client K.StoreFiles store.new room.new) told is_doubtful }
+    ensures cap { store.new.cap ≡ store.old.cap }
+{
+    let (out, why) = (room.out.lines(), room.why.lines());
+    if is_left(store, is_doubtful) {
+        let is_out = room.client.answer(store, out, why, Status::Trouble);
+        return Answered {
             status: Status::Trouble,
-            is_out,
-            is_left: true,
-        }
+            after: ends_by(is_out, Some(End::Left)),
+        };
+    }
+    let is_out = room.client.answer(store, out, why, told);
+    Answered {
+        status: told,
+        after: ends_by(is_out, None),
     }
 }
 
+/// Tells that a file is refused since the path of the store does not stand for its files.
+fn tell_lost<S: Alter, I: Sources, P: NewFiles, C: Client, K: StoreFiles>(
+    store: &Store<S>,
+    name: &str,
+    room: &mut Room<I, P, C, K>,
+) -> Answered
+    ensures { (x : Exchange S) (looks : Looks) → K.looks room.old.keeper ≡ looked looks false →
+        TellsLost S.Store (record x {
+          work = record x.work {
+            new = record (point I.Sources P.NewFiles C.Client K.StoreFiles store.now room.old) {
+              looks = looks;
+            };
+          };
+          answered = result;
+        }) (point I.Sources P.NewFiles C.Client K.StoreFiles store.now room.new) name.now }
+{
+    let fault = StoreFault::Store(None);
+    let status = Status::Trouble;
+    let _ = tell_refused(&mut room.out, name, fault.number(), fault.name(), status);
+    let (out, why) = (room.out.lines(), room.why.lines());
+    let is_out = room.client.answer(store, out, why, status);
+    Answered {
+        status,
+        after: ends_by(is_out, Some(End::Lost)),
+    }
+}
+
+/// Why a session ends whose store is left, or not.
+fn left_if(is_left: bool) -> Option<End>
+    ensures { result ≡ cond is_left (Some End.Left) None }
+{
+    if is_left { Some(End::Left) } else { None }
+}
+
 /// Answers a line over the store: the lines of its command, and then `status N`, with N as
-/// `edfstore` would end, or 3 where the store is left.
+/// `edfstore` would end, or 3 where the store is left or lost. A line for which memory ran out is
+/// left away whole, so the line `status N` is one of its own, and the last.
 ///
 /// A line that is no command gets `no such command`, and its status is `Usage`. The client is
 /// answered when the command is done: of an accepted file, when as many data records of its
-/// recording are held as it is told. Where the store may take no transaction after another command,
-/// the status is trouble.
+/// recording are held as it is told, and the path of the store still stands for its files. Where it
+/// does not, the file is refused with E42 (it may be held whole in the files that the store has),
+/// and the session ends. Where the store may take no transaction after a command that accepted no
+/// file, the status is trouble, and the session ends: it is asked only where one may be open.
 ///
 /// After the answer to an accepted file whose patient has neither code nor name, the store is asked
 /// whether the client is to be warned of it, once at most. Where it may take no transaction after
 /// that, the answer stands.
-pub fn serve_line<S: Alter, I: Sources, P: NewFiles, C: Client>(
+pub(crate) fn serve_line<S: Alter, I: Sources, P: NewFiles, C: Client, K: StoreFiles>(
     alloc: Global,
     line: &[u8],
     folders: Folders<'_>,
     store: &mut Store<S>,
-    sources: &mut I,
-    files: &mut P,
-    client: &mut C,
+    room: &mut Room<I, P, C, K>,
 ) -> Answered
-    ensures served { IsServed S.Store store.old store.new (I.opened sources.old)
-        (I.opened sources.new) (P.made files.old) (P.made files.new)
-        (got (C.contents client.old) (C.failures client.old) (C.contents client.new)
-        (C.failures client.new))
-        (C.warned client.old) (C.warned client.new) (surroundings (below folders.entry)
-        (I.bytes sources.old) (I.links sources.old) (P.known files.old)) line.now result }
-    ensures cap { store.new.cap ≡ store.old.cap }
-    ensures same { I.bytes sources.new ≡ I.bytes sources.old }
-    ensures links { I.links sources.new ≡ I.links sources.old }
-    ensures known { P.known files.new ≡ P.known files.old }
+    ensures { (x : Exchange S) × (x.line ≡ line.now) × (x.answered ≡ result) × IsServed S.Store x
+        (point I.Sources P.NewFiles C.Client K.StoreFiles store.new room.new) folders.entry
+        (point I.Sources P.NewFiles C.Client K.StoreFiles store.old room.old) }
 {
-    let mut out = Text::new(alloc);
-    let mut why = Text::new(alloc);
+    room.out.clear();
+    room.why.clear();
     let asked = parse_line(line);
-    match work(
-        alloc, asked, folders, store, sources, files, &mut out, &mut why,
-    ) {
+    match work(alloc, asked, folders, store, room) {
         Outcome::Accepted {
             name,
             receipt,
             start,
         } => {
-            let is_out = client.accept(store, name, &receipt);
-            let is_left = warn_if_apart(alloc, store, client, name, &receipt, start);
+            if !room.keeper.stand(store, &receipt) {
+                return tell_lost(store, name, room);
+            }
+            let is_out = room.client.accept(store, name, &receipt);
+            let is_left = warn_if_apart(alloc, store, &mut room.client, name, &receipt, start);
             Answered {
                 status: Status::Done,
-                is_out,
-                is_left,
+                after: ends_by(is_out, left_if(is_left)),
             }
         }
-        Outcome::Told { status } => tell_all(store, client, &out, &why, status),
+        Outcome::Told {
+            status,
+            is_doubtful,
+        } => tell_all(store, room, status, is_doubtful),
     }
 }

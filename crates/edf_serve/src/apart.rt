@@ -8,10 +8,10 @@ ghost use Rattle.edf_holdings.specs.Holdings.{Holdings};
 ghost use Rattle.edf_store.specs.Held.{at, Holds, Stays};
 ghost use Rattle.edf_store.specs.StoreTx.{IsRunning};
 ghost use Rattle.edf_store.specs.Transaction.{IsNextStart, Sees};
-ghost use Rattle.edf_serve.specs.Apart.{IsUntold, IsAskedFor, HasPause, MayWarn, day_long};
-ghost use Rattle.edf_serve.specs.Client.{IsTaken, IsIdle};
+ghost use Rattle.edf_serve.specs.Client.{IsUntold, HasPause, HasAccepted, IsIdle, IsOpenSince};
+ghost use Rattle.edf_serve.specs.Files.{and_one};
 
-use crate::answering::is_idle;
+use crate::answering::takes_transaction;
 use crate::client::Client;
 use crate::untold::is_untold;
 use edf_header::Identity;
@@ -75,7 +75,7 @@ pub(crate) enum Side {
 /// Whether a pause begins: data records begin before it, and the next one 24 hours later or more.
 fn is_pause(earliest: Option<Instant>, from: Instant, next: Instant) -> bool
     ensures { result ≡ true → (start : ℕ) × (earliest ≡ Some start) × (start < from)
-        × (from + day_long ≤ next) }
+        × (from + DAY ≤ next) }
 {
     let Some(earliest) = earliest else {
         return false;
@@ -292,13 +292,16 @@ pub(crate) fn warn_if_apart<S: Alter, C: Client>(
     start: Option<Instant>,
 ) -> bool
     requires idle { IsIdle S.Store store.old }
-    requires taken { IsTaken S.Store store.old receipt.now }
-    ensures asked { IsAskedFor S.Store store.old store.new receipt.now }
+    requires accepted { HasAccepted S.Store store.old receipt.now }
+    ensures asked { (store.new ≡ store.old)
+        ⊎ (IsUntold receipt.now.identity × Stays S.Store store.old store.new) }
     ensures left { result ≡ true → IsUntold receipt.now.identity }
-    ensures idle { result ≡ false → IsIdle S.Store store.new }
-    ensures contents { C.contents client.new ≡ C.contents client.old }
-    ensures failures { C.failures client.new ≡ C.failures client.old }
-    ensures warned { MayWarn (C.warned client.old) (C.warned client.new) name.now }
+    ensures idle { result ≡ false → IsIdle S.Store store.new
+        × IsOpenSince S.Store store.old store.new }
+    ensures warned { (C.heard client.new ≡ C.heard client.old)
+        ⊎ (C.heard client.new ≡ record (C.heard client.old) {
+          warned = and_one (C.heard client.old).warned name.now;
+        }) }
 {
     let Some(start) = start else {
         return false;
@@ -315,6 +318,6 @@ pub(crate) fn warn_if_apart<S: Alter, C: Client>(
             false
         }
         Ok(false) => false,
-        Err(_) => !is_idle(store),
+        Err(_) => !takes_transaction(store),
     }
 }

@@ -1,15 +1,15 @@
 //! Who is answered.
 
-ghost use Rattle.std.specs.Prelude.{◌≡◌, ℕ, List, Option, None, ◌++◌, OnOk, OnErr};
+ghost use Rattle.std.specs.Prelude.{◌≡◌, ◌⊎◌, ℕ, true, List, Option, None, ◌∷◌, [], ◌++◌, codes, OnOk, OnErr};
 ghost use Rattle.std.specs.List.{flat_map};
 ghost use Rattle.edf_fragment.specs.Failures.{one_more};
 ghost use Rattle.edf_command.specs.Lines.{accepted_line};
 ghost use Rattle.edf_program.specs.Output.{IsPut, growth};
 ghost use Rattle.edf_program.specs.declared.status.Status.TheVariants.{Done};
 ghost use Rattle.edf_program.specs.Output.{IsWritten};
-ghost use Rattle.edf_serve.specs.Apart.{IsApart, warned_line};
-ghost use Rattle.edf_serve.specs.Client.{IsTaken, IsIdle, IsIdleAfter, Warned, got, status_line};
-ghost use Rattle.edf_serve.specs.Files.{Adds};
+ghost use Rattle.edf_serve.specs.Client.{Heard, GetsAnswer, HasAccepted, IsIdle, IsApart};
+ghost use Rattle.edf_serve.specs.Client.{status_line};
+ghost use Rattle.edf_serve.specs.Files.{and_one};
 
 use edf_fragment::Output;
 use edf_intake::Receipt;
@@ -22,14 +22,8 @@ use std::io;
 /// Who is answered. An answer goes out only where what it tells is so: that is what its calls
 /// require, over the very store that it is about.
 pub trait Client {
-    // What the client got, where that is known.
-    ghost contents: { Self → Option (List ℕ) };
-
-    // How many writes failed so far, or took none of some bytes.
-    ghost failures: { Self → ℕ };
-
-    // The names of which it was warned, in turn, where they are known.
-    ghost warned: { Self → Warned };
+    // What the client got so far.
+    ghost heard: { Self → Heard };
 
     /// Tells that the file of this name was accepted, and that all was done. The store is as the
     /// submission left it, so it holds the data records that the receipt counts (the law
@@ -37,11 +31,9 @@ pub trait Client {
     /// all of it is out.
     fn accept<S: Alter>(&mut self, store: &Store<S>, name: &str, receipt: &Receipt) -> bool
         requires idle { IsIdle S.Store store.now }
-        requires taken { IsTaken S.Store store.now receipt.now }
-        ensures put { IsPut (got (contents self.old) (failures self.old) (contents self.new)
-            (failures self.new)) (accepted_line name.now receipt.now.new receipt.now.known
-            ++ status_line Done) result }
-        ensures warned { warned self.new ≡ warned self.old };
+        requires accepted { HasAccepted S.Store store.now receipt.now }
+        ensures { GetsAnswer (heard self.old) (heard self.new) (accepted_line name.now
+            receipt.now.new receipt.now.known ++ status_line Done) result };
 
     /// Tells lines, and why no more of them are told, and the status. No transaction of the store
     /// is open, but after trouble. `false` where a write failed, and else all of it is out.
@@ -52,39 +44,41 @@ pub trait Client {
         why: &[u8],
         status: Status,
     ) -> bool
-        requires { IsIdleAfter S.Store store.now status }
-        ensures put { IsPut (got (contents self.old) (failures self.old) (contents self.new)
-            (failures self.new)) (lines.now ++ (why.now ++ status_line status)) result }
-        ensures warned { warned self.new ≡ warned self.old };
+        requires { IsIdle S.Store store.now ⊎ (status ≡ Status.Trouble) }
+        ensures { GetsAnswer (heard self.old) (heard self.new)
+            (lines.now ++ (why.now ++ status_line status)) result };
 
     /// Warns that files of different people may have become one recording: the accepted file of
-    /// this name is of a patient without code and name, all of its data records are new, and in its
-    /// recording two data records, one after the other, begin more than 24 hours apart. No
-    /// transaction of the store is open. What was answered is as it was.
+    /// this name is of a patient without code and name, all of its data records are new, and anywhere
+    /// in its recording two data records, one after the other, begin more than 24 hours apart (that
+    /// its own are beside that pause is tested, and no clause says so). No transaction of the store
+    /// is open. What was answered is as it was.
     fn warn<S: Alter>(&mut self, store: &Store<S>, name: &str, receipt: &Receipt)
         requires idle { IsIdle S.Store store.now }
         requires apart { IsApart S.Store store.now receipt.now }
-        ensures contents { contents self.new ≡ contents self.old }
-        ensures failures { failures self.new ≡ failures self.old }
-        ensures warned { Adds (warned self.old) (warned self.new) name.now };
+        ensures { heard self.new ≡ record (heard self.old) {
+          warned = and_one (heard self.old).warned name.now;
+        } };
 }
 
 /// A writer that may keep what it got back until it is flushed.
 pub trait Flush: Output {
+    // How much of what it holds was sent out, where that is known.
+    ghost sent: { Self → Option (List ℕ) };
+
     /// Sends out what was kept back.
     ///
     /// # Errors
     /// Where that failed, which counts as a failed write.
     fn flush(&mut self) -> io::Result<()>
         ensures contents { Self.contents self.new ≡ Self.contents self.old }
+        ensures sent { OnOk result (sent self.new ≡ Self.contents self.new) }
         ensures failed { OnErr result
             (Self.failures self.new ≡ one_more (Self.failures self.old)) }
         ensures done { OnOk result (Self.failures self.new ≡ Self.failures self.old) };
 }
 
-/// A client that reads what a writer gets. Another writer gets the warnings.
-///
-/// The first is flushed at the end of each answer; that is tested, and no clause says so.
+/// A client that reads what a writer sends out. Another writer gets the warnings.
 #[derive(Drop)]
 pub struct Console<W, E> {
     pub(crate) out: W,
@@ -103,8 +97,9 @@ impl<W: Flush, E: Output> Console<W, E> {
 
 /// Writes a warning. It takes no memory.
 fn tell_warning<E: Output>(out: &mut E, name: &str) -> Status
-    ensures { IsWritten (growth E.Output out.old out.new) (warned_line name.now) Status.Done
-        result }
+    ensures { IsWritten (growth E.Output out.old out.new) (name.now ++ (codes
+        " warned: files of different people may have become one recording" ++ (10 ∷ [])))
+        Status.Done result }
 {
     let parts = [
         name.as_bytes(),
@@ -115,8 +110,9 @@ fn tell_warning<E: Output>(out: &mut E, name: &str) -> Status
 
 /// Writes the parts of an answer and flushes them. `false` where that failed.
 fn send<W: Flush>(out: &mut W, parts: &[&[u8]]) -> bool
-    ensures { IsPut (growth W.Output out.old out.new) (flat_map (λ part. part.now) parts.now)
+    ensures put { IsPut (growth W.Output out.old out.new) (flat_map (λ part. part.now) parts.now)
         result }
+    ensures sent { result ≡ true → W.sent out.new ≡ W.contents out.new }
 {
     if tell_parts(out, parts, Status::Done) != Status::Done {
         return false;
@@ -128,11 +124,12 @@ fn send<W: Flush>(out: &mut W, parts: &[&[u8]]) -> bool
 }
 
 impl<W: Flush, E: Output> Client for Console<W, E> {
-    ghost contents = { λ client. W.Output.contents client.out };
-
-    ghost failures = { λ client. W.Output.failures client.out };
-
-    ghost warned = { λ _. None };
+    ghost heard = { λ client. record {
+      contents = W.Output.contents client.out;
+      sent = W.Flush.sent client.out;
+      failed = W.Output.failures client.out;
+      warned = None;
+    } };
 
     fn accept<S: Alter>(&mut self, _store: &Store<S>, name: &str, receipt: &Receipt) -> bool {
         let mut new = Buffer::new();

@@ -1,13 +1,22 @@
 //! `export PLACE NAME`: a recording as a new file.
 
-ghost use Rattle.std.specs.Prelude.{◌≡◌, IfOk, option_map};
+ghost use Rattle.std.specs.Prelude.{◌≡◌, ◌⊎◌, Some, None, IfOk};
+ghost use Rattle.edf_export.specs.declared.fault.ExportFault.TheVariants.{Write};
+ghost use Rattle.edf_command.specs.Lines.{export_refused_line};
 ghost use Rattle.edf_program.specs.Output.{growth, IsWritten};
-ghost use Rattle.edf_serve.specs.Exported.{IsExportedBelow, IsExportedTo, IsFileEnded};
-ghost use Rattle.edf_serve.specs.Exported.{exported_line, there_line, unwritten_line};
+ghost use Rattle.edf_serve.specs.Exporting.{IsExportedBelow, IsExportedAs, MakesFile, BeginsNone};
+ghost use Rattle.edf_serve.specs.Exporting.{IsFinishTold, exported_line, there_line};
+ghost use Rattle.edf_serve.specs.Files.{IsEnded};
+ghost use Rattle.edf_serve.specs.Work.{Work, point, grown};
+ghost use Rattle.edf_serve.specs.declared.files.Finished.{Finished};
+ghost use Rattle.edf_serve.specs.declared.room.Outcome.{Outcome};
 
-use crate::answering::tell_outside;
-use crate::files::{Finished, NewFiles, Sources};
+use crate::client::Client;
+use crate::files::{Finished, Folders, NewFiles, Sources};
 use crate::places::place_of;
+use crate::room::{Outcome, Room};
+use crate::standing::StoreFiles;
+use crate::taking::tell_outside;
 use edf_command::export_place;
 use edf_export::ExportFault;
 use edf_fragment::Output;
@@ -27,7 +36,8 @@ fn tell_there<O: Output>(out: &mut O, name: &str) -> Status
 
 /// Prints that the file could not be written. Printing takes no memory.
 fn tell_unwritten<O: Output>(out: &mut O) -> Status
-    ensures { IsWritten (growth O.Output out.old out.new) unwritten_line Status.Trouble result }
+    ensures { IsWritten (growth O.Output out.old out.new) (export_refused_line Write) Status.Trouble
+        result }
 {
     let fault = ExportFault::Write;
     tell_refused(out, "export", fault.number(), fault.name(), Status::Trouble)
@@ -42,75 +52,115 @@ fn exported_line(alloc: Global, name: &str, bytes: u64) -> Result<Vec<u8>, Alloc
 }
 
 /// Gives a whole file its path, and writes its line.
-fn finish<P: NewFiles, O: Output>(
+fn finish<I: Sources, P: NewFiles, C: Client, K: StoreFiles>(
     alloc: Global,
     name: &str,
     path: &str,
     writer: P::Writer,
-    files: &mut P,
-    out: &mut O,
+    room: &mut Room<I, P, C, K>,
 ) -> Status
-    ensures ended { IsFileEnded (P.made files.old) (P.made files.new) name.now path.now
-        (P.Writer.contents writer) (growth O.Output out.old out.new) result }
-    ensures known { P.known files.new ≡ P.known files.old }
+    ensures ended { (finished : Finished) × IsEnded (P.made room.old.files)
+        (P.made room.new.files) (record {
+          path = path.now;
+          how = Some finished;
+          contents = P.Writer.contents writer;
+          failed = P.Writer.failures writer;
+        }) × IsFinishTold name.now (grown room.old.out room.new.out) finished result }
+    ensures same { room.new ≡ record room.old { files = room.new.files; out = room.new.out } }
 {
-    match files.finish(writer, path) {
-        Finished::Named { bytes } => tell(out, exported_line(alloc, name, bytes), Status::Done),
-        Finished::IsThere => tell_there(out, name),
-        Finished::Failed => tell_unwritten(out),
+    match room.files.finish(writer, path) {
+        Finished::Named { bytes } => {
+            tell(
+                &mut room.out,
+                exported_line(alloc, name, bytes),
+                Status::Done,
+            )
+        }
+        Finished::IsThere => tell_there(&mut room.out, name),
+        Finished::Failed => tell_unwritten(&mut room.out),
     }
 }
 
-/// Writes the recording at a place of the list to a new file, and its line or why not to `out`.
-fn export_to<S: Alter, P: NewFiles, O: Output>(
+/// Writes the recording at a place of the list to a new file, and its line or why not.
+fn export_to<S: Alter, I: Sources, P: NewFiles, C: Client, K: StoreFiles>(
     alloc: Global,
     place: u32,
     name: &str,
     path: &str,
     store: &mut Store<S>,
-    files: &mut P,
-    out: &mut O,
+    room: &mut Room<I, P, C, K>,
 ) -> Status
-    ensures exported { IsExportedTo S.Store store.old store.new (P.made files.old)
-        (P.made files.new) (growth O.Output out.old out.new) name.now (P.known files.old) place
-        path.now result }
+    ensures exported { (outcome : Outcome) → (let w : Work S = (record {
+      old = point I.Sources P.NewFiles C.Client K.StoreFiles store.old room.old;
+      new = point I.Sources P.NewFiles C.Client K.StoreFiles store.new room.new;
+      submission = None;
+      outcome = outcome;
+    }) in
+        MakesFile S.Store w name.now path.now result place
+        ⊎ BeginsNone S.Store w name.now path.now result) }
     ensures cap { store.new.cap ≡ store.old.cap }
-    ensures known { P.known files.new ≡ P.known files.old }
+    ensures same { room.new ≡ record room.old { files = room.new.files; out = room.new.out } }
 {
-    let mut writer = match files.create(alloc, path) {
+    let mut writer = match room.files.create(alloc, path) {
         Ok(Some(writer)) => writer,
-        Ok(None) => return tell_there(out, name),
-        Err(_) => return tell_unwritten(out),
+        Ok(None) => return tell_there(&mut room.out, name),
+        Err(_) => return tell_unwritten(&mut room.out),
     };
-    let told = export_place(alloc, place, store, &mut writer, out);
+    let told = export_place(alloc, place, store, &mut writer, &mut room.out);
     if told == Status::Done {
-        return finish(alloc, name, path, writer, files, out);
+        return finish(alloc, name, path, writer, room);
     }
-    files.discard(writer, path);
+    room.files.discard(writer, path);
     told
 }
 
 /// Writes the recording at a place of the list to a new file of that name below the folder, where
-/// there is one, and its line or why not to `out`.
-pub(crate) fn export<S: Alter, I: Sources, P: NewFiles, O: Output>(
+/// there is one, and its line or why not.
+fn export_below<S: Alter, I: Sources, P: NewFiles, C: Client, K: StoreFiles>(
     alloc: Global,
     place: u32,
     name: &str,
-    folder: Option<&str>,
+    folders: Folders<'_>,
     store: &mut Store<S>,
-    sources: &I,
-    files: &mut P,
-    out: &mut O,
+    room: &mut Room<I, P, C, K>,
 ) -> Status
-    ensures exported { IsExportedBelow S.Store store.old store.new (P.made files.old)
-        (P.made files.new) (growth O.Output out.old out.new) name.now (P.known files.old)
-        (I.links sources.now) (option_map (λ f. f.now) folder.entry) place result }
+    ensures exported { (outcome : Outcome) → (let w : Work S = record {
+      old = point I.Sources P.NewFiles C.Client K.StoreFiles store.old room.old;
+      new = point I.Sources P.NewFiles C.Client K.StoreFiles store.new room.new;
+      submission = None;
+      outcome = outcome;
+    } in
+        IsExportedAs S.Store w name.now folders.entry place result) }
     ensures cap { store.new.cap ≡ store.old.cap }
-    ensures known { P.known files.new ≡ P.known files.old }
+    ensures same { room.new ≡ record room.old { files = room.new.files; out = room.new.out } }
 {
-    match place_of(alloc, folder, name, sources) {
-        Ok(Some(path)) => export_to(alloc, place, name, path.as_str(), store, files, out),
-        Ok(None) => tell_outside(out, name),
-        Err(_) => tell_memory(out, "export"),
+    match place_of(alloc, folders.to, name, &room.sources) {
+        Ok(Some(path)) => export_to(alloc, place, name, path.as_str(), store, room),
+        Ok(None) => tell_outside(&mut room.out, name),
+        Err(_) => tell_memory(&mut room.out, "export"),
+    }
+}
+
+/// Does so, and says what came of it.
+pub(crate) fn export<'l, S: Alter, I: Sources, P: NewFiles, C: Client, K: StoreFiles>(
+    alloc: Global,
+    place: u32,
+    name: &str,
+    folders: Folders<'_>,
+    store: &mut Store<S>,
+    room: &mut Room<I, P, C, K>,
+) -> Outcome<'l>
+    ensures exported { IsExportedBelow S.Store (record {
+      old = point I.Sources P.NewFiles C.Client K.StoreFiles store.old room.old;
+      new = point I.Sources P.NewFiles C.Client K.StoreFiles store.new room.new;
+      submission = None;
+      outcome = result;
+    }) name.now folders.entry place }
+    ensures cap { store.new.cap ≡ store.old.cap }
+{
+    let status = export_below(alloc, place, name, folders, store, room);
+    Outcome::Told {
+        status,
+        is_doubtful: status == Status::Trouble,
     }
 }

@@ -1,14 +1,20 @@
 //! What opens the files that lines name, and what makes them.
 
-ghost use Rattle.std.specs.Prelude.{◌≡◌, [], List, ℕ, Bool, true, Option, Some, IfOk, IfSome};
-ghost use Rattle.std.specs.Prelude.{MatchResult};
-ghost use Rattle.edf_serve.specs.Files.{Opened, Made, Adds, IsCreated, IsFinished, IsDiscarded};
-ghost use Rattle.edf_serve.specs.Files.{KeepsOthers};
-ghost use Rattle.edf_serve.specs.Places.{Links};
+ghost use Rattle.std.specs.Prelude.{◌≡◌, [], Option, Some, None, IfOk, IfSome, MatchResult};
+ghost use Rattle.edf_serve.specs.Files.{Paths, Made, opens, IsCreated, IsEnded};
 
 use edf_fragment::{Input, Output};
 use std::alloc::{AllocError, Global};
 use std::io;
+
+/// The folders below which files are opened and made, where there are any.
+#[derive(Clone, Copy, Drop)]
+pub struct Folders<'f> {
+    /// That of the files of `take`.
+    pub from: Option<&'f str>,
+    /// That of the files of `export`.
+    pub to: Option<&'f str>,
+}
 
 /// What opens the files that `take` names.
 ///
@@ -18,31 +24,25 @@ pub trait Sources {
     /// The readers.
     type Reader: Input + Drop;
 
-    // The bytes that a path stands for, where they are known.
-    ghost bytes: { Self → List ℕ → Option (List ℕ) };
-
-    // Whether a part of a name below a folder is a link, where that is known.
-    ghost links: { Self → Links };
-
-    // The paths whose readers it gave, in turn, where they are known.
-    ghost opened: { Self → Opened };
+    // What is known of paths.
+    ghost paths: { Self → Paths };
 
     /// Whether a part of this name below the folder is a link.
     fn has_link(&self, folder: &str, name: &str) -> bool
-        ensures { IfSome (links self.now folder.now name.now) (λ linked. result ≡ linked) };
+        ensures { IfSome ((paths self.now).links folder.now name.now)
+            (λ linked. result ≡ linked) };
 
-    /// A reader of just the bytes that the path stands for. A path that stands for nothing gives a
-    /// reader whose first read fails.
+    /// A reader of just the bytes that the path stands for. A path that stands for nothing, or for
+    /// what is no regular file, gives a reader whose first read fails.
     ///
     /// # Errors
     /// Where memory ran out. The path is then not among those opened.
     fn open(&mut self, alloc: Global, path: &str) -> Result<Self::Reader, AllocError>
-        ensures reader { IfOk result (λ r. Self.Reader.remaining r ≡ bytes self.old path.now) }
-        ensures same { bytes self.new ≡ bytes self.old }
-        ensures links { links self.new ≡ links self.old }
+        ensures reader { IfOk result
+            (λ r. Self.Reader.remaining r ≡ (paths self.old).bytes path.now) }
         ensures opened { MatchResult result
-            (λ _. Adds (opened self.old) (opened self.new) path.now)
-            (λ _. opened self.new ≡ opened self.old) };
+            (λ _. paths self.new ≡ opens (paths self.old) path.now)
+            (λ _. paths self.new ≡ paths self.old) };
 }
 
 /// What became of a file that was written.
@@ -65,11 +65,8 @@ pub trait NewFiles {
     /// The writers.
     type Writer: Output + Drop;
 
-    // Whether the bytes of the files that are made here are known.
-    ghost known: { Self → Bool };
-
-    // What is known of the files that were begun here, and of what is there.
-    ghost made: { Self → Made };
+    // What was there, and what became of the files that were to be made, where that is known.
+    ghost made: { Self → Option Made };
 
     /// Begins a file: a writer of a new, empty one. `None` where something of that path may be
     /// there, which is as it was.
@@ -78,20 +75,27 @@ pub trait NewFiles {
     /// Where no file could be made.
     fn create(&mut self, alloc: Global, path: &str) -> io::Result<Option<Self::Writer>>
         ensures made { IsCreated (made self.old) (made self.new) path.now result }
-        ensures empty { IfOk result (λ begun. IfSome begun (λ writer. known self.old ≡ true →
-            Self.Writer.contents writer ≡ Some [])) }
-        ensures known { known self.new ≡ known self.old };
+        ensures empty { IfOk result (λ begun. IfSome begun (λ writer. IfSome (made self.old)
+            (λ made. Self.Writer.contents writer ≡ Some []))) }
+        ensures unfailed { IfOk result (λ begun. IfSome begun
+            (λ writer. Self.Writer.failures writer ≡ 0)) };
 
     /// Ends the file that was begun last, all of which was written, and gives it the path. It is
     /// removed where it does not get it.
     fn finish(&mut self, writer: Self::Writer, path: &str) -> Finished
-        ensures made { IsFinished (made self.old) (made self.new) path.now
-            (Self.Writer.contents writer) result }
-        ensures there { KeepsOthers (made self.old).there (made self.new).there path.now }
-        ensures known { known self.new ≡ known self.old };
+        ensures { IsEnded (made self.old) (made self.new) (record {
+          path = path.now;
+          how = Some result;
+          contents = Self.Writer.contents writer;
+          failed = Self.Writer.failures writer;
+        }) };
 
     /// Removes what was written of the file that was begun last.
     fn discard(&mut self, writer: Self::Writer, path: &str)
-        ensures made { IsDiscarded (made self.old) (made self.new) path.now }
-        ensures known { known self.new ≡ known self.old };
+        ensures { IsEnded (made self.old) (made self.new) (record {
+          path = path.now;
+          how = None;
+          contents = Self.Writer.contents writer;
+          failed = Self.Writer.failures writer;
+        }) };
 }

@@ -1,8 +1,6 @@
 //! Laws of sessions: each function has one for a contract, and does nothing.
 
-ghost use Rattle.edf_serve.specs.Canonical.{ExportedIsCanonical};
-ghost use Rattle.edf_serve.specs.Client.{TakenIsHeld};
-ghost use Rattle.edf_serve.specs.Submissions.{BrokenOffEndsAlike};
+ghost use Rattle.edf_serve.specs.Laws.{BrokenOffEndsAlike, ExportedIsCanonical, TakenIsHeld};
 
 use sqlite::Alter;
 

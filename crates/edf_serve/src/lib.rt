@@ -1,10 +1,10 @@
-//! Commands over one open store, line by line: any store, any files, any client.
+//! Commands over one open store, line by line: any store, any input, any files, any client.
 //!
-//! - [`serve`], [`Lines`], [`End`]: line after line, and why a session ends.
-//! - [`serve_line`], [`Answered`], [`Folders`]: one line, answered over the store.
+//! - [`serve`], [`End`]: line after line, and why a session ends; [`Lines`]: the lines of an input.
+//! - [`Room`], [`Folders`]: what commands work on beside the store: [`Sources`] opens the files
+//!   that `take` names, [`NewFiles`] makes those that `export` writes ([`Finished`]).
 //! - [`Client`], [`Console`], [`Flush`]: who is answered.
-//! - [`Sources`]: what opens the files that `take` names; [`NewFiles`], [`Finished`]: what makes
-//!   those that `export` writes.
+//! - [`StoreFiles`]: what tells whether the files of the store still stand under its path.
 #![tactic(auto)]
 
 mod answering;
@@ -14,13 +14,20 @@ mod exporting;
 mod files;
 mod fronted;
 pub mod laws;
+mod lines;
 mod places;
-mod runs;
+mod room;
+mod running;
 mod session;
+mod standing;
+mod taking;
 mod text;
 mod untold;
 
-pub use answering::{Answered, Folders, serve_line};
+pub use answering::End;
 pub use client::{Client, Console, Flush};
-pub use files::{Finished, NewFiles, Sources};
-pub use session::{End, Lines, serve};
+pub use files::{Finished, Folders, NewFiles, Sources};
+pub use lines::Lines;
+pub use room::Room;
+pub use session::serve;
+pub use standing::StoreFiles;

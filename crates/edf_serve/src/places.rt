@@ -1,7 +1,7 @@
 //! What a name stands for.
 
 ghost use Rattle.std.specs.Prelude.{IfOk, option_map, string_bytes};
-ghost use Rattle.edf_serve.specs.Places.{IsPlace};
+ghost use Rattle.edf_serve.specs.Files.{IsPlace};
 
 use crate::files::Sources;
 use edfserve_arguments::path_of;
@@ -18,7 +18,7 @@ pub(crate) fn place_of<I: Sources>(
     name: &str,
     sources: &I,
 ) -> Result<Option<String>, AllocError>
-    ensures { IfOk result (λ path. IsPlace (I.links sources.now)
+    ensures { IfOk result (λ path. IsPlace (I.paths sources.now)
         (option_map (λ f. f.now) folder.entry) name.now (option_map string_bytes path)) }
 {
     let Some(below) = folder else {

@@ -2,6 +2,7 @@
 
 ghost use Rattle.std.specs.Prelude.{◌≡◌, [], Some};
 ghost use Rattle.edf_fragment.specs.Failures.{one_more};
+ghost use Rattle.edf_serve.specs.Lines.{whole_lines};
 
 use edf_fragment::Output;
 use std::alloc::Global;
@@ -26,12 +27,35 @@ impl Text {
         }
     }
 
-    /// What was written.
-    pub(crate) fn as_slice(&self) -> &[u8]
-        ensures { result.now ≡ self.now.bytes.items }
+    /// Takes away what was written.
+    pub(crate) fn clear(&mut self)
+        ensures empty { self.new.bytes.items ≡ [] }
+        ensures counted { self.new.failures ≡ 0 }
     {
-        self.bytes.as_slice()
+        self.bytes.clear();
+        self.failures = 0;
     }
+
+    /// The lines that were written whole.
+    pub(crate) fn lines(&self) -> &[u8]
+        ensures { result.now ≡ whole_lines self.now.bytes.items }
+    {
+        whole_lines(self.bytes.as_slice())
+    }
+}
+
+/// The bytes up to and with the last line feed.
+fn whole_lines(bytes: &[u8]) -> &[u8]
+    ensures { result.now ≡ whole_lines bytes.now }
+{
+    let mut end = bytes.len();
+    while end > 0 {
+        if bytes[end - 1] == b'\n' {
+            return &bytes[..end];
+        }
+        end -= 1;
+    }
+    &bytes[..0]
 }
 
 /// The count after one more failure.

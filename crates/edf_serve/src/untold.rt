@@ -3,7 +3,7 @@
 ghost use Rattle.std.specs.Prelude.{◌≡◌, [], true, take, codes, IfSome, slice_index_or};
 ghost use Rattle.edf_field.specs.Text.{subfields};
 ghost use Rattle.edf_header.specs.Key.{patient_code};
-ghost use Rattle.edf_serve.specs.Apart.{IsUntold};
+ghost use Rattle.edf_serve.specs.Client.{IsUntold};
 
 use edf_field::next_subfield;
 use edf_header::Identity;

@@ -41,6 +41,7 @@ fn reading_words(error: &io::Error) -> Option<&'static str> {
     match error.kind() {
         ErrorKind::PermissionDenied => Some("no permission to read it"),
         ErrorKind::IsADirectory => Some("a directory"),
+        ErrorKind::Unsupported => Some("no regular file, but a pipe, a device or a socket"),
         _ => system_words(error),
     }
 }

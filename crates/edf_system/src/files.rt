@@ -10,7 +10,7 @@ use edf_program::Inputs;
 use std::alloc::{AllocError, Global};
 use std::cell::RefCell;
 use std::fs::{self, File};
-use std::io::{self, BufReader, Read, Stdin};
+use std::io::{self, BufReader, ErrorKind, Read, Stdin};
 use std::os::unix::fs::FileTypeExt;
 use std::rc::Rc;
 
@@ -20,14 +20,14 @@ const PIECE: usize = 16_384;
 /// How many bytes of standard input are asked for at once.
 const STREAM_PIECE: usize = 65_536;
 
-/// Opens FILE arguments; repeated `-` continues standard input, unless they are
-/// [`Files::by_name`].
+/// Opens FILE arguments; repeated `-` continues standard input, unless only
+/// [regular files](Files::regular) are opened.
 #[derive(Drop)]
 pub struct Files<'rt> {
     rt: &'rt HostRuntime,
     terminal: &'rt Terminal<'rt>,
-    /// Whether `-` is standard input.
-    has_stream: bool,
+    /// Whether regular files alone are opened, and `-` is the name of one.
+    is_regular: bool,
     /// Standard input, once a `-` was opened.
     stream: Option<Rc<RefCell<BufReader<Stdin>>>>,
     /// The names that were opened, in turn.
@@ -39,18 +39,19 @@ impl<'rt> Files<'rt> {
         Files {
             rt,
             terminal,
-            has_stream: true,
+            is_regular: false,
             stream: None,
             names: Vec::new(rt.alloc()),
         }
     }
 
-    /// Opens files alone: `-` is the name of one, as every other name is.
-    pub fn by_name(rt: &'rt HostRuntime, terminal: &'rt Terminal<'rt>) -> Files<'rt> {
+    /// Opens regular files alone: `-` is the name of one, as every other name is. Of a pipe, a
+    /// device or a folder the first read fails, and no pipe is waited for that nobody writes.
+    pub fn regular(rt: &'rt HostRuntime, terminal: &'rt Terminal<'rt>) -> Files<'rt> {
         Files {
             rt,
             terminal,
-            has_stream: false,
+            is_regular: true,
             stream: None,
             names: Vec::new(rt.alloc()),
         }
@@ -106,7 +107,19 @@ pub struct FileReader<'rt> {
     is_begun: bool,
     /// Whether a file of that name was opened before.
     is_again: bool,
+    /// Whether only a regular file is read.
+    is_regular: bool,
     state: FileState,
+}
+
+/// Answers an error where there is something of that name that is no regular file. What the system
+/// does not tell, its opening tells.
+fn require_regular(rt: &HostRuntime, name: &str) -> io::Result<()> {
+    match fs::metadata(rt, name) {
+        Ok(found) if found.is_dir() => Err(io::Error::from(ErrorKind::IsADirectory)),
+        Ok(found) if !found.is_file() => Err(io::Error::from(ErrorKind::Unsupported)),
+        _ => Ok(()),
+    }
 }
 
 impl FileReader<'_> {
@@ -137,6 +150,9 @@ impl FileReader<'_> {
             self.terminal.begin_file(self.size());
         }
         if let FileState::Closed = self.state {
+            if self.is_regular {
+                require_regular(self.rt, self.name.as_str())?;
+            }
             let file = File::open(self.rt, self.name.as_str())?;
             self.state = FileState::File(BufReader::with_capacity(self.rt.alloc(), PIECE, file)?);
         }
@@ -152,7 +168,7 @@ impl FileReader<'_> {
             FileState::File(file) => file.read(buf),
             FileState::Stream(stream) => match stream.try_borrow_mut() {
                 Ok(mut stream) => stream.read(buf),
-                Err(_) => Err(io::Error::from(io::ErrorKind::Other)),
+                Err(_) => Err(io::Error::from(ErrorKind::Other)),
             },
             FileState::Closed | FileState::Ended => Ok(0),
         }
@@ -185,7 +201,7 @@ impl<'rt> Inputs for Files<'rt> {
     ghost opened = { λ files. map string_bytes files.names.items };
 
     fn open(&mut self, alloc: Global, name: &str) -> Result<Counted<FileReader<'rt>>, AllocError> {
-        let state = if self.has_stream && name == "-" {
+        let state = if !self.is_regular && name == "-" {
             FileState::Stream(self.stream(alloc)?)
         } else {
             FileState::Closed
@@ -196,6 +212,7 @@ impl<'rt> Inputs for Files<'rt> {
             name: String::from_str(alloc, name)?,
             is_begun: false,
             is_again: self.is_again(name),
+            is_regular: self.is_regular,
             state,
         };
         self.names.push(String::from_str(alloc, name)?)?;

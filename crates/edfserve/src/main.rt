@@ -1,105 +1,103 @@
 //! The program `edfserve`: keeps a store open, and answers commands line by line. What is read,
-//! written and answered is `edf_serve`'s; here the system is handed to it.
+//! written and answered is `edf_serve`'s, and what becomes of the store's files `edf_serve_files`';
+//! here the system is handed to them.
 #![tactic(auto)]
 
-mod lines;
+mod input;
+mod journal;
+mod keeper;
 mod new_files;
+mod opening;
 mod output;
 mod sources;
 
-use edf_command::refuse_store;
 use edf_fragment::Counted;
 use edf_program::{Status, tell_fault, tell_memory};
-use edf_serve::{Console, End, Folders, serve};
-use edf_store::Store;
+use edf_serve::{Console, Folders, Lines, Room};
+use edf_serve_files::serve_opened;
+use edf_session::Cap;
 use edf_system::{Terminal, refuse_words, words};
 use edfserve_arguments::{ServeWords, parse_words};
-use edfstore_host::{Refused, close_file, open_file, tell_cause};
-use lines::StandardLines;
+use edfstore_host::Standing;
+use input::WatchedInput;
+use journal::Journal;
+use keeper::Keeper;
 use new_files::PartFiles;
+use opening::open_store;
 use output::StandardOutput;
 use sources::SystemFiles;
-use sqlite::Alter;
-use std::io::Stderr;
+use sqlite::Unknown;
+use std::io::{Stderr, Stdin};
 use std::process::ExitCode;
 
-/// What is said where a store is opened again.
-const OPENED_ANEW: &str = "opened anew, since a call that it refused left it in a transaction";
+/// The lines of standard input.
+type SystemLines<'s> = Lines<WatchedInput<'s, Counted<Stdin>>>;
 
-/// What a session has beside its store.
-#[derive(Drop)]
-struct Session<'rt> {
-    folders: Folders<'rt>,
-    lines: StandardLines,
-    sources: SystemFiles<'rt>,
-    files: PartFiles<'rt>,
-    client: Console<StandardOutput, Counted<Stderr>>,
-    worst: Status,
-}
+/// What a session has beside its store and its lines: the system's files and streams.
+type SystemRoom<'rt> = Room<
+    SystemFiles<'rt>,
+    PartFiles<'rt>,
+    Console<StandardOutput, Counted<Stderr>>,
+    Keeper<'rt>,
+>;
 
-/// Answers lines over an open store.
-fn serve_over<S: Alter>(rt: &HostRuntime, store: &mut Store<S>, session: &mut Session<'_>) -> End {
-    serve(
-        rt.alloc(),
-        session.folders,
-        &mut session.lines,
-        store,
-        &mut session.sources,
-        &mut session.files,
-        &mut session.client,
-        &mut session.worst,
-    )
-}
-
-/// Prints why the store can't be opened, with its cause also where no terminal is: a service's
-/// journal has none.
-fn refuse(rt: &HostRuntime, path: &str, refused: &Refused) -> Status {
+/// Serves the store of a path until the input ends, and closes it. Where a call left it in a
+/// transaction, it is opened anew before the next line, over the same files.
+fn serve_store(
+    rt: &HostRuntime,
+    standing: &Standing<'_>,
+    folders: Folders<'_>,
+    lines: &mut SystemLines<'_>,
+    room: &mut SystemRoom<'_>,
+) -> Status {
     let mut err = Counted::new(rt.stderr());
-    let status = refuse_store(&refused.fault, &mut err);
-    tell_cause(rt, &Terminal::journal(rt), path, refused);
-    status
-}
-
-/// Serves the store at a path until the input ends. Where a call left it in a transaction, it is
-/// opened anew, once, before the next line.
-fn serve_path(rt: &HostRuntime, path: &str, session: &mut Session<'_>) -> Status {
-    for _ in 0..u64::MAX {
-        let mut store = match open_file(rt, path) {
-            Ok(store) => store,
-            Err(refused) => return refuse(rt, path, &refused),
-        };
-        let end = serve_over(rt, &mut store, session);
-        session.worst = close_file(rt, path, store, session.worst);
-        match end {
-            End::Left => {
-                Terminal::journal(rt).say(path, OPENED_ANEW);
-            }
-            End::Full => {}
-            End::Ended | End::Unread | End::Unwritten => return session.worst,
+    let mut journal = Journal::new(rt, standing);
+    let (opened, options) = open_store(rt, standing);
+    let ended = serve_opened::<Unknown, _, _, _, _, _, _, _>(
+        rt.alloc(),
+        opened,
+        options,
+        Cap::most(),
+        folders,
+        lines,
+        room,
+        &mut err,
+        &mut journal,
+    );
+    match ended {
+        Ok((Some(_), session)) => journal.tell_close(&session, &mut err),
+        Ok((None, session)) => {
+            journal.tell_refusal();
+            session.status
+        }
+        Err((status, _)) => {
+            journal.tell_refusal();
+            status
         }
     }
-    session.worst
 }
 
 /// Serves the store that the words name by the system's files and streams. Standard input has the
 /// lines, so a file named `-` is opened as every other is.
-fn run_session(rt: &HostRuntime, words: &ServeWords) -> Status {
+fn run_session<'x>(rt: &'x HostRuntime, words: &'x ServeWords) -> Status {
     let terminal = Terminal::new(rt, "file", 0);
-    let Ok(lines) = StandardLines::new(rt) else {
+    let standing = Standing::new(rt, words.store.as_str());
+    let folders = Folders {
+        from: words.from.as_deref(),
+        to: words.to.as_deref(),
+    };
+    let input = WatchedInput::new(Counted::new(rt.stdin()), &standing);
+    let Ok(mut lines) = Lines::new(rt.alloc(), input) else {
         return tell_memory(&mut Counted::new(rt.stderr()), "session");
     };
-    let mut session = Session {
-        folders: Folders {
-            from: words.from.as_deref(),
-            to: words.to.as_deref(),
-        },
-        lines,
-        sources: SystemFiles::new(rt, &terminal),
-        files: PartFiles::new(rt, &terminal),
-        client: Console::new(StandardOutput::new(rt), Counted::new(rt.stderr())),
-        worst: Status::Done,
-    };
-    serve_path(rt, words.store.as_str(), &mut session)
+    let mut room = Room::new(
+        rt.alloc(),
+        SystemFiles::new(rt, &terminal, &standing),
+        PartFiles::new(rt, &terminal, &standing),
+        Console::new(StandardOutput::new(rt), Counted::new(rt.stderr())),
+        Keeper::new(&standing),
+    );
+    serve_store(rt, &standing, folders, &mut lines, &mut room)
 }
 
 /// Does what the words after the program's name ask for, and answers how it went.

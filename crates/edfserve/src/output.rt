@@ -52,6 +52,8 @@ impl Output for StandardOutput {
 }
 
 impl Flush for StandardOutput {
+    ghost sent = { λ _. None };
+
     fn flush(&mut self) -> io::Result<()> {
         match self.stream.flush() {
             Ok(()) => Ok(()),

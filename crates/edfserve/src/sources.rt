@@ -6,22 +6,33 @@ use edf_fragment::Counted;
 use edf_program::Inputs;
 use edf_serve::Sources;
 use edf_system::{FileReader, Files, Terminal};
+use edfstore_host::Standing;
 use std::alloc::{AllocError, Global};
 use std::fs;
 
 /// What separates the parts of a name.
 const SLASH: u8 = b'/';
 
-/// Opens files, of which it keeps no list.
+/// Opens regular files, of which it keeps no list. Before each it is asked whether the files of the
+/// store stand.
 #[derive(Drop)]
 pub(crate) struct SystemFiles<'rt> {
     rt: &'rt HostRuntime,
     terminal: &'rt Terminal<'rt>,
+    standing: &'rt Standing<'rt>,
 }
 
 impl<'rt> SystemFiles<'rt> {
-    pub(crate) fn new(rt: &'rt HostRuntime, terminal: &'rt Terminal<'rt>) -> SystemFiles<'rt> {
-        SystemFiles { rt, terminal }
+    pub(crate) fn new(
+        rt: &'rt HostRuntime,
+        terminal: &'rt Terminal<'rt>,
+        standing: &'rt Standing<'rt>,
+    ) -> SystemFiles<'rt> {
+        SystemFiles {
+            rt,
+            terminal,
+            standing,
+        }
     }
 }
 
@@ -51,11 +62,11 @@ fn is_linked_after(rt: &HostRuntime, path: &str, whole: usize) -> bool {
 impl<'rt> Sources for SystemFiles<'rt> {
     type Reader = Counted<FileReader<'rt>>;
 
-    ghost bytes = { λ _ _. None };
-
-    ghost links = { λ _ _ _. None };
-
-    ghost opened = { λ _. None };
+    ghost paths = { λ _. record {
+      bytes = λ _. None;
+      links = λ _ _. None;
+      opened = None;
+    } };
 
     fn has_link(&self, folder: &str, name: &str) -> bool {
         match format!(in self.rt.alloc(); "{folder}/{name}") {
@@ -65,6 +76,7 @@ impl<'rt> Sources for SystemFiles<'rt> {
     }
 
     fn open(&mut self, alloc: Global, path: &str) -> Result<Counted<FileReader<'rt>>, AllocError> {
-        Files::by_name(self.rt, self.terminal).open(alloc, path)
+        let _ = self.standing.stands();
+        Files::regular(self.rt, self.terminal).open(alloc, path)
     }
 }

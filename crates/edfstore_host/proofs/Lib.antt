@@ -1,1 +1,2 @@
 mod OnFile
+mod InMemory

@@ -1,18 +1,22 @@
--- A run over the files of a path, under the greatest cap.
-use Rattle.std.proofs.Common.{◌≡◌, ◌⊎◌, ℕ, inl, refl, subst}
+-- A run over the files of a store, under the greatest cap.
+use Rattle.std.proofs.Common.{◌≡◌, ◌≢◌, ◌⊎◌, ℕ, Option, None, Some, sym, ◌∙◌, subst}
 use Rattle.sqlite_disk.specs.declared.Disk.{Ghosts}
-use Rattle.edfstore_arguments.specs.Arguments.{Asked}
-use Rattle.edf_program.specs.Output.{Growth}
+use Rattle.sqlite.specs.declared.error.Error.{Error}
+use Rattle.edf_program.specs.declared.status.Status.{Status}
 use Rattle.edf_session.specs.Close.{Ran, IsRefused}
-use Rattle.edf_session.specs.Run.{Run}
+use Rattle.edf_session.specs.Run.{Run, NotOpened}
 use Rattle.edf_session.specs.declared.session.Session.{Session}
-use Rattle.edfstore_host.specs.OnFile.{IsRunOnFile}
 
-pub run_on : {D : Type 0} {g : Ghosts D} (r : Run g) (cap : ℕ) (asked : Asked) (out : Growth)
-    (s : Session D) → r.cap ≡ cap → Ran r s ⊎ IsRefused r s →
-    IsRunOnFile (record r { cap = cap }) asked out s.status
-run_on r cap asked out s is it = inl (
-  s,
-  subst (λ (n : ℕ). Ran (record r { cap = n }) s ⊎ IsRefused (record r { cap = n }) s) is it,
-  refl,
-)
+pub some_is_found : {A : Type 0} (found : Option A) (it : A) → found ≡ Some it → found ≢ None
+some_is_found found it some none = let e : Some it ≡ None = sym some ∙ none in absurd (cc)
+
+module _ {D : Type 0} {g : Ghosts D} (r : Run g) (cap : ℕ) (is : r.cap ≡ cap) where
+  pub run_under : (s : Session D) → Ran r s ⊎ IsRefused r s →
+      Ran (record r { cap = cap }) s ⊎ IsRefused (record r { cap = cap }) s
+  run_under s =
+      subst (λ (n : ℕ). Ran (record r { cap = n }) s ⊎ IsRefused (record r { cap = n }) s) is
+
+  pub unopened_under : (error : Error) (status : Status) → NotOpened r error status →
+      NotOpened (record r { cap = cap }) error status
+  unopened_under error status =
+      subst (λ (n : ℕ). NotOpened (record r { cap = n }) error status) is

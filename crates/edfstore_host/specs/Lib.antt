@@ -1,1 +1,4 @@
+pub mod Ended
 pub mod OnFile
+pub mod InMemory
+pub mod Program

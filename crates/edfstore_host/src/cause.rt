@@ -2,13 +2,15 @@
 
 ghost use Rattle.std.specs.Prelude.{None};
 
-use crate::disk::Refused;
+use crate::ended::Ended;
 use crate::path::{is_address, look_at, why_none};
+use edf_command::Status;
 use edf_fragment::Output;
-use edf_session::Watch;
+use edf_session::{Session, Watch};
 use edf_store::StoreFault;
 use edf_system::{FULL, Terminal, tell_system_error};
 use sqlite::{Error, ErrorCode};
+use sqlite_disk::{Disk, Tally};
 use sqlite_std_file::{OpenError, Unknown};
 
 const BUSY: &str = "another program has it open; run this again when that has ended";
@@ -23,11 +25,29 @@ const DAMAGED: &str = "the file is damaged, or it has page sums and sqlite3 wrot
     (ANALYZE, VACUUM, .backup), or it was copied without its -wal, so copy both; if sqlite3 did, \
     'sqlite3 OLD.db .dump | sqlite3 NEW.db' makes a store that opens, without sums";
 
+/// What is said where the path of a store does not stand for the files that are open.
+const LOST: &str = "its file or its log was removed, replaced or cut while it was open: \
+    what was taken may be lost, so send it again";
+
+const IN_MEMORY: &str = "a session keeps its store in a file; './:memory:' is a file of that name";
+
+/// Why a store was not opened.
+#[derive(Clone, Copy, Drop)]
+pub struct Refused {
+    pub fault: StoreFault,
+    /// Whether the file was opened and has no table, the first of a store's two alone, or both and
+    /// perhaps others after them.
+    pub has_our_tables: bool,
+}
+
 /// Prints why the store could not be opened. SQLite's port gives no cause, so where the path tells
 /// none, it is opened again to get one.
 fn tell_unopened(rt: &HostRuntime, terminal: &Terminal<'_>, path: &str) {
     if is_address(path) {
         return terminal.say(path, "a path that begins with 'file:' is written './file:'");
+    }
+    if path == ":memory:" {
+        return terminal.say(path, IN_MEMORY);
     }
     if let Some(words) = why_none(look_at(rt, path)) {
         return terminal.say(path, words);
@@ -57,7 +77,7 @@ fn code_words(code: ErrorCode) -> Option<&'static str> {
 }
 
 /// Prints why `sqlite` refused a store.
-pub(crate) fn tell_error(rt: &HostRuntime, terminal: &Terminal<'_>, path: &str, error: Error) {
+fn tell_error(rt: &HostRuntime, terminal: &Terminal<'_>, path: &str, error: Error) {
     let Error::SqliteFailure(code) = error else {
         return terminal.say(path, error);
     };
@@ -91,14 +111,67 @@ pub fn tell_cause(rt: &HostRuntime, terminal: &Terminal<'_>, path: &str, refused
     }
 }
 
+/// Prints that the path of a store does not stand for the files that are open, or were.
+pub fn tell_lost(terminal: &Terminal<'_>, path: &str) {
+    terminal.say(path, LOST);
+}
+
+/// What the disk refused, by the count of what its failed calls met.
+fn disk_failure(tally: Tally) -> Option<Error> {
+    if tally.caught > 0 {
+        Some(Error::SqliteFailure(ErrorCode::DatabaseCorrupt))
+    } else if tally.refused > 0 {
+        Some(Error::SqliteFailure(ErrorCode::DiskFull))
+    } else {
+        None
+    }
+}
+
+/// Prints what failed of the disk in a run or a session, or as its files were closed, if that is
+/// known.
+pub fn tell_failure_of<D: Disk>(
+    rt: &HostRuntime,
+    terminal: &Terminal<'_>,
+    path: &str,
+    session: &Session<D>,
+) {
+    if terminal.is_there()
+        && let Some(failure) = disk_failure(session.files.tally()).or(session.failure)
+    {
+        tell_error(rt, terminal, path, failure);
+    }
+}
+
 /// Tells a person that a new store was made, and keeps why a store was refused.
 #[derive(Drop)]
 pub(crate) struct Teller<'t> {
-    pub(crate) terminal: &'t Terminal<'t>,
-    pub(crate) path: &'t str,
+    terminal: &'t Terminal<'t>,
+    path: &'t str,
     /// Whether there was no file.
-    pub(crate) is_new: bool,
-    pub(crate) refused: Option<Refused>,
+    is_new: bool,
+    refused: Option<Refused>,
+}
+
+impl<'t> Teller<'t> {
+    pub(crate) fn new(terminal: &'t Terminal<'t>, path: &'t str, is_new: bool) -> Teller<'t> {
+        Teller {
+            terminal,
+            path,
+            is_new,
+            refused: None,
+        }
+    }
+
+    /// Prints why the store was refused, or what failed of the disk in a run that is trouble.
+    pub(crate) fn tell_ended<D: Disk>(&self, rt: &HostRuntime, ended: &Ended<D>) {
+        if let Some(refused) = self.refused {
+            tell_cause(rt, self.terminal, self.path, &refused);
+        } else if let Ended::Run(session) = ended
+            && session.status == Status::Trouble
+        {
+            tell_failure_of(rt, self.terminal, self.path, session);
+        }
+    }
 }
 
 impl Watch for Teller<'_> {

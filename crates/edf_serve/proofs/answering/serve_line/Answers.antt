@@ -1,130 +1,163 @@
-use Rattle.std.proofs.Common.{◌≡◌, ◌++◌, ℕ, Bool, List, Option, Some, option_map, ap, refl, sym}
+use Rattle.std.proofs.Common.{◌≡◌, ◌∙◌, true, false, cond, Option, Some, None, refl, sym, ap}
 use Rattle.std.proofs.Common.{subst}
+use Rattle.std.proofs.Common.{inl, inr, rules}
+use Rattle.std.specs.Option.{option_map}
 use Rattle.edfserve_arguments.specs.Line.{asked_by}
-use Rattle.edf_command.specs.Lines.{accepted_line}
-use Rattle.edf_program.specs.Output.{IsPut}
 use Rattle.edf_program.specs.declared.status.Status.TheVariants.{Done}
-use Rattle.edf_serve.specs.Apart.{MayWarn}
-use Rattle.edf_serve.specs.Client.{Warned, got, status_line}
-use Rattle.edf_serve.specs.Served.{IsAnswer, IsLeftBy, IsWarned, below, surroundings}
-use Rattle.edf_serve.specs.declared.answering.Outcome.{Outcome}
+use Rattle.edf_serve.specs.Client.{Looks, looked}
+use Rattle.edf_serve.specs.Exchange.{Exchange, IsAnswered}
+use Rattle.edf_serve.specs.Work.{Point, Work, point}
+use Rattle.edf_serve.specs.declared.answering.End.{End}
+use Rattle.edf_serve.specs.declared.answering.End.TheVariants.{Left, Unwritten}
 use Rattle.edf_serve.proofs.Accepting.{may-be_told}
-use Rattle.edf_serve.proofs.Telling.{left-trouble}
+use Rattle.edf_serve.proofs.After.{after-accepted, accepted-whole}
 use Rattle.edf_serve.proofs.answering.serve_line.Goals as goal
 
--- what a client got is as it was
-same_got : (before : Option (List ℕ)) (failed : ℕ) (after after' : Option (List ℕ))
-    (failures failures' : ℕ) (text : List ℕ) (is_out : Bool) → after' ≡ after →
-    failures' ≡ failures → IsPut (got before failed after failures) text is_out →
-    IsPut (got before failed after' failures') text is_out
-same_got before failed after after' failures failures' text is_out e f put =
-    subst (λ (o : Option (List ℕ)). IsPut (got before failed o failures') text is_out) (sym e)
-    (subst (λ (n : ℕ). IsPut (got before failed after n) text is_out) (sym f) put)
+pub stand-requires : goal.stand-requires
+stand-requires g c = (may-be_told g.S.Store c.args.folders _ _ _ _ _ _ _ _ c.in-Accepted.is
+    c.work.ensures.worked.1).accepted
 
-pub accept-is_out-requires : goal.accept-is_out-requires
-accept-is_out-requires g c =
-    let w = c.work.ensures.worked in
-    let out = got (Some c.new-out.result.bytes.items) c.new-out.result.failures
-    (Some c.work.new.out.bytes.items) c.work.new.out.failures in
-    let why = got (Some c.new-why.result.bytes.items) c.new-why.result.failures
-    (Some c.work.new.why.bytes.items) c.work.new.why.failures in
-    let m = may-be_told g.S.Store c.args.store.now c.work.new.store
-    (g.I.Sources.opened c.args.sources.now) (g.I.Sources.opened c.work.new.sources)
-    (g.P.NewFiles.made c.args.files.now) (g.P.NewFiles.made c.work.new.files) out why
-    (surroundings (below c.args.folders) (g.I.Sources.bytes c.args.sources.now)
-    (g.I.Sources.links c.args.sources.now) (g.P.NewFiles.known c.args.files.now))
-    (option_map asked_by c.parse_line-asked.result) w.0 c.work.result c.in-Accepted.name
-    c.in-Accepted.receipt c.in-Accepted.start c.in-Accepted.is w.1 in
-    record { idle = m.idle; taken = m.taken }
+pub accept-is_out-requires-clause-idle : goal.accept-is_out-requires-clause-idle
+accept-is_out-requires-clause-idle g c = (may-be_told g.S.Store c.args.folders _ _ _ _ _ _ _ _
+    c.in-Accepted.is c.work.ensures.worked.1).idle
 
-pub warn_if_apart-is_left-requires : goal.warn_if_apart-is_left-requires
-warn_if_apart-is_left-requires g c =
-    let w = c.work.ensures.worked in
-    let out = got (Some c.new-out.result.bytes.items) c.new-out.result.failures
-    (Some c.work.new.out.bytes.items) c.work.new.out.failures in
-    let why = got (Some c.new-why.result.bytes.items) c.new-why.result.failures
-    (Some c.work.new.why.bytes.items) c.work.new.why.failures in
-    let m = may-be_told g.S.Store c.args.store.now c.work.new.store
-    (g.I.Sources.opened c.args.sources.now) (g.I.Sources.opened c.work.new.sources)
-    (g.P.NewFiles.made c.args.files.now) (g.P.NewFiles.made c.work.new.files) out why
-    (surroundings (below c.args.folders) (g.I.Sources.bytes c.args.sources.now)
-    (g.I.Sources.links c.args.sources.now) (g.P.NewFiles.known c.args.files.now))
-    (option_map asked_by c.parse_line-asked.result) w.0 c.work.result c.in-Accepted.name
-    c.in-Accepted.receipt c.in-Accepted.start c.in-Accepted.is w.1 in
-    record { idle = m.idle; taken = m.taken }
+pub accept-is_out-requires-clause-accepted : goal.accept-is_out-requires-clause-accepted
+accept-is_out-requires-clause-accepted g c = (may-be_told g.S.Store c.args.folders _ _ _ _ _ _ _ _
+    c.in-Accepted.is c.work.ensures.worked.1).accepted
 
-pub returns-in-Accepted-clause-served : goal.returns-in-Accepted-clause-served
-returns-in-Accepted-clause-served g c =
-    let w = c.work.ensures.worked in
-    let text = accepted_line c.in-Accepted.name.now c.in-Accepted.receipt.new
-    c.in-Accepted.receipt.known ++ status_line Done in (
-      option_map asked_by c.parse_line-asked.result,
-      w.0,
-      text,
+pub warn_if_apart-is_left-requires-clause-idle : goal.warn_if_apart-is_left-requires-clause-idle
+warn_if_apart-is_left-requires-clause-idle g c = (may-be_told g.S.Store c.args.folders _ _ _ _ _
+    _ _ _ c.in-Accepted.is c.work.ensures.worked.1).idle
+
+pub warn_if_apart-is_left-requires-clause-accepted :
+    goal.warn_if_apart-is_left-requires-clause-accepted
+warn_if_apart-is_left-requires-clause-accepted g c = (may-be_told g.S.Store c.args.folders _ _ _ _
+    _ _ _ _ c.in-Accepted.is c.work.ensures.worked.1).accepted
+
+pub returns-in-Told : goal.returns-in-Told
+returns-in-Told g c =
+    let cleared = record c.args.room.now { out = c.clear.new.self; why = c.clear-2.new.self } in
+    let w : Work g.row.S.Denot = record {
+      old = point g.I.Sources g.P.NewFiles g.C.Client g.K.StoreFiles c.args.store.now cleared;
+      new = point g.I.Sources g.P.NewFiles g.C.Client g.K.StoreFiles c.work.new.store
+          c.work.new.room;
+      submission = c.work.ensures.worked.0;
+      outcome = c.work.result;
+    } in
+    let x : Exchange g.row.S.Denot = record {
+      line = c.args.line.now;
+      asked = option_map asked_by c.parse_line-asked.result;
+      work = w;
+      answered = c.tell_all.result;
+    } in
+    let b : Point g.row.S.Denot = point g.I.Sources g.P.NewFiles g.C.Client g.K.StoreFiles
+    c.tell_all.new.store c.tell_all.new.room in (
+      x,
+      refl,
+      refl,
       record {
         read = c.parse_line-asked.ensures;
-        mid = c.work.new.store;
-        out = got (Some c.new-out.result.bytes.items) c.new-out.result.failures
-            (Some c.work.new.out.bytes.items) c.work.new.out.failures;
-        why = got (Some c.new-why.result.bytes.items) c.new-why.result.failures
-            (Some c.work.new.why.bytes.items) c.work.new.why.failures;
-        lines = c.work.new.out.bytes.items;
-        last = c.work.new.why.bytes.items;
-        outcome = c.work.result;
-        worked = w.1;
-        out_is = (ap Some c.new-out.ensures.empty, c.new-out.ensures.counted, refl);
-        why_is = (ap Some c.new-why.ensures.empty, c.new-why.ensures.counted, refl);
-        answer = subst (λ (o : Outcome). IsAnswer g.S.Store c.work.new.store
-            c.warn_if_apart-is_left.new.store c.work.new.out.bytes.items
-            c.work.new.why.bytes.items o text c.warn_if_apart-is_left.result Done)
-            (sym c.in-Accepted.is) (c.warn_if_apart-is_left.ensures.asked, refl, refl);
-        warns = subst (λ (o : Outcome). IsWarned (g.C.Client.warned c.args.client.now)
-            (g.C.Client.warned c.warn_if_apart-is_left.new.client) o) (sym c.in-Accepted.is)
-            (subst (λ (w : Warned). MayWarn w
-            (g.C.Client.warned c.warn_if_apart-is_left.new.client) c.in-Accepted.name.now)
-            c.accept-is_out.ensures.warned c.warn_if_apart-is_left.ensures.warned);
-        went = same_got (g.C.Client.contents c.args.client.now)
-            (g.C.Client.failures c.args.client.now) _ _ _ _ text _
-            c.warn_if_apart-is_left.ensures.contents c.warn_if_apart-is_left.ensures.failures
-            c.accept-is_out.ensures.put;
-        left = λ is. subst (λ (o : Outcome). IsLeftBy o Done) (sym c.in-Accepted.is)
-            (c.warn_if_apart-is_left.ensures.left is);
-        idle = c.warn_if_apart-is_left.ensures.idle;
+        begins = refl;
+        blank = (c.clear.ensures.empty, c.clear-2.ensures.empty);
+        unfailed = (c.clear.ensures.counted, c.clear-2.ensures.counted);
+        worked = c.work.ensures.worked.1;
+        answered = subst (IsAnswered g.S.Store x b) (sym c.in-Told.is)
+            (c.tell_all.ensures.told x);
+        cap = c.tell_all.ensures.cap ∙ c.work.ensures.cap;
       },
     )
 
-pub returns-clause-served : goal.returns-clause-served
-returns-clause-served g c =
-    let w = c.work.ensures.worked in
-    let t = c.tell_all.ensures.told in
-    let answered = c.tell_all.result in
-    let text = c.work.new.out.bytes.items
-    ++ (c.work.new.why.bytes.items ++ status_line answered.status) in (
-      option_map asked_by c.parse_line-asked.result,
-      w.0,
-      text,
+pub returns-then-not-stand : goal.returns-then-not-stand
+returns-then-not-stand g c =
+    let cleared = record c.args.room.now { out = c.clear.new.self; why = c.clear-2.new.self } in
+    let w : Work g.row.S.Denot = record {
+      old = point g.I.Sources g.P.NewFiles g.C.Client g.K.StoreFiles c.args.store.now cleared;
+      new = point g.I.Sources g.P.NewFiles g.C.Client g.K.StoreFiles c.work.new.store
+          c.work.new.room;
+      submission = c.work.ensures.worked.0;
+      outcome = c.work.result;
+    } in
+    let x : Exchange g.row.S.Denot = record {
+      line = c.args.line.now;
+      asked = option_map asked_by c.parse_line-asked.result;
+      work = w;
+      answered = c.tell_lost.result;
+    } in
+    let b : Point g.row.S.Denot = point g.I.Sources g.P.NewFiles g.C.Client g.K.StoreFiles
+    c.work.new.store c.tell_lost.new.room in
+    let looks = g.K.StoreFiles.looks c.work.new.room.keeper in
+    let no : c.stand.result ≡ false = c.if-not-stand.true in (
+      x,
+      refl,
+      refl,
       record {
         read = c.parse_line-asked.ensures;
-        mid = c.work.new.store;
-        out = got (Some c.new-out.result.bytes.items) c.new-out.result.failures
-            (Some c.work.new.out.bytes.items) c.work.new.out.failures;
-        why = got (Some c.new-why.result.bytes.items) c.new-why.result.failures
-            (Some c.work.new.why.bytes.items) c.work.new.why.failures;
-        lines = c.work.new.out.bytes.items;
-        last = c.work.new.why.bytes.items;
-        outcome = c.work.result;
-        worked = w.1;
-        out_is = (ap Some c.new-out.ensures.empty, c.new-out.ensures.counted, refl);
-        why_is = (ap Some c.new-why.ensures.empty, c.new-why.ensures.counted, refl);
-        answer = subst (λ (o : Outcome). IsAnswer g.S.Store c.work.new.store c.tell_all.new.store
-            c.work.new.out.bytes.items c.work.new.why.bytes.items o text answered.is_left
-            answered.status) (sym c.in-Told.is) (t.stays, refl, t.status);
-        warns = subst (λ (o : Outcome). IsWarned (g.C.Client.warned c.args.client.now)
-            (g.C.Client.warned c.tell_all.new.client) o) (sym c.in-Told.is)
-            c.tell_all.ensures.warned;
-        went = t.went;
-        left = λ is. subst (λ (o : Outcome). IsLeftBy o answered.status) (sym c.in-Told.is)
-            (left-trouble answered.is_left c.in-Told.status answered.status t.status is);
-        idle = t.idle;
+        begins = refl;
+        blank = (c.clear.ensures.empty, c.clear-2.ensures.empty);
+        unfailed = (c.clear.ensures.counted, c.clear-2.ensures.counted);
+        worked = c.work.ensures.worked.1;
+        answered = subst (IsAnswered g.S.Store x b) (sym c.in-Accepted.is)
+            (inr (c.tell_lost.ensures x looks (c.stand.ensures ∙ ap (looked looks) no)));
+        cap = c.work.ensures.cap;
+      },
+    )
+
+pub returns-else-not-stand : goal.returns-else-not-stand
+returns-else-not-stand g c =
+    let cleared = record c.args.room.now { out = c.clear.new.self; why = c.clear-2.new.self } in
+    let w : Work g.row.S.Denot = record {
+      old = point g.I.Sources g.P.NewFiles g.C.Client g.K.StoreFiles c.args.store.now cleared;
+      new = point g.I.Sources g.P.NewFiles g.C.Client g.K.StoreFiles c.work.new.store
+          c.work.new.room;
+      submission = c.work.ensures.worked.0;
+      outcome = c.work.result;
+    } in
+    let name = c.in-Accepted.name.now in
+    let receipt = c.in-Accepted.receipt in
+    let x : Exchange g.row.S.Denot = record {
+      line = c.args.line.now;
+      asked = option_map asked_by c.parse_line-asked.result;
+      work = w;
+      answered = record { status = Done; after = c.ends_by.result };
+    } in
+    let warned = c.warn_if_apart-is_left in
+    let b : Point g.row.S.Denot = point g.I.Sources g.P.NewFiles g.C.Client g.K.StoreFiles
+    warned.new.store (record c.work.new.room {
+      client = warned.new.client;
+      keeper = c.stand.new.self;
+    }) in
+    let looks = g.K.StoreFiles.looks c.work.new.room.keeper in
+    let yes : c.stand.result ≡ true = search rules in (
+      x,
+      refl,
+      refl,
+      record {
+        read = c.parse_line-asked.ensures;
+        begins = refl;
+        blank = (c.clear.ensures.empty, c.clear-2.ensures.empty);
+        unfailed = (c.clear.ensures.counted, c.clear-2.ensures.counted);
+        worked = c.work.ensures.worked.1;
+        answered = subst (IsAnswered g.S.Store x b) (sym c.in-Accepted.is) (inl (record {
+          goes = cond warned.result (Some Left) None;
+          heard = g.C.Client.heard c.accept-is_out.new.self;
+          tells = record {
+            whole = accepted-whole name receipt.new receipt.known;
+            is_out = c.accept-is_out.result;
+            went = c.accept-is_out.ensures;
+            answered = ap (λ (o : Option End). record { status = Done; after = o })
+                (c.ends_by.ensures ∙ ap (λ (o : Option End). cond c.accept-is_out.result o
+                (Some Unwritten)) c.left_if.ensures);
+          };
+          warned = warned.ensures.warned;
+          asked = warned.ensures.asked;
+          after = after-accepted g.S.Store x b receipt warned.result warned.ensures.left
+              warned.ensures.idle;
+          same = ap (λ (l : Looks). record b { looks = l })
+              (c.stand.ensures ∙ ap (looked looks) yes);
+        }));
+        cap = elim warned.ensures.asked [
+          | inl same ↦ ap (λ s. s.cap) same ∙ c.work.ensures.cap
+          | inr asked ↦ asked.1.cap ∙ c.work.ensures.cap
+        ];
       },
     )

@@ -8,7 +8,7 @@ warn-requires-clause-apart g c =
     let is : c.in-Ok-true.field-0 ≡ true = search rules in
     record {
       mid = c.args.store.now;
-      taken = c.requires.taken;
+      accepted = c.requires.accepted;
       stays = c.is_apart.ensures.stays;
       new = omega arith;
       untold = c.is_untold.ensures untold;
@@ -20,6 +20,6 @@ returns-in-Err-clause-asked g c =
     let untold : c.is_untold.result ≡ true = search rules in
     inr (
       c.is_untold.ensures untold,
-      stays_then g.S.Store c.args.store.now c.is_apart.new.store c.is_idle.new.store
-          c.is_apart.ensures.stays c.is_idle.ensures.stays,
+      stays_then g.S.Store c.args.store.now c.is_apart.new.store c.takes_transaction.new.store
+          c.is_apart.ensures.stays c.takes_transaction.ensures.stays,
     )

@@ -10,9 +10,8 @@ returns-in-Ok c is =
     let coded : c.has_no_code.result ≡ true = search rules in
     let front : take 80 c.as_slice.result.now ≡ k.patient =
     ap (take 80) (c.as_slice.ensures.value ∙ c.in-Ok.ensures.bytes)
-    ∙ take_at k.patient _ 80 c.in-Ok.ensures.key.sized.patient in
-    record {
-      code = c.has_no_code.ensures coded;
-      name = subst (λ (p : List ℕ). slice_index_or (subfields p) 3 [] ≡ codes "X") front
-          (c.has_no_name.ensures is);
-    }
+    ∙ take_at k.patient _ 80 c.in-Ok.ensures.key.sized.patient in (
+      c.has_no_code.ensures coded,
+      subst (λ (p : List ℕ). slice_index_or (subfields p) 3 [] ≡ codes "X") front
+          (c.has_no_name.ensures is),
+    )

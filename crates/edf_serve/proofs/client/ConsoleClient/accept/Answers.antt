@@ -1,4 +1,5 @@
-use Rattle.std.proofs.Common.{◌≡◌, ◌∙◌, ℕ, List, [], ◌∷◌, ◌++◌, codes, ap, sym, subst, append_assoc}
+use Rattle.std.proofs.Common.{◌≡◌, ◌∙◌, ℕ, List, [], ◌∷◌, ◌++◌, codes, ap, sym, subst, refl}
+use Rattle.std.proofs.Common.{append_assoc}
 use Rattle.std.specs.Prelude.{decimal}
 use Rattle.edf_program.specs.Output.{growth, IsPut}
 use Rattle.edf_serve.proofs.client.ConsoleClient.accept.Goals as goal
@@ -17,15 +18,18 @@ module _ (name a new b known d code : List ℕ) where
       ≡ name ++ (a ++ (new ++ (b ++ (known ++ (10 ∷ (d ++ (code ++ (10 ∷ [])))))))) = cc in
       same ∙ sym regrouped
 
-pub returns-clause-put : goal.returns-clause-put
-returns-clause-put g c =
+pub returns : goal.returns
+returns g c =
     let Put : List ℕ → Type 0 = λ bytes.
-    IsPut (growth g.W.Output c.args.self.now.out c.send.new.out) bytes c.send.result in
-    subst Put (told c.args.name.now (codes " accepted new=") (decimal c.args.receipt.now.new)
-    (codes " known=") (decimal c.args.receipt.now.known) (codes "status ") (decimal 0)
-    c.as_bytes.result.now c.as_slice.result.now c.as_bytes-2.result.now c.as_bytes-3.result.now
-    c.as_bytes-4.result.now c.as_bytes.ensures.value c.as_slice.ensures
-    (c.as_bytes-2.ensures.value ∙ c.format-new.ensures.text)
-    (c.as_bytes-3.ensures.value ∙ c.format-known.ensures.text)
-    (c.as_bytes-4.ensures.value ∙ c.format-code.ensures.text ∙ ap decimal c.code.ensures))
-    c.send.ensures
+    IsPut (growth g.W.Output c.args.self.now.out c.send.new.out) bytes c.send.result in (
+      refl,
+      c.send.ensures.sent,
+      subst Put (told c.args.name.now (codes " accepted new=") (decimal c.args.receipt.now.new)
+          (codes " known=") (decimal c.args.receipt.now.known) (codes "status ") (decimal 0)
+          c.as_bytes.result.now c.as_slice.result.now c.as_bytes-2.result.now c.as_bytes-3.result.now
+          c.as_bytes-4.result.now c.as_bytes.ensures.value c.as_slice.ensures
+          (c.as_bytes-2.ensures.value ∙ c.format-new.ensures.text)
+          (c.as_bytes-3.ensures.value ∙ c.format-known.ensures.text)
+          (c.as_bytes-4.ensures.value ∙ c.format-code.ensures.text ∙ ap decimal c.code.ensures))
+          c.send.ensures.put,
+    )

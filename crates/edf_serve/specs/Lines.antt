@@ -1,0 +1,64 @@
+-- The lines of an input, which line feeds end.
+use Rattle.std.specs.Prelude.{◌≡◌, ℕ, ◌+◌, ◌<◌, ◌≤◌, Bool, true, cond, ◌==◌, List, [], ◌∷◌}
+use Rattle.std.specs.Prelude.{length, take, drop, Option, Some, IfSome, option_map}
+use Rattle.std.specs.List.{slice_split}
+use Rattle.edf_fragment.specs.Failures.{one_more}
+use Rattle.edf_serve.specs.declared.lines.Next.{Next}
+use Rattle.edf_serve.specs.declared.lines.Next.TheVariants.{Line, Ended, Failed, Endless}
+
+-- all parts but the last, which is none where it is empty
+abbrev pub without_empty_last : List (List ℕ) → List (List ℕ)
+without_empty_last [] = []
+without_empty_last ([] ∷ []) = []
+without_empty_last ((byte ∷ bytes) ∷ []) = (byte ∷ bytes) ∷ []
+without_empty_last (part ∷ next ∷ more) = part ∷ without_empty_last (next ∷ more)
+
+-- the lines of these bytes, without their line feeds
+abbrev pub lines_of : List ℕ → List (List ℕ)
+lines_of bytes = without_empty_last (slice_split (λ b. b == 10) bytes)
+
+-- these bytes up to and with the last line feed: a byte is among them that is one, or has one behind
+abbrev pub onto_lines : ℕ → List ℕ → List ℕ
+onto_lines byte [] = cond (byte == 10) (byte ∷ []) []
+onto_lines byte (next ∷ more) = byte ∷ next ∷ more
+
+abbrev pub whole_lines : List ℕ → List ℕ
+whole_lines [] = []
+whole_lines (byte ∷ bytes) = onto_lines byte (whole_lines bytes)
+
+-- what is to come of an input: the bytes that are left, where they are known; whether they begin
+-- inside a line that was given as too long; and how many reads failed so far. And the line that was
+-- given last
+pub record Coming : Type 0 where
+  pub left : Option (List ℕ)
+  pub inside : Bool
+  pub failed : ℕ
+  pub line : List ℕ
+
+-- the lines that are to come
+abbrev pub lines_in : Coming → Option (List (List ℕ))
+lines_in c = option_map (λ bytes. drop (cond c.inside 1 0) (lines_of bytes)) c.left
+
+-- The first of the lines that were to come was given, and the others are still to come. Of one of
+-- more than 65,536 bytes a front of one more is given.
+pub record GivesLine (before after : Coming) : Type 0 where
+  pub first : IfSome (lines_in before) (λ lines. (whole : List ℕ) × (rest : List (List ℕ))
+      × (lines ≡ whole ∷ rest) × (after.line ≡ take 65537 whole) × (lines_in after ≡ Some rest))
+  pub inside : after.inside ≡ true → 65536 < length after.line
+  pub failed : after.failed ≡ before.failed
+
+-- none was given, and so many reads failed by then: all that was to come is still
+pub record GivesNone (before after : Coming) (failures : ℕ) : Type 0 where
+  pub same : IfSome (lines_in before) (λ lines. lines_in after ≡ Some lines)
+  pub failed : after.failed ≡ failures
+
+-- the next line came; or there was none; or a read failed; or a line that was given as too long did
+-- not end, in as many reads as can be counted: each but the last gave bytes that were passed over
+abbrev pub IsNext : Coming → Coming → Next → Type 0
+IsNext before after Line = GivesLine before after
+IsNext before after Ended = GivesNone before after before.failed
+    × IfSome (lines_in before) (λ lines. lines ≡ [])
+IsNext before after Failed = GivesNone before after (one_more before.failed)
+IsNext before after Endless = GivesNone before after before.failed × (before.inside ≡ true)
+    × IfSome before.left (λ bytes. IfSome after.left (λ rest.
+    18446744073709551614 + length rest ≤ length bytes))

@@ -1,0 +1,61 @@
+-- What `take NAME` does: what it opens, what it submits, and what it writes.
+use Rattle.std.specs.Prelude.{◌≡◌, ◌⊎◌, ◌↔◌, ℕ, true, List, [], ◌∷◌, ◌++◌, codes, Option, Some, None}
+use Rattle.std.specs.Prelude.{Ok, Err}
+use Rattle.sqlite_trees.specs.declared.store.Store.{Ghosts}
+use Rattle.edf_intake.specs.Refusal.{Answer, IsStopped, refusal_number}
+use Rattle.edf_intake.specs.Submitted.{IsSubmitted, IsEnded}
+use Rattle.edf_command.specs.Lines.{refused_file_line, take_memory_line}
+use Rattle.edf_command.specs.Refusals.{IsSpelling}
+use Rattle.edf_program.specs.Output.{Growth, Gets, IsWritten, IsTold}
+use Rattle.edf_program.specs.Status.{status_of_number}
+use Rattle.edf_program.specs.declared.status.Status.{Status}
+use Rattle.edf_program.specs.declared.status.Status.TheVariants.{Refused, Trouble}
+use Rattle.edf_serve.specs.Files.{Paths, from_folder, opens, IsPlace}
+use Rattle.edf_serve.specs.Work.{Work, Submission, grown, OnlyWrites}
+use Rattle.edf_serve.specs.declared.files.Folders.{Folders}
+use Rattle.edf_serve.specs.declared.room.Outcome.{Outcome}
+use Rattle.edf_serve.specs.declared.room.Outcome.TheVariants as outcome
+
+-- a name that does not lead below the folder
+abbrev pub outside_line : List ℕ → List ℕ
+outside_line name = name ++ (codes " is outside of the folder" ++ (10 ∷ []))
+
+-- a line says that the name stands for no path, or another that there is no memory for one
+abbrev pub HasNoPath : Paths → Option (List ℕ) → List ℕ → List ℕ → Growth → Status → Type 0
+HasNoPath paths folder name memory out status =
+    (IsPlace paths folder name None × IsWritten out (outside_line name) Refused status)
+    ⊎ IsWritten out memory Trouble status
+
+-- The answer: accepted, and nothing is written yet; or the line of a refusal. There is doubt just
+-- where memory ran out or the store refused.
+abbrev pub IsAnswerSaid : Growth → List ℕ → Answer → Outcome → Type 0
+IsAnswerSaid out name (Ok receipt) (outcome.Accepted given told start) = (given.now ≡ name)
+    × (told ≡ receipt) × Gets out []
+IsAnswerSaid out name (Err refusal) (outcome.Told status is_doubtful) = ((spell : ℕ → List ℕ) →
+    IsSpelling spell → IsTold out (refused_file_line spell name refusal)
+    (status_of_number (refusal_number refusal)) status)
+    × ((is_doubtful ≡ true) ↔ IsStopped (Err refusal))
+IsAnswerSaid out name answer outcome = ⊥
+
+module _ {S : Type 0} (g : Ghosts S) (w : Work S) (name : List ℕ) where
+  -- the path was opened, and its bytes were submitted
+  pub record SubmitsFile (path : List ℕ) : Type 0 where
+    pub it : Submission
+    pub is_it : (w.submission ≡ Some it) × (it.name ≡ name) × (it.path ≡ path)
+    pub given : it.from.left ≡ w.old.paths.bytes path
+    pub submitted : IsSubmitted g w.old.store w.new.store it.from it.to it.answer
+    pub ended : IsEnded g w.new.store it.answer
+    pub said : IsAnswerSaid (grown w.old.out w.new.out) name it.answer w.outcome
+    pub same : w.new ≡ record w.old {
+      store = w.new.store;
+      paths = opens w.old.paths path;
+      out = w.new.out;
+    }
+
+  -- or there is no path, or no memory for it or its reader: a line says so, and that is all
+  abbrev pub IsTakenBelow : Folders → Type 0
+  IsTakenBelow folders =
+      ((path : List ℕ) × IsPlace w.old.paths (from_folder folders) name (Some path)
+      × SubmitsFile path)
+      ⊎ ((w.new.store ≡ w.old.store)
+      × OnlyWrites w (HasNoPath w.old.paths (from_folder folders) name take_memory_line))

@@ -1,0 +1,127 @@
+//! `take NAME`: a file, submitted.
+
+ghost use Rattle.std.specs.Prelude.{◌≡◌, ◌⊎◌, ◌↔◌, ℕ, true, List, Option, Err};
+ghost use Rattle.edf_command.specs.Lines.{refused_file_line, take_memory_line};
+ghost use Rattle.edf_command.specs.Refusals.{IsSpelling};
+ghost use Rattle.edf_intake.specs.Refusal.{IsStopped, refusal_number};
+ghost use Rattle.edf_program.specs.Output.{growth, IsWritten, IsTold};
+ghost use Rattle.edf_program.specs.Status.{status_of_number};
+ghost use Rattle.edf_serve.specs.Taking.{SubmitsFile, IsTakenBelow, outside_line};
+ghost use Rattle.edf_serve.specs.Work.{Submission, Work, OnlyWrites, point};
+
+use crate::client::Client;
+use crate::files::{Folders, NewFiles, Sources};
+use crate::fronted::Fronted;
+use crate::places::place_of;
+use crate::room::{Outcome, Room};
+use crate::standing::StoreFiles;
+use edf_command::refused_file_line;
+use edf_fragment::Output;
+use edf_intake::{Refusal, submit};
+use edf_program::{Status, status_of_number, tell, tell_memory, tell_parts};
+use edf_store::Store;
+use sqlite::Alter;
+use std::alloc::Global;
+
+/// Prints that a name does not lead below the folder. Printing takes no memory.
+pub(crate) fn tell_outside<O: Output>(out: &mut O, name: &str) -> Status
+    ensures { IsWritten (growth O.Output out.old out.new) (outside_line name.now) Status.Refused
+        result }
+{
+    let parts = [name.as_bytes(), b" is outside of the folder\n".as_slice()];
+    tell_parts(out, &parts, Status::Refused)
+}
+
+/// Writes the line of a refused file.
+fn tell_refusal<O: Output>(alloc: Global, name: &str, refusal: Refusal, out: &mut O) -> Status
+    ensures { (spell : ℕ → List ℕ) → IsSpelling spell → IsTold (growth O.Output out.old out.new)
+        (refused_file_line spell name.now refusal)
+        (status_of_number (refusal_number refusal)) result }
+{
+    let status = status_of_number(refusal.number());
+    let line = refused_file_line(alloc, name, &refusal);
+    tell(out, line, status)
+}
+
+/// Whether memory ran out or the store refused, so that a transaction may be open.
+fn is_stopped(refusal: &Refusal) -> bool
+    ensures { (result ≡ true) ↔ IsStopped (Err refusal.now) }
+{
+    matches!(refusal, Refusal::Memory | Refusal::Store(_))
+}
+
+/// Submits the file of a path, and writes its line where it is refused.
+fn submit_file<'l, S: Alter, I: Sources, P: NewFiles, C: Client, K: StoreFiles>(
+    alloc: Global,
+    name: &'l str,
+    path: &str,
+    store: &mut Store<S>,
+    room: &mut Room<I, P, C, K>,
+) -> Outcome<'l>
+    ensures taken { (submission : Option Submission) × (let w : Work S = (record {
+      old = point I.Sources P.NewFiles C.Client K.StoreFiles store.old room.old;
+      new = point I.Sources P.NewFiles C.Client K.StoreFiles store.new room.new;
+      submission = submission;
+      outcome = result;
+    }) in
+        SubmitsFile S.Store w name.now path.now
+        ⊎ ((w.new.store ≡ w.old.store) × OnlyWrites w
+        (λ out status. IsWritten out take_memory_line Status.Trouble status))) }
+    ensures cap { store.new.cap ≡ store.old.cap }
+{
+    match room.sources.open(alloc, path) {
+        Ok(reader) => {
+            let mut fronted = Fronted::new(alloc, reader);
+            match submit(alloc, store, &mut fronted) {
+                Ok(receipt) => Outcome::Accepted {
+                    name,
+                    receipt,
+                    start: fronted.start(),
+                },
+                Err(refusal) => {
+                    let is_doubtful = is_stopped(&refusal);
+                    let status = tell_refusal(alloc, name, refusal, &mut room.out);
+                    Outcome::Told {
+                        status,
+                        is_doubtful,
+                    }
+                }
+            }
+        }
+        Err(_) => Outcome::Told {
+            status: tell_memory(&mut room.out, "take"),
+            is_doubtful: false,
+        },
+    }
+}
+
+/// Submits the file of that name below the folder, where there is one, and writes its line where it
+/// is refused.
+pub(crate) fn take<'l, S: Alter, I: Sources, P: NewFiles, C: Client, K: StoreFiles>(
+    alloc: Global,
+    name: &'l str,
+    folders: Folders<'_>,
+    store: &mut Store<S>,
+    room: &mut Room<I, P, C, K>,
+) -> Outcome<'l>
+    ensures taken { (submission : Option Submission) × IsTakenBelow S.Store
+        (record {
+          old = point I.Sources P.NewFiles C.Client K.StoreFiles store.old room.old;
+          new = point I.Sources P.NewFiles C.Client K.StoreFiles store.new room.new;
+          submission = submission;
+          outcome = result;
+        }) name.now folders.entry }
+    ensures cap { store.new.cap ≡ store.old.cap }
+{
+    match place_of(alloc, folders.from, name, &room.sources) {
+        Ok(Some(path)) => submit_file(alloc, name, path.as_str(), store, room),
+        Ok(None) => Outcome::Told {
+            status: tell_outside(&mut room.out, name),
+            is_doubtful: false,
+        },
+        Err(_) => Outcome::Told {
+            status: tell_memory(&mut room.out, "take"),
+            is_doubtful: false,
+        },
+    }
+}

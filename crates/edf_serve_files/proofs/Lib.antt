@@ -1,0 +1,4 @@
+pub mod Sittings
+pub mod Becoming
+pub mod LettingGo
+pub mod Worst

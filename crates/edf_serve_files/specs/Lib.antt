@@ -1,0 +1,2 @@
+pub mod Sitting
+pub mod Sittings

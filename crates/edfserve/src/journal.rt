@@ -1,0 +1,85 @@
+//! What a session tells of its store on standard error, where a service's journal reads it.
+
+ghost use Rattle.std.specs.Prelude.{◌≡◌, ◌⊎◌, None};
+ghost use Rattle.edf_program.specs.declared.status.Status.TheVariants.{Trouble};
+
+use edf_command::{Status, tell_store_not_closed};
+use edf_fragment::Output;
+use edf_session::{Session, Watch};
+use edf_store::StoreFault;
+use edf_system::Terminal;
+use edfstore_host::{Refused, Standing, tell_cause, tell_failure_of, tell_lost};
+use sqlite_std_file::File;
+
+/// What is said where a store is opened again.
+const OPENED_ANEW: &str = "opened anew, since a call that it refused left it in a transaction";
+
+/// Tells how the openings of a store went, and its close.
+#[derive(Drop)]
+pub(crate) struct Journal<'s> {
+    rt: &'s HostRuntime,
+    terminal: Terminal<'s>,
+    standing: &'s Standing<'s>,
+    /// Whether the store was opened before.
+    was_opened: bool,
+    refused: Option<Refused>,
+}
+
+impl<'s> Journal<'s> {
+    pub(crate) fn new(rt: &'s HostRuntime, standing: &'s Standing<'s>) -> Journal<'s> {
+        Journal {
+            rt,
+            terminal: Terminal::journal(rt),
+            standing,
+            was_opened: false,
+            refused: None,
+        }
+    }
+
+    /// Tells why the store was refused.
+    pub(crate) fn tell_refusal(&self) {
+        if self.standing.is_lost() || (self.was_opened && !self.standing.has_stood()) {
+            return tell_lost(&self.terminal, self.standing.path());
+        }
+        if let Some(refused) = &self.refused {
+            tell_cause(self.rt, &self.terminal, self.standing.path(), refused);
+        }
+    }
+
+    /// Tells why the store was not closed, if it was not; and how the session ends: with trouble,
+    /// where its files were lost.
+    pub(crate) fn tell_close<F: Output>(&self, session: &Session<File>, err: &mut F) -> Status
+        ensures { (result ≡ session.now.status) ⊎ (result ≡ Trouble) }
+    {
+        if !self.standing.has_stood() {
+            if session.failure.is_none() {
+                tell_store_not_closed(&StoreFault::Store(None), err);
+            }
+            tell_lost(&self.terminal, self.standing.path());
+            return Status::Trouble;
+        }
+        if session.failure.is_some() {
+            tell_failure_of(self.rt, &self.terminal, self.standing.path(), session);
+        }
+        session.status
+    }
+}
+
+impl Watch for Journal<'_> {
+    ghost noticed = { λ _. None };
+
+    fn opened<O: Output>(&mut self, _out: &O) {
+        if self.was_opened {
+            self.terminal.say(self.standing.path(), OPENED_ANEW);
+            self.standing.keep_log();
+        }
+        self.was_opened = true;
+    }
+
+    fn refused(&mut self, fault: &StoreFault, has_our_tables: bool) {
+        self.refused = Some(Refused {
+            fault: *fault,
+            has_our_tables,
+        });
+    }
+}

@@ -1,0 +1,49 @@
+//! Whether the files of the store stand, and how often that was asked.
+
+ghost use Rattle.std.specs.Prelude.{◌≡◌};
+ghost use Rattle.edf_fragment.specs.Failures.{one_more};
+
+use edf_intake::Receipt;
+use edf_serve::StoreFiles;
+use edf_store::Store;
+use edfstore_host::Standing;
+use sqlite::Alter;
+
+/// Asks the system, and counts its answers, each up to `u64::MAX`.
+#[derive(Drop)]
+pub(crate) struct Keeper<'rt> {
+    standing: &'rt Standing<'rt>,
+    stood: u64,
+    lost: u64,
+}
+
+/// The count after one more.
+fn one_more(count: u64) -> u64
+    ensures { result ≡ one_more count }
+{
+    count.saturating_add(1)
+}
+
+impl<'rt> Keeper<'rt> {
+    pub(crate) fn new(standing: &'rt Standing<'rt>) -> Keeper<'rt> {
+        Keeper {
+            standing,
+            stood: 0,
+            lost: 0,
+        }
+    }
+}
+
+impl StoreFiles for Keeper<'_> {
+    ghost looks = { λ keeper. (keeper.stood, keeper.lost) };
+
+    fn stand<S: Alter>(&mut self, _store: &Store<S>, _receipt: &Receipt) -> bool {
+        if self.standing.stands() {
+            self.stood = one_more(self.stood);
+            true
+        } else {
+            self.lost = one_more(self.lost);
+            false
+        }
+    }
+}

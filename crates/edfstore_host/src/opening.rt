@@ -1,0 +1,100 @@
+//! How the files of a store are opened: they are waited for where another program has them.
+
+ghost use Rattle.std.specs.Prelude.{◌≡◌, true, MatchOption};
+ghost use Rattle.sqlite_wal.specs.Files.{image_at};
+ghost use Rattle.edfstore_arguments.specs.Arguments.{meaning};
+ghost use Rattle.edf_session.specs.Run.{IsOpening};
+ghost use Rattle.edfstore_host.specs.OnFile.{OnlyReads};
+
+use crate::standing::Standing;
+use crate::waiting::{TRIES, is_held, pause};
+use edf_command::Order;
+use edf_session::open_path;
+use sqlite::{Connection, Error, FileFrom, FileStore, Leftover, Start, Unknown};
+
+/// What stands for what files hold, and can do so again at the next try.
+pub trait Again {
+    /// One that stands for the same.
+    fn again(&self) -> Self;
+}
+
+impl Again for Unknown {
+    fn again(&self) -> Unknown {
+        Unknown
+    }
+}
+
+/// Opens the files of the store at a path, which are made where there are none. Each page of a new
+/// one ends in SQLite's page sum, and where a file has sums each is compared as it is read. Where
+/// another program has them, this is tried again for two seconds; every other refusal comes at
+/// once.
+///
+/// `start` stands for what the files hold, whatever that is. Of the path that is opened, and of
+/// what is done to it before and after, no clause speaks.
+///
+/// # Errors
+/// As those of [`open_path`].
+pub fn open_when_free<S: Start + Again>(
+    rt: &HostRuntime,
+    path: &str,
+    start: S,
+) -> Result<Connection<FileStore<FileFrom<S>>>, (Error, Option<Leftover<FileFrom<S>>>)>
+    ensures { IsOpening (image_at S.Start) result }
+{
+    for _ in 0..TRIES {
+        match open_path(rt, path, start.again()) {
+            Err((error, None)) if is_held(&error) => pause(rt),
+            opened => return opened,
+        }
+    }
+    open_path(rt, path, start)
+}
+
+/// The same for a program that keeps them open: what the path stands for is kept then.
+///
+/// # Errors
+/// As those of `open_when_free`. Nothing is left where the path does not stand for the files that
+/// were opened, or there is no memory to keep it: they are let go as they are.
+pub fn open_standing<S: Start + Again>(
+    standing: &Standing<'_>,
+    start: S,
+) -> Result<Connection<FileStore<FileFrom<S>>>, (Error, Option<Leftover<FileFrom<S>>>)>
+    ensures { IsOpening (image_at S.Start) result }
+{
+    let before = standing.db();
+    match open_when_free(standing.rt(), standing.path(), start) {
+        Ok(conn) => match standing.keep(before) {
+            Ok(()) => Ok(conn),
+            Err(error) => Err((error, None)),
+        },
+        Err(refused) => Err(refused),
+    }
+}
+
+/// Whether the command makes no store where its path names no file.
+fn only_reads(command: &Order) -> bool
+    ensures { result ≡ true → OnlyReads (meaning command.now) }
+{
+    match command {
+        Order::List { .. } | Order::Export { .. } => true,
+        Order::Take { .. } | Order::Convert { .. } => false,
+    }
+}
+
+/// Opens the files at the path of a command, or nothing where there is none and it only reads.
+pub(crate) fn find<S: Start + Again>(
+    rt: &HostRuntime,
+    path: &str,
+    is_new: bool,
+    start: S,
+    command: &Order,
+) -> Option<Result<Connection<FileStore<FileFrom<S>>>, (Error, Option<Leftover<FileFrom<S>>>)>>
+    ensures { MatchOption result
+        (OnlyReads (meaning command.now)) (IsOpening (image_at S.Start)) }
+{
+    if is_new && only_reads(command) {
+        None
+    } else {
+        Some(open_when_free(rt, path, start))
+    }
+}

@@ -1,0 +1,287 @@
+//! Whether the path of a store still stands for the files that a session has of it.
+
+ghost use Rattle.std.specs.Prelude.{◌≡◌, ◌⊎◌, IfErr};
+
+use sqlite::{Error, ErrorCode};
+use std::cell::{Cell, RefCell};
+use std::fs::{self, Metadata};
+use std::io::{self, ErrorKind};
+use std::os::unix::fs::MetadataExt;
+
+/// What SQLite's files beside a store's have behind its name: the log, a journal, which the store's
+/// next opening would want played back, and the index of the log.
+const BESIDE: [&str; 3] = ["-wal", "-journal", "-shm"];
+
+const CANNOT_OPEN: Error = Error::SqliteFailure(ErrorCode::CannotOpen);
+
+const NO_MEMORY: Error = Error::SqliteFailure(ErrorCode::OutOfMemory);
+
+/// A file or a folder, by which the system tells it from every other.
+#[derive(Clone, Copy, PartialEq, Eq)]
+pub(crate) struct Node {
+    device: u64,
+    number: u64,
+}
+
+/// What the system tells a file or a folder by.
+fn node_of(found: &Metadata) -> Node {
+    Node {
+        device: found.dev(),
+        number: found.ino(),
+    }
+}
+
+/// A file that is there.
+#[derive(Clone, Copy)]
+struct Found {
+    node: Node,
+    bytes: u64,
+}
+
+/// A regular file that has bytes and a name, where the system says that it is there.
+fn regular(found: io::Result<Metadata>) -> Option<Found> {
+    let found = found.ok()?;
+    if !found.is_file() || found.nlink() == 0 || found.len() == 0 {
+        return None;
+    }
+    Some(Found {
+        node: node_of(&found),
+        bytes: found.len(),
+    })
+}
+
+/// The folder and the name that a path has.
+fn parts_of(path: &str) -> (&str, &str) {
+    match path.rsplit_once('/') {
+        Some(("", name)) => ("/", name),
+        Some((folder, name)) => (folder, name),
+        None => (".", path),
+    }
+}
+
+/// Where a path leads: itself, where it is no link.
+fn end_of(rt: &HostRuntime, path: &str) -> io::Result<String> {
+    if fs::symlink_metadata(rt, path)?.is_symlink() {
+        let end = fs::canonicalize(rt, path)?;
+        return Ok(String::from_str(rt.alloc(), end.as_str())?);
+    }
+    Ok(String::from_str(rt.alloc(), path)?)
+}
+
+/// The two files of a store that is open.
+#[derive(Drop)]
+struct Held {
+    /// The path of the database file, where that of the store leads, and that of its log.
+    path: String,
+    log_path: String,
+    db: Node,
+    log: Node,
+    /// How many bytes the log had at most. It gets no shorter while the store is open: it is cut as
+    /// the store is opened and as it is closed, and else written from its front on.
+    log_bytes: u64,
+}
+
+impl Held {
+    /// Those of the store at a path, where they are there.
+    ///
+    /// # Errors
+    /// Where its path leads nowhere, or there is no memory for it.
+    fn of(rt: &HostRuntime, path: &str) -> io::Result<Option<Held>> {
+        let path = end_of(rt, path)?;
+        let log_path = format!(in rt.alloc(); "{}-wal", path.as_str())?;
+        let Some(db) = regular(fs::metadata(rt, path.as_str())) else {
+            return Ok(None);
+        };
+        let Some(log) = regular(fs::symlink_metadata(rt, log_path.as_str())) else {
+            return Ok(None);
+        };
+        Ok(Some(Held {
+            path,
+            log_path,
+            db: db.node,
+            log: log.node,
+            log_bytes: log.bytes,
+        }))
+    }
+
+    /// How many bytes the log has, where a path still stands for both files.
+    fn log_bytes_at(&self, rt: &HostRuntime, path: &str) -> Option<u64> {
+        let db = regular(fs::metadata(rt, path))?;
+        let log = regular(fs::symlink_metadata(rt, self.log_path.as_str()))?;
+        if db.node == self.db && log.node == self.log {
+            Some(log.bytes)
+        } else {
+            None
+        }
+    }
+
+    /// Whether a path still stands for them, and nothing is cut off the log.
+    fn stand(&mut self, rt: &HostRuntime, path: &str) -> bool {
+        let Some(bytes) = self.log_bytes_at(rt, path) else {
+            return false;
+        };
+        let is_whole = bytes >= self.log_bytes;
+        self.log_bytes = bytes;
+        is_whole
+    }
+
+    /// Keeps how long the log is now. Whether a path still stands for them.
+    fn keep_log(&mut self, rt: &HostRuntime, path: &str) -> bool {
+        let Some(bytes) = self.log_bytes_at(rt, path) else {
+            return false;
+        };
+        self.log_bytes = bytes;
+        true
+    }
+
+    /// Whether a path is that of a file that SQLite has beside them.
+    fn has_beside(&self, rt: &HostRuntime, path: &str) -> bool {
+        let (own_folder, own_name) = parts_of(self.path.as_str());
+        let (folder, name) = parts_of(path);
+        let Some(rest) = name.strip_prefix(own_name) else {
+            return false;
+        };
+        if !BESIDE.contains(&rest) {
+            return false;
+        }
+        match (fs::metadata(rt, folder), fs::metadata(rt, own_folder)) {
+            (Ok(found), Ok(own)) => node_of(&found) == node_of(&own),
+            _ => false,
+        }
+    }
+}
+
+/// Whether the path of a store stands for the files that are open.
+///
+/// It is asked before and after each file that is taken: what was cut off the log before a file
+/// came is seen, although the log grows again by that file. What was once found lost stays so.
+#[derive(Drop)]
+pub struct Standing<'p> {
+    rt: &'p HostRuntime,
+    path: &'p str,
+    held: RefCell<Option<Held>>,
+    is_lost: Cell<bool>,
+}
+
+impl<'p> Standing<'p> {
+    /// That of the store at a path, which is not open yet.
+    pub fn new(rt: &'p HostRuntime, path: &'p str) -> Standing<'p> {
+        Standing {
+            rt,
+            path,
+            held: RefCell::new(None),
+            is_lost: Cell::new(false),
+        }
+    }
+
+    /// The path.
+    pub fn path(&self) -> &'p str {
+        self.path
+    }
+
+    /// What the system is asked by.
+    pub(crate) fn rt(&self) -> &'p HostRuntime {
+        self.rt
+    }
+
+    /// The database file of the path, if it has one.
+    pub(crate) fn db(&self) -> Option<Node> {
+        let found = regular(fs::metadata(self.rt, self.path))?;
+        Some(found.node)
+    }
+
+    /// Keeps what the path stands for now, when the store is open; this was its database file
+    /// before, if it had one.
+    ///
+    /// # Errors
+    /// `CannotOpen` where it is another now or not there, `OutOfMemory` where its path has no room.
+    pub(crate) fn keep(&self, before: Option<Node>) -> Result<(), Error>
+        ensures { IfErr result (λ e. (e ≡ Error.SqliteFailure ErrorCode.CannotOpen)
+            ⊎ (e ≡ Error.SqliteFailure ErrorCode.OutOfMemory)) }
+    {
+        let held = match Held::of(self.rt, self.path) {
+            Ok(held) => held,
+            Err(error) if error.kind() == ErrorKind::OutOfMemory => return Err(NO_MEMORY),
+            Err(_) => None,
+        };
+        let is_other = match &held {
+            Some(held) => before.is_some() && before != Some(held.db),
+            None => true,
+        };
+        if is_other {
+            self.is_lost.set(true);
+            return Err(CANNOT_OPEN);
+        }
+        match self.held.try_borrow_mut() {
+            Ok(mut kept) => {
+                *kept = held;
+                Ok(())
+            }
+            Err(_) => Err(CANNOT_OPEN),
+        }
+    }
+
+    /// Keeps how long the log is, where the same files were opened anew, which may have cut it.
+    /// Where the path does not stand for them, that is found lost.
+    pub fn keep_log(&self) {
+        let is_kept = match self.held.try_borrow_mut() {
+            Ok(mut held) => match held.as_mut() {
+                Some(held) => held.keep_log(self.rt, self.path),
+                None => false,
+            },
+            Err(_) => false,
+        };
+        if !is_kept {
+            self.is_lost.set(true);
+        }
+    }
+
+    /// Whether the path stands for the files that are open, and did so whenever this was asked.
+    pub fn stands(&self) -> bool {
+        let stands = match self.held.try_borrow_mut() {
+            Ok(mut held) => match held.as_mut() {
+                Some(held) => held.stand(self.rt, self.path),
+                None => false,
+            },
+            Err(_) => false,
+        };
+        if !stands {
+            self.is_lost.set(true);
+        }
+        !self.is_lost.get()
+    }
+
+    /// Whether the path stands for the database file that was open, and nothing was ever found
+    /// lost: for after the files were closed, which cuts their log.
+    pub fn has_stood(&self) -> bool {
+        let db = self.db();
+        let is_same = match self.held.try_borrow() {
+            Ok(held) => match held.as_ref() {
+                Some(held) => db == Some(held.db),
+                None => false,
+            },
+            Err(_) => false,
+        };
+        if !is_same {
+            self.is_lost.set(true);
+        }
+        !self.is_lost.get()
+    }
+
+    /// Whether it was ever found that the path does not stand for the files.
+    pub fn is_lost(&self) -> bool {
+        self.is_lost.get()
+    }
+
+    /// Whether a path is that of a file that SQLite has beside the files that are open: its log, a
+    /// journal or an index. A file that is made there shuts the store, or is written over.
+    pub fn is_beside(&self, path: &str) -> bool {
+        match self.held.try_borrow() {
+            Ok(held) => match held.as_ref() {
+                Some(held) => held.has_beside(self.rt, path),
+                None => false,
+            },
+            Err(_) => true,
+        }
+    }
+}
