@@ -4,11 +4,14 @@
 
 A client that waits for each answer, one that sends all at once, one that stops reading; names with
 spaces and beyond ASCII, and names that lead out of the folders of --from and --to; lines that are
-none, of the greatest length and longer, cut by the end of the input; a store that is refused, or
-that another session has; a full disk, and room again; files without a patient's code and name, of
-which a warning comes where they begin more than 24 hours apart. Over a pipe, a named pipe, and by
-socat a socket, where it is installed. Then COUNT sessions (100 if left out) are killed at a random
-moment and begun again: what was answered is held, and in the end all of it is.
+none, of the greatest length and longer, cut by the end of the input; names of pipes, folders and
+devices, and of the files that SQLite has beside a store; a store that is refused, that another
+session has, or that is removed, replaced or cut under a session; each read, write, sync and cut
+that fails in turn, after which the store is opened anew or the session ends; a full disk, and room
+again; files without a patient's code and name, of which a warning comes where they begin more than
+24 hours apart. Over a pipe, a named pipe, and by socat a socket, where it is installed. Then COUNT
+sessions (100 if left out) are killed at a random moment and begun again: what was answered is held,
+and in the end all of it is.
 """
 import os
 import random
@@ -16,13 +19,14 @@ import shutil
 import signal
 import subprocess
 import tempfile
+import threading
 import time
 from datetime import datetime, timedelta
 from pathlib import Path
 from subprocess import PIPE
 
-from checks.lib import (arguments, disks, edf, faults, measure, model, named, night, printed, runs,
-                        serving)
+from checks.lib import (anew, arguments, disks, edf, faults, lost, measure, model, named, night,
+                        printed, runs, serving)
 from checks.lib.checks import Checks, Lost, compare, end
 from checks.lib.serving import NO_COMMAND, Client, exported, status
 
@@ -193,6 +197,42 @@ def below_a_folder(checks: Checks, given) -> None:
     checks.same("the end", client.end()[0], 1)
 
 
+def no_regular_file(checks: Checks, given) -> None:
+    checks.begin("names of what is no regular file, as a pipe that nobody writes")
+    folder = checks.folder
+    os.mkfifo(folder / "pipe")
+    (folder / "link").symlink_to("pipe")
+    (folder / "folder").mkdir()
+    checks.file("p.edf", named.files()["p5.edf"])
+    client, told = Client(given.edfserve, folder), Session(folder)
+    (killer := threading.Timer(30, client.child.kill)).start()
+    for name in ("pipe", "link", "folder", "/dev/null", "/dev/stdin", "pipe", "p.edf", "pipe"):
+        checks.same(f"take {name}", client.ask(f"take {name}"), told.take(name))
+    checks.same("the end", client.end(), (3, "", ""))
+    killer.cancel()
+
+
+def beside_the_store(checks: Checks, given) -> None:
+    checks.begin("names of the files that SQLite has beside a store")
+    checks.file("p.edf", named.files()["p5.edf"])
+    (checks.folder / "in").mkdir()
+    (checks.folder / "here").symlink_to(".")
+    client, told = Client(given.edfserve, checks.folder), Session(checks.folder)
+    checks.same("take", client.ask("take p.edf"), told.take("p.edf"))
+    before = checks.names()
+    for name in ("s.db", "s.db-wal", "s.db-journal", "s.db-shm", "./s.db-journal",
+                 "in/../s.db-journal", "here/s.db-journal", f"{checks.folder}/s.db-journal"):
+        checks.same(f"export 1 {name}", client.ask(f"export 1 {name}"),
+                    serving.is_there(name) + status(1))
+    checks.same("nothing was made", checks.names(), before)
+    for name in ("in/s.db-journal", "t.db-journal", "s.db-journal.edf", "s.db-"):
+        answer = told.export(1, name)
+        checks.same(f"export 1 {name}", client.ask(f"export 1 {name}"), answer)
+    checks.same("the end", client.end(), (1, "", ""))
+    ran = measure.done(given.program, "list", "s.db", folder=checks.folder)
+    checks.same("the store opens", ran.out.decode(), told.held.lines())
+
+
 def stops_reading(checks: Checks, given) -> None:
     """A client that sends on and reads nothing costs no memory; then it gets every answer."""
     checks.begin("a client that stops reading")
@@ -241,7 +281,8 @@ def refused_store(checks: Checks, given) -> None:
     (checks.folder / "link.db").symlink_to("later.db")
     before = checks.names()
     for path, why in (("none/s.db", printed.NO_FOLDER), ("link.db", printed.DEAD_LINK),
-                      ("", printed.NO_NAME), ("new.db/", printed.NO_NAME)):
+                      ("", printed.NO_NAME), ("new.db/", printed.NO_NAME),
+                      (":memory:", printed.IN_MEMORY)):
         ran = measure.ran(given.edfserve, path, given=b"list\n", folder=checks.folder)
         refusal = printed.NO_STORE + printed.cause(path, why)
         checks.compare(f"edfserve '{path}'", ran, "", refusal, 3)
@@ -428,10 +469,14 @@ def main() -> None:
         if shutil.which("socat"):
             sends_all(checks, given, "a socket", over_a_socket(checks, given))
         below_a_folder(checks, given)
+        no_regular_file(checks, given)
+        beside_the_store(checks, given)
         stops_reading(checks, given)
         lengths(checks, given)
         refused_store(checks, given)
         held_store(checks, given)
+        lost.run(checks, given)
+        anew.run(checks, given)
         people(checks, given)
         full_disk(checks, given)
         try:

@@ -42,7 +42,8 @@ class Checks:
     def begin(self, case: str) -> None:
         """A new case, with no files but its own."""
         for path in self.folder.iterdir():
-            shutil.rmtree(path) if path.is_dir() else path.unlink()
+            is_folder = path.is_dir() and not path.is_symlink()
+            shutil.rmtree(path) if is_folder else path.unlink()
         self.case = case
 
     def file(self, name: str, data: bytes) -> None:

@@ -73,7 +73,6 @@ def lines(*pairs) -> str:
 
 UNWRITTEN_OUTPUT = fault("standard output", faults.write())
 NO_STORE, FOREIGN = fault("store", faults.store()), fault("store", faults.foreign())
-NOT_CLOSED = line("store not closed", faults.store())
 
 
 def not_closed(text: str) -> str:
@@ -172,6 +171,9 @@ NO_PATH = "a path that begins with 'file:' is written './file:'"
 NO_NAME = "a path that is empty, or ends with '/', names no file"
 DEAD_LINK = "a link to a file that is not there: mount its disk, or remove it"
 NO_FOLDER = "its folder is not there: mount its disk, or make it"
+IN_MEMORY = "a session keeps its store in a file; './:memory:' is a file of that name"
+LOST = ("its file or its log was removed, replaced or cut while it was open: what was taken may be "
+        "lost, so send it again")
 DAMAGED = ("the file is damaged, or it has page sums and sqlite3 wrote or copied it "
            "(ANALYZE, VACUUM, .backup), or it was copied without its -wal, so copy both; if "
            "sqlite3 did, 'sqlite3 OLD.db .dump | sqlite3 NEW.db' makes a store that opens, without "

@@ -1,9 +1,12 @@
 """A client of `edfserve`, and the lines that it prints of its own."""
+import os
 import subprocess
 from pathlib import Path
 from subprocess import PIPE
 
 NO_COMMAND = "no such command\n"
+ANEW = "opened anew, since a call that it refused left it in a transaction"
+UNUSABLE = "the disk could not be read or written"
 
 
 def status(number: int) -> str:
@@ -30,9 +33,10 @@ def warned(name: str) -> str:
 class Client:
     """A session over a pipe, that waits for each answer."""
 
-    def __init__(self, program: Path, folder: Path, *words):
+    def __init__(self, program: Path, folder: Path, *words, added: dict = None):
         self.child = subprocess.Popen([program, *words, "s.db"], cwd=folder, stdin=PIPE,
-                                      stdout=PIPE, stderr=PIPE)
+                                      stdout=PIPE, stderr=PIPE,
+                                      env={**os.environ, **(added or {})})
 
     def send(self, line: str) -> None:
         self.child.stdin.write(line.encode() + b"\n")
