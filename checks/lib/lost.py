@@ -113,8 +113,8 @@ def a_link_that_leads_elsewhere(checks: Checks, given) -> None:
 
 
 def no_loss(checks: Checks, given) -> None:
-    """The session copies its own log, others read and name the files, and their folder, in which the
-    session runs, gets another name: nothing is refused."""
+    """The session copies its own log, others read and name the files, and their folder, in which
+    the session runs, gets another name: nothing is refused."""
     checks.begin("a long session whose files stand")
     folder, moved = checks.folder / "here", checks.folder / "there"
     folder.mkdir()
