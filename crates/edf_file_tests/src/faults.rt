@@ -7,6 +7,11 @@ use crate::stage::{outcome_of, story};
 use edf_program::Status;
 use std::alloc::Global;
 
+/// Two of the commands that read twice.
+const BY_ONSET: &str = "edfruns canonical two.edf --by-onset";
+
+const JOINED: &str = "edfruns split two.edf night --tolerance 8 --shift 8";
+
 /// Commands, the file of each and its length, and whether its second reading fails.
 const READINGS: &[(&str, &str, usize, bool)] = &[
     ("edfruns list two.edf", "two.edf", 1_008, false),
@@ -15,6 +20,10 @@ const READINGS: &[(&str, &str, usize, bool)] = &[
     ("edfruns split two.edf night", "two.edf", 1_008, true),
     ("edfruns canonical two.edf", "two.edf", 1_008, false),
     ("edfruns canonical two.edf", "two.edf", 1_008, true),
+    (BY_ONSET, "two.edf", 1_008, false),
+    (BY_ONSET, "two.edf", 1_008, true),
+    (JOINED, "two.edf", 1_008, false),
+    (JOINED, "two.edf", 1_008, true),
     ("edfmend falling.edf out.edf", "falling.edf", 778, false),
     ("edfmend falling.edf out.edf", "falling.edf", 778, true),
 ];
@@ -81,6 +90,16 @@ const CHANGES: &[(&str, &str, &[&str])] = &[
         "edfruns split strays.edf night --by-onset",
         "strays.edf",
         &["two.edf"],
+    ),
+    (
+        BY_ONSET,
+        "two.edf",
+        &["one.edf", "cut.edf", "loose.edf", "grown.edf"],
+    ),
+    (
+        JOINED,
+        "two.edf",
+        &["one.edf", "cut.edf", "loose.edf", "grown.edf"],
     ),
 ];
 

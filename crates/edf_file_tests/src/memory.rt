@@ -6,6 +6,7 @@ use crate::files::two_gaps;
 use crate::folder::{Folder, free};
 use edf_fragment::Counted;
 use edf_program::{Inputs, Status};
+use edf_runs::Joining;
 use edf_sample::{Scarce, Sink, Source};
 use edfruns_command::{RunsCommand, run_runs};
 use std::alloc::{AllocError, Global};
@@ -40,11 +41,16 @@ enum Served {
     Whole,
 }
 
+/// What `canonical` by onset tells of two gaps, in one of which an annotation lies.
+const OUTSIDE: &[u8] = b"two.edf outside=1\n";
+
 /// How the budget served under which a command ended so, wrote so and left so many files; `None`
 /// where it may not. For want of memory a file may also count as one that can't be written.
 fn how_served(status: Status, out: &[u8], err: &[u8], files: usize) -> Option<Served> {
     match status {
-        Status::Done if err.is_empty() && !out.is_empty() => Some(Served::Whole),
+        Status::Done if !out.is_empty() && (err.is_empty() || err == OUTSIDE) => {
+            Some(Served::Whole)
+        }
         Status::Trouble if files == 0 && out.is_empty() => {
             let is_printed = err.is_empty()
                 || err == b"two.edf refused E41 Memory\n".as_slice()
@@ -105,23 +111,43 @@ fn short_until_whole(alloc: Global, command: &RunsCommand) -> Option<u32> {
 }
 
 /// The command to split two gaps.
-fn split(alloc: Global, is_by_onset: bool) -> Option<RunsCommand> {
+fn split(alloc: Global, is_by_onset: bool, joining: Option<Joining>) -> Option<RunsCommand> {
     Some(RunsCommand::Split {
         file: String::from_str(alloc, "two.edf").ok()?,
         prefix: String::from_str(alloc, "night").ok()?,
         is_by_onset,
+        joining,
     })
 }
 
-/// The commands to list two gaps and to split it, as it is and by onset.
-fn commands(alloc: Global) -> Option<[RunsCommand; 3]> {
+/// The first gap, and not the second.
+fn first_gap() -> Option<Joining> {
+    Some(Joining {
+        tolerance: 7_500_000_000,
+        shift: Some(8_000_000_000),
+    })
+}
+
+/// The commands to list two gaps, to write its canonical file by onset, and to split it, as it is,
+/// by onset and over its first gap.
+fn commands(alloc: Global) -> Option<[RunsCommand; 5]> {
     let mut files = Vec::new(alloc);
     files.push(String::from_str(alloc, "two.edf").ok()?).ok()?;
     let list = RunsCommand::List {
         files,
         tolerance: Some(7_500_000_000),
     };
-    Some([list, split(alloc, false)?, split(alloc, true)?])
+    let canonical = RunsCommand::Canonical {
+        file: String::from_str(alloc, "two.edf").ok()?,
+        is_by_onset: true,
+    };
+    Some([
+        list,
+        canonical,
+        split(alloc, false, None)?,
+        split(alloc, true, None)?,
+        split(alloc, false, first_gap())?,
+    ])
 }
 
 #[test]

@@ -7,8 +7,12 @@ use Rattle.std.specs.List.{AllZip}
 use Rattle.std.proofs.lemmas.Bool.{leb-true, le-leb, lt-leb, ltb-true, lt-ltb}
 use Rattle.std.proofs.lemmas.Bool.{le-ltb, and_parts, and_from, cases_lt}
 use Rattle.std.proofs.lemmas.List.Elements.{All-nil, All-cons, All-head, filter_agree}
-use Rattle.std.proofs.lemmas.List.Sorted.{IsPermutation-refl, IsPermutation-sym, IsPermutation-trans}
+use Rattle.std.proofs.lemmas.List.Sorted.{IsPermutation-refl, IsPermutation-sym}
+use Rattle.std.proofs.lemmas.List.Sorted.{IsPermutation-trans}
 use Rattle.std.proofs.lemmas.List.Sorted.{IsPermutation-append_right, IsPermutation-filter_both}
+use Rattle.std.proofs.lemmas.List.Sorted.{Contains-permutation, ranks_by}
+use Rattle.std.proofs.lemmas.List.Kept.{IsSortedBy-filter}
+use Rattle.std.specs.Ordering.{is_lt}
 use Rattle.edf_field.specs.Number.{duration_of}
 use Rattle.edf_header.specs.Key.{Key}
 use Rattle.edf_tal.specs.Tal.{Annotation}
@@ -17,7 +21,12 @@ use Rattle.edf_fragment.specs.Sound.{AreSound}
 use Rattle.edf_runs.specs.ByOnset.{annotations_of, is_before, is_between, assigned, each_assigned}
 use Rattle.edf_runs.specs.ByOnset.{all_assigned, by_onset, IsLastStarted, EachWhereStarted}
 use Rattle.edf_runs.specs.ByOnset.{StayInOrder, StayAlike, AreAlike}
+use Rattle.edf_canonical.specs.File.{IsCanonicalFile}
+use Rattle.edf_canonical.proofs.Files.{one-file}
+use Rattle.edf_runs.specs.OneByOnset.{AreOneHoweverSpread}
 use Rattle.edf_runs.specs.Inside.Spaced.{Spaced}
+use Rattle.edf_runs.specs.Order.{annotation_cmp, AreInOrder, in_order}
+use Rattle.edf_runs.proofs.Order.{order-moves, order-sorted, one-order, total}
 use Rattle.edf_runs.proofs.Members.{contains-kept, kept-contains, filter-both}
 
 -- ---- starts that rise
@@ -134,10 +143,12 @@ pub once : (d : ℕ) (records : List DataRecord) → Spaced d 0 records →
     IsPermutation (annotations_of records) (annotations_of (by_onset records))
 once d [] spaced = IsPermutation-refl []
 once d (r ∷ rs) spaced =
-    let all = annotations_of (r ∷ rs) in
-    subst (λ l. IsPermutation l (annotations_of (by_onset (r ∷ rs)))) (every-one all)
+    let given = annotations_of (r ∷ rs) in
+    let all = in_order given in
+    IsPermutation-trans given all (annotations_of (by_onset (r ∷ rs))) (order-moves given)
+    (subst (λ l. IsPermutation l (annotations_of (by_onset (r ∷ rs)))) (every-one all)
     (once-each all d 0 r rs (omega arith) (spaced-lower d (r.start + d) r.start rs (omega arith)
-    spaced.1))
+    spaced.1)))
 
 -- ---- each where its onset lies
 
@@ -234,11 +245,14 @@ placed-by_onset d [] [] g after a spaced same = absurd (cons-is-not-nil g after 
 placed-by_onset d [] (b ∷ bs) g after a spaced same =
     absurd (cons-is-not-nil b (bs ++ g ∷ after) (sym same))
 placed-by_onset d (r ∷ rs) before g after a spaced same =
-    let is = placed (annotations_of (r ∷ rs)) d 0 r rs before g after a (omega arith)
+    let given = annotations_of (r ∷ rs) in
+    let all = in_order given in
+    let is = placed all d 0 r rs before g after a (omega arith)
     (spaced-lower d (r.start + d) r.start rs (omega arith) spaced.1) same in (
       λ c.
           let p = is.0 c in (
-            p.is_one,
+            Contains-permutation all given a (IsPermutation-sym given all (order-moves given))
+                p.is_one,
             record {
               started = elim p.started [
                 | inl here ↦ inl here.0
@@ -249,7 +263,7 @@ placed-by_onset d (r ∷ rs) before g after a spaced same =
           ),
       λ p.
           is.1 (record {
-            is_one = p.0;
+            is_one = Contains-permutation given all a (order-moves given) p.0;
             started = elim p.1.started [
               | inl here ↦ inl (here, omega arith)
               | inr by ↦ inr by
@@ -276,26 +290,82 @@ alike all (r ∷ rs) = ((refl, refl), alike-each all rs)
 
 pub stay-alike : StayAlike
 stay-alike k records sound = (
-  alike (annotations_of records) records,
+  alike (in_order (annotations_of records)) records,
   IsPermutation-sym _ _ (once (duration_of k.duration) records (spaced-sound k 0 records sound)),
 )
 
-in-order : (all : List Annotation) (low : ℕ) (r : DataRecord) (rs before : List DataRecord)
-    (g : DataRecord) (after : List DataRecord) →
-    assigned all low r rs ∷ each_assigned all rs ≡ before ++ g ∷ after →
-    (test : Annotation → Bool) × (g.annotations ≡ filter test all)
-in-order all low r rs [] g after same =
-    (is_between low rs, ap (λ (x : DataRecord). x.annotations) (sym (head-is _ _ _ _ same)))
-in-order all low r [] (b ∷ bs) g after same = absurd (nothing bs (tail-is _ _ _ _ same))
-  where
-    nothing : (xs : List DataRecord) → ¬ ([] ≡ xs ++ g ∷ after)
-    nothing [] e = cons-is-not-nil g after (sym e)
-    nothing (x ∷ xs) e = cons-is-not-nil x (xs ++ g ∷ after) (sym e)
-in-order all low r (s ∷ ss) (b ∷ bs) g after same =
-    in-order all s.start s ss bs g after (tail-is _ _ _ _ same)
+each-in-order : (all : List Annotation) → AreInOrder all → (low : ℕ) (r : DataRecord)
+    (rs : List DataRecord) → AreInOrder (assigned all low r rs).annotations
+each-in-order all sorted low r rs =
+    IsSortedBy-filter (λ x y. is_lt (annotation_cmp x y)) (ranks_by total (λ x. x))
+    (is_between low rs) all sorted
+
+all-in-order : (all : List Annotation) → AreInOrder all → (rs : List DataRecord) →
+    All (λ r. AreInOrder r.annotations) (each_assigned all rs)
+all-in-order all sorted [] = All-nil (λ r. AreInOrder r.annotations)
+all-in-order all sorted (r ∷ rs) =
+    All-cons (λ x. AreInOrder x.annotations) (assigned all r.start r rs) (each_assigned all rs)
+    (each-in-order all sorted r.start r rs) (all-in-order all sorted rs)
 
 pub stay-in-order : StayInOrder
-stay-in-order [] [] after r same = absurd (cons-is-not-nil r after (sym same))
-stay-in-order [] (b ∷ bs) after r same = absurd (cons-is-not-nil b (bs ++ r ∷ after) (sym same))
-stay-in-order (x ∷ xs) before after r same =
-    in-order (annotations_of (x ∷ xs)) 0 x xs before r after same
+stay-in-order [] = All-nil (λ r. AreInOrder r.annotations)
+stay-in-order (r ∷ rs) =
+    let all = in_order (annotations_of (r ∷ rs)) in
+    let sorted = order-sorted (annotations_of (r ∷ rs)) in
+    All-cons (λ x. AreInOrder x.annotations) (assigned all 0 r rs) (each_assigned all rs)
+    (each-in-order all sorted 0 r rs) (all-in-order all sorted rs)
+
+-- ---- by times, samples and annotations alone
+
+between-alike : (low : ℕ) (rs ss : List DataRecord) → AllZip AreAlike rs ss →
+    (a : Annotation) → is_between low rs a ≡ is_between low ss a
+between-alike low [] [] alike a = refl
+between-alike low [] (s ∷ ss) alike a = absurd alike
+between-alike low (r ∷ rs) [] alike a = absurd alike
+between-alike low (r ∷ rs) (s ∷ ss) alike a =
+    ap (λ n. nat_le low a.onset && nat_lt a.onset n) alike.0.0
+
+one-alike : (all : List Annotation) (low : ℕ) (r s : DataRecord) (rs ss : List DataRecord) →
+    AreAlike r s → AllZip AreAlike rs ss → assigned all low r rs ≡ assigned all low s ss
+one-alike all low r s rs ss one alike =
+    let kept = filter (is_between low rs) all in
+    ap (λ n. record { start = n; samples = r.samples; annotations = kept }) one.0
+    ∙ ap (λ l. record { start = s.start; samples = l; annotations = kept }) one.1
+    ∙ ap (λ l. record { start = s.start; samples = s.samples; annotations = l })
+    (filter_agree (is_between low rs) (is_between low ss) (between-alike low rs ss alike) all)
+
+each-alike : (all : List Annotation) (rs ss : List DataRecord) → AllZip AreAlike rs ss →
+    each_assigned all rs ≡ each_assigned all ss
+each-alike all [] [] alike = refl
+each-alike all [] (s ∷ ss) alike = absurd alike
+each-alike all (r ∷ rs) [] alike = absurd alike
+each-alike all (r ∷ rs) (s ∷ ss) alike =
+    ap (λ n. assigned all n r rs ∷ each_assigned all rs) alike.0.0
+    ∙ ap (λ x. x ∷ each_assigned all rs) (one-alike all s.start r s rs ss alike.0 alike.1)
+    ∙ ap (λ l. assigned all s.start s ss ∷ l) (each-alike all rs ss alike.1)
+
+all-alike : (all : List Annotation) (rs ss : List DataRecord) → AllZip AreAlike rs ss →
+    all_assigned all rs ≡ all_assigned all ss
+all-alike all [] [] alike = refl
+all-alike all [] (s ∷ ss) alike = absurd alike
+all-alike all (r ∷ rs) [] alike = absurd alike
+all-alike all (r ∷ rs) (s ∷ ss) alike =
+    ap (λ x. x ∷ each_assigned all rs) (one-alike all 0 r s rs ss alike.0 alike.1)
+    ∙ ap (λ l. assigned all 0 s ss ∷ l) (each-alike all rs ss alike.1)
+
+pub same-by-onset : (records others : List DataRecord) → AllZip AreAlike records others →
+    IsPermutation (annotations_of records) (annotations_of others) →
+    by_onset records ≡ by_onset others
+same-by-onset records others alike moved =
+    ap (λ all. all_assigned all records)
+    (sym (one-order (annotations_of records) (annotations_of others) moved))
+    ∙ all-alike (in_order (annotations_of others)) records others alike
+
+pub are-one-however-spread : AreOneHoweverSpread
+are-one-however-spread records others alike moved =
+    let same = same-by-onset records others alike moved in (
+      same,
+      λ k file other is also.
+          one-file file other k (by_onset records)
+          is (subst (IsCanonicalFile other k) (sym same) also),
+    )

@@ -1,6 +1,6 @@
 -- Data records that are gathered, and the annotations that are assigned to them.
-use Rattle.std.proofs.Common.{◌≡◌, ℕ, suc, length, List, [], ◌∷◌, ◌++◌, map, refl, sym, ap, ◌∙◌, All, Option}
-use Rattle.std.proofs.Common.{inl, inr}
+use Rattle.std.proofs.Common.{◌≡◌, ℕ, suc, length, List, [], ◌∷◌, ◌++◌, map, refl, sym, ap, ◌∙◌}
+use Rattle.std.proofs.Common.{All, Option, inl, inr}
 use Rattle.std.proofs.lemmas.List.Elements.{All-nil, All-cons, All-head, All-tail}
 use Rattle.edf_field.specs.Number.{duration_of}
 use Rattle.edf_header.specs.Header.{Layout}
@@ -8,6 +8,7 @@ use Rattle.edf_tal.specs.Block.{IsWithinLimits}
 use Rattle.edf_tal.specs.Tal.{Annotation}
 use Rattle.edf_fragment.specs.Fragment.{DataRecord}
 use Rattle.edf_runs.specs.ByOnset.{annotations_of, assigned, each_assigned, all_assigned, by_onset}
+use Rattle.edf_runs.specs.Order.{in_order}
 use Rattle.edf_fragment.specs.Reading.{CountsFault}
 use Rattle.edf_fragment.specs.Whole.{ReadsFragment, IsFragmentFault}
 use Rattle.edf_fragment.specs.declared.fault.FragmentFault.{FragmentFault}
@@ -44,11 +45,11 @@ all-alone all (r ∷ rs) =
     ∙ ap (λ l. without_samples (assigned all 0 r rs) ∷ l) (each-alone all rs)
 
 pub by-onset-alone : (records : List DataRecord) (notes : List Annotation) →
-    notes ≡ annotations_of records →
+    notes ≡ in_order (annotations_of records) →
     all_assigned notes (map start_alone records) ≡ map without_samples (by_onset records)
 by-onset-alone records notes is =
     ap (λ all. all_assigned all (map start_alone records)) is
-    ∙ all-alone (annotations_of records) records
+    ∙ all-alone (in_order (annotations_of records)) records
 
 each-length : (all : List Annotation) (rs : List DataRecord) →
     length (map without_samples (each_assigned all rs)) ≡ length rs
@@ -58,7 +59,7 @@ each-length all (r ∷ rs) = ap suc (each-length all rs)
 pub by-onset-length : (records : List DataRecord) →
     length (map without_samples (by_onset records)) ≡ length records
 by-onset-length [] = refl
-by-onset-length (r ∷ rs) = ap suc (each-length (annotations_of (r ∷ rs)) rs)
+by-onset-length (r ∷ rs) = ap suc (each-length (in_order (annotations_of (r ∷ rs))) rs)
 
 -- ---- one more is gathered
 

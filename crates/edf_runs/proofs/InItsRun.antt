@@ -14,14 +14,15 @@ use Rattle.edf_header.specs.Key.{Key}
 use Rattle.edf_tal.specs.Tal.{Annotation}
 use Rattle.edf_fragment.specs.Fragment.{DataRecord, Spells}
 use Rattle.edf_fragment.proofs.OneFragment.{one-fragment}
-use Rattle.edf_runs.specs.ByOnset.{annotations_of, AreAlike, by_onset, Covers, BeginsBy, BeginsAfter}
-use Rattle.edf_runs.specs.ByOnset.{IsLastBegun, AreWhereCovered, AreWhereBegun}
+use Rattle.edf_runs.specs.ByOnset.{annotations_of, AreAlike, by_onset, Covers, BeginsBy}
+use Rattle.edf_runs.specs.ByOnset.{BeginsAfter, IsLastBegun, AreWhereCovered, AreWhereBegun}
 use Rattle.edf_runs.specs.ByOnset.{EachInItsRun}
 use Rattle.edf_runs.specs.File.{IsRunFile}
 use Rattle.edf_runs.specs.Runs.{IsRuns}
 use Rattle.edf_runs.specs.Inside.Spaced.{Spaced}
 use Rattle.edf_runs.proofs.Members.{parted, flat_map-joined, contains-none, contains-cases}
 use Rattle.edf_runs.proofs.ByOnset.{stay-alike, spaced-sound, spaced-lower, spaced-all, once}
+use Rattle.edf_runs.specs.Order.{in_order}
 use Rattle.edf_runs.proofs.ByOnset.{placed-by_onset}
 use Rattle.edf_runs.proofs.RunFiles.{run-file-spells}
 
@@ -94,7 +95,8 @@ begin-after instant ((r ∷ rs) ∷ runs) some later =
     All-cons (BeginsAfter instant) (r ∷ rs) runs
     (All-head (λ x. instant < x.start) r (rs ++ all_of runs) later)
     (begin-after instant runs (All-tail (λ x. x ≢ []) (r ∷ rs) runs some)
-    (all-after (λ x. instant < x.start) rs (all_of runs) (All-tail (λ x. instant < x.start) r (rs ++ all_of runs) later)))
+    (all-after (λ x. instant < x.start) rs (all_of runs)
+    (All-tail (λ x. instant < x.start) r (rs ++ all_of runs) later)))
 
 -- runs before others have a data record
 some-before : (before rest : List (List DataRecord)) (rb : List DataRecord) →
@@ -111,7 +113,8 @@ module _ (d : ℕ) (records : List DataRecord) (runs : List (List DataRecord))
     (spaced : Spaced d 0 records) (is : IsRuns d (by_onset records) runs) where
   spaced-runs : Spaced d 0 (all_of runs)
   spaced-runs =
-      subst (Spaced d 0) (sym is.joined) (spaced-all (annotations_of records) d 0 records spaced)
+      subst (Spaced d 0) (sym is.joined)
+      (spaced-all (in_order (annotations_of records)) d 0 records spaced)
 
   pub where-begun : AreWhereBegun runs
   where-begun before after run a same c =
@@ -187,7 +190,8 @@ module _ (d : ℕ) (records : List DataRecord) (runs : List (List DataRecord))
           IsLastBegun before run after a.onset → Contains before other → ⊥
       before-it before after same begun earlier =
           let at = parted before other earlier in
-          let whole : all_of runs ≡ all_of at.before ++ (other ++ all_of (at.after ++ run ∷ after)) =
+          let whole : all_of runs
+          ≡ all_of at.before ++ (other ++ all_of (at.after ++ run ∷ after)) =
           ap all_of (same ∙ ap (λ l. l ++ run ∷ after) at.parts
           ∙ append_assoc at.before (other ∷ at.after) (run ∷ after))
           ∙ flat_map-append (λ (x : List DataRecord). x) at.before (other ∷ (at.after
@@ -225,7 +229,8 @@ each-in-its-run k records runs spelled files key sound is are spell =
     let spaced = spaced-sound k 0 records sound in
     let d = duration_of k.duration in
     subst (λ l. IsPermutation (flat_map annotations_of l) (annotations_of records)
-    × AreWhereCovered d l × AreWhereBegun l × AllZip AreAlike (flat_map (λ x. x) l) records) (spell-runs k files runs spelled are spell) (
+    × AreWhereCovered d l × AreWhereBegun l × AllZip AreAlike (flat_map (λ x. x) l) records)
+    (spell-runs k files runs spelled are spell) (
       once-in-runs d records runs spaced is,
       where-covered d records runs spaced is,
       where-begun d records runs spaced is,

@@ -12,10 +12,12 @@ use Rattle.edf_fragment.specs.Fragment.{DataRecord}
 use Rattle.edf_fragment.specs.Sound.{AreSound, IsSoundRecord}
 use Rattle.edf_canonical.specs.File.{second_of, block_of, BlocksFit}
 use Rattle.edf_runs.specs.Runs.{StartFrom, IsRuns, IsListed}
+use Rattle.edf_runs.specs.Order.{in_order}
+use Rattle.edf_runs.proofs.Order.{order-all}
 use Rattle.edf_runs.specs.ByOnset.{annotations_of, AreAlike, by_onset, assigned, each_assigned}
 use Rattle.edf_runs.specs.ByOnset.{is_between}
-use Rattle.edf_runs.specs.OnsetRead.{kept_of, without_samples}
-use Rattle.edf_runs.specs.WrittenByOnset.{annotated, with_annotations, StartAlike}
+use Rattle.edf_runs.specs.OnsetRead.{kept_of, starts_of, without_samples}
+use Rattle.edf_runs.specs.WrittenByOnset.{annotated, with_samples, StartAs}
 use Rattle.edf_runs.specs.KeptByOnset.{annotated_runs, IsAsKept, KeptAreByOnset, StaySound}
 use Rattle.edf_runs.specs.declared.onset_run.OnsetRun.{OnsetRun}
 use Rattle.edf_runs.specs.declared.run.Run.{Run}
@@ -90,13 +92,12 @@ runs-bare d (x ∷ xs) = ap (before_runs d (without_samples x)) (runs-bare d xs)
 -- ---- what was kept of a run
 
 one-annotated : (x y : DataRecord) → AreAlike x y →
-    with_annotations (without_samples x) y ≡ x
+    with_samples (without_samples x) y ≡ x
 one-annotated x y alike =
-    let start : y.start ≡ x.start = sym alike.0 in
     let samples : y.samples ≡ x.samples = sym alike.1 in
-    λ i. record { start = start i; samples = samples i; annotations = x.annotations }
+    λ i. record { start = x.start; samples = samples i; annotations = x.annotations }
 
-bare-annotated : (xs ys : List DataRecord) → AllZip AreAlike xs ys → annotated (bare xs) ys ≡ xs
+pub bare-annotated : (xs ys : List DataRecord) → AllZip AreAlike xs ys → annotated (bare xs) ys ≡ xs
 bare-annotated [] [] alike = refl
 bare-annotated [] (y ∷ ys) alike = absurd alike
 bare-annotated (x ∷ xs) [] alike = absurd alike
@@ -104,10 +105,13 @@ bare-annotated (x ∷ xs) (y ∷ ys) alike =
     ap (λ z. z ∷ annotated (bare xs) ys) (one-annotated x y alike.0)
     ∙ ap (λ l. x ∷ l) (bare-annotated xs ys alike.1)
 
-bare-starts : (xs ys : List DataRecord) → AllZip AreAlike xs ys → StartAlike (bare xs) ys
-bare-starts [] ys alike = tt
-bare-starts (x ∷ xs) [] alike = tt
-bare-starts (x ∷ xs) (y ∷ ys) alike = (alike.0.0, bare-starts xs ys alike.1)
+alike-from : (d at : ℕ) (xs ys : List DataRecord) → AllZip AreAlike xs ys → StartFrom d at xs →
+    StartFrom d at ys
+alike-from d at [] [] alike from = tt
+alike-from d at [] (y ∷ ys) alike from = absurd alike
+alike-from d at (x ∷ xs) [] alike from = absurd alike
+alike-from d at (x ∷ xs) (y ∷ ys) alike from =
+    (sym alike.0.0 ∙ from.0, alike-from d (at + d) xs ys alike.1 from.1)
 
 bare-length : (xs : List DataRecord) → length (bare xs) ≡ length xs
 bare-length [] = refl
@@ -132,7 +136,7 @@ bare-fit base n (x ∷ xs) fit =
     All-cons (fits base n) (without_samples x) (bare xs) (All-head (fits base n) x xs fit)
     (bare-fit base n xs (All-tail (fits base n) x xs fit))
 
-full-listed : (d : ℕ) (xs : List DataRecord) (run : Run) → IsListed d (bare xs) run →
+pub full-listed : (d : ℕ) (xs : List DataRecord) (run : Run) → IsListed d (bare xs) run →
     IsListed d xs run
 full-listed d xs run is = record {
   count = is.count ∙ bare-length xs;
@@ -143,23 +147,29 @@ full-listed d xs run is = record {
 }
 
 as-kept : (d : ℕ) (x raw : List DataRecord) (run : OnsetRun) → AllZip AreAlike x raw →
-    kept_of run ≡ bare x → IsListed d (kept_of run) run.run → IsAsKept d raw run
-as-kept d x raw run alike kept is = (
-  subst (λ l. StartAlike l raw) (sym kept) (bare-starts x raw alike),
-  subst (λ l. IsListed d l run.run)
-      (sym (ap (λ l. annotated l raw) kept ∙ bare-annotated x raw alike))
-      (full-listed d x run.run (subst (λ l. IsListed d l run.run) kept is)),
-)
+    kept_of run ≡ bare x → IsListed d (kept_of run) run.run → starts_of run ≡ [] →
+    IsAsKept d raw run
+as-kept d x raw run alike kept is unmoved =
+    let full = full-listed d x run.run (subst (λ l. IsListed d l run.run) kept is) in (
+      subst (λ (ss : List ℕ). StartAs d run.run.first ss raw) (sym unmoved)
+          (alike-from d run.run.first x raw alike full.starts),
+      subst (λ l. IsListed d l run.run)
+          (sym (ap (λ l. annotated l raw) kept ∙ bare-annotated x raw alike)) full,
+    )
 
 -- ---- of each run
 
 abbrev is_listed : ℕ → OnsetRun → Type 0
 is_listed d run = IsListed d (kept_of run) run.run
 
+abbrev is_unmoved : OnsetRun → Type 0
+is_unmoved run = starts_of run ≡ []
+
 head-same : (a b : List DataRecord) (rest bs : List (List DataRecord)) → a ∷ rest ≡ b ∷ bs → a ≡ b
 head-same a b rest bs same = cc
 
-tail-same : (a b : List DataRecord) (rest bs : List (List DataRecord)) → a ∷ rest ≡ b ∷ bs → rest ≡ bs
+tail-same : (a b : List DataRecord) (rest bs : List (List DataRecord)) → a ∷ rest ≡ b ∷ bs →
+    rest ≡ bs
 tail-same a b rest bs same = cc
 
 none-some : {P : Type 0} (a : List DataRecord) (rest : List (List DataRecord)) →
@@ -172,19 +182,25 @@ some-none a rest same = absurd (let e = same in cc)
 
 runs-as-kept : (d : ℕ) (xs raws : List (List DataRecord)) (listed : List OnsetRun) →
     AllZip (AllZip AreAlike) xs raws → map kept_of listed ≡ map bare xs →
-    All (is_listed d) listed →
+    All (is_listed d) listed → All is_unmoved listed →
     AllZip (IsAsKept d) raws listed × (annotated_runs raws listed ≡ xs)
-runs-as-kept d [] [] [] alike kept each = (tt, refl)
-runs-as-kept d [] [] (run ∷ runs) alike kept each = some-none (kept_of run) (map kept_of runs) kept
-runs-as-kept d [] (raw ∷ raws) listed alike kept each = absurd alike
-runs-as-kept d (x ∷ xs) [] listed alike kept each = absurd alike
-runs-as-kept d (x ∷ xs) (raw ∷ raws) [] alike kept each = none-some (bare x) (map bare xs) kept
-runs-as-kept d (x ∷ xs) (raw ∷ raws) (run ∷ runs) alike kept each =
+runs-as-kept d [] [] [] alike kept each unmoved = (tt, refl)
+runs-as-kept d [] [] (run ∷ runs) alike kept each unmoved =
+    some-none (kept_of run) (map kept_of runs) kept
+runs-as-kept d [] (raw ∷ raws) listed alike kept each unmoved = absurd alike
+runs-as-kept d (x ∷ xs) [] listed alike kept each unmoved = absurd alike
+runs-as-kept d (x ∷ xs) (raw ∷ raws) [] alike kept each unmoved =
+    none-some (bare x) (map bare xs) kept
+runs-as-kept d (x ∷ xs) (raw ∷ raws) (run ∷ runs) alike kept each unmoved =
     let here = head-same (kept_of run) (bare x) (map kept_of runs) (map bare xs) kept in
     let later = runs-as-kept d xs raws runs alike.1
     (tail-same (kept_of run) (bare x) (map kept_of runs) (map bare xs) kept)
-    (All-tail (is_listed d) run runs each) in (
-      (as-kept d x raw run alike.0 here (All-head (is_listed d) run runs each), later.0),
+    (All-tail (is_listed d) run runs each) (All-tail is_unmoved run runs unmoved) in (
+      (
+        as-kept d x raw run alike.0 here (All-head (is_listed d) run runs each)
+            (All-head is_unmoved run runs unmoved),
+        later.0,
+      ),
       ap (λ z. z ∷ annotated_runs raws runs)
           (ap (λ l. annotated l raw) here ∙ bare-annotated x raw alike.0)
           ∙ ap (λ l. x ∷ l) later.1,
@@ -202,7 +218,7 @@ kept-are-by-onset k records raws listed sound are kept =
     let alike : AllZip (AllZip AreAlike) (runs_of d xs) raws =
     subst (AllZip (AllZip AreAlike) (runs_of d xs)) (sym raw)
     (alike-runs d xs records (stay-alike k records sound).0) in
-    let all = runs-as-kept d (runs_of d xs) raws listed alike same kept.each in
+    let all = runs-as-kept d (runs_of d xs) raws listed alike same kept.each kept.unmoved in
     (all.0, subst (IsRuns d xs) (sym all.1) (are-runs d xs))
 
 -- ---- sound ones stay sound
@@ -212,13 +228,13 @@ pick-all : (P : Annotation → Type 0) (v : Bool) (a : Annotation) (rest : List 
 pick-all P true a rest one all = (one, all)
 pick-all P false a rest one all = all
 
-filter-all : (P : Annotation → Type 0) (p : Annotation → Bool) (rest : List Annotation) →
+pub filter-all : (P : Annotation → Type 0) (p : Annotation → Bool) (rest : List Annotation) →
     AllByRecursion P rest → AllByRecursion P (filter p rest)
 filter-all P p [] all = tt
 filter-all P p (a ∷ rest) all =
     pick-all P (p a) a (filter p rest) all.0 (filter-all P p rest all.1)
 
-append-all : (P : Annotation → Type 0) (rest bs : List Annotation) → AllByRecursion P rest →
+pub append-all : (P : Annotation → Type 0) (rest bs : List Annotation) → AllByRecursion P rest →
     AllByRecursion P bs → AllByRecursion P (rest ++ bs)
 append-all P [] bs all more = more
 append-all P (a ∷ rest) bs all more = (all.0, append-all P rest bs all.1 more)
@@ -257,8 +273,8 @@ module _ (k : Key) (all : List Annotation) (notes : AllByRecursion IsAnnotation 
 pub stay-sound : StaySound
 stay-sound k [] sound limits = tt
 stay-sound k (r ∷ rs) sound limits =
-    let all = annotations_of (r ∷ rs) in
-    let notes = all-notes k 0 (r ∷ rs) sound in (
+    let all = in_order (annotations_of (r ∷ rs)) in
+    let notes = order-all IsAnnotation (annotations_of (r ∷ rs)) (all-notes k 0 (r ∷ rs) sound) in (
       one-sound k all notes 0 r rs sound.0
           (All-head within (assigned all 0 r rs) (each_assigned all rs) limits),
       sound.1,

@@ -1,12 +1,12 @@
 -- Runs that keep their data records grow data record by data record.
-use Rattle.std.proofs.Common.{◌≡◌, ◌≢◌, ℕ, suc, ◌+◌, ◌≤◌, List, [], ◌∷◌, ◌++◌, length, map, refl, sym, ap}
-use Rattle.std.proofs.Common.{◌∙◌, subst, arith, length-append, ◌-◌, ◌⊎◌, inl, inr, Option}
+use Rattle.std.proofs.Common.{◌≡◌, ◌≢◌, ℕ, suc, ◌+◌, ◌≤◌, List, [], ◌∷◌, ◌++◌, length, map, refl}
+use Rattle.std.proofs.Common.{sym, ap, ◌∙◌, subst, arith, length-append, ◌-◌, ◌⊎◌, inl, inr, Option}
 use Rattle.std.proofs.Common.{Some}
 use Rattle.std.specs.List.{slice_get}
 use Rattle.std.proofs.lemmas.List.Elements.{All-nil, All-cons, All-push}
 use Rattle.edf_fragment.specs.Fragment.{DataRecord}
 use Rattle.edf_runs.specs.Runs.{IsTouching, IsRuns, IsListed}
-use Rattle.edf_runs.specs.OnsetRead.{AreKept, kept_of, IsRunCount}
+use Rattle.edf_runs.specs.OnsetRead.{AreKept, kept_of, starts_of, IsRunCount}
 use Rattle.edf_runs.specs.Inside.Keeping.{EndAt, EndsThen}
 use Rattle.edf_runs.specs.declared.onset_run.OnsetRun.{OnsetRun}
 use Rattle.edf_runs.proofs.Growing.{first_run, longer_run, next_run, few_in, parts_touch, run_end}
@@ -14,6 +14,9 @@ use Rattle.edf_runs.proofs.Growing.{touching_from, starts_more, all_front, all_l
 
 abbrev is_listed : ℕ → OnsetRun → Type 0
 is_listed d run = IsListed d (kept_of run) run.run
+
+abbrev is_unmoved : OnsetRun → Type 0
+is_unmoved run = starts_of run ≡ []
 
 map-push : (before : List OnsetRun) (run : OnsetRun) →
     map kept_of (before ++ run ∷ []) ≡ map kept_of before ++ kept_of run ∷ []
@@ -34,6 +37,9 @@ module _ (d : ℕ) (records : List DataRecord) (before : List OnsetRun) (run : O
   pub last_listed : IsListed d (kept_of run) run.run
   last_listed = all_last (is_listed d) before run are.each
 
+  pub last_unmoved : starts_of run ≡ []
+  last_unmoved = all_last is_unmoved before run are.unmoved
+
   pub last_few : length (kept_of run) ≤ length records
   last_few = few_in d records (map kept_of before) (kept_of run) runs
 
@@ -52,24 +58,27 @@ module _ (d : ℕ) (records : List DataRecord) (before : List OnsetRun) (run : O
 
   pub longer_kept : (new : OnsetRun) → r.start ≡ run.run.last + d →
       kept_of new ≡ kept_of run ++ r ∷ [] → IsListed d (kept_of run ++ r ∷ []) new.run →
-      AreKept d (records ++ r ∷ []) (before ++ new ∷ [])
-  longer_kept new next kept listed = record {
+      starts_of new ≡ starts_of run → AreKept d (records ++ r ∷ []) (before ++ new ∷ [])
+  longer_kept new next kept listed starts = record {
     are_runs = subst (IsRuns d (records ++ r ∷ [])) (ap (λ x. map kept_of before ++ x ∷ [])
         (sym kept) ∙ sym (map-push before new)) (joins next);
     each = All-push (is_listed d) before new (all_front (is_listed d) before (run ∷ []) are.each)
         (subst (λ x. IsListed d x new.run) (sym kept) listed);
+    unmoved = All-push is_unmoved before new (all_front is_unmoved before (run ∷ []) are.unmoved)
+        (starts ∙ last_unmoved);
   }
 
   pub next_kept : (new : OnsetRun) → (r.start ≡ run.run.last + d → ⊥) →
-      kept_of new ≡ r ∷ [] → IsListed d (r ∷ []) new.run →
+      kept_of new ≡ r ∷ [] → IsListed d (r ∷ []) new.run → starts_of new ≡ [] →
       AreKept d (records ++ r ∷ []) ((before ++ run ∷ []) ++ new ∷ [])
-  next_kept new apart kept listed = record {
+  next_kept new apart kept listed starts = record {
     are_runs = subst (IsRuns d (records ++ r ∷ []))
         (ap (λ x. x ++ (r ∷ []) ∷ []) (sym (map-push before run))
         ∙ ap (λ x. map kept_of (before ++ run ∷ []) ++ x ∷ []) (sym kept)
         ∙ sym (map-push (before ++ run ∷ []) new)) (begins apart);
     each = All-push (is_listed d) (before ++ run ∷ []) new are.each
         (subst (λ x. IsListed d x new.run) (sym kept) listed);
+    unmoved = All-push is_unmoved (before ++ run ∷ []) new are.unmoved starts;
   }
 
   len : length (map kept_of before ++ kept_of run ∷ []) ≡ length (before ++ run ∷ [])
@@ -96,12 +105,13 @@ module _ (d : ℕ) (records : List DataRecord) (before : List OnsetRun) (run : O
 
 pub first_kept : (d : ℕ) (records : List DataRecord) (new : OnsetRun) (r : DataRecord) →
     AreKept d records [] → kept_of new ≡ r ∷ [] → IsListed d (r ∷ []) new.run →
-    AreKept d (records ++ r ∷ []) (new ∷ [])
-first_kept d records new r are kept listed = record {
+    starts_of new ≡ [] → AreKept d (records ++ r ∷ []) (new ∷ [])
+first_kept d records new r are kept listed starts = record {
   are_runs = subst (IsRuns d (records ++ r ∷ [])) (ap (λ x. x ∷ []) (sym kept))
       (first_run d records r are.are_runs);
   each = All-cons (is_listed d) new [] (subst (λ x. IsListed d x new.run) (sym kept) listed)
       (All-nil (is_listed d));
+  unmoved = All-cons is_unmoved new [] starts (All-nil is_unmoved);
 }
 
 pub first_count : (d : ℕ) (records : List DataRecord) (r : DataRecord) → AreKept d records [] →
@@ -122,6 +132,7 @@ nothing_kept d = record {
     parted = tt;
   };
   each = All-nil (is_listed d);
+  unmoved = All-nil is_unmoved;
 }
 
 -- ---- the number of the run that the next joins or begins

@@ -1,8 +1,7 @@
 -- What a second reading finds where a run that was listed comes next.
-use Rattle.std.proofs.Common.{◌≡◌, ◌≢◌, ℕ, ◌+◌, ◌*◌, ◌/◌, ◌≤◌, ◌<◌, List, [], ◌∷◌, ◌++◌, length}
+use Rattle.std.proofs.Common.{◌≡◌, ◌≢◌, ℕ, ◌+◌, ◌*◌, ◌≤◌, ◌<◌, List, [], ◌∷◌, ◌++◌, length}
 use Rattle.std.proofs.Common.{refl, sym, ap, ◌∙◌, subst, arith, append_assoc, append-nil}
 use Rattle.std.proofs.Common.{length-append, All, Option, None, Some, Ok, Err, Result}
-use Rattle.std.proofs.Math.Nat.{suc-mul}
 use Rattle.std.specs.List.{slice_get}
 use Rattle.std.specs.Io.KnownBytes.{Consumes, IsAtEnd}
 use Rattle.edf_field.specs.Number.{duration_of}
@@ -28,14 +27,17 @@ use Rattle.edf_fragment.proofs.Layouts.{record-some}
 use Rattle.edf_runs.specs.Runs.{StartFrom}
 use Rattle.edf_runs.specs.Again.{fault_again, IsFaultBy, StopsAt, ComesNext}
 use Rattle.edf_canonical.specs.File.{second_of, block_of, BlocksFit}
-use Rattle.edf_runs.specs.WrittenByOnset.{annotated, StartAlike, ComesByOnset}
+use Rattle.edf_runs.specs.WrittenByOnset.{annotated, StartAs, ComesByOnset}
 use Rattle.edf_runs.specs.Inside.Steps.{StepsOn, HasOthers, ReadSoFar, ArePut, annotated_one}
+use Rattle.edf_runs.specs.Inside.Steps.{due}
+use Rattle.edf_runs.specs.Inside.Putting.{IsAsListed}
 use Rattle.edf_runs.specs.declared.run.Run.{Run}
 use Rattle.edf_runs.specs.declared.fault.WriteFault.{WriteFault}
 use Rattle.edf_runs.specs.declared.fault.WriteFault.TheVariants.{Changed, Read, Memory}
-use Rattle.edf_runs.proofs.Growing.{all_front, all_last, run_end, samples_least}
-use Rattle.edf_runs.proofs.Annotated.{annotated-length, annotated-front, annotated-more}
-use Rattle.edf_runs.proofs.Annotated.{starts-annotated, start-alike}
+use Rattle.edf_runs.proofs.Growing.{all_front, all_last, run_end, samples_least, starts_front}
+use Rattle.edf_runs.proofs.Growing.{last_start}
+use Rattle.edf_runs.proofs.Annotated.{annotated-length, annotated-front, annotated-nth}
+use Rattle.edf_runs.proofs.StartsAs.{start-as-of}
 
 -- ---- one more data record of known bytes
 
@@ -153,9 +155,9 @@ reading l from to left rest answer going is =
     a.1
 
 pub has_all : (l : Layout) (from : Progress) (left : Option (List ℕ)) (run : Run)
-    (kept : List DataRecord) (n : ComesByOnset l from left run kept) →
+    (starts : List ℕ) (kept : List DataRecord) (n : ComesByOnset l from left run starts kept) →
     HasOthers l from left n.records []
-has_all l from left run kept n = record {
+has_all l from left run starts kept n = record {
   going = n.going;
   others = n.records;
   parts = refl;
@@ -169,7 +171,7 @@ has_all l from left run kept n = record {
 
 -- where nothing is kept, a run that comes next comes so
 pub comes_plain : (l : Layout) (from : Progress) (left : Option (List ℕ)) (run : Run) →
-    ComesNext l from left run → ComesByOnset l from left run []
+    ComesNext l from left run → ComesByOnset l from left run [] []
 comes_plain l from left run n = record {
   going = n.going;
   bytes = n.bytes;
@@ -179,7 +181,7 @@ comes_plain l from left run n = record {
   rest = n.rest;
   are_records = n.are_records;
   within = n.within;
-  alike = tt;
+  start = n.listed.starts;
   listed = n.listed;
 }
 
@@ -229,15 +231,6 @@ has_more l from to left rest all records instant r h few step =
     more_with l from to left rest all records h.others h.bytes h.last h.after instant r
     (has_next l from left all records h few) h.parts h.known h.are_records h.within step
 
--- when it starts
-start_of : (d at : ℕ) (rs xs : List DataRecord) (x : DataRecord) → StartFrom d at (rs ++ x ∷ xs) →
-    x.start ≡ at + length rs * d
-start_of d at [] xs x from = omega (arith, from.0)
-start_of d at (y ∷ ys) xs x from =
-    let e = suc-mul (length ys) d in
-    let later = start_of d (at + d) ys xs x from.1 in
-    omega (arith, later, e)
-
 -- another fault than that of form
 form : (l : Layout) (from : Progress) (left rest : Option (List ℕ)) (all : List ℕ) (x : DataRecord)
     (xs : List DataRecord) (last : Place) (after : List ℕ) (fault : FragmentFault) → left ≡ Some all
@@ -273,30 +266,45 @@ no_stop l from left rest all x xs last after instant (Err fault) layout is are w
     why = form l from left rest all x xs last after fault is are within next (sym why)
 
 stop_with : (l : Layout) (from to : Progress) (left rest : Option (List ℕ)) (d at : ℕ)
-    (all records others : List DataRecord) (bytes : List ℕ) (last : Place) (after : List ℕ)
-    (instant : ℕ)
+    (starts : List ℕ) (all records others : List DataRecord) (bytes : List ℕ) (last : Place)
+    (after : List ℕ) (instant : ℕ)
     → IsLayout l → others ≢ [] → all ≡ records ++ others → left ≡ Some bytes →
     AreDataRecords l from.place bytes others last after
     → from.given + length others ≤ most_records l.count → from.state ≡ Reading →
-    StartFrom d at all → instant ≡ at + length records * d →
+    StartAs d at starts all →
+    due starts (length records) (at + length records * d) ≡ Some instant →
     ¬ StopsAt l from to left rest instant Changed
-stop_with l from to left rest d at all records [] bytes last after instant layout some parts known
-    are within going starts is stop = some refl
-stop_with l from to left rest d at all records (x ∷ xs) bytes last after instant layout some parts
-    known are within going starts is stop =
-    let start = start_of d at records xs x (subst (StartFrom d at) parts starts) in
+stop_with l from to left rest d at starts all records [] bytes last after instant layout some
+    parts known are within going start is stop = some refl
+stop_with l from to left rest d at starts all records (x ∷ xs) bytes last after instant layout
+    some parts known are within going start is stop =
+    let e : ◌≡◌ {A = Option ℕ} (Some x.start) (Some instant) =
+    sym (start-as-of d at starts records xs x (subst (StartAs d at starts) parts start)) ∙ is in
+    let same : x.start ≡ instant = cc in
     no_stop l from left rest bytes x xs last after instant stop.answer layout known are within
-    (start ∙ sym is) (reading l from to left rest stop.answer going stop.is_answer) stop.why
+    same (reading l from to left rest stop.answer going stop.is_answer) stop.why
 
 -- the next one is there, and starts when it was listed
 pub no_change : (l : Layout) (from to : Progress) (left rest : Option (List ℕ)) (d at : ℕ)
-    (all records : List DataRecord) (instant : ℕ) → IsLayout l → HasOthers l from left all records
-    → length records < length all → StartFrom d at all → instant ≡ at + length records * d →
+    (starts : List ℕ) (all records : List DataRecord) (instant : ℕ) → IsLayout l →
+    HasOthers l from left all records
+    → length records < length all → StartAs d at starts all →
+    due starts (length records) (at + length records * d) ≡ Some instant →
     ¬ StopsAt l from to left rest instant Changed
-no_change l from to left rest d at all records instant layout h few starts is stop =
-    stop_with l from to left rest d at all records h.others h.bytes h.last h.after instant layout
-    (has_next l from left all records h few) h.parts h.known h.are_records h.within h.going
-    starts is stop
+no_change l from to left rest d at starts all records instant layout h few start is stop =
+    stop_with l from to left rest d at starts all records h.others h.bytes h.last h.after instant
+    layout (has_next l from left all records h few) h.parts h.known h.are_records h.within
+    h.going start is stop
+
+-- and when that is was told
+told_with : (d at : ℕ) (starts : List ℕ) (all records others : List DataRecord) → others ≢ [] →
+    all ≡ records ++ others → StartAs d at starts all →
+    due starts (length records) (at + length records * d) ≢ None
+told_with d at starts all records [] some parts start none = some refl
+told_with d at starts all records (x ∷ xs) some parts start none =
+    let e : ◌≡◌ {A = Option ℕ} (Some x.start) None =
+    sym (start-as-of d at starts records xs x (subst (StartAs d at starts) parts start)) ∙ none in
+    cc
 
 none_more : (xs : List DataRecord) → length xs ≡ 0 → xs ≡ []
 none_more [] none = refl
@@ -304,70 +312,82 @@ none_more (x ∷ xs) none = absurd (omega (arith, none))
 
 -- ---- so far
 
-module _ (l : Layout) (from : Progress) (left : Option (List ℕ)) (run : Run)
-    (kept : List DataRecord) (n : ComesByOnset l from left run kept) where
+module _ (l : Layout) (from : Progress) (left : Option (List ℕ)) (run : Run) (starts : List ℕ)
+    (kept : List DataRecord) (n : ComesByOnset l from left run starts kept) where
   counted : length n.records ≡ run.records
   counted = sym (annotated-length kept n.records) ∙ sym n.listed.count
 
-  starting : StartFrom (duration_of l.key.duration) run.first n.records
-  starting = starts-annotated (duration_of l.key.duration) run.first kept n.records n.listed.starts
-
 module _ (l : Layout) (from mid : Progress) (left middle : Option (List ℕ)) (run : Run)
-    (kept rs : List DataRecord) (next count : ℕ)
-    (so : ReadSoFar l from mid left middle run rs next count)
-    (n : ComesByOnset l from left run kept) where
+    (starts : List ℕ) (kept rs : List DataRecord) (next count : ℕ)
+    (so : ReadSoFar l from mid left middle run starts rs next count)
+    (n : ComesByOnset l from left run starts kept) where
   has_so_far : HasOthers l mid middle n.records rs
-  has_so_far = so.first n.records (has_all l from left run kept n) (counted l from left run kept n)
+  has_so_far = so.first n.records (has_all l from left run starts kept n)
+      (counted l from left run starts kept n)
 
   few_listed : count < run.records → length rs < length n.records
-  few_listed few = omega (arith, so.counted, few, counted l from left run kept n)
+  few_listed few = omega (arith, so.counted, few, counted l from left run starts kept n)
 
-  pub next_as_listed : (to : Progress) (rest : Option (List ℕ)) → IsLayout l
-      → count < run.records → ¬ StopsAt l mid to middle rest next Changed
-  next_as_listed to rest layout few =
-      no_change l mid to middle rest (duration_of l.key.duration) run.first n.records rs next layout
-      has_so_far (few_listed few) (starting l from left run kept n) so.next_is
+  is_due : due starts count next
+      ≡ due starts (length rs) (run.first + length rs * duration_of l.key.duration)
+  is_due = ap (λ (k : ℕ). due starts k next) (sym so.counted)
+      ∙ ap (λ (k : ℕ). due starts (length rs) k) so.next_is
 
-  has_next_too : (to : Progress) (rest : Option (List ℕ)) (r : DataRecord) → count < run.records
-      → StepsOn l mid to middle rest next r → HasOthers l to rest n.records (rs ++ r ∷ [])
-  has_next_too to rest r few step =
-      has_more l mid to middle rest n.records rs next r has_so_far (few_listed few) step
+  -- it was told when the next one starts
+  pub told_as_listed : count < run.records → due starts count next ≢ None
+  told_as_listed few none =
+      told_with (duration_of l.key.duration) run.first starts n.records rs has_so_far.others
+      (has_next l mid middle n.records rs has_so_far (few_listed few)) has_so_far.parts n.start
+      (sym is_due ∙ none)
 
-  -- the block of the one that was read fits
-  pub block_as_listed : (to : Progress) (rest : Option (List ℕ)) (here : ℕ) (r q : DataRecord)
-      → count < run.records → StepsOn l mid to middle rest next r →
-      q ≡ annotated_one (slice_get kept (length rs)) r
-      → here ≡ (length (block_of (second_of run.first) q) + 1) / 2 → here ≤ run.block_samples
-  block_as_listed to rest here r q few step is here-is =
-      let h = has_next_too to rest r few step in
+  pub next_as_listed : (to : Progress) (rest : Option (List ℕ)) (instant : ℕ) → IsLayout l
+      → count < run.records → due starts count next ≡ Some instant →
+      ¬ StopsAt l mid to middle rest instant Changed
+  next_as_listed to rest instant layout few told =
+      no_change l mid to middle rest (duration_of l.key.duration) run.first starts n.records rs
+      instant layout has_so_far (few_listed few) n.start (sym is_due ∙ told)
+
+  has_next_too : (to : Progress) (rest : Option (List ℕ)) (instant : ℕ) (r : DataRecord)
+      → count < run.records → StepsOn l mid to middle rest instant r →
+      HasOthers l to rest n.records (rs ++ r ∷ [])
+  has_next_too to rest instant r few step =
+      has_more l mid to middle rest n.records rs instant r has_so_far (few_listed few) step
+
+  -- what is put of the one that was read is as it was listed
+  pub as_listed : (to : Progress) (rest : Option (List ℕ)) (instant : ℕ) (r : DataRecord)
+      → count < run.records → StepsOn l mid to middle rest instant r →
+      IsAsListed run next (annotated_one (slice_get kept count) r)
+  as_listed to rest instant r few step =
+      let d = duration_of l.key.duration in
+      let q = annotated_one (slice_get kept count) r in
       let fits : DataRecord → Type 0 =
       λ x. length (block_of (second_of run.first) x) ≤ 2 * run.block_samples in
+      let h = has_next_too to rest instant r few step in
       let front = annotated-front kept (rs ++ r ∷ []) h.others in
-      let all : All fits (annotated kept (rs ++ r ∷ []) ++ front.0) =
-      subst (λ (x : List DataRecord). All fits x)
-      (ap (annotated kept) h.parts ∙ front.1) n.listed.holds in
-      let ones : All fits (annotated kept rs ++ q ∷ []) =
-      subst (λ (x : List DataRecord). All fits x)
-      (annotated-more kept rs r ∙ ap (λ (x : DataRecord). annotated kept rs ++ x ∷ []) (sym is))
-      (all_front fits (annotated kept (rs ++ r ∷ [])) front.0 all) in
-      let one = all_last fits (annotated kept rs) q ones in
-      omega (arith, here-is, samples_least _ run.block_samples one)
-
-  -- what was kept of the one that was read starts when it does
-  pub start_as_listed : (to : Progress) (rest : Option (List ℕ)) (r k : DataRecord)
-      → count < run.records → StepsOn l mid to middle rest next r →
-      slice_get kept (length rs) ≡ Some k → k.start ≡ r.start
-  start_as_listed to rest r k few step is =
-      let h = has_next_too to rest r few step in
-      let alike = subst (StartAlike kept) (h.parts ∙ append_assoc rs (r ∷ []) h.others) n.alike in
-      start-alike kept rs r k h.others alike is
+      let same : annotated kept n.records ≡ (annotated kept rs ++ q ∷ []) ++ front.0 =
+      ap (annotated kept) h.parts ∙ front.1
+      ∙ ap (λ (x : List DataRecord). x ++ front.0) (annotated-nth kept rs r count so.counted) in
+      let from_first : StartFrom d run.first ((annotated kept rs ++ q ∷ []) ++ front.0) =
+      subst (λ (x : List DataRecord). StartFrom d run.first x) same n.listed.starts in
+      let all : All fits ((annotated kept rs ++ q ∷ []) ++ front.0) =
+      subst (λ (x : List DataRecord). All fits x) same n.listed.holds in
+      let last = last_start d run.first (annotated kept rs) q
+      (starts_front d run.first (annotated kept rs ++ q ∷ []) front.0 from_first) in
+      let one = all_last fits (annotated kept rs) q
+      (all_front fits (annotated kept rs ++ q ∷ []) front.0 all) in
+      let len : length (annotated kept rs) * d ≡ length rs * d =
+      ap (λ k. k * d) (annotated-length kept rs) in
+      record {
+        start = omega (arith, last, len, so.next_is);
+        fits = samples_least _ run.block_samples one;
+      }
 
   all_listed : count ≡ run.records → n.records ≡ rs
   all_listed all =
       let h = has_so_far in
       let len : length n.records ≡ length rs + length h.others =
       ap (λ (z : List DataRecord). length z) h.parts ∙ length-append rs h.others in
-      let same = counted l from left run kept n in
+      let same = counted l from left run starts kept n in
       h.parts ∙ ap (λ (x : List DataRecord). rs
       ++ x) (none_more h.others (omega (arith, len, so.counted, all, same)))
       ∙ append-nil rs

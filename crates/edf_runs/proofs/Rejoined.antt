@@ -1,5 +1,5 @@
 -- Nothing is lost where a file is split into its runs.
-use Rattle.std.proofs.Common.{◌≡◌, ℕ, ◌≤◌, List, [], ◌∷◌, length, Contains}
+use Rattle.std.proofs.Common.{◌≡◌, ℕ, ◌≤◌, List, [], ◌∷◌, length, All, Contains}
 use Rattle.std.proofs.Common.{sym, ap, ◌∙◌, subst, arith, inl, inr}
 use Rattle.std.specs.List.{flat_map, AllZip, AllByRecursion}
 use Rattle.std.proofs.lemmas.List.Elements.{Contains-append_left, Contains-append_right}
@@ -12,7 +12,7 @@ use Rattle.edf_fragment.proofs.Told.{one-telling}
 use Rattle.edf_holdings.specs.Clash.{NoClash}
 use Rattle.edf_holdings.specs.Rising.{joined}
 use Rattle.edf_holdings.specs.Holdings.{Holdings, IsSound, put, nothing_held}
-use Rattle.edf_holdings.specs.Reply.{IsSoundTold, after}
+use Rattle.edf_holdings.specs.Reply.{IsSoundTold, IsAccepted, after, replies}
 use Rattle.edf_holdings.specs.Free.{IsFragment, IsFree, Has, SameRecords}
 use Rattle.edf_holdings.specs.Laws.{AreSoundTold}
 use Rattle.edf_holdings.proofs.Joining.{put_cases, put_here, lasting, apart-sound}
@@ -96,7 +96,7 @@ module _ (k : Key) (runs : List (List DataRecord)) where
       (has.0, in-all runs tell.0.run r tell.0.is_run has.1)
   told-in-runs (told ∷ tolds) q r tell (inr later) = told-in-runs tolds q r tell.1 later
 
-told-sound : (files : List (List ℕ)) (tolds : List Told) → AllZip Tells files tolds →
+pub told-sound : (files : List (List ℕ)) (tolds : List Told) → AllZip Tells files tolds →
     AreSoundTold tolds
 told-sound [] [] tell = tt
 told-sound [] (told ∷ tolds) tell = absurd tell
@@ -105,7 +105,7 @@ told-sound (file ∷ files) (told ∷ tolds) tell =
     (told_is_sound file told tell.0, told-sound files tolds tell.1)
 
 -- what a file of the list tells is told
-file-told : (files : List (List ℕ)) (tolds : List Told) (file : List ℕ) (k q : Key)
+pub file-told : (files : List (List ℕ)) (tolds : List Told) (file : List ℕ) (k q : Key)
     (run : List DataRecord) (r : DataRecord) → AllZip Tells files tolds → Contains files file
     → Spells file k run → Has q r (Fragment k run) → IsAmong q r tolds
 file-told [] tolds file k q run r tell c spells has = absurd (omega (arith, c.1))
@@ -121,7 +121,7 @@ file-told (first ∷ files) (told ∷ tolds) file k q run r tell c spells has =
 
 -- ---- the whole file, told alone
 
-abbrev whole : Key → List DataRecord → List Told
+abbrev pub whole : Key → List DataRecord → List Told
 whole k records = Fragment k records ∷ []
 
 module _ (cap : ℕ) (h : Holdings) (k : Key) (records : List DataRecord) (sound : IsSound cap h)
@@ -154,6 +154,27 @@ module _ (cap : ℕ) (h : Holdings) (k : Key) (records : List DataRecord) (sound
       ∙ put_here k records h ∙ ap (λ (l : List DataRecord). joined l records) none
       ∙ from_nothing (duration_of k.duration) 0 records (lasting k told.0) apart apart
 
+-- submissions that hold just the data records of the whole file
+pub told-as-whole : (cap : ℕ) (h : Holdings) (k : Key) (records : List DataRecord)
+    (tolds : List Told) → IsSound cap h → h k ≡ [] → IsSoundTold (Fragment k records) →
+    length records ≤ cap → AreSoundTold tolds → AllByRecursion IsFragment tolds →
+    SameRecords (whole k records) tolds →
+    All IsAccepted (replies cap h tolds) × (after cap h tolds ≡ put k records h)
+    × (after cap h tolds k ≡ records)
+told-as-whole cap h k records tolds sound none told few each fragments same =
+    let free = alone-free cap h k records sound none told few in
+    let free-too = free_of_same cap h (whole k records) tolds sound (
+      told,
+      tt,
+    ) each free fragments same in
+    let ends = recut_law cap h (whole k records) tolds sound (told, tt) each free free-too same in
+    let whole-left = (any_order_law cap h (whole k records) sound (told, tt) free).1 in (
+      (any_order_law cap h tolds sound each free-too).0,
+      sym ends ∙ whole-left,
+      ap (λ (held : Holdings). held k) (sym ends)
+          ∙ alone-leaves cap h k records sound none told few,
+    )
+
 -- the runs' files hold the data records of the whole
 same-records : (k : Key) (records : List DataRecord) (runs : List (List DataRecord))
     (files : List (List ℕ)) (tolds : List Told) → all_of runs ≡ records
@@ -179,22 +200,7 @@ same-records k records runs files tolds joined-is are tell q r = (
 
 pub runs-rejoin : RunsRejoin
 runs-rejoin cap h bytes k records runs files tolds sound none spells few are files-are tell =
-    let told : IsSoundTold (Fragment k records) = told_is_sound bytes (Fragment k records) spells in
-    let each = told-sound files tolds tell in
-    let free = alone-free cap h k records sound none told few in
-    let same = same-records k records runs files tolds are.joined files-are tell in
-    let fragments = all-fragments k runs tolds (all-tell k runs files tolds tell files-are.only) in
-    let free-too = free_of_same cap h (whole k records) tolds sound (
-      told,
-      tt,
-    ) each free fragments same in
-    let ends = recut_law cap h (whole k records) tolds sound (told, tt) each free free-too same in
-    let whole-left = (any_order_law cap h (whole k records) sound (
-      told,
-      tt,
-    ) (alone-free cap h k records sound none told few)).1 in (
-      (any_order_law cap h tolds sound each free-too).0,
-      sym ends ∙ whole-left,
-      ap (λ (held : Holdings). held k) (sym ends)
-          ∙ alone-leaves cap h k records sound none told few,
-    )
+    told-as-whole cap h k records tolds sound none (told_is_sound bytes (Fragment k records) spells)
+    few (told-sound files tolds tell)
+    (all-fragments k runs tolds (all-tell k runs files tolds tell files-are.only))
+    (same-records k records runs files tolds are.joined files-are tell)

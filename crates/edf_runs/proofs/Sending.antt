@@ -1,14 +1,11 @@
--- A run's file, put out data record by data record.
-use Rattle.std.proofs.Common.{◌≡◌, ◌≢◌, ℕ, inl, inr, ◌+◌, ◌*◌, ◌/◌, ◌≤◌, ◌<◌, max, List, [], ◌∷◌}
-use Rattle.std.proofs.Common.{◌++◌}
-use Rattle.std.proofs.Common.{length, refl, sym, ap, ◌∙◌, subst, arith, append_assoc, append-nil}
+-- A run's file, put out after its header.
+use Rattle.std.proofs.Common.{◌≡◌, ◌≢◌, ℕ, inl, inr, ◌+◌, ◌*◌, ◌≤◌, List, [], ◌∷◌, ◌++◌}
+use Rattle.std.proofs.Common.{length, refl, sym, ap, ◌∙◌, subst, arith}
 use Rattle.std.proofs.Common.{All, Option, Result, Ok, Err}
 use Rattle.std.specs.Prelude.{IfOk, IfErr}
-use Rattle.std.specs.List.{AllByRecursion, slice_get}
-use Rattle.std.proofs.KnownBytes.{Keeps-refl, Appends-nil}
-use Rattle.std.proofs.lemmas.Grind.{flat_map-append}
-use Rattle.std.proofs.lemmas.List.Elements.{All-nil, All-cons, All-push, All-weaker}
-use Rattle.std.proofs.lemmas.List.Elements.{All-from_recursion, recursion_from_All}
+use Rattle.std.specs.List.{AllByRecursion}
+use Rattle.std.proofs.KnownBytes.{Keeps-refl}
+use Rattle.std.proofs.lemmas.List.Elements.{All-nil, All-cons}
 use Rattle.edf_field.specs.Number.{duration_of}
 use Rattle.edf_header.specs.Key.{Key, IsKey, MayStart}
 use Rattle.edf_header.specs.Signal.{samples_in_all}
@@ -20,12 +17,11 @@ use Rattle.edf_fragment.specs.Fragment.{DataRecord}
 use Rattle.edf_fragment.specs.Sound.{IsSoundRecord, AreSound}
 use Rattle.edf_fragment.specs.declared.advance.Progress.{Progress}
 use Rattle.edf_fragment.specs.declared.open_fragment.OpenFragment.{OpenFragment}
-use Rattle.edf_canonical.specs.File.{second_of, block_of, record_text, BlocksFit, IsLaidOut}
-use Rattle.edf_canonical.specs.Output.{Buffered, Writes, WritesFront, CountsOutputFault}
+use Rattle.edf_canonical.specs.File.{second_of, IsLaidOut}
+use Rattle.edf_canonical.specs.Output.{CountsOutputFault}
 use Rattle.edf_canonical.specs.declared.fault.OutputFault.{OutputFault}
 use Rattle.edf_canonical.specs.declared.fault.OutputFault.TheVariants.{Write as FailedWrite}
 use Rattle.edf_canonical.specs.declared.fault.OutputFault.TheVariants.{Memory as NoRoom}
-use Rattle.edf_canonical.proofs.Puts.{writes-then, writes-no-more, writes-same}
 use Rattle.edf_canonical.proofs.Files.{canonical}
 use Rattle.edf_canonical.proofs.Written.{laid-out, file-length}
 use Rattle.edf_runs.specs.Runs.{StartFrom, IsListed}
@@ -34,23 +30,20 @@ use Rattle.edf_runs.specs.Again.{CountsRereadFault, RereadsRun}
 use Rattle.edf_runs.specs.WrittenByOnset.{annotated, RereadsByOnset, IsWrittenByOnset}
 use Rattle.edf_runs.specs.WrittenByOnset.{StopsByOnset, IsNotWrittenByOnset}
 use Rattle.edf_runs.specs.Written.{CountsFault, run_text, IsRunHeader}
-use Rattle.edf_runs.specs.Written.{ReadsOneMoreAtMost, StopsInRun, IsNotWritten}
-use Rattle.edf_runs.specs.Inside.Steps.{ArePut, fault_out, PutSoFar, StepsOn, StopsPutting}
-use Rattle.edf_runs.specs.Inside.Steps.{IsPutAll, IsSent, StopsSending, annotated_one}
+use Rattle.edf_runs.specs.Written.{StopsInRun, IsNotWritten}
+use Rattle.edf_runs.specs.Inside.Steps.{fault_out, IsSent, StopsSending}
 use Rattle.edf_runs.specs.Counted.{IsCountedRun}
-use Rattle.edf_runs.specs.Inside.Tally.{IsTallied}
 use Rattle.edf_runs.specs.declared.tally.Tally.{Tally}
 use Rattle.edf_runs.specs.declared.written.Written.{Written}
 use Rattle.edf_runs.specs.declared.run.Run.{Run}
 use Rattle.edf_runs.specs.declared.fault.WriteFault.{WriteFault}
 use Rattle.edf_runs.specs.declared.fault.WriteFault.TheVariants.{Undated, Changed, Read, Memory}
 use Rattle.edf_runs.specs.declared.fault.WriteFault.TheVariants.{Write}
-use Rattle.edf_runs.proofs.Growing.{touching_from, samples_hold, samples_least, all_front, all_last}
-use Rattle.edf_runs.proofs.Growing.{last_end}
+use Rattle.edf_runs.proofs.Growing.{touching_from}
 use Rattle.edf_runs.proofs.Next.{handed_on, comes_plain}
-use Rattle.edf_runs.proofs.Annotated.{annotated-none, annotated-length, annotated-starts}
-use Rattle.edf_runs.proofs.Annotated.{annotated-more}
-use Rattle.edf_runs.proofs.SecondReading.{more_so_far, none_read, none_so_far}
+use Rattle.edf_runs.proofs.PutRecords.{none_hold}
+use Rattle.edf_runs.proofs.SecondReading.{none_read}
+use Rattle.edf_runs.proofs.StartsAs.{starts-as-none}
 use Rattle.edf_runs.proofs.RunFiles.{marked-front, marked-len, one-run-file}
 
 -- ---- what is counted, and what no call tells
@@ -80,11 +73,11 @@ out_same FailedWrite same = let e : ◌≡◌ {A = WriteFault} Write Changed = s
 out_same NoRoom same = let e : ◌≡◌ {A = WriteFault} Memory Changed = same in cc
 
 module _ {A : Type 0} (old new : OpenFragment) (left : Option (List ℕ)) (run : Run)
-    (kept : List DataRecord) (result : Result A WriteFault) (told : WriteFault)
+    (starts : List ℕ) (kept : List DataRecord) (result : Result A WriteFault) (told : WriteFault)
     (is : result ≡ Err told) where
   -- a fault of the output is no change
   pub reread_out : (fault : OutputFault) → told ≡ fault_out fault → new.header ≡ old.header →
-      RereadsByOnset old new left run kept result
+      RereadsByOnset old new left run starts kept result
   reread_out fault by header = record {
     header = header;
     unchanged = λ n same. out_same fault (handed_on result told (fault_out fault) is by same);
@@ -92,8 +85,8 @@ module _ {A : Type 0} (old new : OpenFragment) (left : Option (List ℕ)) (run :
 
   -- a fault that is handed on
   pub reread_handed_on : {B : Type 0} (fault : WriteFault) → told ≡ fault →
-      RereadsByOnset {A = B} old new left run kept (Err fault) →
-      RereadsByOnset old new left run kept result
+      RereadsByOnset {A = B} old new left run starts kept (Err fault) →
+      RereadsByOnset old new left run starts kept result
   reread_handed_on fault by inner = record {
     header = inner.header;
     unchanged = λ n same. inner.unchanged n (ap (λ (x : WriteFault). Err x)
@@ -102,244 +95,12 @@ module _ {A : Type 0} (old new : OpenFragment) (left : Option (List ℕ)) (run :
 
 -- where nothing is kept
 pub reread_plain : {A : Type 0} (old new : OpenFragment) (left : Option (List ℕ)) (run : Run)
-    (result : Result A WriteFault) → RereadsByOnset old new left run [] result →
+    (result : Result A WriteFault) → RereadsByOnset old new left run [] [] result →
     RereadsRun old new left run result
 reread_plain old new left run result reread = record {
   header = reread.header;
   unchanged = λ n. reread.unchanged (comes_plain old.header old.progress left run n);
 }
-
--- ---- the text of the data records
-
-run_text_more : (run : Run) (rs more : List DataRecord) →
-    run_text run (rs ++ more) ≡ run_text run rs ++ run_text run more
-run_text_more run rs more =
-    flat_map-append (record_text (second_of run.first) (2 * run.block_samples)) rs more
-
--- what was put is a front of the text with more data records
-pub front_of_more : (a b : Buffered) (run : Run) (rs more : List DataRecord) (left : List ℕ) →
-    Writes a b (run_text run rs) left
-    → (unwritten : List ℕ) × Writes a b (run_text run (rs ++ more)) unwritten
-front_of_more a b run rs more left w = (
-  left ++ run_text run more,
-  writes-same a b _ _ _ (sym (run_text_more run rs more))
-      (writes-no-more a b (run_text run rs) (run_text run more) left w),
-)
-
-one_text : (run : Run) (r : DataRecord) →
-    run_text run (r ∷ []) ≡ record_text (second_of run.first) (2 * run.block_samples) r
-one_text run r = append-nil (record_text (second_of run.first) (2 * run.block_samples) r)
-
-pub text_then : (a b c : Buffered) (run : Run) (rs : List DataRecord) (r : DataRecord)
-    (left : List ℕ) → Writes a b (run_text run rs) b.held
-    → Writes b c (record_text (second_of run.first) (2 * run.block_samples) r) left →
-    Writes a c (run_text run (rs ++ r ∷ [])) left
-text_then a b c run rs r left w put =
-    let same : run_text run rs ++ record_text (second_of run.first) (2 * run.block_samples)
-    r ≡ run_text run (rs ++ r ∷ []) =
-    ap (λ (x : List ℕ). run_text run rs ++ x) (sym (one_text run r))
-    ∙ sym (run_text_more run rs (r ∷ [])) in
-    writes-same a c _ _ left same (writes-then a b c _ _ left w put)
-
--- a front of bytes is one of these and more
-pub front_more : (before after : Option (List ℕ)) (bytes more : List ℕ) →
-    WritesFront before after bytes → WritesFront before after (bytes ++ more)
-front_more before after bytes more w =
-    record {
-      front = w.front;
-      left = w.left ++ more;
-      parts = ap (λ (x : List ℕ). x ++ more) w.parts
-          ∙ append_assoc w.front w.left more;
-      wrote = w.wrote;
-    }
-
-pub sent_front : (before after : Option (List ℕ)) (header : List ℕ) (run : Run)
-    (rs later : List DataRecord) → WritesFront before after (header ++ run_text run rs)
-    → WritesFront before after (header ++ run_text run (rs ++ later))
-sent_front before after header run rs later w =
-    let same : (header ++ run_text run rs) ++ run_text run later ≡ header
-    ++ run_text run (rs ++ later) =
-    append_assoc header (run_text run rs) (run_text run later)
-    ∙ ap (λ (x : List ℕ). header ++ x) (sym (run_text_more run rs later)) in
-    subst (WritesFront before after) same
-    (front_more before after (header ++ run_text run rs) (run_text run later) w)
-
--- ---- data record by data record
-
-pub none_hold : (run : Run) (kept : List DataRecord) →
-    BlocksFit (second_of run.first) run.block_samples (annotated kept [])
-none_hold run kept = subst (BlocksFit (second_of run.first) run.block_samples)
-    (sym (annotated-none kept))
-    (All-nil (λ r. length (block_of (second_of run.first) r) ≤ 2 * run.block_samples))
-
-pub none_put : (l : Layout) (run : Run) → ArePut l run [] 0
-none_put l run = record {
-  sound = tt;
-  within = omega arith;
-  holds = All-nil (λ r. length (block_of (second_of run.first) r) ≤ 2 * 0);
-  least = λ fewer hold. omega arith;
-}
-
--- nothing is put where nothing was read
-pub none_so_put : (l : Layout) (from : Progress) (left : Option (List ℕ)) (a : Buffered) (run : Run)
-    (kept : List DataRecord) (next : ℕ) (tally : Tally) → from.given ≤ most_records l.count
-    → next ≡ run.first → IsTallied (duration_of l.key.duration) run [] tally →
-    PutSoFar l from from left left a a run kept next 0 0 tally
-none_so_put l from left a run kept next tally few is tallied =
-    let none = sym (annotated-none kept) in
-    record {
-      records = [];
-      so_far = none_so_far l from left run next few is;
-      put = subst (λ (x : List DataRecord). ArePut l run x 0) none (none_put l run);
-      tallied = subst (λ (x : List DataRecord).
-          IsTallied (duration_of l.key.duration) run x tally) none tallied;
-      wrote = subst (λ (x : List DataRecord). Writes a a (run_text run x) a.held) none
-          (record { front = []; wrote = Appends-nil _; parts = append-nil _ });
-    }
-
-one_put : (l : Layout) (run : Run) (rs : List DataRecord) (r : DataRecord)
-    (samples longest here : ℕ) → ArePut l run rs samples → IsSoundRecord l.key r
-    → here ≡ (length (block_of (second_of run.first) r) + 1) / 2 → here ≤ run.block_samples →
-    longest ≡ max here samples → ArePut l run (rs ++ r ∷ []) longest
-one_put l run rs r samples longest here put sound here-is few is =
-    let fits : ℕ → DataRecord → Type 0 = λ n x. length (block_of (second_of run.first) x) ≤ 2 * n in
-    record {
-      sound = recursion_from_All (IsSoundRecord l.key) (rs
-          ++ r ∷ []) (All-push (IsSoundRecord l.key) rs r
-          (All-from_recursion (IsSoundRecord l.key) rs put.sound) sound);
-      within = omega (arith, is, few, put.within);
-      holds = All-push (fits longest) rs r
-          (All-weaker (fits samples) (fits longest) (λ x h. omega (arith, h, is)) rs put.holds)
-          (samples_hold _ longest (omega (arith, here-is, is)));
-      least = λ fewer hold.
-          let low = put.least fewer (all_front (fits fewer) rs (r ∷ []) hold) in
-          let high = samples_least _ fewer (all_last (fits fewer) rs r hold) in
-          omega (arith, is, here-is, low, high);
-    }
-
-more-annotated : (kept rs : List DataRecord) (r q : DataRecord) →
-    q ≡ annotated_one (slice_get kept (length rs)) r →
-    annotated kept (rs ++ r ∷ []) ≡ annotated kept rs ++ q ∷ []
-more-annotated kept rs r q is = annotated-more kept rs r
-    ∙ ap (λ (x : DataRecord). annotated kept rs ++ x ∷ []) (sym is)
-
-pub put_more : (l : Layout) (from mid to : Progress) (left middle rest : Option (List ℕ))
-    (a b c : Buffered) (run : Run) (kept : List DataRecord)
-    (next later samples longest here count : ℕ) (tally more_tally : Tally) (r q : DataRecord)
-    (so : PutSoFar l from mid left middle a b run kept next samples count tally)
-    → count < run.records →
-    StepsOn l mid to middle rest next r → later ≡ r.start + duration_of l.key.duration
-    → q ≡ annotated_one (slice_get kept (length so.records)) r → IsSoundRecord l.key q
-    → here ≡ (length (block_of (second_of run.first) q) + 1) / 2 → here ≤ run.block_samples →
-    longest ≡ max here samples
-    → ((rs : List DataRecord) → IsTallied (duration_of l.key.duration) run rs tally →
-    IsTallied (duration_of l.key.duration) run (rs ++ q ∷ []) more_tally)
-    → Writes b c (record_text (second_of run.first) (2 * run.block_samples) q) c.held →
-    PutSoFar l from to left rest a c run kept later longest (count + 1) more_tally
-put_more l from mid to left middle rest a b c run kept next later samples longest here count tally
-    more_tally r q so more step after is sound here-is few is-max tallies put =
-    let same = more-annotated kept so.records r q is in
-    record {
-      records = so.records ++ r ∷ [];
-      so_far = more_so_far l from mid to left middle rest run so.records next later count r
-          so.so_far more step after;
-      put = subst (λ (x : List DataRecord). ArePut l run x longest) (sym same)
-          (one_put l run (annotated kept so.records) q samples longest here so.put sound here-is few
-          is-max);
-      tallied = subst (λ (x : List DataRecord).
-          IsTallied (duration_of l.key.duration) run x more_tally) (sym same)
-          (tallies (annotated kept so.records) so.tallied);
-      wrote = subst (λ (x : List DataRecord). Writes a c (run_text run x) c.held) (sym same)
-          (text_then a b c run (annotated kept so.records) q c.held so.wrote put);
-    }
-
--- all that was listed of a run was put
-pub all_put : (l : Layout) (from to : Progress) (left rest : Option (List ℕ)) (a b : Buffered)
-    (run : Run) (kept : List DataRecord) (next samples count : ℕ) (tally : Tally)
-    → PutSoFar l from to left rest a b run kept next samples count tally
-    → count ≡ run.records → samples ≡ run.block_samples →
-    next ≡ run.last + duration_of l.key.duration → IsPutAll l from to left rest a b run kept tally
-all_put l from to left rest a b run kept next samples count tally so all same ends =
-    let d = duration_of l.key.duration in
-    let rs = annotated kept so.records in
-    let raw : length so.records ≡ run.records = so.so_far.counted ∙ all in
-    let counted : length rs ≡ run.records = annotated-length kept so.records ∙ raw in
-    record {
-      records = so.records;
-      read = so.so_far.read;
-      starts = so.so_far.starts;
-      count = raw;
-      sound = so.put.sound;
-      listed = record {
-        count = sym counted;
-        starts = annotated-starts d run.first kept so.records so.so_far.starts;
-        last = let m : length so.records * d ≡ run.records * d = ap (λ n. n * d) raw in
-            omega (arith, so.so_far.next_is, ends, m, last_end run.records d run.records_some);
-        holds = subst (λ n. BlocksFit (second_of run.first) n rs) same so.put.holds;
-        least = λ fewer hold. omega (arith, so.put.least fewer hold, same);
-      };
-      tallied = so.tallied;
-      put = so.wrote;
-    }
-
--- what was put so far stays a front, where no more is put
-pub stops_put : (l : Layout) (from mid to : Progress) (left middle rest : Option (List ℕ))
-    (a b : Buffered) (run : Run) (kept : List DataRecord) (next samples count : ℕ)
-    (tally : Tally) → PutSoFar l from mid left middle a b run kept next samples count tally
-    → count ≤ run.records →
-    ReadsOneMoreAtMost l mid to middle rest count run →
-    StopsPutting l from to left rest a b run kept
-stops_put l from mid to left middle rest a b run kept next samples count tally so few more = record {
-  records = so.records;
-  mid = mid;
-  middle = middle;
-  read = so.so_far.read;
-  starts = so.so_far.starts;
-  within = omega (arith, so.so_far.counted);
-  holds = All-weaker (λ r. length (block_of (second_of run.first) r) ≤ 2 * samples)
-      (λ r. length (block_of (second_of run.first) r) ≤ 2 * run.block_samples)
-      (λ r h. omega (arith, h, so.put.within)) (annotated kept so.records) so.put.holds;
-  front = (b.held, so.wrote);
-  more = subst (λ n. ReadsOneMoreAtMost l mid to middle rest n run) (sym so.so_far.counted) more;
-}
-
--- one more was read, of which a front was put at most
-pub stops_in_put : (l : Layout) (from mid to : Progress) (left middle rest : Option (List ℕ))
-    (a b c : Buffered) (run : Run) (kept : List DataRecord) (next samples here count : ℕ)
-    (tally : Tally) (r q : DataRecord) (unwritten : List ℕ)
-    (so : PutSoFar l from mid left middle a b run kept next samples count tally)
-    → count < run.records →
-    StepsOn l mid to middle rest next r
-    → q ≡ annotated_one (slice_get kept (length so.records)) r
-    → here ≡ (length (block_of (second_of run.first) q) + 1) / 2 → here ≤ run.block_samples
-    → Writes b c (record_text (second_of run.first) (2 * run.block_samples) q) unwritten →
-    StopsPutting l from to left rest a c run kept
-stops_in_put l from mid to left middle rest a b c run kept next samples here count tally r q
-    unwritten so few step is here-is fits put =
-    let so-far = more_so_far l from mid to left middle rest run so.records next
-    (r.start + duration_of l.key.duration) count r so.so_far few step refl in
-    let same = more-annotated kept so.records r q is in
-    record {
-      records = so.records ++ r ∷ [];
-      mid = to;
-      middle = rest;
-      read = so-far.read;
-      starts = so-far.starts;
-      within = omega (arith, so-far.counted);
-      holds = subst (BlocksFit (second_of run.first) run.block_samples) (sym same)
-          (All-push (λ x. length (block_of (second_of run.first) x) ≤ 2 * run.block_samples)
-          (annotated kept so.records) q
-          (All-weaker (λ x. length (block_of (second_of run.first) x) ≤ 2 * samples)
-          (λ x. length (block_of (second_of run.first) x) ≤ 2 * run.block_samples)
-          (λ x h. omega (arith, h, so.put.within)) (annotated kept so.records) so.put.holds)
-          (samples_hold _ run.block_samples (omega (arith, here-is, fits))));
-      front = (
-        unwritten,
-        subst (λ (x : List DataRecord). Writes a c (run_text run x) unwritten) (sym same)
-            (text_then a b c run (annotated kept so.records) q unwritten so.wrote put),
-      );
-      more = inl (refl, refl);
-    }
 
 -- ---- the file
 
@@ -432,20 +193,21 @@ file_len k rs run header sound is =
 
 -- what was sent is the file of the run with these annotations
 pub went_out : (l : Layout) (from to : Progress) (left rest before after : Option (List ℕ))
-    (header : List ℕ) (run : Run) (kept : List DataRecord) (written : Written) (tally : Tally)
-    → IsKey l.key → MayStart l.key run.first → IsRunHeader header l.key run
-    → IsSent l from to left rest before after header run kept tally
+    (header : List ℕ) (run : Run) (starts : List ℕ) (kept : List DataRecord) (written : Written)
+    (tally : Tally) → IsKey l.key → MayStart l.key run.first → IsRunHeader header l.key run
+    → IsSent l from to left rest before after header run starts kept tally
     → written.bytes ≡ length header + run.records
     * (2 * samples_in_all l.key.signals + 2 * run.block_samples)
     → written.annotations ≡ tally.annotations → written.outside ≡ tally.outside →
-    IsWrittenByOnset l from to left rest before after run kept written
-went_out l from to left rest before after header run kept written tally key begins is-header sent
-    len-is all out =
+    IsWrittenByOnset l from to left rest before after run starts kept written
+went_out l from to left rest before after header run starts kept written tally key begins is-header
+    sent len-is all out =
     let rs = annotated kept sent.records in
     let file = run_file l.key rs run header key begins sent.sound sent.listed is-header in
     record {
       records = sent.records;
       read = sent.read;
+      start = sent.start;
       count = sent.count;
       listed = sent.listed;
       file = sent_text header run rs;
@@ -462,7 +224,7 @@ went_out l from to left rest before after header run kept written tally key begi
 -- where nothing is kept
 pub written_plain : (l : Layout) (from to : Progress) (left rest before after : Option (List ℕ))
     (run : Run) (written : Written)
-    → IsWrittenByOnset l from to left rest before after run [] written →
+    → IsWrittenByOnset l from to left rest before after run [] [] written →
     IsCountedRun l from to left rest before after run written
 written_plain l from to left rest before after run written w = record {
   went_out = record {
@@ -479,14 +241,14 @@ written_plain l from to left rest before after run written w = record {
 }
 
 stops_plain : (l : Layout) (from to : Progress) (left rest before after : Option (List ℕ))
-    (run : Run) → StopsByOnset l from to left rest before after run [] →
+    (run : Run) → StopsByOnset l from to left rest before after run [] [] →
     StopsInRun l from to left rest before after run
 stops_plain l from to left rest before after run s = record {
   records = s.records;
   mid = s.mid;
   middle = s.middle;
   read = s.read;
-  starts = s.starts;
+  starts = s.start;
   within = s.within;
   holds = s.holds;
   front = s.front;
@@ -495,7 +257,7 @@ stops_plain l from to left rest before after run s = record {
 
 pub not_written_plain : (l : Layout) (from to : Progress)
     (left rest before after : Option (List ℕ)) (run : Run) (fault : WriteFault)
-    → IsNotWrittenByOnset l from to left rest before after run [] fault →
+    → IsNotWrittenByOnset l from to left rest before after run [] [] fault →
     IsNotWritten l from to left rest before after run fault
 not_written_plain l from to left rest before after run Undated s = s
 not_written_plain l from to left rest before after run Changed s =
@@ -509,7 +271,7 @@ not_written_plain l from to left rest before after run Write s =
 
 pub ok_plain : (l : Layout) (from to : Progress) (left rest before after : Option (List ℕ))
     (run : Run) (result : Result Written WriteFault)
-    → IfOk result (IsWrittenByOnset l from to left rest before after run []) →
+    → IfOk result (IsWrittenByOnset l from to left rest before after run [] []) →
     IfOk result (IsCountedRun l from to left rest before after run)
 ok_plain l from to left rest before after run (Ok written) w =
     written_plain l from to left rest before after run written w
@@ -517,7 +279,7 @@ ok_plain l from to left rest before after run (Err fault) w = w
 
 pub err_plain : (l : Layout) (from to : Progress) (left rest before after : Option (List ℕ))
     (run : Run) (result : Result Written WriteFault)
-    → IfErr result (IsNotWrittenByOnset l from to left rest before after run []) →
+    → IfErr result (IsNotWrittenByOnset l from to left rest before after run [] []) →
     IfErr result (IsNotWritten l from to left rest before after run)
 err_plain l from to left rest before after run (Ok written) s = s
 err_plain l from to left rest before after run (Err fault) s =
@@ -525,14 +287,14 @@ err_plain l from to left rest before after run (Err fault) s =
 
 -- nothing was read or written
 pub not_begun : (l : Layout) (from : Progress) (left before : Option (List ℕ)) (run : Run)
-    (kept : List DataRecord) → from.given ≤ most_records l.count →
-    StopsByOnset l from from left left before before run kept
-not_begun l from left before run kept few = record {
+    (starts : List ℕ) (kept : List DataRecord) → from.given ≤ most_records l.count →
+    StopsByOnset l from from left left before before run starts kept
+not_begun l from left before run starts kept few = record {
   records = [];
   mid = from;
   middle = left;
   read = none_read l from left few;
-  starts = tt;
+  start = starts-as-none (duration_of l.key.duration) run.first starts;
   within = omega arith;
   holds = none_hold run kept;
   front = inl (Keeps-refl before);
@@ -540,15 +302,16 @@ not_begun l from left before run kept few = record {
 }
 
 stops_in_run : (l : Layout) (from to : Progress) (left rest before after : Option (List ℕ))
-    (header : List ℕ) (run : Run) (kept : List DataRecord) → IsRunHeader header l.key run
-    → StopsSending l from to left rest before after header run kept →
-    StopsByOnset l from to left rest before after run kept
-stops_in_run l from to left rest before after header run kept is-header s = record {
+    (header : List ℕ) (run : Run) (starts : List ℕ) (kept : List DataRecord) →
+    IsRunHeader header l.key run
+    → StopsSending l from to left rest before after header run starts kept →
+    StopsByOnset l from to left rest before after run starts kept
+stops_in_run l from to left rest before after header run starts kept is-header s = record {
   records = s.records;
   mid = s.mid;
   middle = s.middle;
   read = s.read;
-  starts = s.starts;
+  start = s.start;
   within = s.within;
   holds = s.holds;
   front = inr (header, is-header, s.front);
@@ -556,17 +319,18 @@ stops_in_run l from to left rest before after header run kept is-header s = reco
 }
 
 pub not_written : (l : Layout) (from to : Progress) (left rest before after : Option (List ℕ))
-    (header : List ℕ) (run : Run) (kept : List DataRecord) (fault : WriteFault)
+    (header : List ℕ) (run : Run) (starts : List ℕ) (kept : List DataRecord) (fault : WriteFault)
     → IsRunHeader header l.key run
-    → StopsSending l from to left rest before after header run kept → (fault ≡ Undated → ⊥) →
-    IsNotWrittenByOnset l from to left rest before after run kept fault
-not_written l from to left rest before after header run kept Undated is-header s dated =
+    → StopsSending l from to left rest before after header run starts kept →
+    (fault ≡ Undated → ⊥) →
+    IsNotWrittenByOnset l from to left rest before after run starts kept fault
+not_written l from to left rest before after header run starts kept Undated is-header s dated =
     absurd (dated refl)
-not_written l from to left rest before after header run kept Changed is-header s dated =
-    stops_in_run l from to left rest before after header run kept is-header s
-not_written l from to left rest before after header run kept Read is-header s dated =
-    stops_in_run l from to left rest before after header run kept is-header s
-not_written l from to left rest before after header run kept Memory is-header s dated =
-    stops_in_run l from to left rest before after header run kept is-header s
-not_written l from to left rest before after header run kept Write is-header s dated =
-    stops_in_run l from to left rest before after header run kept is-header s
+not_written l from to left rest before after header run starts kept Changed is-header s dated =
+    stops_in_run l from to left rest before after header run starts kept is-header s
+not_written l from to left rest before after header run starts kept Read is-header s dated =
+    stops_in_run l from to left rest before after header run starts kept is-header s
+not_written l from to left rest before after header run starts kept Memory is-header s dated =
+    stops_in_run l from to left rest before after header run starts kept is-header s
+not_written l from to left rest before after header run starts kept Write is-header s dated =
+    stops_in_run l from to left rest before after header run starts kept is-header s

@@ -4,7 +4,13 @@ use Rattle.std.proofs.Common.{refl, sym, ap, ◌∙◌, subst, arith, length-app
 use Rattle.std.proofs.Common.{Option, Some, None, Ok, Err, Result, append_assoc, ◌⊎◌}
 use Rattle.std.proofs.lemmas.Grind.{flat_map-append}
 use Rattle.std.proofs.lemmas.List.Elements.{All-weaker}
-use Rattle.edf_header.specs.Key.{Key}
+use Rattle.edf_header.specs.Key.{Key, IsKey}
+use Rattle.std.specs.List.{AllByRecursion}
+use Rattle.edf_fragment.specs.Sound.{IsSoundRecord}
+use Rattle.edf_runs.specs.Canonical.{AreAsPlanned, StartAlike}
+use Rattle.edf_runs.specs.WrittenByOnset.{annotated}
+use Rattle.edf_runs.proofs.Annotated.{annotated-front}
+use Rattle.edf_runs.proofs.KeptWhole.{annotated-sound, alike-front}
 use Rattle.edf_header.specs.Header.{Layout}
 use Rattle.edf_fragment.specs.Fragment.{DataRecord, Spells}
 use Rattle.edf_fragment.specs.Reading.{ReadsHeader, IsAnswer}
@@ -43,7 +49,7 @@ use Rattle.std.specs.Io.KnownBytes.{Keeps}
 use Rattle.edf_canonical.specs.Output.{WritesFront}
 use Rattle.edf_runs.specs.Canonical.{IsMeasured, MayComeFirst, StartsAt, IsPlanned}
 use Rattle.edf_runs.specs.Canonical.{StopsInFile, WritesPlannedFront, LeavesFrontOfFile}
-use Rattle.edf_runs.specs.Inside.Measuring.{IsMeasuredSoFar}
+use Rattle.edf_runs.specs.Inside.Measuring.{IsMeasuredSoFar, IsNoMore}
 use Rattle.edf_runs.specs.Inside.Sending.{records_text}
 use Rattle.edf_runs.specs.declared.canonical_plan.Measure.{Measure}
 use Rattle.edf_runs.specs.declared.fault.WriteFault.{WriteFault}
@@ -52,13 +58,16 @@ use Rattle.edf_runs.proofs.Growing.{all_front, all_last}
 
 -- the data records that were read so far, measured and put
 pub record PutMeasured (l : Layout) (p : Progress) (left rest : Option (List ℕ))
-    (before after : Buffered) (whole : Measure) (so_far : Option Measure) : Type 0 where
+    (before after : Buffered) (whole : Measure) (kept : List DataRecord)
+    (so_far : Option Measure) : Type 0 where
   pub records : List DataRecord
   pub going : p.state ≡ Reading
   pub read : HasRead l left rest records p
-  pub measured : IsMeasuredSoFar records so_far
-  pub first : MayComeFirst records whole
-  pub wrote : Writes before after (records_text whole records) after.held
+  pub alike : StartAlike kept records
+  pub sound : AllByRecursion (IsSoundRecord l.key) (annotated kept records)
+  pub measured : IsMeasuredSoFar (annotated kept records) so_far
+  pub first : MayComeFirst (annotated kept records) whole
+  pub wrote : Writes before after (records_text whole (annotated kept records)) after.held
 
 -- ---- measures of the same data records, or of the first ones
 
@@ -67,11 +76,6 @@ first_start [] = 0
 first_start (r ∷ rs) = r.start
 
 -- the first ones have no more, and no longer blocks
-pub record IsNoMore (m whole : Measure) : Type 0 where
-  pub first : m.first ≡ whole.first
-  pub records : m.records ≤ whole.records
-  pub samples : m.block_samples ≤ whole.block_samples
-
 pub no_more : (records later all : List DataRecord) (m whole : Measure) → all ≡ records ++ later →
     IsMeasured records m → IsMeasured all whole → IsNoMore m whole
 unfolding first_start
@@ -108,14 +112,6 @@ may_come records m whole is few = record {
       (λ r h. omega (arith, h, few.samples)) records is.holds);
 }
 
-pub last_fits : (records : List DataRecord) (r : DataRecord) (m whole : Measure) →
-    IsMeasured (records ++ r ∷ []) m → IsNoMore m whole →
-    length (block_of (second_of whole.first) r) ≤ 2 * whole.block_samples
-last_fits records r m whole is few =
-    let all = may_come (records ++ r ∷ []) m whole is few in
-    all_last (λ x. length (block_of (second_of whole.first) x) ≤ 2 * whole.block_samples) records r
-    all.holds
-
 -- all of them have this measure
 pub whole_measured : (records : List DataRecord) (m whole : Measure) → IsMeasured records m →
     MayComeFirst records whole → m.records ≡ whole.records →
@@ -136,25 +132,36 @@ whole_measured records m whole is may count block =
 
 -- ---- an input that spells what was measured
 
-module _ (bytes : List ℕ) (k : Key) (spelled : List DataRecord) (whole : Measure) (l : Layout)
+module _ (bytes : List ℕ) (k : Key) (spelled : List DataRecord) (whole : Measure)
+    (kept : List DataRecord) (l : Layout)
     (left mid rest : Option (List ℕ)) (rs : List DataRecord) (p q : Progress)
     (header : ReadsHeader (Some bytes) left l) (spells : Spells bytes k spelled)
-    (is : IsMeasured spelled whole) (going : p.state ≡ Reading)
-    (read : HasRead l left mid rs p) where
+    (alike : StartAlike kept spelled) (is : IsMeasured (annotated kept spelled) whole)
+    (going : p.state ≡ Reading) (read : HasRead l left mid rs p) where
   -- one more that is read may come first
   pub one_more_fits : (r : DataRecord) (m : Measure) → IsAnswer l p q mid rest (Ok (Some r)) →
-      IsMeasured (rs ++ r ∷ []) m → IsNoMore m whole
+      IsMeasured (annotated kept (rs ++ r ∷ [])) m → IsNoMore m whole
   one_more_fits r m answer measured =
       let more = one_more_read l left mid rest rs p q r read going answer in
       let front = read-front bytes left rest l (rs ++ r ∷ []) q k spelled header more.0 spells in
-      no_more (rs ++ r ∷ []) front.1.0 spelled m whole front.1.1 measured is
+      let later = annotated-front kept (rs ++ r ∷ []) front.1.0 in
+      no_more (annotated kept (rs ++ r ∷ [])) later.0 (annotated kept spelled) m whole
+      (ap (annotated kept) front.1.1 ∙ later.1) measured is
+
+  -- and what was kept of it starts when it does
+  pub one_more_alike : (r : DataRecord) → IsAnswer l p q mid rest (Ok (Some r)) →
+      StartAlike kept (rs ++ r ∷ [])
+  one_more_alike r answer =
+      let more = one_more_read l left mid rest rs p q r read going answer in
+      let front = read-front bytes left rest l (rs ++ r ∷ []) q k spelled header more.0 spells in
+      alike-front kept (rs ++ r ∷ []) front.1.0 (subst (StartAlike kept) front.1.1 alike)
 
   -- at the end all were read
-  pub all_at_end : IsAnswer l p q mid rest (Ok None) → IsMeasured rs whole
+  pub all_at_end : IsAnswer l p q mid rest (Ok None) → IsMeasured (annotated kept rs) whole
   all_at_end answer =
       let all = fragment_of_all bytes rest l rs
       (all_read l (Some bytes) left mid rest rs p q header read going answer) in
-      subst (λ x. IsMeasured x whole) (one-fragment bytes k l.key spelled rs spells all).records is
+      subst (λ x. IsMeasured (annotated kept x) whole) (one-fragment bytes k l.key spelled rs spells all).records is
 
   -- no fault of form comes
   pub no_fault : (fault : FragmentFault) → IsAnswer l p q mid rest (Err fault) →
@@ -226,16 +233,15 @@ sound_sizes k low (r ∷ rs) (one, lower, more) =
     All-cons (λ x. length x.samples ≡ 2 * samples_in_all k.signals) r rs one.samples_len
     (sound_sizes k (r.start + duration_of k.duration) rs more)
 
-file_of : (bytes : List ℕ) (k : Key) (rs : List DataRecord) (m : Measure) (header : List ℕ) →
-    Spells bytes k rs → IsMeasured rs m → MayStart k m.first →
+file_of : (k : Key) (rs : List DataRecord) (m : Measure) (header : List ℕ) → IsKey k →
+    AreSound k 0 rs → IsMeasured rs m → MayStart k m.first →
     IsCanonicalHeader header k m.first m.records m.block_samples →
     IsCanonicalFile (planned_text header m rs) k rs
-file_of bytes k rs m header spells is begins is-header =
+file_of k rs m header key are-sound is begins is-header =
     let r = is.first in
     let more = is.others in
     let same : r ∷ more ≡ rs = sym is.parts in
-    let sound : AreSound k 0 (r ∷ more) = subst (AreSound k 0) is.parts
-    (spelled-sound bytes k rs spells) in
+    let sound : AreSound k 0 (r ∷ more) = subst (AreSound k 0) is.parts are-sound in
     let few : length (r ∷ more) ≤ MOST_RECORDS = subst (λ (x : List DataRecord).
     length x ≤ MOST_RECORDS) is.parts (omega (arith, is.count, m.records_few)) in
     let count : m.records ≡ length (r ∷ more) =
@@ -243,7 +249,7 @@ file_of bytes k rs m header spells is begins is-header =
     let holds : BlocksFit (second_of m.first) m.block_samples (r ∷ more) =
     subst (BlocksFit (second_of m.first) m.block_samples) is.parts is.holds in
     subst (λ (x : List DataRecord). IsCanonicalFile (planned_text header m x) k x) same
-    (canonical (planned_text header m (r ∷ more)) k r more (spelled-key bytes k rs spells)
+    (canonical (planned_text header m (r ∷ more)) k r more key
     (subst (MayStart k) is.start begins) sound few
     (laid-out k (r ∷ more) r (second_of m.first) m.first m.block_samples header is.start
     (ap second_of is.start)
@@ -255,8 +261,8 @@ pub canonical_written : (left opened rest before after : Option (List ℕ)) (l :
     (plan : CanonicalPlan) (header : List ℕ) (len : ℕ) → ReadsHeader left opened l →
     l.key ≡ plan.identity
     → IsCanonicalHeader header plan.identity plan.measure.first plan.measure.records
-    plan.measure.block_samples → IsSentWhole l opened rest before after header plan.measure
-    → len ≡ length header + plan.measure.records
+    plan.measure.block_samples
+    → IsSentWhole l opened rest before after header plan.measure plan.kept.items → len ≡ length header + plan.measure.records
     * (2 * samples_in_all plan.identity.signals + 2 * plan.measure.block_samples) →
     IsCanonicalWritten left rest before after plan len
 canonical_written left opened rest before after l plan header len opens same is-header s len-is =
@@ -268,15 +274,22 @@ canonical_written left opened rest before after l plan header len opens same is-
     let head : IsCanonicalHeader header l.key m.first m.records m.block_samples =
     subst (λ k. IsCanonicalHeader header k m.first m.records m.block_samples) (sym same)
     is-header in
-    let file = file_of read.bytes l.key s.records m header read.spells s.measured begins head in
+    let rs = annotated plan.kept.items s.records in
+    let sound : AreSound l.key 0 rs = annotated-sound l.key 0 plan.kept.items s.records s.alike
+    (spelled-sound read.bytes l.key s.records read.spells) s.sound in
+    let file = file_of l.key rs m header (spelled-key read.bytes l.key s.records read.spells) sound
+    s.measured begins head in
     record {
       layout = l;
       records = s.records;
       read = read;
-      planned = record { identity = sym same; measured = s.measured };
-      file = planned_text header m s.records;
+      planned = record {
+        alike = s.alike;
+        planned = record { identity = sym same; measured = s.measured };
+      };
+      file = planned_text header m rs;
       is_file = file;
-      only = λ other is. one-file other (planned_text header m s.records) l.key s.records is file;
+      only = λ other is. one-file other (planned_text header m rs) l.key rs is file;
       wrote = s.wrote;
       len_is = len-is
           ∙ ap (λ k. length header + m.records * (2 * samples_in_all k.signals
@@ -284,8 +297,7 @@ canonical_written left opened rest before after l plan header len opens same is-
           ∙ ap (λ n. length header + n * (2 * samples_in_all l.key.signals
           + 2 * m.block_samples)) s.measured.count
           ∙ file-length header (second_of m.first) (2 * m.block_samples)
-          (2 * samples_in_all l.key.signals) s.records
-          (sound_sizes l.key 0 s.records (spelled-sound read.bytes l.key s.records read.spells))
+          (2 * samples_in_all l.key.signals) rs (sound_sizes l.key 0 rs sound)
           s.measured.holds;
     }
 
@@ -336,11 +348,16 @@ planned_more header m rs later =
     (flat_map-append (record_text (second_of m.first) (2 * m.block_samples)) rs later)
     ∙ sym (append_assoc header (records_text m rs) (records_text m later))
 
+file-sound : (file : List ℕ) (k : Key) (rs : List DataRecord) → IsCanonicalFile file k rs →
+    AreSound k 0 rs
+file-sound file k [] is = tt
+file-sound file k (r ∷ rs) is = spelled-sound file k (r ∷ rs) is.0
+
 front_in_file : (bytes : List ℕ) (rest before after : Option (List ℕ)) (plan : CanonicalPlan)
     (k : Key) (records : List DataRecord) (file : List ℕ) → Spells bytes k records →
-    IsPlanned k records plan → IsCanonicalFile file k records →
+    AreAsPlanned k records plan → IsCanonicalFile file k (annotated plan.kept.items records) →
     (s : StopsInFile (Some bytes) rest before after plan) →
-    WritesPlannedFront before after plan s.records → Keeps before after
+    WritesPlannedFront before after plan (annotated plan.kept.items s.records) → Keeps before after
     ⊎ WritesFront before after file
 front_in_file bytes rest before after plan k records file spells is whole s (inl keeps) = inl keeps
 front_in_file bytes rest before after plan k records file spells is whole s (inr written) =
@@ -348,15 +365,21 @@ front_in_file bytes rest before after plan k records file spells is whole s (inr
     let header = written.0 in
     let front = read-front bytes s.opened s.middle s.layout s.records s.progress k records s.header
     s.read spells in
-    let later = front.1.0 in
+    let kept = plan.kept.items in
+    let all = annotated kept records in
+    let first = annotated kept s.records in
+    let later = annotated-front kept s.records front.1.0 in
     let head : IsCanonicalHeader header k m.first m.records m.block_samples =
-    subst (λ x. IsCanonicalHeader header x m.first m.records m.block_samples) is.identity
+    subst (λ x. IsCanonicalHeader header x m.first m.records m.block_samples) is.planned.identity
     written.1 in
-    let begins : MayStart k m.first = subst (λ x. MayStart x m.first) is.identity plan.may_start in
-    let text = file_of bytes k records m header spells is.measured begins head in
-    inr (front_more before after (planned_text header m s.records) (records_text m later) file
-    (one-file file (planned_text header m records) k records whole text
-    ∙ ap (planned_text header m) front.1.1 ∙ planned_more header m s.records later) written.2)
+    let begins : MayStart k m.first =
+    subst (λ x. MayStart x m.first) is.planned.identity plan.may_start in
+    let text = file_of k all m header (spelled-key bytes k records spells)
+    (file-sound file k all whole) is.planned.measured begins head in
+    inr (front_more before after (planned_text header m first) (records_text m later.0) file
+    (one-file file (planned_text header m all) k all whole text
+    ∙ ap (planned_text header m) (ap (annotated kept) front.1.1 ∙ later.1)
+    ∙ planned_more header m first later.0) written.2)
 
 pub leaves-front : LeavesFrontOfFile
 leaves-front left rest before after plan fault bytes k records file known spells is whole

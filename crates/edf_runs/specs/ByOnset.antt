@@ -9,6 +9,7 @@ use Rattle.edf_tal.specs.Tal.{Annotation}
 use Rattle.edf_fragment.specs.Fragment.{DataRecord, Spells}
 use Rattle.edf_fragment.specs.Sound.{AreSound}
 use Rattle.edf_runs.specs.File.{IsRunFile}
+use Rattle.edf_runs.specs.Order.{in_order, AreInOrder}
 use Rattle.edf_runs.specs.Runs.{IsRuns}
 
 -- the annotations of data records, in file order
@@ -45,9 +46,9 @@ all_assigned all (r ∷ rs) = assigned all 0 r rs ∷ each_assigned all rs
 
 -- the data records with the same starts and samples, where each annotation is in the last data
 -- record that starts at or before its onset, or, where none does, in the first one; those of one
--- data record are in the order of the file
+-- data record are in order: by onset, then by duration, none first, then by the bytes of the text
 abbrev pub by_onset : List DataRecord → List DataRecord
-by_onset records = all_assigned (annotations_of records) records
+by_onset records = all_assigned (in_order (annotations_of records)) records
 
 -- ---- what that says of runs
 
@@ -120,14 +121,20 @@ EachWhereStarted = (k : Key) (records before after : List DataRecord) (r : DataR
     Contains r.annotations a
     ↔ (Contains (annotations_of records) a × IsLastStarted before r after a.onset)
 
+-- an annotation whose onset lies in a data record is in that one, and in no other
+abbrev pub EachWhereItLies : Type 0
+EachWhereItLies = (k : Key) (records : List DataRecord) (r other : DataRecord) (a : Annotation) →
+    AreSound k 0 records → Contains (by_onset records) r → Contains (annotations_of records) a →
+    r.start ≤ a.onset → a.onset < r.start + duration_of k.duration →
+    (Contains r.annotations a)
+    × (Contains (by_onset records) other → Contains other.annotations a → other ≡ r)
+
 -- and the data records are alike else, and have the annotations once
 abbrev pub StayAlike : Type 0
 StayAlike = (k : Key) (records : List DataRecord) → AreSound k 0 records →
     AllZip AreAlike (by_onset records) records
     × IsPermutation (annotations_of (by_onset records)) (annotations_of records)
 
--- those of each data record are in the order of the file: they are what a test leaves of all
+-- those of each data record are in order
 abbrev pub StayInOrder : Type 0
-StayInOrder = (records before after : List DataRecord) (r : DataRecord) →
-    by_onset records ≡ before ++ r ∷ after →
-    (test : Annotation → Bool) × (r.annotations ≡ filter test (annotations_of records))
+StayInOrder = (records : List DataRecord) → All (λ r. AreInOrder r.annotations) (by_onset records)

@@ -14,6 +14,7 @@ use Rattle.edf_fragment.specs.declared.fault.FragmentFault.{FragmentFault}
 use Rattle.edf_canonical.specs.File.{IsCanonicalFile, second_of, record_text, BlocksFit}
 use Rattle.edf_canonical.specs.Output.{WritesFront}
 use Rattle.edf_runs.specs.Again.{IsNotReopened}
+use Rattle.edf_runs.specs.WrittenByOnset.{annotated}
 use Rattle.edf_runs.specs.declared.canonical_plan.CanonicalPlan.{CanonicalPlan}
 use Rattle.edf_runs.specs.declared.canonical_plan.Measure.{Measure}
 use Rattle.edf_runs.specs.declared.fault.WriteFault.{WriteFault}
@@ -36,12 +37,27 @@ pub record IsPlanned (k : Key) (records : List DataRecord) (plan : CanonicalPlan
   pub identity : plan.identity ≡ k
   pub measured : IsMeasured records plan.measure
 
--- the whole input was read, and this is planned of what it spells
+-- the whole input was read, and this is planned of what it spells; nothing is kept, and each data
+-- record goes out with its own annotations
 pub record ReadsPlan (left rest : Option (List ℕ)) (plan : CanonicalPlan) : Type 0 where
   pub layout : Layout
   pub records : List DataRecord
   pub read : ReadsFragment left rest layout records
   pub planned : IsPlanned layout.key records plan
+  pub none_kept : plan.kept.items ≡ []
+  pub none_outside : plan.outside ≡ 0
+
+-- those of which something was kept start, in this reading, when that says
+abbrev pub StartAlike : List DataRecord → List DataRecord → Type 0
+StartAlike [] records = Unit {0}
+StartAlike (k ∷ ks) [] = Unit {0}
+StartAlike (k ∷ ks) (r ∷ rs) = (k.start ≡ r.start) × StartAlike ks rs
+
+-- data records with the annotations that the plan keeps of them, where it keeps any, are what was
+-- planned; those that are kept start when they do
+pub record AreAsPlanned (k : Key) (records : List DataRecord) (plan : CanonicalPlan) : Type 0 where
+  pub alike : StartAlike plan.kept.items records
+  pub planned : IsPlanned k (annotated plan.kept.items records) plan
 
 -- a header and data records as they are in a canonical file that was measured so
 abbrev pub planned_text : List ℕ → Measure → List DataRecord → List ℕ
@@ -60,17 +76,18 @@ pub record MayComeFirst (records : List DataRecord) (m : Measure) : Type 0 where
   pub within : length records ≤ m.records
   pub holds : BlocksFit (second_of m.first) m.block_samples records
 
--- the whole input was read; it spells what was planned, and its canonical file went out, the only
--- one that it has, and this is the length
+-- the whole input was read; with the annotations that were kept it has what was planned, and the
+-- canonical file of that went out, the only one that it has, and this is the length
 pub record IsCanonicalWritten (left rest before after : Option (List ℕ)) (plan : CanonicalPlan)
     (len : ℕ) : Type 0 where
   pub layout : Layout
   pub records : List DataRecord
   pub read : ReadsFragment left rest layout records
-  pub planned : IsPlanned layout.key records plan
+  pub planned : AreAsPlanned layout.key records plan
   pub file : List ℕ
-  pub is_file : IsCanonicalFile file layout.key records
-  pub only : (other : List ℕ) → IsCanonicalFile other layout.key records → other ≡ file
+  pub is_file : IsCanonicalFile file layout.key (annotated plan.kept.items records)
+  pub only : (other : List ℕ) →
+      IsCanonicalFile other layout.key (annotated plan.kept.items records) → other ≡ file
   pub wrote : Appends before after file
   pub len_is : len ≡ length file
 
@@ -89,9 +106,9 @@ AnswersOnceAtMost l from left rest = (rest ≡ left)
     ⊎ ((to : Progress) × (answer : Result (Option DataRecord) FragmentFault)
     × IsAnswer l from to left rest answer)
 
--- the header was read again and names the recording; the first data records were read, which may be
--- those that were planned, and a front of the planned header and these was written, or nothing; and
--- no more was asked for than one answer
+-- the header was read again and names the recording; the first data records were read, which with
+-- the annotations that were kept may be those that were planned, and a front of the planned header
+-- and these was written, or nothing; and no more was asked for than one answer
 pub record StopsInFile (left rest before after : Option (List ℕ)) (plan : CanonicalPlan) : Type 0
   where
     pub layout : Layout
@@ -102,8 +119,9 @@ pub record StopsInFile (left rest before after : Option (List ℕ)) (plan : Cano
     pub middle : Option (List ℕ)
     pub progress : Progress
     pub read : HasRead layout opened middle records progress
-    pub first : MayComeFirst records plan.measure
-    pub front : WritesPlannedFront before after plan records
+    pub alike : StartAlike plan.kept.items records
+    pub first : MayComeFirst (annotated plan.kept.items records) plan.measure
+    pub front : WritesPlannedFront before after plan (annotated plan.kept.items records)
     pub more : AnswersOnceAtMost layout progress middle rest
 
 -- why the canonical file was not written, or not to its end: the second reading stopped at the
@@ -118,7 +136,7 @@ IsNotCanonical left rest before after plan fault = (fault ≢ Undated)
 abbrev pub IsToldUnchanged : {A : Type 0} → Option (List ℕ) → CanonicalPlan →
     Result A WriteFault → Type 0
 IsToldUnchanged left plan result = (bytes : List ℕ) (k : Key) (records : List DataRecord) →
-    left ≡ Some bytes → Spells bytes k records → IsPlanned k records plan →
+    left ≡ Some bytes → Spells bytes k records → AreAsPlanned k records plan →
     result ≢ Err Changed
 
 -- where the input spells what was planned, nothing went out before a fault, or a front of its
@@ -126,6 +144,7 @@ IsToldUnchanged left plan result = (bytes : List ℕ) (k : Key) (records : List 
 abbrev pub LeavesFrontOfFile : Type 0
 LeavesFrontOfFile = (left rest before after : Option (List ℕ)) (plan : CanonicalPlan)
     (fault : WriteFault) (bytes : List ℕ) (k : Key) (records : List DataRecord) (file : List ℕ) →
-    left ≡ Some bytes → Spells bytes k records → IsPlanned k records plan →
-    IsCanonicalFile file k records → IsNotCanonical left rest before after plan fault →
+    left ≡ Some bytes → Spells bytes k records → AreAsPlanned k records plan →
+    IsCanonicalFile file k (annotated plan.kept.items records) →
+    IsNotCanonical left rest before after plan fault →
     Keeps before after ⊎ WritesFront before after file

@@ -1,4 +1,6 @@
 -- What is kept of runs is what makes them, read a second time, the runs of data records by onset.
+-- (What is kept of files over short gaps is in `JoinedRead`; `annotated_runs` and `IsAsKept` serve
+-- these too.)
 use Rattle.std.specs.Prelude.{ℕ, List, [], ◌∷◌, map, All}
 use Rattle.std.specs.List.{AllZip}
 use Rattle.edf_field.specs.Number.{duration_of}
@@ -8,8 +10,8 @@ use Rattle.edf_fragment.specs.Fragment.{DataRecord}
 use Rattle.edf_fragment.specs.Sound.{AreSound}
 use Rattle.edf_runs.specs.Runs.{IsRuns, IsListed}
 use Rattle.edf_runs.specs.ByOnset.{by_onset}
-use Rattle.edf_runs.specs.OnsetRead.{AreKept, kept_of, without_samples}
-use Rattle.edf_runs.specs.WrittenByOnset.{annotated, StartAlike}
+use Rattle.edf_runs.specs.OnsetRead.{AreKept, kept_of, starts_of, without_samples}
+use Rattle.edf_runs.specs.WrittenByOnset.{annotated, StartAs}
 use Rattle.edf_runs.specs.declared.onset_run.OnsetRun.{OnsetRun}
 
 -- runs as they are read, each with what was kept of it
@@ -18,10 +20,12 @@ annotated_runs [] listed = []
 annotated_runs (raw ∷ raws) [] = raw ∷ raws
 annotated_runs (raw ∷ raws) (run ∷ runs) = annotated (kept_of run) raw ∷ annotated_runs raws runs
 
--- the data records of a run are as was kept of them: such a run comes next, where they do
+-- the data records of a run start when they are to, and are as was kept of them: such a run comes
+-- next, where they do
 abbrev pub IsAsKept : ℕ → List DataRecord → OnsetRun → Type 0
 IsAsKept d raw run =
-    StartAlike (kept_of run) raw × IsListed d (annotated (kept_of run) raw) run.run
+    StartAs d run.run.first (starts_of run) raw
+    × IsListed d (annotated (kept_of run) raw) run.run
 
 -- the runs of a recording are as was kept of them by onset; with what was kept they are the runs of
 -- its data records by onset

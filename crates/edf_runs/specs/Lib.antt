@@ -12,3 +12,13 @@ pub mod WrittenByOnset
 pub mod OnsetRead
 pub mod AsRead
 pub mod KeptByOnset
+pub mod Order
+pub mod OneByOnset
+pub mod Taken
+pub mod PlanByOnset
+pub mod InRecording
+pub mod Groups
+pub mod Moved
+pub mod TakenBack
+pub mod MovedInstants
+pub mod JoinedRead

@@ -23,11 +23,16 @@ without_samples r = record { start = r.start; samples = []; annotations = r.anno
 abbrev pub kept_of : OnsetRun → List DataRecord
 kept_of run = run.kept.items
 
+-- when its data records start in the recording, where they are moved in its file
+abbrev pub starts_of : OnsetRun → List ℕ
+starts_of run = run.starts.items
+
 -- the list has one entry for each run of the data records, in the order of the file, which keeps
--- them, and what is listed of them
+-- them, and what is listed of them; none is moved
 pub record AreKept (d : ℕ) (records : List DataRecord) (listed : List OnsetRun) : Type 0 where
   pub are_runs : IsRuns d records (map kept_of listed)
   pub each : All (λ run. IsListed d (kept_of run) run.run) listed
+  pub unmoved : All (λ run. starts_of run ≡ []) listed
 
 -- the entry of this number, counted from 1
 abbrev pub numbered : ℕ → List OnsetRun → Option OnsetRun
@@ -70,8 +75,8 @@ pub record ReadsCrowded (left rest : Option (List ℕ)) (number : ℕ) : Type 0 
   pub crowded : IsFirstCrowded (duration_of layout.key.duration)
       (map without_samples (by_onset records)) number
 
--- memory ran out at the reading, as it may where runs are listed without regard to onsets; or after
--- the whole input was read, which spells a fragment
+-- memory ran out at the reading, as it may where runs are listed as they are; or after the whole
+-- input was read, which spells a fragment (so it is, too, where files over short gaps are listed)
 abbrev pub LacksMemory : Option (List ℕ) → Option (List ℕ) → Type 0
 LacksMemory left rest = IsFragmentFault left rest NoMemory ⊎ ((layout : Layout)
     × (records : List DataRecord) × ReadsFragment left rest layout records)

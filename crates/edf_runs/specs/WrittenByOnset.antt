@@ -1,5 +1,6 @@
--- What the writing of a run does whose data records go out with annotations that were kept of them.
-use Rattle.std.specs.Prelude.{◌≡◌, ◌≢◌, ℕ, ◌+◌, ◌≤◌, List, [], ◌∷◌, length, Option, Some}
+-- What the writing of a run does whose data records go out as they were kept: with annotations by
+-- onset, or over short gaps with other starts too.
+use Rattle.std.specs.Prelude.{◌≡◌, ◌≢◌, ℕ, ◌+◌, ◌≤◌, List, [], ◌∷◌, ◌++◌, length, Option, Some}
 use Rattle.std.specs.Prelude.{Result, Err}
 use Rattle.std.specs.Io.KnownBytes.{Appends}
 use Rattle.edf_field.specs.Number.{duration_of}
@@ -10,6 +11,7 @@ use Rattle.edf_fragment.specs.declared.advance.Progress.{Progress}
 use Rattle.edf_fragment.specs.declared.advance.ReaderState.TheVariants.{Reading}
 use Rattle.edf_fragment.specs.declared.open_fragment.OpenFragment.{OpenFragment}
 use Rattle.edf_canonical.specs.File.{second_of, BlocksFit}
+use Rattle.edf_runs.specs.Groups.{starts_in}
 use Rattle.edf_runs.specs.Runs.{StartFrom, IsListed}
 use Rattle.edf_runs.specs.File.{IsRunFile}
 use Rattle.edf_runs.specs.Read.{ReadsOn}
@@ -21,28 +23,32 @@ use Rattle.edf_runs.specs.declared.fault.WriteFault.{WriteFault}
 use Rattle.edf_runs.specs.declared.fault.WriteFault.TheVariants.{Undated, Changed, Read, Memory}
 use Rattle.edf_runs.specs.declared.fault.WriteFault.TheVariants.{Write}
 
--- the data record with the annotations of another
-abbrev pub with_annotations : DataRecord → DataRecord → DataRecord
-with_annotations kept r =
-    record { start = r.start; samples = r.samples; annotations = kept.annotations }
+-- what was kept of a data record, with the samples of this one
+abbrev pub with_samples : DataRecord → DataRecord → DataRecord
+with_samples kept r =
+    record { start = kept.start; samples = r.samples; annotations = kept.annotations }
 
--- data records with the annotations that were kept of them, one by one; those of which nothing was
--- kept have their own
+-- data records with the starts and annotations that were kept of them, one by one; those of which
+-- nothing was kept have their own
 abbrev pub annotated : List DataRecord → List DataRecord → List DataRecord
 annotated [] records = records
 annotated (k ∷ ks) [] = []
-annotated (k ∷ ks) (r ∷ rs) = with_annotations k r ∷ annotated ks rs
+annotated (k ∷ ks) (r ∷ rs) = with_samples k r ∷ annotated ks rs
 
--- those of which something was kept start when that says
-abbrev pub StartAlike : List DataRecord → List DataRecord → Type 0
-StartAlike [] records = Unit {0}
-StartAlike (k ∷ ks) [] = Unit {0}
-StartAlike (k ∷ ks) (r ∷ rs) = (k.start ≡ r.start) × StartAlike ks rs
+-- the first of these, and of nothing else
+abbrev pub AreFront : List ℕ → List ℕ → Type 0
+AreFront xs ys = (back : List ℕ) × (ys ≡ xs ++ back)
 
--- the run comes next: the input has data records, whose number the header allows, which start as
--- those that were kept, and of which, with the annotations that were kept, just this was listed
+-- data records start when they are to: where some instants are told, just then, one by one; else
+-- without a gap from an instant on, each where the one before ends after d nanoseconds
+abbrev pub StartAs : ℕ → ℕ → List ℕ → List DataRecord → Type 0
+StartAs d instant [] records = StartFrom d instant records
+StartAs d instant (s ∷ ss) records = AreFront (starts_in records) (s ∷ ss)
+
+-- the run comes next: the input has data records, whose number the header allows, which start then,
+-- and of which, as they were kept, just this was listed
 pub record ComesByOnset (l : Layout) (from : Progress) (left : Option (List ℕ)) (run : Run)
-    (kept : List DataRecord) : Type 0 where
+    (starts : List ℕ) (kept : List DataRecord) : Type 0 where
   pub going : from.state ≡ Reading
   pub bytes : List ℕ
   pub known : left ≡ Some bytes
@@ -51,23 +57,24 @@ pub record ComesByOnset (l : Layout) (from : Progress) (left : Option (List ℕ)
   pub rest : List ℕ
   pub are_records : AreDataRecords l from.place bytes records last rest
   pub within : from.given + length records ≤ most_records l.count
-  pub alike : StartAlike kept records
+  pub start : StartAs (duration_of l.key.duration) run.first starts records
   pub listed : IsListed (duration_of l.key.duration) (annotated kept records) run
 
 -- a call that reads the run again leaves the header, and finds no change where the run comes next
 pub record RereadsByOnset {A : Type 0} (old new : OpenFragment) (left : Option (List ℕ)) (run : Run)
-    (kept : List DataRecord) (result : Result A WriteFault) : Type 0 where
+    (starts : List ℕ) (kept : List DataRecord) (result : Result A WriteFault) : Type 0 where
   pub header : new.header ≡ old.header
-  pub unchanged : ComesByOnset old.header old.progress left run kept → result ≢ Err Changed
+  pub unchanged : ComesByOnset old.header old.progress left run starts kept → result ≢ Err Changed
 
--- as many data records as the run has were read, which start as those of the run do; with the
--- annotations that were kept their file went out, the only one that they have, and this is its
--- length, and what is counted of these annotations
+-- as many data records as the run has were read, which start then; as they were kept their file
+-- went out, the only one that they have, and this is its length, and what is counted of their
+-- annotations
 pub record IsWrittenByOnset (l : Layout) (from to : Progress)
-    (left rest before after : Option (List ℕ)) (run : Run) (kept : List DataRecord)
-    (written : Written) : Type 0 where
+    (left rest before after : Option (List ℕ)) (run : Run) (starts : List ℕ)
+    (kept : List DataRecord) (written : Written) : Type 0 where
   pub records : List DataRecord
   pub read : ReadsOn l from to left rest records
+  pub start : StartAs (duration_of l.key.duration) run.first starts records
   pub count : length records ≡ run.records
   pub listed : IsListed (duration_of l.key.duration) (annotated kept records) run
   pub file : List ℕ
@@ -78,16 +85,15 @@ pub record IsWrittenByOnset (l : Layout) (from to : Progress)
   pub counted : AreCounted (duration_of l.key.duration) run (annotated kept records)
       written.annotations written.outside
 
--- the first data records of the run were read, and of its header and these, with the annotations
--- that were kept, a front went out, or nothing; and no more was read than one data record that the
--- run still lacked
+-- the first data records of the run were read, and of its header and these, as they were kept, a
+-- front went out, or nothing; and no more was read than one data record that the run still lacked
 pub record StopsByOnset (l : Layout) (from to : Progress) (left rest before after : Option (List ℕ))
-    (run : Run) (kept : List DataRecord) : Type 0 where
+    (run : Run) (starts : List ℕ) (kept : List DataRecord) : Type 0 where
   pub records : List DataRecord
   pub mid : Progress
   pub middle : Option (List ℕ)
   pub read : ReadsOn l from mid left middle records
-  pub starts : StartFrom (duration_of l.key.duration) run.first records
+  pub start : StartAs (duration_of l.key.duration) run.first starts records
   pub within : length records ≤ run.records
   pub holds : BlocksFit (second_of run.first) run.block_samples (annotated kept records)
   pub front : WritesRunFront l.key before after run (annotated kept records)
@@ -95,15 +101,15 @@ pub record StopsByOnset (l : Layout) (from to : Progress) (left rest before afte
 
 -- why a run was not written so, or not to its end
 abbrev pub IsNotWrittenByOnset : Layout → Progress → Progress → Option (List ℕ) →
-    Option (List ℕ) → Option (List ℕ) → Option (List ℕ) → Run → List DataRecord → WriteFault →
-    Type 0
-IsNotWrittenByOnset l from to left rest before after run kept Undated =
+    Option (List ℕ) → Option (List ℕ) → Option (List ℕ) → Run → List ℕ → List DataRecord →
+    WriteFault → Type 0
+IsNotWrittenByOnset l from to left rest before after run starts kept Undated =
     CannotBegin l from to left rest before after run
-IsNotWrittenByOnset l from to left rest before after run kept Changed =
-    StopsByOnset l from to left rest before after run kept
-IsNotWrittenByOnset l from to left rest before after run kept Read =
-    StopsByOnset l from to left rest before after run kept
-IsNotWrittenByOnset l from to left rest before after run kept Memory =
-    StopsByOnset l from to left rest before after run kept
-IsNotWrittenByOnset l from to left rest before after run kept Write =
-    StopsByOnset l from to left rest before after run kept
+IsNotWrittenByOnset l from to left rest before after run starts kept Changed =
+    StopsByOnset l from to left rest before after run starts kept
+IsNotWrittenByOnset l from to left rest before after run starts kept Read =
+    StopsByOnset l from to left rest before after run starts kept
+IsNotWrittenByOnset l from to left rest before after run starts kept Memory =
+    StopsByOnset l from to left rest before after run starts kept
+IsNotWrittenByOnset l from to left rest before after run starts kept Write =
+    StopsByOnset l from to left rest before after run starts kept

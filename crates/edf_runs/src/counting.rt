@@ -15,7 +15,7 @@ use edf_fragment::Record;
 use edf_tal::Note;
 
 /// How many of these annotations have an onset before one instant, or at or after another.
-fn outside_of(notes: &[Note], first: u64, end: u64) -> usize
+pub(crate) fn outside_of(notes: &[Note], first: u64, end: u64) -> usize
     ensures { result ≡ count_by (is_outside first end) notes.now }
 {
     notes

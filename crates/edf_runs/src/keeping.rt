@@ -25,26 +25,33 @@ impl OnsetRun {
     fn of(alloc: Global, data_record: Record) -> Result<OnsetRun, AllocError>
         requires { data_record.samples ≡ [] }
         ensures kept { IfOk result (λ one. one.kept.items ≡ data_record ∷ []) }
+        ensures unmoved { IfOk result (λ one. one.starts.items ≡ []) }
         ensures listed { IfOk result (λ one. (d : ℕ) → IsListed d (data_record ∷ []) one.run) }
     {
         let run = Run::of(&data_record);
         let mut kept = Vec::new(alloc);
         kept.push(data_record)?;
-        Ok(OnsetRun { run, kept })
+        let starts = Vec::new(alloc);
+        Ok(OnsetRun { run, kept, starts })
     }
 
     /// This run with one more data record, which starts where it ends.
     fn with(self, data_record: Record) -> Result<OnsetRun, AllocError>
         requires { data_record.samples ≡ [] }
         ensures kept { IfOk result (λ more. more.kept.items ≡ self.kept.items ++ data_record ∷ []) }
+        ensures unmoved { IfOk result (λ more. more.starts.items ≡ self.starts.items) }
         ensures listed { IfOk result (λ more. (d : ℕ) → IsListed d self.kept.items self.run →
             data_record.start ≡ self.run.last + d → length self.kept.items < MOST_RECORDS →
             IsListed d (self.kept.items ++ data_record ∷ []) more.run) }
     {
-        let OnsetRun { run, mut kept } = self;
+        let OnsetRun {
+            run,
+            mut kept,
+            starts,
+        } = self;
         let run = run.with(&data_record);
         kept.push(data_record)?;
-        Ok(OnsetRun { run, kept })
+        Ok(OnsetRun { run, kept, starts })
     }
 }
 

@@ -6,14 +6,19 @@ ghost use Rattle.edf_header.specs.declared.limits.TheConstants.{MOST_RECORDS};
 ghost use Rattle.edf_header.specs.Key.{Key, IsKey};
 ghost use Rattle.edf_fragment.specs.Fragment.{DataRecord};
 ghost use Rattle.edf_fragment.specs.Sound.{AreSound, MayBegin};
-ghost use Rattle.edf_runs.specs.ByOnset.{EachInItsRun, EachWhereStarted, StayAlike};
-ghost use Rattle.edf_runs.specs.ByOnset.{StayInOrder};
+ghost use Rattle.edf_runs.specs.ByOnset.{EachInItsRun, EachWhereStarted, EachWhereItLies};
+ghost use Rattle.edf_runs.specs.ByOnset.{StayAlike, StayInOrder};
 ghost use Rattle.edf_runs.specs.Canonical.{LeavesFrontOfFile};
 ghost use Rattle.edf_runs.specs.Counted.{OutsideIsNotCovered};
 ghost use Rattle.edf_runs.specs.File.{IsRunFile, IsContinuous};
 ghost use Rattle.edf_runs.specs.KeptByOnset.{KeptAreByOnset, StaySound};
+ghost use Rattle.edf_runs.specs.OneByOnset.{AreOneByOnset, AreOneHoweverSpread, StaysByOnset};
+ghost use Rattle.edf_runs.specs.OneByOnset.{ToldAlike, PiecesAreOfCard};
+ghost use Rattle.edf_runs.specs.Order.{HaveOneOrder};
+ghost use Rattle.edf_runs.specs.PlanByOnset.{StaysAsPlanned, WritesByOnset, WritesAlike};
 ghost use Rattle.edf_runs.specs.Rejoined.{RunsRejoin};
 ghost use Rattle.edf_runs.specs.Runs.{IsRuns, IsTouching};
+ghost use Rattle.edf_runs.specs.Taken.{PiecesAndCardAreTaken};
 
 /// Each list of data records has runs, and no others.
 pub fn each_has_its_runs()
@@ -51,10 +56,12 @@ pub fn each_annotation_in_its_run()
 {}
 
 /// Where data records rise in time, each of those by onset has just the annotations for whose
-/// onsets it is the last that starts. Starts and samples stay, and each annotation is there once,
-/// in the order of the file.
+/// onsets it is the last that starts; one whose onset lies in a data record is in that one alone.
+/// Starts and samples stay, and each annotation is there once; those of one data record are in
+/// order.
 pub fn by_onset()
     ensures which { EachWhereStarted }
+    ensures lies { EachWhereItLies }
     ensures alike { StayAlike }
     ensures order { StayInOrder }
 {}
@@ -68,6 +75,46 @@ pub fn a_front_of_the_canonical_file()
 /// What is counted as outside of a run is just what its data records don't cover.
 pub fn outside_is_not_covered()
     ensures { OutsideIsNotCovered }
+{}
+
+/// Annotations have one order: by onset, then by duration, none first, then by the bytes of the
+/// text. Two that are equal in these are one and the same, and both stay.
+pub fn annotations_have_one_order()
+    ensures { HaveOneOrder }
+{}
+
+/// There is just one list of data records by onset, and by onset again it stays. Files of the same
+/// times, samples and annotations have the same one, and the same bytes by onset, however the
+/// annotations were spread over the data records, and in whatever order; the same is told of them.
+pub fn one_by_onset()
+    ensures one { AreOneByOnset }
+    ensures stays { StaysByOnset }
+    ensures spread { AreOneHoweverSpread }
+    ensures told { ToldAlike }
+{}
+
+/// The data records by onset of a piece are some of those of its card by onset, where the piece has
+/// just the annotations of the card that happened in it, and none happened outside of the card.
+pub fn pieces_are_of_their_card()
+    ensures { PiecesAreOfCard }
+{}
+
+/// Files by onset of a card and of its pieces, submitted in any order and as often as one likes to
+/// holdings that have nothing of the recording, are all accepted, and leave just the card by onset
+/// where it is among them.
+pub fn pieces_and_card_are_taken()
+    ensures { PiecesAndCardAreTaken }
+{}
+
+/// What [`write_canonical`](crate::write_canonical) writes by the plan of
+/// [`plan_by_onset`](crate::plan_by_onset), from a file that did not change, is the canonical file
+/// of its data records by onset; nor is such a file told as one that changed. Of two files of one
+/// recording with the same times, samples and annotations it writes the same bytes, however the
+/// annotations were spread over the data records, and in whatever order.
+pub fn the_canonical_file_by_onset()
+    ensures unchanged { StaysAsPlanned }
+    ensures file { WritesByOnset }
+    ensures alike { WritesAlike }
 {}
 
 /// The runs of a recording, read a second time, with what was kept of them where they were listed

@@ -10,8 +10,13 @@
 //! - [`list_by_onset`], [`reopen_by_onset`], [`write_by_onset`]: the same with each annotation in
 //!   the data record that has its onset; an [`OnsetListing`] keeps the annotations of each
 //!   [`OnsetRun`]; [`OnsetFault`]: why there is none.
+//! - [`list_joined`]: the files that data records have where short gaps are joined, as a
+//!   [`Joining`] says; [`write_by_onset`] writes them too.
 //! - [`plan_canonical`], [`write_canonical`]: the canonical file of a whole file, by two readings
-//!   from any reader; a [`CanonicalPlan`] is what is kept between them.
+//!   from any reader; a [`CanonicalPlan`] is what is kept between them. [`plan_by_onset`]: the same
+//!   with each annotation in the data record that has its onset.
+//! - [`joining_laws`]: each list of data records has such files, and they are taken back by what
+//!   they were moved.
 //! - [`laws`]: each list of data records has its runs; a run's file is read again; nothing is lost
 //!   where a file is split into its runs. These functions do nothing: their contracts are laws.
 #![tactic(auto)]
@@ -21,12 +26,20 @@ mod assigning;
 mod canonical_plan;
 mod counting;
 mod fault;
+mod filing;
+mod grouping;
+mod joining;
+pub mod joining_laws;
 mod keeping;
 pub mod laws;
 mod listing_by_onset;
+mod listing_joined;
+mod moving;
 mod onset_listing;
 mod onset_run;
+mod ordering;
 mod planning;
+mod planning_by_onset;
 mod reading;
 mod run;
 mod run_list;
@@ -38,10 +51,13 @@ mod written;
 pub use adding::add_record;
 pub use canonical_plan::CanonicalPlan;
 pub use fault::WriteFault;
+pub use joining::Joining;
 pub use listing_by_onset::list_by_onset;
+pub use listing_joined::list_joined;
 pub use onset_listing::{OnsetFault, OnsetListing};
 pub use onset_run::OnsetRun;
 pub use planning::plan_canonical;
+pub use planning_by_onset::plan_by_onset;
 pub use reading::{reopen, reopen_by_onset, skip_run};
 pub use run::Run;
 pub use run_list::{Listing, list_runs};

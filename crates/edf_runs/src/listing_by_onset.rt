@@ -16,6 +16,7 @@ use crate::assigning::{Slot, assign_all, copy_notes};
 use crate::keeping::keep_all;
 use crate::onset_listing::{OnsetFault, OnsetListing};
 use crate::onset_run::OnsetRun;
+use crate::ordering::in_order;
 use edf_field::MOST_DURATION;
 use edf_fragment::{FragmentFault, Input, OpenFragment, Record};
 use edf_header::laws::header_is_layout;
@@ -38,9 +39,9 @@ impl From<FragmentFault> for OnsetFault {
 
 /// The starts of data records, and all their annotations in the order of the file.
 #[derive(Drop)]
-struct Gathered {
-    slots: Vec<Slot>,
-    notes: Vec<Note>,
+pub(crate) struct Gathered {
+    pub(crate) slots: Vec<Slot>,
+    pub(crate) notes: Vec<Note>,
 }
 
 /// Gathers one more data record.
@@ -62,7 +63,7 @@ fn gather_one(
 }
 
 /// Gathers the data records that follow a header that was just read.
-fn gather<R: Input>(
+pub(crate) fn gather<R: Input>(
     alloc: Global,
     fragment: &mut OpenFragment,
     input: &mut R,
@@ -105,6 +106,9 @@ fn runs_by_onset(
         (IsKeptFault duration (map without_samples (by_onset records))) }
 {
     let Gathered { mut slots, notes } = gathered;
+    let Ok(notes) = in_order(notes) else {
+        return Err(OnsetFault::Memory);
+    };
     if assign_all(&mut slots, notes).is_err() {
         return Err(OnsetFault::Memory);
     }
@@ -112,8 +116,9 @@ fn runs_by_onset(
 }
 
 /// Reads a whole file of EDF+C or EDF+D and lists its runs, with each annotation in the last data
-/// record that starts at or before its onset, or, where none does, in the first. The annotations of
-/// the whole recording are in memory, and one data record's samples at a time.
+/// record that starts at or before its onset, or, where none does, in the first. Those of one data
+/// record are in order: by onset, then by duration, none first, then by the bytes of the text. The
+/// annotations of the whole recording are in memory, and one data record's samples at a time.
 ///
 /// # Errors
 /// `Fragment`: the first fault of the bytes by the order of the header, the data records and the

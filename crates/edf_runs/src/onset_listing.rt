@@ -1,6 +1,6 @@
 ghost use Rattle.std.specs.Prelude.{◌≡◌, [], All, IfOk};
 ghost use Rattle.edf_runs.specs.AsRead.{runs_of};
-ghost use Rattle.edf_runs.specs.OnsetRead.{kept_of};
+ghost use Rattle.edf_runs.specs.OnsetRead.{kept_of, starts_of};
 ghost use Rattle.edf_runs.specs.declared.onset_run.OnsetRun.{OnsetRun as ReadRun};
 
 use crate::onset_run::OnsetRun;
@@ -11,8 +11,9 @@ use edf_header::Identity;
 use std::alloc::{AllocError, Global};
 use thiserror::Error;
 
-/// What a file holds, where each annotation is in the data record that has its onset: the recording
-/// that it belongs to, and its runs in time order.
+/// What is written of a file: the recording that it belongs to, and its runs in time order, or the
+/// files that it has over short gaps, with what is kept of each. By onset each annotation is in the
+/// data record that has its onset.
 #[derive(Drop)]
 pub struct OnsetListing {
     /// The identity of the recording.
@@ -54,6 +55,7 @@ impl OnsetListing {
 fn runs_as_read(alloc: Global, runs: &[Run]) -> Result<Vec<OnsetRun>, AllocError>
     ensures runs { IfOk result (λ r. runs_of r.items ≡ runs.now) }
     ensures kept { IfOk result (λ r. All (λ (run : ReadRun). kept_of run ≡ []) r.items) }
+    ensures unmoved { IfOk result (λ r. All (λ (run : ReadRun). starts_of run ≡ []) r.items) }
 {
     let mut others = Vec::new(alloc);
     for run in runs {

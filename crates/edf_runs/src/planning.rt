@@ -7,7 +7,7 @@ ghost use Rattle.edf_fragment.specs.Reading.{CountsAnswer, at_first};
 ghost use Rattle.edf_fragment.specs.Whole.{FailsAfterRecords, IsFragmentFault};
 ghost use Rattle.edf_fragment.specs.Inside.Steps.{ReadsRecords};
 ghost use Rattle.edf_runs.specs.Canonical.{IsMeasured, ReadsPlan};
-ghost use Rattle.edf_runs.specs.Inside.Measuring.{IsMeasuredSoFar};
+ghost use Rattle.edf_runs.specs.Inside.Measuring.{IsMeasuredSoFar, HoldsBlock};
 
 use crate::canonical_plan::{CanonicalPlan, Measure};
 use edf_canonical::samples_of;
@@ -19,7 +19,8 @@ use std::alloc::Global;
 impl Measure {
     /// That of one data record.
     fn of(data_record: &Record) -> Measure
-        ensures { IsMeasured (data_record.now ∷ []) result }
+        ensures measured { IsMeasured (data_record.now ∷ []) result }
+        ensures holds { HoldsBlock result data_record.now }
     {
         let first = data_record.start();
         Measure {
@@ -31,9 +32,10 @@ impl Measure {
 
     /// That of one data record more.
     fn with(&self, data_record: &Record) -> Measure
-        ensures { (records : List DataRecord) → IsMeasured records self.now →
+        ensures measured { (records : List DataRecord) → IsMeasured records self.now →
             length records < MOST_RECORDS →
             IsMeasured (records ++ data_record.now ∷ []) result }
+        ensures holds { HoldsBlock result data_record.now }
     {
         let samples = samples_of(data_record, self.first.second());
         Measure {
@@ -45,9 +47,10 @@ impl Measure {
 
     /// That of the data records before, where there were some, and of this one.
     pub(crate) fn after(before: Option<Measure>, data_record: &Record) -> Measure
-        ensures { (records : List DataRecord) → IsMeasuredSoFar records before →
+        ensures measured { (records : List DataRecord) → IsMeasuredSoFar records before →
             length records < MOST_RECORDS →
             IsMeasured (records ++ data_record.now ∷ []) result }
+        ensures holds { HoldsBlock result data_record.now }
     {
         match before {
             Some(measure) => measure.with(data_record),
@@ -101,6 +104,8 @@ pub fn plan_canonical<R: Input>(
         Some(measure) => Ok(CanonicalPlan {
             identity: fragment.into_header().into_identity(),
             measure,
+            kept: Vec::new(alloc),
+            outside: 0,
         }),
         None => unreachable!(),
     }

@@ -1,6 +1,6 @@
 //! Data records of a file that is read a second time.
 
-ghost use Rattle.std.specs.Prelude.{◌≡◌, List, MatchResult};
+ghost use Rattle.std.specs.Prelude.{◌≡◌, List, [], MatchResult};
 ghost use Rattle.edf_fragment.specs.Reading.{ReadsHeader, at_first};
 ghost use Rattle.edf_runs.specs.Again.{fault_again, IsNotReopened, PassesRun, StopsBefore, StopsAt};
 ghost use Rattle.edf_fragment.specs.Fragment.{DataRecord};
@@ -129,7 +129,7 @@ pub fn skip_run<R: Input>(
 ) -> Result<(), WriteFault>
     ensures reread { RereadsRun fragment.old fragment.new (R.remaining input.old) run.now result }
     ensures by_onset { (kept : List DataRecord) →
-        RereadsByOnset fragment.old fragment.new (R.remaining input.old) run.now kept result }
+        RereadsByOnset fragment.old fragment.new (R.remaining input.old) run.now [] kept result }
     ensures answer { MatchResult result
         (λ _. PassesRun fragment.old.header fragment.old.progress fragment.new.progress
         (R.remaining input.old) (R.remaining input.new) run.now)

@@ -43,6 +43,7 @@ fn streams_of<'t>(
             file: _,
             prefix: _,
             is_by_onset: _,
+            joining: _,
         } => Streams::of_answers(rt, terminal),
         _ => Streams::new(rt, terminal),
     }

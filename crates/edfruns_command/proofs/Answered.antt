@@ -1,6 +1,6 @@
 -- What is answered where something is told.
 use Rattle.std.proofs.Common.{◌≡◌, ◌≢◌, ◌⊎◌, ℕ, List, [], Bool, true, false, inl, inr, refl, subst, suc, ◌++◌, ◌∷◌}
-use Rattle.std.proofs.Common.{ap, ◌∙◌, sym, arith, append_assoc, replicate}
+use Rattle.std.proofs.Common.{ap, ◌∙◌, sym, arith, append_assoc, replicate, codes}
 use Rattle.std.specs.Prelude.{Option, Result, Ok, Err, MatchResult}
 use Rattle.std.specs.Bool.{MatchBool}
 use Rattle.edf_fragment.specs.declared.fault.FragmentFault.{FragmentFault}
@@ -18,6 +18,8 @@ use Rattle.edf_runs.specs.declared.onset_listing.OnsetFault.TheVariants as onset
 use Rattle.edf_fragment.specs.Fault.{fragment_fault_number}
 use Rattle.edfruns_command.proofs.Undone.{number-undone}
 use Rattle.edfruns_command.specs.Inside.{OpensUpTo, IsPlanRefused}
+use Rattle.edf_runs.specs.declared.joining.Joining.{Joining}
+use Rattle.edfruns_command.specs.JoinedPlan.{HasJoinedFault, LacksJoinedPlan, part_of}
 use Rattle.edfruns_command.specs.Planning.{HasPlanFault, LacksPlan}
 use Rattle.edfruns_command.specs.Writing.{CountsWrite}
 use Rattle.edfruns_command.specs.Lines.{file_refused_line, file_refused_status, crowded_line}
@@ -142,7 +144,8 @@ err-is fault same = cc
 
 pub lacks-plan : (out err : Growth) (bytes : Option (List ℕ)) (name : List ℕ) (status : Status)
     (by_onset : Bool) → Gets out [] → (fault : OnsetFault) → HasPlanFault by_onset bytes fault →
-    IsPlanRefused err name fault status → LacksPlan out err bytes name status by_onset
+    IsPlanRefused err name (codes "run") fault status →
+    LacksPlan out err bytes name status by_onset
 lacks-plan out err bytes name status by_onset nothing (onset.Fragment met) has said =
     inr (refused out err bytes name met status nothing has said)
 lacks-plan out err bytes name status by_onset nothing (onset.TooMany number) has said =
@@ -150,21 +153,33 @@ lacks-plan out err bytes name status by_onset nothing (onset.TooMany number) has
 lacks-plan out err bytes name status by_onset nothing onset.Memory has said =
     inr (inr (nothing, said))
 
+pub lacks-joined-plan : (out err : Growth) (bytes : Option (List ℕ)) (name : List ℕ)
+    (status : Status) (by_onset : Bool) (joining : Option Joining) → Gets out [] →
+    (fault : OnsetFault) → HasJoinedFault joining by_onset bytes fault →
+    IsPlanRefused err name (part_of joining) fault status →
+    LacksJoinedPlan out err bytes name status joining by_onset
+lacks-joined-plan out err bytes name status by_onset joining nothing (onset.Fragment met) has said =
+    inr (refused out err bytes name met status nothing has said)
+lacks-joined-plan out err bytes name status by_onset joining nothing (onset.TooMany number) has said
+    = inl (record { number = number; crowded = has; said = (nothing, said) })
+lacks-joined-plan out err bytes name status by_onset joining nothing onset.Memory has said =
+    inr (inr (nothing, said))
+
 written-undone : (w : Growth) (bytes : List ℕ) (wanted status : Status) → wanted ≢ Done →
     IsWritten w bytes wanted status → status ≢ Done
 written-undone w bytes wanted status undone (inl whole) done = undone (sym whole.1 ∙ done)
 written-undone w bytes wanted status undone (inr front) done = let a = front.1 in cc
 
-pub plan-undone : (err : Growth) (name : List ℕ) (fault : OnsetFault) (status : Status) →
-    IsPlanRefused err name fault status → status ≢ Done
-plan-undone err name (onset.Fragment met) status (inl said) done =
+pub plan-undone : (err : Growth) (name part : List ℕ) (fault : OnsetFault) (status : Status) →
+    IsPlanRefused err name part fault status → status ≢ Done
+plan-undone err name part (onset.Fragment met) status (inl said) done =
     written-undone err (file_refused_line name met) (file_refused_status met) status
     (number-undone (fragment_fault_number met)) said done
-plan-undone err name (onset.Fragment met) status (inr said) done =
+plan-undone err name part (onset.Fragment met) status (inr said) done =
     trouble-undone err (memory_line name) status said done
-plan-undone err name (onset.TooMany number) status said done =
-    refused-undone err (crowded_line number) status said done
-plan-undone err name onset.Memory status said done =
+plan-undone err name part (onset.TooMany number) status said done =
+    refused-undone err (crowded_line part number) status said done
+plan-undone err name part onset.Memory status said done =
     trouble-undone err (memory_line name) status said done
 
 pub opened-refused : (before after : List (List ℕ)) (name : List ℕ) (status : Status) →

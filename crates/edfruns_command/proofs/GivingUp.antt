@@ -1,6 +1,6 @@
 -- Files of a split that are removed again, by what was made of them.
 use Rattle.std.proofs.Common.{◌≡◌, ℕ, zero, suc, ◌+◌, ◌-◌, ◌≤◌, List, [], ◌∷◌, ◌++◌, length, take}
-use Rattle.std.proofs.Common.{drop, map, refl, sym, ap, ◌∙◌, subst, arith, length-append}
+use Rattle.std.proofs.Common.{drop, map, refl, sym, ap, ◌∙◌, arith, length-append}
 use Rattle.std.proofs.Common.{◌⊎◌, inl, inr, Option}
 use Rattle.std.proofs.lemmas.List.{length-map, take_all}
 use Rattle.edf_header.specs.Key.{Key}

@@ -10,8 +10,10 @@ mod Walking
 mod MakingFiles
 mod Rereads
 mod SameRuns
+mod SameGroups
 mod Removals
 mod GivingUp
 mod Splits
 mod MadeLists
 mod Finished
+mod Outside

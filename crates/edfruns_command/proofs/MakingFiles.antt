@@ -1,12 +1,11 @@
 -- Files that are made one after another, while their runs are read.
 use Rattle.std.proofs.Common.{◌≡◌, ◌⊎◌, inl, inr, ℕ, suc, codes, ◌+◌, ◌<◌, List, [], ◌∷◌, ◌++◌, length, take}
-use Rattle.std.proofs.Common.{drop, get_or, map, refl, sym, ap, ◌∙◌, subst, arith, append_assoc}
-use Rattle.std.proofs.Common.{append-nil, take-append-drop, Option, true, Some, None, ◌≢◌}
+use Rattle.std.proofs.Common.{drop, get_or, refl, sym, ap, ◌∙◌, subst, arith, append_assoc}
+use Rattle.std.proofs.Common.{append-nil, take-append-drop, Option, Some, None, ◌≢◌}
 use Rattle.std.specs.Prelude.{slice_get}
-use Rattle.std.specs.List.{flat_map, AllZip}
-use Rattle.std.proofs.lemmas.List.{take_more, drop_more, map-append, length-map, length-take-le}
+use Rattle.std.specs.List.{AllZip}
+use Rattle.std.proofs.lemmas.List.{take_more, drop_more, map-append, length-take-le}
 use Rattle.edf_field.specs.Number.{duration_of}
-use Rattle.edf_header.specs.Key.{Key}
 use Rattle.edf_header.specs.Header.{Layout}
 use Rattle.edf_fragment.specs.Failures.{one_more}
 use Rattle.edf_fragment.specs.Fragment.{DataRecord}
@@ -14,23 +13,23 @@ use Rattle.edf_fragment.specs.Reading.{at_first}
 use Rattle.edf_fragment.specs.declared.advance.Progress.{Progress}
 use Rattle.edf_runs.specs.AsRead.{runs_of}
 use Rattle.edf_runs.specs.KeptByOnset.{annotated_runs}
-use Rattle.edf_runs.specs.OnsetRead.{kept_of}
+use Rattle.edf_runs.specs.OnsetRead.{kept_of, starts_of}
 use Rattle.edf_runs.specs.Read.{ReadsOn}
 use Rattle.edf_runs.specs.WrittenByOnset.{annotated, ComesByOnset, IsNotWrittenByOnset}
 use Rattle.edf_runs.specs.declared.onset_run.OnsetRun.{OnsetRun}
 use Rattle.edf_runs.specs.declared.written.Written.{Written}
 use Rattle.edf_runs.specs.declared.fault.WriteFault.{WriteFault}
-use Rattle.edf_runs.proofs.Annotated.{annotated-length, starts-annotated}
+use Rattle.edf_runs.proofs.Annotated.{annotated-length}
 use Rattle.edf_runs.proofs.Growing.{joined_more}
 use Rattle.edfruns_command.specs.Made.{MadeFile, begun, names_of}
-use Rattle.edfruns_command.specs.Writing.{IsPassed, SkipsRuns}
-use Rattle.edfruns_command.specs.Rereading.{IsAtRun, StopsAmong, ComesToOutput}
+use Rattle.edfruns_command.specs.Rereading.{IsAtRun, ComesToOutput, IsPassedAs}
+use Rattle.edfruns_command.specs.Rereading.{PassesRuns}
 use Rattle.edfruns_command.specs.Splitting.{Making, HoldsRun, IsKeptRun}
 use Rattle.edfruns_command.specs.InsideMaking.{MakesFile, HalfMakes, LacksFile, HasMade, MakesEach}
 use Rattle.edfruns_command.specs.InsideMaking.{HalfMakesEach, LacksOneOf, StopsFile, StopsEach}
 use Rattle.edfruns_command.specs.InsideMaking.{IsStopOf, MakesFirst, AreLinesOf}
 use Rattle.edfruns_command.specs.Lines.{IsSpelling}
-use Rattle.edfruns_command.specs.Counting.{run_front, counts_text, counted_line, split_lines}
+use Rattle.edfruns_command.specs.Counting.{file_front, counts_text, file_line, split_lines}
 use Rattle.edfruns_command.specs.declared.stop.Stop.{Stop}
 use Rattle.edfruns_command.specs.declared.stop.Stop.TheVariants as stop
 use Rattle.edf_runs.specs.Written.{CountsFault}
@@ -41,7 +40,6 @@ use Rattle.edfruns_command.specs.Made.{failed_with}
 use Rattle.edfruns_command.proofs.Rereading.{both, one-more, reads-then}
 use Rattle.edfruns_command.proofs.CountedLines.{counted-text, lines-more}
 use Rattle.edfruns_command.proofs.Finished.{all-finished, half-more}
-use Rattle.edfruns_command.proofs.Walking.{mapped}
 
 -- from the state before one to the state after another
 abbrev pub then : Making → Making → Making
@@ -56,22 +54,22 @@ then a b = record {
 
 -- the data records of listed runs are those that are passed
 passed : (d : ℕ) (parts : List (List DataRecord)) (runs : List OnsetRun) →
-    AllZip (IsKeptRun d) parts runs → AllZip (IsPassed d) parts (runs_of runs)
+    AllZip (IsKeptRun d) parts runs → AllZip (IsPassedAs d) parts runs
 passed d [] [] each = tt
 passed d (p ∷ ps) [] each = absurd each
 passed d [] (r ∷ rs) each = absurd each
 passed d (p ∷ ps) (r ∷ rs) each = (
   (
-    starts-annotated d r.run.first (kept_of r) p each.0.starts,
-    sym (annotated-length (kept_of r) p) ∙ sym each.0.count,
+    each.0.start,
+    sym (annotated-length (kept_of r) p) ∙ sym each.0.listed.count,
   ),
   passed d ps rs each.1,
 )
 
-pub skips-made : (m : Making) (names : List (List ℕ)) (l : Layout) (to : Progress)
+pub passes-made : (m : Making) (names : List (List ℕ)) (l : Layout) (to : Progress)
     (left rest : Option (List ℕ)) (runs : List OnsetRun) → MakesEach m names l to left rest runs →
-    SkipsRuns l to left rest (runs_of runs)
-skips-made m names l to left rest runs made = record {
+    PassesRuns l to left rest runs
+passes-made m names l to left rest runs made = record {
   passed = made.parts;
   are_passed = passed (duration_of l.key.duration) made.parts runs made.listed;
   read = made.read;
@@ -157,7 +155,7 @@ module _ (a b : Making) (known : b.known ≡ a.known) (before : b.before ≡ a.a
     parts = sym (take-append-drop i runs) ∙ ap (λ (rs : List OnsetRun). take i runs ++ rs)
         (drop_more runs i run lt ∙ ap (λ (r : OnsetRun). r ∷ drop (i + 1) runs) (sym is));
     nth_is = sym (length-take-le i runs (omega (arith, lt)));
-    skips = skips-made a (take i names) l mid left middle (take i runs) so_far;
+    passes = passes-made a (take i names) l mid left middle (take i runs) so_far;
   }
 
   -- the runs that go out, one more
@@ -195,7 +193,7 @@ module _ (a b : Making) (known : b.known ≡ a.known) (before : b.before ≡ a.a
   -- the line of its file
   abbrev line_of_file : Written → (ℕ → List ℕ) → List ℕ
   line_of_file written spell = name ++ (codes " "
-      ++ (run_front spell (duration_of l.key.duration) (i + 1) run.run
+      ++ (file_front spell (duration_of l.key.duration) (i + 1) run
       (slice_get (runs_of runs) (i + 1)) ++ counts_text written.annotations written.outside))
 
   -- and their lines, one more
@@ -214,28 +212,26 @@ module _ (a b : Making) (known : b.known ≡ a.known) (before : b.before ≡ a.a
       so_far.listed ∙ length-take-le i runs (omega (arith, lt)) in
       let at_name : name ≡ get_or names (length outs) name =
       subst (λ k. name ≡ get_or names k name) (sym count) is_name in
-      let at_run : run.run ≡ get_or (runs_of runs) (length outs) run.run =
-      subst (λ k. run.run ≡ get_or (runs_of runs) k run.run) (sym count)
-      (mapped runs i run lt is (λ (r : OnsetRun). r.run)) in
-      let all : length (runs_of runs) ≡ length runs = length-map runs (λ (r : OnsetRun). r.run) in
+      let at_run : run ≡ get_or runs (length outs) run =
+      subst (λ k. run ≡ get_or runs k run) (sym count) is in
       let place : i + 1 ≡ 1 + length outs = omega (arith, count) in
       let after : i + 1 ≡ length outs + 1 = omega (arith, count) in
       record {
         each = makes-more written one;
         lines = λ spell spelled.
-            let line : ℕ → ℕ → List ℕ = λ k n. name ++ (codes " " ++ counted_line spell d k run.run
+            let line : ℕ → ℕ → List ℕ = λ k n. name ++ (codes " " ++ file_line spell d k run
             (slice_get (runs_of runs) n) out) in
             let told : line_of_file written spell ≡ line (i + 1) (i + 1) =
-            ap (λ (t : List ℕ). name ++ (codes " " ++ (run_front spell d (i + 1) run.run
+            ap (λ (t : List ℕ). name ++ (codes " " ++ (file_front spell d (i + 1) run
             (slice_get (runs_of runs) (i + 1)) ++ t)))
             (counted-text d run.run out written.annotations written.outside one.counted) in
             grows spell spelled
             ∙ ap (λ (t : List ℕ). t ++ line_of_file written spell) (lines spell spelled)
-            ∙ ap (λ (t : List ℕ). split_lines spell d 1 names (runs_of runs) outs ++ t)
+            ∙ ap (λ (t : List ℕ). split_lines spell d 1 names runs outs ++ t)
             (told ∙ ap (λ k. line k (i + 1)) place ∙ ap (line (1 + length outs)) after)
-            ∙ sym (lines-more spell d 1 names (runs_of runs) outs out name run.run
-            (omega (arith, count, named)) (omega (arith, count, lt, all)) at_name at_run)
-            ∙ ap (split_lines spell d 1 names (runs_of runs)) (sym (outs-more one.records));
+            ∙ sym (lines-more spell d 1 names runs outs out name run
+            (omega (arith, count, named)) (omega (arith, count, lt)) at_name at_run)
+            ∙ ap (split_lines spell d 1 names runs) (sym (outs-more one.records));
       }
 
   -- there was no memory for its line
@@ -259,10 +255,13 @@ module _ (a b : Making) (known : b.known ≡ a.known) (before : b.before ≡ a.a
             mid = to;
             middle = rest;
             read = one.read;
-            starts = starts-annotated (duration_of l.key.duration) run.run.first (kept_of run)
-                one.records one.listed.starts;
-            within = omega (arith, one.listed.count, annotated-length (kept_of run) one.records);
-            holds = one.listed.holds;
+            start = one.listed.start;
+            within = omega (
+              arith,
+              one.listed.listed.count,
+              annotated-length (kept_of run) one.records,
+            );
+            holds = one.listed.listed.holds;
             front = inl tt;
             more = inl (refl, refl);
           };
@@ -388,8 +387,9 @@ module _ (m : Making) (name : List ℕ) (l : Layout) (from to : Progress)
 
   -- a run that was not written to its end
   pub half-made : (met : WriteFault) (why : Stop) → IsStopOf met name why →
-      IsNotWrittenByOnset l from to left rest blank half run.run (kept_of run) met →
-      (ComesByOnset l from left run.run (kept_of run) → met ≢ fault.Changed) →
+      IsNotWrittenByOnset l from to left rest blank half run.run (starts_of run)
+      (kept_of run) met →
+      (ComesByOnset l from left run.run (starts_of run) (kept_of run) → met ≢ fault.Changed) →
       met ≢ fault.Undated →
       CountsFault reads reads' failures failures' met →
       StopsFile m name l from to left rest run why

@@ -1,12 +1,12 @@
 -- Files that are removed one after another, and what is said of them.
-use Rattle.std.proofs.Common.{◌≡◌, ℕ, ◌+◌, ◌-◌, ◌≤◌, ◌<◌, Bool, true, false, List, [], ◌∷◌, ◌++◌}
+use Rattle.std.proofs.Common.{◌≡◌, ℕ, ◌+◌, ◌≤◌, ◌<◌, Bool, true, false, List, [], ◌∷◌, ◌++◌}
 use Rattle.std.proofs.Common.{length, take, drop, get_or, map, refl, sym, ap, ◌∙◌, subst, arith}
 use Rattle.std.proofs.Common.{append_assoc, append-nil, inl, inr, length-append, All, Option}
 use Rattle.std.proofs.Common.{take-append-drop}
 use Rattle.std.specs.List.{flat_map}
 use Rattle.std.proofs.KnownBytes.{Appends-trans}
 use Rattle.std.proofs.lemmas.List.{take_more, drop_more, map-append, length-map, take_all, drop_all}
-use Rattle.std.proofs.lemmas.List.{length-take-le, length-drop, take-map, flat_map_more}
+use Rattle.std.proofs.lemmas.List.{length-take-le, flat_map_more}
 use Rattle.std.proofs.lemmas.List.Elements.{All-push, All-nil}
 use Rattle.std.specs.Io.KnownBytes.{Appends}
 use Rattle.edf_program.specs.Output.{Growth, Gets, GetsFront, IsPut, IsWritten}

@@ -1,5 +1,5 @@
 -- A second reading of a whole file.
-use Rattle.std.proofs.Common.{◌≡◌, ◌⊎◌, inl, inr, ℕ, ◌+◌, List, [], ◌++◌, length, take, refl, sym, ap}
+use Rattle.std.proofs.Common.{◌≡◌, inl, inr, ℕ, ◌+◌, List, [], length, take, refl, sym}
 use Rattle.std.proofs.Common.{◌∙◌, subst, arith, append-nil, Option, Some, None, Result, Ok, Err}
 use Rattle.std.specs.List.{flat_map}
 use Rattle.std.specs.Io.KnownBytes.{Consumes}
@@ -9,7 +9,7 @@ use Rattle.edf_field.specs.Number.{duration_of}
 use Rattle.edf_header.specs.Key.{Key}
 use Rattle.edf_header.specs.Header.{Layout}
 use Rattle.edf_fragment.specs.Fragment.{DataRecord}
-use Rattle.edf_fragment.specs.Reading.{ReadsHeader, AnswersIn, EndsThere, at_first}
+use Rattle.edf_fragment.specs.Reading.{AnswersIn, EndsThere}
 use Rattle.edf_fragment.specs.declared.advance.Progress.{Progress}
 use Rattle.edf_fragment.specs.declared.advance.ReaderState.{ReaderState}
 use Rattle.edf_fragment.specs.declared.advance.ReaderState.TheVariants.{Reading}
@@ -18,14 +18,13 @@ use Rattle.edf_fragment.specs.declared.fault.FragmentFault.TheVariants as refuse
 use Rattle.edf_fragment.specs.Inside.Steps.{ReadsRecords}
 use Rattle.edf_fragment.proofs.Fragments.{fragment_read}
 use Rattle.edf_runs.specs.Again.{IsNotReopened}
-use Rattle.edf_runs.specs.Read.{ReadsOn}
 use Rattle.edf_runs.specs.KeptByOnset.{annotated_runs}
 use Rattle.edf_runs.specs.declared.onset_run.OnsetRun.{OnsetRun}
 use Rattle.edf_runs.specs.declared.onset_listing.OnsetListing.{OnsetListing}
 use Rattle.edf_runs.specs.declared.fault.WriteFault.{WriteFault}
 use Rattle.edf_runs.specs.declared.fault.WriteFault.TheVariants as fault
 use Rattle.edfruns_command.specs.Writing.{ReadsAgain}
-use Rattle.edfruns_command.specs.Rereading.{IsOfReading, IsNoEnd, StopsRereading}
+use Rattle.edfruns_command.specs.Rereading.{IsOfReading, IsNoEnd}
 use Rattle.edfruns_command.specs.Splitting.{Making, WereFirst}
 use Rattle.edfruns_command.proofs.Finished.{first-all}
 use Rattle.edfruns_command.specs.InsideMaking.{Ends, StopsAtEnd, MakesEach, MakesFirst, HasMade}
@@ -33,7 +32,7 @@ use Rattle.edfruns_command.specs.InsideMaking.{HalfRereads, HalfMakesEach, Stops
 use Rattle.edfruns_command.specs.InsideMaking.{RereadsAll, RereadsWith, AreLinesOf}
 use Rattle.edfruns_command.specs.declared.stop.Stop.{Stop}
 use Rattle.edfruns_command.specs.declared.stop.Stop.TheVariants as stop
-use Rattle.edfruns_command.proofs.MakingFiles.{skips-made}
+use Rattle.edfruns_command.proofs.MakingFiles.{passes-made}
 
 -- ---- nothing was made
 
@@ -130,7 +129,7 @@ module _ (m : Making) (bytes : Option (List ℕ)) (plan : OnsetListing) (names :
           record {
             from = mid;
             left = left;
-            skips = skips-made m names l mid start left plan.runs.items makes;
+            passes = passes-made m names l mid start left plan.runs.items makes;
             to = to;
             answer = stop.answer;
             is_answer = stop.is_answer;

@@ -1,5 +1,5 @@
 -- Data records that are listed as the runs of a file are runs too.
-use Rattle.std.proofs.Common.{◌≡◌, ◌≢◌, ℕ, ◌+◌, ◌-◌, ◌*◌, ◌≤◌, List, [], ◌∷◌, ◌++◌, length, refl, sym}
+use Rattle.std.proofs.Common.{◌≡◌, ◌≢◌, ℕ, ◌+◌, ◌-◌, ◌*◌, List, [], ◌∷◌, ◌++◌, length, refl, sym}
 use Rattle.std.proofs.Common.{ap, ◌∙◌, subst, arith, append_assoc, All, map, Bool, true, false}
 use Rattle.std.specs.Prelude.{Option}
 use Rattle.std.specs.List.{flat_map, AllZip}
@@ -9,12 +9,13 @@ use Rattle.edf_field.specs.Number.{duration_of}
 use Rattle.edf_header.specs.Key.{Key}
 use Rattle.edf_fragment.specs.Fragment.{DataRecord}
 use Rattle.edf_runs.specs.AsRead.{runs_of}
-use Rattle.edf_runs.specs.OnsetRead.{kept_of}
+use Rattle.edf_runs.specs.OnsetRead.{kept_of, starts_of}
 use Rattle.edf_runs.specs.Runs.{StartFrom, IsTouching, AreParted, IsRuns, IsListed}
+use Rattle.edf_runs.specs.WrittenByOnset.{StartAs}
 use Rattle.edf_runs.specs.declared.run.Run.{Run}
 use Rattle.edf_runs.specs.declared.onset_run.OnsetRun.{OnsetRun}
 use Rattle.edf_runs.specs.declared.onset_listing.OnsetListing.{OnsetListing}
-use Rattle.edf_runs.proofs.Annotated.{annotated-length, starts-annotated}
+use Rattle.edf_runs.proofs.Annotated.{annotated-length}
 use Rattle.edf_runs.proofs.Growing.{touching_from, from_touching, touching_front, last_start}
 use Rattle.edf_runs.proofs.Growing.{last_end}
 use Rattle.edfruns_command.specs.Planning.{HasPlan}
@@ -122,19 +123,24 @@ of-listed d (p ∷ ps) (r ∷ rs) each = (
   of-listed d ps rs each.1,
 )
 
+abbrev is_unmoved : OnsetRun → Type 0
+is_unmoved run = starts_of run ≡ []
+
 -- as they are read again
 of-kept : (d : ℕ) (runs : List (List DataRecord)) (listed : List OnsetRun) →
-    AllZip (IsKeptRun d) runs listed → AllZip (IsRunOf d) runs (runs_of listed)
-of-kept d [] [] each = tt
-of-kept d [] (r ∷ rs) each = absurd each
-of-kept d (p ∷ ps) [] each = absurd each
-of-kept d (p ∷ ps) (r ∷ rs) each = (
+    All is_unmoved listed → AllZip (IsKeptRun d) runs listed →
+    AllZip (IsRunOf d) runs (runs_of listed)
+of-kept d [] [] unmoved each = tt
+of-kept d [] (r ∷ rs) unmoved each = absurd each
+of-kept d (p ∷ ps) [] unmoved each = absurd each
+of-kept d (p ∷ ps) (r ∷ rs) unmoved each = (
   record {
-    count = each.0.count ∙ annotated-length (kept_of r) p;
-    starts = starts-annotated d r.run.first (kept_of r) p each.0.starts;
-    last = each.0.last;
+    count = each.0.listed.count ∙ annotated-length (kept_of r) p;
+    starts = subst (λ (ss : List ℕ). StartAs d r.run.first ss p)
+        (All-head is_unmoved r rs unmoved) each.0.start;
+    last = each.0.listed.last;
   },
-  of-kept d ps rs each.1,
+  of-kept d ps rs (All-tail is_unmoved r rs unmoved) each.1,
 )
 
 -- and as they are kept
@@ -179,10 +185,14 @@ module _ (bytes : Option (List ℕ)) (plan : OnsetListing) (others : List (List 
             IsListed n (kept_of run) run.run) plan.runs.items) e read.listed.each),
       )
 
+  unmoved : (by_onset : Bool) → HasPlan by_onset bytes plan → All is_unmoved plan.runs.items
+  unmoved false (listing, has, same) = same.unmoved
+  unmoved true (rest, read) = read.listed.unmoved
+
   -- what is listed of the runs of a file is listed of runs alone
   pub planned-runs : (by_onset : Bool) → HasPlan by_onset bytes plan →
       AllZip (IsKeptRun d) others plan.runs.items → IsRuns d (flat_map (λ run. run) others) others
   planned-runs by_onset has each =
       let p = of-plan by_onset has in
       same-runs d p.0 others (runs_of plan.runs.items) p.1 p.2
-      (of-kept d others plan.runs.items each)
+      (of-kept d others plan.runs.items (unmoved by_onset has) each)

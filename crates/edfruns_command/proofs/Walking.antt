@@ -1,16 +1,9 @@
 -- A list that is walked, and lines whose labels agree.
-use Rattle.std.proofs.Common.{◌≡◌, ℕ, ◌+◌, ◌-◌, ◌<◌, Bool, true, false, List, [], ◌∷◌, ◌++◌, length}
-use Rattle.std.proofs.Common.{take, drop, get_or, map, refl, sym, ap, ◌∙◌, subst, arith, All}
-use Rattle.std.proofs.Common.{take-append-drop, codes, Option, Some, None, IfSome}
-use Rattle.std.specs.Prelude.{slice_get}
-use Rattle.std.specs.List.{range_with_len}
+use Rattle.std.proofs.Common.{◌≡◌, ℕ, ◌+◌, ◌<◌, Bool, List, ◌∷◌, ◌++◌, length}
+use Rattle.std.proofs.Common.{take, drop, get_or, map, sym, ap, ◌∙◌, subst, All}
+use Rattle.std.proofs.Common.{take-append-drop, Option, Some, None, IfSome}
 use Rattle.std.proofs.lemmas.List.{take_more, drop_more, get_or-map}
 use Rattle.std.proofs.lemmas.List.Elements.{All-push}
-use Rattle.std.proofs.lemmas.List.FromFn.{get_or-map-range_with_len, length-map-range_with_len}
-use Rattle.std.proofs.lemmas.Option.{slice_get-get_or}
-use Rattle.edf_runs.specs.declared.run.Run.{Run}
-use Rattle.edfruns_command.specs.Lines.{run_line, run_lines}
-use Rattle.edfruns_command.specs.Inside.{label_in, label_text}
 
 module _ {X : Type 0} (xs : List X) (i : ℕ) (x : X) (lt : i < length xs) (is : x ≡ get_or xs i x)
   where

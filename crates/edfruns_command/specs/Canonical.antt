@@ -1,25 +1,27 @@
 -- What `canonical` does: what it writes, and the status that it answers.
-use Rattle.std.specs.Prelude.{◌≡◌, ◌⊎◌, ℕ, List, [], Option, Err}
+use Rattle.std.specs.Prelude.{◌≡◌, ◌⊎◌, ℕ, zero, suc, List, [], Bool, true, false, Option, Err}
 use Rattle.edf_program.specs.Output.{Growth, Gets, IsWritten}
 use Rattle.edf_program.specs.declared.status.Status.{Status}
 use Rattle.edf_program.specs.declared.status.Status.TheVariants.{Done}
 use Rattle.edf_runs.specs.Canonical.{ReadsPlan, IsCanonicalWritten, IsNotCanonical}
 use Rattle.edf_runs.specs.Canonical.{IsToldUnchanged}
+use Rattle.edf_runs.specs.PlanByOnset.{ReadsPlanByOnset}
 use Rattle.edf_runs.specs.declared.canonical_plan.CanonicalPlan.{CanonicalPlan}
 use Rattle.edf_runs.specs.declared.fault.WriteFault.{WriteFault}
 use Rattle.edf_runs.specs.declared.fault.WriteFault.TheVariants as fault
-use Rattle.edfruns_command.specs.Lines.{run_refused_line, run_refused_status}
-use Rattle.edfruns_command.specs.Listing.{RefusesFile, LacksMemory}
+use Rattle.edfruns_command.specs.Lines.{run_refused_line, run_refused_status, outside_line}
+use Rattle.edfruns_command.specs.Planning.{LacksPlan}
 use Rattle.edfruns_command.specs.Writing.{CountsWrite}
 
--- the file was read to its end, and this is planned of what it spells
-pub record HasPlan (bytes : Option (List ℕ)) (plan : CanonicalPlan) : Type 0 where
-  pub rest : Option (List ℕ)
-  pub read : ReadsPlan bytes rest plan
+-- the file was read to its end, and this is planned of what it spells: by onset, with each
+-- annotation in the data record that has its onset; else each data record has its own
+abbrev pub HasPlan : Bool → Option (List ℕ) → CanonicalPlan → Type 0
+HasPlan false bytes plan = (rest : Option (List ℕ)) × ReadsPlan bytes rest plan
+HasPlan true bytes plan = (rest : Option (List ℕ)) × ReadsPlanByOnset bytes rest plan
 
 module _ (out : Growth) (bytes : Option (List ℕ)) (plan : CanonicalPlan) where
-  -- it was read again and spells what was planned, and its canonical file went out, the only one
-  -- that it has
+  -- it was read again and has what was planned, and the canonical file of that went out, the only
+  -- one that it has
   pub record WritesFile : Type 0 where
     pub rest : Option (List ℕ)
     pub len : ℕ
@@ -44,23 +46,28 @@ module _ (out : Growth) (bytes : Option (List ℕ)) (plan : CanonicalPlan) where
 abbrev pub canonical_refused_line : List ℕ → WriteFault → List ℕ
 canonical_refused_line name why = run_refused_line name 0 why
 
-module _ (out err : Growth) (bytes : Option (List ℕ)) (name : List ℕ) (status : Status) where
+-- a line tells of how many annotations no data record has the onset, where there are any
+abbrev pub TellsOutside : Growth → List ℕ → ℕ → Status → Type 0
+TellsOutside err name zero status = Gets err [] × (status ≡ Done)
+TellsOutside err name (suc count) status = IsWritten err (outside_line name (suc count)) Done status
+
+module _ (out err : Growth) (bytes : Option (List ℕ)) (name : List ℕ) (by_onset : Bool)
+    (status : Status) where
   -- the canonical file went out
   pub record WritesCanonical : Type 0 where
     pub plan : CanonicalPlan
-    pub has : HasPlan bytes plan
+    pub has : HasPlan by_onset bytes plan
     pub writes : WritesFile out bytes plan
-    pub silent : Gets err []
-    pub done : status ≡ Done
+    pub said : TellsOutside err name plan.outside status
 
   -- it did not, or not whole, and a line says why
   pub record StopsWriting : Type 0 where
     pub plan : CanonicalPlan
-    pub has : HasPlan bytes plan
+    pub has : HasPlan by_onset bytes plan
     pub why : WriteFault
     pub stops : StopsAgain out bytes plan why
     pub said : IsWritten err (canonical_refused_line name why) (run_refused_status why) status
 
   abbrev pub IsCanonicalOut : Type 0
   IsCanonicalOut = WritesCanonical ⊎ (StopsWriting
-      ⊎ (RefusesFile out err bytes name status ⊎ LacksMemory out err bytes name status))
+      ⊎ LacksPlan out err bytes name status by_onset)

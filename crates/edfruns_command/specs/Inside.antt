@@ -40,10 +40,10 @@ IsFrontGroup d (Some most) runs count = AreClose d most (take count runs)
 -- ---- why nothing is written of a file
 
 -- a line says why
-abbrev pub IsPlanRefused : Growth → List ℕ → OnsetFault → Status → Type 0
-IsPlanRefused err name (fault.Fragment met) status =
+abbrev pub IsPlanRefused : Growth → List ℕ → List ℕ → OnsetFault → Status → Type 0
+IsPlanRefused err name part (fault.Fragment met) status =
     IsWritten err (file_refused_line name met) (file_refused_status met) status
     ⊎ IsWritten err (memory_line name) Trouble status
-IsPlanRefused err name (fault.TooMany number) status =
-    IsWritten err (crowded_line number) Refused status
-IsPlanRefused err name fault.Memory status = IsWritten err (memory_line name) Trouble status
+IsPlanRefused err name part (fault.TooMany number) status =
+    IsWritten err (crowded_line part number) Refused status
+IsPlanRefused err name part fault.Memory status = IsWritten err (memory_line name) Trouble status

@@ -1,6 +1,6 @@
 -- What private functions do that make files of runs.
-use Rattle.std.specs.Prelude.{◌≡◌, ◌≢◌, ◌⊎◌, ℕ, ◌+◌, List, [], ◌∷◌, ◌++◌, Option, Some, None}
-use Rattle.std.specs.Prelude.{Result, Ok, length, take}
+use Rattle.std.specs.Prelude.{◌≡◌, ◌≢◌, ◌⊎◌, ℕ, ◌+◌, List, [], ◌∷◌, ◌++◌, Option, None}
+use Rattle.std.specs.Prelude.{Result, Ok, take}
 use Rattle.std.specs.List.{flat_map, AllZip}
 use Rattle.edf_field.specs.Number.{duration_of}
 use Rattle.edf_header.specs.Header.{Layout}
@@ -11,10 +11,9 @@ use Rattle.edf_fragment.specs.Reading.{IsAnswer, at_first}
 use Rattle.edf_fragment.specs.Whole.{ReadsFragment}
 use Rattle.edf_fragment.specs.declared.advance.Progress.{Progress}
 use Rattle.edf_fragment.specs.declared.fault.FragmentFault.{FragmentFault}
-use Rattle.edf_runs.specs.AsRead.{runs_of}
 use Rattle.edf_runs.specs.Counted.{AreCounted}
 use Rattle.edf_runs.specs.KeptByOnset.{annotated_runs}
-use Rattle.edf_runs.specs.OnsetRead.{kept_of}
+use Rattle.edf_runs.specs.OnsetRead.{kept_of, starts_of}
 use Rattle.edf_runs.specs.Read.{ReadsOn}
 use Rattle.edf_runs.specs.WrittenByOnset.{annotated, ComesByOnset, IsNotWrittenByOnset}
 use Rattle.edf_runs.specs.declared.written.Written.{Written}
@@ -65,8 +64,10 @@ pub record HalfMakes (m : Making) (name : List ℕ) (l : Layout) (from to : Prog
   pub is_why : IsOfReading why
   pub blank : Option (List ℕ)
   pub half : Option (List ℕ)
-  pub unwritten : IsNotWrittenByOnset l from to left rest blank half run.run (kept_of run) why
-  pub unchanged : ComesByOnset l from left run.run (kept_of run) → why ≢ fault.Changed
+  pub unwritten : IsNotWrittenByOnset l from to left rest blank half run.run (starts_of run)
+      (kept_of run) why
+  pub unchanged : ComesByOnset l from left run.run (starts_of run) (kept_of run) →
+      why ≢ fault.Changed
   pub made : m.after ≡ m.before ++ (begun name ∷ [])
   pub unfailed : m.failed_after ≡ m.failed_before
 
@@ -115,7 +116,7 @@ pub record MakesEach (m : Making) (names : List (List ℕ)) (l : Layout) (to : P
 abbrev pub AreLinesOf : ℕ → List (List ℕ) → List OnsetRun → List (List DataRecord) → List ℕ →
     Type 0
 AreLinesOf d names runs files text = (spell : ℕ → List ℕ) → IsSpelling spell →
-    text ≡ split_lines spell d 1 names (runs_of runs) files
+    text ≡ split_lines spell d 1 names runs files
 
 -- so many of the files were made, and these are their lines
 pub record MakesFirst (m : Making) (names : List (List ℕ)) (l : Layout) (to : Progress)

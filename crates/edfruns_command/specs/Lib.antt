@@ -7,6 +7,7 @@ pub mod Listing
 pub mod Listed
 pub mod Counting
 pub mod Planning
+pub mod JoinedPlan
 pub mod Writing
 pub mod Canonical
 pub mod Rereading

@@ -3,7 +3,6 @@ use Rattle.std.specs.Prelude.{ℕ, ◌+◌, ◌-◌, ◌<◌, List, [], ◌∷�
 use Rattle.std.specs.Prelude.{Some, None, slice_get}
 use Rattle.edf_time.specs.Civil.{window, IsInstantText}
 use Rattle.edf_time.specs.Decimal.{short}
-use Rattle.edf_field.specs.Number.{duration_of}
 use Rattle.edf_fragment.specs.Fault.{fragment_fault_number, fragment_fault_name}
 use Rattle.edf_fragment.specs.declared.fault.FragmentFault.{FragmentFault}
 use Rattle.edf_fragment.specs.declared.fault.FragmentFault.TheVariants as fragment
@@ -12,7 +11,6 @@ use Rattle.edf_program.specs.Text.{fault_text, fragment_details, refused_line, m
 use Rattle.edf_program.specs.declared.status.Status.{Status}
 use Rattle.edf_program.specs.declared.status.Status.TheVariants.{Refused, Trouble}
 use Rattle.edf_runs.specs.declared.run.Run.{Run}
-use Rattle.edf_runs.specs.declared.run_list.Listing.{Listing}
 use Rattle.edf_runs.specs.declared.fault.WriteFault.{WriteFault}
 use Rattle.edf_runs.specs.declared.fault.WriteFault.TheVariants as run
 
@@ -58,13 +56,14 @@ file_refused_status fault = status_of_number (fragment_fault_number fault)
 abbrev pub no_run_line : ℕ → List ℕ
 no_run_line number = codes "no run " ++ (decimal number ++ (10 ∷ []))
 
-abbrev pub undated_line : ℕ → List ℕ
-undated_line number = codes "run " ++ (decimal number
-    ++ codes " starts after 2084, which a file without a date can't tell\n")
+-- what is numbered is a `run`, or a `file` of data records that are joined
+abbrev pub undated_line : List ℕ → ℕ → List ℕ
+undated_line part number = part ++ (codes " " ++ (decimal number
+    ++ codes " starts after 2084, which a file without a date can't tell\n"))
 
-abbrev pub crowded_line : ℕ → List ℕ
-crowded_line number = codes "run " ++ (decimal number
-    ++ codes " would have too many annotations in a data record\n")
+abbrev pub crowded_line : List ℕ → ℕ → List ℕ
+crowded_line part number = part ++ (codes " " ++ (decimal number
+    ++ codes " would have too many annotations in a data record\n"))
 
 abbrev pub unread_line : List ℕ → List ℕ
 unread_line name = refused_line name (fragment_fault_number fragment.Read)
@@ -88,7 +87,7 @@ reread_line name why = unread_line name
 
 -- why the run of this number is not written to standard output
 abbrev pub run_refused_line : List ℕ → ℕ → WriteFault → List ℕ
-run_refused_line name number run.Undated = undated_line number
+run_refused_line name number run.Undated = undated_line (codes "run") number
 run_refused_line name number run.Changed = changed_line name
 run_refused_line name number run.Read = unread_line name
 run_refused_line name number run.Memory = memory_line name
@@ -97,6 +96,10 @@ run_refused_line name number run.Write = unwritten_line standard_output
 abbrev pub run_refused_status : WriteFault → Status
 run_refused_status run.Undated = Refused
 run_refused_status fault = Trouble
+
+-- `FILE outside=N`: of how many annotations no data record has the onset
+abbrev pub outside_line : List ℕ → ℕ → List ℕ
+outside_line name count = name ++ (codes " outside=" ++ (decimal count ++ (10 ∷ [])))
 
 abbrev pub there_line : List ℕ → List ℕ
 there_line name = name ++ codes " is there already; nothing was written\n"

@@ -1,5 +1,5 @@
 -- What the first reading of a file finds, of which one run or all are then written.
-use Rattle.std.specs.Prelude.{◌≡◌, ◌⊎◌, ℕ, List, Bool, true, false, Option}
+use Rattle.std.specs.Prelude.{◌≡◌, ◌⊎◌, ℕ, List, Bool, true, false, Option, codes}
 use Rattle.edf_fragment.specs.declared.fault.FragmentFault.TheVariants.{Memory as NoMemory}
 use Rattle.edf_program.specs.Output.{Growth, Explains}
 use Rattle.edf_program.specs.declared.status.Status.{Status}
@@ -36,7 +36,7 @@ module _ (out err : Growth) (bytes : Option (List ℕ)) (name : List ℕ) (statu
   pub record FindsCrowded (by_onset : Bool) : Type 0 where
     pub number : ℕ
     pub crowded : HasCrowded by_onset bytes number
-    pub said : Explains out err (crowded_line number) Refused status
+    pub said : Explains out err (crowded_line (codes "run") number) Refused status
 
   -- nothing is written: for that, for a fault of the file, or for want of memory
   abbrev pub LacksPlan : Bool → Type 0

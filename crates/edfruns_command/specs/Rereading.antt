@@ -1,20 +1,22 @@
 -- Where the second reading of a file stops, all of whose runs are written.
 use Rattle.std.specs.Prelude.{◌≡◌, ◌≢◌, ◌⊎◌, ℕ, ◌+◌, List, ◌∷◌, ◌++◌, Option, Some, None}
 use Rattle.std.specs.Prelude.{Result, Ok, Err, length, slice_get}
+use Rattle.std.specs.List.{flat_map, AllZip}
+use Rattle.edf_field.specs.Number.{duration_of}
 use Rattle.edf_header.specs.Header.{Layout}
 use Rattle.edf_fragment.specs.Fragment.{DataRecord}
-use Rattle.edf_fragment.specs.Reading.{IsAnswer}
+use Rattle.edf_fragment.specs.Reading.{IsAnswer, at_first}
 use Rattle.edf_fragment.specs.declared.advance.Progress.{Progress}
 use Rattle.edf_fragment.specs.declared.fault.FragmentFault.{FragmentFault}
 use Rattle.edf_runs.specs.Again.{IsNotReopened, fault_again}
-use Rattle.edf_runs.specs.AsRead.{runs_of}
-use Rattle.edf_runs.specs.OnsetRead.{kept_of}
-use Rattle.edf_runs.specs.WrittenByOnset.{ComesByOnset, IsNotWrittenByOnset}
+use Rattle.edf_runs.specs.OnsetRead.{kept_of, starts_of}
+use Rattle.edf_runs.specs.Read.{ReadsOn}
+use Rattle.edf_runs.specs.WrittenByOnset.{ComesByOnset, IsNotWrittenByOnset, StartAs}
 use Rattle.edf_runs.specs.declared.onset_run.OnsetRun.{OnsetRun}
 use Rattle.edf_runs.specs.declared.onset_listing.OnsetListing.{OnsetListing}
 use Rattle.edf_runs.specs.declared.fault.WriteFault.{WriteFault}
 use Rattle.edf_runs.specs.declared.fault.WriteFault.TheVariants as fault
-use Rattle.edfruns_command.specs.Writing.{SkipsRuns, ReadsAgain}
+use Rattle.edfruns_command.specs.Writing.{ReadsAgain}
 
 -- the faults of a reading
 abbrev pub IsOfReading : WriteFault → Type 0
@@ -24,6 +26,18 @@ IsOfReading fault.Read = Unit {0}
 IsOfReading fault.Memory = Unit {0}
 IsOfReading fault.Write = ⊥
 
+-- as many data records as the run has, which start as those of the run do in the recording
+abbrev pub IsPassedAs : ℕ → List DataRecord → OnsetRun → Type 0
+IsPassedAs d records run = StartAs d run.run.first (starts_of run) records
+    × (length records ≡ run.run.records)
+
+-- after the header just the data records of these runs were read
+pub record PassesRuns (l : Layout) (to : Progress) (left rest : Option (List ℕ))
+    (runs : List OnsetRun) : Type 0 where
+  pub passed : List (List DataRecord)
+  pub are_passed : AllZip (IsPassedAs (duration_of l.key.duration)) passed runs
+  pub read : ReadsOn l at_first to left rest (flat_map (λ records. records) passed)
+
 -- after the header just the data records of the runs before this one were read, which are so many
 pub record IsAtRun (l : Layout) (from : Progress) (start left : Option (List ℕ)) (runs : List OnsetRun)
     (nth : ℕ) (run : OnsetRun) : Type 0 where
@@ -31,7 +45,7 @@ pub record IsAtRun (l : Layout) (from : Progress) (start left : Option (List ℕ
   pub later : List OnsetRun
   pub parts : runs ≡ front ++ (run ∷ later)
   pub nth_is : nth ≡ length front
-  pub skips : SkipsRuns l from start left (runs_of front)
+  pub passes : PassesRuns l from start left front
 
 -- it stopped in the run after so many, and nothing changed where this one comes next
 pub record StopsAmong (l : Layout) (start rest : Option (List ℕ)) (runs : List OnsetRun) (nth : ℕ)
@@ -43,8 +57,10 @@ pub record StopsAmong (l : Layout) (start rest : Option (List ℕ)) (runs : List
   pub to : Progress
   pub blank : Option (List ℕ)
   pub half : Option (List ℕ)
-  pub unwritten : IsNotWrittenByOnset l from to left rest blank half run.run (kept_of run) why
-  pub unchanged : ComesByOnset l from left run.run (kept_of run) → why ≢ fault.Changed
+  pub unwritten : IsNotWrittenByOnset l from to left rest blank half run.run (starts_of run)
+      (kept_of run) why
+  pub unchanged : ComesByOnset l from left run.run (starts_of run) (kept_of run) →
+      why ≢ fault.Changed
 
 -- an answer after all runs that is not the end
 abbrev pub IsNoEnd : Result (Option DataRecord) FragmentFault → WriteFault → Type 0
@@ -57,7 +73,7 @@ pub record StopsAfter (l : Layout) (start rest : Option (List ℕ)) (runs : List
     (why : WriteFault) : Type 0 where
   pub from : Progress
   pub left : Option (List ℕ)
-  pub skips : SkipsRuns l from start left (runs_of runs)
+  pub passes : PassesRuns l from start left runs
   pub to : Progress
   pub answer : Result (Option DataRecord) FragmentFault
   pub is_answer : IsAnswer l from to left rest answer

@@ -2,6 +2,7 @@
 use Rattle.std.specs.Prelude.{ℕ, Bool, List, Option, length, map, string_bytes}
 use Rattle.edf_program.specs.Output.{Growth}
 use Rattle.edf_program.specs.declared.status.Status.{Status}
+use Rattle.edf_runs.specs.declared.joining.Joining.{Joining}
 use Rattle.edfruns_command.specs.Listed.{IsListOut, OpensEach}
 use Rattle.edfruns_command.specs.Listing.{OpensAgain}
 use Rattle.edfruns_command.specs.Picturing.{IsPictured}
@@ -12,21 +13,22 @@ use Rattle.edfruns_command.specs.declared.runs_command.RunsCommand.{RunsCommand}
 use Rattle.edfruns_command.specs.declared.runs_command.RunsCommand.TheVariants as parsed
 
 -- what can be asked for, with the values: the files' texts, the tolerance in nanoseconds, the run's
--- number, the prefix's text, and whether annotations are to be where their onsets are
+-- number, the prefix's text, whether annotations are to be where their onsets are, and which gaps
+-- are joined
 pub data Asked : Type 0 where
   list : List (List ℕ) → Option ℕ → Asked
   write : List ℕ → ℕ → Bool → Asked
-  canonical : List ℕ → Asked
-  split : List ℕ → List ℕ → Bool → Asked
+  canonical : List ℕ → Bool → Asked
+  split : List ℕ → List ℕ → Bool → Option Joining → Asked
   picture : List ℕ → Asked
 
 -- what a command asks for
 abbrev pub meaning : RunsCommand → Asked
 meaning (parsed.List files tolerance) = list (map string_bytes files.items) tolerance
 meaning (parsed.Write file number by_onset) = write (string_bytes file) number by_onset
-meaning (parsed.Canonical file) = canonical (string_bytes file)
-meaning (parsed.Split file prefix by_onset) =
-    split (string_bytes file) (string_bytes prefix) by_onset
+meaning (parsed.Canonical file by_onset) = canonical (string_bytes file) by_onset
+meaning (parsed.Split file prefix by_onset joining) =
+    split (string_bytes file) (string_bytes prefix) by_onset joining
 meaning (parsed.Picture file tolerance) = picture (string_bytes file)
 
 -- by the bytes that names stand for, what makes files and the two writers
@@ -35,22 +37,23 @@ IsDone bytes made out err (list files tolerance) status =
     IsListOut bytes out err tolerance files status
 IsDone bytes made out err (write file number by_onset) status =
     IsRunOut out err (bytes file) file number by_onset status
-IsDone bytes made out err (canonical file) status = IsCanonicalOut out err (bytes file) file status
-IsDone bytes made out err (split file prefix by_onset) status =
-    IsSplit made out err (bytes file) file prefix by_onset status
+IsDone bytes made out err (canonical file by_onset) status =
+    IsCanonicalOut out err (bytes file) file by_onset status
+IsDone bytes made out err (split file prefix by_onset joining) status =
+    IsSplit made out err (bytes file) file prefix by_onset joining status
 IsDone bytes made out err (picture file) status = IsPictured out err (bytes file) file status
 
 -- `split` alone makes files
 abbrev pub HasMade : Making → Asked → Type 0
-HasMade made (split file prefix by_onset) = Unit {0}
+HasMade made (split file prefix by_onset joining) = Unit {0}
 HasMade made asked = MakesNothing made
 
 -- how often a file is read, where all is done
 abbrev pub readings_of : Asked → ℕ
 readings_of (list files tolerance) = length files
 readings_of (write file number by_onset) = 2
-readings_of (canonical file) = 2
-readings_of (split file prefix by_onset) = 2
+readings_of (canonical file by_onset) = 2
+readings_of (split file prefix by_onset joining) = 2
 readings_of (picture file) = 1
 
 -- `list` reads each of its files once, `picture` its file once, and `write`, `canonical` and
@@ -58,6 +61,7 @@ readings_of (picture file) = 1
 abbrev pub HasOpened : List (List ℕ) → List (List ℕ) → Asked → Status → Type 0
 HasOpened before after (list files tolerance) status = OpensEach before after files status
 HasOpened before after (write file number by_onset) status = OpensAgain before after file 2 status
-HasOpened before after (canonical file) status = OpensAgain before after file 2 status
-HasOpened before after (split file prefix by_onset) status = OpensAgain before after file 2 status
+HasOpened before after (canonical file by_onset) status = OpensAgain before after file 2 status
+HasOpened before after (split file prefix by_onset joining) status =
+    OpensAgain before after file 2 status
 HasOpened before after (picture file) status = OpensAgain before after file 1 status

@@ -11,12 +11,12 @@ use Rattle.edf_fragment.specs.Whole.{ReadsFragment}
 use Rattle.edf_program.specs.Output.{Growth, Gets, GetsFront, Explains}
 use Rattle.edf_program.specs.declared.status.Status.{Status}
 use Rattle.edf_program.specs.declared.status.Status.TheVariants.{Done, Refused}
-use Rattle.edf_runs.specs.AsRead.{runs_of}
 use Rattle.edf_runs.specs.File.{IsRunFile}
 use Rattle.edf_runs.specs.KeptByOnset.{annotated_runs}
-use Rattle.edf_runs.specs.OnsetRead.{kept_of}
-use Rattle.edf_runs.specs.Runs.{IsRuns, IsListed}
-use Rattle.edf_runs.specs.WrittenByOnset.{annotated}
+use Rattle.edf_runs.specs.OnsetRead.{kept_of, starts_of}
+use Rattle.edf_runs.specs.Runs.{IsListed}
+use Rattle.edf_runs.specs.WrittenByOnset.{annotated, StartAs}
+use Rattle.edf_runs.specs.declared.joining.Joining.{Joining}
 use Rattle.edf_runs.specs.declared.onset_run.OnsetRun.{OnsetRun}
 use Rattle.edf_runs.specs.declared.onset_listing.OnsetListing.{OnsetListing}
 use Rattle.edf_runs.specs.declared.fault.WriteFault.{WriteFault}
@@ -26,7 +26,7 @@ use Rattle.edfruns_command.specs.Lines.{unwritten_line, standard_output}
 use Rattle.edfruns_command.specs.Counting.{split_lines}
 use Rattle.edfruns_command.specs.Made.{MadeFile, IsHalf, IsFree, MayBeThere, RemovesMade}
 use Rattle.edfruns_command.specs.Made.{names_of}
-use Rattle.edfruns_command.specs.Planning.{HasPlan, LacksPlan}
+use Rattle.edfruns_command.specs.JoinedPlan.{HasJoinedPlan, LacksJoinedPlan, AreFiles, part_of}
 use Rattle.edfruns_command.specs.Writing.{ReadsAgain}
 use Rattle.edfruns_command.specs.Rereading.{IsOfReading, StopsRereading, ComesToOutput}
 use Rattle.edfruns_command.specs.declared.outputs.Outputs.{Ghosts}
@@ -74,9 +74,11 @@ pub record HoldsRun (known : Bool) (k : Key) (run : List DataRecord) (made : Mad
 
 -- ---- what was made of a file, whose files of runs are to have these names
 
--- of these data records, with the annotations that were kept of them, just this was listed
-abbrev pub IsKeptRun : ℕ → List DataRecord → OnsetRun → Type 0
-IsKeptRun d records run = IsListed d (annotated (kept_of run) records) run.run
+-- these data records start as those of the run do in the recording; of them, as they were kept,
+-- just this was listed
+pub record IsKeptRun (d : ℕ) (records : List DataRecord) (run : OnsetRun) : Type 0 where
+  pub start : StartAs d run.run.first (starts_of run) records
+  pub listed : IsListed d (annotated (kept_of run) records) run.run
 
 -- of each of these runs, in turn, a file was finished, and one more at most was left half written
 abbrev pub WereFinished : Bool → Key → List (List DataRecord) → List MadeFile → Type 0
@@ -94,28 +96,30 @@ pub record WereFirst (known : Bool) (k : Key) (listed : List OnsetRun) (count : 
   pub are_listed : AllZip (IsKeptRun (duration_of k.duration)) runs (take count listed)
   pub finished : WereFinished known k (annotated_runs runs (take count listed)) files
 
--- the file was read a second time to its end; these are its runs, and of each just this was listed
-pub record RereadsRuns (bytes : Option (List ℕ)) (plan : OnsetListing) : Type 0 where
+-- the file was read a second time to its end; these are its runs, or the data records that share a
+-- file over short gaps, and of each just this was listed
+pub record RereadsRuns (joining : Option Joining) (bytes : Option (List ℕ)) (plan : OnsetListing) :
+    Type 0 where
   pub layout : Layout
   pub records : List DataRecord
   pub rest : Option (List ℕ)
   pub read : ReadsFragment bytes rest layout records
   pub same : layout.key ≡ plan.identity
   pub runs : List (List DataRecord)
-  pub are_runs : IsRuns (duration_of layout.key.duration) records runs
+  pub are_runs : AreFiles joining (duration_of layout.key.duration) records runs
   pub listed : AllZip (IsKeptRun (duration_of layout.key.duration)) runs plan.runs.items
 
 -- the lines of the files of runs, which go out with the annotations that were kept of them, where
 -- any were
 abbrev pub lines_of : (ℕ → List ℕ) → OnsetListing → List (List ℕ) → List (List DataRecord) → List ℕ
 lines_of spell plan names runs = split_lines spell (duration_of plan.identity.duration) 1 names
-    (runs_of plan.runs.items) (annotated_runs runs plan.runs.items)
+    plan.runs.items (annotated_runs runs plan.runs.items)
 
 module _ (m : Making) (bytes : Option (List ℕ)) (plan : OnsetListing) (names : List (List ℕ)) where
   -- of each run, in turn, a file was made that has the run's name, of its data records with the
   -- annotations that were kept of them, where any were; no other was made
-  pub record MakesRuns : Type 0 where
-    pub again : RereadsRuns bytes plan
+  pub record MakesRuns (joining : Option Joining) : Type 0 where
+    pub again : RereadsRuns joining bytes plan
     pub files : List MadeFile
     pub made : m.after ≡ m.before ++ files
     pub named : names_of files ≡ names
@@ -124,15 +128,16 @@ module _ (m : Making) (bytes : Option (List ℕ)) (plan : OnsetListing) (names :
     pub unfailed : m.failed_after ≡ m.failed_before
 
   -- all were made, but the lines could not be written whole; so what was made was removed
-  pub record LacksLines (out err : Growth) (status : Status) : Type 0 where
-    pub again : RereadsRuns bytes plan
-    pub said : (spell : ℕ → List ℕ) → IsSpelling spell →
-        GetsFront out (lines_of spell plan names again.runs)
-    pub unfailed : m.failed_after ≡ m.failed_before
-    pub removes : RemovesMade m.before m.after err names (length plan.runs.items)
-        (unwritten_line standard_output) status
-    pub made : WereFirst m.known again.layout.key plan.runs.items (length plan.runs.items)
-        removes.files
+  pub record LacksLines (joining : Option Joining) (out err : Growth) (status : Status) : Type 0
+    where
+      pub again : RereadsRuns joining bytes plan
+      pub said : (spell : ℕ → List ℕ) → IsSpelling spell →
+          GetsFront out (lines_of spell plan names again.runs)
+      pub unfailed : m.failed_after ≡ m.failed_before
+      pub removes : RemovesMade m.before m.after err names (length plan.runs.items)
+          (unwritten_line standard_output) status
+      pub made : WereFirst m.known again.layout.key plan.runs.items (length plan.runs.items)
+          removes.files
 
   -- one could not be made, written or ended, and those before it were finished; so what was made
   -- was removed
@@ -161,17 +166,17 @@ module _ (m : Making) (bytes : Option (List ℕ)) (plan : OnsetListing) (names :
     pub made : WereFirst m.known plan.identity plan.runs.items finished removes.files
 
 module _ (m : Making) (out err : Growth) (bytes : Option (List ℕ)) (name prefix : List ℕ)
-    (by_onset : Bool) (status : Status) where
+    (by_onset : Bool) (joining : Option Joining) (status : Status) where
   -- its runs were listed, each has a start that a header can name, and there was nothing of the
   -- names that were asked for
   pub record IsReady (plan : OnsetListing) : Type 0 where
-    pub has : HasPlan by_onset bytes plan
+    pub has : HasJoinedPlan joining by_onset bytes plan
     pub dated : All (λ (run : OnsetRun). MayStart plan.identity run.run.first) plan.runs.items
     pub free : All (IsFree m.there) (asked_names prefix (length plan.runs.items))
 
   -- of each run there is a file now, and each has its line
   pub record SplitsFile (plan : OnsetListing) : Type 0 where
-    pub makes : MakesRuns m bytes plan (run_names prefix (length plan.runs.items))
+    pub makes : MakesRuns m bytes plan (run_names prefix (length plan.runs.items)) joining
     pub said : (spell : ℕ → List ℕ) → IsSpelling spell → Gets out
         (lines_of spell plan (run_names prefix (length plan.runs.items)) makes.again.runs)
     pub silent : Gets err []
@@ -181,7 +186,7 @@ module _ (m : Making) (out err : Growth) (bytes : Option (List ℕ)) (name prefi
   abbrev pub GivesUp : OnsetListing → Type 0
   GivesUp plan =
       let names = run_names prefix (length plan.runs.items) in
-      LacksLines m bytes plan names out err status
+      LacksLines m bytes plan names joining out err status
       ⊎ (LacksOutput m bytes plan names out err status
       ⊎ LacksReading m bytes plan names out err name status)
 
@@ -189,7 +194,7 @@ module _ (m : Making) (out err : Growth) (bytes : Option (List ℕ)) (name prefi
   -- are asked for, and of none before it
   pub record FindsName : Type 0 where
     pub plan : OnsetListing
-    pub has : HasPlan by_onset bytes plan
+    pub has : HasJoinedPlan joining by_onset bytes plan
     pub dated : All (λ (run : OnsetRun). MayStart plan.identity run.run.first) plan.runs.items
     pub front : List (List ℕ)
     pub found : List ℕ
@@ -202,16 +207,16 @@ module _ (m : Making) (out err : Growth) (bytes : Option (List ℕ)) (name prefi
   -- no header can name when a run starts, and that is the first such, whatever is there
   pub record LacksDate : Type 0 where
     pub plan : OnsetListing
-    pub has : HasPlan by_onset bytes plan
+    pub has : HasJoinedPlan joining by_onset bytes plan
     pub front : List OnsetRun
     pub run : OnsetRun
     pub later : List OnsetRun
     pub parts : plan.runs.items ≡ front ++ (run ∷ later)
     pub dated : All (λ (earlier : OnsetRun). MayStart plan.identity earlier.run.first) front
     pub undated : ¬ MayStart plan.identity run.run.first
-    pub said : Explains out err (undated_line (length front + 1)) Refused status
+    pub said : Explains out err (undated_line (part_of joining) (length front + 1)) Refused status
 
   abbrev pub IsSplit : Type 0
   IsSplit = ((plan : OnsetListing) × IsReady plan × (SplitsFile plan ⊎ GivesUp plan))
       ⊎ (MakesNothing m × (FindsName ⊎ (LacksDate
-      ⊎ LacksPlan out err bytes name status by_onset)))
+      ⊎ LacksJoinedPlan out err bytes name status joining by_onset)))

@@ -14,7 +14,7 @@ use Rattle.edf_program.specs.declared.status.Status.{Status}
 use Rattle.edf_program.specs.declared.status.Status.TheVariants.{Done, Refused}
 use Rattle.edf_runs.specs.Again.{IsNotReopened, StopsBefore}
 use Rattle.edf_runs.specs.AsRead.{runs_of}
-use Rattle.edf_runs.specs.OnsetRead.{kept_of, numbered}
+use Rattle.edf_runs.specs.OnsetRead.{kept_of, starts_of, numbered}
 use Rattle.edf_runs.specs.Read.{ReadsOn}
 use Rattle.edf_runs.specs.Runs.{StartFrom}
 use Rattle.edf_runs.specs.WrittenByOnset.{annotated, ComesByOnset, IsWrittenByOnset}
@@ -82,7 +82,7 @@ module _ (out : Growth) (bytes : Option (List ℕ)) (plan : OnsetListing) (numbe
     pub to : Progress
     pub rest : Option (List ℕ)
     pub went_out : IsWrittenByOnset layout from to left rest out.before out.after run.run
-        (kept_of run) written
+        (starts_of run) (kept_of run) written
     pub counted : out.failed_after ≡ out.failed_before
 
   -- nothing went out: memory ran out, the header can't be read again, or not the runs before it
@@ -105,8 +105,9 @@ module _ (out : Growth) (bytes : Option (List ℕ)) (plan : OnsetListing) (numbe
     pub to : Progress
     pub rest : Option (List ℕ)
     pub unwritten : IsNotWrittenByOnset layout from to left rest out.before out.after run.run
-        (kept_of run) why
-    pub unchanged : ComesByOnset layout from left run.run (kept_of run) → why ≢ fault.Changed
+        (starts_of run) (kept_of run) why
+    pub unchanged : ComesByOnset layout from left run.run (starts_of run) (kept_of run) →
+        why ≢ fault.Changed
     pub counted : CountsWrite out why
 
   abbrev pub StopsAgain : WriteFault → Type 0

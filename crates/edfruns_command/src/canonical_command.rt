@@ -1,18 +1,22 @@
 //! `canonical`: the canonical file of a whole file.
 
-ghost use Rattle.std.specs.Prelude.{◌≡◌, ◌⊎◌, ◌++◌, ℕ, List, MatchResult, replicate};
+ghost use Rattle.std.specs.Prelude.{◌≡◌, ◌++◌, ℕ, List, MatchResult, replicate};
 ghost use Rattle.edf_program.specs.Output.{growth};
 ghost use Rattle.edfruns_command.specs.Canonical.{HasPlan, IsCanonicalOut, WritesFile, StopsAgain};
 ghost use Rattle.edfruns_command.specs.Inside.{OpensUpTo};
-ghost use Rattle.edfruns_command.specs.Listing.{HasFault, OpensAgain};
+ghost use Rattle.edfruns_command.specs.Listing.{OpensAgain};
+ghost use Rattle.edfruns_command.specs.Planning.{HasPlanFault};
 
 use crate::arguments::{refuse_stream, twice_read_file_value, value_in};
-use crate::refusal::{refuse, refuse_run};
+use crate::planning::{by_onset_option, is_by_onset, refuse_plan};
+use crate::refusal::{RUN, refuse_run, tell_outside};
 use crate::runs_command::RunsCommand;
 use clap::{ArgMatches, Command};
-use edf_fragment::{FragmentFault, Output};
+use edf_fragment::{Input, Output};
 use edf_program::{CommandFault, Inputs, Status};
-use edf_runs::{CanonicalPlan, WriteFault, plan_canonical, write_canonical};
+use edf_runs::{
+    CanonicalPlan, OnsetFault, WriteFault, plan_by_onset, plan_canonical, write_canonical,
+};
 use std::alloc::{AllocError, Global};
 
 /// What the file holds.
@@ -22,11 +26,21 @@ does. Files with the same data records, annotations and identity have one canoni
 file, whatever their headers leave open.
 
 FILE is read twice, first for the size of its longest annotations and then for its
-data records, so it can't be standard input. One data record is in memory at a time.";
+data records, so it can't be standard input. One data record is in memory at a time.
+
+With --by-onset each annotation is in the data record in which its onset lies. It is
+for files of EDFlib, which puts the n-th annotation into the n-th data record: then a
+card and its pieces have different data records, and 'edfstore take' refuses one of
+them, E31. Take all files of the recording so, from the first on. An annotation whose
+onset lies in no data record is in the last before it, or in the first; where there
+are some, a line on standard error tells how many:
+  FILE outside=N
+The annotations are those of the first reading, which are all in memory.";
 
 const CANONICAL_EXAMPLE: &str = "\
 Example:
-  edfruns canonical card.edf > night.edf";
+  edfruns canonical card.edf > night.edf
+  edfruns canonical --by-onset card.edf > upload.edf";
 
 /// The word and its values, as `clap` gets them.
 pub(crate) fn canonical_words<'a>(alloc: Global) -> Result<Command<'a>, AllocError> {
@@ -34,6 +48,7 @@ pub(crate) fn canonical_words<'a>(alloc: Global) -> Result<Command<'a>, AllocErr
         .about("Writes the canonical EDF+D file to standard output")
         .long_about(CANONICAL_MORE)
         .after_help(CANONICAL_EXAMPLE)
+        .arg(by_onset_option(alloc))?
         .arg(twice_read_file_value(alloc))
 }
 
@@ -48,26 +63,47 @@ pub(crate) fn read_canonical(
         return Err(refuse_stream(alloc, words, "edfruns canonical")?);
     }
     let file = String::from_str(alloc, file)?;
-    Ok(RunsCommand::Canonical { file })
+    Ok(RunsCommand::Canonical {
+        file,
+        is_by_onset: is_by_onset(values),
+    })
+}
+
+/// What the canonical file of what is read needs before its first byte.
+fn plan_from<R: Input>(
+    alloc: Global,
+    reader: &mut R,
+    is_by_onset: bool,
+) -> Result<CanonicalPlan, OnsetFault>
+    ensures { MatchResult result (HasPlan is_by_onset (R.remaining reader.old))
+        (HasPlanFault is_by_onset (R.remaining reader.old)) }
+{
+    if is_by_onset {
+        return plan_by_onset(alloc, reader);
+    }
+    match plan_canonical(alloc, reader) {
+        Ok(plan) => Ok(plan),
+        Err(fault) => Err(OnsetFault::Fragment(fault)),
+    }
 }
 
 /// What the canonical file of a file needs before its first byte, by a first reading.
 fn plan_of<I: Inputs>(
     alloc: Global,
     file: &str,
+    is_by_onset: bool,
     inputs: &mut I,
-) -> Result<CanonicalPlan, FragmentFault>
-    ensures answer { MatchResult result (HasPlan (I.bytes inputs.old file.now))
-        (λ fault. HasFault (I.bytes inputs.old file.now) fault
-        ⊎ (fault ≡ FragmentFault.Memory)) }
+) -> Result<CanonicalPlan, OnsetFault>
+    ensures answer { MatchResult result (HasPlan is_by_onset (I.bytes inputs.old file.now))
+        (HasPlanFault is_by_onset (I.bytes inputs.old file.now)) }
     ensures opened { MatchResult result
         (λ _. I.opened inputs.new ≡ I.opened inputs.old ++ replicate 1 file.now)
         (λ _. OpensUpTo (I.opened inputs.old) (I.opened inputs.new) file.now 1) }
     ensures same { (name : List ℕ) → I.bytes inputs.new name ≡ I.bytes inputs.old name }
 {
     match inputs.open(alloc, file) {
-        Ok(mut reader) => plan_canonical(alloc, &mut reader),
-        Err(_) => Err(FragmentFault::Memory),
+        Ok(mut reader) => plan_from(alloc, &mut reader, is_by_onset),
+        Err(_) => Err(OnsetFault::Memory),
     }
 }
 
@@ -94,25 +130,27 @@ fn write_planned<I: Inputs, O: Output>(
     Ok(())
 }
 
-/// Writes the canonical file of a file.
+/// Writes the canonical file of a file, as it is or by onset.
 pub(crate) fn canonical<I: Inputs, O: Output, F: Output>(
     alloc: Global,
     file: &str,
+    is_by_onset: bool,
     inputs: &mut I,
     out: &mut O,
     err: &mut F,
 ) -> Status
     ensures written { IsCanonicalOut (growth O.Output out.old out.new)
-        (growth F.Output err.old err.new) (I.bytes inputs.old file.now) file.now result }
+        (growth F.Output err.old err.new) (I.bytes inputs.old file.now) file.now is_by_onset
+        result }
     ensures opened { OpensAgain (I.opened inputs.old) (I.opened inputs.new) file.now 2 result }
     ensures same { (name : List ℕ) → I.bytes inputs.new name ≡ I.bytes inputs.old name }
 {
-    let plan = match plan_of(alloc, file, inputs) {
+    let plan = match plan_of(alloc, file, is_by_onset, inputs) {
         Ok(plan) => plan,
-        Err(fault) => return refuse(alloc, file, fault, err),
+        Err(fault) => return refuse_plan(alloc, file, RUN, fault, err),
     };
     match write_planned(alloc, file, &plan, inputs, out) {
-        Ok(()) => Status::Done,
+        Ok(()) => tell_outside(err, file, plan.outside()),
         Err(fault) => refuse_run(file, 0, fault, err),
     }
 }

@@ -5,7 +5,8 @@ ghost use Rattle.std.specs.Prelude.{option_map, slice_get};
 ghost use Rattle.edf_field.specs.Number.{duration_of};
 ghost use Rattle.edf_program.specs.Output.{growth, IsWritten};
 ghost use Rattle.edf_runs.specs.AsRead.{runs_of};
-ghost use Rattle.edfruns_command.specs.Counting.{run_front, counts_text};
+ghost use Rattle.edfruns_command.specs.Counting.{run_front, counts_text, file_front};
+ghost use Rattle.edfruns_command.specs.Counting.{shifted_text};
 ghost use Rattle.edfruns_command.specs.Lines.{IsSpelling};
 
 use crate::lines::gap_text;
@@ -72,6 +73,17 @@ pub(crate) fn front_of_run(
     run_front(alloc, duration, number as usize, run, next)
 }
 
+/// ` shifted=S`: how many seconds the last data record of a file is moved, where they are.
+fn shifted_text(alloc: Global, run: &OnsetRun) -> Result<Vec<u8>, AllocError>
+    ensures { IfOk result (λ r. r.items ≡ shifted_text run.now) }
+{
+    let Some(shift) = run.shift() else {
+        return Ok(Vec::new(alloc));
+    };
+    let seconds = write_seconds(alloc, shift)?;
+    joined(alloc, &[b" shifted=".as_slice(), seconds.as_slice()])
+}
+
 /// How many annotations a file has, and how many of these have an onset outside of the run.
 fn counts_text(alloc: Global, written: &Written) -> Result<Vec<u8>, AllocError>
     ensures { IfOk result (λ r. r.items ≡ counts_text written.now.annotations written.now.outside) }
@@ -94,13 +106,21 @@ fn file_line(
     requires duration { duration ≤ MOST_DURATION }
     requires within { at + 1 ≤ length runs.now }
     ensures { IfOk result (λ r. (spell : ℕ → List ℕ) → IsSpelling spell →
-        r.items ≡ name.now ++ (codes " " ++ (run_front spell duration (at + 1) run.now.run
+        r.items ≡ name.now ++ (codes " " ++ (file_front spell duration (at + 1) run.now
         (slice_get (runs_of runs.now) (at + 1))
         ++ counts_text written.now.annotations written.now.outside))) }
 {
-    let front = run_front(alloc, duration, at + 1, run.run(), run_at(runs, at + 1))?;
+    let of_run = run.in_recording();
+    let front = run_front(alloc, duration, at + 1, &of_run, run_at(runs, at + 1))?;
+    let shifted = shifted_text(alloc, run)?;
     let counts = counts_text(alloc, written)?;
-    let parts = [name.as_bytes(), b" ", front.as_slice(), counts.as_slice()];
+    let parts = [
+        name.as_bytes(),
+        b" ",
+        front.as_slice(),
+        shifted.as_slice(),
+        counts.as_slice(),
+    ];
     joined(alloc, &parts)
 }
 
@@ -118,7 +138,7 @@ pub(crate) fn with_line(
     requires duration { duration ≤ MOST_DURATION }
     requires within { at + 1 ≤ length runs.now }
     ensures { IfOk result (λ r. (spell : ℕ → List ℕ) → IsSpelling spell → r.items ≡ text.items
-        ++ (name.now ++ (codes " " ++ (run_front spell duration (at + 1) run.now.run
+        ++ (name.now ++ (codes " " ++ (file_front spell duration (at + 1) run.now
         (slice_get (runs_of runs.now) (at + 1))
         ++ counts_text written.now.annotations written.now.outside)))) }
 {

@@ -33,8 +33,8 @@ several files, each line begins with its file's name.
 
 With --tolerance, runs between which at most S seconds are missing share a line,
 which ends with how many gaps it has and how many seconds they are together.
-'edfruns write' and 'edfruns split' never join runs, and N of 'edfruns write'
-counts those of a list without --tolerance.";
+'edfruns write' never joins runs, and its N counts those of a list without
+--tolerance.";
 
 const LIST_EXAMPLES: &str = "\
 Examples:

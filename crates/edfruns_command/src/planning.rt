@@ -4,14 +4,15 @@
 ghost use Rattle.std.specs.Prelude.{◌≡◌, ◌⊎◌, ◌++◌, ℕ, List, MatchResult, replicate, true, false};
 ghost use Rattle.edf_program.specs.Output.{growth};
 ghost use Rattle.edfruns_command.specs.Inside.{OpensUpTo, IsPlanRefused};
+ghost use Rattle.edfruns_command.specs.JoinedPlan.{HasJoinedPlan, HasJoinedFault, part_of};
 ghost use Rattle.edfruns_command.specs.Planning.{HasPlan, HasPlanFault};
 
 use crate::list_command::listing_of;
-use crate::refusal::{refuse, tell_crowded};
+use crate::refusal::{JOINED_FILE, RUN, refuse, tell_crowded};
 use clap::{Arg, ArgAction, ArgMatches};
 use edf_fragment::Output;
 use edf_program::{Inputs, Status, tell_memory};
-use edf_runs::{OnsetFault, OnsetListing, list_by_onset};
+use edf_runs::{Joining, OnsetFault, OnsetListing, list_by_onset, list_joined};
 use std::alloc::Global;
 
 /// The word after `--`.
@@ -92,18 +93,73 @@ pub(crate) fn plan_of<I: Inputs>(
     }
 }
 
-/// Prints why nothing is written of a file.
+/// The files of a file's data records, where short gaps are joined.
+fn plan_groups<I: Inputs>(
+    alloc: Global,
+    file: &str,
+    is_by_onset: bool,
+    joining: &Joining,
+    inputs: &mut I,
+) -> Result<OnsetListing, OnsetFault>
+    ensures answer { MatchResult result
+        (HasJoinedPlan (Some joining.now) is_by_onset (I.bytes inputs.old file.now))
+        (HasJoinedFault (Some joining.now) is_by_onset (I.bytes inputs.old file.now)) }
+    ensures opened { MatchResult result
+        (λ _. I.opened inputs.new ≡ I.opened inputs.old ++ replicate 1 file.now)
+        (λ _. OpensUpTo (I.opened inputs.old) (I.opened inputs.new) file.now 1) }
+    ensures same { (name : List ℕ) → I.bytes inputs.new name ≡ I.bytes inputs.old name }
+{
+    match inputs.open(alloc, file) {
+        Ok(mut reader) => list_joined(alloc, &mut reader, joining, is_by_onset),
+        Err(_) => Err(OnsetFault::Memory),
+    }
+}
+
+/// What is written of a file to one file for each of its runs, or of those that are joined.
+pub(crate) fn plan_joined<I: Inputs>(
+    alloc: Global,
+    file: &str,
+    is_by_onset: bool,
+    joining: Option<Joining>,
+    inputs: &mut I,
+) -> Result<OnsetListing, OnsetFault>
+    ensures answer { MatchResult result
+        (HasJoinedPlan joining is_by_onset (I.bytes inputs.old file.now))
+        (HasJoinedFault joining is_by_onset (I.bytes inputs.old file.now)) }
+    ensures opened { MatchResult result
+        (λ _. I.opened inputs.new ≡ I.opened inputs.old ++ replicate 1 file.now)
+        (λ _. OpensUpTo (I.opened inputs.old) (I.opened inputs.new) file.now 1) }
+    ensures same { (name : List ℕ) → I.bytes inputs.new name ≡ I.bytes inputs.old name }
+{
+    match joining {
+        Some(joining) => plan_groups(alloc, file, is_by_onset, &joining, inputs),
+        None => plan_of(alloc, file, is_by_onset, inputs),
+    }
+}
+
+/// What is written of a file, a part each, and numbered.
+pub(crate) fn part_of(joining: Option<Joining>) -> &'static str
+    ensures { result.now ≡ part_of joining }
+{
+    match joining {
+        Some(_) => JOINED_FILE,
+        None => RUN,
+    }
+}
+
+/// Prints why nothing is written of a file, whose parts are runs, or files.
 pub(crate) fn refuse_plan<F: Output>(
     alloc: Global,
     file: &str,
+    part: &str,
     fault: OnsetFault,
     err: &mut F,
 ) -> Status
-    ensures { IsPlanRefused (growth F.Output err.old err.new) file.now fault result }
+    ensures { IsPlanRefused (growth F.Output err.old err.new) file.now part.now fault result }
 {
     match fault {
         OnsetFault::Fragment(met) => refuse(alloc, file, met, err),
-        OnsetFault::TooMany(number) => tell_crowded(err, number),
+        OnsetFault::TooMany(number) => tell_crowded(err, part, number),
         OnsetFault::Memory => tell_memory(err, file),
     }
 }

@@ -4,6 +4,7 @@ ghost use Rattle.std.specs.Prelude.{◌≡◌, ◌≢◌, ◌⊎◌};
 ghost use Rattle.std.specs.Bool.{MatchBool};
 ghost use Rattle.edf_program.specs.Output.{growth, IsPut, IsWritten};
 ghost use Rattle.edf_program.specs.Text.{memory_line};
+ghost use Rattle.edfruns_command.specs.Canonical.{TellsOutside};
 ghost use Rattle.edfruns_command.specs.Lines.{file_refused_line, file_refused_status};
 ghost use Rattle.edfruns_command.specs.Lines.{no_run_line, there_line, left_line, undated_line};
 ghost use Rattle.edfruns_command.specs.Lines.{crowded_line};
@@ -22,6 +23,11 @@ use std::alloc::Global;
 
 /// What the line names where standard output can't be written.
 pub(crate) const STANDARD_OUTPUT: &str = "standard output";
+
+/// What a line numbers: runs, or the files of data records that are joined.
+pub(crate) const RUN: &str = "run";
+
+pub(crate) const JOINED_FILE: &str = "file";
 
 /// Whether what answers this status was written whole, where `Done` was asked for.
 fn is_told(status: Status) -> bool
@@ -51,30 +57,39 @@ pub(crate) fn refuse<F: Output>(
     }
 }
 
-/// Prints that a run starts where no file without a date can. Printing takes no memory.
-pub(crate) fn tell_undated<F: Output>(err: &mut F, number: usize, status: Status) -> Status
-    ensures { IsWritten (growth F.Output err.old err.new) (undated_line number) status result }
+/// Prints that the part of that number starts where no file without a date can. Printing takes no
+/// memory.
+pub(crate) fn tell_undated<F: Output>(
+    err: &mut F,
+    part: &str,
+    number: usize,
+    status: Status,
+) -> Status
+    ensures { IsWritten (growth F.Output err.old err.new) (undated_line part.now number) status
+        result }
 {
     let mut buffer = Buffer::new();
     let digits = buffer.format(number);
     let parts = [
-        b"run ".as_slice(),
+        part.as_bytes(),
+        b" ",
         digits.as_bytes(),
         b" starts after 2084, which a file without a date can't tell\n",
     ];
     tell_parts(err, &parts, status)
 }
 
-/// Prints that by onset a data record of a run would have more annotations than one may have.
-/// Printing takes no memory.
-pub(crate) fn tell_crowded<F: Output>(err: &mut F, number: u64) -> Status
-    ensures { IsWritten (growth F.Output err.old err.new) (crowded_line number) Status.Refused
-        result }
+/// Prints that by onset a data record of the part of that number would have more annotations than
+/// one may have. Printing takes no memory.
+pub(crate) fn tell_crowded<F: Output>(err: &mut F, part: &str, number: u64) -> Status
+    ensures { IsWritten (growth F.Output err.old err.new) (crowded_line part.now number)
+        Status.Refused result }
 {
     let mut buffer = Buffer::new();
     let digits = buffer.format(number);
     let parts = [
-        b"run ".as_slice(),
+        part.as_bytes(),
+        b" ",
         digits.as_bytes(),
         b" would have too many annotations in a data record\n",
     ];
@@ -131,7 +146,7 @@ pub(crate) fn refuse_run<F: Output>(
 {
     let status = run_refused_status(fault);
     match fault {
-        WriteFault::Undated => tell_undated(err, number, status),
+        WriteFault::Undated => tell_undated(err, RUN, number, status),
         WriteFault::Write => tell_unwritten(err, STANDARD_OUTPUT, status),
         _ => tell_reread(err, file, fault, status),
     }
@@ -147,6 +162,25 @@ pub(crate) fn is_stop_told<F: Output>(err: &mut F, file: &str, stop: Stop<'_>) -
         Stop::Reading(fault) => tell_reread(err, file, fault, Status::Done),
     };
     is_told(status)
+}
+
+/// Prints of how many annotations no data record has the onset, where there are any. Printing takes
+/// no memory.
+pub(crate) fn tell_outside<F: Output>(err: &mut F, file: &str, outside: u64) -> Status
+    ensures { TellsOutside (growth F.Output err.old err.new) file.now outside result }
+{
+    if outside == 0 {
+        return Status::Done;
+    }
+    let mut buffer = Buffer::new();
+    let digits = buffer.format(outside);
+    let parts = [
+        file.as_bytes(),
+        b" outside=".as_slice(),
+        digits.as_bytes(),
+        b"\n",
+    ];
+    tell_parts(err, &parts, Status::Done)
 }
 
 /// Prints that there is no run of that number. Printing takes no memory.

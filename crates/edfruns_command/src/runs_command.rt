@@ -12,6 +12,7 @@ use crate::split_command::split;
 use crate::write_command::write;
 use edf_fragment::Output;
 use edf_program::{Inputs, Status};
+use edf_runs::Joining;
 use std::alloc::Global;
 
 /// What a command line of `edfruns` asks for. A file is a path, or `-` for standard input where it
@@ -38,8 +39,10 @@ pub enum RunsCommand {
     Canonical {
         /// The file. It is not `-`.
         file: String,
+        /// Whether each annotation is in the data record that has its onset.
+        is_by_onset: bool,
     },
-    /// Write each run to an EDF+C file of its own.
+    /// Write each run to an EDF+C file of its own, or those that are joined to one.
     Split {
         /// The file. It is not `-`.
         file: String,
@@ -47,6 +50,8 @@ pub enum RunsCommand {
         prefix: String,
         /// Whether each has the annotations whose onsets lie in it, in place of its own.
         is_by_onset: bool,
+        /// Which gaps are joined, if any are.
+        joining: Option<Joining>,
     },
     /// Write a picture of the file to standard output.
     Picture {
@@ -75,11 +80,15 @@ impl RunsCommand {
                 number: _,
                 is_by_onset: _,
             } => 2,
-            RunsCommand::Canonical { file: _ } => 2,
+            RunsCommand::Canonical {
+                file: _,
+                is_by_onset: _,
+            } => 2,
             RunsCommand::Split {
                 file: _,
                 prefix: _,
                 is_by_onset: _,
+                joining: _,
             } => 2,
             RunsCommand::Picture {
                 file: _,
@@ -92,11 +101,11 @@ impl RunsCommand {
 /// Runs a command.
 ///
 /// Lists, files and pictures go to `out`, and why something is not done, and the line of a file of
-/// `Write`, to `err`. The list of a file goes out whole, or a front of it where a write failed,
-/// which a line tells, or nothing where memory ran out. `Split` leaves all its files where it is
-/// done, and else none but those that it names as not removed; the lines of files that were removed
-/// may have gone out, where writing them failed. The clauses say what `List`, `Write`, `Canonical`
-/// and `Split` do, and of `Picture` all but what the picture shows.
+/// `Write` or `Canonical`, to `err`. The list of a file goes out whole, or a front of it where a
+/// write failed, which a line tells, or nothing where memory ran out. `Split` leaves all its files
+/// where it is done, and else none but those that it names as not removed; the lines of files that
+/// were removed may have gone out, where writing them failed. The clauses say what `List`, `Write`,
+/// `Canonical` and `Split` do, and of `Picture` all but what the picture shows.
 pub fn run_runs<I: Inputs, P: Outputs, O: Output, F: Output>(
     alloc: Global,
     command: &RunsCommand,
@@ -129,16 +138,20 @@ pub fn run_runs<I: Inputs, P: Outputs, O: Output, F: Output>(
             out,
             err,
         ),
-        RunsCommand::Canonical { file } => canonical(alloc, file.as_str(), inputs, out, err),
+        RunsCommand::Canonical { file, is_by_onset } => {
+            canonical(alloc, file.as_str(), *is_by_onset, inputs, out, err)
+        }
         RunsCommand::Split {
             file,
             prefix,
             is_by_onset,
+            joining,
         } => split(
             alloc,
             file.as_str(),
             prefix.as_str(),
             *is_by_onset,
+            *joining,
             inputs,
             outputs,
             out,

@@ -15,15 +15,16 @@ use crate::arguments::{refuse_stream, required_value, twice_read_file_value, val
 use crate::making::make_files;
 use crate::naming::{push_first_names, run_names};
 use crate::outputs::Outputs;
-use crate::planning::{by_onset_option, is_by_onset, plan_of, refuse_plan};
+use crate::planning::{by_onset_option, is_by_onset, part_of, plan_joined, refuse_plan};
 use crate::refusal::{STANDARD_OUTPUT, tell_there, tell_undated};
 use crate::removing::give_up;
 use crate::runs_command::RunsCommand;
 use crate::stop::Stop;
+use crate::tolerance::{joining_option, read_shift, read_tolerance, shift_option};
 use clap::{ArgMatches, Command};
 use edf_fragment::{Output, send};
-use edf_program::{CommandFault, Inputs, Status, tell_memory};
-use edf_runs::OnsetListing;
+use edf_program::{CommandFault, Inputs, Status, refuse_value, tell_memory};
+use edf_runs::{Joining, OnsetListing};
 use std::alloc::{AllocError, Global};
 
 /// Which files are made, and when none is.
@@ -43,13 +44,35 @@ and how many of these have an onset outside of the run:
 
 With --by-onset each annotation is in the file of the run in which its onset lies,
 and one whose onset lies in no run in that of the run before it, or of the first.
-Such files have other data records: they are for viewers, not for 'edfstore take'.";
+Such files have other data records: they are for viewers, not for 'edfstore take'.
+
+With --tolerance, runs between which at most S seconds are missing share a file, in
+which each data record begins where the one before ends: its times are wrong by what
+is missing before them. A line tells the greatest such shift, that of the last data
+record, and 'seconds' with what is missing, as 'edfruns list --tolerance' has it:
+  PREFIX-1.edf 1 records=K first=I seconds=S gap=S shifted=S annotations=K outside=M
+A data record whose shift would pass S of --shift, or else a data record's duration,
+begins a new file. An annotation moves as the data record does in which its onset
+lies. One in a gap that is joined comes to where the gap was; one behind the file's
+last data record moves as that does; one before its first stays. Durations stay, so
+an end may be too late. Such files too are for viewers.
+
+With --by-onset or --tolerance the annotations are those of the first reading.";
 
 const SPLIT_EXAMPLE: &str = "\
 Example:
   edfruns split night.edf night
   night-1.edf 1 records=3 first=2002-03-02T23:59:50 seconds=3 gap=7.5 annotations=2 outside=1
-  night-2.edf 2 records=2 first=2002-03-03T00:00:00.5 seconds=2 annotations=0 outside=0";
+  night-2.edf 2 records=2 first=2002-03-03T00:00:00.5 seconds=2 annotations=0 outside=0
+  edfruns split --tolerance 10 --shift 10 night.edf all
+  all-1.edf 1 records=5 first=2002-03-02T23:59:50 seconds=12.5 shifted=7.5 annotations=2 outside=0";
+
+/// What usage calls the command.
+const NAME: &str = "edfruns split";
+
+/// Why a shift is refused where no gap is joined.
+const NO_TOLERANCE: &str = "\
+--shift is for --tolerance: no data record is moved where no gap is joined";
 
 /// The word and its values, as `clap` gets them.
 pub(crate) fn split_words<'a>(alloc: Global) -> Result<Command<'a>, AllocError> {
@@ -58,12 +81,25 @@ pub(crate) fn split_words<'a>(alloc: Global) -> Result<Command<'a>, AllocError> 
         .long_about(SPLIT_MORE)
         .after_help(SPLIT_EXAMPLE)
         .arg(by_onset_option(alloc))?
+        .arg(joining_option(alloc))?
+        .arg(shift_option(alloc))?
         .arg(twice_read_file_value(alloc))?
         .arg(required_value(
             alloc,
             "PREFIX",
             "How the names of the new files begin, before -1.edf",
         ))
+}
+
+/// Which gaps are joined, if any are.
+fn read_joining(alloc: Global, values: &ArgMatches<'_>) -> Result<Option<Joining>, CommandFault> {
+    let tolerance = read_tolerance(alloc, values, split_words(alloc), NAME)?;
+    let shift = read_shift(alloc, values, split_words(alloc), NAME)?;
+    match (tolerance, shift) {
+        (Some(tolerance), shift) => Ok(Some(Joining { tolerance, shift })),
+        (None, Some(_)) => Err(refuse_value(alloc, split_words(alloc)?, NAME, NO_TOLERANCE)?),
+        (None, None) => Ok(None),
+    }
 }
 
 /// What its values ask for.
@@ -73,14 +109,16 @@ pub(crate) fn read_split(
 ) -> Result<RunsCommand, CommandFault> {
     let file = value_in(values, "FILE");
     if file == "-" {
-        return Err(refuse_stream(alloc, split_words(alloc), "edfruns split")?);
+        return Err(refuse_stream(alloc, split_words(alloc), NAME)?);
     }
     let file = String::from_str(alloc, file)?;
     let prefix = String::from_str(alloc, value_in(values, "PREFIX"))?;
+    let joining = read_joining(alloc, values)?;
     Ok(RunsCommand::Split {
         file,
         prefix,
         is_by_onset: is_by_onset(values),
+        joining,
     })
 }
 
@@ -167,13 +205,15 @@ fn split_listed<I: Inputs, P: Outputs, O: Output, F: Output>(
     give_up(file, stop, names, first, outputs, err)
 }
 
-/// Writes each run of a file to an EDF+C file of its own. No file that is there is written over. A
-/// run whose start no header can name is told before a name that is taken.
+/// Writes each run of a file to an EDF+C file of its own, or those that are joined to one. No file
+/// that is there is written over. A run whose start no header can name is told before a name that
+/// is taken.
 pub(crate) fn split<I: Inputs, P: Outputs, O: Output, F: Output>(
     alloc: Global,
     file: &str,
     prefix: &str,
     is_by_onset: bool,
+    joining: Option<Joining>,
     inputs: &mut I,
     outputs: &mut P,
     out: &mut O,
@@ -181,19 +221,20 @@ pub(crate) fn split<I: Inputs, P: Outputs, O: Output, F: Output>(
 ) -> Status
     ensures split { IsSplit (making P.Outputs outputs.old outputs.new)
         (growth O.Output out.old out.new) (growth F.Output err.old err.new)
-        (I.bytes inputs.old file.now) file.now prefix.now is_by_onset result }
+        (I.bytes inputs.old file.now) file.now prefix.now is_by_onset joining result }
     ensures opened { OpensAgain (I.opened inputs.old) (I.opened inputs.new) file.now 2 result }
     ensures same { (name : List ℕ) → I.bytes inputs.new name ≡ I.bytes inputs.old name }
 {
-    let plan = match plan_of(alloc, file, is_by_onset, inputs) {
+    let part = part_of(joining);
+    let plan = match plan_joined(alloc, file, is_by_onset, joining, inputs) {
         Ok(plan) => plan,
-        Err(fault) => return refuse_plan(alloc, file, fault, err),
+        Err(fault) => return refuse_plan(alloc, file, part, fault, err),
     };
     let Ok(asked) = asked_names(alloc, prefix, plan.runs.as_slice().len()) else {
         return tell_memory(err, file);
     };
     if let Some(number) = undated_run(&plan) {
-        return tell_undated(err, number, Status::Refused);
+        return tell_undated(err, part, number, Status::Refused);
     }
     if let Some(name) = taken_name(outputs, &asked) {
         return tell_there(err, name);

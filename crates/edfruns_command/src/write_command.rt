@@ -12,7 +12,7 @@ ghost use Rattle.edfruns_command.specs.Writing.{WritesAgain, StopsAgain};
 use crate::arguments::{refuse_stream, required_value, twice_read_file_value, value_in};
 use crate::counting::{front_of_run, tell_counted};
 use crate::planning::{by_onset_option, is_by_onset, plan_of, refuse_plan};
-use crate::refusal::{refuse_run, tell_no_run};
+use crate::refusal::{RUN, refuse_run, tell_no_run};
 use crate::runs_command::RunsCommand;
 use clap::{ArgMatches, Command};
 use edf_fragment::{Input, OpenFragment, Output};
@@ -166,7 +166,7 @@ pub(crate) fn write<I: Inputs, O: Output, F: Output>(
 {
     let plan = match plan_of(alloc, file, is_by_onset, inputs) {
         Ok(plan) => plan,
-        Err(fault) => return refuse_plan(alloc, file, fault, err),
+        Err(fault) => return refuse_plan(alloc, file, RUN, fault, err),
     };
     let run = match plan.run(number) {
         Some(run) => run,

@@ -1,6 +1,6 @@
 -- One step of a second reading, and of the writing beside it.
-use Rattle.std.specs.Prelude.{◌≡◌, ◌≢◌, ℕ, ◌+◌, ◌≤◌, List, [], ◌++◌, length, Option, Some, None, Ok}
-use Rattle.std.specs.Prelude.{Result, MatchResult}
+use Rattle.std.specs.Prelude.{◌≡◌, ◌≢◌, ℕ, ◌+◌, ◌≤◌, List, [], ◌∷◌, ◌++◌, length, slice_get}
+use Rattle.std.specs.Prelude.{Option, Some, None, Ok, Result, MatchResult}
 use Rattle.std.specs.List.{AllByRecursion}
 use Rattle.std.specs.Io.KnownBytes.{Appends}
 use Rattle.edf_field.specs.Number.{duration_of}
@@ -20,7 +20,7 @@ use Rattle.edf_runs.specs.Runs.{StartFrom, IsListed}
 use Rattle.edf_runs.specs.Read.{ReadsOn}
 use Rattle.edf_runs.specs.Again.{next_start}
 use Rattle.edf_runs.specs.Written.{run_text, ReadsOneMoreAtMost, CountsFault}
-use Rattle.edf_runs.specs.WrittenByOnset.{annotated, with_annotations}
+use Rattle.edf_runs.specs.WrittenByOnset.{annotated, with_samples, StartAs}
 use Rattle.edf_runs.specs.Inside.Tally.{IsTallied}
 use Rattle.edf_runs.specs.declared.run.Run.{Run}
 use Rattle.edf_runs.specs.declared.tally.Tally.{Tally}
@@ -41,12 +41,12 @@ CountsSending reads reads' writes writes' result =
 -- the data record with what was kept of it, where something was
 abbrev pub annotated_one : Option DataRecord → DataRecord → DataRecord
 annotated_one None r = r
-annotated_one (Some kept) r = with_annotations kept r
+annotated_one (Some kept) r = with_samples kept r
 
--- without its samples, what was kept of a data record starts when it does
-pub record IsKeptOf (r kept : DataRecord) : Type 0 where
-  pub bare : kept.samples ≡ []
-  pub start : kept.start ≡ r.start
+-- when the data record after so many is to start: at this instant, or, where some are told, then
+abbrev pub due : List ℕ → ℕ → ℕ → Option ℕ
+due [] nth instant = Some instant
+due (s ∷ ss) nth instant = slice_get (s ∷ ss) nth
 
 -- one more data record was read, which starts at this instant
 pub record StepsOn (l : Layout) (from to : Progress) (left rest : Option (List ℕ)) (instant : ℕ)
@@ -72,12 +72,12 @@ pub record HasOthers (l : Layout) (to : Progress) (rest : Option (List ℕ))
   pub are_records : AreDataRecords l to.place bytes others last after
   pub within : to.given + length others ≤ most_records l.count
 
--- the data records that were read so far, as many as `count`; the next one starts at `next`; and
--- where as many data records came next as the run has, they are the first of these
+-- the data records that were read so far, as many as `count`; in the file the next one starts at
+-- `next`; and where as many data records came next as the run has, they are the first of these
 pub record ReadSoFar (l : Layout) (from to : Progress) (left rest : Option (List ℕ)) (run : Run)
-    (records : List DataRecord) (next count : ℕ) : Type 0 where
+    (starts : List ℕ) (records : List DataRecord) (next count : ℕ) : Type 0 where
   pub read : ReadsOn l from to left rest records
-  pub starts : StartFrom (duration_of l.key.duration) run.first records
+  pub start : StartAs (duration_of l.key.duration) run.first starts records
   pub counted : length records ≡ count
   pub next_is : next ≡ next_start l run records
   pub first : (all : List DataRecord) → HasOthers l from left all [] → length all ≡ run.records →
@@ -93,20 +93,22 @@ pub record ArePut (l : Layout) (run : Run) (records : List DataRecord) (samples 
 
 -- so far they were read, put with the annotations that were kept of them, and counted
 pub record PutSoFar (l : Layout) (from to : Progress) (left rest : Option (List ℕ))
-    (before after : Buffered) (run : Run) (kept : List DataRecord) (next samples count : ℕ)
-    (tally : Tally) : Type 0 where
+    (before after : Buffered) (run : Run) (starts : List ℕ) (kept : List DataRecord)
+    (next samples count : ℕ) (tally : Tally) : Type 0 where
   pub records : List DataRecord
-  pub so_far : ReadSoFar l from to left rest run records next count
+  pub so_far : ReadSoFar l from to left rest run starts records next count
+  pub moved : StartFrom (duration_of l.key.duration) run.first (annotated kept records)
   pub put : ArePut l run (annotated kept records) samples
   pub tallied : IsTallied (duration_of l.key.duration) run (annotated kept records) tally
   pub wrote : Writes before after (run_text run (annotated kept records)) after.held
 
--- all data records of the run were read, put with these annotations, and counted
+-- all data records of the run were read, put as they were kept, and counted
 pub record IsPutAll (l : Layout) (from to : Progress) (left rest : Option (List ℕ))
-    (before after : Buffered) (run : Run) (kept : List DataRecord) (tally : Tally) : Type 0 where
+    (before after : Buffered) (run : Run) (starts : List ℕ) (kept : List DataRecord)
+    (tally : Tally) : Type 0 where
   pub records : List DataRecord
   pub read : ReadsOn l from to left rest records
-  pub starts : StartFrom (duration_of l.key.duration) run.first records
+  pub start : StartAs (duration_of l.key.duration) run.first starts records
   pub count : length records ≡ run.records
   pub sound : AllByRecursion (IsSoundRecord l.key) (annotated kept records)
   pub listed : IsListed (duration_of l.key.duration) (annotated kept records) run
@@ -115,12 +117,12 @@ pub record IsPutAll (l : Layout) (from to : Progress) (left rest : Option (List 
 
 -- the first data records of the run were read, of which a front was written
 pub record StopsPutting (l : Layout) (from to : Progress) (left rest : Option (List ℕ))
-    (before after : Buffered) (run : Run) (kept : List DataRecord) : Type 0 where
+    (before after : Buffered) (run : Run) (starts : List ℕ) (kept : List DataRecord) : Type 0 where
   pub records : List DataRecord
   pub mid : Progress
   pub middle : Option (List ℕ)
   pub read : ReadsOn l from mid left middle records
-  pub starts : StartFrom (duration_of l.key.duration) run.first records
+  pub start : StartAs (duration_of l.key.duration) run.first starts records
   pub within : length records ≤ run.records
   pub holds : BlocksFit (second_of run.first) run.block_samples (annotated kept records)
   pub front : (unwritten : List ℕ)
@@ -129,9 +131,11 @@ pub record StopsPutting (l : Layout) (from to : Progress) (left rest : Option (L
 
 -- a header and all data records of the run were written, and the data records counted
 pub record IsSent (l : Layout) (from to : Progress) (left rest before after : Option (List ℕ))
-    (header : List ℕ) (run : Run) (kept : List DataRecord) (tally : Tally) : Type 0 where
+    (header : List ℕ) (run : Run) (starts : List ℕ) (kept : List DataRecord) (tally : Tally) :
+    Type 0 where
   pub records : List DataRecord
   pub read : ReadsOn l from to left rest records
+  pub start : StartAs (duration_of l.key.duration) run.first starts records
   pub count : length records ≡ run.records
   pub sound : AllByRecursion (IsSoundRecord l.key) (annotated kept records)
   pub listed : IsListed (duration_of l.key.duration) (annotated kept records) run
@@ -140,12 +144,12 @@ pub record IsSent (l : Layout) (from to : Progress) (left rest before after : Op
 
 -- a front of the header and of the first data records was written
 pub record StopsSending (l : Layout) (from to : Progress) (left rest before after : Option (List ℕ))
-    (header : List ℕ) (run : Run) (kept : List DataRecord) : Type 0 where
+    (header : List ℕ) (run : Run) (starts : List ℕ) (kept : List DataRecord) : Type 0 where
   pub records : List DataRecord
   pub mid : Progress
   pub middle : Option (List ℕ)
   pub read : ReadsOn l from mid left middle records
-  pub starts : StartFrom (duration_of l.key.duration) run.first records
+  pub start : StartAs (duration_of l.key.duration) run.first starts records
   pub within : length records ≤ run.records
   pub holds : BlocksFit (second_of run.first) run.block_samples (annotated kept records)
   pub front : WritesFront before after (header ++ run_text run (annotated kept records))

@@ -11,7 +11,8 @@ returns-in_ok-push-in-None c records few are =
     let new : c.push.new.self.items ≡ c.in_ok-one-in-None.one ∷ [] = search rules in
     subst (AreKept d (records ++ r ∷ [])) (sym new)
     (first_kept d records c.in_ok-one-in-None.one r (subst (AreKept d records) none are)
-    c.in_ok-one-in-None.ensures.kept (c.in_ok-one-in-None.ensures.listed d))
+    c.in_ok-one-in-None.ensures.kept (c.in_ok-one-in-None.ensures.listed d)
+    c.in_ok-one-in-None.ensures.unmoved)
 
 pub returns-in_ok-push-in-Some : goal.returns-in_ok-push-in-Some
 returns-in_ok-push-in-Some c records few are =
@@ -28,7 +29,8 @@ returns-in_ok-push-in-Some c records few are =
     let short = last_few d records before run r were in
     subst (AreKept d (records ++ r ∷ [])) (sym new)
     (longer_kept d records before run r were longer next c.in_ok-longer-in-Some.ensures.kept
-    (c.in_ok-longer-in-Some.ensures.listed d listed next (omega (arith, few, short))))
+    (c.in_ok-longer-in-Some.ensures.listed d listed next (omega (arith, few, short)))
+    c.in_ok-longer-in-Some.ensures.unmoved)
 
 pub returns-in_ok-push-in-Some-2-2 : goal.returns-in_ok-push-in-Some-2-2
 returns-in_ok-push-in-Some-2-2 c records few are =
@@ -43,4 +45,4 @@ returns-in_ok-push-in-Some-2-2 c records few are =
     let were = subst (AreKept d records) old are in
     subst (AreKept d (records ++ r ∷ [])) (sym new)
     (next_kept d records before run r were one apart c.in_ok-next-in-Some-2.ensures.kept
-    (c.in_ok-next-in-Some-2.ensures.listed d))
+    (c.in_ok-next-in-Some-2.ensures.listed d) c.in_ok-next-in-Some-2.ensures.unmoved)

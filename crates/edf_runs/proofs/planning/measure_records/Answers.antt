@@ -46,7 +46,7 @@ records-preserved g c =
     c.header_is_layout.ensures in
     let few : length records < MOST_RECORDS =
     omega (arith, layout.count.1, gives.may_come, before.so_far.1.given) in
-    let measured = c.after.ensures records before.so_far.2 few in
+    let measured = c.after.ensures.measured records before.so_far.2 few in
     record {
       header = c.in_ok-data_record.ensures.header ∙ before.header;
       state = ap (λ (x : Progress). x.state) to_is;

@@ -1,4 +1,6 @@
-use Rattle.std.proofs.Common.{◌≡◌, ◌∙◌, ap, sym, subst, rules}
+use Rattle.std.proofs.Common.{◌≡◌, ◌∙◌, ap, sym, subst, rules, refl, [], All}
+use Rattle.std.proofs.lemmas.List.Elements.{All-nil}
+use Rattle.edf_fragment.specs.Fragment.{DataRecord}
 use Rattle.std.proofs.lemmas.Result.{err_from_is_err_and}
 use Rattle.edf_header.specs.Key.{Key, MayStart}
 use Rattle.edf_header.specs.Header.{Layout}
@@ -33,6 +35,8 @@ invariant_of-result g c =
     record {
       may_start = subst (λ (k : Key). MayStart k c.in-Some.measure.first) (sym key)
           (measured_starts read.bytes l.key answer.0 c.in-Some.measure read.spells is);
+      bare = subst (All (λ (r : DataRecord). r.samples ≡ [])) (sym c.new.ensures.items)
+          (All-nil (λ (r : DataRecord). r.samples ≡ []));
     }
 
 pub returns-clause-answer : goal.returns-clause-answer
@@ -51,4 +55,6 @@ returns-clause-answer g c =
         identity = key;
         measured = subst (IsMeasuredSoFar answer.0) c.in-Some.is answer.2;
       };
+      none_kept = c.new.ensures.items;
+      none_outside = refl;
     }

@@ -19,7 +19,7 @@ loop-init g c =
       header = refl;
       so_far = (
         [],
-        none_so_far l from left c.args.run.now c.nanos-next.result
+        none_so_far l from left c.args.run.now [] c.nanos-next.result
             c.args.fragment.now.within (c.nanos-next.ensures.value ∙ c.first.ensures),
       );
       count = refl;
@@ -42,16 +42,17 @@ loop-preserved g c =
     let step : StepsOn l mid to middle rest c.loop.next r =
     subst (λ (x : Layout). StepsOn x mid to middle rest c.loop.next r) i.header
     c.in_ok-next_at.ensures.step in
-    let after : c.nanos.result + c.duration-duration.result ≡ r.start + duration_of l.key.duration =
-    omega (arith, c.nanos.ensures.value, c.start-in-loop.ensures.value, d) in
+    let after : c.nanos.result + c.duration-duration.result
+    ≡ c.loop.next + duration_of l.key.duration =
+    omega (arith, c.nanos.ensures.value, c.start-in-loop.ensures.value, d, step.start) in
     let few : c.loop.counter < c.args.run.now.records =
     omega (arith, c.records-end.ensures.value) in
     record {
       header = c.in_ok-next_at.ensures.header ∙ i.header;
       so_far = (
         i.so_far.0 ++ r ∷ [],
-        more_so_far l from mid to left middle rest c.args.run.now i.so_far.0 c.loop.next _
-            c.loop.counter r i.so_far.1 few step after,
+        more_so_far l from mid to left middle rest c.args.run.now [] i.so_far.0 c.loop.next _
+            c.loop.next c.loop.counter r i.so_far.1 few refl step after,
       );
       count = c.in_ok-next_at.ensures.counted ∙ i.count;
     }
@@ -78,8 +79,8 @@ returns-in_err-next_at-clause-reread g c =
       header = c.in_err-next_at.ensures.header ∙ i.header;
       unchanged = λ n same.
           let changed = handed_on c.from_residual.result p.0 fault p.1 p.2 same in
-          next_as_listed l from mid left middle run [] i.so_far.0 c.loop.next c.loop.counter
-          i.so_far.1 (comes_plain l from left run n) to rest layout few
+          next_as_listed l from mid left middle run [] [] i.so_far.0 c.loop.next c.loop.counter
+          i.so_far.1 (comes_plain l from left run n) to rest c.loop.next layout few refl
           (subst (λ (x : WriteFault). StopsAt l mid to middle rest c.loop.next x) changed stop);
     }
 
@@ -105,7 +106,7 @@ returns-in_err-next_at-clause-by_onset g c kept =
       header = c.in_err-next_at.ensures.header ∙ i.header;
       unchanged = λ n same.
           let changed = handed_on c.from_residual.result p.0 fault p.1 p.2 same in
-          next_as_listed l from mid left middle run kept i.so_far.0 c.loop.next c.loop.counter
-          i.so_far.1 n to rest layout few
+          next_as_listed l from mid left middle run [] kept i.so_far.0 c.loop.next c.loop.counter
+          i.so_far.1 n to rest c.loop.next layout few refl
           (subst (λ (x : WriteFault). StopsAt l mid to middle rest c.loop.next x) changed stop);
     }

@@ -1,4 +1,4 @@
-use Rattle.std.proofs.Common.{◌≡◌, List}
+use Rattle.std.proofs.Common.{◌≡◌, List, []}
 use Rattle.edf_fragment.specs.Fragment.{DataRecord}
 use Rattle.edf_runs.specs.Inside.Steps.{ReadSoFar}
 use Rattle.edf_runs.proofs.reading.skip_run.Given as goal
@@ -9,6 +9,6 @@ invariant-loop g l = record {
   so_far : (records : List DataRecord)
       × ReadSoFar l.initial.fragment.header l.initial.fragment.progress l.fragment.progress
       (g.R.Input.remaining l.initial.input)
-      (g.R.Input.remaining l.input) l.fn.run records l.next l.counter;
+      (g.R.Input.remaining l.input) l.fn.run [] records l.next l.counter;
   count : g.R.Input.failures l.input ≡ g.R.Input.failures l.initial.input;
 }

@@ -9,8 +9,8 @@ invariant-loop-nth g l = record {
   so_far : PutSoFar l.initial.fragment.header l.initial.fragment.progress l.fragment.progress
       (g.R.Input.remaining l.initial.input) (g.R.Input.remaining l.input)
       (buffered g.W.Output l.initial.out l.initial.held.bytes.items)
-      (buffered g.W.Output l.out l.held.bytes.items) l.fn.run l.fn.kept l.next l.longest l.nth
-      l.tally;
+      (buffered g.W.Output l.out l.held.bytes.items) l.fn.run l.fn.starts l.fn.kept l.next
+      l.longest l.nth l.tally;
   reads : g.R.Input.failures l.input ≡ g.R.Input.failures l.initial.input;
   writes : g.W.Output.failures l.out ≡ g.W.Output.failures l.initial.out;
 }

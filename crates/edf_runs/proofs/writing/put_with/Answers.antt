@@ -1,23 +1,16 @@
-use Rattle.std.proofs.Common.{◌++◌, ◌≤◌, List, ℕ, length, sym, ap, ◌∙◌, subst}
+use Rattle.std.proofs.Common.{◌++◌, List, ℕ, sym, ap, ◌∙◌}
 use Rattle.std.proofs.lemmas.Result.{err_from_is_err_and}
-use Rattle.edf_tal.specs.Canonical.{block_text}
 use Rattle.edf_canonical.specs.File.{record_text}
 use Rattle.edf_canonical.proofs.Puts.{put-then, put-stops}
 use Rattle.edf_runs.proofs.Annotated.{text-with}
 use Rattle.edf_runs.proofs.writing.put_with.Goals as goal
-
-pub put_record-requires : goal.put_record-requires
-put_record-requires g c =
-    let k = c.args.kept.now in
-    subst (λ n. length (block_text c.args.base n k.annotations) ≤ c.args.size)
-    (sym c.requires.alike.start) c.requires.fits
 
 pub returns : goal.returns
 returns g c =
     let k = c.args.kept.now in
     let text = record_text c.args.base c.args.size k in
     put-then _ _ _ c.samples.result.now text _ _ _
-    (sym (text-with c.args.base c.args.size c.args.data_record.now k c.requires.alike)
+    (sym (text-with c.args.base c.args.size c.args.data_record.now k c.requires.bare)
     ∙ ap (λ (l : List ℕ). l ++ text) (sym c.samples.ensures.value)) c.in_ok-put.ensures
     c.put_record.ensures
 
@@ -27,5 +20,5 @@ returns-in_err-put g c =
     let text = record_text c.args.base c.args.size k in
     let p = err_from_is_err_and c.from_residual.result c.from_residual.ensures.1 in
     rw (p.1, p.2) (put-stops _ _ c.samples.result.now text _ _
-    (sym (text-with c.args.base c.args.size c.args.data_record.now k c.requires.alike)
+    (sym (text-with c.args.base c.args.size c.args.data_record.now k c.requires.bare)
     ∙ ap (λ (l : List ℕ). l ++ text) (sym c.samples.ensures.value)) c.in_err-put.ensures)

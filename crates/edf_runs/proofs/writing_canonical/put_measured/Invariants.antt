@@ -10,7 +10,7 @@ invariant-records g l = record {
   so_far : PutMeasured l.initial.fragment.header l.fragment.progress
       (g.R.Input.remaining l.initial.input) (g.R.Input.remaining l.input)
       (buffered g.W.Output l.initial.out l.initial.held.bytes.items)
-      (buffered g.W.Output l.out l.held.bytes.items) l.fn.whole l.so_far;
+      (buffered g.W.Output l.out l.held.bytes.items) l.fn.whole l.fn.kept l.so_far;
   reads : g.R.Input.failures l.input ≡ g.R.Input.failures l.initial.input;
   writes : g.W.Output.failures l.out ≡ g.W.Output.failures l.initial.out;
 }

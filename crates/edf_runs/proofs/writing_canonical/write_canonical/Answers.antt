@@ -16,7 +16,9 @@ use Rattle.edf_runs.specs.declared.fault.WriteFault.{WriteFault}
 use Rattle.edf_runs.specs.declared.fault.WriteFault.TheVariants.{Undated, Memory}
 use Rattle.edf_runs.proofs.Next.{handed_on}
 use Rattle.edf_runs.proofs.Sending.{reread_counts}
-use Rattle.edf_runs.proofs.Whole.{canonical_written, none_first, header_unchanged}
+use Rattle.edf_runs.proofs.KeptWhole.{alike-none}
+use Rattle.edf_runs.proofs.PutWhole.{none-first}
+use Rattle.edf_runs.proofs.Whole.{canonical_written, header_unchanged}
 use Rattle.edf_runs.proofs.writing_canonical.write_canonical.Goals as goal
 
 pub returns-in_err-fragment-clause-refused : goal.returns-in_err-fragment-clause-refused
@@ -30,7 +32,7 @@ pub returns-in_err-fragment-clause-unchanged : goal.returns-in_err-fragment-clau
 returns-in_err-fragment-clause-unchanged g c = λ bytes k records known spells is same.
     let p = err_from_is_err_and c.from_residual.result c.from_residual.ensures.1 in
     header_unchanged bytes (g.R.Input.remaining c.open_again.new.input) k
-    c.args.plan.now.identity records c.in_err-fragment.field-0.0 spells is.identity
+    c.args.plan.now.identity records c.in_err-fragment.field-0.0 spells is.planned.identity
     (subst (λ (x : Option (List ℕ)). IsNotReopened x
     (g.R.Input.remaining c.open_again.new.input) c.args.plan.now.identity
     c.in_err-fragment.field-0.0) known c.in_err-fragment.ensures.answer)
@@ -52,7 +54,8 @@ returns-in_default-clause-refused g c =
         progress = c.in_ok-fragment.fragment.progress;
         read = subst (λ (x : Progress). HasRead l opened opened [] x) (sym a.1)
             (reads_none l opened);
-        first = none_first c.args.plan.now.measure;
+        alike = alike-none c.args.plan.now.kept.items;
+        first = none-first c.args.plan.now.measure c.args.plan.now.kept.items;
         front = inl (Keeps-refl _);
         more = inl refl;
       }),
@@ -62,10 +65,10 @@ pub returns-in_err-send_measured-clause-refused : goal.returns-in_err-send_measu
 returns-in_err-send_measured-clause-refused g c =
     let a = c.in_ok-fragment.ensures.answer in
     let m = c.args.plan.now.measure in
-    let s = c.in_err-send_measured.ensures.sent in
-    let header : IsCanonicalHeader c.as_slice.result.now c.args.plan.now.identity m.first m.records
+    let s = rw (c.as_slice.ensures.value) at c.in_err-send_measured.ensures.sent in
+    let header : IsCanonicalHeader c.as_slice-2.result.now c.args.plan.now.identity m.first m.records
     m.block_samples = subst (λ (t : List ℕ). IsCanonicalHeader t c.args.plan.now.identity m.first
-    m.records m.block_samples) (sym c.as_slice.ensures.value) c.in-Ok.ensures in
+    m.records m.block_samples) (sym c.as_slice-2.ensures.value) c.in-Ok.ensures in
     let p = err_from_is_err_and c.from_residual-in_err-send_measured.result
     c.from_residual-in_err-send_measured.ensures.1 in
     rw (p.1, p.2) (
@@ -79,8 +82,9 @@ returns-in_err-send_measured-clause-refused g c =
         middle = s.middle;
         progress = s.progress;
         read = s.read;
+        alike = s.alike;
         first = s.first;
-        front = inr (c.as_slice.result.now, header, s.front);
+        front = inr (c.as_slice-2.result.now, header, s.front);
         more = s.more;
       }),
     )
@@ -95,7 +99,8 @@ returns-in_err-send_measured-clause-unchanged g c = λ bytes k records known spe
     c.from_residual-in_err-send_measured.ensures.1 in
     let reads : ReadsHeader (Some bytes) opened l =
     subst (λ (x : Option (List ℕ)). ReadsHeader x opened l) known a.0 in
-    c.in_err-send_measured.ensures.unchanged bytes k records reads spells is.measured
+    let unchanged = rw (c.as_slice.ensures.value) at c.in_err-send_measured.ensures.unchanged in
+    unchanged bytes k records reads spells is.alike is.planned.measured
     (ap (λ (x : WriteFault). Err x)
     (handed_on c.from_residual-in_err-send_measured.result p.0 _ p.1 p.2 same))
 
@@ -121,21 +126,21 @@ returns-clause-written g c =
     let a = c.in_ok-fragment.ensures.answer in
     let plan = c.args.plan.now in
     let m = plan.measure in
-    let text = c.as_slice.result.now in
+    let text = c.as_slice-2.result.now in
     let header : IsCanonicalHeader text plan.identity m.first m.records m.block_samples =
     subst (λ (t : List ℕ). IsCanonicalHeader t plan.identity m.first m.records m.block_samples)
-    (sym c.as_slice.ensures.value) c.in-Ok.ensures in
+    (sym c.as_slice-2.ensures.value) c.in-Ok.ensures in
     let len : c.len.result ≡ length text =
     omega (
       arith,
       c.len.ensures,
       c.in-Ok.header.ok.0,
-      ap (λ (t : List ℕ). length t) c.as_slice.ensures.value,
+      ap (λ (t : List ℕ). length t) c.as_slice-2.ensures.value,
     ) in
     let whole : c.len.result + m.records * (c.ordinary_bytes.result + 2 * m.block_samples)
     ≡ length text + m.records * (2 * samples_in_all plan.identity.signals + 2 * m.block_samples) =
     ap (λ n. n + m.records * (c.ordinary_bytes.result + 2 * m.block_samples)) len
     ∙ ap (λ n. length text + m.records * (n + 2 * m.block_samples))
     c.ordinary_bytes.ensures.value in
-    canonical_written _ _ _ _ _ c.in_ok-fragment.fragment.header plan text _ a.0 a.2 header
-    c.in_ok-send_measured.ensures.sent whole
+    let sent = rw (c.as_slice.ensures.value) at c.in_ok-send_measured.ensures.sent in
+    canonical_written _ _ _ _ _ c.in_ok-fragment.fragment.header plan text _ a.0 a.2 header sent whole

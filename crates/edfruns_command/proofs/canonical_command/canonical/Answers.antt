@@ -1,19 +1,24 @@
-use Rattle.std.proofs.Common.{List, ℕ, ◌∙◌, subst, inl, inr, refl}
+use Rattle.std.proofs.Common.{List, ℕ, ◌∙◌, subst, inl, inr, codes}
 use Rattle.std.specs.Prelude.{Option}
 use Rattle.edf_program.specs.Output.{growth}
 use Rattle.edf_program.proofs.Puts.{nothing-gets}
-use Rattle.edfruns_command.specs.Canonical.{WritesFile, StopsAgain}
-use Rattle.edfruns_command.proofs.Answered.{refused, opened-again, opened-twice, run-undone}
+use Rattle.edfruns_command.specs.Canonical.{WritesFile, StopsAgain, TellsOutside}
+use Rattle.edfruns_command.proofs.Answered.{opened-again, opened-twice, run-undone}
+use Rattle.edfruns_command.proofs.Answered.{lacks-plan, opened-refused, plan-undone}
 use Rattle.edfruns_command.proofs.canonical_command.canonical.Goals as goal
 
 pub returns-in-Err-clause-written : goal.returns-in-Err-clause-written
 returns-in-Err-clause-written g c =
-    inr (inr (refused (growth g.O.Output c.args.out.now c.args.out.now)
-    (growth g.F.Output c.args.err.now c.refuse.new.err)
-    (g.I.Inputs.bytes c.args.inputs.now c.args.file.now) c.args.file.now c.in-Err.fault
-    c.refuse.result
+    inr (inr (lacks-plan (growth g.O.Output c.args.out.now c.args.out.now)
+    (growth g.F.Output c.args.err.now c.refuse_plan.new.err)
+    (g.I.Inputs.bytes c.args.inputs.now c.args.file.now) c.args.file.now
+    c.refuse_plan.result c.args.is_by_onset
     (nothing-gets (g.O.Output.contents c.args.out.now) (g.O.Output.failures c.args.out.now))
-    c.in-Err.ensures.answer c.refuse.ensures))
+    c.in-Err.fault c.in-Err.ensures.answer c.refuse_plan.ensures))
+
+pub returns-in-Err-clause-opened : goal.returns-in-Err-clause-opened
+returns-in-Err-clause-opened g c = opened-refused _ _ _ _ c.in-Err.ensures.opened
+    (plan-undone _ _ (codes "run") _ _ c.refuse_plan.ensures)
 
 pub returns-in-Ok-write_planned-clause-written : goal.returns-in-Ok-write_planned-clause-written
 returns-in-Ok-write_planned-clause-written g c = inl (record {
@@ -22,9 +27,8 @@ returns-in-Ok-write_planned-clause-written g c = inl (record {
   writes = subst (λ (b : Option (List ℕ)). WritesFile
       (growth g.O.Output c.args.out.now c.write_planned.new.out) b c.in-Ok.plan)
       (c.in-Ok.ensures.same c.args.file.now) c.in-Ok-write_planned.ensures.answer;
-  silent = nothing-gets (g.F.Output.contents c.args.err.now)
-      (g.F.Output.failures c.args.err.now);
-  done = refl;
+  said = subst (λ n. TellsOutside (growth g.F.Output c.args.err.now c.tell_outside.new.err)
+      c.args.file.now n c.tell_outside.result) c.outside.ensures c.tell_outside.ensures;
 })
 
 pub returns-in-Ok-write_planned-clause-opened : goal.returns-in-Ok-write_planned-clause-opened

@@ -1,4 +1,4 @@
-use Rattle.std.proofs.Common.{◌∙◌, ap, ℕ, List, []}
+use Rattle.std.proofs.Common.{◌∙◌, ap, List, []}
 use Rattle.std.specs.Prelude.{None}
 use Rattle.std.proofs.lemmas.Result.{IfOk-weaker}
 use Rattle.edf_field.specs.Number.{duration_of}

@@ -1,5 +1,5 @@
 use Rattle.std.proofs.Common.{◌≡◌, ◌<◌, ◌+◌, ◌++◌, ℕ, List, ◌∙◌, ap, sym, subst, refl, arith, length}
-use Rattle.std.proofs.Common.{map, get_or, string_bytes, codes, Some}
+use Rattle.std.proofs.Common.{map, string_bytes, codes, Some}
 use Rattle.std.specs.Prelude.{slice_get}
 use Rattle.std.proofs.lemmas.List.{length-map}
 use Rattle.std.proofs.lemmas.Option.{slice_get-get_or}
@@ -7,7 +7,7 @@ use Rattle.std.proofs.lemmas.Result.{err_from_is_err_and}
 use Rattle.edf_field.specs.Number.{duration_of}
 use Rattle.edf_header.specs.Header.{Layout}
 use Rattle.edf_runs.specs.AsRead.{runs_of}
-use Rattle.edfruns_command.specs.Counting.{run_front, counts_text}
+use Rattle.edfruns_command.specs.Counting.{file_front, counts_text}
 use Rattle.edfruns_command.specs.Lines.{IsSpelling}
 use Rattle.edfruns_command.specs.Splitting.{making}
 use Rattle.edfruns_command.specs.InsideMaking.{MakesFile, StopsFile, MakesFirst}
@@ -110,7 +110,7 @@ loop-at-preserved g c =
     let before = c.loop-at.text.items in
     let longer = c.in-Ok.longer.items in
     let Grows : List ℕ → ℕ → Type 0 = λ n d. (spell : ℕ → List ℕ) → IsSpelling spell →
-    longer ≡ before ++ (n ++ (codes " " ++ (run_front spell d (at + 1) run.run
+    longer ≡ before ++ (n ++ (codes " " ++ (file_front spell d (at + 1) run
     (slice_get (runs_of runs) (at + 1)) ++ counts_text written.annotations written.outside))) in
     let grows : Grows name (duration_of l.key.duration) =
     subst (Grows name) c.requires.duration

@@ -1,4 +1,4 @@
-use Rattle.std.proofs.Common.{◌≡◌, ◌∙◌, ap, refl, Err}
+use Rattle.std.proofs.Common.{◌∙◌, ap, refl, Err}
 use Rattle.edf_runs.specs.declared.fault.WriteFault.{WriteFault}
 use Rattle.edfruns_command.specs.Made.{finished, failed_with}
 use Rattle.edfruns_command.specs.Splitting.{making}
@@ -14,7 +14,7 @@ returns-then-finish-clause-answer g c =
     record {
       records = w.records;
       read = w.read;
-      listed = w.listed;
+      listed = record { start = w.start; listed = w.listed };
       counted = w.counted;
       file = finished name after;
       made = c.if-finish.ensures.made (g.P.Outputs.made c.args.outputs.now) name

@@ -1,7 +1,5 @@
-use Rattle.std.proofs.Common.{◌++◌, ℕ, List, [], ap, subst, ◌∙◌, codes}
+use Rattle.std.proofs.Common.{◌++◌, ℕ, List, [], ap, subst, ◌∙◌}
 use Rattle.edf_program.specs.Output.{growth, IsWritten}
-use Rattle.edfruns_command.specs.Lines.{reread_line}
-use Rattle.edf_runs.specs.declared.fault.WriteFault.{WriteFault}
 use Rattle.edfruns_command.proofs.refusal.tell_reread.Goals as goal
 
 pub returns-in-Changed : goal.returns-in-Changed

@@ -1,10 +1,10 @@
-use Rattle.std.proofs.Common.{◌≡◌, ◌+◌, ◌-◌, ◌≤◌, ◌<◌, ◌++◌, ◌∷◌, [], ℕ, List, ◌∙◌, ap, sym, subst, refl}
+use Rattle.std.proofs.Common.{◌≡◌, ◌+◌, ◌-◌, ◌<◌, ◌++◌, [], ℕ, List, ◌∙◌, ap, sym, subst, refl}
 use Rattle.std.proofs.Common.{arith, length, map, take, drop, get_or, string_bytes}
 use Rattle.std.proofs.lemmas.List.{length-map, length-take, length-take-le, length-drop, get_or-map}
 use Rattle.std.proofs.lemmas.List.{get_or-take}
 use Rattle.edf_program.specs.Output.{growth}
-use Rattle.edfruns_command.specs.InsideSplit.{stop_line, RemovesOne}
-use Rattle.edfruns_command.specs.Made.{MadeFile, begun, names_of}
+use Rattle.edfruns_command.specs.InsideSplit.{stop_line}
+use Rattle.edfruns_command.specs.Made.{MadeFile, begun}
 use Rattle.edfruns_command.proofs.Removals.{RemovedSoFar, nth, next-there, next-place}
 use Rattle.edfruns_command.proofs.Removals.{removes-more, removes-all, removes-none}
 use Rattle.edfruns_command.proofs.removing.give_up.Goals as goal

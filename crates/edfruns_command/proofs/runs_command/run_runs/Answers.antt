@@ -52,7 +52,7 @@ returns-in-Canonical-clause-done g c =
     let Does : RunsCommand → Type 0 = λ command.
     IsDone bytes made out err (meaning command) c.canonical.result in
     let Writes : List ℕ → Type 0 = λ name.
-    IsCanonicalOut out err (bytes name) name c.canonical.result in
+    IsCanonicalOut out err (bytes name) name c.in-Canonical.is_by_onset c.canonical.result in
     subst Does (sym c.in-Canonical.is) (subst Writes c.as_str-in-Canonical.ensures.value
     c.canonical.ensures.written)
 
@@ -66,9 +66,10 @@ returns-in-Split-clause-done g c =
     IsDone bytes made out err (meaning command) c.split.result in
     let prefix = c.as_str-in-Split-2.result.now in
     let Splits : List ℕ → Type 0 = λ name.
-    IsSplit made out err (bytes name) name prefix c.in-Split.is_by_onset c.split.result in
+    IsSplit made out err (bytes name) name prefix c.in-Split.is_by_onset c.in-Split.joining
+    c.split.result in
     let Named : List ℕ → Type 0 = λ text.
     IsSplit made out err (bytes (string_bytes c.in-Split.file)) (string_bytes c.in-Split.file) text
-    c.in-Split.is_by_onset c.split.result in
+    c.in-Split.is_by_onset c.in-Split.joining c.split.result in
     subst Does (sym c.in-Split.is) (subst Named c.as_str-in-Split-2.ensures.value
     (subst Splits c.as_str-in-Split.ensures.value c.split.ensures.split))

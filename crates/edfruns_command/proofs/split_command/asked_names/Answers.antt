@@ -1,4 +1,4 @@
-use Rattle.std.proofs.Common.{◌≡◌, ◌++◌, ℕ, List, ap, ◌∙◌}
+use Rattle.std.proofs.Common.{◌++◌, ℕ, List, ap, ◌∙◌}
 use Rattle.edfruns_command.specs.Naming.{first_names}
 use Rattle.edfruns_command.proofs.split_command.asked_names.Goals as goal
 

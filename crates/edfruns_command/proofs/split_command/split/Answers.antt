@@ -1,4 +1,4 @@
-use Rattle.std.proofs.Common.{◌≡◌, ◌+◌, ◌≤◌, ◌++◌, ◌∙◌, ℕ, List, inl, inr, refl, ap, sym, subst, arith}
+use Rattle.std.proofs.Common.{◌≡◌, ◌+◌, ◌++◌, ◌∙◌, ℕ, List, inl, inr, refl, ap, sym, subst, arith}
 use Rattle.std.proofs.Common.{length, map, take, string_bytes, decimal, All}
 use Rattle.std.specs.Prelude.{Option}
 use Rattle.std.proofs.lemmas.List.{length-map, length-take-le, take-map}
@@ -7,13 +7,15 @@ use Rattle.edf_program.specs.Output.{growth, IsWritten}
 use Rattle.edf_program.specs.declared.status.Status.TheVariants.{Refused}
 use Rattle.edf_program.proofs.Puts.{nothing-gets}
 use Rattle.edf_runs.specs.declared.onset_run.OnsetRun.{OnsetRun}
+use Rattle.edfruns_command.specs.Inside.{IsPlanRefused}
 use Rattle.edfruns_command.specs.Lines.{undated_line}
 use Rattle.edfruns_command.specs.Made.{IsFree}
 use Rattle.edfruns_command.specs.Naming.{run_name, run_names, first_names, asked_names}
 use Rattle.edfruns_command.specs.Splitting.{Making, making}
 use Rattle.edfruns_command.specs.InsideSplit.{SplitsListed}
 use Rattle.edfruns_command.proofs.Answered.{opened-first, opened-then, opened-refused}
-use Rattle.edfruns_command.proofs.Answered.{refused-undone, trouble-undone, plan-undone, lacks-plan}
+use Rattle.edfruns_command.proofs.Answered.{refused-undone, trouble-undone, plan-undone}
+use Rattle.edfruns_command.proofs.Answered.{lacks-joined-plan}
 use Rattle.edfruns_command.proofs.GivingUp.{take-front}
 use Rattle.edfruns_command.proofs.Splits.{splits, as-before, names-count}
 use Rattle.edfruns_command.proofs.split_command.split.Goals as goal
@@ -22,17 +24,19 @@ pub returns-in-Err-clause-split : goal.returns-in-Err-clause-split
 returns-in-Err-clause-split g c =
     inr (
       (refl, refl),
-      inr (inr (lacks-plan (growth g.O.Output c.args.out.now c.args.out.now)
+      inr (inr (lacks-joined-plan (growth g.O.Output c.args.out.now c.args.out.now)
           (growth g.F.Output c.args.err.now c.refuse_plan.new.err)
           (g.I.Inputs.bytes c.args.inputs.now c.args.file.now) c.args.file.now
-          c.refuse_plan.result c.args.is_by_onset
+          c.refuse_plan.result c.args.is_by_onset c.args.joining
           (nothing-gets (g.O.Output.contents c.args.out.now) (g.O.Output.failures c.args.out.now))
-          c.in-Err.fault c.in-Err.ensures.answer c.refuse_plan.ensures)),
+          c.in-Err.fault c.in-Err.ensures.answer (subst (λ part. IsPlanRefused
+          (growth g.F.Output c.args.err.now c.refuse_plan.new.err) c.args.file.now part
+          c.in-Err.fault c.refuse_plan.result) c.part_of-part.ensures c.refuse_plan.ensures))),
     )
 
 pub returns-in-Err-clause-opened : goal.returns-in-Err-clause-opened
 returns-in-Err-clause-opened g c = opened-refused _ _ _ _ c.in-Err.ensures.opened
-    (plan-undone _ _ _ _ c.refuse_plan.ensures)
+    (plan-undone _ _ c.part_of-part.result.now _ _ c.refuse_plan.ensures)
 
 pub returns-in_default-clause-split : goal.returns-in_default-clause-split
 returns-in_default-clause-split g c =
@@ -64,8 +68,12 @@ returns-in-Some-clause-split g c =
         undated = u.undated;
         said = (
           nothing-gets (g.O.Output.contents c.args.out.now) (g.O.Output.failures c.args.out.now),
-          subst (λ n. IsWritten (growth g.F.Output c.args.err.now c.tell_undated.new.err)
-              (undated_line n) Refused c.tell_undated.result) u.number_is c.tell_undated.ensures,
+          subst (λ part. IsWritten (growth g.F.Output c.args.err.now c.tell_undated.new.err)
+              (undated_line part (length u.front + 1)) Refused c.tell_undated.result)
+              c.part_of-part.ensures
+              (subst (λ n. IsWritten (growth g.F.Output c.args.err.now c.tell_undated.new.err)
+              (undated_line c.part_of-part.result.now n) Refused c.tell_undated.result) u.number_is
+              c.tell_undated.ensures),
         );
       })),
     )
@@ -166,7 +174,7 @@ returns-clause-split g c =
     subst (λ (a : Making). SplitsListed a out err bytes name plan (run_names prefix n) status) same
     (subst (λ (b : Option (List ℕ)). SplitsListed later out err b name plan (run_names prefix n)
     status) (c.in-Ok.ensures.same name) (subst (λ (ns : List (List ℕ)). SplitsListed later out err
-    (g.I.Inputs.bytes c.plan_of.new.inputs name) name plan ns status) names
+    (g.I.Inputs.bytes c.plan_joined.new.inputs name) name plan ns status) names
     c.split_listed.ensures.split)) in
     inl (
       plan,
@@ -178,7 +186,8 @@ returns-clause-split g c =
             (length rs)) c.as_slice.ensures.value))
             c.in_default-taken_name.ensures.answer;
       },
-      splits bytes plan c.args.is_by_onset c.in-Ok.ensures.answer m out err name prefix status done,
+      splits bytes plan c.args.is_by_onset c.args.joining c.in-Ok.ensures.answer m out err name
+          prefix status done,
     )
 
 pub returns-clause-opened : goal.returns-clause-opened

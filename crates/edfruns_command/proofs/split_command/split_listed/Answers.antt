@@ -1,9 +1,9 @@
-use Rattle.std.proofs.Common.{◌≡◌, ◌∙◌, ℕ, List, inl, inr, refl, subst, map, string_bytes, true, false}
+use Rattle.std.proofs.Common.{◌∙◌, inl, inr, refl, subst, map, string_bytes, true, false}
 use Rattle.std.proofs.lemmas.List.{length-map}
 use Rattle.edf_program.specs.Output.{Gets, GetsFront, growth}
-use Rattle.edf_program.proofs.Puts.{nothing-gets, grown, put-sent}
+use Rattle.edf_program.proofs.Puts.{nothing-gets, put-sent}
 use Rattle.edfruns_command.specs.Splitting.{making}
-use Rattle.edfruns_command.proofs.GivingUp.{made-of, made-all, named, stopped, untold}
+use Rattle.edfruns_command.proofs.GivingUp.{made-of, named, stopped, untold}
 use Rattle.edfruns_command.proofs.split_command.split_listed.Goals as goal
 
 pub give_up-requires-clause-named : goal.give_up-requires-clause-named

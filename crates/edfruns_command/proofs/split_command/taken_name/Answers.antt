@@ -1,5 +1,5 @@
 use Rattle.std.proofs.Common.{◌≡◌, ◌+◌, ◌<◌, ◌∷◌, ◌++◌, ℕ, List, ap, sym, ◌∙◌, subst, arith}
-use Rattle.std.proofs.Common.{All, take, drop, get_or, length, map, string_bytes, true, false}
+use Rattle.std.proofs.Common.{All, take, drop, length, map, string_bytes, true, false}
 use Rattle.std.proofs.lemmas.List.{take_all, length-map}
 use Rattle.edfruns_command.specs.Made.{IsFree, MayBeThere}
 use Rattle.edfruns_command.proofs.Walking.{all-more, around, mapped, asked-so}

@@ -1,4 +1,4 @@
-use Rattle.std.proofs.Common.{◌≡◌, ◌+◌, ◌<◌, List, ap, sym, ◌∙◌, subst, arith, All, take, drop, get_or}
+use Rattle.std.proofs.Common.{◌≡◌, ◌+◌, ◌<◌, List, ap, ◌∙◌, subst, arith, All, take, drop, get_or}
 use Rattle.std.proofs.Common.{length, rules}
 use Rattle.std.proofs.lemmas.List.{take_all, length-take-le}
 use Rattle.edf_header.specs.Key.{MayStart}

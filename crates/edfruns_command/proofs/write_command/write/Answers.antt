@@ -1,4 +1,4 @@
-use Rattle.std.proofs.Common.{List, ℕ, ap, ◌∙◌, subst, sym, inl, inr, refl}
+use Rattle.std.proofs.Common.{List, ℕ, ap, ◌∙◌, subst, sym, inl, inr, codes}
 use Rattle.std.specs.Prelude.{Option, slice_get}
 use Rattle.edf_field.specs.Number.{duration_of}
 use Rattle.edf_header.specs.Key.{Key}
@@ -29,7 +29,7 @@ returns-in-Err-clause-written g c =
 
 pub returns-in-Err-clause-opened : goal.returns-in-Err-clause-opened
 returns-in-Err-clause-opened g c = opened-refused _ _ _ _ c.in-Err.ensures.opened
-    (plan-undone _ _ _ _ c.refuse_plan.ensures)
+    (plan-undone _ _ (codes "run") _ _ c.refuse_plan.ensures)
 
 pub returns-in-None-clause-written : goal.returns-in-None-clause-written
 returns-in-None-clause-written g c = inr (inr (inl (record {

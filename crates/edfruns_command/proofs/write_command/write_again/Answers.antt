@@ -7,7 +7,7 @@ use Rattle.edf_fragment.specs.Reading.{ReadsHeader}
 use Rattle.edf_program.specs.Output.{growth}
 use Rattle.edf_program.proofs.Puts.{nothing-gets}
 use Rattle.edf_runs.specs.AsRead.{runs_of}
-use Rattle.edf_runs.specs.OnsetRead.{kept_of}
+use Rattle.edf_runs.specs.OnsetRead.{kept_of, starts_of}
 use Rattle.edf_runs.specs.WrittenByOnset.{ComesByOnset, IsWrittenByOnset}
 use Rattle.edf_runs.specs.WrittenByOnset.{IsNotWrittenByOnset}
 use Rattle.edf_runs.specs.declared.run.Run.{Run}
@@ -93,12 +93,13 @@ returns-clause-answer g c =
       to = to;
       rest = rest;
       unwritten = subst (λ (x : Layout). IsNotWrittenByOnset x from to left rest out after
-          c.args.run.now.run (kept_of c.args.run.now) why) c.in_ok-skip_runs.ensures.header
+          c.args.run.now.run (starts_of c.args.run.now)
+          (kept_of c.args.run.now) why) c.in_ok-skip_runs.ensures.header
           c.in-Err.ensures.refused;
       unchanged = λ next. λ changed.
           c.in-Err.ensures.reread.unchanged
           (subst (λ (x : Layout). ComesByOnset x from left c.args.run.now.run
-          (kept_of c.args.run.now))
+          (starts_of c.args.run.now) (kept_of c.args.run.now))
           (sym c.in_ok-skip_runs.ensures.header) next)
           (ap (λ (w : WriteFault). Err w) changed);
       counted = counts-write (growth g.O.Output c.args.out.now c.write_by_onset.new.out)
@@ -139,7 +140,8 @@ returns-in-Ok-write_by_onset-clause-answer g c =
       to = to;
       rest = rest;
       went_out = subst (λ (x : Layout). IsWrittenByOnset x from to left rest out after
-          c.args.run.now.run (kept_of c.args.run.now) c.in-Ok-write_by_onset.written)
+          c.args.run.now.run (starts_of c.args.run.now) (kept_of c.args.run.now)
+          c.in-Ok-write_by_onset.written)
           c.in_ok-skip_runs.ensures.header c.in-Ok-write_by_onset.ensures.written;
       counted = c.in-Ok-write_by_onset.ensures.counted.1;
     }

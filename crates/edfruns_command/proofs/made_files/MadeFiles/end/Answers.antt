@@ -1,4 +1,4 @@
-use Rattle.std.proofs.Common.{◌≡◌, ◌<◌, ◌++◌, ◌∷◌, ℕ, List, Bool, true, false, ap, sym, ◌∙◌, arith, length}
+use Rattle.std.proofs.Common.{◌≡◌, ◌<◌, ◌++◌, ◌∷◌, List, Bool, true, false, ap, ◌∙◌, arith, length}
 use Rattle.std.proofs.Common.{map, string_bytes, refl}
 use Rattle.std.specs.Prelude.{option_map}
 use Rattle.std.specs.Bool.{MatchBool}
