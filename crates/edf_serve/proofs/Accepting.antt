@@ -8,7 +8,7 @@ use Rattle.edf_intake.specs.Refusal.{Answer}
 use Rattle.edf_intake.specs.Submitted.{IsSubmitted, IsEnded}
 use Rattle.edf_intake.specs.declared.answer.Receipt.{Receipt}
 use Rattle.edfserve_arguments.specs.Line.{LineAsked}
-use Rattle.edfserve_arguments.specs.Line.LineAsked.{take, list, runs, export}
+use Rattle.edfserve_arguments.specs.Line.LineAsked.{take, list, runs, runs_of, export, export_of}
 use Rattle.edf_export.proofs.Walks.{clean_before}
 use Rattle.edf_program.specs.Output.{Growth}
 use Rattle.edf_serve.specs.Client.{HasAccepted, IsIdle, IsOpenSince}
@@ -50,14 +50,23 @@ module _ {S : Type 0} (g : Ghosts S) (folders : Folders) (old new : Point S)
       IsWorked g folders (done (outcome.Accepted given receipt start)) asked →
       MayBeTold g new.store receipt
   by-work None given receipt start w = absurd w.1.1
-  by-work (Some (take name)) given receipt start w = elim w [
+  by-work (Some (take name)) given receipt start w = elim w.1 [
     | inl t ↦ by-answer t.2.it t.2.it.answer (grown old.out new.out) name given receipt start
         t.2.submitted t.2.ended t.2.said
     | inr n ↦ absurd n.1.1
   ]
   by-work (Some list) given receipt start w = absurd w.1
+  by-work (Some LineAsked.status) given receipt start w = absurd w.1
   by-work (Some (runs place)) given receipt start w = absurd w.1
+  by-work (Some (runs_of s)) given receipt start w = elim w [
+    | inl d ↦ absurd d.3.1
+    | inr n ↦ absurd n.1
+  ]
   by-work (Some (export place name)) given receipt start w = absurd w.1
+  by-work (Some (export_of s name)) given receipt start w = elim w [
+    | inl d ↦ absurd d.3.1
+    | inr n ↦ absurd n.1
+  ]
 
   pub may-be_told : (asked : Option LineAsked) (o : Outcome) (given : _) (receipt : Receipt)
       (start : _) → o ≡ outcome.Accepted given receipt start →

@@ -4,6 +4,9 @@ pub mod Working
 pub mod Making
 pub mod Runs
 pub mod Whole
+pub mod Matching
+pub mod Found
+pub mod Totalling
 pub mod Accepting
 pub mod After
 pub mod Submitting

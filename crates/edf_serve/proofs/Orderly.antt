@@ -1,18 +1,25 @@
 -- What a session needs to know of the work of any command.
 use Rattle.std.proofs.Common.{◌≡◌, ◌⊎◌, ◌∙◌, ℕ, List, [], ◌∷◌, Option, Some, None, sym}
-use Rattle.std.proofs.Common.{ap, subst, inl, inr}
+use Rattle.std.proofs.Common.{ap, subst, inl, inr, codes}
 use Rattle.std.proofs.lemmas.List.{append-nil}
 use Rattle.sqlite_trees.specs.declared.store.Store.{Ghosts}
-use Rattle.edf_store.specs.Held.{Stays}
+use Rattle.edf_header.specs.Key.{Key}
+use Rattle.edf_store.specs.Held.{StoreModel, Stays}
+use Rattle.edf_store.proofs.Readiness.{stays_then}
+use Rattle.edf_export.proofs.Walks.{stays_same}
 use Rattle.edf_intake.specs.Submitted.{IsSubmitted}
 use Rattle.edfserve_arguments.specs.Line.{LineAsked}
-use Rattle.edfserve_arguments.specs.Line.LineAsked.{take, list, runs, export}
+use Rattle.edfserve_arguments.specs.Line.LineAsked.{take, list, runs, runs_of, export, export_of}
+use Rattle.edfserve_arguments.specs.Sought.{Sought}
+use Rattle.edf_program.specs.Output.{Growth}
 use Rattle.edf_program.specs.declared.status.Status.{Status}
 use Rattle.edf_serve.specs.Exchange.{IsWorked}
-use Rattle.edf_serve.specs.Exporting.{IsExportedAs}
+use Rattle.edf_command.specs.Exporting.{IsPlaceExported}
+use Rattle.edf_serve.specs.Exporting.{Writes, IsExportedAs, IsKeyExported}
 use Rattle.edf_serve.specs.Files.{Paths, Made, Tried, opens, Tries, IsPlace, LiesBelow, MakesBelow}
 use Rattle.edf_serve.specs.Files.{from_folder, to_folder}
-use Rattle.edf_serve.specs.Work.{Point, Work, Submission, EndsAs}
+use Rattle.edf_serve.specs.Finding.{TellsNone}
+use Rattle.edf_serve.specs.Work.{Point, Work, Submission, EndsAs, OnlyWrites}
 use Rattle.edf_serve.specs.declared.files.Folders.{Folders}
 use Rattle.edf_serve.specs.declared.room.Outcome.{Outcome}
 use Rattle.edf_serve.specs.declared.room.Outcome.TheVariants as outcome
@@ -57,6 +64,13 @@ made-one : (folder : Option (List ℕ)) (old new : Option Made) (one : Tried) �
 made-one folder None new one below tries = tt
 made-one folder (Some made) new one below tries = (one ∷ [], tries, (below, tt))
 
+-- what an export of a place writes, and one of a recording
+abbrev pub by-place : {S : Type 0} → Ghosts S → ℕ → Writes S
+by-place g place = λ old new file out status. IsPlaceExported g old new file out place status
+
+abbrev pub by-key : {S : Type 0} → Ghosts S → Key → Writes S
+by-key g key = λ old new file out status. IsKeyExported g old new file out key status
+
 module _ {S : Type 0} (g : Ghosts S) (folders : Folders) where
   -- a command that ends with a status submitted nothing
   told-none : (w : Work S) (P : Status → Type 0) (o : Outcome) → EndsAs w P o →
@@ -64,11 +78,46 @@ module _ {S : Type 0} (g : Ghosts S) (folders : Folders) where
   told-none w P (outcome.Told status is_doubtful) e = (e.0, (status, e.1))
   told-none w P (outcome.Accepted name receipt start) e = absurd e
 
-  export-orderly : (w : Work S) (name : List ℕ) (place : ℕ) (status : Status) →
-      (w.submission ≡ None) →
+  -- what goes out of a store leaves what is held
+  abbrev pub Leaves : Work S → Writes S → Type 0
+  Leaves w Goes = (file out : Growth) (told : Status) →
+      Goes w.old.store w.new.store file out told → Stays g w.old.store w.new.store
+
+  -- what is held stays while a recording is exported
+  pub export-stays : (w : Work S) (name : List ℕ) (Goes : Writes S) → Leaves w Goes →
+      (status : Status) → IsExportedAs g w name folders Goes status →
+      Stays g w.old.store w.new.store
+  export-stays w name Goes leaves status (inl n) = subst (Stays g w.old.store) (sym n.0)
+      (stays_same g w.old.store)
+  export-stays w name Goes leaves status (inr (path, at, inl m)) =
+      leaves m.file m.out m.told m.exported
+  export-stays w name Goes leaves status (inr (path, at, inr n)) = subst (Stays g w.old.store)
+      (sym n.store) (stays_same g w.old.store)
+
+  -- and while it is looked for one that matches
+  find-stays : (old new : StoreModel S) (s : Sought) (verb : List ℕ) (out : Growth)
+      (status : Status) → TellsNone g old new s verb out status → Stays g old new
+  find-stays old new s verb out status (inl (count, finds, said)) = finds.stays
+  find-stays old new s verb out status (inr (fault, refuses, said)) = refuses.stays
+
+  none-found : (w : Work S) (s : Sought) (verb : List ℕ) →
+      OnlyWrites w (TellsNone g w.old.store w.new.store s verb) → IsOrderly g folders w
+  none-found w s verb is =
+      let told = told-none w _ w.outcome is.1 in record {
+        took = inl (record {
+          none = told.0;
+          stays = inr (find-stays w.old.store w.new.store s verb _ told.1.0 told.1.1);
+          paths = ap (λ (p : Point S). p.paths) is.0;
+        });
+        made = made-none (to_folder folders) w.old.made w.new.made
+            (ap (λ (p : Point S). p.made) is.0);
+      }
+
+  export-orderly : (w : Work S) (name : List ℕ) (Goes : Writes S) → Leaves w Goes →
+      (status : Status) → (w.submission ≡ None) →
       (w.new ≡ record w.old { store = w.new.store; made = w.new.made; out = w.new.out }) →
-      IsExportedAs g w name folders place status → IsOrderly g folders w
-  export-orderly w name place status none same (inl n) = record {
+      IsExportedAs g w name folders Goes status → IsOrderly g folders w
+  export-orderly w name Goes leaves status none same (inl n) = record {
     took = inl (record {
       none = none;
       stays = inl n.0;
@@ -76,16 +125,16 @@ module _ {S : Type 0} (g : Ghosts S) (folders : Folders) where
     });
     made = made-none (to_folder folders) w.old.made w.new.made n.1;
   }
-  export-orderly w name place status none same (inr (path, at, inl m)) = record {
+  export-orderly w name Goes leaves status none same (inr (path, at, inl m)) = record {
     took = inl (record {
       none = none;
-      stays = inr m.exported.stays;
+      stays = inr (leaves m.file m.out m.told m.exported);
       paths = ap (λ (p : Point S). p.paths) same;
     });
     made = made-one (to_folder folders) w.old.made w.new.made _
         (lies w.old.paths (to_folder folders) name path at) m.tries;
   }
-  export-orderly w name place status none same (inr (path, at, inr n)) = record {
+  export-orderly w name Goes leaves status none same (inr (path, at, inr n)) = record {
     took = inl (record {
       none = none;
       stays = inl n.store;
@@ -106,7 +155,7 @@ module _ {S : Type 0} (g : Ghosts S) (folders : Folders) where
     made = made-none (to_folder folders) w.old.made w.new.made
         (ap (λ (p : Point S). p.made) is.1.0);
   }
-  orderly w (Some (take name)) (inl (path, at, f)) = record {
+  orderly w (Some (take name)) (asked, inl (path, at, f)) = record {
     took = inr (record {
       it = f.it;
       is_it = f.is_it.0;
@@ -118,7 +167,7 @@ module _ {S : Type 0} (g : Ghosts S) (folders : Folders) where
     });
     made = made-none (to_folder folders) w.old.made w.new.made (ap (λ (p : Point S). p.made) f.same);
   }
-  orderly w (Some (take name)) (inr n) = record {
+  orderly w (Some (take name)) (asked, inr n) = record {
     took = inl (record {
       none = (told-none w _ w.outcome n.1.1).0;
       stays = inl n.0;
@@ -136,6 +185,43 @@ module _ {S : Type 0} (g : Ghosts S) (folders : Folders) where
         made = made-none (to_folder folders) w.old.made w.new.made
             (ap (λ (p : Point S). p.made) is.0);
       }
+  orderly w (Some LineAsked.status) is =
+      let told = told-none w _ w.outcome is.1 in record {
+        took = inl (record {
+          none = told.0;
+          stays = inr told.1.1.stays;
+          paths = ap (λ (p : Point S). p.paths) is.0;
+        });
+        made = made-none (to_folder folders) w.old.made w.new.made
+            (ap (λ (p : Point S). p.made) is.0);
+      }
+  orderly w (Some (runs_of s)) (inl (mid, key, finds, is)) =
+      let v : Work S = record w { old = record w.old { store = mid } } in
+      let told = told-none v _ v.outcome is.1 in record {
+        took = inl (record {
+          none = told.0;
+          stays = inr (stays_then g w.old.store mid w.new.store finds.stays told.1.1.stays);
+          paths = ap (λ (p : Point S). p.paths) is.0;
+        });
+        made = made-none (to_folder folders) w.old.made w.new.made
+            (ap (λ (p : Point S). p.made) is.0);
+      }
+  orderly w (Some (runs_of s)) (inr is) = none-found w s (codes "runs") is
+  orderly w (Some (export_of s name)) (inl (mid, key, finds, is)) =
+      let v : Work S = record w { old = record w.old { store = mid } } in
+      let Goes : Writes S = by-key g key in
+      let told = told-none v _ v.outcome is.1 in
+      let so = export-orderly v name Goes (λ file out status e. e.stays) told.1.0 told.0 is.0
+      told.1.1 in record {
+        took = inl (record {
+          none = told.0;
+          stays = inr (stays_then g w.old.store mid w.new.store finds.stays
+              (export-stays v name Goes (λ file out status e. e.stays) told.1.0 told.1.1));
+          paths = ap (λ (p : Point S). p.paths) is.0;
+        });
+        made = so.made;
+      }
+  orderly w (Some (export_of s name)) (inr is) = none-found w s (codes "export") is
   orderly w (Some (runs place)) is =
       let told = told-none w _ w.outcome is.1 in record {
         took = inl (record {
@@ -148,4 +234,5 @@ module _ {S : Type 0} (g : Ghosts S) (folders : Folders) where
       }
   orderly w (Some (export place name)) is =
       let told = told-none w _ w.outcome is.1 in
-      export-orderly w name place told.1.0 told.0 is.0 told.1.1
+      export-orderly w name (by-place g place) (λ file out status e. e.stays) told.1.0 told.0 is.0
+      told.1.1

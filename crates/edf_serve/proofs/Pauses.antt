@@ -73,7 +73,7 @@ sides records from next last a b = λ k d below. elim (a k d below) [
 pub paused : (records : List DataRecord) (begin from : ℕ) (earliest : Option ℕ) (next : ℕ) →
     IsNextStart begin records earliest → IsNextStart from records (Some next) →
     ((start : ℕ) × (earliest ≡ Some start) × (start < from)
-    × (from + 86_400_000_000_000 ≤ next)) → HasPause records
+    × (from + 28_800_000_000_000 ≤ next)) → HasPause records
 paused records begin from earliest next first second p =
     let e = subst (λ (o : Option ℕ). IsNextStart begin records o) p.1 first in
     let it = last_from records from p.0 p.2 in

@@ -16,6 +16,7 @@ use Rattle.edf_intake.specs.declared.answer.Receipt.{Receipt}
 use Rattle.edf_program.specs.Output.{IsPut}
 use Rattle.edf_program.specs.Status.{exit_code}
 use Rattle.edf_program.specs.declared.status.Status.{Status}
+use Rattle.edf_serve.specs.declared.room.Counts.{Counts}
 
 -- the line that ends an answer
 abbrev pub status_line : Status → List ℕ
@@ -40,6 +41,13 @@ GetsAnswer old new text is_out = (new.warned ≡ old.warned)
       failed_after = new.failed;
     }) text is_out
 
+-- one refused file more, and one warning more
+abbrev pub refused_once : Counts → Counts
+refused_once counts = record counts { refused = one_more counts.refused }
+
+abbrev pub warned_once : Counts → Counts
+warned_once counts = record counts { warned = one_more counts.warned }
+
 -- how often it was asked whether the store's path stands for its files, and that was so, or was not
 abbrev pub Looks : Type 0
 Looks = ℕ × ℕ
@@ -53,14 +61,14 @@ abbrev pub IsUntold : Key → Type 0
 IsUntold k = (patient_code k ≡ codes "X")
     × (slice_index_or (subfields k.patient) 3 [] ≡ codes "X")
 
--- of two data records that begin one after the other the later begins more than 24 hours, in
+-- of two data records that begin one after the other the later begins more than 8 hours, in
 -- nanoseconds, after the earlier
 pub record HasPause (records : List DataRecord) : Type 0 where
   pub earlier : ℕ
   pub later : ℕ
   pub begin : Contains (map (λ r. r.start) records) earlier
       × Contains (map (λ r. r.start) records) later
-  pub apart : earlier + 86_400_000_000_000 < later
+  pub apart : earlier + 28_800_000_000_000 < later
   pub none : All (λ r. r.start ≤ earlier ⊎ later ≤ r.start) records
 
 module _ {S : Type 0} (g : Ghosts S) where
@@ -81,7 +89,8 @@ module _ {S : Type 0} (g : Ghosts S) where
     pub submitted : IsSubmitted g old store from to (Ok receipt)
 
   -- It was so, and what is held stayed; all data records of the file are new, its patient has
-  -- neither code nor name, and anywhere in its recording is a pause of more than 24 hours.
+  -- neither code nor name, and anywhere in its recording two of them, one after the other, begin
+  -- more than 8 hours apart.
   pub record IsApart (store : StoreModel S) (receipt : Receipt) : Type 0 where
     pub mid : StoreModel S
     pub accepted : HasAccepted mid receipt

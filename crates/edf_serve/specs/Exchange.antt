@@ -7,7 +7,8 @@ use Rattle.edf_store.specs.Held.{at, Stays}
 use Rattle.edf_store.specs.declared.fault.StoreFault.TheVariants.{Store}
 use Rattle.edf_intake.specs.declared.answer.Receipt.{Receipt}
 use Rattle.edfserve_arguments.specs.Line.{LineAsked, IsRead}
-use Rattle.edfserve_arguments.specs.Line.LineAsked.{take, list, runs, export}
+use Rattle.edfserve_arguments.specs.Line.LineAsked.{take, list, runs, runs_of, export, export_of}
+use Rattle.edf_command.specs.Exporting.{IsPlaceExported}
 use Rattle.edf_command.specs.Lines.{accepted_line}
 use Rattle.edf_command.specs.Listing.{AreRecordingsListed}
 use Rattle.edf_program.specs.Output.{IsWritten}
@@ -15,17 +16,20 @@ use Rattle.edf_program.specs.Text.{refused_line}
 use Rattle.edf_program.specs.declared.status.Status.{Status}
 use Rattle.edf_program.specs.declared.status.Status.TheVariants.{Done, Usage, Trouble}
 use Rattle.edf_serve.specs.Client.{Heard, GetsAnswer, looked, IsIdle, IsOpenSince, IsUntold}
-use Rattle.edf_serve.specs.Client.{status_line}
-use Rattle.edf_serve.specs.Exporting.{IsExportedBelow}
+use Rattle.edf_serve.specs.Client.{status_line, refused_once, warned_once}
+use Rattle.edf_serve.specs.Exporting.{IsExportedBelow, IsKeyExported}
 use Rattle.edf_serve.specs.Files.{and_one}
+use Rattle.edf_serve.specs.Finding.{IsDoneForOne}
 use Rattle.edf_serve.specs.Lines.{whole_lines}
-use Rattle.edf_serve.specs.Running.{AreRunsListed}
-use Rattle.edf_serve.specs.Taking.{IsTakenBelow}
+use Rattle.edf_serve.specs.Overview.{IsOverview}
+use Rattle.edf_serve.specs.Running.{IsListedAt, IsListed}
+use Rattle.edf_serve.specs.Taking.{IsTakenNow}
 use Rattle.edf_serve.specs.Work.{Point, Work, grown, EndsAs, OnlyWrites}
 use Rattle.edf_serve.specs.declared.answering.Answered.{Answered}
 use Rattle.edf_serve.specs.declared.answering.End.{End}
 use Rattle.edf_serve.specs.declared.answering.End.TheVariants.{Left, Lost, Unwritten}
 use Rattle.edf_serve.specs.declared.files.Folders.{Folders}
+use Rattle.edf_serve.specs.declared.room.Counts.{Counts}
 use Rattle.edf_serve.specs.declared.room.Outcome.{Outcome}
 use Rattle.edf_serve.specs.declared.room.Outcome.TheVariants as outcome
 
@@ -40,14 +44,25 @@ pub record Exchange (S : Type 0) : Type 0 where
 abbrev pub IsWorked : {S : Type 0} → Ghosts S → Folders → Work S → Option LineAsked → Type 0
 IsWorked g folders w None = (w.new.store ≡ w.old.store) × OnlyWrites w (λ out status.
     IsWritten out (codes "no such command" ++ (10 ∷ [])) Usage status)
-IsWorked g folders w (Some (take name)) = IsTakenBelow g w name folders
+IsWorked g folders w (Some (take name)) = IsTakenNow g w name folders
 IsWorked g folders w (Some list) =
     (w.new ≡ record w.old { store = w.new.store; out = w.new.out; why = w.new.why })
     × EndsAs w (AreRecordingsListed g w.old.store w.new.store (grown w.old.out w.new.out)
     (grown w.old.why w.new.why)) w.outcome
-IsWorked g folders w (Some (runs place)) = OnlyWrites w
-    (AreRunsListed g w.old.store w.new.store place)
-IsWorked g folders w (Some (export place name)) = IsExportedBelow g w name folders place
+IsWorked g folders w (Some LineAsked.status) = OnlyWrites w
+    (IsOverview g w.old.store w.new.store w.old.counts w.old.clock.told)
+IsWorked g folders w (Some (runs place)) = IsListedAt g w place
+IsWorked g folders w (Some (runs_of s)) = IsDoneForOne g w s (codes "runs") (IsListed g)
+IsWorked g folders w (Some (export place name)) = IsExportedBelow g w name folders
+    (λ old new file out status. IsPlaceExported g old new file out place status)
+IsWorked g folders w (Some (export_of s name)) = IsDoneForOne g w s (codes "export")
+    (λ v key. IsExportedBelow g v name folders
+    (λ old new file out status. IsKeyExported g old new file out key status))
+
+-- the counts after a command that accepted no file: one refused more, if it was to take one
+abbrev pub refused_by : Option LineAsked → Counts → Counts
+refused_by (Some (take name)) counts = refused_once counts
+refused_by asked counts = counts
 
 module _ {S : Type 0} (g : Ghosts S) (x : Exchange S) (b : Point S) where
   -- Whole lines, and behind them the line of the status, go out to a client that then heard so much.
@@ -80,7 +95,11 @@ module _ {S : Type 0} (g : Ghosts S) (x : Exchange S) (b : Point S) where
         ++ whole_lines x.work.new.why.bytes.items) status goes b.heard
     pub stays : Stays g x.work.new.store b.store
     pub after : IsAfterTold told is_doubtful status goes
-    pub same : b ≡ record x.work.new { store = b.store; heard = b.heard }
+    pub same : b ≡ record x.work.new {
+      store = b.store;
+      heard = b.heard;
+      counts = refused_by x.asked x.work.new.counts;
+    }
 
   -- After an accepted file the session goes on over an open store in no transaction. Or the store is
   -- left, only of a patient without code and name. (That it was asked more then is not said.)
@@ -95,7 +114,9 @@ module _ {S : Type 0} (g : Ghosts S) (x : Exchange S) (b : Point S) where
     pub goes : Option End
     pub heard : Heard
     pub tells : Tells (accepted_line name receipt.new receipt.known) Done goes heard
-    pub warned : (b.heard ≡ heard) ⊎ (b.heard ≡ record heard { warned = and_one heard.warned name })
+    pub warned : ((b.heard ≡ heard) × (b.counts ≡ x.work.new.counts))
+        ⊎ ((b.heard ≡ record heard { warned = and_one heard.warned name })
+        × (b.counts ≡ warned_once x.work.new.counts))
     pub asked : (b.store ≡ x.work.new.store)
         ⊎ (IsUntold receipt.identity × Stays g x.work.new.store b.store)
     pub after : IsAfterAccepted receipt goes
@@ -103,6 +124,7 @@ module _ {S : Type 0} (g : Ghosts S) (x : Exchange S) (b : Point S) where
       store = b.store;
       heard = b.heard;
       looks = looked x.work.new.looks true;
+      counts = b.counts;
     }
 
   -- It does not: the file is told as refused with E42, and the session ends.
@@ -115,6 +137,7 @@ module _ {S : Type 0} (g : Ghosts S) (x : Exchange S) (b : Point S) where
       out = b.out;
       heard = b.heard;
       looks = looked x.work.new.looks false;
+      counts = refused_once x.work.new.counts;
     }
 
   abbrev pub IsAnswered : Outcome → Type 0

@@ -1,9 +1,13 @@
--- What `export PLACE NAME` does: which file it makes, what it writes, and what it leaves.
+-- What `export` does: which file it makes, what it writes, and what it leaves.
 use Rattle.std.specs.Prelude.{◌≡◌, ◌≢◌, ◌⊎◌, ℕ, List, [], ◌∷◌, ◌++◌, Option, Some, None, IfSome, length}
 use Rattle.std.specs.Prelude.{codes, decimal}
 use Rattle.sqlite_trees.specs.declared.store.Store.{Ghosts}
 use Rattle.edf_export.specs.declared.fault.ExportFault.TheVariants.{Write}
-use Rattle.edf_command.specs.Exporting.{IsPlaceExported}
+use Rattle.sqlite.specs.State.{HasCleanDisk}
+use Rattle.edf_header.specs.Key.{Key}
+use Rattle.edf_holdings.specs.Holdings.{Holdings}
+use Rattle.edf_store.specs.Held.{StoreModel, at, Holds, Stays}
+use Rattle.edf_command.specs.Exporting.{IsPlaceExported, IsRecordingExported, TellsWrites}
 use Rattle.edf_command.specs.Lines.{export_refused_line}
 use Rattle.edf_program.specs.Output.{Growth, IsWritten, IsTold}
 use Rattle.edf_program.specs.Text.{memory_line}
@@ -12,9 +16,31 @@ use Rattle.edf_program.specs.declared.status.Status.TheVariants.{Done, Refused, 
 use Rattle.edf_serve.specs.Files.{to_folder, IsPlace, HasPath, Tries, not_begun}
 use Rattle.edf_serve.specs.Taking.{HasNoPath}
 use Rattle.edf_serve.specs.Work.{Work, grown, EndsAs}
+use Rattle.edf_serve.specs.declared.exporting.Chosen.{Chosen}
+use Rattle.edf_serve.specs.declared.exporting.Chosen.TheVariants.{At, This}
 use Rattle.edf_serve.specs.declared.files.Finished.{Finished}
 use Rattle.edf_serve.specs.declared.files.Finished.TheVariants.{Named, IsThere, Failed}
 use Rattle.edf_serve.specs.declared.files.Folders.{Folders}
+
+-- the canonical file of this recording went to a writer; or a line says why not
+pub record IsKeyExported {S : Type 0} (g : Ghosts S) (old new : StoreModel S) (file out : Growth)
+    (key : Key) (status : Status) : Type 0 where
+  pub stays : Stays g old new
+  pub told : TellsWrites file out status
+  pub exported : HasCleanDisk (at g new) → (h : Holdings) → Holds g old h →
+      IsRecordingExported file out h key status
+
+-- so it is of that which was chosen
+abbrev pub IsChosenExported : {S : Type 0} → Ghosts S → Chosen → StoreModel S → StoreModel S →
+    Growth → Growth → Status → Type 0
+IsChosenExported g (At place) old new file out status =
+    IsPlaceExported g old new file out place status
+IsChosenExported g (This identity) old new file out status =
+    IsKeyExported g old new file out identity.now status
+
+-- what goes from a store to a file, and to the lines of a command
+abbrev pub Writes : Type 0 → Type 1
+Writes S = StoreModel S → StoreModel S → Growth → Growth → Status → Type 0
 
 -- `NAME exported bytes=N`
 abbrev pub exported_line : List ℕ → ℕ → List ℕ
@@ -33,11 +59,11 @@ module _ {S : Type 0} (g : Ghosts S) (w : Work S) (name path : List ℕ) (status
   -- The recording went to a new file, of whose path nothing was there, and which has just the bytes
   -- that went to it, where that is known. Where all of the recording did, it was finished, and else
   -- removed.
-  pub record MakesFile (place : ℕ) : Type 0 where
+  pub record MakesFile (Goes : Writes S) : Type 0 where
     pub file : Growth
     pub out : Growth
     pub told : Status
-    pub exported : IsPlaceExported g w.old.store w.new.store file out place told
+    pub exported : Goes w.old.store w.new.store file out told
     pub from : (out.before ≡ Some w.old.out.bytes.items) × (out.failed_before ≡ w.old.out.failures)
     pub how : Option Finished
     pub new : IfSome w.old.made (λ made. ¬ HasPath made path × (file.before ≡ Some [])
@@ -68,14 +94,14 @@ module _ {S : Type 0} (g : Ghosts S) (w : Work S) (name path : List ℕ) (status
 module _ {S : Type 0} (g : Ghosts S) (w : Work S) (name : List ℕ) where
   -- there is no path, or no memory for it; or the recording was exported to its path, or no file was
   -- begun
-  abbrev pub IsExportedAs : Folders → ℕ → Status → Type 0
-  IsExportedAs folders place status = ((w.new.store ≡ w.old.store) × (w.new.made ≡ w.old.made)
+  abbrev pub IsExportedAs : Folders → Writes S → Status → Type 0
+  IsExportedAs folders Goes status = ((w.new.store ≡ w.old.store) × (w.new.made ≡ w.old.made)
       × HasNoPath w.old.paths (to_folder folders) name (memory_line (codes "export"))
       (grown w.old.out w.new.out) status)
       ⊎ ((path : List ℕ) × IsPlace w.old.paths (to_folder folders) name (Some path)
-      × (MakesFile g w name path status place ⊎ BeginsNone g w name path status))
+      × (MakesFile g w name path status Goes ⊎ BeginsNone g w name path status))
 
-  abbrev pub IsExportedBelow : Folders → ℕ → Type 0
-  IsExportedBelow folders place =
+  abbrev pub IsExportedBelow : Folders → Writes S → Type 0
+  IsExportedBelow folders Goes =
       (w.new ≡ record w.old { store = w.new.store; made = w.new.made; out = w.new.out })
-      × EndsAs w (IsExportedAs folders place) w.outcome
+      × EndsAs w (IsExportedAs folders Goes) w.outcome

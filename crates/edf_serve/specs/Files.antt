@@ -43,6 +43,11 @@ IsPlace paths (Some folder) name (Some path) = IsPathOf (Some folder) name (Some
 IsPlace paths (Some folder) name None = IsPathOf (Some folder) name None
     ⊎ (paths.links folder name ≢ Some false)
 
+-- how often a clock was asked, and what it told when it was asked last: an instant, or none
+pub record Clock : Type 0 where
+  pub asked : ℕ
+  pub told : Option ℕ
+
 -- a file that was to be made: its path; what became of it, but nothing where it was begun and
 -- removed; what was written to it, where that is known; and how many of these writes failed
 pub record Tried : Type 0 where

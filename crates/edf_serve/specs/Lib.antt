@@ -4,6 +4,8 @@ pub mod Work
 pub mod Taking
 pub mod Exporting
 pub mod Running
+pub mod Finding
+pub mod Overview
 pub mod Exchange
 pub mod Lines
 pub mod Session

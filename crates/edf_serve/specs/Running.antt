@@ -1,4 +1,4 @@
--- What `runs PLACE` does: what it writes, the status that it answers, and what it leaves.
+-- What `runs` does: what it writes, the status that it answers, and what it leaves.
 use Rattle.std.specs.Prelude.{◌≢◌, ◌⊎◌, ℕ, List, [], codes, MatchOption}
 use Rattle.sqlite_trees.specs.declared.store.Store.{Ghosts}
 use Rattle.sqlite.specs.State.{HasCleanDisk}
@@ -21,6 +21,7 @@ use Rattle.edf_program.specs.Output.{Growth, IsWritten}
 use Rattle.edf_program.specs.Text.{refused_line, memory_line}
 use Rattle.edf_program.specs.declared.status.Status.{Status}
 use Rattle.edf_program.specs.declared.status.Status.TheVariants.{Done, Refused, Trouble}
+use Rattle.edf_serve.specs.Work.{Work, OnlyWrites}
 
 module _ (out : Growth) (status : Status) where
   -- the store refused, for such a fault, or there is no memory for the runs or their lines
@@ -53,3 +54,19 @@ pub record AreRunsListed {S : Type 0} (g : Ghosts S) (old new : StoreModel S) (p
       ⊎ IsRefusedRuns out status (λ fault. fault ≢ Failed))
   pub listed : HasCleanDisk (at g new) → (h : Holdings) → Holds g old h →
       TellsPlace out status h place ⊎ IsRefusedRuns out status (MayRefuse (IsBusy g old) ⊥ ⊥)
+
+-- the same of this recording, whatever place it has
+pub record AreRunsOf {S : Type 0} (g : Ghosts S) (old new : StoreModel S) (key : Key)
+    (out : Growth) (status : Status) : Type 0 where
+  pub stays : Stays g old new
+  pub told : ((text : List ℕ) × IsWritten out text Done status)
+      ⊎ IsRefusedRuns out status (λ fault. fault ≢ Failed)
+  pub listed : HasCleanDisk (at g new) → (h : Holdings) → Holds g old h →
+      HasRunsOf out status h key ⊎ IsRefusedRuns out status (MayRefuse (IsBusy g old) ⊥ ⊥)
+
+-- that is all that is done
+abbrev pub IsListedAt : {S : Type 0} → Ghosts S → Work S → ℕ → Type 0
+IsListedAt g w place = OnlyWrites w (AreRunsListed g w.old.store w.new.store place)
+
+abbrev pub IsListed : {S : Type 0} → Ghosts S → Work S → Key → Type 0
+IsListed g w key = OnlyWrites w (AreRunsOf g w.old.store w.new.store key)

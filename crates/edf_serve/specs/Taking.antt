@@ -2,6 +2,7 @@
 use Rattle.std.specs.Prelude.{◌≡◌, ◌⊎◌, ◌↔◌, ℕ, true, List, [], ◌∷◌, ◌++◌, codes, Option, Some, None}
 use Rattle.std.specs.Prelude.{Ok, Err}
 use Rattle.sqlite_trees.specs.declared.store.Store.{Ghosts}
+use Rattle.edf_fragment.specs.Failures.{one_more}
 use Rattle.edf_intake.specs.Refusal.{Answer, IsStopped, refusal_number}
 use Rattle.edf_intake.specs.Submitted.{IsSubmitted, IsEnded}
 use Rattle.edf_command.specs.Lines.{refused_file_line, take_memory_line}
@@ -59,3 +60,8 @@ module _ {S : Type 0} (g : Ghosts S) (w : Work S) (name : List ℕ) where
       × SubmitsFile path)
       ⊎ ((w.new.store ≡ w.old.store)
       × OnlyWrites w (HasNoPath w.old.paths (from_folder folders) name take_memory_line))
+
+-- the clock was asked once, and else this was done
+abbrev pub IsTakenNow : {S : Type 0} → Ghosts S → Work S → List ℕ → Folders → Type 0
+IsTakenNow g w name folders = (w.new.clock.asked ≡ one_more w.old.clock.asked)
+    × IsTakenBelow g (record w { old = record w.old { clock = w.new.clock } }) name folders

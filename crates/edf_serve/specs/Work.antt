@@ -7,26 +7,30 @@ use Rattle.edf_program.specs.Output.{Growth}
 use Rattle.edf_program.specs.declared.status.Status.{Status}
 use Rattle.edf_program.specs.declared.status.Status.TheVariants.{Trouble}
 use Rattle.edf_serve.specs.Client.{Heard, Looks}
-use Rattle.edf_serve.specs.Files.{Paths, Made}
+use Rattle.edf_serve.specs.Files.{Paths, Clock, Made}
 use Rattle.edf_serve.specs.declared.client.Client as client
 use Rattle.edf_serve.specs.declared.files.NewFiles as files
 use Rattle.edf_serve.specs.declared.files.Sources as sources
+use Rattle.edf_serve.specs.declared.room.Counts.{Counts}
 use Rattle.edf_serve.specs.declared.room.Outcome.{Outcome}
 use Rattle.edf_serve.specs.declared.room.Outcome.TheVariants as outcome
 use Rattle.edf_serve.specs.declared.room.Room.{Room}
 use Rattle.edf_serve.specs.declared.standing.StoreFiles as standing
 use Rattle.edf_serve.specs.declared.text.Text.{Text}
 
--- the store, paths, files that are made, the lines of a command and why there are no more, what the
--- client heard, how often it was asked whether the store's files stand, and the worst status so far
+-- the store, paths, the clock, files that are made, the lines of a command and why there are no
+-- more, what the client heard, how often it was asked whether the store's files stand, what was
+-- counted, and the worst status so far
 pub record Point (S : Type 0) : Type 0 where
   pub store : StoreModel S
   pub paths : Paths
+  pub clock : Clock
   pub made : Option Made
   pub out : Text
   pub why : Text
   pub heard : Heard
   pub looks : Looks
+  pub counts : Counts
   pub worst : Status
 
 abbrev pub point : {S I R P W C K : Type 0} → sources.Ghosts I R → files.Ghosts P W →
@@ -34,11 +38,13 @@ abbrev pub point : {S I R P W C K : Type 0} → sources.Ghosts I R → files.Gho
 point i p c k store room = record {
   store = store;
   paths = i.paths room.sources;
+  clock = i.clock room.sources;
   made = p.made room.files;
   out = room.out;
   why = room.why;
   heard = c.heard room.client;
   looks = k.looks room.keeper;
+  counts = room.counts;
   worst = room.worst;
 }
 
@@ -68,7 +74,8 @@ grown old new = record {
 
 module _ {S : Type 0} (w : Work S) where
   -- a command other than `take` submits nothing, and ends with such a status; there is doubt of the
-  -- store only with trouble, and none with trouble only where the store is as it was
+  -- store only with trouble, and none with trouble only where the store is as it was (or as finding
+  -- a recording left it, which left it in no transaction)
   abbrev pub EndsAs : (Status → Type 0) → Outcome → Type 0
   EndsAs P (outcome.Told status is_doubtful) = (w.submission ≡ None) × P status
       × (is_doubtful ≡ true → status ≡ Trouble)

@@ -7,16 +7,19 @@ ghost use Rattle.edf_command.specs.Listing.{AreRecordingsListed};
 ghost use Rattle.edf_store.specs.Held.{at, Stays};
 ghost use Rattle.edf_serve.specs.Client.{IsIdle, IsOpenSince, Looks, looked};
 ghost use Rattle.edf_serve.specs.Exchange.{Exchange, IsWorked, IsServed, TellsLines, TellsLost};
+ghost use Rattle.edf_serve.specs.Exchange.{refused_by};
 ghost use Rattle.edf_serve.specs.Work.{Submission, Work, EndsAs, point, grown};
+ghost use Rattle.edf_serve.specs.declared.room.Counts.{Counts};
 
 use crate::apart::warn_if_apart;
 use crate::client::Client;
-use crate::exporting::export;
+use crate::exporting::{Chosen, export, export_one};
 use crate::files::{Folders, NewFiles, Sources};
-use crate::room::{Outcome, Room};
-use crate::running::list_runs;
+use crate::overview::tell_overview;
+use crate::room::{Counts, Outcome, Room};
+use crate::running::{list_runs, list_runs_of};
 use crate::standing::StoreFiles;
-use crate::taking::take;
+use crate::taking::take_now;
 use edf_command::list;
 use edf_program::{Status, tell_bytes, tell_refused};
 use edf_store::{Store, StoreFault};
@@ -93,11 +96,16 @@ fn work<'l, S: Alter, I: Sources, P: NewFiles, C: Client, K: StoreFiles>(
     ensures cap { store.new.cap ≡ store.old.cap }
 {
     match asked {
-        Some(LineCommand::Take { name }) => take(alloc, name, folders, store, room),
+        Some(LineCommand::Take { name }) => take_now(alloc, name, folders, store, room),
         Some(LineCommand::List) => list_all(alloc, store, room),
+        Some(LineCommand::Status) => tell_overview(alloc, store, room),
         Some(LineCommand::Runs { place }) => list_runs(alloc, place, store, room),
+        Some(LineCommand::RunsOf { wanted }) => list_runs_of(alloc, wanted, store, room),
         Some(LineCommand::Export { place, name }) => {
-            export(alloc, place, name, folders, store, room)
+            export(alloc, Chosen::At { place }, name, folders, store, room)
+        }
+        Some(LineCommand::ExportOf { wanted, name }) => {
+            export_one(alloc, wanted, name, folders, store, room)
         }
         None => Outcome::Told {
             status: tell_bytes(&mut room.out, b"no such command\n", Status::Usage),
@@ -154,20 +162,33 @@ fn ends_by(is_out: bool, goes: Option<End>) -> Option<End>
     if is_out { goes } else { Some(End::Unwritten) }
 }
 
-/// Tells what came of a command that accepted no file. The status is trouble where the store is
-/// left.
+/// The counts after a command that accepted no file.
+fn counted(counts: Counts, asked: Option<LineCommand<'_>>) -> Counts
+    ensures { result ≡ refused_by (option_map asked_by asked.entry) counts }
+{
+    match asked {
+        Some(LineCommand::Take { .. }) => counts.refused_once(),
+        _ => counts,
+    }
+}
+
+/// Tells what came of a command that accepted no file, once that is counted. The status is trouble
+/// where the store is left.
 fn tell_all<S: Alter, I: Sources, P: NewFiles, C: Client, K: StoreFiles>(
     store: &mut Store<S>,
     room: &mut Room<I, P, C, K>,
     told: Status,
     is_doubtful: bool,
 ) -> Answered
-    ensures told { (x : Exchange S) → TellsLines S.Store (record x {
-      work = record x.work {
-        new = point I.Sources P.NewFiles C.Client K.StoreFiles store.old room.old;
-      };
-      answered = result;
-    }) (point I.Sources P.NewFiles C.Client K.StoreFiles store.new room.new) told is_doubtful }
+    ensures told { (x : Exchange S) (counts : Counts) →
+        room.old.counts ≡ refused_by x.asked counts → TellsLines S.Store (record x {
+          work = record x.work {
+            new = record (point I.Sources P.NewFiles C.Client K.StoreFiles store.old room.old) {
+              counts = counts;
+            };
+          };
+          answered = result;
+        }) (point I.Sources P.NewFiles C.Client K.StoreFiles store.new room.new) told is_doubtful }
     ensures cap { store.new.cap ≡ store.old.cap }
 {
     let (out, why) = (room.out.lines(), room.why.lines());
@@ -203,6 +224,7 @@ fn tell_lost<S: Alter, I: Sources, P: NewFiles, C: Client, K: StoreFiles>(
 {
     let fault = StoreFault::Store(None);
     let status = Status::Trouble;
+    room.counts = room.counts.refused_once();
     let _ = tell_refused(&mut room.out, name, fault.number(), fault.name(), status);
     let (out, why) = (room.out.lines(), room.why.lines());
     let is_out = room.client.answer(store, out, why, status);
@@ -257,7 +279,15 @@ pub(crate) fn serve_line<S: Alter, I: Sources, P: NewFiles, C: Client, K: StoreF
                 return tell_lost(store, name, room);
             }
             let is_out = room.client.accept(store, name, &receipt);
-            let is_left = warn_if_apart(alloc, store, &mut room.client, name, &receipt, start);
+            let is_left = warn_if_apart(
+                alloc,
+                store,
+                &mut room.client,
+                &mut room.counts,
+                name,
+                &receipt,
+                start,
+            );
             Answered {
                 status: Status::Done,
                 after: ends_by(is_out, left_if(is_left)),
@@ -266,6 +296,9 @@ pub(crate) fn serve_line<S: Alter, I: Sources, P: NewFiles, C: Client, K: StoreF
         Outcome::Told {
             status,
             is_doubtful,
-        } => tell_all(store, room, status, is_doubtful),
+        } => {
+            room.counts = counted(room.counts, asked);
+            tell_all(store, room, status, is_doubtful)
+        }
     }
 }

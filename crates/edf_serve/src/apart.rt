@@ -1,18 +1,20 @@
 //! Files of a patient without code and name, beside which their recording has a pause of more than
-//! 24 hours.
+//! 8 hours.
 
 ghost use Rattle.std.specs.Prelude.{◌≡◌, ◌⊎◌, ℕ, ◌+◌, ◌*◌, ◌<◌, ◌≤◌, [], true, false, Some, IfSome};
-ghost use Rattle.std.specs.Prelude.{IfOk, OnOk};
+ghost use Rattle.std.specs.Prelude.{◌↔◌, IsTrue, IfOk, OnOk};
 ghost use Rattle.sqlite.specs.State.{HasCleanDisk};
 ghost use Rattle.edf_holdings.specs.Holdings.{Holdings};
 ghost use Rattle.edf_store.specs.Held.{at, Holds, Stays};
 ghost use Rattle.edf_store.specs.StoreTx.{IsRunning};
 ghost use Rattle.edf_store.specs.Transaction.{IsNextStart, Sees};
 ghost use Rattle.edf_serve.specs.Client.{IsUntold, HasPause, HasAccepted, IsIdle, IsOpenSince};
+ghost use Rattle.edf_serve.specs.Client.{warned_once};
 ghost use Rattle.edf_serve.specs.Files.{and_one};
 
 use crate::answering::takes_transaction;
 use crate::client::Client;
+use crate::room::Counts;
 use crate::untold::is_untold;
 use edf_header::Identity;
 use edf_intake::Receipt;
@@ -21,8 +23,8 @@ use edf_time::Instant;
 use sqlite::Alter;
 use std::alloc::Global;
 
-/// 24 hours, in nanoseconds.
-const DAY: u64 = 86_400_000_000_000;
+/// 8 hours, in nanoseconds.
+const PAUSE: u64 = 28_800_000_000_000;
 
 /// How many leaps over data records are made at most.
 const MOST_LEAPS: u32 = 100_000;
@@ -64,23 +66,23 @@ fn start_from<S: Alter>(
 /// What begins in a recording from an instant on.
 #[derive(Clone, Copy, Drop)]
 pub(crate) enum Side {
-    /// A data record, within 24 hours.
+    /// A data record, within 8 hours.
     Near,
-    /// A data record after a pause of more than 24 hours.
+    /// A data record after a pause of more than 8 hours.
     Pause,
     /// None, or none begins before it.
     Clear,
 }
 
-/// Whether a pause begins: data records begin before it, and the next one 24 hours later or more.
+/// Whether a pause begins: data records begin before it, and the next one 8 hours later or more.
 fn is_pause(earliest: Option<Instant>, from: Instant, next: Instant) -> bool
-    ensures { result ≡ true → (start : ℕ) × (earliest ≡ Some start) × (start < from)
-        × (from + DAY ≤ next) }
+    ensures { IsTrue result ↔ ((start : ℕ) × (earliest ≡ Some start) × (start < from)
+        × (from + 28_800_000_000_000 ≤ next)) }
 {
     let Some(earliest) = earliest else {
         return false;
     };
-    earliest.nanos() < from.nanos() && from.nanos() + DAY <= next.nanos()
+    earliest.nanos() < from.nanos() && from.nanos() + PAUSE <= next.nanos()
 }
 
 /// What begins in a recording from `from` on; a data record is near before `until`.
@@ -204,7 +206,7 @@ fn last_start<S: Alter>(
     Ok(leaps.last)
 }
 
-/// What begins in the 24 hours before a file's first data record.
+/// What begins in the 8 hours before a file's first data record.
 fn side_before<S: Alter>(
     store: &mut Store<S>,
     identity: &Identity,
@@ -216,7 +218,7 @@ fn side_before<S: Alter>(
         Holds S.Store store.old h →
         IfOk result (λ side. side ≡ Side.Pause → HasPause (h identity.now)) }
 {
-    match Instant::at(first.nanos().saturating_sub(DAY)) {
+    match Instant::at(first.nanos().saturating_sub(PAUSE)) {
         Some(from) => side_from(store, identity, from, first.nanos()),
         None => Err(StoreFault::Failed),
     }
@@ -238,7 +240,7 @@ fn side_after<S: Alter>(
 {
     let last = last_start(store, identity, first.nanos(), count)?;
     match Instant::at(last.saturating_add(1)) {
-        Some(from) => side_from(store, identity, from, from.nanos() + DAY),
+        Some(from) => side_from(store, identity, from, from.nanos() + PAUSE),
         None => Err(StoreFault::Failed),
     }
 }
@@ -256,7 +258,7 @@ fn is_alone(before: Side, after: Side) -> bool
 }
 
 /// Whether the recording of an accepted file, all of whose data records are new, has a pause of
-/// more than 24 hours right before or behind them, and none of its data records is nearer on the
+/// more than 8 hours right before or behind them, and none of its data records is nearer on the
 /// other side. `start` is that of the file, to the second.
 fn is_apart<S: Alter>(
     store: &mut Store<S>,
@@ -287,6 +289,7 @@ pub(crate) fn warn_if_apart<S: Alter, C: Client>(
     alloc: Global,
     store: &mut Store<S>,
     client: &mut C,
+    counts: &mut Counts,
     name: &str,
     receipt: &Receipt,
     start: Option<Instant>,
@@ -298,10 +301,10 @@ pub(crate) fn warn_if_apart<S: Alter, C: Client>(
     ensures left { result ≡ true → IsUntold receipt.now.identity }
     ensures idle { result ≡ false → IsIdle S.Store store.new
         × IsOpenSince S.Store store.old store.new }
-    ensures warned { (C.heard client.new ≡ C.heard client.old)
-        ⊎ (C.heard client.new ≡ record (C.heard client.old) {
+    ensures warned { ((C.heard client.new ≡ C.heard client.old) × (counts.new ≡ counts.old))
+        ⊎ ((C.heard client.new ≡ record (C.heard client.old) {
           warned = and_one (C.heard client.old).warned name.now;
-        }) }
+        }) × (counts.new ≡ warned_once counts.old)) }
 {
     let Some(start) = start else {
         return false;
@@ -315,6 +318,7 @@ pub(crate) fn warn_if_apart<S: Alter, C: Client>(
     match is_apart(store, receipt, start) {
         Ok(true) => {
             client.warn(store, name, receipt);
+            *counts = counts.warned_once();
             false
         }
         Ok(false) => false,

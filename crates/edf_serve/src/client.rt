@@ -50,7 +50,7 @@ pub trait Client {
 
     /// Warns that files of different people may have become one recording: the accepted file of
     /// this name is of a patient without code and name, all of its data records are new, and anywhere
-    /// in its recording two data records, one after the other, begin more than 24 hours apart (that
+    /// in its recording two data records, one after the other, begin more than 8 hours apart (that
     /// its own are beside that pause is tested, and no clause says so). No transaction of the store
     /// is open. What was answered is as it was.
     fn warn<S: Alter>(&mut self, store: &Store<S>, name: &str, receipt: &Receipt)

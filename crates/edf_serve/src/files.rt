@@ -1,9 +1,11 @@
 //! What opens the files that lines name, and what makes them.
 
-ghost use Rattle.std.specs.Prelude.{◌≡◌, [], Option, Some, None, IfOk, IfSome, MatchResult};
-ghost use Rattle.edf_serve.specs.Files.{Paths, Made, opens, IsCreated, IsEnded};
+ghost use Rattle.std.specs.Prelude.{◌≡◌, ◌*◌, ◌/◌, ◌^◌, [], Option, Some, None, IfOk, IfSome, MatchResult};
+ghost use Rattle.edf_fragment.specs.Failures.{one_more};
+ghost use Rattle.edf_serve.specs.Files.{Paths, Clock, Made, opens, IsCreated, IsEnded};
 
 use edf_fragment::{Input, Output};
+use edf_time::Instant;
 use std::alloc::{AllocError, Global};
 use std::io;
 
@@ -16,7 +18,7 @@ pub struct Folders<'f> {
     pub to: Option<&'f str>,
 }
 
-/// What opens the files that `take` names.
+/// What opens the files that `take` names, and asks the clock when they come.
 ///
 /// Contracts speak of the bytes that a path stands for, and of the paths that were opened, where
 /// they are known: those of the system are not.
@@ -26,6 +28,21 @@ pub trait Sources {
 
     // What is known of paths.
     ghost paths: { Self → Paths };
+
+    // How often the clock was asked, and what it told last.
+    ghost clock: { Self → Clock };
+
+    /// Asks the clock.
+    fn ask_clock(&mut self)
+        ensures asked { (clock self.new).asked ≡ one_more (clock self.old).asked }
+        ensures paths { paths self.new ≡ paths self.old };
+
+    /// What the clock told when it was asked last: UTC, to the second. `None` where it told no
+    /// instant of the years 1985 to 2184, or was not asked.
+    fn heard(&self) -> Option<Instant>
+        ensures told { result ≡ (clock self.now).told }
+        ensures unasked { (clock self.now).asked ≡ 0 → result ≡ None }
+        ensures second { IfSome result (λ instant. instant / 10 ^ 9 * 10 ^ 9 ≡ instant) };
 
     /// Whether a part of this name below the folder is a link.
     fn has_link(&self, folder: &str, name: &str) -> bool
@@ -42,7 +59,8 @@ pub trait Sources {
             (λ r. Self.Reader.remaining r ≡ (paths self.old).bytes path.now) }
         ensures opened { MatchResult result
             (λ _. paths self.new ≡ opens (paths self.old) path.now)
-            (λ _. paths self.new ≡ paths self.old) };
+            (λ _. paths self.new ≡ paths self.old) }
+        ensures clock { clock self.new ≡ clock self.old };
 }
 
 /// What became of a file that was written.

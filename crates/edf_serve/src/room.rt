@@ -1,7 +1,9 @@
 //! What a session has beside its store, and what comes of a command.
 
 ghost use Rattle.std.specs.Prelude.{◌≡◌, []};
+ghost use Rattle.edf_fragment.specs.Failures.{one_more};
 ghost use Rattle.edf_program.specs.declared.status.Status;
+ghost use Rattle.edf_serve.specs.Client.{refused_once, warned_once};
 
 use crate::client::Client;
 use crate::files::{NewFiles, Sources};
@@ -12,6 +14,54 @@ use edf_program::Status;
 use edf_time::Instant;
 use std::alloc::Global;
 
+/// What was counted since a session began, each up to `u64::MAX`.
+#[derive(Clone, Copy, Debug, PartialEq, Eq, Drop)]
+pub(crate) struct Counts {
+    /// Files that `take` refused.
+    pub(crate) refused: u64,
+    /// Files of which a warning came.
+    pub(crate) warned: u64,
+}
+
+impl Counts {
+    /// As a session begins.
+    fn new() -> Counts
+        ensures { (result.refused ≡ 0) × (result.warned ≡ 0) }
+    {
+        Counts {
+            refused: 0,
+            warned: 0,
+        }
+    }
+
+    /// With one refused file more.
+    pub(crate) fn refused_once(self) -> Counts
+        ensures { result ≡ refused_once self }
+    {
+        Counts {
+            refused: one_more(self.refused),
+            warned: self.warned,
+        }
+    }
+
+    /// With one warning more.
+    pub(crate) fn warned_once(self) -> Counts
+        ensures { result ≡ warned_once self }
+    {
+        Counts {
+            refused: self.refused,
+            warned: one_more(self.warned),
+        }
+    }
+}
+
+/// The count after one more.
+fn one_more(count: u64) -> u64
+    ensures { result ≡ one_more count }
+{
+    count.saturating_add(1)
+}
+
 /// What a session has beside its store and its lines: what opens files, what makes them, who is
 /// answered, and what tells whether the store's files stand.
 #[derive(Drop)]
@@ -20,6 +70,7 @@ pub struct Room<I, P, C, K> {
     pub(crate) files: P,
     pub(crate) client: C,
     pub(crate) keeper: K,
+    pub(crate) counts: Counts,
     /// The lines of a command.
     pub(crate) out: Text,
     /// Why there are no more of them.
@@ -35,6 +86,7 @@ impl<I: Sources, P: NewFiles, C: Client, K: StoreFiles> Room<I, P, C, K> {
         ensures files { result.files ≡ files }
         ensures client { result.client ≡ client }
         ensures keeper { result.keeper ≡ keeper }
+        ensures counts { (result.counts.refused ≡ 0) × (result.counts.warned ≡ 0) }
         ensures worst { result.worst ≡ Status.Done }
     {
         Room {
@@ -42,6 +94,7 @@ impl<I: Sources, P: NewFiles, C: Client, K: StoreFiles> Room<I, P, C, K> {
             files,
             client,
             keeper,
+            counts: Counts::new(),
             out: Text::new(alloc),
             why: Text::new(alloc),
             worst: Status::Done,

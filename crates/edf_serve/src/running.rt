@@ -1,4 +1,4 @@
-//! `runs PLACE`: the runs of a recording, straight from the store.
+//! `runs`: the runs of a recording, straight from the store.
 
 ghost use Rattle.std.specs.Prelude.{◌≡◌, ◌≢◌, ◌≤◌, ◌<◌, ◌⊎◌, ◌++◌, ◌∷◌, [], ℕ, List, None, false};
 ghost use Rattle.std.specs.Prelude.{length, codes, OnOk, IfErr, MatchResult};
@@ -12,14 +12,18 @@ ghost use Rattle.edf_store.specs.Fault.{HasCause, MayRefuse, number, store_fault
 ghost use Rattle.edf_store.specs.Held.{at, Holds, Stays};
 ghost use Rattle.edf_store.specs.Walk.{HasGiven, IsWalking};
 ghost use Rattle.edf_runs.specs.Runs.{AreListed};
+ghost use Rattle.edfserve_arguments.specs.Sought.{sought_by};
 ghost use Rattle.edf_command.specs.Exporting.{at_place};
 ghost use Rattle.edf_program.specs.Output.{growth, IsWritten};
 ghost use Rattle.edf_program.specs.Text.{refused_line};
-ghost use Rattle.edf_serve.specs.Running.{AreRunsListed, HasRunsOf, IsRefusedRuns};
-ghost use Rattle.edf_serve.specs.Work.{OnlyWrites, point};
+ghost use Rattle.edf_serve.specs.Finding.{IsDoneForOne};
+ghost use Rattle.edf_serve.specs.Running.{AreRunsListed, HasRunsOf, IsListedAt, IsListed};
+ghost use Rattle.edf_serve.specs.Running.{IsRefusedRuns};
+ghost use Rattle.edf_serve.specs.Work.{point};
 
 use crate::client::Client;
 use crate::files::{NewFiles, Sources};
+use crate::finding::find_one;
 use crate::room::{Outcome, Room};
 use crate::standing::StoreFiles;
 use edf_command::tell_no_recording;
@@ -30,6 +34,7 @@ use edf_program::{Status, tell_bytes, tell_memory, tell_refused};
 use edf_runs::{Listing, Run, add_record};
 use edf_store::{Records, Store, StoreFault};
 use edfruns_command::runs_text;
+use edfserve_arguments::Wanted;
 use sqlite::Alter;
 use std::alloc::Global;
 
@@ -178,17 +183,47 @@ pub(crate) fn list_runs<'l, S: Alter, I: Sources, P: NewFiles, C: Client, K: Sto
     store: &mut Store<S>,
     room: &mut Room<I, P, C, K>,
 ) -> Outcome<'l>
-    ensures listed { OnlyWrites (record {
+    ensures listed { IsListedAt S.Store (record {
       old = point I.Sources P.NewFiles C.Client K.StoreFiles store.old room.old;
       new = point I.Sources P.NewFiles C.Client K.StoreFiles store.new room.new;
       submission = None;
       outcome = result;
-    }) (AreRunsListed S.Store store.old store.new place) }
+    }) place }
     ensures cap { store.new.cap ≡ store.old.cap }
 {
     let status = put_runs_at(alloc, place, store, &mut room.out);
     Outcome::Told {
         status,
         is_doubtful: status == Status::Trouble,
+    }
+}
+
+/// Writes the lines of the one recording that matches, or says why there is none.
+pub(crate) fn list_runs_of<'l, S: Alter, I: Sources, P: NewFiles, C: Client, K: StoreFiles>(
+    alloc: Global,
+    wanted: Wanted<'_>,
+    store: &mut Store<S>,
+    room: &mut Room<I, P, C, K>,
+) -> Outcome<'l>
+    ensures listed { IsDoneForOne S.Store (record {
+      old = point I.Sources P.NewFiles C.Client K.StoreFiles store.old room.old;
+      new = point I.Sources P.NewFiles C.Client K.StoreFiles store.new room.new;
+      submission = None;
+      outcome = result;
+    }) (sought_by wanted.entry) (codes "runs") (IsListed S.Store) }
+    ensures cap { store.new.cap ≡ store.old.cap }
+{
+    match find_one(alloc, wanted, "runs", store, &mut room.out) {
+        Ok(identity) => {
+            let status = put_runs(alloc, store, identity, &mut room.out);
+            Outcome::Told {
+                status,
+                is_doubtful: status == Status::Trouble,
+            }
+        }
+        Err(status) => Outcome::Told {
+            status,
+            is_doubtful: status == Status::Trouble,
+        },
     }
 }

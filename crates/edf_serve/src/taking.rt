@@ -6,7 +6,7 @@ ghost use Rattle.edf_command.specs.Refusals.{IsSpelling};
 ghost use Rattle.edf_intake.specs.Refusal.{IsStopped, refusal_number};
 ghost use Rattle.edf_program.specs.Output.{growth, IsWritten, IsTold};
 ghost use Rattle.edf_program.specs.Status.{status_of_number};
-ghost use Rattle.edf_serve.specs.Taking.{SubmitsFile, IsTakenBelow, outside_line};
+ghost use Rattle.edf_serve.specs.Taking.{SubmitsFile, IsTakenBelow, IsTakenNow, outside_line};
 ghost use Rattle.edf_serve.specs.Work.{Submission, Work, OnlyWrites, point};
 
 use crate::client::Client;
@@ -97,7 +97,7 @@ fn submit_file<'l, S: Alter, I: Sources, P: NewFiles, C: Client, K: StoreFiles>(
 
 /// Submits the file of that name below the folder, where there is one, and writes its line where it
 /// is refused.
-pub(crate) fn take<'l, S: Alter, I: Sources, P: NewFiles, C: Client, K: StoreFiles>(
+fn take<'l, S: Alter, I: Sources, P: NewFiles, C: Client, K: StoreFiles>(
     alloc: Global,
     name: &'l str,
     folders: Folders<'_>,
@@ -124,4 +124,25 @@ pub(crate) fn take<'l, S: Alter, I: Sources, P: NewFiles, C: Client, K: StoreFil
             is_doubtful: false,
         },
     }
+}
+
+/// Asks the clock, and does so.
+pub(crate) fn take_now<'l, S: Alter, I: Sources, P: NewFiles, C: Client, K: StoreFiles>(
+    alloc: Global,
+    name: &'l str,
+    folders: Folders<'_>,
+    store: &mut Store<S>,
+    room: &mut Room<I, P, C, K>,
+) -> Outcome<'l>
+    ensures taken { (submission : Option Submission) × IsTakenNow S.Store
+        (record {
+          old = point I.Sources P.NewFiles C.Client K.StoreFiles store.old room.old;
+          new = point I.Sources P.NewFiles C.Client K.StoreFiles store.new room.new;
+          submission = submission;
+          outcome = result;
+        }) name.now folders.entry }
+    ensures cap { store.new.cap ≡ store.old.cap }
+{
+    room.sources.ask_clock();
+    take(alloc, name, folders, store, room)
 }

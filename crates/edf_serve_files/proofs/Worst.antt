@@ -9,7 +9,7 @@ use Rattle.sqlite_store.specs.declared.store.FileStore.{FileStore}
 use Rattle.sqlite.specs.declared.error.Error.{Error}
 use Rattle.edf_store.specs.Held.{StoreModel}
 use Rattle.edfserve_arguments.specs.Line.{LineAsked}
-use Rattle.edfserve_arguments.specs.Line.LineAsked.{take, list, runs, export}
+use Rattle.edfserve_arguments.specs.Line.LineAsked.{take, list, runs, runs_of, export, export_of}
 use Rattle.edf_program.specs.Output.{Growth, IsWritten}
 use Rattle.edf_program.specs.declared.status.Status.{Status}
 use Rattle.edf_program.specs.declared.status.Status.TheVariants.{Done, Refused, Usage, Trouble}
@@ -67,11 +67,17 @@ module _ {S : Type 0} (g : Ghosts S) (folders : Folders) where
   worked : (w : Work S) (asked : Option LineAsked) → IsWorked g folders w asked →
       w.new.worst ≡ w.old.worst
   worked w None is = ap (λ (p : Point S). p.worst) is.1.0
-  worked w (Some (take name)) (inl (path, at, f)) = ap (λ (p : Point S). p.worst) f.same
-  worked w (Some (take name)) (inr n) = ap (λ (p : Point S). p.worst) n.1.0
+  worked w (Some (take name)) (asked, inl (path, at, f)) = ap (λ (p : Point S). p.worst) f.same
+  worked w (Some (take name)) (asked, inr n) = ap (λ (p : Point S). p.worst) n.1.0
   worked w (Some list) is = ap (λ (p : Point S). p.worst) is.0
+  worked w (Some LineAsked.status) is = ap (λ (p : Point S). p.worst) is.0
   worked w (Some (runs place)) is = ap (λ (p : Point S). p.worst) is.0
+  worked w (Some (runs_of s)) (inl (mid, place, finds, is)) = ap (λ (p : Point S). p.worst) is.0
+  worked w (Some (runs_of s)) (inr is) = ap (λ (p : Point S). p.worst) is.0
   worked w (Some (export place name)) is = ap (λ (p : Point S). p.worst) is.0
+  worked w (Some (export_of s name)) (inl (mid, place, finds, is)) =
+      ap (λ (p : Point S). p.worst) is.0
+  worked w (Some (export_of s name)) (inr is) = ap (λ (p : Point S). p.worst) is.0
 
   answered : (x : Exchange S) (b : Point S) → IsAnswered g x b x.work.outcome →
       b.worst ≡ x.work.new.worst

@@ -1,8 +1,6 @@
 //! Whether the files of the store stand, and how often that was asked.
 
-ghost use Rattle.std.specs.Prelude.{◌≡◌};
-ghost use Rattle.edf_fragment.specs.Failures.{one_more};
-
+use crate::counting::one_more;
 use edf_intake::Receipt;
 use edf_serve::StoreFiles;
 use edf_store::Store;
@@ -15,13 +13,6 @@ pub(crate) struct Keeper<'rt> {
     standing: &'rt Standing<'rt>,
     stood: u64,
     lost: u64,
-}
-
-/// The count after one more.
-fn one_more(count: u64) -> u64
-    ensures { result ≡ one_more count }
-{
-    count.saturating_add(1)
 }
 
 impl<'rt> Keeper<'rt> {

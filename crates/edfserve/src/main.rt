@@ -3,6 +3,8 @@
 //! here the system is handed to them.
 #![tactic(auto)]
 
+mod clock;
+mod counting;
 mod input;
 mod journal;
 mod keeper;

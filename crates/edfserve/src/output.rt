@@ -1,8 +1,8 @@
 //! Standard output, flushed at the end of each answer.
 
-ghost use Rattle.std.specs.Prelude.{◌≡◌, None};
-ghost use Rattle.edf_fragment.specs.Failures.{one_more};
+ghost use Rattle.std.specs.Prelude.{None};
 
+use crate::counting::one_more;
 use edf_fragment::Output;
 use edf_serve::Flush;
 use std::io::{self, Stdout, Write};
@@ -12,13 +12,6 @@ use std::io::{self, Stdout, Write};
 pub(crate) struct StandardOutput {
     stream: Stdout,
     failures: u64,
-}
-
-/// The count after one more failure.
-fn one_failure_more(count: u64) -> u64
-    ensures { result ≡ one_more count }
-{
-    count.saturating_add(1)
 }
 
 impl StandardOutput {
@@ -39,12 +32,12 @@ impl Output for StandardOutput {
         match self.stream.write(buf) {
             Ok(count) => {
                 if count == 0 && !buf.is_empty() {
-                    self.failures = one_failure_more(self.failures);
+                    self.failures = one_more(self.failures);
                 }
                 Ok(count)
             }
             Err(error) => {
-                self.failures = one_failure_more(self.failures);
+                self.failures = one_more(self.failures);
                 Err(error)
             }
         }
@@ -58,7 +51,7 @@ impl Flush for StandardOutput {
         match self.stream.flush() {
             Ok(()) => Ok(()),
             Err(error) => {
-                self.failures = one_failure_more(self.failures);
+                self.failures = one_more(self.failures);
                 Err(error)
             }
         }

@@ -1,1 +1,4 @@
 pub mod Forms
+pub mod Naming
+pub mod Once
+pub mod Codes

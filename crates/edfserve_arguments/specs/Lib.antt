@@ -1,2 +1,4 @@
 pub mod Below
+pub mod Sought
 pub mod Line
+pub mod Laws

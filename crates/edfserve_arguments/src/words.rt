@@ -17,12 +17,18 @@ Lines:
   list               lists the recordings, as 'edfstore list' does
   runs PLACE         lists the runs of a recording, as 'edfruns list' does
   export PLACE NAME  writes a recording to a new file
+  status             tells what is held, and what was refused and warned of
 
 NAME is the rest of the line; '-' is a file of that name. PLACE is the recording's
-place in the list. After the lines of an answer comes 'status N':
+place in the list, which moves when others come that stand before it. Or it is
+  patient=CODE investigation=CODE
+  patient=CODE investigation=CODE first=INSTANT
+with all three as 'list' has them: then just one recording may match.
+
+After the lines of an answer comes 'status N':
   0  done
-  1  a file was refused, no recording has that place, NAME is there, or it is outside
-     of the folder
+  1  a file was refused, no recording has that place, none or several match, NAME is
+     there, or it is outside of the folder
   2  the line is no command
   3  trouble with a file, standard output, memory or the store
 
@@ -34,6 +40,9 @@ Example:
   part1.edf accepted new=160 known=0
   status 0
   night.edf exported bytes=25024
+  status 0
+  echo 'export patient=S-0118 investigation=OX-7 again.edf' | edfserve night.db
+  again.edf exported bytes=25024
   status 0
 
 The program ends at the end of its input with the worst status, or with 3 where

@@ -62,7 +62,7 @@ returns-in-Told g c =
         unfailed = (c.clear.ensures.counted, c.clear-2.ensures.counted);
         worked = c.work.ensures.worked.1;
         answered = subst (IsAnswered g.S.Store x b) (sym c.in-Told.is)
-            (c.tell_all.ensures.told x);
+            (c.tell_all.ensures.told x c.work.new.room.counts c.counted-room.ensures);
         cap = c.tell_all.ensures.cap ∙ c.work.ensures.cap;
       },
     )
@@ -124,6 +124,7 @@ returns-else-not-stand g c =
     let b : Point g.row.S.Denot = point g.I.Sources g.P.NewFiles g.C.Client g.K.StoreFiles
     warned.new.store (record c.work.new.room {
       client = warned.new.client;
+      counts = warned.new.counts;
       keeper = c.stand.new.self;
     }) in
     let looks = g.K.StoreFiles.looks c.work.new.room.keeper in

@@ -39,4 +39,4 @@ returns-then-is_pause-clause-paused g c clean h held is =
     let next = subst (λ (o : Option ℕ). IsNextStart c.args.from records o) c.in-Some-2.is
     (c.in_ok-next.ensures.next clean h (c.start_from.ensures.stays.holdings h held)) in
     paused records c.in-Some.begin c.args.from c.in_ok-earliest.earliest c.in-Some-2.next
-    (c.in_ok-earliest.ensures.next was h held) next (c.is_pause.ensures c.if-is_pause.true)
+    (c.in_ok-earliest.ensures.next was h held) next (c.is_pause.ensures.0 c.if-is_pause.true)

@@ -18,13 +18,13 @@ returns-then-eq-clause-exported g c outcome =
     let new = g.P.NewFiles.made c.finish.new.room.files in
     let path = c.args.path.now in
     let f = c.finish.ensures.ended in
-    let done : c.export_place-told.result ≡ Done =
+    let done : c.export_chosen-told.result ≡ Done =
     first_of (search rules, grind (arith, common_steps)) in
     inl (record {
-      file = growth g.P.Writer.Output c.in-Ok-Some.writer c.export_place-told.new.out;
-      out = grown c.args.room.now.out c.export_place-told.new.err;
-      told = c.export_place-told.result;
-      exported = c.export_place-told.ensures;
+      file = growth g.P.Writer.Output c.in-Ok-Some.writer c.export_chosen-told.new.file;
+      out = grown c.args.room.now.out c.export_chosen-told.new.out;
+      told = c.export_chosen-told.result;
+      exported = c.export_chosen-told.ensures;
       from = (refl, refl);
       how = Some f.0;
       new = new-by old mid path (g.P.Writer.Output.contents c.in-Ok-Some.writer)
@@ -32,8 +32,8 @@ returns-then-eq-clause-exported g c outcome =
       tries = tried-by old mid new path (record {
         path = path;
         how = Some f.0;
-        contents = g.P.Writer.Output.contents c.export_place-told.new.out;
-        failed = g.P.Writer.Output.failures c.export_place-told.new.out;
+        contents = g.P.Writer.Output.contents c.export_chosen-told.new.file;
+        failed = g.P.Writer.Output.failures c.export_chosen-told.new.file;
       }) begun f.1;
       sized = f.1.bytes;
       ended = inl (done, (f.0, refl, f.2));
@@ -49,10 +49,10 @@ returns-clause-exported g c outcome =
     let new = g.P.NewFiles.made c.discard.new.self in
     let path = c.args.path.now in
     inl (record {
-      file = growth g.P.Writer.Output c.in-Ok-Some.writer c.export_place-told.new.out;
-      out = grown c.args.room.now.out c.export_place-told.new.err;
-      told = c.export_place-told.result;
-      exported = c.export_place-told.ensures;
+      file = growth g.P.Writer.Output c.in-Ok-Some.writer c.export_chosen-told.new.file;
+      out = grown c.args.room.now.out c.export_chosen-told.new.out;
+      told = c.export_chosen-told.result;
+      exported = c.export_chosen-told.ensures;
       from = (refl, refl);
       how = None;
       new = new-by old mid path (g.P.Writer.Output.contents c.in-Ok-Some.writer)
@@ -60,8 +60,8 @@ returns-clause-exported g c outcome =
       tries = tried-by old mid new path (record {
         path = path;
         how = None;
-        contents = g.P.Writer.Output.contents c.export_place-told.new.out;
-        failed = g.P.Writer.Output.failures c.export_place-told.new.out;
+        contents = g.P.Writer.Output.contents c.export_chosen-told.new.file;
+        failed = g.P.Writer.Output.failures c.export_chosen-told.new.file;
       }) begun c.discard.ensures;
       sized = λ n e. absurd (none-some (Named n) e);
       ended = inr (search rules, refl, refl, refl);

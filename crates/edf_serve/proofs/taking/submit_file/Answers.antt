@@ -1,7 +1,7 @@
 use Rattle.std.proofs.Common.{◌∙◌, Some, Ok, Err, refl, ap, inl}
 use Rattle.edf_fragment.specs.Call.{input_state}
 use Rattle.edf_program.proofs.Puts.{nothing-gets}
-use Rattle.edf_serve.specs.Files.{Paths}
+use Rattle.edf_serve.specs.Files.{Paths, Clock, opens}
 use Rattle.edf_serve.specs.Work.{Point, Submission, point}
 use Rattle.edf_serve.proofs.taking.submit_file.Goals as goal
 
@@ -28,7 +28,11 @@ returns-in-Ok-submit-clause-taken g c =
           refl,
           nothing-gets (Some c.args.room.now.out.bytes.items) c.args.room.now.out.failures,
         );
-        same = ap (λ (p : Paths). record left { paths = p }) c.in-Ok.ensures.opened;
+        same = ap (λ (p : Paths). record left { paths = p }) c.in-Ok.ensures.opened
+            ∙ ap (λ (k : Clock). record left {
+              paths = opens (g.I.Sources.paths c.args.room.now.sources) c.args.path.now;
+              clock = k;
+            }) c.open.ensures.clock;
       }),
     )
 
@@ -57,6 +61,10 @@ returns-in-Ok-clause-taken g c =
           c.tell_refusal-status.ensures,
           c.is_stopped-is_doubtful.ensures,
         );
-        same = ap (λ (p : Paths). record left { paths = p }) c.in-Ok.ensures.opened;
+        same = ap (λ (p : Paths). record left { paths = p }) c.in-Ok.ensures.opened
+            ∙ ap (λ (k : Clock). record left {
+              paths = opens (g.I.Sources.paths c.args.room.now.sources) c.args.path.now;
+              clock = k;
+            }) c.open.ensures.clock;
       }),
     )

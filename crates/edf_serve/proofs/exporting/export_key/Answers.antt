@@ -1,0 +1,36 @@
+use Rattle.std.proofs.Common.{Err, refl, inl, inr, ap}
+use Rattle.edf_export.specs.declared.fault.ExportFault.{ExportFault}
+use Rattle.edf_program.proofs.Puts.{nothing-gets}
+use Rattle.edf_serve.proofs.exporting.export_key.Goals as goal
+
+pub returns-in-Ok : goal.returns-in-Ok
+returns-in-Ok g c =
+    let nothing = nothing-gets (g.F.Output.contents c.args.out.now)
+    (g.F.Output.failures c.args.out.now) in
+    record {
+      stays = c.export.ensures.leaves.stays;
+      told = inl (c.in-Ok.ensures.truly.counted, nothing, refl);
+      exported = λ clean h holds. inl (
+        (c.in-Ok._len, c.in-Ok.ensures.answered clean h holds),
+        c.in-Ok.ensures.truly.counted,
+        nothing,
+        refl,
+      );
+    }
+
+pub returns-in-Err : goal.returns-in-Err
+returns-in-Err g c = record {
+  stays = c.export.ensures.leaves.stays;
+  told = inr (
+    c.in-Err.fault,
+    (λ is. c.in-Err.ensures.truly.unfailed (ap (λ (f : ExportFault). Err f) is)),
+    c.in-Err.ensures.truly.counted,
+    c.tell_refusal.ensures,
+  );
+  exported = λ clean h holds. inr (
+    c.in-Err.fault,
+    c.in-Err.ensures.answered clean h holds,
+    c.in-Err.ensures.truly.counted,
+    c.tell_refusal.ensures,
+  );
+}
