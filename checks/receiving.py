@@ -1,7 +1,9 @@
 """Three recorders upload a night each into the receiving folder of `examples/receiving`, which is
-killed again and again; each export is then the recorder's card.
+killed again and again; each export is then the recorder's card. One of them writes its files as
+EDFlib does, the n-th annotation into the n-th data record, and its folder has `by_onset=yes`.
 
-    python3 -m checks.receiving [--program PATH] [--edfserve PATH] [--seed SEED] [--control] [KILLS]
+    python3 -m checks.receiving [--program PATH] [--edfserve PATH] [--edfruns PATH] [--seed SEED]
+                                [--control] [KILLS]
 
 Uploads are slow, broken off and begun again, sent twice, renamed while nothing receives, of count
 -1 and written data record by record, under names with spaces and letters beyond ASCII, and names
@@ -19,7 +21,7 @@ alone.
 --control runs other `receive`s, each of which must lose something: one takes files whose names say
 that they are still written, one any that lie there, one at its start any that lie there, one then
 also those that are open, one moves a file before its answer, one takes a file's line for the end of
-an answer, one forgets what came while nothing received.
+an answer, one forgets what came while nothing received, one gives the store all files as they came.
 """
 import errno
 import os
@@ -29,12 +31,13 @@ import signal
 import subprocess
 import threading
 import time
-from dataclasses import dataclass, field
+from dataclasses import dataclass, field, replace
 from pathlib import Path
 
-from checks.lib import arguments, measure, model, night
+from checks.lib import arguments, measure, model, night, runs
 from checks.lib.checks import Lost, end
 from checks.lib.disks import Disk
+from checks.lib.edf import keeping, tal
 
 RECEIVE = arguments.TOP / "examples/receiving/receive"
 SFTP, SFTP_SERVER = shutil.which("sftp"), Path("/usr/lib/openssh/sftp-server")
@@ -65,7 +68,22 @@ CONTROLS = {
         ("for name in inbox/*; do early[${name##*/}]=1; done\nsweep\n",
          "due=$((SECONDS + wait))\n"),
         ("  if [ $SECONDS -ge $due ]; then sweep; fi\n", "")),
+    "gives the store all files as they came": (
+        ('if [ "$by_onset" = yes ]; then', "if false; then"),),
 }
+
+
+class SpreadNight(night.Night):
+    """The n-th annotation of a file is in its n-th data record."""
+
+    def block(self, nth: int, first: int) -> bytes:
+        ends = ((part + 1) * self.records // self.fragments for part in range(self.fragments))
+        noted = range(first + -first % 7, next(end for end in ends if end > first), 7)
+        block = keeping(f"+{self.seconds * (nth - first)}")
+        if nth - first < len(noted):
+            onset = self.seconds * (noted[nth - first] - first)
+            block += tal(f"+{onset}.2500", "Spindle", duration="1.50")
+        return block.ljust(2 * self.annotation_samples, b"\0")
 
 
 def uncounted(data: bytes) -> bytes:
@@ -236,11 +254,19 @@ class Site:
         return not [path for path in left if not path.name.startswith((".", *besides))]
 
 
+def as_taken(site: Site, data: bytes) -> bytes:
+    """What the store gets of an upload."""
+    try:
+        return runs.canonical_by_onset(data)[0] if "by_onset" in site.added else data
+    except model.Refused:
+        return data
+
+
 def expected(site: Site) -> bytes:
     """The export of all that was uploaded."""
     held = model.Store()
     for data in site.sent.values():
-        held.take(data)
+        held.take(as_taken(site, data))
     return held.export(1)
 
 
@@ -272,9 +298,12 @@ def sites_in(folder: Path, disk: Disk, script: Path, added: dict, seed: int) -> 
         home = (disk.place if nth == 0 else folder) / f"recorder {nth}"
         source = folder / f"source {nth}"
         home.mkdir(), source.mkdir()
-        sent = night.Night(records=RECORDS, samples=(64, 32), fragments=FRAGMENTS, seed=seed + nth,
+        is_spread = nth == seed % 3
+        of_recorder = SpreadNight if is_spread else night.Night
+        sent = of_recorder(records=RECORDS, samples=(64, 32), fragments=FRAGMENTS, seed=seed + nth,
                            patient=f"P{nth} F 02-MAY-1951 X")
-        site = Site(home, sent.parts(source), sent.card(source / "card.edf"), script, added,
+        site = Site(home, sent.parts(source), replace(sent, fragments=1).card(source / "card.edf"),
+                    script, added | ({"by_onset": "yes"} if is_spread else {}),
                     random.Random(f"{seed} {nth}"))
         (home / "inbox").mkdir()
         sites.append(site)
@@ -334,8 +363,8 @@ def night_of(sites: list, disk: Disk, given, seconds: float) -> int:
 
 
 def surroundings(given, still: int) -> dict:
-    return {"PATH": f"{given.edfserve.parent}:{os.environ['PATH']}", "RECEIVE_WAIT": "1",
-            "RECEIVE_STILL": str(still), "LC_ALL": "C.UTF-8"}
+    return {"PATH": f"{given.edfserve.parent}:{given.edfruns.parent}:{os.environ['PATH']}",
+            "RECEIVE_WAIT": "1", "RECEIVE_STILL": str(still), "LC_ALL": "C.UTF-8"}
 
 
 def unrenamed(given, folder: Path) -> None:
@@ -437,7 +466,7 @@ def control(given) -> None:
 
 
 def main() -> None:
-    parser = arguments.Parser(__doc__, programs=("edfstore", "edfserve"), count=50)
+    parser = arguments.Parser(__doc__, programs=("edfstore", "edfserve", "edfruns"), count=50)
     parser.add_argument("--seed", type=int, default=1, help="of the nights, 1 if left out")
     parser.add_argument("--control", action="store_true", help="run wrong ones instead")
     given = parser.read()

@@ -9,7 +9,8 @@ devices, and of the files that SQLite has beside a store; a store that is refuse
 session has, or that is removed, replaced or cut under a session; each read, write, sync and cut
 that fails in turn, after which the store is opened anew or the session ends; a full disk, and room
 again; files without a patient's code and name, of which a warning comes where they begin more than
-24 hours apart. Over a pipe, a named pipe, and by socat a socket, where it is installed. Then COUNT
+8 hours apart; recordings by their codes and first starts, and not by their places; and what
+`status` tells. Over a pipe, a named pipe, and by socat a socket, where it is installed. Then COUNT
 sessions (100 if left out) are killed at a random moment and begun again: what was answered is held,
 and in the end all of it is.
 """
@@ -25,8 +26,8 @@ from datetime import datetime, timedelta
 from pathlib import Path
 from subprocess import PIPE
 
-from checks.lib import (anew, arguments, disks, edf, faults, lost, measure, model, named, night,
-                        printed, runs, serving)
+from checks.lib import (anew, arguments, by_name, disks, edf, faults, lost, measure, model, named,
+                        night, printed, runs, serving)
 from checks.lib.checks import Checks, Lost, compare, end
 from checks.lib.serving import NO_COMMAND, Client, exported, status
 
@@ -34,7 +35,8 @@ MOST_LINE = 65_536
 MOST_GROWTH = 8_000_000     # bytes of memory that a client may cost which does not read
 SMALL = night.Night(records=480, samples=(64, 32), fragments=24)
 NOBODY, SOMEBODY = "X F X X", "P7 F 02-MAY-1951 X"
-EVENING, DAY, SECOND = datetime(2002, 3, 2, 22), timedelta(days=1), timedelta(seconds=1)
+EVENING, SECOND = datetime(2002, 3, 2, 22), timedelta(seconds=1)
+DAY, HOUR, PAUSE = timedelta(days=1), timedelta(hours=1), timedelta(hours=8)
 
 
 class Session:
@@ -347,19 +349,19 @@ def dated(clock: datetime, patient: str = NOBODY, onsets=("0", "1")) -> bytes:
 
 def files_far_apart() -> list:
     """Files in the order in which they are taken, and the numbers of those that are warned of."""
-    first, next_day = dated(EVENING), dated(EVENING + DAY + 2 * SECOND)
+    first, later = dated(EVENING), dated(EVENING + PAUSE + 2 * SECOND)
     gapped = dated(EVENING, onsets=("0", "1", "2", "3", "50000", "50001", "80000.5"))
-    after_it = EVENING + 80_000 * SECOND + DAY
+    after_it = EVENING + 80_000 * SECOND + PAUSE
     return [
         ("the first file of a recording", [first], []),
-        ("a file a second more than 24 hours later", [first, next_day], [2]),
-        ("exactly 24 hours later", [first, dated(EVENING + DAY + SECOND)], []),
-        ("a second more than 24 hours earlier", [next_day, first], [2]),
-        ("exactly 24 hours earlier", [dated(EVENING + DAY + SECOND), first], []),
-        ("half a second more than 24 hours later",
-         [first, dated(EVENING + DAY + SECOND, onsets=("0.5", "2"))], [2]),
-        ("half a second more than 24 hours earlier",
-         [dated(EVENING + DAY + SECOND, onsets=("0.5", "2")), first], [2]),
+        ("a file a second more than 8 hours later", [first, later], [2]),
+        ("exactly 8 hours later", [first, dated(EVENING + PAUSE + SECOND)], []),
+        ("a second more than 8 hours earlier", [later, first], [2]),
+        ("exactly 8 hours earlier", [dated(EVENING + PAUSE + SECOND), first], []),
+        ("half a second more than 8 hours later",
+         [first, dated(EVENING + PAUSE + SECOND, onsets=("0.5", "2"))], [2]),
+        ("half a second more than 8 hours earlier",
+         [dated(EVENING + PAUSE + SECOND, onsets=("0.5", "2")), first], [2]),
         ("a patient with a code",
          [dated(EVENING, SOMEBODY), dated(EVENING + 9 * DAY, SOMEBODY)], []),
         ("a patient with a name",
@@ -369,19 +371,21 @@ def files_far_apart() -> list:
         ("a birthdate and more beside no code and no name",
          [dated(EVENING, "X F 02-MAY-1951 X ward"),
           dated(EVENING + 9 * DAY, "X F 02-MAY-1951 X ward")], [2]),
-        ("a file that is held already", [first, next_day, next_day, first], [2]),
+        ("a file that is held already", [first, later, later, first], [2]),
         ("a file between two others", [first, dated(EVENING + 9 * DAY), dated(EVENING + 4 * DAY)],
          [2, 3]),
+        ("the second file of the next night",
+         [first, dated(EVENING + 16 * HOUR), dated(EVENING + 16 * HOUR + 2 * SECOND)], [2]),
         ("a file beside the later of two",
          [first, dated(EVENING + 9 * DAY), dated(EVENING + 9 * DAY + 2 * SECOND)], [2]),
         ("a file beside the earlier of two",
          [first, dated(EVENING + 9 * DAY), dated(EVENING + 2 * SECOND)], [2]),
         ("after a file with gaps", [gapped, dated(after_it, onsets=("0.5",))], []),
         ("later after a file with gaps", [gapped, dated(after_it + SECOND)], [2]),
-        ("a file with gaps, 24 hours earlier", [dated(after_it, onsets=("0.5",)), gapped], []),
-        ("a file with gaps, more than 24 hours earlier", [dated(after_it + SECOND), gapped], [2]),
+        ("a file with gaps, 8 hours earlier", [dated(after_it, onsets=("0.5",)), gapped], []),
+        ("a file with gaps, more than 8 hours earlier", [dated(after_it + SECOND), gapped], [2]),
         ("the first day that a header can name",
-         [dated(datetime(1985, 1, 1)), dated(datetime(2002, 1, 1)), dated(datetime(1985, 1, 1, 9))],
+         [dated(datetime(1985, 1, 1)), dated(datetime(2002, 1, 1)), dated(datetime(1985, 1, 1, 7))],
          [2]),
         ("the first day, after others", [dated(EVENING), dated(datetime(1985, 1, 1))], [2]),
     ]
@@ -478,6 +482,7 @@ def main() -> None:
         lost.run(checks, given)
         anew.run(checks, given)
         people(checks, given)
+        by_name.run(checks, given)
         full_disk(checks, given)
         try:
             count = kills(given)

@@ -145,10 +145,15 @@ def changed(name: str) -> str:
     return f"{name} changed between its readings\n"
 
 
-def crowded(number: int) -> str:
-    """What `edfruns` prints of a run that by onset would have a data record with too many
-    annotations."""
-    return f"run {number} would have too many annotations in a data record\n"
+def outside(name: str, count: int) -> str:
+    """What `edfruns canonical --by-onset` prints of annotations outside of all data records."""
+    return f"{name} outside={count}\n" if count else ""
+
+
+def crowded(number: int, part: str = "run") -> str:
+    """What `edfruns` prints of a run, or a file of data records that are joined, that by onset
+    would have a data record with too many annotations."""
+    return f"{part} {number} would have too many annotations in a data record\n"
 
 
 def undated(number: int) -> str:

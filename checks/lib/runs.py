@@ -5,6 +5,8 @@ before ends, to the nanosecond.
     from checks.lib import runs
     made = runs.read_runs(data)         or model.Refused, with the first fault of the file
     made = runs.read_by_onset(data)     with each annotation where its onset is
+    runs.canonical_by_onset(data)       what `canonical --by-onset` writes, and how many annotations
+                                        lie outside of all data records
     made[0].line()                      its line, as text
     runs.joined_lines(made, tolerance)  the lines of `list --tolerance`, of so many nanoseconds
     made[0].told()                      the same, with how many annotations it has
@@ -67,13 +69,33 @@ def parted(key: model.Key, records: list) -> list:
     return stretches
 
 
+def in_order(note: tuple) -> tuple:
+    """What annotations of a data record are sorted by: onset, duration, none first, and the bytes
+    of the text."""
+    onset, duration, text = note
+    return onset, -1 if duration is None else duration, text
+
+
 def by_onset(records: list) -> list:
-    """Each annotation in the last data record that starts at or before its onset, or in the first,
-    in the order of the file."""
+    """Each annotation in the last data record that starts at or before its onset, or in the first;
+    those of one data record in order."""
     starts, lists = [record.start for record in records], [[] for _ in records]
     for note in (note for record in records for note in record.notes):
         lists[max(bisect_right(starts, note[0]) - 1, 0)].append(note)
-    return [replace(record, notes=tuple(notes)) for record, notes in zip(records, lists)]
+    return [replace(record, notes=tuple(sorted(notes, key=in_order)))
+            for record, notes in zip(records, lists)]
+
+
+def lies_in(key: model.Key, records: list, onset: int) -> bool:
+    """One of the data records has the instant."""
+    return any(record.start <= onset < record.start + key.duration() for record in records)
+
+
+def canonical_by_onset(data: bytes) -> tuple:
+    key, records = model.read(data)
+    onsets = [onset for record in records for onset, _, _ in record.notes]
+    outside = sum(not lies_in(key, records, onset) for onset in onsets)
+    return model.canonical(key, by_onset(records)), outside
 
 
 def read_runs(data: bytes) -> list:
