@@ -1,6 +1,7 @@
 //! The system's clock.
 
 ghost use Rattle.std.specs.Prelude.{◌≡◌, ◌*◌, ◌/◌, ◌^◌, None, IfSome};
+ghost use Rattle.std.proofs.Props.{props};
 ghost use Rattle.edf_fragment.specs.Failures.{one_more};
 
 use crate::counting::one_more;
@@ -17,7 +18,7 @@ pub(crate) struct SystemClock {
     pub(crate) asked: u64,
     pub(crate) told: Option<Instant>,
     ghost unasked: { asked ≡ 0 → told ≡ None },
-    ghost second: { IfSome told (λ instant. instant / 10 ^ 9 * 10 ^ 9 ≡ instant) },
+    ghost second: { IfSome told (λ instant. instant / 10 ^ 9 * 10 ^ 9 ≡ instant) } by { Prim.hlevel props },
 }
 
 /// What the system's clock tells, UTC, to the second; `None` where it tells no instant of the years
