@@ -78,12 +78,6 @@ module _ (w : Growth) where
     line-put (Err e) true text p is = absurd (false≢true (sym p.1))
     line-put (Err e) false text p is = inr p.0
 
-    pub line-counted : (line : Result T E) (written : Bool) → IsPutBy line written →
-        written ≡ true → w.failed_after ≡ w.failed_before
-    line-counted (Ok l) true p e = p.1
-    line-counted (Ok l) false p e = absurd (false≢true e)
-    line-counted (Err x) written p e = p.0.1
-
     pub line-told : (line : Result T E) (wanted status : Status) (text : List ℕ) →
         IsToldBy line wanted status → IfOk line (λ l. items l ≡ text) → IsTold w text wanted status
     line-told (Ok l) wanted status text p is =

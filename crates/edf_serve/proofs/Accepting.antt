@@ -1,17 +1,15 @@
 -- What is known where a file was accepted.
-use Rattle.std.proofs.Common.{◌≡◌, ℕ, List, Option, Some, None, Ok, Err, IsTrue}
-use Rattle.std.proofs.Common.{sym, subst, inl, inr, arith}
+use Rattle.std.proofs.Common.{◌≡◌, ℕ, List, Option, Some, None, Ok, Err}
+use Rattle.std.proofs.Common.{sym, subst, inl, inr}
 use Rattle.sqlite_trees.specs.declared.store.Store.{Ghosts}
-use Rattle.sqlite.specs.State.{HasCleanDisk}
-use Rattle.edf_store.specs.Held.{StoreModel, at, Stays}
+use Rattle.edf_store.specs.Held.{StoreModel}
 use Rattle.edf_intake.specs.Refusal.{Answer}
 use Rattle.edf_intake.specs.Submitted.{IsSubmitted, IsEnded}
 use Rattle.edf_intake.specs.declared.answer.Receipt.{Receipt}
 use Rattle.edfserve_arguments.specs.Line.{LineAsked}
 use Rattle.edfserve_arguments.specs.Line.LineAsked.{take, list, runs, runs_of, export, export_of}
-use Rattle.edf_export.proofs.Walks.{clean_before}
 use Rattle.edf_program.specs.Output.{Growth}
-use Rattle.edf_serve.specs.Client.{HasAccepted, IsIdle, IsOpenSince}
+use Rattle.edf_serve.specs.Client.{HasAccepted, IsIdle}
 use Rattle.edf_serve.specs.Exchange.{IsWorked}
 use Rattle.edf_serve.specs.Taking.{IsAnswerSaid}
 use Rattle.edf_serve.specs.Work.{Point, Work, Submission, grown}
@@ -73,28 +71,3 @@ module _ {S : Type 0} (g : Ghosts S) (folders : Folders) (old new : Point S)
       IsWorked g folders (done o) asked → MayBeTold g new.store receipt
   may-be_told asked o given receipt start e w = by-work asked given receipt start
       (subst (λ (p : Outcome). IsWorked g folders (done p) asked) e w)
-
--- ---- the store is open, or a call of the disk failed
-
-module _ {S : Type 0} (g : Ghosts S) where
-  -- it is open as the submission left it
-  pub open-there : (store : StoreModel S) (receipt : Receipt) → HasAccepted g store receipt →
-      HasCleanDisk (at g store) → IsTrue (at g store).is_open
-  open-there store receipt it = it.submitted.leaves.is_open
-
-  pub open-now : (store : StoreModel S) (receipt : Receipt) → HasAccepted g store receipt →
-      IsOpenSince g store store
-  open-now store receipt it clean = inl (open-there store receipt it clean)
-
-  pub open-after : (store new : StoreModel S) (receipt : Receipt) → HasAccepted g store receipt →
-      Stays g store new → IsOpenSince g store new
-  open-after store new receipt it stays clean = stays.crash.closes clean
-      (open-there store receipt it (clean_before g store new stays clean))
-
-  -- from an earlier moment
-  pub open-before : (old mid new : StoreModel S) → Stays g old mid → IsOpenSince g mid new →
-      IsOpenSince g old new
-  open-before old mid new stays is clean = elim (is clean) [
-    | inl so ↦ inl so
-    | inr more ↦ inr (let counts = stays.crash.counts in let m = more in omega arith)
-  ]

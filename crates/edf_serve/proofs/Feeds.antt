@@ -16,8 +16,7 @@ use Rattle.std.proofs.lemmas.List.Quantifiers.{position-Some}
 use Rattle.std.proofs.lemmas.Grind.{common_steps}
 use Rattle.std.proofs.lemmas.Option.{none-some}
 use Rattle.std.proofs.Common.{append-nil, take_at, drop_at, get_or, append_assoc}
-use Rattle.std.specs.Io.KnownBytes.{Keeps}
-use Rattle.std.proofs.KnownBytes.{Consumes-trans, Consumes-kept}
+use Rattle.std.proofs.KnownBytes.{Consumes-trans}
 use Rattle.edf_serve.specs.Lines.{lines_of, without_empty_last}
 
 ap2 : {A B C : Type 0} (f : A → B → C) {a a2 : A} {b b2 : B} → a ≡ a2 → b ≡ b2 → f a b ≡ f a2 b2
@@ -155,10 +154,6 @@ pub read-more : (old mid new : Option (List ℕ)) (F G H x y : List ℕ) → Con
 read-more old mid new F G H x y c e c2 e2 =
     (x ++ y, Consumes-trans old mid new x y c c2, e2 ∙ ap (λ (l : List ℕ). l ++ y) e ∙ append_assoc F x y)
 
-pub kept-more : (old mid new : Option (List ℕ)) (F G x : List ℕ) → Consumes old mid x → G ≡ F ++ x →
-    Keeps mid new → (more : List ℕ) × Consumes old new more × (G ≡ F ++ more)
-kept-more old mid new F G x c e k = (x, Consumes-kept old mid new x c k, e)
-
 -- the lines of what is left
 abbrev pub lines_left : Bool → Option (List ℕ) → Option (List (List ℕ))
 lines_left i l = option_map (λ bytes. drop (cond i 1 0) (lines_of bytes)) l
@@ -273,20 +268,6 @@ none-lost l k i j F T G (Some xs) (Some ys) el ei ek et g =
     subst (λ (x : Option (List ℕ)). IfSome (lines_left i x) (λ lines. lines_left j k ≡ Some lines)) (sym el)
     (ap (lines_left j) ek ∙ ap (λ (p : List ℕ). lines_left j (Some p)) same
     ∙ ap (λ (b : Bool). lines_left b (Some (F ++ xs))) (sym ei))
-
--- nothing is left
-pub none-left : (l : Option (List ℕ)) (i : Bool) (F : List ℕ) (old new : Option (List ℕ)) →
-    l ≡ option_map (λ xs. F ++ xs) old → i ≡ false → IsAtEnd new →
-    ((more : List ℕ) × Consumes old new more × ([] ≡ F ++ more)) →
-    IfSome (lines_left i l) (λ lines. lines ≡ [])
-none-left l i F None new el ei end g =
-    subst (λ (x : Option (List ℕ)). IfSome (lines_left i x) (λ lines. lines ≡ [])) (sym el) tt
-none-left l i F (Some xs) None el ei end g = absurd g.1
-none-left l i F (Some xs) (Some ys) el ei end g =
-    let same : F ++ xs ≡ [] = ap (λ (p : List ℕ). F ++ p) g.1 ∙ sym (append_assoc F g.0 ys)
-    ∙ ap (λ (p : List ℕ). p ++ ys) (sym g.2) ∙ end in
-    subst (λ (x : Option (List ℕ)). IfSome (lines_left i x) (λ lines. lines ≡ [])) (sym el)
-    (ap (λ (b : Bool). drop (cond b 1 0) (lines_of (F ++ xs))) ei ∙ ap lines_of same)
 
 -- The rest of a long line was passed over, up to its line feed, or not, and so many bytes.
 abbrev pub IsOver : List ℕ → List ℕ → Option (List ℕ) → List ℕ → Type 0

@@ -1,5 +1,4 @@
 pub mod Pauses
-pub mod Sending
 pub mod Working
 pub mod Making
 pub mod Runs

@@ -30,9 +30,6 @@ use Rattle.edf_session.specs.Files.{AreReadAs}
 use Rattle.edf_session.proofs.Schemas.{schema_once, unlisted, kept_schema}
 use Rattle.edf_session.proofs.Nothing.{nothing_found, nothing_kept}
 
-db_of : Schema → Trees → Database
-db_of schema trees = record { schema = schema; trees = trees }
-
 pub nothing_of : (cap : ℕ) (db : Database) (h : Holdings) → Keeps cap db h → db.schema ≡ no_schema →
     h ≡ nothing_held
 nothing_of cap db h (no_table is none) now = none

@@ -1,15 +1,10 @@
 -- What is told of annotations outside of all data records.
-use Rattle.std.proofs.Common.{◌≡◌, ℕ, zero, suc, List, [], refl, sym, subst}
-use Rattle.edf_program.specs.Output.{Growth, Gets, IsWritten}
+use Rattle.std.proofs.Common.{◌≡◌, ℕ, zero, suc, List, refl}
+use Rattle.edf_program.specs.Output.{Growth, IsWritten}
 use Rattle.edf_program.specs.declared.status.Status.{Status}
 use Rattle.edf_program.specs.declared.status.Status.TheVariants.{Done}
 use Rattle.edfruns_command.specs.Canonical.{TellsOutside}
 use Rattle.edfruns_command.specs.Lines.{outside_line}
-
-pub tells-none : (err : Growth) (name : List ℕ) (count : ℕ) → count ≡ 0 → Gets err [] →
-    TellsOutside err name count Done
-tells-none err name count none nothing =
-    subst (λ n. TellsOutside err name n Done) (sym none) (nothing, refl)
 
 pub tells-some : (err : Growth) (name : List ℕ) (count : ℕ) (status : Status) → ¬ (count ≡ 0) →
     IsWritten err (outside_line name count) Done status → TellsOutside err name count status

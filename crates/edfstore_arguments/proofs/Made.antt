@@ -5,10 +5,9 @@ use Rattle.clap.specs.declared.builder.range.ValueRange.{ValueRange}
 use Rattle.clap.specs.declared.builder.action.ArgAction.TheVariants.{Append}
 use Rattle.clap.specs.Walk.{Rule, Text, rule_of}
 use Rattle.clap.specs.Simple.{App, app_of, app_of_fields, new_app, on_top, with_rule}
-use Rattle.clap.specs.Simple.{with_subcommand}
 use Rattle.clap.specs.declared.builder.command.Command.TheViews.{out-Command}
 use Rattle.clap.specs.declared.builder.command.Command.TheOpen.{Command-F}
-use Rattle.clap.specs.Built.{AddsArg, AddsSubcommand}
+use Rattle.clap.specs.Built.{AddsArg}
 use Rattle.clap.specs.declared.builder.arg.Arg.{Arg}
 use Rattle.clap.specs.declared.builder.command.Command.{Command}
 use Rattle.edfstore_arguments.specs.Inside.Commands.{Reads, required_rule}
@@ -18,15 +17,6 @@ pub arg_reads : (old new : Command) (s : App) (a : Arg) (r : Rule) → Reads old
     a.global ≡ false → rule_of a ≡ r → AddsArg old a new → Reads new (with_rule s r)
 arg_reads old new s a r was plain is h =
     (h.shape plain ∙ ap₂ with_rule was.0 is, h.globals ∙ ap₂ ◌||◌ was.1 plain)
-
--- one more subcommand
-pub sub_reads : (old sub new : Command) (s t : App) → Reads old s → Reads sub t →
-    AddsSubcommand old sub new → Reads new (with_subcommand s t.top)
-sub_reads old sub new s t was is h = (
-  h.shape is.1 ∙ ap₂ with_subcommand was.0 (ap (λ (a : App). a.top) is.0),
-  h.globals
-      ∙ ap₂ ◌||◌ was.1 is.1,
-)
 
 -- the texts of a word's help change nothing that is read
 pub told_reads : (a b d e : Command) (s : App) (about long after : _) → Reads a s

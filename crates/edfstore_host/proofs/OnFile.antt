@@ -1,10 +1,8 @@
 -- A run over the files of a store, under the greatest cap.
 use Rattle.std.proofs.Common.{◌≡◌, ◌≢◌, ◌⊎◌, ℕ, Option, None, Some, sym, ◌∙◌, subst}
 use Rattle.sqlite_disk.specs.declared.Disk.{Ghosts}
-use Rattle.sqlite.specs.declared.error.Error.{Error}
-use Rattle.edf_program.specs.declared.status.Status.{Status}
 use Rattle.edf_session.specs.Close.{Ran, IsRefused}
-use Rattle.edf_session.specs.Run.{Run, NotOpened}
+use Rattle.edf_session.specs.Run.{Run}
 use Rattle.edf_session.specs.declared.session.Session.{Session}
 
 pub some_is_found : {A : Type 0} (found : Option A) (it : A) → found ≡ Some it → found ≢ None
@@ -15,8 +13,3 @@ module _ {D : Type 0} {g : Ghosts D} (r : Run g) (cap : ℕ) (is : r.cap ≡ cap
       Ran (record r { cap = cap }) s ⊎ IsRefused (record r { cap = cap }) s
   run_under s =
       subst (λ (n : ℕ). Ran (record r { cap = n }) s ⊎ IsRefused (record r { cap = n }) s) is
-
-  pub unopened_under : (error : Error) (status : Status) → NotOpened r error status →
-      NotOpened (record r { cap = cap }) error status
-  unopened_under error status =
-      subst (λ (n : ℕ). NotOpened (record r { cap = n }) error status) is
