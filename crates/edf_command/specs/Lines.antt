@@ -14,9 +14,9 @@ use Rattle.edf_export.specs.Export.{export_fault_number, export_fault_name}
 use Rattle.edf_export.specs.declared.fault.ExportFault.{ExportFault}
 use Rattle.edf_command.specs.Refusals.{refusal_text}
 use Rattle.edf_program.specs.Text.{fault_text, refused_line, memory_line}
-use Rattle.edf_program.specs.Status.{status_of_number}
+use Rattle.edf_program.specs.Status.{status_of_number, worse}
 use Rattle.edf_program.specs.declared.status.Status.{Status}
-use Rattle.edf_program.specs.declared.status.Status.TheVariants.{Done, Refused, Trouble}
+use Rattle.edf_program.specs.declared.status.Status.TheVariants.{Done}
 
 -- ---- take
 
@@ -45,13 +45,6 @@ first_take_lines spell names answers n = take_lines spell names (take n answers)
 abbrev pub answer_status : Answer → Status
 answer_status (Ok receipt) = Done
 answer_status (Err refusal) = status_of_number (refusal_number refusal)
-
--- the worse of two: trouble, else a refusal
-abbrev pub worse : Status → Status → Status
-worse Done other = other
-worse Refused Trouble = Trouble
-worse Refused other = Refused
-worse status other = status
 
 -- the worst of all
 abbrev pub take_status : List Answer → Status

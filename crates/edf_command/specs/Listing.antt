@@ -9,7 +9,7 @@ use Rattle.edf_store.specs.Fault.{IsStoreRefusal}
 use Rattle.edf_store.specs.Held.{StoreModel, at, Holds, Stays}
 use Rattle.edf_store.specs.declared.fault.StoreFault.{StoreFault}
 use Rattle.edf_store.specs.declared.fault.StoreFault.TheVariants.{Failed}
-use Rattle.edf_command.specs.Refusals.{IsSpelling}
+use Rattle.edf_program.specs.Text.{IsSpelling}
 use Rattle.edf_command.specs.Lines.{list_lines, first_list_lines, list_refused_line}
 use Rattle.edf_program.specs.Output.{Growth, Gets, IsWritten, AreTold}
 use Rattle.edf_program.specs.declared.status.Status.{Status}

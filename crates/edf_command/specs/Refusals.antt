@@ -1,15 +1,10 @@
 -- The texts of refusals: `E`, the number, the name and the details, each after a space. Numbers are
 -- decimal.
-use Rattle.std.specs.Prelude.{ℕ, ◌<◌, List, [], ◌++◌, codes, decimal}
-use Rattle.edf_time.specs.Civil.{window, IsInstantText}
+use Rattle.std.specs.Prelude.{ℕ, List, [], ◌++◌, codes, decimal}
 use Rattle.edf_intake.specs.Refusal.{refusal_number, refusal_name}
 use Rattle.edf_intake.specs.declared.answer.Refusal.{Refusal}
 use Rattle.edf_intake.specs.declared.answer.Refusal.TheVariants as refusal
 use Rattle.edf_program.specs.Text.{fault_text, fragment_details}
-
--- how instants are written: each of the window by its text, of which it has one by a law
-abbrev pub IsSpelling : (ℕ → List ℕ) → Type 0
-IsSpelling spell = (instant : ℕ) → instant < window → IsInstantText (spell instant) instant
 
 -- what a refusal names; one for form what its fault does
 abbrev pub details : (ℕ → List ℕ) → Refusal → List ℕ

@@ -5,7 +5,7 @@ use Rattle.edf_fragment.specs.Call.{InputState}
 use Rattle.edf_store.specs.Held.{StoreModel}
 use Rattle.edf_intake.specs.Refusal.{Answer}
 use Rattle.edf_intake.specs.Batch.{AreSubmitted, AnswersAll}
-use Rattle.edf_command.specs.Refusals.{IsSpelling}
+use Rattle.edf_program.specs.Text.{IsSpelling}
 use Rattle.edf_command.specs.Lines.{first_take_lines, take_status, take_memory_line}
 use Rattle.edf_program.specs.Output.{Growth, Gets, AreTold, Explains}
 use Rattle.edf_program.specs.declared.status.Status.{Status}

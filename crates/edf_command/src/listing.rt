@@ -10,13 +10,12 @@ ghost use Rattle.edf_store.specs.Held.{at, Holds, Stays};
 ghost use Rattle.edf_store.specs.Overview.{IsSummary};
 ghost use Rattle.edf_command.specs.Lines.{list_line, first_list_lines, list_refused_line};
 ghost use Rattle.edf_program.specs.Output.{growth, Gets, IsLinePut, AreLinesPut, IsWritten};
-ghost use Rattle.edf_command.specs.Refusals.{IsSpelling};
+ghost use Rattle.edf_program.specs.Text.{IsSpelling};
 ghost use Rattle.edf_command.specs.Listing.{AreHeldBy, AreRecordingsListed};
 
-use crate::refusal::spelled;
 use edf_fragment::Output;
 use edf_header::Identity;
-use edf_program::{Status, joined, put_line, tell_refused};
+use edf_program::{Status, joined, put_line, spelled, tell_refused};
 use edf_store::{Store, StoreFault, Summary};
 use sqlite::Alter;
 use std::alloc::{AllocError, Global};

@@ -1,23 +1,13 @@
 //! The texts of refusals.
 
 ghost use Rattle.std.specs.Prelude.{◌≡◌, ℕ, ◌++◌, List, IfOk, codes};
-ghost use Rattle.edf_command.specs.Refusals.{IsSpelling, details, refusal_text};
+ghost use Rattle.edf_command.specs.Refusals.{details, refusal_text};
+ghost use Rattle.edf_program.specs.Text.{IsSpelling};
 
 use edf_intake::Refusal;
-use edf_program::{fragment_details, joined};
-use edf_time::laws::instant_is_in_window;
-use edf_time::{Instant, instant_text};
+use edf_program::{fragment_details, joined, spelled};
+use edf_time::Instant;
 use std::alloc::{AllocError, Global};
-
-/// The text of an instant.
-pub(crate) fn spelled(alloc: Global, instant: Instant) -> Result<Vec<u8>, AllocError>
-    ensures { IfOk result (λ r. (spell : ℕ → List ℕ) → IsSpelling spell → r.items ≡ spell instant) }
-{
-    // An instant of the window has one spelling.
-    instant_is_in_window(instant);
-    let text = instant_text(alloc, instant)?;
-    Ok(text)
-}
 
 /// Where the data records start that overlap.
 fn overlap_details(alloc: Global, start: Instant, stored: Instant) -> Result<Vec<u8>, AllocError>
@@ -62,7 +52,7 @@ fn refusal_details(alloc: Global, refusal: &Refusal) -> Result<Vec<u8>, AllocErr
 
 /// The text of a refusal: `E` and its number, its name, and the details.
 ///
-/// Records and signals count from 1, offsets from 0; instants are written by [`instant_text`].
+/// Records and signals count from 1, offsets from 0; instants are written by [`spelled`].
 ///
 /// # Errors
 /// Where memory runs out.

@@ -3,15 +3,15 @@
 ghost use Rattle.std.specs.Prelude.{◌≡◌, ◌++◌, ℕ, List, IfOk, MatchResult, length, map};
 ghost use Rattle.std.specs.Prelude.{string_bytes};
 ghost use Rattle.edf_command.specs.Lines.{accepted_line, refused_file_line, take_line};
-ghost use Rattle.edf_command.specs.Lines.{first_take_lines, answer_status, take_status, worse};
-ghost use Rattle.edf_command.specs.Refusals.{IsSpelling};
-ghost use Rattle.edf_program.specs.Output.{growth, AreLinesPut};
+ghost use Rattle.edf_command.specs.Lines.{first_take_lines, answer_status, take_status};
 ghost use Rattle.edf_command.specs.Taking.{IsTaken, HasOpened, OpensFront};
+ghost use Rattle.edf_program.specs.Output.{growth, AreLinesPut};
+ghost use Rattle.edf_program.specs.Text.{IsSpelling};
 
 use crate::refusal::refusal_text;
 use edf_fragment::Output;
 use edf_intake::{Receipt, Refusal, submit_all};
-use edf_program::{Inputs, Status, joined, put_line, status_of_number, tell_memory};
+use edf_program::{Inputs, Status, joined, put_line, status_of_number, tell_memory, worse};
 use edf_store::Store;
 use sqlite::Alter;
 use std::alloc::{AllocError, Global};
@@ -105,17 +105,6 @@ fn answer_status(answer: &Result<Receipt, Refusal>) -> Status
     match answer {
         Ok(_) => Status::Done,
         Err(refusal) => status_of_number(refusal.number()),
-    }
-}
-
-/// The worse of two: trouble, else a refusal.
-fn worse(status: Status, other: Status) -> Status
-    ensures { result ≡ worse status other }
-{
-    match (status, other) {
-        (Status::Done, other) => other,
-        (Status::Refused, Status::Trouble) => Status::Trouble,
-        (status, _) => status,
     }
 }
 

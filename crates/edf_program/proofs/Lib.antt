@@ -1,2 +1,4 @@
 pub mod Puts
 pub mod Parts
+pub mod Opened
+pub mod Undone

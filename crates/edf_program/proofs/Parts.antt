@@ -12,6 +12,13 @@ use Rattle.edf_program.specs.declared.status.Status.{Status}
 use Rattle.edf_program.specs.declared.status.Status.TheVariants.{Trouble}
 use Rattle.edf_program.proofs.Puts.{grown, gets-after, front-after}
 
+pub four-parts : (a b c d rest : List ℕ) → (a ++ (b ++ (c ++ d))) ++ rest ≡ a
+    ++ (b ++ (c ++ (d ++ rest)))
+four-parts a b c d rest =
+    append_assoc a (b ++ (c ++ d)) rest
+    ∙ ap (λ (t : List ℕ). a ++ t) (append_assoc b (c ++ d) rest
+    ∙ ap (λ (t : List ℕ). b ++ t) (append_assoc c d rest))
+
 pub lines-more : {X : Type 0} (f : X → List ℕ) (xs : List X) (i : ℕ) (d : X) → i < length xs
     → flat_map f (take (i + 1) xs) ≡ flat_map f (take i xs) ++ f (get_or xs i d)
 lines-more f xs i d lt = ap (flat_map f) (take_more xs i d lt)

@@ -1,4 +1,5 @@
 pub mod Status
 pub mod Output
 pub mod Text
+pub mod Opened
 pub mod Words

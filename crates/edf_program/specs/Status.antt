@@ -1,5 +1,5 @@
 -- How a command ends: the number that its program ends with, and what a refusal's number says.
-use Rattle.std.specs.Prelude.{ℕ, ◌==◌, ◌&&◌, ◌||◌, Bool, nat_le, if◌then◌else◌}
+use Rattle.std.specs.Prelude.{ℕ, ◌==◌, ◌&&◌, ◌||◌, Bool, nat_le, nat_lt, if◌then◌else◌}
 use Rattle.edf_program.specs.declared.status.Status.{Status}
 use Rattle.edf_program.specs.declared.status.Status.TheVariants.{Done, Refused, Usage, Trouble}
 
@@ -9,6 +9,10 @@ exit_code Done = 0
 exit_code Refused = 1
 exit_code Usage = 2
 exit_code Trouble = 3
+
+-- the worse of two statuses: that with the higher number
+abbrev pub worse : Status → Status → Status
+worse status other = if nat_lt (exit_code status) (exit_code other) then other else status
 
 -- E40 to E43 and E45
 abbrev pub is_trouble : ℕ → Bool

@@ -1,11 +1,16 @@
--- The texts of refusals: `E`, the number, the name and the details, each after a space. Numbers are
--- decimal.
-use Rattle.std.specs.Prelude.{ℕ, List, [], ◌∷◌, ◌++◌, Option, Some, None, codes, decimal}
+-- The texts of instants, and of refusals: `E`, the number, the name and the details, each after a
+-- space. Numbers are decimal.
+use Rattle.std.specs.Prelude.{ℕ, ◌<◌, List, [], ◌∷◌, ◌++◌, Option, Some, None, codes, decimal}
+use Rattle.edf_time.specs.Civil.{window, IsInstantText}
 use Rattle.edf_fragment.specs.Fault.{fragment_fault_number, fragment_fault_name}
 use Rattle.edf_fragment.specs.Fault.{fragment_fault_record, fragment_fault_offset}
 use Rattle.edf_fragment.specs.Fault.{fragment_fault_signal}
 use Rattle.edf_fragment.specs.declared.fault.FragmentFault.{FragmentFault}
 use Rattle.edf_fragment.specs.declared.fault.FragmentFault.TheVariants as fragment
+
+-- how instants are written: each of the window by its text, of which it has one by a law
+abbrev pub IsSpelling : (ℕ → List ℕ) → Type 0
+IsSpelling spell = (instant : ℕ) → instant < window → IsInstantText (spell instant) instant
 
 -- by a fault's number and name, and what comes after them
 abbrev pub fault_text : ℕ → List ℕ → List ℕ → List ℕ
@@ -36,3 +41,9 @@ refused_line name number fault = name ++ (codes " refused " ++ fault_text number
 abbrev pub memory_line : List ℕ → List ℕ
 memory_line name = refused_line name (fragment_fault_number fragment.Memory)
     (fragment_fault_name fragment.Memory)
+
+-- ---- of a file that was to be made
+
+-- there is something of its name
+abbrev pub there_line : List ℕ → List ℕ
+there_line name = name ++ codes " is there already; nothing was written\n"

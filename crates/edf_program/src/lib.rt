@@ -1,15 +1,16 @@
 //! What the programs share that needs no operating system: how a command ends, the readers that it
-//! is given, its lines, the texts of refusals, and why words ask for nothing. It has no store and
-//! opens no file.
+//! is given, its lines, the texts of instants and of refusals, and why words ask for nothing. It
+//! has no store and opens no file.
 //!
 //! - [`Status`]: how a command ends, and the number that the program ends with;
-//!   [`status_of_number`]: by a refusal's number.
+//!   [`status_of_number`]: by a refusal's number; [`worse`]: the worse of two.
 //! - [`Inputs`]: what gives each name its reader.
 //! - [`put_line`]: writes a line, and answers whether it was written whole; [`tell`],
 //!   [`tell_bytes`], [`tell_parts`]: the same, answered by a status.
-//! - [`joined`]: a text of its parts.
+//! - [`joined`]: a text of its parts; [`spelled`]: that of an instant.
 //! - [`fragment_fault_text`], [`fragment_details`]: why a file was not read as a fragment, as a
-//!   line has it; [`tell_refused`], [`tell_memory`]: a line why something is refused.
+//!   line has it; [`tell_refused`], [`tell_memory`]: a line why something is refused;
+//!   [`tell_there`]: that a file's name is taken.
 //! - [`CommandFault`]: why words ask for nothing; [`fault_by`], [`refuse_value`]: by what `clap`
 //!   says, or where it takes any text for a value; [`tell_fault`]: what is written then.
 //! - [`VERSION`]: of all the programs.
@@ -23,6 +24,8 @@ mod words;
 
 pub use inputs::Inputs;
 pub use output::{put_line, tell, tell_bytes, tell_parts};
-pub use status::{Status, status_of_number};
-pub use text::{fragment_details, fragment_fault_text, joined, tell_memory, tell_refused};
+pub use status::{Status, status_of_number, worse};
+pub use text::{
+    fragment_details, fragment_fault_text, joined, spelled, tell_memory, tell_refused, tell_there,
+};
 pub use words::{CommandFault, VERSION, fault_by, refuse_value, tell_fault};

@@ -1,7 +1,7 @@
 //! How a command ends.
 
 ghost use Rattle.std.specs.Prelude.{◌≡◌};
-ghost use Rattle.edf_program.specs.Status.{exit_code, status_of_number};
+ghost use Rattle.edf_program.specs.Status.{exit_code, status_of_number, worse};
 
 /// How a command ends.
 #[derive(Clone, Copy, Debug, PartialEq, Eq, Drop)]
@@ -28,6 +28,17 @@ impl Status {
             Status::Usage => 2,
             Status::Trouble => 3,
         }
+    }
+}
+
+/// The worse of two statuses: that with the higher number.
+pub fn worse(status: Status, other: Status) -> Status
+    ensures { result ≡ worse status other }
+{
+    if status.code() < other.code() {
+        other
+    } else {
+        status
     }
 }
 

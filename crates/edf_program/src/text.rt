@@ -1,14 +1,18 @@
-//! Texts of parts, and those of refusals: `E`, the number, the name, and what the fault names.
+//! Texts of parts and of instants, and those of refusals: `E`, the number, the name, and what the
+//! fault names.
 
-ghost use Rattle.std.specs.Prelude.{◌≡◌, ◌++◌, IfOk, OnOk, string_bytes};
+ghost use Rattle.std.specs.Prelude.{◌≡◌, ◌++◌, ℕ, List, IfOk, OnOk, string_bytes};
 ghost use Rattle.std.specs.List.{flat_map};
 ghost use Rattle.edf_program.specs.Output.{growth, IsWritten};
-ghost use Rattle.edf_program.specs.Text.{detail, fragment_details, fragment_fault_text};
-ghost use Rattle.edf_program.specs.Text.{memory_line, refused_line};
+ghost use Rattle.edf_program.specs.Text.{IsSpelling, detail, fragment_details};
+ghost use Rattle.edf_program.specs.Text.{fragment_fault_text, memory_line, refused_line};
+ghost use Rattle.edf_program.specs.Text.{there_line};
 
 use crate::output::tell_parts;
 use crate::status::Status;
 use edf_fragment::{FragmentFault, Output};
+use edf_time::laws::instant_is_in_window;
+use edf_time::{Instant, instant_text};
 use itoa::Buffer;
 use std::alloc::{AllocError, Global};
 
@@ -23,6 +27,19 @@ pub fn joined(alloc: Global, parts: &[&[u8]]) -> Result<Vec<u8>, AllocError>
     for part in parts {
         text.extend_from_slice(part)?;
     }
+    Ok(text)
+}
+
+/// The text of an instant.
+///
+/// # Errors
+/// Where memory runs out.
+pub fn spelled(alloc: Global, instant: Instant) -> Result<Vec<u8>, AllocError>
+    ensures { IfOk result (λ r. (spell : ℕ → List ℕ) → IsSpelling spell → r.items ≡ spell instant) }
+{
+    // An instant of the window has one spelling.
+    instant_is_in_window(instant);
+    let text = instant_text(alloc, instant)?;
     Ok(text)
 }
 
@@ -108,4 +125,13 @@ pub fn tell_memory<F: Output>(err: &mut F, name: &str) -> Status
 {
     let fault = FragmentFault::Memory;
     tell_refused(err, name, fault.number(), fault.name(), Status::Trouble)
+}
+
+/// Prints that there is something of the name that a file was to get. Printing takes no memory.
+pub fn tell_there<F: Output>(err: &mut F, name: &str) -> Status
+    ensures { IsWritten (growth F.Output err.old err.new) (there_line name.now) Status.Refused
+        result }
+{
+    let parts = [name.as_bytes(), b" is there already; nothing was written\n"];
+    tell_parts(err, &parts, Status::Refused)
 }

@@ -7,6 +7,7 @@ use Rattle.edf_fragment.specs.Told.{Told}
 use Rattle.edf_holdings.specs.Laws.{AreSoundTold}
 use Rattle.edf_holdings.specs.Reply.{after}
 use Rattle.edf_holdings.proofs.Once.{from_the_front}
+use Rattle.edf_holdings.proofs.Settled.{sound_front}
 use Rattle.edf_holdings.proofs.ToldSound.{told_is_sound}
 use Rattle.edf_store.specs.Held.{Holds}
 use Rattle.edf_intake.specs.Batch.{WillTell}
@@ -22,10 +23,6 @@ are-sound (f ∷ fs) [] known = absurd known
 are-sound (f ∷ fs) (x ∷ xs) known =
     (told_is_sound known.0.0 x known.0.2, are-sound fs xs known.1)
 
-front-sound : (front rest : List Told) → AreSoundTold (front ++ rest) → AreSoundTold front
-front-sound [] rest s = tt
-front-sound (x ∷ xs) rest s = (s.0, front-sound xs rest s.1)
-
 pub broken_off : {S : Type 0} (g : Ghosts S) → BrokenOffEndsAlike g
 broken_off g old new all front rest given h sound held submitted told replies =
     let froms = map (λ (s : Submission). s.from) all in
@@ -33,4 +30,4 @@ broken_off g old new all front rest given h sound held submitted told replies =
     (map (λ (s : Submission). s.answer) all) submitted.submitted (front ++ rest) given told replies
     (after old.cap h front) held).1 in
     subst (Holds g new) (from_the_front old.cap h front rest sound
-    (front-sound front rest (are-sound froms (front ++ rest) told))) later
+    (sound_front front rest (are-sound froms (front ++ rest) told))) later

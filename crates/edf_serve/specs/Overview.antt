@@ -12,7 +12,7 @@ use Rattle.edf_store.specs.Held.{StoreModel, at, Holds, Stays}
 use Rattle.edf_store.specs.Overview.{start_at}
 use Rattle.edf_store.specs.declared.fault.StoreFault.{StoreFault}
 use Rattle.edf_store.specs.declared.fault.StoreFault.TheVariants.{Failed}
-use Rattle.edf_command.specs.Refusals.{IsSpelling}
+use Rattle.edf_program.specs.Text.{IsSpelling}
 use Rattle.edf_program.specs.Output.{Growth, IsWritten}
 use Rattle.edf_program.specs.Text.{refused_line}
 use Rattle.edf_program.specs.declared.status.Status.{Status}

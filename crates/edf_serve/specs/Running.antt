@@ -15,7 +15,7 @@ use Rattle.edf_runs.specs.Runs.{AreListed}
 use Rattle.edf_runs.specs.declared.run.Run.{Run}
 use Rattle.edf_command.specs.Exporting.{at_place}
 use Rattle.edf_command.specs.Lines.{no_recording_line}
-use Rattle.edf_command.specs.Refusals.{IsSpelling}
+use Rattle.edf_program.specs.Text.{IsSpelling}
 use Rattle.edfruns_command.specs.Lines.{run_lines}
 use Rattle.edf_program.specs.Output.{Growth, IsWritten}
 use Rattle.edf_program.specs.Text.{refused_line, memory_line}

@@ -1,12 +1,12 @@
 -- What the lines of a session do in turn, what they submit together, and how it ends.
 use Rattle.std.specs.Prelude.{◌≡◌, ◌⊎◌, ℕ, List, [], ◌∷◌, ◌++◌, length, map, Option, Some, None}
-use Rattle.std.specs.Prelude.{if◌then◌else◌, nat_lt, option_map}
+use Rattle.std.specs.Prelude.{option_map}
 use Rattle.std.specs.List.{AllByRecursion}
 use Rattle.std.specs.Option.{option_to_list}
 use Rattle.sqlite_trees.specs.declared.store.Store.{Ghosts}
 use Rattle.edf_store.specs.Held.{StoreModel}
 use Rattle.edf_intake.specs.Batch.{AreSubmittedAsList}
-use Rattle.edf_program.specs.Status.{exit_code}
+use Rattle.edf_program.specs.Status.{worse}
 use Rattle.edf_program.specs.declared.status.Status.{Status}
 use Rattle.edf_program.specs.declared.status.Status.TheVariants.{Trouble}
 use Rattle.edf_serve.specs.Files.{from_folder, to_folder, LiesBelow, MakesBelow}
@@ -17,10 +17,6 @@ use Rattle.edf_serve.specs.declared.answering.End.{End}
 use Rattle.edf_serve.specs.declared.answering.End.TheVariants as end
 use Rattle.edf_serve.specs.declared.files.Folders.{Folders}
 use Rattle.edf_serve.specs.declared.lines.Next.TheVariants as next
-
--- the worse of two statuses: that with the higher number
-abbrev pub worse : Status → Status → Status
-worse status other = if nat_lt (exit_code status) (exit_code other) then other else status
 
 -- the status of a session that ends so: trouble at every end but that of the input
 abbrev pub status_at : End → Status → Status

@@ -6,7 +6,7 @@ use Rattle.edf_fragment.specs.Failures.{one_more}
 use Rattle.edf_intake.specs.Refusal.{Answer, IsStopped, refusal_number}
 use Rattle.edf_intake.specs.Submitted.{IsSubmitted, IsEnded}
 use Rattle.edf_command.specs.Lines.{refused_file_line, take_memory_line}
-use Rattle.edf_command.specs.Refusals.{IsSpelling}
+use Rattle.edf_program.specs.Text.{IsSpelling}
 use Rattle.edf_program.specs.Output.{Growth, Gets, IsWritten, IsTold}
 use Rattle.edf_program.specs.Status.{status_of_number}
 use Rattle.edf_program.specs.declared.status.Status.{Status}

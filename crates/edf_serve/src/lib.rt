@@ -21,7 +21,6 @@ mod places;
 mod room;
 mod running;
 mod session;
-mod spelling;
 mod standing;
 mod taking;
 mod text;

@@ -2,7 +2,7 @@
 
 ghost use Rattle.std.specs.Prelude.{◌≡◌, Option};
 ghost use Rattle.edf_serve.specs.Exchange.{Exchange};
-ghost use Rattle.edf_serve.specs.Session.{Moment, IsStep, IsWhole, status_at, worse};
+ghost use Rattle.edf_serve.specs.Session.{Moment, IsStep, IsWhole, status_at};
 ghost use Rattle.edf_serve.specs.Work.{point};
 
 use crate::answering::{End, serve_line};
@@ -12,21 +12,10 @@ use crate::lines::{Lines, Next};
 use crate::room::Room;
 use crate::standing::StoreFiles;
 use edf_fragment::Input;
-use edf_program::Status;
+use edf_program::{Status, worse};
 use edf_store::Store;
 use sqlite::Alter;
 use std::alloc::Global;
-
-/// The worse of two statuses: that with the higher number.
-fn worse(status: Status, other: Status) -> Status
-    ensures { result ≡ worse status other }
-{
-    if status.code() < other.code() {
-        other
-    } else {
-        status
-    }
-}
 
 /// The status of a session that ends so, of which this was the worst.
 fn status_at(end: End, worst: Status) -> Status

@@ -2,10 +2,10 @@
 
 ghost use Rattle.std.specs.Prelude.{◌≡◌, ◌⊎◌, ◌↔◌, ℕ, true, List, Option, Err};
 ghost use Rattle.edf_command.specs.Lines.{refused_file_line, take_memory_line};
-ghost use Rattle.edf_command.specs.Refusals.{IsSpelling};
 ghost use Rattle.edf_intake.specs.Refusal.{IsStopped, refusal_number};
 ghost use Rattle.edf_program.specs.Output.{growth, IsWritten, IsTold};
 ghost use Rattle.edf_program.specs.Status.{status_of_number};
+ghost use Rattle.edf_program.specs.Text.{IsSpelling};
 ghost use Rattle.edf_serve.specs.Taking.{SubmitsFile, IsTakenBelow, IsTakenNow, outside_line};
 ghost use Rattle.edf_serve.specs.Work.{Submission, Work, OnlyWrites, point};
 

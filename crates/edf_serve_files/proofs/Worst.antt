@@ -10,14 +10,16 @@ use Rattle.sqlite.specs.declared.error.Error.{Error}
 use Rattle.edf_store.specs.Held.{StoreModel}
 use Rattle.edfserve_arguments.specs.Line.{LineAsked}
 use Rattle.edfserve_arguments.specs.Line.LineAsked.{take, list, runs, runs_of, export, export_of}
-use Rattle.edf_program.specs.Output.{Growth, IsWritten}
+use Rattle.edf_program.specs.Output.{Growth}
+use Rattle.edf_program.specs.Status.{worse}
+use Rattle.edf_program.proofs.Undone.{trouble-told}
 use Rattle.edf_program.specs.declared.status.Status.{Status}
 use Rattle.edf_program.specs.declared.status.Status.TheVariants.{Done, Refused, Usage, Trouble}
 use Rattle.edf_session.specs.Close.{Ran, IsCloseTold}
 use Rattle.edf_session.specs.declared.session.Session.{Session}
 use Rattle.edf_serve.specs.Exchange.{Exchange, IsWorked, IsAnswered}
 use Rattle.edf_serve.specs.Session.{Moment, IsExchange, IsStep, AreExchanges, IsSession}
-use Rattle.edf_serve.specs.Session.{worse, status_at}
+use Rattle.edf_serve.specs.Session.{status_at}
 use Rattle.edf_serve.specs.Work.{Point, Work}
 use Rattle.edf_serve.specs.declared.answering.End.{End}
 use Rattle.edf_serve.specs.declared.answering.End.TheVariants as end
@@ -116,17 +118,11 @@ module _ {S : Type 0} (g : Ghosts S) (folders : Folders) where
 
 -- ---- the sittings
 
--- a line with trouble was written, or not: it is trouble
-told-trouble : (w : Growth) (bytes : List ℕ) (status : Status) →
-    IsWritten w bytes Trouble status → status ≡ Trouble
-told-trouble w bytes status (inl is) = is.1
-told-trouble w bytes status (inr is) = is.1
-
 close-told : (err : Growth) (failure : Option Error) (before status : Status) →
     IsCloseTold err failure before status → status ≢ Trouble → status ≡ before
 close-told err None before status told well = told.1
 close-told err (Some error) before status told well =
-    absurd (well (told-trouble err _ status told.2))
+    absurd (well (trouble-told err _ status told.2))
 
 module _ {D : Type 0} {g : disk.Ghosts D} (cap : ℕ) (folders : Folders) where
   abbrev worst_at : Beside g → StoreModel (FileStore D g) → Status
@@ -157,7 +153,7 @@ module _ {D : Type 0} {g : disk.Ghosts D} (cap : ℕ) (folders : Folders) where
           λ bad. well (is ∙ after-all _ folders (moment i.before ran.old) (moment i.after ran.new)
               ran.does.2.0.all ran.does.0 ran.does.2.0.session bad),
         )
-    | inr none ↦ absurd (well (told-trouble _ _ i.session.status none.2.refuses.line))
+    | inr none ↦ absurd (well (trouble-told _ _ i.session.status none.2.refuses.line))
   ]
 
   -- one whose store is to be opened anew leaves trouble

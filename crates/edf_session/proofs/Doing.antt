@@ -2,7 +2,6 @@
 use Rattle.std.proofs.Common.{◌≡◌, ◌⊎◌, inl, inr, ℕ, List, [], ◌∷◌, length, map, Option, Ok, Err}
 use Rattle.std.proofs.Common.{refl, sym, ap, subst, ◌∙◌, arith}
 use Rattle.std.proofs.lemmas.Simd.{map-map}
-use Rattle.std.proofs.lemmas.List.{append-nil}
 use Rattle.sqlite_disk.specs.declared.Disk as disk
 use Rattle.sqlite_trees.specs.declared.store.Store.{Ghosts}
 use Rattle.sqlite_trees.specs.Tree.{Trees}
@@ -25,8 +24,9 @@ use Rattle.edf_intake.proofs.Turns.{IsMade, turn_of}
 use Rattle.edf_intake.proofs.Batches.{in_turn}
 use Rattle.edfstore_arguments.specs.Arguments.{Asked}
 use Rattle.edfstore_arguments.specs.Arguments.Asked.{take, list, export, convert}
-use Rattle.edf_program.specs.Output.{Growth, IsWritten, Explains, AreTold}
+use Rattle.edf_program.specs.Output.{Growth, Explains, AreTold}
 use Rattle.edf_program.specs.Text.{memory_line}
+use Rattle.edf_program.proofs.Undone.{trouble-told}
 use Rattle.edf_program.specs.declared.status.Status.{Status}
 use Rattle.edf_program.specs.declared.status.Status.TheVariants.{Trouble}
 use Rattle.edf_command.specs.Lines.{first_take_lines, take_status, take_memory_line}
@@ -34,24 +34,6 @@ use Rattle.edf_command.specs.Taking.{IsTaken, HasOpened}
 use Rattle.edf_command.specs.Run.{files_of, IsDone, IsConverted}
 use Rattle.edf_session.specs.Run.{Command, Prints, DoesCommand}
 use Rattle.edf_session.specs.Turns.{TakesTurns}
-
--- nothing was opened, and the answer is trouble
-pub none_opened : (before names : List (List ℕ)) (status : Status) → status ≡ Trouble →
-    HasOpened before before names status
-none_opened before names status is = inr (
-  record {
-    front = [];
-    left = names;
-    parts = refl;
-    opened = sym (append-nil before);
-  },
-  is,
-)
-
-pub is_trouble : (w : Growth) (bytes : List ℕ) (status : Status) →
-    IsWritten w bytes Trouble status → status ≡ Trouble
-is_trouble w bytes status (inl whole) = whole.1
-is_trouble w bytes status (inr front) = front.1
 
 module _ {S : Type 0} (g : Ghosts S) where
   -- ---- no turn
@@ -160,7 +142,7 @@ module _ {D : Type 0} {g : disk.Ghosts D} (bytes : List ℕ → Option (List ℕ
   none_done asked old new status line done opened same told = record {
     turns = [];
     takes = same_turns over_files old new same;
-    does = (done, opened, inr (refl, told.0, is_trouble err line status told.1));
+    does = (done, opened, inr (refl, told.0, trouble-told err line status told.1));
   }
 
   taken : (store : List ℕ) (files : List (List ℕ)) (old new : StoreModel (FileStore D g))

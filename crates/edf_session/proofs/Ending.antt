@@ -44,7 +44,7 @@ use Rattle.edf_session.specs.Close.{Across}
 use Rattle.edf_session.specs.Close.{Ran, IsRefused}
 use Rattle.edf_session.specs.declared.session.Session.{Session}
 use Rattle.edf_session.proofs.Chains.{result}
-use Rattle.edf_session.proofs.Doing.{is_trouble}
+use Rattle.edf_program.proofs.Undone.{trouble-told}
 use Rattle.edf_session.proofs.Idle.{still}
 use Rattle.edf_session.proofs.Keeping.{found_keeps, own_keeps, kept_is_own, keeps_once, read_as}
 use Rattle.edf_session.proofs.LetGo.{LeavesEach, leads, rows_left, ends_in, clean_last, as_it_was}
@@ -64,7 +64,7 @@ pub none_failed : (w : Growth) (failure : Option Error) (before status : Status)
     IsCloseTold w failure before status → status ≢ Trouble → failure ≡ None
 none_failed w None before status told never = refl
 none_failed w (Some error) before status told never =
-    absurd (never (is_trouble w _ status told.2))
+    absurd (never (trouble-told w _ status told.2))
 
 module _ {D : Type 0} {g : Ghosts D} (stays : SeenMayStay g) (r : Run g) (s : Session D)
     (first : Held (FileStore D g))

@@ -23,7 +23,7 @@ use Rattle.edf_intake.specs.Batch.{Turn}
 use Rattle.edfstore_arguments.specs.Arguments.{Asked}
 use Rattle.edfstore_arguments.specs.Arguments.Asked.{take}
 use Rattle.edf_command.specs.Lines.{first_take_lines, take_status, store_refused_line}
-use Rattle.edf_command.specs.Refusals.{IsSpelling}
+use Rattle.edf_program.specs.Text.{IsSpelling}
 use Rattle.edf_command.specs.Run.{IsDone, files_of}
 use Rattle.edf_command.specs.Taking.{HasOpened}
 use Rattle.edf_program.specs.Output.{Growth, Gets, AreTold, IsWritten}

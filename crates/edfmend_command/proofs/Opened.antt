@@ -1,40 +1,19 @@
 -- How often a name was opened.
-use Rattle.std.proofs.Common.{◌≡◌, ◌≢◌, ℕ, List, [], ◌∷◌, ◌++◌, refl, sym, ap, ◌∙◌, arith}
-use Rattle.std.proofs.Common.{replicate, append_assoc, append-nil, inl, inr}
+use Rattle.std.proofs.Common.{◌≡◌, ◌≢◌, ℕ, List, [], ◌∷◌, ◌++◌, refl, ap, ◌∙◌, arith}
+use Rattle.std.proofs.Common.{replicate, append_assoc, inl, inr}
 use Rattle.std.specs.Prelude.{Result, Ok, Err, MatchResult}
-use Rattle.edf_program.specs.Output.{Growth, IsWritten}
+use Rattle.edf_program.specs.Output.{Growth}
 use Rattle.edf_program.specs.declared.status.Status.{Status}
-use Rattle.edf_program.specs.declared.status.Status.TheVariants.{Done, Refused, Trouble}
-use Rattle.std.proofs.Common.{Bool, true, false, suc, Option, Some, None}
-use Rattle.std.specs.Prelude.{if◌then◌else◌}
+use Rattle.edf_program.specs.declared.status.Status.TheVariants.{Done, Trouble}
+use Rattle.std.proofs.Common.{suc, Option, Some, None}
 use Rattle.edf_fragment.specs.Fault.{fragment_fault_number}
 use Rattle.edf_program.specs.Status.{is_trouble}
 use Rattle.edf_mend.specs.declared.fault.MendFault.{MendFault}
 use Rattle.edf_mend.specs.declared.fault.MendFault.TheVariants as fault
 use Rattle.edfmend_command.specs.Lines.{at_fault, why_text, why_status, kept_line, kept_status}
 use Rattle.edfmend_command.specs.Run.{OpensTwice, SaysWhy}
-use Rattle.edfmend_command.specs.Inside.{OpensUpTo}
-
-pub opened-either : {T E : Type 0} (r : Result T E) (before after : List (List ℕ))
-    (name : List ℕ) → after ≡ before ++ (name ∷ []) →
-    MatchResult r (λ _. after ≡ before ++ replicate 1 name)
-    (λ _. OpensUpTo before after name 1)
-opened-either (Ok x) before after name is = is
-opened-either (Err e) before after name is =
-    record { times = 1; few = omega arith; opened = is }
-
-pub opened-none : (before after : List (List ℕ)) (name : List ℕ) → after ≡ before →
-    OpensUpTo before after name 1
-opened-none before after name is = record {
-  times = 0;
-  few = omega arith;
-  opened = is ∙ sym (append-nil before);
-}
-
-pub up-to-two : (before after : List (List ℕ)) (name : List ℕ) → OpensUpTo before after name 1 →
-    OpensUpTo before after name 2
-up-to-two before after name up =
-    record { times = up.times; few = omega (arith, up.few); opened = up.opened }
+use Rattle.edf_program.specs.Opened.{OpensUpTo}
+use Rattle.edf_program.proofs.Undone.{undone, either-undone}
 
 pub then-up : (before mid after : List (List ℕ)) (name : List ℕ) → mid ≡ before ++ (name ∷ []) →
     OpensUpTo mid after name 1 → OpensUpTo before after name 2
@@ -70,15 +49,6 @@ fewer before after name status up undone = record {
 }
 
 -- ---- a refusal is no success
-
-pub undone : (w : Growth) (bytes : List ℕ) (wanted status : Status) → wanted ≢ Done →
-    IsWritten w bytes wanted status → status ≢ Done
-undone w bytes wanted status not (inl whole) done = not (sym whole.1 ∙ done)
-undone w bytes wanted status not (inr front) done = let a = front.1 in cc
-
-either-undone : (b : Bool) → (if b then Trouble else Refused) ≢ Done
-either-undone true done = cc
-either-undone false done = cc
 
 why-undone : (why : MendFault) → why_status why ≢ Done
 why-undone (fault.Refused met) = either-undone (is_trouble (fragment_fault_number met))

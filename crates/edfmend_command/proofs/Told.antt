@@ -5,6 +5,7 @@ use Rattle.std.specs.Prelude.{option_map}
 use Rattle.edf_mend.specs.declared.fault.MendFault.{MendFault}
 use Rattle.edf_mend.specs.declared.fault.MendFault.TheVariants.{Memory}
 use Rattle.edf_program.specs.Output.{Growth, IsWritten}
+use Rattle.edf_program.proofs.Parts.{four-parts}
 use Rattle.edf_program.specs.declared.status.Status.{Status}
 use Rattle.edf_program.specs.declared.status.Status.TheVariants.{Trouble}
 use Rattle.edfmend_command.specs.Lines.{at_fault, why_text, why_status, kept_line}
@@ -17,15 +18,10 @@ use Rattle.edfmend_command.specs.Ledger.{clock_text}
 use Rattle.edf_time.specs.Decimal.{short}
 use Rattle.edf_mend.specs.Names.{rule_name}
 
-four : (a b c d x : List ℕ) → (a ++ (b ++ (c ++ d))) ++ x ≡ a ++ (b ++ (c ++ (d ++ x)))
-four a b c d x = append_assoc a (b ++ (c ++ d)) x
-    ∙ ap (λ (t : List ℕ). a ++ t) (append_assoc b (c ++ d) x
-    ∙ ap (λ (t : List ℕ). b ++ t) (append_assoc c d x))
-
 five : (a b c d e x : List ℕ) →
     (a ++ (b ++ (c ++ (d ++ e)))) ++ x ≡ a ++ (b ++ (c ++ (d ++ (e ++ x))))
 five a b c d e x = append_assoc a (b ++ (c ++ (d ++ e))) x
-    ∙ ap (λ (t : List ℕ). a ++ t) (four b c d e x)
+    ∙ ap (λ (t : List ℕ). a ++ t) (four-parts b c d e x)
 
 module _ (rule : Rule) (e : Edit) (front old new line : List ℕ) where
   pub change-line : front ≡ rule_name rule ++ (codes " at=" ++ (decimal e.at ++ codes " old=")) →
@@ -33,7 +29,7 @@ module _ (rule : Rule) (e : Edit) (front old new line : List ℕ) where
       line ≡ front ++ (old ++ (codes " new=" ++ (new ++ (10 ∷ [])))) → line ≡ change_line rule e
   change-line f o n is =
       is ∙ ap (λ (t : List ℕ). t ++ (old ++ (codes " new=" ++ (new ++ (10 ∷ []))))) f
-      ∙ four (rule_name rule) (codes " at=") (decimal e.at) (codes " old=")
+      ∙ four-parts (rule_name rule) (codes " at=") (decimal e.at) (codes " old=")
       (old ++ (codes " new=" ++ (new ++ (10 ∷ []))))
       ∙ ap (λ (t : List ℕ). rule_name rule ++ (codes " at=" ++ (decimal e.at ++ (codes " old="
       ++ (t ++ (codes " new=" ++ (new ++ (10 ∷ [])))))))) o

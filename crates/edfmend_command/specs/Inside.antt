@@ -1,6 +1,6 @@
 -- What private functions do.
-use Rattle.std.specs.Prelude.{◌≡◌, ◌≢◌, ℕ, ◌≤◌, List, [], ◌∷◌, ◌++◌, Option, Some, None, IfSome}
-use Rattle.std.specs.Prelude.{All, replicate, true}
+use Rattle.std.specs.Prelude.{◌≡◌, ◌≢◌, ℕ, List, [], ◌∷◌, ◌++◌, Option, Some, None, IfSome}
+use Rattle.std.specs.Prelude.{All, true}
 use Rattle.std.specs.Io.KnownBytes.{Appends}
 use Rattle.edf_fragment.specs.declared.fault.FragmentFault.{FragmentFault}
 use Rattle.edf_header.specs.Fields.{recording_field}
@@ -15,12 +15,6 @@ use Rattle.edfmend_command.specs.Made.{MadeFile, begun, finished}
 use Rattle.edfmend_command.specs.Making.{Making}
 use Rattle.edfmend_command.specs.Run.{IsFragmentFile, CountsWrite, LeavesPart}
 use Rattle.edfmend_command.specs.declared.mend_command.Stop.{Stop}
-
--- a name was opened again and again, at most so often
-pub record OpensUpTo (before after : List (List ℕ)) (name : List ℕ) (most : ℕ) : Type 0 where
-  pub times : ℕ
-  pub few : times ≤ most
-  pub opened : after ≡ before ++ replicate times name
 
 module _ (bytes given : Option (List ℕ)) (rules : List Rule) (fault : Option FragmentFault) where
   -- in a second reading, after a first that found this, the mended file was written

@@ -33,10 +33,6 @@ why_status fault.Read = Trouble
 why_status fault.Memory = Trouble
 why_status fault.Write = Trouble
 
--- there is something of the name that the new file was to get
-abbrev pub there_line : List ℕ → List ℕ
-there_line name = name ++ codes " is there already; nothing was written\n"
-
 -- the part of the new file that could not be removed, where one could not be
 abbrev pub kept_line : Option (List ℕ) → List ℕ
 kept_line None = []

@@ -17,11 +17,12 @@ use Rattle.edf_mend.specs.declared.fault.MendFault.TheVariants as fault
 use Rattle.edf_mend.specs.declared.ledger.Ledger.{Ledger}
 use Rattle.edf_mend.specs.declared.rule.Rule.{Rule}
 use Rattle.edf_program.specs.Output.{Growth, Gets, IsWritten, IsTold, Explains}
+use Rattle.edf_program.specs.Text.{there_line}
 use Rattle.edf_program.specs.declared.status.Status.{Status}
 use Rattle.edf_program.specs.declared.status.Status.TheVariants.{Done, Refused, Trouble}
 use Rattle.edfmend_command.specs.Made.{IsFree, MayBeThere, made_file, finished}
 use Rattle.edfmend_command.specs.Making.{Making, MakesNothing}
-use Rattle.edfmend_command.specs.Lines.{at_fault, why_text, why_status, there_line, kept_line}
+use Rattle.edfmend_command.specs.Lines.{at_fault, why_text, why_status, kept_line}
 use Rattle.edfmend_command.specs.Lines.{kept_status}
 use Rattle.edfmend_command.specs.Ledger.{ledger_lines}
 use Rattle.edfmend_command.specs.declared.maker.Stage.TheVariants.{Removed, Kept}

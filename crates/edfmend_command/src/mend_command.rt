@@ -2,11 +2,12 @@
 
 ghost use Rattle.std.specs.Prelude.{◌≡◌, ◌≢◌, ◌⊎◌, ◌++◌, ℕ, List, IfOk, IfErr, MatchResult};
 ghost use Rattle.std.specs.Prelude.{option_map, replicate, string_bytes};
+ghost use Rattle.edf_program.specs.Opened.{OpensUpTo};
 ghost use Rattle.edf_program.specs.Output.{growth};
 ghost use Rattle.edf_mend.specs.Answers.{IsTrouble};
 ghost use Rattle.edf_mend.specs.Mended.{SurveysAs};
 ghost use Rattle.edfmend_command.specs.Inside.{MendsAs, StopsMending, WritesFile, StopsWriting};
-ghost use Rattle.edfmend_command.specs.Inside.{MakesFile, StopsMaking, OpensUpTo};
+ghost use Rattle.edfmend_command.specs.Inside.{MakesFile, StopsMaking};
 ghost use Rattle.edfmend_command.specs.Making.{making};
 ghost use Rattle.edfmend_command.specs.Run.{IsMendedFile, IsNotMended, CountsWrite, left_name};
 ghost use Rattle.edfmend_command.specs.Run.{TellsChanges, LacksChanges, FindsName, MakesMended};
@@ -14,10 +15,10 @@ ghost use Rattle.edfmend_command.specs.Run.{LacksMended, IsMendDone, OpensTwice,
 
 use crate::lines::tell_ledger;
 use crate::maker::Maker;
-use crate::refusal::{refuse, tell_there};
+use crate::refusal::refuse;
 use edf_fragment::{Counted, Input, Output};
 use edf_mend::{Ledger, MendFault, Rule, Survey, mend, survey_file};
-use edf_program::{Inputs, Status};
+use edf_program::{Inputs, Status, tell_there};
 use std::alloc::Global;
 use std::io;
 

@@ -2,7 +2,7 @@
 
 ghost use Rattle.std.specs.Prelude.{◌≡◌, ◌++◌, IfOk, option_map};
 ghost use Rattle.edf_program.specs.Output.{growth, IsWritten};
-ghost use Rattle.edfmend_command.specs.Lines.{form_text, why_text, there_line, kept_line};
+ghost use Rattle.edfmend_command.specs.Lines.{form_text, why_text, kept_line};
 ghost use Rattle.edfmend_command.specs.Lines.{kept_status};
 ghost use Rattle.edfmend_command.specs.Run.{SaysWhy};
 
@@ -13,15 +13,6 @@ use std::alloc::{AllocError, Global};
 
 /// Why there is no memory for more.
 const MEMORY: &[u8; 20] = b" refused E41 Memory\n";
-
-/// Prints that there is something of the name that the new file was to get.
-pub(crate) fn tell_there<F: Output>(err: &mut F, name: &str) -> Status
-    ensures { IsWritten (growth F.Output err.old err.new) (there_line name.now) Status.Refused
-        result }
-{
-    let parts = [name.as_bytes(), b" is there already; nothing was written\n"];
-    tell_parts(err, &parts, Status::Refused)
-}
 
 /// Prints a line about a file, and one about the part of the new file that could not be removed, if
 /// there is one, which is trouble.

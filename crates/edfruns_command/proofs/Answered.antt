@@ -1,14 +1,14 @@
 -- What is answered where something is told.
 use Rattle.std.proofs.Common.{◌≡◌, ◌≢◌, ◌⊎◌, ℕ, List, [], Bool, true, false, inl, inr, refl, subst, suc, ◌++◌, ◌∷◌}
-use Rattle.std.proofs.Common.{ap, ◌∙◌, sym, arith, append_assoc, replicate, codes}
-use Rattle.std.specs.Prelude.{Option, Result, Ok, Err, MatchResult}
+use Rattle.std.proofs.Common.{ap, ◌∙◌, arith, append_assoc, replicate, codes}
+use Rattle.std.specs.Prelude.{Option}
 use Rattle.std.specs.Bool.{MatchBool}
 use Rattle.edf_fragment.specs.declared.fault.FragmentFault.{FragmentFault}
 use Rattle.edf_fragment.specs.declared.fault.FragmentFault.TheVariants.{Memory}
 use Rattle.edf_program.specs.Output.{Growth, Gets, IsPut, IsWritten}
 use Rattle.edf_program.specs.Text.{memory_line}
 use Rattle.edf_program.specs.declared.status.Status.{Status}
-use Rattle.edf_program.specs.declared.status.Status.TheVariants.{Done, Refused, Trouble}
+use Rattle.edf_program.specs.declared.status.Status.TheVariants.{Done, Trouble}
 use Rattle.edf_runs.specs.declared.fault.WriteFault.{WriteFault}
 use Rattle.edf_runs.specs.declared.fault.WriteFault.TheVariants.{Undated, Changed, Read, Write}
 use Rattle.edf_runs.specs.declared.fault.WriteFault.TheVariants.{Memory as NoMemory}
@@ -16,7 +16,7 @@ use Rattle.edf_runs.specs.Written.{CountsFault}
 use Rattle.edf_runs.specs.declared.onset_listing.OnsetFault.{OnsetFault}
 use Rattle.edf_runs.specs.declared.onset_listing.OnsetFault.TheVariants as onset
 use Rattle.edf_fragment.specs.Fault.{fragment_fault_number}
-use Rattle.edfruns_command.proofs.Undone.{number-undone}
+use Rattle.edf_program.proofs.Undone.{undone, refused-undone, trouble-undone, number-undone}
 use Rattle.edfruns_command.specs.Inside.{OpensUpTo, IsPlanRefused}
 use Rattle.edf_runs.specs.declared.joining.Joining.{Joining}
 use Rattle.edfruns_command.specs.JoinedPlan.{HasJoinedFault, LacksJoinedPlan, part_of}
@@ -51,17 +51,6 @@ refused out err bytes name fault status nothing (inr e) (inl said) = inr (
 refused out err bytes name fault status nothing met (inr said) = inr (nothing, said)
 
 -- ---- how often a name was opened
-
-pub opened-once : (before after : List (List ℕ)) (name : List ℕ) → after ≡ before ++ (name ∷ []) →
-    OpensUpTo before after name 1
-opened-once before after name is = record { times = 1; few = omega arith; opened = is }
-
-pub opened-either : {T E : Type 0} (r : Result T E) (before after : List (List ℕ))
-    (name : List ℕ) → after ≡ before ++ (name ∷ []) →
-    MatchResult r (λ _. after ≡ before ++ replicate 1 name)
-    (λ _. OpensUpTo before after name 1)
-opened-either (Ok x) before after name is = is
-opened-either (Err e) before after name is = opened-once before after name is
 
 pub opened-again : (before mid after : List (List ℕ)) (name : List ℕ) (status : Status) →
     mid ≡ before ++ (name ∷ []) → OpensUpTo mid after name 1 → status ≢ Done →
@@ -104,16 +93,6 @@ opened-then before mid after name status first then = record {
 
 -- ---- a refusal is no success
 
-pub trouble-undone : (w : Growth) (bytes : List ℕ) (status : Status) →
-    IsWritten w bytes Trouble status → status ≢ Done
-trouble-undone w bytes status (inl whole) done = let a = whole.1 in cc
-trouble-undone w bytes status (inr front) done = let a = front.1 in cc
-
-pub refused-undone : (w : Growth) (bytes : List ℕ) (status : Status) →
-    IsWritten w bytes Refused status → status ≢ Done
-refused-undone w bytes status (inl whole) done = let a = whole.1 in cc
-refused-undone w bytes status (inr front) done = let a = front.1 in cc
-
 wanted-undone : (why : WriteFault) → run_refused_status why ≢ Done
 wanted-undone Undated done = cc
 wanted-undone Changed done = cc
@@ -123,8 +102,7 @@ wanted-undone Write done = cc
 
 pub run-undone : (w : Growth) (bytes : List ℕ) (why : WriteFault) (status : Status) →
     IsWritten w bytes (run_refused_status why) status → status ≢ Done
-run-undone w bytes why status (inl whole) done = wanted-undone why (sym whole.1 ∙ done)
-run-undone w bytes why status (inr front) done = let a = front.1 in cc
+run-undone w bytes why status = undone w bytes (run_refused_status why) status (wanted-undone why)
 
 -- ---- failed writes
 
@@ -135,10 +113,6 @@ counts-write w old new Changed counts = counts.1
 counts-write w old new Read counts = counts.1
 counts-write w old new NoMemory counts = counts.1
 counts-write w old new Write counts = counts.1
-
-pub err-is : (fault : WriteFault) →
-    ◌≡◌ {A = Result (Unit {0}) WriteFault} (Err fault) (Err Changed) → fault ≡ Changed
-err-is fault same = cc
 
 -- ---- why nothing is written of a file
 
@@ -165,15 +139,10 @@ lacks-joined-plan out err bytes name status by_onset joining nothing (onset.TooM
 lacks-joined-plan out err bytes name status by_onset joining nothing onset.Memory has said =
     inr (inr (nothing, said))
 
-written-undone : (w : Growth) (bytes : List ℕ) (wanted status : Status) → wanted ≢ Done →
-    IsWritten w bytes wanted status → status ≢ Done
-written-undone w bytes wanted status undone (inl whole) done = undone (sym whole.1 ∙ done)
-written-undone w bytes wanted status undone (inr front) done = let a = front.1 in cc
-
 pub plan-undone : (err : Growth) (name part : List ℕ) (fault : OnsetFault) (status : Status) →
     IsPlanRefused err name part fault status → status ≢ Done
 plan-undone err name part (onset.Fragment met) status (inl said) done =
-    written-undone err (file_refused_line name met) (file_refused_status met) status
+    undone err (file_refused_line name met) (file_refused_status met) status
     (number-undone (fragment_fault_number met)) said done
 plan-undone err name part (onset.Fragment met) status (inr said) done =
     trouble-undone err (memory_line name) status said done

@@ -13,7 +13,7 @@ use Rattle.edf_runs.specs.declared.onset_run.OnsetRun.{OnsetRun}
 use Rattle.edfruns_command.specs.Lines.{end_of, gap_text}
 use Rattle.edfruns_command.specs.Counting.{run_front, counts_text, counts_of, counted_line}
 use Rattle.edfruns_command.specs.Counting.{split_lines, file_line, file_front, shifted_text}
-use Rattle.edfruns_command.proofs.RunTexts.{four-parts}
+use Rattle.edf_program.proofs.Parts.{four-parts}
 
 -- the front of the line of a run, whose parts are these
 pub front-of : (spell : ℕ → List ℕ) (d number : ℕ) (r : Run) (next : Option Run)

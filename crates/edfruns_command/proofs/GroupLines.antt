@@ -9,13 +9,12 @@ use Rattle.std.proofs.lemmas.List.Elements.{All-nil, All-cons, All-head}
 use Rattle.edf_runs.specs.declared.run.Run.{Run}
 use Rattle.edfruns_command.specs.Inside.{IsFrontGroup}
 use Rattle.edfruns_command.specs.Joining.{AreClose, AreApart, AreJoined, AreSeen, next_run}
-use Rattle.std.proofs.lemmas.List.Sums.{sum_by_push}
 use Rattle.edfruns_command.specs.Joining.{group_line, group_lines, records_of, last_of, span_of}
 use Rattle.edfruns_command.specs.Joining.{missing_in, end_text}
 use Rattle.edfruns_command.specs.Lines.{end_of, gap_text}
 use Rattle.edf_time.specs.Decimal.{short}
 use Rattle.std.proofs.Common.{codes, decimal}
-use Rattle.edfruns_command.proofs.RunTexts.{four-parts}
+use Rattle.edf_program.proofs.Parts.{four-parts}
 
 -- ---- close runs
 
@@ -176,14 +175,6 @@ one_line_more spell d most label number group gs later text line next is =
     ++ (group_line spell most d number group n ++ others))) (sym next)
 
 -- ---- sums
-
-pub records_more : (runs : List Run) (at : ℕ) (run : Run) → at < length runs →
-    run ≡ get_or runs at run → records_of (take (at + 1) runs) ≡ records_of (take at runs)
-    + run.records
-records_more runs at run lt is =
-    ap records_of (take_more runs at run lt
-    ∙ ap (λ (r : Run). take at runs ++ (r ∷ [])) (sym is))
-    ∙ sum_by_push (λ (r : Run). r.records) (take at runs) run
 
 -- ---- the line of a group
 

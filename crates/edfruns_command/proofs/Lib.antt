@@ -3,7 +3,6 @@ mod GroupLines
 mod Groups
 mod Listed
 mod CountedLines
-mod Undone
 mod Answered
 mod Rereading
 mod Walking

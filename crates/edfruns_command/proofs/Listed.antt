@@ -6,13 +6,13 @@ use Rattle.std.proofs.Common.{take-append-drop}
 use Rattle.std.proofs.lemmas.List.{map-append, take_more, drop_more}
 use Rattle.std.specs.Prelude.{Option, Result, Ok, Err, MatchResult}
 use Rattle.edf_program.specs.Output.{Growth, Gets, GetsFront, IsWritten}
-use Rattle.edf_program.specs.Status.{exit_code}
+use Rattle.edf_program.specs.Status.{exit_code, worse}
 use Rattle.edf_program.specs.declared.status.Status.{Status}
 use Rattle.edf_program.specs.declared.status.Status.TheVariants.{Done, Refused, Usage, Trouble}
 use Rattle.edfruns_command.specs.Inside.{OpensUpTo}
 use Rattle.edfruns_command.specs.Lines.{standard_output, unwritten_line}
 use Rattle.edfruns_command.specs.Listed.{AreListed, IsFileListed, CutsLines, TellsRuns}
-use Rattle.edfruns_command.specs.Listed.{Held, between, file_label, worse, OpensSome, OpensEach}
+use Rattle.edfruns_command.specs.Listed.{Held, between, file_label, OpensSome, OpensEach}
 
 -- ---- the worse of two
 

@@ -6,14 +6,8 @@ use Rattle.std.specs.Prelude.{Option, Some, None, option_map, slice_get}
 use Rattle.std.proofs.lemmas.List.{drop_more}
 use Rattle.edf_time.specs.Decimal.{short}
 use Rattle.edf_runs.specs.declared.run.Run.{Run}
+use Rattle.edf_program.proofs.Parts.{four-parts}
 use Rattle.edfruns_command.specs.Lines.{end_of, gap_text, run_line, run_lines}
-
-pub four-parts : (a b c d rest : List ℕ) → (a ++ (b ++ (c ++ d))) ++ rest ≡ a
-    ++ (b ++ (c ++ (d ++ rest)))
-four-parts a b c d rest =
-    append_assoc a (b ++ (c ++ d)) rest
-    ∙ ap (λ (t : List ℕ). a ++ t) (append_assoc b (c ++ d) rest
-    ∙ ap (λ (t : List ℕ). b ++ t) (append_assoc c d rest))
 
 -- the line of a run, whose parts are these
 pub line-of : (spell : ℕ → List ℕ) (d number : ℕ) (r : Run) (next : Option Run)

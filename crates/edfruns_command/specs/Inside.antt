@@ -1,5 +1,5 @@
 -- What private functions do.
-use Rattle.std.specs.Prelude.{◌≡◌, ℕ, ◌+◌, ◌-◌, ◌≤◌, ◌<◌, List, [], ◌++◌, replicate, codes}
+use Rattle.std.specs.Prelude.{◌≡◌, ℕ, ◌+◌, ◌-◌, ◌<◌, List, [], ◌++◌, codes}
 use Rattle.std.specs.Prelude.{Option, Some, None, length, take, slice_get, ◌⊎◌}
 use Rattle.edf_program.specs.Output.{Growth, IsWritten}
 use Rattle.edf_program.specs.Text.{memory_line}
@@ -11,11 +11,7 @@ use Rattle.edf_runs.specs.declared.run.Run.{Run}
 use Rattle.edfruns_command.specs.Joining.{AreClose}
 use Rattle.edfruns_command.specs.Lines.{crowded_line, file_refused_line, file_refused_status}
 
--- a name was opened again and again, at most so often
-pub record OpensUpTo (before after : List (List ℕ)) (name : List ℕ) (most : ℕ) : Type 0 where
-  pub times : ℕ
-  pub few : times ≤ most
-  pub opened : after ≡ before ++ replicate times name
+pub use Rattle.edf_program.specs.Opened.{OpensUpTo}
 
 -- ---- labels of lines
 

@@ -1,7 +1,6 @@
 -- The lines that the program writes: functions of names, runs and faults. A line ends with byte 10.
-use Rattle.std.specs.Prelude.{ℕ, ◌+◌, ◌-◌, ◌<◌, List, [], ◌∷◌, ◌++◌, codes, decimal, Option}
+use Rattle.std.specs.Prelude.{ℕ, ◌+◌, ◌-◌, List, [], ◌∷◌, ◌++◌, codes, decimal, Option}
 use Rattle.std.specs.Prelude.{Some, None, slice_get}
-use Rattle.edf_time.specs.Civil.{window, IsInstantText}
 use Rattle.edf_time.specs.Decimal.{short}
 use Rattle.edf_fragment.specs.Fault.{fragment_fault_number, fragment_fault_name}
 use Rattle.edf_fragment.specs.declared.fault.FragmentFault.{FragmentFault}
@@ -14,9 +13,7 @@ use Rattle.edf_runs.specs.declared.run.Run.{Run}
 use Rattle.edf_runs.specs.declared.fault.WriteFault.{WriteFault}
 use Rattle.edf_runs.specs.declared.fault.WriteFault.TheVariants as run
 
--- how instants are written: each of the window by its text, of which it has one by a law
-abbrev pub IsSpelling : (ℕ → List ℕ) → Type 0
-IsSpelling spell = (instant : ℕ) → instant < window → IsInstantText (spell instant) instant
+pub use Rattle.edf_program.specs.Text.{IsSpelling}
 
 -- ---- lines of runs, whose data records last d nanoseconds
 
@@ -100,9 +97,6 @@ run_refused_status fault = Trouble
 -- `FILE outside=N`: of how many annotations no data record has the onset
 abbrev pub outside_line : List ℕ → ℕ → List ℕ
 outside_line name count = name ++ (codes " outside=" ++ (decimal count ++ (10 ∷ [])))
-
-abbrev pub there_line : List ℕ → List ℕ
-there_line name = name ++ codes " is there already; nothing was written\n"
 
 abbrev pub left_line : List ℕ → List ℕ
 left_line name = name ++ codes " could not be removed\n"

@@ -1,9 +1,9 @@
 -- What `list` does: what it writes, the status that it answers, and which files it opens.
 use Rattle.std.specs.Prelude.{◌≡◌, ◌⊎◌, ℕ, List, [], ◌∷◌, ◌++◌, Bool, true, false, Option}
-use Rattle.std.specs.Prelude.{nat_lt, length, codes, if◌then◌else◌}
+use Rattle.std.specs.Prelude.{nat_lt, length, codes}
 use Rattle.edf_field.specs.Number.{duration_of}
 use Rattle.edf_program.specs.Output.{Growth, Gets, GetsFront, IsWritten}
-use Rattle.edf_program.specs.Status.{exit_code}
+use Rattle.edf_program.specs.Status.{worse}
 use Rattle.edf_program.specs.declared.status.Status.{Status}
 use Rattle.edf_program.specs.declared.status.Status.TheVariants.{Done, Trouble}
 use Rattle.edf_runs.specs.declared.run.Run.{Run}
@@ -68,10 +68,6 @@ between old new = record {
   after = new.contents;
   failed_after = new.failures;
 }
-
--- the worse of two statuses: that with the higher number
-abbrev pub worse : Status → Status → Status
-worse status other = if nat_lt (exit_code status) (exit_code other) then other else status
 
 module _ (bytes : List ℕ → Option (List ℕ)) (several : Bool) (most : Option ℕ) where
   -- of what the two writers held before and after: each file was listed or refused, in the order of

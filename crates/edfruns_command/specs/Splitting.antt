@@ -9,6 +9,7 @@ use Rattle.edf_fragment.specs.Failures.{one_more}
 use Rattle.edf_fragment.specs.Fragment.{DataRecord}
 use Rattle.edf_fragment.specs.Whole.{ReadsFragment}
 use Rattle.edf_program.specs.Output.{Growth, Gets, GetsFront, Explains}
+use Rattle.edf_program.specs.Text.{there_line}
 use Rattle.edf_program.specs.declared.status.Status.{Status}
 use Rattle.edf_program.specs.declared.status.Status.TheVariants.{Done, Refused}
 use Rattle.edf_runs.specs.File.{IsRunFile}
@@ -21,7 +22,7 @@ use Rattle.edf_runs.specs.declared.onset_run.OnsetRun.{OnsetRun}
 use Rattle.edf_runs.specs.declared.onset_listing.OnsetListing.{OnsetListing}
 use Rattle.edf_runs.specs.declared.fault.WriteFault.{WriteFault}
 use Rattle.edfruns_command.specs.Naming.{run_names, asked_names}
-use Rattle.edfruns_command.specs.Lines.{IsSpelling, there_line, undated_line, reread_line}
+use Rattle.edfruns_command.specs.Lines.{IsSpelling, undated_line, reread_line}
 use Rattle.edfruns_command.specs.Lines.{unwritten_line, standard_output}
 use Rattle.edfruns_command.specs.Counting.{split_lines}
 use Rattle.edfruns_command.specs.Made.{MadeFile, IsHalf, IsFree, MayBeThere, RemovesMade}

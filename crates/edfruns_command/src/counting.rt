@@ -10,10 +10,9 @@ ghost use Rattle.edfruns_command.specs.Counting.{shifted_text};
 ghost use Rattle.edfruns_command.specs.Lines.{IsSpelling};
 
 use crate::lines::gap_text;
-use crate::texts::{joined, spelled};
 use edf_field::MOST_DURATION;
 use edf_fragment::Output;
-use edf_program::{Status, tell_parts};
+use edf_program::{Status, joined, spelled, tell_parts};
 use edf_runs::{OnsetListing, OnsetRun, Run, Written};
 use edf_time::write_seconds;
 use itoa::Buffer;

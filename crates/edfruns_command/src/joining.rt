@@ -9,8 +9,8 @@ ghost use Rattle.edfruns_command.specs.Joining.{each_line, records_of};
 ghost use Rattle.edfruns_command.specs.Lines.{IsSpelling, end_of};
 
 use crate::lines::{gap_text, run_at};
-use crate::texts::{joined, spelled};
 use edf_field::MOST_DURATION;
+use edf_program::{joined, spelled};
 use edf_runs::{Listing, Run};
 use edf_time::write_seconds;
 use std::alloc::{AllocError, Global};

@@ -29,7 +29,6 @@ mod runs_command;
 mod signals;
 mod split_command;
 mod stop;
-mod texts;
 mod tolerance;
 mod write_command;
 

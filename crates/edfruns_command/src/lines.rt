@@ -6,8 +6,8 @@ ghost use Rattle.edf_field.specs.Number.{duration_of};
 ghost use Rattle.edfruns_command.specs.Inside.{label_in, label_text};
 ghost use Rattle.edfruns_command.specs.Lines.{IsSpelling, end_of, gap_text, run_line, run_lines};
 
-use crate::texts::{joined, spelled};
 use edf_field::MOST_DURATION;
+use edf_program::{joined, spelled};
 use edf_runs::{Listing, Run};
 use edf_time::write_seconds;
 use std::alloc::{AllocError, Global};

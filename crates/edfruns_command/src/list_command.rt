@@ -9,18 +9,17 @@ ghost use Rattle.edfruns_command.specs.Inside.{OpensUpTo};
 ghost use Rattle.edfruns_command.specs.Joining.{AreSeen, group_lines};
 ghost use Rattle.edfruns_command.specs.Lines.{IsSpelling, standard_output, unwritten_line};
 ghost use Rattle.edfruns_command.specs.Listed.{CutsLines, IsFileListed, IsListOut, OpensEach};
-ghost use Rattle.edfruns_command.specs.Listed.{are_several, file_label, worse};
+ghost use Rattle.edfruns_command.specs.Listed.{are_several, file_label};
 ghost use Rattle.edfruns_command.specs.Listing.{HasRuns, HasFault};
 
 use crate::arguments::required_value;
 use crate::joining::list_text;
 use crate::refusal::{STANDARD_OUTPUT, refuse, tell_unwritten};
 use crate::runs_command::RunsCommand;
-use crate::texts::joined;
 use crate::tolerance::{read_tolerance, tolerance_option};
 use clap::{Arg, ArgAction, ArgMatches, Command};
 use edf_fragment::{FragmentFault, Output, send};
-use edf_program::{CommandFault, Inputs, Status, tell_memory};
+use edf_program::{CommandFault, Inputs, Status, joined, tell_memory, worse};
 use edf_runs::{Listing, list_runs};
 use std::alloc::{AllocError, Global};
 
@@ -190,17 +189,6 @@ fn list_file<I: Inputs, O: Output, F: Output>(
     match text_of(alloc, file, several, tolerance, &listing) {
         Ok(text) => send_lines(text.as_slice(), out, err),
         Err(_) => Ok(tell_memory(err, file)),
-    }
-}
-
-/// The worse of two statuses: that with the higher number.
-fn worse(status: Status, other: Status) -> Status
-    ensures { result ≡ worse status other }
-{
-    if status.code() < other.code() {
-        other
-    } else {
-        status
     }
 }
 

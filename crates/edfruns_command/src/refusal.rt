@@ -6,7 +6,7 @@ ghost use Rattle.edf_program.specs.Output.{growth, IsPut, IsWritten};
 ghost use Rattle.edf_program.specs.Text.{memory_line};
 ghost use Rattle.edfruns_command.specs.Canonical.{TellsOutside};
 ghost use Rattle.edfruns_command.specs.Lines.{file_refused_line, file_refused_status};
-ghost use Rattle.edfruns_command.specs.Lines.{no_run_line, there_line, left_line, undated_line};
+ghost use Rattle.edfruns_command.specs.Lines.{no_run_line, left_line, undated_line};
 ghost use Rattle.edfruns_command.specs.Lines.{crowded_line};
 ghost use Rattle.edfruns_command.specs.Lines.{run_refused_line, run_refused_status};
 ghost use Rattle.edfruns_command.specs.Lines.{reread_line, unwritten_line};
@@ -191,15 +191,6 @@ pub(crate) fn tell_no_run<F: Output>(err: &mut F, number: u32) -> Status
     let mut buffer = Buffer::new();
     let digits = buffer.format(number);
     let parts = [b"no run ".as_slice(), digits.as_bytes(), b"\n"];
-    tell_parts(err, &parts, Status::Refused)
-}
-
-/// Prints that there is something of the name that a file was to get.
-pub(crate) fn tell_there<F: Output>(err: &mut F, name: &str) -> Status
-    ensures { IsWritten (growth F.Output err.old err.new) (there_line name.now) Status.Refused
-        result }
-{
-    let parts = [name.as_bytes(), b" is there already; nothing was written\n"];
     tell_parts(err, &parts, Status::Refused)
 }
 

@@ -16,14 +16,14 @@ use crate::making::make_files;
 use crate::naming::{push_first_names, run_names};
 use crate::outputs::Outputs;
 use crate::planning::{by_onset_option, is_by_onset, part_of, plan_joined, refuse_plan};
-use crate::refusal::{STANDARD_OUTPUT, tell_there, tell_undated};
+use crate::refusal::{STANDARD_OUTPUT, tell_undated};
 use crate::removing::give_up;
 use crate::runs_command::RunsCommand;
 use crate::stop::Stop;
 use crate::tolerance::{joining_option, read_shift, read_tolerance, shift_option};
 use clap::{ArgMatches, Command};
 use edf_fragment::{Output, send};
-use edf_program::{CommandFault, Inputs, Status, refuse_value, tell_memory};
+use edf_program::{CommandFault, Inputs, Status, refuse_value, tell_memory, tell_there};
 use edf_runs::{Joining, OnsetListing};
 use std::alloc::{AllocError, Global};
 

@@ -2,7 +2,7 @@ use Rattle.std.proofs.Common.{◌≡◌, ℕ, List}
 use Rattle.sqlite.specs.State.{HasCleanDisk}
 use Rattle.edf_holdings.specs.Holdings.{Holdings}
 use Rattle.edf_store.specs.Held.{at, Holds, Stays}
-use Rattle.edf_command.specs.Refusals.{IsSpelling}
+use Rattle.edf_program.specs.Text.{IsSpelling}
 use Rattle.edf_command.specs.Lines.{first_list_lines}
 use Rattle.edf_program.specs.Output.{growth, Gets}
 use Rattle.edf_command.specs.Listing.{AreHeldBy}

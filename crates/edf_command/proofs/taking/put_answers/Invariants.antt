@@ -1,6 +1,6 @@
 use Rattle.std.proofs.Common.{ℕ, List, map, take, length, string_bytes}
 use Rattle.std.specs.List.{flat_map, zip}
-use Rattle.edf_command.specs.Refusals.{IsSpelling}
+use Rattle.edf_program.specs.Text.{IsSpelling}
 use Rattle.edf_command.specs.Lines.{take_line}
 use Rattle.edf_program.specs.Output.{growth, Gets}
 use Rattle.edf_command.proofs.taking.put_answers.Given as goal

@@ -1,5 +1,6 @@
 use Rattle.std.proofs.Common.{◌≡◌, fold, take}
-use Rattle.edf_command.specs.Lines.{answer_status, worse}
+use Rattle.edf_program.specs.Status.{worse}
+use Rattle.edf_command.specs.Lines.{answer_status}
 use Rattle.edf_program.specs.declared.status.Status.TheVariants.{Done}
 use Rattle.edf_command.proofs.taking.take_status.Given as goal
 

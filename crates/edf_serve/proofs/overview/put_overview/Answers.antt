@@ -1,5 +1,5 @@
 use Rattle.std.proofs.Common.{◌∙◌, List, ℕ, inl, inr, subst}
-use Rattle.edf_command.specs.Refusals.{IsSpelling}
+use Rattle.edf_program.specs.Text.{IsSpelling}
 use Rattle.edf_program.specs.Output.{growth, IsWritten}
 use Rattle.edf_program.specs.declared.status.Status.TheVariants.{Done}
 use Rattle.edf_serve.specs.Overview.{overview_line}

@@ -4,7 +4,9 @@ use Rattle.std.proofs.lemmas.Result.{err_from_is_err_and}
 use Rattle.edf_program.specs.Output.{growth}
 use Rattle.edf_runs.specs.Canonical.{IsNotCanonical}
 use Rattle.edf_runs.specs.declared.fault.WriteFault.{WriteFault}
-use Rattle.edfruns_command.proofs.Answered.{opened-once, counts-write, err-is}
+use Rattle.edf_program.proofs.Opened.{opened-once}
+use Rattle.edf_runs.proofs.Whole.{err_is}
+use Rattle.edfruns_command.proofs.Answered.{counts-write}
 use Rattle.edfruns_command.proofs.canonical_command.write_planned.Goals as goal
 
 pub returns-in_err-write_canonical-clause-opened : goal.returns-in_err-write_canonical-clause-opened
@@ -28,7 +30,7 @@ returns-in_err-write_canonical-clause-answer g c =
           told.refused;
       unchanged = λ bytes k records known spells is. λ changed.
           told.unchanged bytes k records (same ∙ known) spells is
-          (ap (λ (w : WriteFault). Err w) (err-is why changed));
+          (ap (λ (w : WriteFault). Err w) (err_is why changed));
       counted = counts-write (growth g.O.Output c.args.out.now c.write_canonical.new.out) _ _ why
           told.counted;
     })))

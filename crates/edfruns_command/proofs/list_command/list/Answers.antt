@@ -5,7 +5,7 @@ use Rattle.edf_program.specs.Output.{growth}
 use Rattle.edf_program.specs.declared.status.Status.{Status}
 use Rattle.edfruns_command.specs.Inside.{OpensUpTo}
 use Rattle.edfruns_command.specs.Lines.{standard_output, unwritten_line}
-use Rattle.edfruns_command.proofs.Answered.{trouble-undone}
+use Rattle.edf_program.proofs.Undone.{trouble-undone}
 use Rattle.edfruns_command.specs.Listed.{AreListed, StopsListing, IsFileListed, CutsLines, OpensEach}
 use Rattle.edfruns_command.specs.Listed.{held_before, held_after, file_label}
 use Rattle.edfruns_command.proofs.Listed.{listed_more, each_more, each_cut, names_more, names_around}

@@ -11,7 +11,7 @@ use Rattle.edf_runs.specs.declared.onset_run.OnsetRun.{OnsetRun}
 use Rattle.edfruns_command.specs.Writing.{ReadsAgain}
 use Rattle.edfruns_command.specs.Splitting.{making}
 use Rattle.edfruns_command.specs.InsideMaking.{MakesFirst, StopsEach, Ends, StopsAtEnd}
-use Rattle.edfruns_command.proofs.Answered.{opened-once}
+use Rattle.edf_program.proofs.Opened.{opened-once}
 use Rattle.edfruns_command.proofs.Rereads.{not-opened, not-reopened, stops-making, stops-after}
 use Rattle.edfruns_command.proofs.Rereads.{all-made, rereads-with}
 use Rattle.edfruns_command.proofs.making.make_files.Goals as goal

@@ -14,7 +14,8 @@ use Rattle.edfruns_command.specs.Naming.{run_name, run_names, first_names, asked
 use Rattle.edfruns_command.specs.Splitting.{Making, making}
 use Rattle.edfruns_command.specs.InsideSplit.{SplitsListed}
 use Rattle.edfruns_command.proofs.Answered.{opened-first, opened-then, opened-refused}
-use Rattle.edfruns_command.proofs.Answered.{refused-undone, trouble-undone, plan-undone}
+use Rattle.edf_program.proofs.Undone.{refused-undone, trouble-undone}
+use Rattle.edfruns_command.proofs.Answered.{plan-undone}
 use Rattle.edfruns_command.proofs.Answered.{lacks-joined-plan}
 use Rattle.edfruns_command.proofs.GivingUp.{take-front}
 use Rattle.edfruns_command.proofs.Splits.{splits, as-before, names-count}

@@ -13,8 +13,9 @@ use Rattle.edf_runs.specs.WrittenByOnset.{annotated}
 use Rattle.edf_program.proofs.Puts.{nothing-gets}
 use Rattle.edfruns_command.specs.Writing.{WritesAgain, StopsAgain}
 use Rattle.edfruns_command.proofs.Answered.{opened-first, opened-again, opened-twice}
-use Rattle.edfruns_command.proofs.Answered.{opened-refused, refused-undone, run-undone}
-use Rattle.edfruns_command.proofs.Answered.{trouble-undone, plan-undone, lacks-plan}
+use Rattle.edf_program.proofs.Undone.{refused-undone, trouble-undone}
+use Rattle.edfruns_command.proofs.Answered.{opened-refused, run-undone}
+use Rattle.edfruns_command.proofs.Answered.{plan-undone, lacks-plan}
 use Rattle.edfruns_command.proofs.CountedLines.{told-line}
 use Rattle.edfruns_command.proofs.write_command.write.Goals as goal
 

@@ -14,7 +14,8 @@ use Rattle.edf_runs.specs.declared.run.Run.{Run}
 use Rattle.edf_runs.specs.declared.onset_run.OnsetRun.{OnsetRun}
 use Rattle.edf_runs.specs.declared.fault.WriteFault.{WriteFault}
 use Rattle.edfruns_command.specs.Writing.{SkipsRuns, StopsSkipping, ReadsAgain}
-use Rattle.edfruns_command.proofs.Answered.{opened-once, counts-write}
+use Rattle.edf_program.proofs.Opened.{opened-once}
+use Rattle.edfruns_command.proofs.Answered.{counts-write}
 use Rattle.edfruns_command.proofs.write_command.write_again.Goals as goal
 
 pub returns-in_err-fragment-clause-opened : goal.returns-in_err-fragment-clause-opened

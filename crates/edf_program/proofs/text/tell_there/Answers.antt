@@ -1,7 +1,7 @@
 use Rattle.std.proofs.Common.{◌++◌, ℕ, List, ap, subst, codes}
 use Rattle.edf_program.specs.Output.{growth, IsWritten}
 use Rattle.edf_program.specs.declared.status.Status.TheVariants.{Refused}
-use Rattle.edfruns_command.proofs.refusal.tell_there.Goals as goal
+use Rattle.edf_program.proofs.text.tell_there.Goals as goal
 
 pub returns : goal.returns
 returns g c =

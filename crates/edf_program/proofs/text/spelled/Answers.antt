@@ -1,7 +1,7 @@
 use Rattle.std.proofs.Common.{◌<◌, arith}
 use Rattle.edf_time.specs.Civil.{window}
 use Rattle.edf_time.proofs.Cited.{one-instant_text}
-use Rattle.edfruns_command.proofs.texts.spelled.Goals as goal
+use Rattle.edf_program.proofs.text.spelled.Goals as goal
 
 pub returns : goal.returns
 returns c spell is =
