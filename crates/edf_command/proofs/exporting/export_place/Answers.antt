@@ -8,7 +8,8 @@ use Rattle.edf_export.specs.declared.fault.ExportFault.TheVariants.{Store}
 use Rattle.edf_command.specs.Lines.{no_recording_line}
 use Rattle.edf_program.specs.Output.{growth, Explains}
 use Rattle.edf_program.specs.declared.status.Status.TheVariants.{Refused}
-use Rattle.edf_command.proofs.Staying.{was-clean, is-refusal, not-failed}
+use Rattle.edf_export.proofs.Walks.{clean_before}
+use Rattle.edf_command.proofs.Staying.{is-refusal, not-failed}
 use Rattle.edf_program.proofs.Puts.{nothing-gets}
 use Rattle.edf_command.proofs.exporting.export_place.Goals as goal
 
@@ -48,7 +49,7 @@ returns-in-Some g c =
         keys = c.in-Ok.recordings.items;
         key = c.in-Some.identity.now;
         are_keys = c.in-Ok.ensures.keys
-            (was-clean g.S.Store mid new c.export_recording.ensures.stays
+            (clean_before g.S.Store mid new c.export_recording.ensures.stays
             clean) h holds;
         is_at = ap at (sym c.as_slice.ensures.value) ∙ sym c.in-Some.ensures;
         exported = c.export_recording.ensures.exported clean h

@@ -8,7 +8,8 @@ use Rattle.edf_command.specs.Lines.{first_list_lines}
 use Rattle.edf_program.specs.Output.{growth, Gets, AreLinesPut}
 use Rattle.edf_program.specs.declared.status.Status.TheVariants.{Done}
 use Rattle.edf_program.proofs.Puts.{nothing-gets, trouble-lines}
-use Rattle.edf_command.proofs.Staying.{was-clean, is-refusal, not-failed}
+use Rattle.edf_export.proofs.Walks.{clean_before}
+use Rattle.edf_command.proofs.Staying.{is-refusal, not-failed}
 use Rattle.edf_command.proofs.listing.list.Goals as goal
 
 pub returns-in-Err : goal.returns-in-Err
@@ -46,7 +47,7 @@ returns-in-Ok-true g c =
         refl,
       );
       listed = λ clean h holds.
-          let are = c.in-Ok.ensures.keys (was-clean g.S.Store mid new c.in-Ok-true.ensures.stays
+          let are = c.in-Ok.ensures.keys (clean_before g.S.Store mid new c.in-Ok-true.ensures.stays
           clean) h holds in
           let held : List Key → Type 0 = λ ks. AreHeldBy h ks in
           let all = subst held (sym c.as_slice.ensures.value) (λ k has. (are.held k).0 has) in
@@ -83,7 +84,7 @@ returns-in-Ok-false g c =
         refl,
       ));
       listed = λ clean h holds.
-          let are = c.in-Ok.ensures.keys (was-clean g.S.Store mid new c.in-Ok-false.ensures.stays
+          let are = c.in-Ok.ensures.keys (clean_before g.S.Store mid new c.in-Ok-false.ensures.stays
           clean) h holds in
           let held : List Key → Type 0 = λ ks. AreHeldBy h ks in
           let all = subst held (sym c.as_slice.ensures.value) (λ k has. (are.held k).0 has) in
@@ -122,7 +123,7 @@ returns g c =
       ));
       listed = λ clean h holds.
           let are = c.in-Ok.ensures.keys
-          (was-clean g.S.Store mid new c.in-Err-put_recordings.ensures.stays clean) h holds in
+          (clean_before g.S.Store mid new c.in-Err-put_recordings.ensures.stays clean) h holds in
           let held : List Key → Type 0 = λ ks. AreHeldBy h ks in
           let all = subst held (sym c.as_slice.ensures.value) (λ k has. (are.held k).0 has) in
           let stop = c.in-Err-put_recordings.ensures.refused clean in

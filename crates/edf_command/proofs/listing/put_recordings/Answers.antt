@@ -6,13 +6,13 @@ use Rattle.edf_store.proofs.Readiness.{stays_then}
 use Rattle.edf_command.specs.Lines.{list_line, list_lines, first_list_lines}
 use Rattle.edf_program.specs.Output.{growth, Gets, IsLinePut}
 use Rattle.edf_program.proofs.Puts.{nothing-gets, gets-after, gets-no_more, stops-after}
-use Rattle.edf_command.proofs.Staying.{stays-same, was-clean}
+use Rattle.edf_export.proofs.Walks.{stays_same, clean_before}
 use Rattle.edf_command.proofs.Written.{listed-next, listed-past}
 use Rattle.edf_command.proofs.listing.put_recordings.Goals as goal
 
 pub loop-at-init : goal.loop-at-init
 loop-at-init g c = record {
-  stays = stays-same g.S.Store c.args.store.now;
+  stays = stays_same g.S.Store c.args.store.now;
   counted = refl;
   put = λ clean h holds held spell is. nothing-gets (g.O.Output.contents c.args.out.now)
       (g.O.Output.failures c.args.out.now);
@@ -36,7 +36,7 @@ loop-at-preserved g c =
           Gets (growth g.O.Output c.args.out.now c.put_recording.new.out) bytes in
           let some = held key (at, c.loop-at-test.true, sym c.index-recordings-at.is) in
           let first = c.loop-at.invariant.put
-          (was-clean g.S.Store mid new c.in_ok-put_recording.ensures.stays clean) h holds held
+          (clean_before g.S.Store mid new c.in_ok-put_recording.ensures.stays clean) h holds held
           spell is in
           let IsOne : Bool → Type 0 = λ written.
           IsLinePut (growth g.O.Output c.loop-at.out c.put_recording.new.out)
@@ -69,7 +69,7 @@ returns-then-not-branch g c =
       put = λ clean h spell holds held is.
           let some = held key (at, c.loop-at-test.true, sym c.index-recordings-at.is) in
           let first = c.loop-at.invariant.put
-          (was-clean g.S.Store mid new c.in_ok-put_recording.ensures.stays clean) h holds held
+          (clean_before g.S.Store mid new c.in_ok-put_recording.ensures.stays clean) h holds held
           spell is in
           let IsOne : Bool → Type 0 = λ written.
           IsLinePut (growth g.O.Output c.loop-at.out c.put_recording.new.out)
@@ -121,7 +121,7 @@ returns-in_err-put_recording-clause-refused g c clean =
                 (c.loop-at.invariant.stays.holdings h holds) some,
             λ spell is.
                 let first = c.loop-at.invariant.put
-                (was-clean g.S.Store mid new c.in_err-put_recording.ensures.stays clean) h holds
+                (clean_before g.S.Store mid new c.in_err-put_recording.ensures.stays clean) h holds
                 held spell is in
                 gets-no_more (g.O.Output.contents c.args.out.now)
                 (g.O.Output.failures c.args.out.now) (g.O.Output.contents c.loop-at.out)

@@ -2,7 +2,7 @@ use Rattle.std.proofs.Common.{Option, subst}
 use Rattle.std.proofs.lemmas.Result.{err_from_is_err_and}
 use Rattle.edf_store.specs.Overview.{IsSummary}
 use Rattle.edf_store.specs.declared.overview.Summary.{Summary}
-use Rattle.edf_command.proofs.Staying.{was-clean}
+use Rattle.edf_export.proofs.Walks.{clean_before}
 use Rattle.edf_command.proofs.Texts.{first-start}
 use Rattle.edf_command.specs.Lines.{first_start}
 use Rattle.edf_serve.proofs.Found.{spelled-first}
@@ -12,7 +12,7 @@ use Rattle.edf_serve.proofs.finding.begins_at.Goals as goal
 pub returns-in_err-summary-clause-begins : goal.returns-in_err-summary-clause-begins
 returns-in_err-summary-clause-begins g c clean h holds some =
     let p = err_from_is_err_and c.from_residual.result c.from_residual.ensures.1 in
-    let was = was-clean g.S.Store c.args.store.now c.summary.new.self
+    let was = clean_before g.S.Store c.args.store.now c.summary.new.self
     c.in_err-summary.ensures.leaves.stays clean in
     rw (p.1, p.2) (why-then _ _ _ _ c.in_err-summary.field-0.0 c.in_err-summary.ensures.refuses.why
     (λ busy. absurd (let idle = c.requires was in let b = busy in cc)) (λ unclean. unclean clean)

@@ -6,7 +6,8 @@ use Rattle.edf_header.specs.Key.{Key}
 use Rattle.edf_store.proofs.Readiness.{stays_then}
 use Rattle.edfserve_arguments.specs.Sought.{sought_by}
 use Rattle.edf_command.specs.Listing.{AreHeldBy}
-use Rattle.edf_command.proofs.Staying.{was-clean, not-failed}
+use Rattle.edf_export.proofs.Walks.{clean_before}
+use Rattle.edf_command.proofs.Staying.{not-failed}
 use Rattle.edf_serve.specs.Finding.{HasCodes, IsNamedBy, CountsNamed}
 use Rattle.edf_serve.proofs.Matching.{is-only, has-at}
 use Rattle.edf_serve.proofs.Runs.{why-then}
@@ -35,7 +36,7 @@ returns-in_err-matches g c =
       stays = stays_then g.S.Store c.args.store.now mid new first next;
       unfailed = c.in_err-matches.ensures.unfailed;
       why = λ clean h holds.
-          let was = was-clean g.S.Store mid new next clean in
+          let was = clean_before g.S.Store mid new next clean in
           let are = c.in_ok-recordings.ensures.keys was h holds in
           let all = subst (λ (ks : List Key). AreHeldBy h ks) (sym c.as_slice.ensures.value)
           (λ k has. (are.held k).0 has) in
@@ -78,7 +79,7 @@ returns-then-matches-eq1 g c =
       idle = c.in_ok-matches.ensures.idle;
       fit = subst (HasCodes s) same it.2;
       are = λ clean h holds.
-          let was = was-clean g.S.Store mid new next clean in
+          let was = clean_before g.S.Store mid new next clean in
           let are = c.in_ok-recordings.ensures.keys was h holds in
           let all = subst (λ (ks : List Key). AreHeldBy h ks) (sym c.as_slice.ensures.value)
           (λ k has. (are.held k).0 has) in
@@ -108,7 +109,7 @@ returns g c =
       idle = c.in_ok-matches.ensures.idle;
       fit = λ is. omega (arith, is);
       are = λ clean h holds.
-          let was = was-clean g.S.Store mid new next clean in
+          let was = clean_before g.S.Store mid new next clean in
           let are = c.in_ok-recordings.ensures.keys was h holds in
           let all = subst (λ (ks : List Key). AreHeldBy h ks) (sym c.as_slice.ensures.value)
           (λ k has. (are.held k).0 has) in

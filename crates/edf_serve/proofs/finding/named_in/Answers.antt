@@ -6,14 +6,14 @@ use Rattle.std.proofs.lemmas.Result.{err_from_is_err_and}
 use Rattle.edf_header.specs.Key.{Key}
 use Rattle.edf_store.proofs.Readiness.{stays_then}
 use Rattle.edfserve_arguments.specs.Sought.{sought_by}
-use Rattle.edf_command.proofs.Staying.{stays-same, was-clean}
+use Rattle.edf_export.proofs.Walks.{stays_same, clean_before}
 use Rattle.edf_serve.specs.Finding.{HasCodes, IsNamedBy, CountsNamed}
 use Rattle.edf_serve.proofs.Matching.{last-more, count-more, take-next}
 use Rattle.edf_serve.proofs.finding.named_in.Goals as goal
 
 pub loop-at-init : goal.loop-at-init
 loop-at-init g c = record {
-  stays = stays-same g.S.Store c.args.store.now;
+  stays = stays_same g.S.Store c.args.store.now;
   idle = c.requires;
   coded = λ some. absurd (omega (arith, some));
   named = λ clean h holds held. (refl, λ some. absurd (omega (arith, some)));
@@ -43,7 +43,7 @@ loop-at-preserved g c =
           c.loop-at.invariant.coded one;
       named = λ clean h holds held.
           let some = held key (at, lt, sym c.index-recordings-at.is) in
-          let was = was-clean g.S.Store mid new c.is_named.ensures.stays clean in
+          let was = clean_before g.S.Store mid new c.is_named.ensures.stays clean in
           let before = c.loop-at.invariant.named was h holds held in
           let this = c.in_ok-is_named.ensures.named clean h
           (c.loop-at.invariant.stays.holdings h holds) some in (

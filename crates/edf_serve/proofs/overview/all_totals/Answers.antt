@@ -3,7 +3,7 @@ use Rattle.std.proofs.lemmas.Result.{err_from_is_err_and, MatchResult-weaker}
 use Rattle.edf_header.specs.Key.{Key}
 use Rattle.edf_store.proofs.Readiness.{stays_then}
 use Rattle.edf_command.specs.Listing.{AreHeldBy}
-use Rattle.edf_command.proofs.Staying.{was-clean}
+use Rattle.edf_export.proofs.Walks.{clean_before}
 use Rattle.edf_serve.specs.Overview.{AreTotals}
 use Rattle.edf_serve.proofs.Runs.{why-then}
 use Rattle.edf_serve.proofs.overview.all_totals.Goals as goal
@@ -17,7 +17,7 @@ returns-clause-totals g c clean h holds =
     let mid = c.identities.new.self in
     let new = c.totals_of.new.store in
     let keys = c.in_ok-recordings.recordings.items in
-    let was = was-clean g.S.Store mid new c.totals_of.ensures.stays clean in
+    let was = clean_before g.S.Store mid new c.totals_of.ensures.stays clean in
     let are = c.in_ok-recordings.ensures.keys was h holds in
     let all = subst (λ (ks : List Key). AreHeldBy h ks) (sym c.as_slice.ensures.value)
     (λ k has. (are.held k).0 has) in

@@ -3,7 +3,7 @@ use Rattle.std.proofs.lemmas.List.{take_all}
 use Rattle.std.proofs.lemmas.Result.{err_from_is_err_and}
 use Rattle.edf_header.specs.Key.{Key}
 use Rattle.edf_store.proofs.Readiness.{stays_then}
-use Rattle.edf_command.proofs.Staying.{stays-same, was-clean}
+use Rattle.edf_export.proofs.Walks.{stays_same, clean_before}
 use Rattle.edf_serve.specs.Overview.{AreTotals}
 use Rattle.edf_serve.proofs.Matching.{take-next}
 use Rattle.edf_serve.proofs.Totalling.{no-totals}
@@ -11,7 +11,7 @@ use Rattle.edf_serve.proofs.overview.totals_of.Goals as goal
 
 pub loop-identity-init : goal.loop-identity-init
 loop-identity-init g c = record {
-  stays = stays-same g.S.Store c.args.store.now;
+  stays = stays_same g.S.Store c.args.store.now;
   idle = c.requires;
   totals = λ clean h holds held. no-totals h _ refl refl refl;
 }
@@ -31,7 +31,7 @@ loop-identity-preserved g c =
       idle = c.in_ok-totals.ensures.idle;
       totals = λ clean h holds held.
           let some = held key (at, lt, sym c.identity-item.is) in
-          let was = was-clean g.S.Store mid new c.add.ensures.stays clean in
+          let was = clean_before g.S.Store mid new c.add.ensures.stays clean in
           let before = c.loop-identity.invariant.totals was h holds held in
           rw (take-next recordings at key lt c.identity-item.is)
           (c.in_ok-totals.ensures.added clean h (c.loop-identity.invariant.stays.holdings h holds)
