@@ -112,7 +112,7 @@ CHECKS = (
     Check("hypnogram", "nights with gaps and stages of sleep, drawn", (EDFRUNS,),
           counts=(200, 2_000)),
     Check("lines.stored", "stored runs", (EDFSTORE, EDFRUNS, EDFMEND)),
-    Check("serve", "answers of edfserve to its clients, kills", (EDFSTORE, EDFSERVE),
+    Check("serve", "answers of edfserve to its clients, kills", (EDFSTORE, EDFRUNS, EDFSERVE),
           counts=(20, 100)),
     Check("receiving", "uploads into a receiving folder", (EDFSTORE, EDFSERVE, EDFRUNS),
           counts=(10, 50), needs=("inotifywait",), is_on_disk=True, is_for_long=True),

@@ -1,6 +1,6 @@
 """Clients of `edfserve`, and what a session answers and leaves, against the plain model.
 
-    python3 -m checks.serve [--program PATH] [--edfserve PATH] [--seed SEED] [COUNT]
+    python3 -m checks.serve [--program PATH] [--edfruns PATH] [--edfserve PATH] [--seed N] [COUNT]
 
 A client that waits for each answer, one that sends all at once, one that stops reading; names with
 spaces and beyond ASCII, and names that lead out of the folders of --from and --to; lines that are
@@ -9,10 +9,10 @@ devices, and of the files that SQLite has beside a store; a store that is refuse
 session has, or that is removed, replaced or cut under a session; each read, write, sync and cut
 that fails in turn, after which the store is opened anew or the session ends; a full disk, and room
 again; files without a patient's code and name, of which a warning comes where they begin more than
-8 hours apart; recordings by their codes and first starts, and not by their places; and what
-`status` tells. Over a pipe, a named pipe, and by socat a socket, where it is installed. Then COUNT
-sessions (100 if left out) are killed at a random moment and begun again: what was answered is held,
-and in the end all of it is.
+8 hours apart; recordings by their codes and first starts, and not by their places; pictures, beside
+those of `edfruns picture`; and what `status` tells. Over a pipe, a named pipe, and by socat a
+socket, where it is installed. Then COUNT sessions (100 if left out) are killed at a random moment
+and begun again: what was answered is held, and in the end all of it is.
 """
 import os
 import random
@@ -27,7 +27,7 @@ from pathlib import Path
 from subprocess import PIPE
 
 from checks.lib import (anew, arguments, by_name, disks, edf, faults, lost, measure, model, named,
-                        night, printed, runs, serving)
+                        night, pictured, printed, runs, serving)
 from checks.lib.checks import Checks, Lost, compare, end
 from checks.lib.serving import NO_COMMAND, Client, exported, status
 
@@ -462,8 +462,9 @@ def kills(given) -> int:
 
 
 def main() -> None:
-    parser = arguments.Parser(__doc__, programs=("edfstore", "edfserve"), count=100)
-    parser.add_argument("--seed", type=int, default=1, help="of the kills, 1 if left out")
+    parser = arguments.Parser(__doc__, programs=("edfstore", "edfruns", "edfserve"),
+                              count=100)
+    parser.add_argument("--seed", metavar="N", type=int, default=1, help="of the kills; else 1")
     given = parser.read()
     with tempfile.TemporaryDirectory(prefix="edfserve-checks-") as name:
         checks = Checks(given.edfserve, Path(name), "edfserve")
@@ -483,6 +484,7 @@ def main() -> None:
         anew.run(checks, given)
         people(checks, given)
         by_name.run(checks, given)
+        pictured.run(checks, given)
         full_disk(checks, given)
         try:
             count = kills(given)

@@ -42,20 +42,21 @@ def matching(count: int) -> str:
     return "no recording matches\n" if count == 0 else f"{count} recordings match\n"
 
 
-def ask(checks: Checks, client: Client, held: model.Store, *codes: str) -> None:
-    """Asks for the runs of a recording, and exports it, once the file is not there."""
+def ask(checks: Checks, given, client: Client, held: model.Store, *codes: str) -> None:
+    """Asks for the runs of a recording, and exports and draws it, once the files are not there."""
     found = places(held, *codes)
-    wanted = matching(len(found)) + status(1)
+    none = matching(len(found)) + status(1)
     data = held.export(found[0]) if len(found) == 1 else None
-    if data:
-        wanted = runs.lines(runs.read_runs(data)) + status(0)
+    picture = serving.picture_of(given.edfruns, data) if data else None
+    wanted = runs.lines(runs.read_runs(data)) + status(0) if data else none
     checks.same(f"runs {named(*codes)}", client.ask(f"runs {named(*codes)}"), wanted)
-    if data:
-        wanted = exported("x.edf", data) + status(0)
-    checks.same(f"export {named(*codes)}", client.ask(f"export {named(*codes)} x.edf"), wanted)
-    checks.same("the file", checks.content("x.edf"), data)
-    checks.same("no part of a file is left", checks.content("x.edf.part"), None)
-    (checks.folder / "x.edf").unlink(missing_ok=True)
+    for verb, told, content, name in (("export", exported, data, "x.edf"),
+                                      ("picture", serving.drawn, picture, "x.svg")):
+        wanted = told(name, content) + status(0) if data else none
+        checks.same(f"{verb} {named(*codes)}", client.ask(f"{verb} {named(*codes)} {name}"), wanted)
+        checks.same("the file", checks.content(name), content)
+        checks.same("no part of a file is left", checks.content(f"{name}.part"), None)
+        (checks.folder / name).unlink(missing_ok=True)
 
 
 def take(checks: Checks, client: Client, held: model.Store, name: str, data: bytes) -> None:
@@ -86,7 +87,7 @@ def whatever_stands_before(checks: Checks, given) -> None:
 def none_or_several(checks: Checks, given) -> None:
     checks.begin("codes that no recording has, or several have")
     client, held = Client(given.edfserve, checks.folder), model.Store()
-    ask(checks, client, held, "P7", "N1")
+    ask(checks, given, client, held, "P7", "N1")
     half = EVENING + timedelta(microseconds=500_000)
     for number, data in enumerate((
             of(), of(equipment="REC6"), of(equipment="REC7", onset="0.5"), of("X", "X"),
@@ -99,7 +100,7 @@ def none_or_several(checks: Checks, given) -> None:
                   ("P77", "N1"), ("X", "X"), ("X", "N1"), ("x", "N1"), ("P7", "X"), ("P7", "T3"),
                   ("P7", "N1", "2002-03-02"), ("P7", "n1", "2002-03-02 22:00:00"[:10]),
                   ("P7", "n1", "x"), ("P7", "n1", f"{first}Z")):
-        ask(checks, client, held, *codes)
+        ask(checks, given, client, held, *codes)
     checks.same("the end", client.end(), (1, "", ""))
 
 
@@ -114,6 +115,8 @@ def forms(checks: Checks, given) -> None:
                  f"runs {it} first", "runs Patient=P7 investigation=N1", f"export {it}",
                  f"export {it} ", f"export {it} first=x.edf", f"export {it} first=x ",
                  f"export {it}  {first} x.edf", f"export {it}  x.edf", f"runs {it}  {first}",
+                 f"picture {it}", f"picture {it} ", f"picture {it} first=x", f"picture {it}  x",
+                 f"picture  {it} x", "picture patient=P7 x", f"Picture {it} x", f"pictures {it} x",
                  "runs patient= investigation=N1", "runs patient=P7 investigation=",
                  "export patient=P7 investigation= x.edf", f"runs {it}\r", f"runs {it} {first}\r",
                  "runs patient=Müller investigation=N1", "runs patient=P7\tinvestigation=N1",
@@ -143,11 +146,11 @@ def first_moves(checks: Checks, given) -> None:
     take(checks, client, held, "night.edf", of())
     codes = ("P7", "N1", EVENING.isoformat())
     checks.same("one has it", places(held, *codes), [1])
-    ask(checks, client, held, *codes)
+    ask(checks, given, client, held, *codes)
     take(checks, client, held, "earlier.edf", of(clock=EVENING - timedelta(minutes=1)))
     checks.same("none has it", places(held, *codes), [])
-    ask(checks, client, held, *codes)
-    ask(checks, client, held, "P7", "N1", (EVENING - timedelta(minutes=1)).isoformat())
+    ask(checks, given, client, held, *codes)
+    ask(checks, given, client, held, "P7", "N1", (EVENING - timedelta(minutes=1)).isoformat())
     checks.same("the end", client.end(), (1, "", ""))
 
 
@@ -181,9 +184,10 @@ def at_random(checks: Checks, given) -> None:
             take(checks, client, held, f"{number}.edf", data)
         for patient in codes:
             for investigation in codes:
-                ask(checks, client, held, patient, investigation)
+                ask(checks, given, client, held, patient, investigation)
         for clock in (EVENING, EVENING + DAY, EVENING + 5 * DAY):
-            ask(checks, client, held, rng.choice(codes), rng.choice(codes), clock.isoformat())
+            of_one = rng.choice(codes), rng.choice(codes), clock.isoformat()
+            ask(checks, given, client, held, *of_one)
         client.end()
 
 

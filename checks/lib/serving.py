@@ -4,6 +4,8 @@ import subprocess
 from pathlib import Path
 from subprocess import PIPE
 
+from . import measure
+
 NO_COMMAND = "no such command\n"
 ANEW = "opened anew, since a call that it refused left it in a transaction"
 UNUSABLE = "the disk could not be read or written"
@@ -15,6 +17,15 @@ def status(number: int) -> str:
 
 def exported(name: str, data: bytes) -> str:
     return f"{name} exported bytes={len(data)}\n"
+
+
+def drawn(name: str, data: bytes) -> str:
+    return f"{name} drawn bytes={len(data)}\n"
+
+
+def picture_of(edfruns: Path, data: bytes) -> bytes:
+    """The picture of a file, by another program."""
+    return measure.done(edfruns, "picture", "-", given=data).out
 
 
 def is_there(name: str) -> str:

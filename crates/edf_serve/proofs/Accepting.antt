@@ -8,6 +8,8 @@ use Rattle.edf_intake.specs.Submitted.{IsSubmitted, IsEnded}
 use Rattle.edf_intake.specs.declared.answer.Receipt.{Receipt}
 use Rattle.edfserve_arguments.specs.Line.{LineAsked}
 use Rattle.edfserve_arguments.specs.Line.LineAsked.{take, list, runs, runs_of, export, export_of}
+use Rattle.edfserve_arguments.specs.Line.LineAsked.{picture, picture_of}
+use Rattle.edf_export.proofs.Walks.{clean_before}
 use Rattle.edf_program.specs.Output.{Growth}
 use Rattle.edf_serve.specs.Client.{HasAccepted, IsIdle}
 use Rattle.edf_serve.specs.Exchange.{IsWorked}
@@ -55,14 +57,28 @@ module _ {S : Type 0} (g : Ghosts S) (folders : Folders) (old new : Point S)
   ]
   by-work (Some list) given receipt start w = absurd w.1
   by-work (Some LineAsked.status) given receipt start w = absurd w.1
-  by-work (Some (runs place)) given receipt start w = absurd w.1
-  by-work (Some (runs_of s)) given receipt start w = elim w [
-    | inl d ↦ absurd d.3.1
+  by-work (Some (runs place)) given receipt start w = elim w [
+    | inl d ↦ absurd d.3
     | inr n ↦ absurd n.1
   ]
-  by-work (Some (export place name)) given receipt start w = absurd w.1
+  by-work (Some (runs_of s)) given receipt start w = elim w [
+    | inl d ↦ absurd d.3
+    | inr n ↦ absurd n.1
+  ]
+  by-work (Some (export place name)) given receipt start w = elim w [
+    | inl d ↦ absurd d.3
+    | inr n ↦ absurd n.1
+  ]
   by-work (Some (export_of s name)) given receipt start w = elim w [
-    | inl d ↦ absurd d.3.1
+    | inl d ↦ absurd d.3
+    | inr n ↦ absurd n.1
+  ]
+  by-work (Some (picture place name)) given receipt start w = elim w [
+    | inl d ↦ absurd d.3
+    | inr n ↦ absurd n.1
+  ]
+  by-work (Some (picture_of s name)) given receipt start w = elim w [
+    | inl d ↦ absurd d.3
     | inr n ↦ absurd n.1
   ]
 

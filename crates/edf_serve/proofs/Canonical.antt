@@ -1,39 +1,35 @@
--- What the file holds that an `export` line made.
-use Rattle.std.proofs.Common.{◌≡◌, ◌≢◌, ◌⊎◌, ◌∙◌, ◌++◌, ℕ, Bool, true, false, List, [], Option, Some}
+-- What the file holds that an `export` or a `picture` line made, and what is said where there is none.
+use Rattle.std.proofs.Common.{◌≡◌, ◌≢◌, ◌⊎◌, ◌∙◌, ◌++◌, ℕ, Bool, List, [], Option, Some}
 use Rattle.std.proofs.Common.{None, ap, refl, sym, subst, inl, inr, IfSome, length, codes}
-use Rattle.std.specs.Prelude.{if◌then◌else◌}
 use Rattle.std.specs.Io.KnownBytes.{Appends}
+use Rattle.std.proofs.lemmas.List.{append-nil}
 use Rattle.sqlite_trees.specs.declared.store.Store.{Ghosts}
 use Rattle.sqlite.specs.State.{HasCleanDisk}
-use Rattle.edf_holdings.specs.Holdings.{Holdings}
-use Rattle.edf_store.specs.Held.{StoreModel, at, Holds}
-use Rattle.edf_export.specs.Export.{export_fault_number}
-use Rattle.edf_export.specs.declared.fault.ExportFault.TheVariants.{Store}
-use Rattle.edf_export.proofs.Walks.{clean_before}
 use Rattle.edf_header.specs.Key.{Key}
-use Rattle.edf_fragment.specs.Fragment.{DataRecord}
+use Rattle.edf_holdings.specs.Holdings.{Holdings}
+use Rattle.edf_store.specs.Held.{StoreModel, at, Holds, Stays}
+use Rattle.edf_export.specs.Export.{export_fault_number}
 use Rattle.edf_export.specs.Headline.{IsOnlyFile}
-use Rattle.edfserve_arguments.specs.Line.LineAsked.{export_of}
-use Rattle.edfserve_arguments.specs.Sought.{Sought}
-use Rattle.edf_command.specs.Exporting.{IsRecordingExported}
-use Rattle.edf_command.specs.Lines.{export_status}
-use Rattle.edf_program.specs.Output.{Growth, IsWritten}
-use Rattle.edf_program.specs.Status.{is_trouble, status_of_number}
+use Rattle.edf_export.proofs.Walks.{clean_before}
+use Rattle.edf_program.specs.Output.{Growth, Gets, IsWritten, IsTold}
 use Rattle.edf_program.specs.declared.status.Status.{Status}
 use Rattle.edf_program.specs.declared.status.Status.TheVariants.{Done, Refused, Trouble}
 use Rattle.edf_serve.specs.Exchange.{Exchange, IsServed, IsWorked, IsAnswered, IsAfterTold}
 use Rattle.edf_serve.specs.Exchange.{TellsLines}
-use Rattle.edf_serve.specs.Exporting.{Writes, MakesFile, IsExportedAs, IsFinishTold}
+use Rattle.edf_serve.specs.Exporting.{IsKeyWritten, MakesFile, IsMadeAs, IsMadeOf}
+use Rattle.edf_serve.specs.Exporting.{IsFinishTold, verb, made_line}
 use Rattle.edf_serve.specs.Files.{Made, Paths, HasPath, Tries, IsPlace, to_folder}
-use Rattle.edf_serve.specs.Finding.{AreFound, Finds, IsOnlyNamed, TellsNone, matches_line}
-use Rattle.edf_serve.specs.Laws.{HasRecording, HasRecordingAt, ExportedIsCanonical, IsUnmatched}
-use Rattle.edf_serve.specs.Laws.{NamedIsCanonical, NamedIsAsPlaced, NamedRunsAreItsOwn}
-use Rattle.edf_serve.specs.Laws.{UnmatchedIsTold}
-use Rattle.edf_serve.specs.Running.{AreRunsOf, HasRunsOf}
+use Rattle.edf_serve.specs.Finding.{PickedBy, AreFound, Finds, TellsNone, IsDoneForOne, unpicked_line}
+use Rattle.edf_serve.specs.Finding.PickedBy.{by_place, by_codes}
+use Rattle.edf_serve.specs.Laws.{HasNewFile, IsFileOf, MadeIsItsOwn, ExportedIsTheSame, asks_file}
+use Rattle.edf_serve.specs.Laws.{RunsAreItsOwn, IsUnmatched, UnmatchedIsTold, asks_runs}
+use Rattle.edf_serve.specs.Running.{AreRunsOf, HasRunsOf, IsListed}
 use Rattle.edf_serve.specs.Work.{Point, Work, EndsAs, grown}
 use Rattle.edf_serve.specs.declared.answering.Answered.{Answered}
 use Rattle.edf_serve.specs.declared.answering.End.{End}
 use Rattle.edf_serve.specs.declared.answering.End.TheVariants as end
+use Rattle.edf_serve.specs.declared.form.Form.{Form}
+use Rattle.edf_serve.specs.declared.form.Form.TheVariants.{Canonical, Picture}
 use Rattle.edf_serve.specs.declared.finding.Found.TheVariants.{One, Other}
 use Rattle.edf_serve.specs.declared.files.Finished.{Finished}
 use Rattle.edf_serve.specs.declared.files.Finished.TheVariants.{Named, IsThere, Failed}
@@ -42,27 +38,11 @@ use Rattle.edf_serve.specs.declared.room.Outcome.{Outcome}
 use Rattle.edf_serve.specs.declared.room.Outcome.TheVariants as outcome
 use Rattle.edf_serve.specs.declared.text.Text.{Text}
 use Rattle.edf_serve.proofs.Matching.{found_is_one}
-use Rattle.edf_serve.proofs.Orderly.{export-stays, by-place, by-key}
-
--- a line that is written with another status is not answered by the first
-not-done : (out : Growth) (line : List ℕ) (wanted status : Status) → wanted ≢ Done →
-    status ≡ Done → IsWritten out line wanted status → ⊥
-not-done out line wanted status other done (inl w) = other (sym w.1 ∙ done)
-not-done out line wanted status other done (inr w) =
-    let wrong : Trouble ≡ Done = sym w.1 ∙ done in cc
+use Rattle.edf_serve.proofs.Orderly.{made-stays}
+use Rattle.edf_serve.proofs.Working.{not-done, number-not, trouble-not}
 
 refused-not : Refused ≢ Done
 refused-not wrong = cc
-
-trouble-not : Trouble ≢ Done
-trouble-not wrong = cc
-
-either-not : (b : Bool) → (if b then Trouble else Refused) ≢ Done
-either-not true wrong = cc
-either-not false wrong = cc
-
-number-not : (n : ℕ) → status_of_number n ≢ Done
-number-not n = either-not (is_trouble n)
 
 -- what a new writer got is all that it holds
 all-of : (before after : Option (List ℕ)) (bytes : List ℕ) → before ≡ Some [] →
@@ -75,18 +55,63 @@ all-of before after bytes empty wrote =
     by (Some held) wrote = ap (λ (b : List ℕ). Some b) wrote
 
 -- the first status is not of a file that has no path
-named-only : (name : List ℕ) (out : Growth) (finished : Finished) (status : Status) →
-    IsFinishTold name out finished status → status ≡ Done →
+named-only : (form : Form) (name : List ℕ) (out : Growth) (finished : Finished)
+    (status : Status) → IsFinishTold form name out finished status → status ≡ Done →
     (bytes : ℕ) × (finished ≡ Named bytes)
-named-only name out (Named bytes) status told done = (bytes, refl)
-named-only name out IsThere status told done =
+named-only form name out (Named bytes) status told done = (bytes, refl)
+named-only form name out IsThere status told done =
     absurd (not-done out _ Refused status refused-not done told)
-named-only name out Failed status told done =
+named-only form name out Failed status told done =
     absurd (not-done out _ Trouble status trouble-not done told)
 
+-- what went to a file with the first status is of the recording
+whole-file : {S : Type 0} (g : Ghosts S) (form : Form) (old new : StoreModel S)
+    (file out : Growth) (key : Key) (told : Status) →
+    IsKeyWritten g form old new file out key told → HasCleanDisk (at g new) →
+    (h : Holdings) → Holds g old h → told ≡ Done →
+    (bytes : List ℕ) × Gets file bytes × Gets out [] × IsFileOf form h key bytes
+whole-file g Canonical old new file out key told is clean h held done =
+    elim (is.exported clean h held) [
+      | inl r ↦
+          let it = r.0.1 in (
+            it.file,
+            (it.wrote, r.1),
+            r.2,
+            record { canonical = it.canonical; only = it.only },
+          )
+      | inr n ↦ absurd (not-done out _ _ told (number-not (export_fault_number n.0)) done n.3)
+    ]
+whole-file g Picture old new file out key told is clean h held done =
+    elim (is.drawn clean h held) [
+      | inl drawn ↦ elim drawn.2 [
+        | inl went ↦ (drawn.0, went.0, went.1, drawn.1)
+        | inr failed ↦ absurd (not-done out _ Trouble told trouble-not done failed.1)
+      ]
+      | inr n ↦ absurd (not-done out _ Trouble told trouble-not done n.1.2)
+    ]
+
+-- a line that is told with the first status was written whole
+line-told : (out : Growth) (text : List ℕ) (status : Status) → status ≡ Done →
+    IsTold out text Done status → Gets out text
+line-told out text status done (inl (inl w)) = w.0
+line-told out text status done (inl (inr w)) = absurd (trouble-not (sym w.1 ∙ done))
+line-told out text status done (inr w) = absurd (trouble-not (sym w.1 ∙ done))
+
+-- what was written after nothing
+after-nothing : (before mid : Option (List ℕ)) (old new text : List ℕ) → before ≡ Some old →
+    Appends before mid [] → Appends mid (Some new) text → new ≡ old ++ text
+after-nothing before mid old new text is first then =
+    by mid (subst (λ (b : Option (List ℕ)). Appends b mid []) is first) then
+  where
+    by : (mid : Option (List ℕ)) → Appends (Some old) mid [] → Appends mid (Some new) text →
+        new ≡ old ++ text
+    by None first then = absurd first
+    by (Some held) first then =
+        then ∙ ap (λ (l : List ℕ). l ++ text) (first ∙ append-nil old)
+
 module _ {S : Type 0} (g : Ghosts S) (folders : Folders) (a b : Point S) (w : Work S)
-    (Goes : Writes S) (name : List ℕ) (made : Made) (old-made : w.old.made ≡ a.made)
-    (old-paths : w.old.paths ≡ a.paths) (known : a.made ≡ Some made) (h : Holdings)
+    (form : Form) (key : Key) (name : List ℕ) (made : Made) (old-made : w.old.made ≡ a.made)
+    (old-paths : w.old.paths ≡ a.paths) (known : a.made ≡ Some made)
     (same : w.new.made ≡ b.made) where
   abbrev Tried-so : List ℕ → Option Finished → Option (List ℕ) → ℕ → Type 0
   Tried-so path how contents failed = Tries a.made b.made (record {
@@ -96,7 +121,7 @@ module _ {S : Type 0} (g : Ghosts S) (folders : Folders) (a b : Point S) (w : Wo
     failed = failed;
   })
 
-  tries : (path : List ℕ) (status : Status) (m : MakesFile g w name path status Goes) →
+  tries : (path : List ℕ) (status : Status) (m : MakesFile g w form key name path status) →
       Tried-so path m.how m.file.after m.file.failed_after
   tries path status m = subst (λ (o : Option Made). Tries a.made o (record {
     path = path;
@@ -111,8 +136,8 @@ module _ {S : Type 0} (g : Ghosts S) (folders : Folders) (a b : Point S) (w : Wo
   })) old-made m.tries)
 
   module _ (path : List ℕ) (leads : IsPlace a.paths (to_folder folders) name (Some path))
-      (status : Status) (m : MakesFile g w name path status Goes) (done : m.told ≡ Done)
-      (bytes : ℕ) (how : m.how ≡ Some (Named bytes)) where
+      (status : Status) (m : MakesFile g w form key name path status) (bytes : ℕ)
+      (how : m.how ≡ Some (Named bytes)) where
     is-new : (m.file.before ≡ Some []) × (m.file.failed_before ≡ 0)
     is-new =
         let f = subst (λ (o : Option Made). IfSome o (λ it. ¬ HasPath it path
@@ -125,92 +150,79 @@ module _ {S : Type 0} (g : Ghosts S) (folders : Folders) (a b : Point S) (w : Wo
         × (m.file.before ≡ Some []) × (m.file.failed_before ≡ 0))) (old-made ∙ known) m.new in
         subst (λ (o : Option Made). IfSome o (λ it. ¬ HasPath it path)) (sym known) f.0
 
-    holds-one : (key : Key) → IsRecordingExported m.file m.out h key m.told →
-        HasRecording g folders a b h key name
-    holds-one key (inl r) =
-        let is = r.0.1 in
-        let contents : m.file.after ≡ Some is.file =
-        all-of m.file.before m.file.after is.file is-new.0 is.wrote in
-        let size : length is.file ≡ bytes =
-        subst (λ (o : Option (List ℕ)). IfSome o (λ it. length it ≡ bytes)) contents
-        (m.sized bytes how) in
-        let how2 : m.how ≡ Some (Named (length is.file)) =
-        how ∙ ap (λ (n : ℕ). Some (Named n)) (sym size) in
+    -- it holds all that went to it
+    contents-of : (file : List ℕ) → Gets m.file file → m.file.after ≡ Some file
+    contents-of file gets = all-of m.file.before m.file.after file is-new.0 gets.0
+
+    size-of : (file : List ℕ) → Gets m.file file → length file ≡ bytes
+    size-of file gets =
+        subst (λ (o : Option (List ℕ)). IfSome o (λ it. length it ≡ bytes)) (contents-of file gets)
+        (m.sized bytes how)
+
+    holds-all : (Has : List ℕ → Type 0) (file : List ℕ) → Gets m.file file → Has file →
+        HasNewFile folders a b name Has
+    holds-all Has file gets has =
+        let contents : m.file.after ≡ Some file = contents-of file gets in
+        let how2 : m.how ≡ Some (Named (length file)) =
+        how ∙ ap (λ (n : ℕ). Some (Named n)) (sym (size-of file gets)) in
         record {
           path = path;
           leads = leads;
           new = had-none;
-          file = is.file;
-          is_file = record { canonical = is.canonical; only = is.only };
-          made = subst (λ (w : Option Finished). Tried-so path w (Some is.file) 0) how2
+          file = file;
+          has = has;
+          made = subst (λ (w : Option Finished). Tried-so path w (Some file) 0) how2
               (subst (λ (o : Option (List ℕ)). Tried-so path m.how o 0) contents
-              (subst (λ (n : ℕ). Tried-so path m.how m.file.after n) (r.1 ∙ is-new.1)
+              (subst (λ (n : ℕ). Tried-so path m.how m.file.after n) (gets.1 ∙ is-new.1)
               (tries path status m)));
         }
-    holds-one key (inr n) =
-        absurd (not-done m.out _ _ m.told (number-not (export_fault_number n.0)) done n.3)
 
-  -- a file whose bytes went out and that was named has what they say
-  by-file : (Has : Type 0) (path : List ℕ) →
-      IsPlace a.paths (to_folder folders) name (Some path) → (status : Status) → status ≡ Done →
-      (m : MakesFile g w name path status Goes) →
-      ((bytes : ℕ) → m.how ≡ Some (Named bytes) → m.told ≡ Done → Has) → Has
-  by-file Has path leads status done m so = elim m.ended [
-    | inl f ↦
-        let n = named-only name _ f.1.0 status f.1.2 done in
-        so n.0 (f.1.1 ∙ ap (λ (w : Finished). Some w) n.1) f.0
-    | inr n ↦ absurd (n.0 (sym n.3 ∙ done))
-  ]
+  module _ (clean : HasCleanDisk (at g w.new.store)) (h : Holdings)
+      (held : Holds g w.old.store h) (status : Status) (done : status ≡ Done) where
+    -- it is there, and a line tells its length
+    abbrev IsThereSo : Type 0
+    IsThereSo = (new : HasNewFile folders a b name (IsFileOf form h key))
+        × (w.new.out.bytes.items ≡ w.old.out.bytes.items
+        ++ made_line form name (length new.file))
 
-  -- and so an export with the first status
-  by-export : (Has : Type 0) (status : Status) → status ≡ Done →
-      ((path : List ℕ) → IsPlace a.paths (to_folder folders) name (Some path) →
-      (m : MakesFile g w name path status Goes) →
-      (bytes : ℕ) → m.how ≡ Some (Named bytes) → m.told ≡ Done → Has) →
-      IsExportedAs g w name folders Goes status → Has
-  by-export Has status done so (inl n) = elim n.2 [
-    | inl outside ↦ absurd (not-done _ _ Refused status refused-not done outside.1)
-    | inr memory ↦ absurd (not-done _ _ Trouble status trouble-not done memory)
-  ]
-  by-export Has status done so (inr (path, leads, inl m)) =
-      let leads2 = subst (λ (p : Paths). IsPlace p (to_folder folders) name (Some path)) old-paths
-      leads in
-      by-file Has path leads2 status done m (so path leads2 m)
-  by-export Has status done so (inr (path, leads, inr n)) =
-      let named = named-only name (grown w.old.out w.new.out) n.how status n.said done in
-      absurd (n.unnamed named.0 named.1)
+    -- a file that was named has what went to it
+    of-file : (path : List ℕ) → IsPlace a.paths (to_folder folders) name (Some path) →
+        MakesFile g w form key name path status → IsThereSo
+    unfolding holds-all
+    of-file path leads m = elim m.ended [
+      | inl f ↦
+          let n = named-only form name _ f.1.0 status f.1.2 done in
+          let it = whole-file g form w.old.store w.new.store m.file m.out key m.told m.written
+          clean h held f.0 in
+          let how : m.how ≡ Some (Named n.0) = f.1.1 ∙ ap (λ (w : Finished). Some w) n.1 in
+          let out : Growth = record (grown w.old.out w.new.out) {
+            before = m.out.after;
+            failed_before = m.out.failed_after;
+          } in
+          let line : Gets out (made_line form name n.0) =
+          line-told out (made_line form name n.0) status done
+          (subst (λ (f : Finished). IsFinishTold form name out f status) n.1 f.1.2) in
+          let size : length it.0 ≡ n.0 = size-of path leads status m n.0 how it.0 it.1 in (
+            holds-all path leads status m n.0 how (IsFileOf form h key) it.0 it.1 it.3,
+            after-nothing m.out.before m.out.after w.old.out.bytes.items w.new.out.bytes.items
+                (made_line form name (length it.0)) m.from.0 it.2.0
+                (subst (λ (n : ℕ). Appends m.out.after (Some w.new.out.bytes.items)
+                (made_line form name n)) (sym size) line.0),
+          )
+      | inr n ↦ absurd (n.0 (sym n.3 ∙ done))
+    ]
 
-module _ {S : Type 0} (g : Ghosts S) (folders : Folders) (a b : Point S) (w : Work S)
-    (name : List ℕ) (made : Made) (old-made : w.old.made ≡ a.made)
-    (old-paths : w.old.paths ≡ a.paths) (known : a.made ≡ Some made)
-    (clean : HasCleanDisk (at g w.new.store)) (h : Holdings) (old-holds : Holds g w.old.store h)
-    (same : w.new.made ≡ b.made) (status : Status) (done : status ≡ Done) where
-  pub at-place : (place : ℕ) →
-      IsExportedAs g w name folders (by-place g place) status →
-      HasRecordingAt g folders a b h place name
-  at-place place = by-export g folders a b w (by-place g place) name made old-made
-      old-paths known h same (HasRecordingAt g folders a b h place name) status done
-      (λ path leads m bytes how told. elim (m.exported.exported clean h old-holds) [
-        | inl e ↦ record {
-          keys = e.keys;
-          key = e.key;
-          are_keys = e.are_keys;
-          is_at = e.is_at;
-          has = holds-one g folders a b w (by-place g place) name made old-made old-paths
-              known h same path leads status m told bytes how e.key e.exported;
-        }
-        | inr (inl n) ↦ absurd (not-done m.out _ Refused m.told refused-not told n.said.1)
-        | inr (inr n) ↦ absurd (not-done m.out _ (export_status (Store n.fault)) m.told
-            (number-not (export_fault_number (Store n.fault))) told n.said.1)
-      ])
-
-  pub of-key : (key : Key) → IsExportedAs g w name folders (by-key g key) status →
-      HasRecording g folders a b h key name
-  of-key key = by-export g folders a b w (by-key g key) name made old-made old-paths known h
-      same (HasRecording g folders a b h key name) status done
-      (λ path leads m bytes how told. holds-one g folders a b w (by-key g key) name made
-      old-made old-paths known h same path leads status m told bytes how key
-      (m.exported.exported clean h old-holds))
+    -- and so where it is told with the first status
+    pub made-of : IsMadeAs g form name folders w key status → IsThereSo
+    made-of (inl n) = elim n.2 [
+      | inl outside ↦ absurd (not-done _ _ Refused status refused-not done outside.1)
+      | inr memory ↦ absurd (not-done _ _ Trouble status trouble-not done memory)
+    ]
+    made-of (inr (path, leads, inl m)) = of-file path
+        (subst (λ (p : Paths). IsPlace p (to_folder folders) name (Some path)) old-paths leads) m
+    made-of (inr (path, leads, inr n)) =
+        let finished = named-only form name (grown w.old.out w.new.out) n.how status n.said done in
+        absurd (n.unnamed finished.0 finished.1)
 
 -- an answer with the first status is of a command with it
 told-done : {S : Type 0} (g : Ghosts S) (x : Exchange S) (b : Point S) (told : Status)
@@ -243,27 +255,27 @@ trouble-told : (out : Growth) (line : List ℕ) (status : Status) →
 trouble-told out line status (inl w) = w.1
 trouble-told out line status (inr w) = w.1
 
--- how many match is said, or there was trouble
-told-count : (s : Sought) (h : Holdings) (count many : ℕ) (out : Text) (new : Text)
-    (told status : Status) → AreFound s h (Other count) → AreFound s h (Other many) →
-    out.bytes.items ≡ [] → IsWritten (grown out new) (matches_line many) Refused told →
+-- how many are picked is said, or there was trouble
+told-count : (p : PickedBy) (h : Holdings) (count many : ℕ) (out : Text) (new : Text)
+    (told status : Status) → AreFound p h (Other count) → AreFound p h (Other many) →
+    out.bytes.items ≡ [] → IsWritten (grown out new) (unpicked_line p many) Refused told →
     (status ≡ told) ⊎ (status ≡ Trouble) →
-    (status ≡ Trouble) ⊎ ((status ≡ Refused) × (new.bytes.items ≡ matches_line count))
-told-count s h count many out new told status are found blank said (inr trouble) = inl trouble
-told-count s h count many out new told status are found blank (inr failed) (inl same) =
+    (status ≡ Trouble) ⊎ ((status ≡ Refused) × (new.bytes.items ≡ unpicked_line p count))
+told-count p h count many out new told status are found blank said (inr trouble) = inl trouble
+told-count p h count many out new told status are found blank (inr failed) (inl same) =
     inl (same ∙ failed.1)
-told-count s h count many out new told status are found blank (inl w) (inl same) =
-    let one = found_is_one s h (Other many) (Other count) found are in
+told-count p h count many out new told status are found blank (inl w) (inl same) =
+    let one = found_is_one p h (Other many) (Other count) found are in
     let number : many ≡ count = cc in
     inr (
       same ∙ w.1,
-      w.0.0 ∙ (ap (λ (l : List ℕ). l ++ matches_line many) blank ∙ ap matches_line number),
+      w.0.0 ∙ (ap (λ (l : List ℕ). l ++ unpicked_line p many) blank ∙ ap (unpicked_line p) number),
     )
 
-told-none : (s : Sought) (h : Holdings) (key : Key) (count : ℕ) → AreFound s h (One key) →
-    AreFound s h (Other count) → ⊥
-told-none s h key count found are =
-    let same = found_is_one s h (One key) (Other count) found are in cc
+told-none : (p : PickedBy) (h : Holdings) (key : Key) (count : ℕ) → AreFound p h (One key) →
+    AreFound p h (Other count) → ⊥
+told-none p h key count found are =
+    let same = found_is_one p h (One key) (Other count) found are in cc
 
 module _ {S : Type 0} (g : Ghosts S) (folders : Folders) (a b : Point S) (x : Exchange S)
     (served : IsServed g x b folders a) (clean : HasCleanDisk (at g b.store)) (h : Holdings)
@@ -282,56 +294,52 @@ module _ {S : Type 0} (g : Ghosts S) (folders : Folders) (a b : Point S) (x : Ex
       told-done g x b told d answer.status answer.goes answer.after
       (sym (ap (λ (r : Answered). r.status) answer.tells.answered) ∙ done)
 
-  module _ (made : Made) (known : a.made ≡ Some made) (done : x.answered.status ≡ Done) where
-    placed : (place : ℕ) (name : List ℕ) (o : Outcome) →
-        EndsAs x.work (IsExportedAs g x.work name folders (by-place g place)) o →
-        IsAnswered g x b o → HasRecordingAt g folders a b h place name
-    placed place name (outcome.Told told d) e answer = at-place g folders a b x.work name made
-        (ap (λ (p : Point S). p.made) served.begins) (ap (λ (p : Point S). p.paths) served.begins)
-        known (new-clean told d answer) h found-held
-        (sym (ap (λ (p : Point S). p.made) answer.same)) told (answered-done done told d answer)
-        place e.1
-    placed place name (outcome.Accepted n receipt start) e answer = absurd e
+  -- from the store that finding a recording left
+  abbrev found-at : StoreModel S → Work S
+  found-at mid = record x.work { old = record x.work.old { store = mid } }
 
-    found-there : (s : Sought) (name : List ℕ) (mid : StoreModel S) (key : Key) →
-        Finds g x.work.old.store mid s (One key) → (o : Outcome) →
-        EndsAs (record x.work { old = record x.work.old { store = mid } })
-        (IsExportedAs g (record x.work { old = record x.work.old { store = mid } }) name folders
-        (by-key g key)) o → IsAnswered g x b o →
-        (k : Key) × IsOnlyNamed s h k × HasRecording g folders a b h k name
-    found-there s name mid key finds (outcome.Told told d) e answer =
-        let v : Work S = record x.work { old = record x.work.old { store = mid } } in
-        let new = new-clean told d answer in
-        let was = clean_before g mid x.work.new.store
-        (export-stays g folders v name (by-key g key) (λ file out status e. e.stays) told
-        e.1) new in (
-          key,
-          finds.are was h found-held,
-          of-key g folders a b v name made (ap (λ (p : Point S). p.made) served.begins)
-              (ap (λ (p : Point S). p.paths) served.begins) known new h
-              (finds.stays.holdings h found-held)
-              (sym (ap (λ (p : Point S). p.made) answer.same)) told
-              (answered-done done told d answer) key e.1,
-        )
-    found-there s name mid key finds (outcome.Accepted n receipt start) e answer = absurd e
+  -- a new file is of the one that was found
+  file-there : (form : Form) (name : List ℕ) (made : Made) → a.made ≡ Some made →
+      x.answered.status ≡ Done → (p : PickedBy) (mid : StoreModel S) (key : Key) →
+      Finds g x.work.old.store mid p (One key) → (o : Outcome) →
+      EndsAs (found-at mid) (IsMadeAs g form name folders (found-at mid) key) o →
+      IsAnswered g x b o → (k : Key) × AreFound p h (One k)
+      × (new : HasNewFile folders a b name (IsFileOf form h k))
+      × (x.work.new.out.bytes.items ≡ made_line form name (length new.file))
+  file-there form name made known done p mid key finds (outcome.Told told d) e answer =
+      let v : Work S = found-at mid in
+      let new = new-clean told d answer in
+      let was = clean_before g mid x.work.new.store (made-stays g folders form name v key told e.1)
+      new in
+      let it = made-of g folders a b v form key name made
+      (ap (λ (p : Point S). p.made) served.begins) (ap (λ (p : Point S). p.paths) served.begins)
+      known (sym (ap (λ (p : Point S). p.made) answer.same)) new h
+      (finds.stays.holdings h found-held) told (answered-done done told d answer) e.1 in (
+        key,
+        finds.are was h found-held,
+        it.0,
+        it.1 ∙ ap (λ (l : List ℕ). l ++ made_line form name (length it.0.file)) served.blank.0,
+      )
+  file-there form name made known done p mid key finds (outcome.Accepted n receipt start) e
+      answer = absurd e
 
-  none-done : x.answered.status ≡ Done → (s : Sought) (verb : List ℕ) (o : Outcome) →
-      EndsAs x.work (TellsNone g x.work.old.store x.work.new.store s verb
+  none-done : x.answered.status ≡ Done → (p : PickedBy) (word : List ℕ) (o : Outcome) →
+      EndsAs x.work (TellsNone g x.work.old.store x.work.new.store p word
       (grown x.work.old.out x.work.new.out)) o → IsAnswered g x b o → ⊥
-  none-done done s verb (outcome.Told told d) e answer = elim e.1 [
+  none-done done p word (outcome.Told told d) e answer = elim e.1 [
     | inl none ↦ not-done _ _ Refused told refused-not (answered-done done told d answer) none.2
     | inr why ↦ not-done _ _ Trouble told trouble-not (answered-done done told d answer) why.2
   ]
-  none-done done s verb (outcome.Accepted n receipt start) e answer = e
+  none-done done p word (outcome.Accepted n receipt start) e answer = e
 
   -- the runs of the one that was found
-  runs-there : x.answered.status ≡ Done → (s : Sought) (mid : StoreModel S) (key : Key) →
-      Finds g x.work.old.store mid s (One key) → (o : Outcome) →
-      EndsAs (record x.work { old = record x.work.old { store = mid } })
+  runs-there : x.answered.status ≡ Done → (p : PickedBy) (mid : StoreModel S) (key : Key) →
+      Finds g x.work.old.store mid p (One key) → (o : Outcome) →
+      EndsAs (found-at mid)
       (AreRunsOf g mid x.work.new.store key (grown x.work.old.out x.work.new.out)) o →
-      IsAnswered g x b o → (k : Key) × IsOnlyNamed s h k
+      IsAnswered g x b o → (k : Key) × AreFound p h (One k)
       × HasRunsOf (grown x.work.old.out x.work.new.out) Done h k
-  runs-there done s mid key finds (outcome.Told told d) e answer =
+  runs-there done p mid key finds (outcome.Told told d) e answer =
       let new = new-clean told d answer in
       let was = clean_before g mid x.work.new.store e.1.stays new in
       let is = answered-done done told d answer in (
@@ -340,106 +348,117 @@ module _ {S : Type 0} (g : Ghosts S) (folders : Folders) (a b : Point S) (x : Ex
         elim (e.1.listed new h (finds.stays.holdings h found-held)) [
           | inl has ↦ subst (λ (t : Status). HasRunsOf (grown x.work.old.out x.work.new.out) t h
               key) is has
-          | inr (inl refused) ↦ absurd (not-done _ _ Trouble told trouble-not is refused.2)
-          | inr (inr memory) ↦ absurd (not-done _ _ Trouble told trouble-not is memory)
+          | inr refused ↦ absurd (not-done _ _ Trouble told trouble-not is refused.2)
         ],
       )
-  runs-there done s mid key finds (outcome.Accepted n receipt start) e answer = absurd e
+  runs-there done p mid key finds (outcome.Accepted n receipt start) e answer = absurd e
 
-  -- one was not found where another number is named so
-  no-runs : (s : Sought) (count : ℕ) → AreFound s h (Other count) → (mid : StoreModel S)
-      (key : Key) → Finds g x.work.old.store mid s (One key) → (o : Outcome) →
-      EndsAs (record x.work { old = record x.work.old { store = mid } })
-      (AreRunsOf g mid x.work.new.store key (grown x.work.old.out x.work.new.out)) o →
-      IsAnswered g x b o → ⊥
-  no-runs s count are mid key finds (outcome.Told told d) e answer =
-      let was = clean_before g mid x.work.new.store e.1.stays (new-clean told d answer) in
-      told-none s h key count (finds.are was h found-held) are
-  no-runs s count are mid key finds (outcome.Accepted n receipt start) e answer = e
+  module _ (p : PickedBy) (count : ℕ) (are : AreFound p h (Other count)) where
+    -- one was not found where another number is picked
+    not-found : (mid : StoreModel S) (key : Key) → Finds g x.work.old.store mid p (One key) →
+        Stays g mid x.work.new.store → (told : Status) (d : Bool) → TellsLines g x b told d → ⊥
+    not-found mid key finds stays told d answer =
+        let was = clean_before g mid x.work.new.store stays (new-clean told d answer) in
+        told-none p h key count (finds.are was h found-held) are
 
-  no-export : (s : Sought) (name : List ℕ) (count : ℕ) → AreFound s h (Other count) →
-      (mid : StoreModel S) (key : Key) → Finds g x.work.old.store mid s (One key) →
-      (o : Outcome) → EndsAs (record x.work { old = record x.work.old { store = mid } })
-      (IsExportedAs g (record x.work { old = record x.work.old { store = mid } }) name folders
-      (by-key g key)) o → IsAnswered g x b o → ⊥
-  no-export s name count are mid key finds (outcome.Told told d) e answer =
-      let v : Work S = record x.work { old = record x.work.old { store = mid } } in
-      let was = clean_before g mid x.work.new.store (export-stays g folders v name (by-key g key)
-      (λ file out status e. e.stays) told e.1) (new-clean told d answer) in
-      told-none s h key count (finds.are was h found-held) are
-  no-export s name count are mid key finds (outcome.Accepted n receipt start) e answer = e
+    no-runs : (mid : StoreModel S) (key : Key) → Finds g x.work.old.store mid p (One key) →
+        (o : Outcome) → EndsAs (found-at mid)
+        (AreRunsOf g mid x.work.new.store key (grown x.work.old.out x.work.new.out)) o →
+        IsAnswered g x b o → ⊥
+    no-runs mid key finds (outcome.Told told d) e answer =
+        not-found mid key finds e.1.stays told d answer
+    no-runs mid key finds (outcome.Accepted n receipt start) e answer = e
 
-  -- what is told where another number than one was found
-  unmatched : (s : Sought) (verb : List ℕ) (count : ℕ) → AreFound s h (Other count) →
-      (x.work.new ≡ record x.work.old { store = x.work.new.store; out = x.work.new.out }) →
-      (o : Outcome) → EndsAs x.work (TellsNone g x.work.old.store x.work.new.store s verb
-      (grown x.work.old.out x.work.new.out)) o → IsAnswered g x b o → IsUnmatched g a b x count
-  unmatched s verb count are same (outcome.Told told d) e answer = record {
-    made = ap (λ (p : Point S). p.made) answer.same ∙ (ap (λ (p : Point S). p.made) same
-        ∙ ap (λ (p : Point S). p.made) served.begins);
-    paths = ap (λ (p : Point S). p.paths) answer.same ∙ (ap (λ (p : Point S). p.paths) same
-        ∙ ap (λ (p : Point S). p.paths) served.begins);
-    told = elim e.1 [
-      | inl none ↦ told-count s h count none.0 x.work.old.out x.work.new.out told
-          x.answered.status are (none.1.are (new-clean told d answer) h found-held) served.blank.0
-          none.2 status-is
-      | inr why ↦ inl (elim status-is [
-        | inl same ↦ same ∙ trouble-told _ _ told why.2
-        | inr trouble ↦ trouble
-      ])
-    ];
-  }
-    where
-      status-is : (x.answered.status ≡ told) ⊎ (x.answered.status ≡ Trouble)
-      status-is = subst (λ (t : Status). (t ≡ told) ⊎ (t ≡ Trouble))
-          (sym (ap (λ (r : Answered). r.status) answer.tells.answered))
-          (told-or g x b told d answer.status answer.goes answer.after)
-  unmatched s verb count are same (outcome.Accepted n receipt start) e answer = absurd e
+    no-file : (form : Form) (name : List ℕ) (mid : StoreModel S) (key : Key) →
+        Finds g x.work.old.store mid p (One key) → (o : Outcome) →
+        EndsAs (found-at mid) (IsMadeAs g form name folders (found-at mid) key) o →
+        IsAnswered g x b o → ⊥
+    no-file form name mid key finds (outcome.Told told d) e answer = not-found mid key finds
+        (made-stays g folders form name (found-at mid) key told e.1) told d answer
+    no-file form name mid key finds (outcome.Accepted n receipt start) e answer = e
 
-pub exported_is_canonical : {S : Type 0} (g : Ghosts S) → ExportedIsCanonical g
-exported_is_canonical g folders a b x place name made served asked known done clean h held =
-    placed g folders a b x served clean h held made known done place name x.work.outcome
-    (subst (IsWorked g folders x.work) asked served.worked).1 served.answered
+    -- what is told then
+    unmatched : (word : List ℕ) →
+        (x.work.new ≡ record x.work.old { store = x.work.new.store; out = x.work.new.out }) →
+        (o : Outcome) → EndsAs x.work (TellsNone g x.work.old.store x.work.new.store p word
+        (grown x.work.old.out x.work.new.out)) o → IsAnswered g x b o →
+        IsUnmatched g a b x p count
+    unmatched word same (outcome.Told told d) e answer = record {
+      made = ap (λ (p : Point S). p.made) answer.same ∙ (ap (λ (p : Point S). p.made) same
+          ∙ ap (λ (p : Point S). p.made) served.begins);
+      paths = ap (λ (p : Point S). p.paths) answer.same ∙ (ap (λ (p : Point S). p.paths) same
+          ∙ ap (λ (p : Point S). p.paths) served.begins);
+      told = elim e.1 [
+        | inl none ↦ told-count p h count none.0 x.work.old.out x.work.new.out told
+            x.answered.status are (none.1.are (new-clean told d answer) h found-held)
+            served.blank.0 none.2 status-is
+        | inr why ↦ inl (elim status-is [
+          | inl same ↦ same ∙ trouble-told _ _ told why.2
+          | inr trouble ↦ trouble
+        ])
+      ];
+    }
+      where
+        status-is : (x.answered.status ≡ told) ⊎ (x.answered.status ≡ Trouble)
+        status-is = subst (λ (t : Status). (t ≡ told) ⊎ (t ≡ Trouble))
+            (sym (ap (λ (r : Answered). r.status) answer.tells.answered))
+            (told-or g x b told d answer.status answer.goes answer.after)
+    unmatched word same (outcome.Accepted n receipt start) e answer = absurd e
 
-pub named_is_canonical : {S : Type 0} (g : Ghosts S) → NamedIsCanonical g
-named_is_canonical g folders a b x s name made served asked known done clean h held =
-    elim (subst (IsWorked g folders x.work) asked served.worked) [
-      | inl one ↦ found-there g folders a b x served clean h held made known done s name one.0
-          one.1 one.2 x.work.outcome one.3.1 served.answered
-      | inr none ↦ absurd (none-done g folders a b x served clean h held done s (codes "export")
+-- what a line does that asks for a new file, and one that asks for runs
+file-of : {S : Type 0} (g : Ghosts S) (folders : Folders) (w : Work S) (form : Form)
+    (name : List ℕ) (p : PickedBy) → IsWorked g folders w (Some (asks_file form name p)) →
+    IsMadeOf g form name folders w p
+file-of g folders w Canonical name (by_place place) is = is
+file-of g folders w Canonical name (by_codes s) is = is
+file-of g folders w Picture name (by_place place) is = is
+file-of g folders w Picture name (by_codes s) is = is
+
+runs-of : {S : Type 0} (g : Ghosts S) (folders : Folders) (w : Work S) (p : PickedBy) →
+    IsWorked g folders w (Some (asks_runs p)) → IsDoneForOne g w p (codes "runs") (IsListed g)
+runs-of g folders w (by_place place) is = is
+runs-of g folders w (by_codes s) is = is
+
+pub made_is_its_own : {S : Type 0} (g : Ghosts S) → MadeIsItsOwn g
+made_is_its_own g folders a b x form name p made served asked known done clean h held =
+    elim (file-of g folders x.work form name p
+    (subst (IsWorked g folders x.work) asked served.worked)) [
+      | inl one ↦ file-there g folders a b x served clean h held form name made known done p one.0
+          one.1 one.2 x.work.outcome one.4.1 served.answered
+      | inr none ↦ absurd (none-done g folders a b x served clean h held done p (verb form)
           x.work.outcome none.1 served.answered)
     ]
 
-pub named_is_as_placed : {S : Type 0} (g : Ghosts S) → NamedIsAsPlaced g
-named_is_as_placed g folders others a b c d h i key place name other one two same held =
-    let its = two.has.is_file in
-    let IsFile : Key → List DataRecord → Type 0 = λ k records. IsOnlyFile two.has.file k records in
-    let at-key : IsOnlyFile two.has.file key (i key) =
-    subst (λ (k : Key). IsFile k (i k)) (sym same) its in
-    let now : IsOnlyFile two.has.file key (h key) = subst (IsFile key) (sym held) at-key in
-    now.only one.file one.is_file.canonical
+pub exported_is_the_same : {S : Type 0} (g : Ghosts S) → ExportedIsTheSame g
+exported_is_the_same g folders others a b c d h i key name other one two held =
+    let now : IsOnlyFile two.file key (h key) =
+    subst (IsOnlyFile two.file key) (sym held) two.has in
+    now.only one.file one.has.canonical
 
-pub runs_are_its_own : {S : Type 0} (g : Ghosts S) → NamedRunsAreItsOwn g
-runs_are_its_own g folders a b x s served asked done clean h held =
-    elim (subst (IsWorked g folders x.work) asked served.worked) [
-      | inl one ↦ runs-there g folders a b x served clean h held done s one.0 one.1 one.2
-          x.work.outcome one.3.1 served.answered
-      | inr none ↦ absurd (none-done g folders a b x served clean h held done s (codes "runs")
+pub runs_are_its_own : {S : Type 0} (g : Ghosts S) → RunsAreItsOwn g
+runs_are_its_own g folders a b x p served asked done clean h held =
+    elim (runs-of g folders x.work p
+    (subst (IsWorked g folders x.work) asked served.worked)) [
+      | inl one ↦ runs-there g folders a b x served clean h held done p one.0 one.1 one.2
+          x.work.outcome one.4.1 served.answered
+      | inr none ↦ absurd (none-done g folders a b x served clean h held done p (codes "runs")
           x.work.outcome none.1 served.answered)
     ]
 
 pub unmatched_is_told : {S : Type 0} (g : Ghosts S) → UnmatchedIsTold g
-unmatched_is_told g folders a b x s count served (inl asked) clean h held are =
-    elim (subst (IsWorked g folders x.work) asked served.worked) [
-      | inl one ↦ absurd (no-runs g folders a b x served clean h held s count are one.0 one.1 one.2
-          x.work.outcome one.3.1 served.answered)
-      | inr none ↦ unmatched g folders a b x served clean h held s (codes "runs") count are none.0
+unmatched_is_told g folders a b x p count served (inl asked) clean h held are =
+    elim (runs-of g folders x.work p
+    (subst (IsWorked g folders x.work) asked served.worked)) [
+      | inl one ↦ absurd (no-runs g folders a b x served clean h held p count are one.0 one.1
+          one.2 x.work.outcome one.4.1 served.answered)
+      | inr none ↦ unmatched g folders a b x served clean h held p count are (codes "runs") none.0
           x.work.outcome none.1 served.answered
     ]
-unmatched_is_told g folders a b x s count served (inr (name, asked)) clean h held are =
-    elim (subst (IsWorked g folders x.work) asked served.worked) [
-      | inl one ↦ absurd (no-export g folders a b x served clean h held s name count are one.0
-          one.1 one.2 x.work.outcome one.3.1 served.answered)
-      | inr none ↦ unmatched g folders a b x served clean h held s (codes "export") count are none.0
+unmatched_is_told g folders a b x p count served (inr (form, name, asked)) clean h held are =
+    elim (file-of g folders x.work form name p
+    (subst (IsWorked g folders x.work) asked served.worked)) [
+      | inl one ↦ absurd (no-file g folders a b x served clean h held p count are form name one.0
+          one.1 one.2 x.work.outcome one.4.1 served.answered)
+      | inr none ↦ unmatched g folders a b x served clean h held p count are (verb form) none.0
           x.work.outcome none.1 served.answered
     ]

@@ -1,11 +1,12 @@
 -- How many recordings of a list are named so, one after another.
-use Rattle.std.proofs.Common.{◌≡◌, ◌≢◌, ◌⊎◌, ◌∙◌, ℕ, zero, suc, ◌+◌, ◌<◌, ◌↔◌, List, [], ◌∷◌, ◌++◌, take, Bool, true, false, Some}
+use Rattle.std.proofs.Common.{◌≡◌, ◌≢◌, ◌⊎◌, ◌∙◌, ℕ, zero, suc, ◌+◌, ◌<◌, ◌↔◌, List, [], ◌∷◌, ◌++◌, take, Bool, true, false}
+use Rattle.std.proofs.Common.{Option, Some, None}
 use Rattle.std.proofs.Common.{Contains, length, refl, sym, ap, subst, inl, inr, arith, get_or, Less}
 use Rattle.std.specs.List.{AllByRecursion}
 use Rattle.std.specs.List.Sorted.{IsStrictlySortedBy}
 use Rattle.std.specs.Prelude.{MatchBool, slice_get}
 use Rattle.std.proofs.lemmas.Bool.{false≢true}
-use Rattle.std.proofs.lemmas.Option.{slice_get_within, get_or_from_slice_get}
+use Rattle.std.proofs.lemmas.Option.{slice_get_within, get_or_from_slice_get, none-some, same_Some}
 use Rattle.std.proofs.lemmas.Cmp.{nat_list_cmp_total, tied_itself}
 use Rattle.std.proofs.lemmas.List.{take_more}
 use Rattle.std.proofs.lemmas.List.Elements.{Contains-append_cases, Contains-push_cases}
@@ -15,7 +16,10 @@ use Rattle.edf_holdings.specs.Keys.{key_cmp, AreKeysOf}
 use Rattle.edf_holdings.proofs.KeyLists.{keys_are_one}
 use Rattle.edf_rows.proofs.Rows.{here, there}
 use Rattle.edfserve_arguments.specs.Sought.{Sought}
+use Rattle.edf_command.specs.Exporting.{at_place}
 use Rattle.edf_serve.specs.Finding.{IsNamedBy, IsOnlyNamed, CountsNamed, AreNamed, FoundIsOne}
+use Rattle.edf_serve.specs.Finding.{HasPlace}
+use Rattle.edf_serve.specs.Finding.PickedBy.{by_place, by_codes}
 use Rattle.edf_serve.specs.declared.finding.Found.TheVariants.{One, Other}
 use Rattle.edf_serve.specs.declared.finding.Matches.{Matches}
 
@@ -145,11 +149,25 @@ module _ (s : Sought) (h : Holdings) where
         is;
   }
 
+-- a list has one thing at a place
+place-once : (h : Holdings) (place : ℕ) (one other : Option Key) → HasPlace h place one →
+    HasPlace h place other → one ≡ other
+place-once h place one other x y = sym x.is_at
+    ∙ (ap (λ (ks : List Key). at_place ks place)
+    (keys_are_one h x.keys y.keys x.are_keys y.are_keys) ∙ y.is_at)
+
 pub found_is_one : FoundIsOne
-found_is_one s h (One a) (One b) x y = ap (λ (k : Key). One k) (y.only a x.held x.named)
-found_is_one s h (One a) (Other n) x y = absurd (not-both s h a n x y.0 y.1)
-found_is_one s h (Other n) (One b) x y = absurd (not-both s h b n y x.0 x.1)
-found_is_one s h (Other n) (Other m) x y =
+found_is_one (by_place place) h (One a) (One b) x y =
+    ap (λ (k : Key). One k) (same_Some a b (place-once h place (Some a) (Some b) x y))
+found_is_one (by_place place) h (One a) (Other n) x y =
+    absurd (none-some a (place-once h place None (Some a) y.0 x))
+found_is_one (by_place place) h (Other n) (One b) x y =
+    absurd (none-some b (place-once h place None (Some b) x.0 y))
+found_is_one (by_place place) h (Other n) (Other m) x y = ap (λ (c : ℕ). Other c) (x.1 ∙ sym y.1)
+found_is_one (by_codes s) h (One a) (One b) x y = ap (λ (k : Key). One k) (y.only a x.held x.named)
+found_is_one (by_codes s) h (One a) (Other n) x y = absurd (not-both s h a n x y.0 y.1)
+found_is_one (by_codes s) h (Other n) (One b) x y = absurd (not-both s h b n y x.0 x.1)
+found_is_one (by_codes s) h (Other n) (Other m) x y =
     let same = keys_are_one h x.0.keys y.0.keys x.0.are_keys y.0.are_keys in
     ap (λ (c : ℕ). Other c) (counts-same s h y.0.keys n m
     (subst (λ (ks : List Key). CountsNamed s h ks n) same x.0.counted) y.0.counted)

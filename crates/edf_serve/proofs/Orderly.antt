@@ -10,16 +10,20 @@ use Rattle.edf_export.proofs.Walks.{stays_same}
 use Rattle.edf_intake.specs.Submitted.{IsSubmitted}
 use Rattle.edfserve_arguments.specs.Line.{LineAsked}
 use Rattle.edfserve_arguments.specs.Line.LineAsked.{take, list, runs, runs_of, export, export_of}
-use Rattle.edfserve_arguments.specs.Sought.{Sought}
+use Rattle.edfserve_arguments.specs.Line.LineAsked.{picture, picture_of}
 use Rattle.edf_program.specs.Output.{Growth}
 use Rattle.edf_program.specs.declared.status.Status.{Status}
 use Rattle.edf_serve.specs.Exchange.{IsWorked}
-use Rattle.edf_command.specs.Exporting.{IsPlaceExported}
-use Rattle.edf_serve.specs.Exporting.{Writes, IsExportedAs, IsKeyExported}
+use Rattle.edf_serve.specs.Exporting.{IsKeyWritten, IsMadeAs, IsMadeBelow, IsMadeOf, verb}
 use Rattle.edf_serve.specs.Files.{Paths, Made, Tried, opens, Tries, IsPlace, LiesBelow, MakesBelow}
 use Rattle.edf_serve.specs.Files.{from_folder, to_folder}
-use Rattle.edf_serve.specs.Finding.{TellsNone}
+use Rattle.edf_serve.specs.Finding.{PickedBy, TellsNone, IsDoneForOne}
+use Rattle.edf_serve.specs.Finding.PickedBy.{by_place, by_codes}
+use Rattle.edf_serve.specs.Overview.{IsOverview}
+use Rattle.edf_serve.specs.Running.{IsListed}
 use Rattle.edf_serve.specs.Work.{Point, Work, Submission, EndsAs, OnlyWrites}
+use Rattle.edf_serve.specs.declared.form.Form.{Form}
+use Rattle.edf_serve.specs.declared.form.Form.TheVariants.{Canonical, Picture}
 use Rattle.edf_serve.specs.declared.files.Folders.{Folders}
 use Rattle.edf_serve.specs.declared.room.Outcome.{Outcome}
 use Rattle.edf_serve.specs.declared.room.Outcome.TheVariants as outcome
@@ -64,12 +68,12 @@ made-one : (folder : Option (List ℕ)) (old new : Option Made) (one : Tried) �
 made-one folder None new one below tries = tt
 made-one folder (Some made) new one below tries = (one ∷ [], tries, (below, tt))
 
--- what an export of a place writes, and one of a recording
-abbrev pub by-place : {S : Type 0} → Ghosts S → ℕ → Writes S
-by-place g place = λ old new file out status. IsPlaceExported g old new file out place status
-
-abbrev pub by-key : {S : Type 0} → Ghosts S → Key → Writes S
-by-key g key = λ old new file out status. IsKeyExported g old new file out key status
+-- what goes out leaves what is held
+pub written-stays : {S : Type 0} (g : Ghosts S) (form : Form) (old new : StoreModel S)
+    (file out : Growth) (key : Key) (told : Status) →
+    IsKeyWritten g form old new file out key told → Stays g old new
+written-stays g Canonical old new file out key told is = is.stays
+written-stays g Picture old new file out key told is = is.stays
 
 module _ {S : Type 0} (g : Ghosts S) (folders : Folders) where
   -- a command that ends with a status submitted nothing
@@ -78,71 +82,105 @@ module _ {S : Type 0} (g : Ghosts S) (folders : Folders) where
   told-none w P (outcome.Told status is_doubtful) e = (e.0, (status, e.1))
   told-none w P (outcome.Accepted name receipt start) e = absurd e
 
-  -- what goes out of a store leaves what is held
-  abbrev pub Leaves : Work S → Writes S → Type 0
-  Leaves w Goes = (file out : Growth) (told : Status) →
-      Goes w.old.store w.new.store file out told → Stays g w.old.store w.new.store
+  -- what is held stays while it is looked for one that is picked
+  find-stays : (old new : StoreModel S) (p : PickedBy) (word : List ℕ) (out : Growth)
+      (status : Status) → TellsNone g old new p word out status → Stays g old new
+  find-stays old new p word out status (inl (count, finds, said)) = finds.stays
+  find-stays old new p word out status (inr (fault, refuses, said)) = refuses.stays
 
-  -- what is held stays while a recording is exported
-  pub export-stays : (w : Work S) (name : List ℕ) (Goes : Writes S) → Leaves w Goes →
-      (status : Status) → IsExportedAs g w name folders Goes status →
-      Stays g w.old.store w.new.store
-  export-stays w name Goes leaves status (inl n) = subst (Stays g w.old.store) (sym n.0)
-      (stays_same g w.old.store)
-  export-stays w name Goes leaves status (inr (path, at, inl m)) =
-      leaves m.file m.out m.told m.exported
-  export-stays w name Goes leaves status (inr (path, at, inr n)) = subst (Stays g w.old.store)
-      (sym n.store) (stays_same g w.old.store)
-
-  -- and while it is looked for one that matches
-  find-stays : (old new : StoreModel S) (s : Sought) (verb : List ℕ) (out : Growth)
-      (status : Status) → TellsNone g old new s verb out status → Stays g old new
-  find-stays old new s verb out status (inl (count, finds, said)) = finds.stays
-  find-stays old new s verb out status (inr (fault, refuses, said)) = refuses.stays
-
-  none-found : (w : Work S) (s : Sought) (verb : List ℕ) →
-      OnlyWrites w (TellsNone g w.old.store w.new.store s verb) → IsOrderly g folders w
-  none-found w s verb is =
+  -- a command that writes lines alone, and leaves what is held
+  only-writes : (w : Work S) (P : Growth → Status → Type 0) →
+      ((out : Growth) (status : Status) → P out status → Stays g w.old.store w.new.store) →
+      OnlyWrites w P → IsOrderly g folders w
+  only-writes w P stays is =
       let told = told-none w _ w.outcome is.1 in record {
         took = inl (record {
           none = told.0;
-          stays = inr (find-stays w.old.store w.new.store s verb _ told.1.0 told.1.1);
+          stays = inr (stays _ told.1.0 told.1.1);
           paths = ap (λ (p : Point S). p.paths) is.0;
         });
         made = made-none (to_folder folders) w.old.made w.new.made
             (ap (λ (p : Point S). p.made) is.0);
       }
 
-  export-orderly : (w : Work S) (name : List ℕ) (Goes : Writes S) → Leaves w Goes →
-      (status : Status) → (w.submission ≡ None) →
-      (w.new ≡ record w.old { store = w.new.store; made = w.new.made; out = w.new.out }) →
-      IsExportedAs g w name folders Goes status → IsOrderly g folders w
-  export-orderly w name Goes leaves status none same (inl n) = record {
-    took = inl (record {
-      none = none;
-      stays = inl n.0;
-      paths = ap (λ (p : Point S). p.paths) same;
-    });
-    made = made-none (to_folder folders) w.old.made w.new.made n.1;
-  }
-  export-orderly w name Goes leaves status none same (inr (path, at, inl m)) = record {
-    took = inl (record {
-      none = none;
-      stays = inr (leaves m.file m.out m.told m.exported);
-      paths = ap (λ (p : Point S). p.paths) same;
-    });
-    made = made-one (to_folder folders) w.old.made w.new.made _
-        (lies w.old.paths (to_folder folders) name path at) m.tries;
-  }
-  export-orderly w name Goes leaves status none same (inr (path, at, inr n)) = record {
-    took = inl (record {
-      none = none;
-      stays = inl n.store;
-      paths = ap (λ (p : Point S). p.paths) same;
-    });
-    made = made-one (to_folder folders) w.old.made w.new.made _
-        (lies w.old.paths (to_folder folders) name path at) n.tries;
-  }
+  -- what is held stays while a recording goes to a new file
+  pub made-stays : (form : Form) (name : List ℕ) (w : Work S) (key : Key) (status : Status) →
+      IsMadeAs g form name folders w key status → Stays g w.old.store w.new.store
+  made-stays form name w key status (inl n) = subst (Stays g w.old.store) (sym n.0)
+      (stays_same g w.old.store)
+  made-stays form name w key status (inr (path, at, inl m)) =
+      written-stays g form w.old.store w.new.store m.file m.out key m.told m.written
+  made-stays form name w key status (inr (path, at, inr n)) = subst (Stays g w.old.store)
+      (sym n.store) (stays_same g w.old.store)
+
+  made-below : (form : Form) (name : List ℕ) (w : Work S) (key : Key) (status : Status) →
+      IsMadeAs g form name folders w key status →
+      MakesBelow (to_folder folders) w.old.made w.new.made
+  made-below form name w key status (inl n) =
+      made-none (to_folder folders) w.old.made w.new.made n.1
+  made-below form name w key status (inr (path, at, inl m)) =
+      made-one (to_folder folders) w.old.made w.new.made _
+      (lies w.old.paths (to_folder folders) name path at) m.tries
+  made-below form name w key status (inr (path, at, inr n)) =
+      made-one (to_folder folders) w.old.made w.new.made _
+      (lies w.old.paths (to_folder folders) name path at) n.tries
+
+  -- a command that submits nothing
+  abbrev IsQuiet : Work S → Type 0
+  IsQuiet w = SubmitsNone g folders w × MakesBelow (to_folder folders) w.old.made w.new.made
+
+  -- from the store that finding a recording left
+  abbrev found-at : Work S → StoreModel S → Work S
+  found-at w mid = record w { old = record w.old { store = mid } }
+
+  quiet-runs : (w : Work S) (key : Key) → IsListed g w key → IsQuiet w
+  quiet-runs w key is =
+      let told = told-none w _ w.outcome is.1 in (
+        record {
+          none = told.0;
+          stays = inr told.1.1.stays;
+          paths = ap (λ (p : Point S). p.paths) is.0;
+        },
+        made-none (to_folder folders) w.old.made w.new.made (ap (λ (p : Point S). p.made) is.0),
+      )
+
+  quiet-file : (form : Form) (name : List ℕ) (w : Work S) (key : Key) →
+      IsMadeBelow g form name folders w key → IsQuiet w
+  quiet-file form name w key is =
+      let told = told-none w _ w.outcome is.1 in (
+        record {
+          none = told.0;
+          stays = inr (made-stays form name w key told.1.0 told.1.1);
+          paths = ap (λ (p : Point S). p.paths) is.0;
+        },
+        made-below form name w key told.1.0 told.1.1,
+      )
+
+  then-stays : (old mid new : StoreModel S) → Stays g old mid →
+      (new ≡ mid) ⊎ Stays g mid new → Stays g old new
+  then-stays old mid new first (inl same) = subst (Stays g old) (sym same) first
+  then-stays old mid new first (inr next) = stays_then g old mid new first next
+
+  for-one : (p : PickedBy) (word : List ℕ) (Does : Work S → Key → Type 0) →
+      ((v : Work S) (key : Key) → Does v key → IsQuiet v) → (w : Work S) →
+      IsDoneForOne g w p word Does → IsOrderly g folders w
+  for-one p word Does quiet w (inl (mid, key, finds, doubt, is)) =
+      let so = quiet (found-at w mid) key is in record {
+        took = inl (record {
+          none = so.0.none;
+          stays = inr (then-stays w.old.store mid w.new.store finds.stays so.0.stays);
+          paths = so.0.paths;
+        });
+        made = so.1;
+      }
+  for-one p word Does quiet w (inr none) = only-writes w
+      (TellsNone g w.old.store w.new.store p word)
+      (find-stays w.old.store w.new.store p word) none
+
+  file : (form : Form) (name : List ℕ) (p : PickedBy) (w : Work S) →
+      IsMadeOf g form name folders w p → IsOrderly g folders w
+  file form name p w is = for-one p (verb form) (IsMadeBelow g form name folders)
+      (quiet-file form name) w is
 
   pub orderly : (w : Work S) (asked : Option LineAsked) → IsWorked g folders w asked →
       IsOrderly g folders w
@@ -185,54 +223,13 @@ module _ {S : Type 0} (g : Ghosts S) (folders : Folders) where
         made = made-none (to_folder folders) w.old.made w.new.made
             (ap (λ (p : Point S). p.made) is.0);
       }
-  orderly w (Some LineAsked.status) is =
-      let told = told-none w _ w.outcome is.1 in record {
-        took = inl (record {
-          none = told.0;
-          stays = inr told.1.1.stays;
-          paths = ap (λ (p : Point S). p.paths) is.0;
-        });
-        made = made-none (to_folder folders) w.old.made w.new.made
-            (ap (λ (p : Point S). p.made) is.0);
-      }
-  orderly w (Some (runs_of s)) (inl (mid, key, finds, is)) =
-      let v : Work S = record w { old = record w.old { store = mid } } in
-      let told = told-none v _ v.outcome is.1 in record {
-        took = inl (record {
-          none = told.0;
-          stays = inr (stays_then g w.old.store mid w.new.store finds.stays told.1.1.stays);
-          paths = ap (λ (p : Point S). p.paths) is.0;
-        });
-        made = made-none (to_folder folders) w.old.made w.new.made
-            (ap (λ (p : Point S). p.made) is.0);
-      }
-  orderly w (Some (runs_of s)) (inr is) = none-found w s (codes "runs") is
-  orderly w (Some (export_of s name)) (inl (mid, key, finds, is)) =
-      let v : Work S = record w { old = record w.old { store = mid } } in
-      let Goes : Writes S = by-key g key in
-      let told = told-none v _ v.outcome is.1 in
-      let so = export-orderly v name Goes (λ file out status e. e.stays) told.1.0 told.0 is.0
-      told.1.1 in record {
-        took = inl (record {
-          none = told.0;
-          stays = inr (stays_then g w.old.store mid w.new.store finds.stays
-              (export-stays v name Goes (λ file out status e. e.stays) told.1.0 told.1.1));
-          paths = ap (λ (p : Point S). p.paths) is.0;
-        });
-        made = so.made;
-      }
-  orderly w (Some (export_of s name)) (inr is) = none-found w s (codes "export") is
+  orderly w (Some LineAsked.status) is = only-writes w
+      (IsOverview g w.old.store w.new.store w.old.counts w.old.clock.told)
+      (λ out status overview. overview.stays) is
   orderly w (Some (runs place)) is =
-      let told = told-none w _ w.outcome is.1 in record {
-        took = inl (record {
-          none = told.0;
-          stays = inr told.1.1.stays;
-          paths = ap (λ (p : Point S). p.paths) is.0;
-        });
-        made = made-none (to_folder folders) w.old.made w.new.made
-            (ap (λ (p : Point S). p.made) is.0);
-      }
-  orderly w (Some (export place name)) is =
-      let told = told-none w _ w.outcome is.1 in
-      export-orderly w name (by-place g place) (λ file out status e. e.stays) told.1.0 told.0 is.0
-      told.1.1
+      for-one (by_place place) (codes "runs") (IsListed g) quiet-runs w is
+  orderly w (Some (runs_of s)) is = for-one (by_codes s) (codes "runs") (IsListed g) quiet-runs w is
+  orderly w (Some (export place name)) is = file Canonical name (by_place place) w is
+  orderly w (Some (export_of s name)) is = file Canonical name (by_codes s) w is
+  orderly w (Some (picture place name)) is = file Picture name (by_place place) w is
+  orderly w (Some (picture_of s name)) is = file Picture name (by_codes s) w is

@@ -8,7 +8,7 @@ use Rattle.edf_store.specs.declared.fault.StoreFault.TheVariants.{Store}
 use Rattle.edf_intake.specs.declared.answer.Receipt.{Receipt}
 use Rattle.edfserve_arguments.specs.Line.{LineAsked, IsRead}
 use Rattle.edfserve_arguments.specs.Line.LineAsked.{take, list, runs, runs_of, export, export_of}
-use Rattle.edf_command.specs.Exporting.{IsPlaceExported}
+use Rattle.edfserve_arguments.specs.Line.LineAsked.{picture, picture_of}
 use Rattle.edf_command.specs.Lines.{accepted_line}
 use Rattle.edf_command.specs.Listing.{AreRecordingsListed}
 use Rattle.edf_program.specs.Output.{IsWritten}
@@ -17,17 +17,19 @@ use Rattle.edf_program.specs.declared.status.Status.{Status}
 use Rattle.edf_program.specs.declared.status.Status.TheVariants.{Done, Usage, Trouble}
 use Rattle.edf_serve.specs.Client.{Heard, GetsAnswer, looked, IsIdle, IsOpenSince, IsUntold}
 use Rattle.edf_serve.specs.Client.{status_line, refused_once, warned_once}
-use Rattle.edf_serve.specs.Exporting.{IsExportedBelow, IsKeyExported}
+use Rattle.edf_serve.specs.Exporting.{IsMadeOf}
 use Rattle.edf_serve.specs.Files.{and_one}
 use Rattle.edf_serve.specs.Finding.{IsDoneForOne}
+use Rattle.edf_serve.specs.Finding.PickedBy.{by_place, by_codes}
 use Rattle.edf_serve.specs.Lines.{whole_lines}
 use Rattle.edf_serve.specs.Overview.{IsOverview}
-use Rattle.edf_serve.specs.Running.{IsListedAt, IsListed}
+use Rattle.edf_serve.specs.Running.{IsListed}
 use Rattle.edf_serve.specs.Taking.{IsTakenNow}
 use Rattle.edf_serve.specs.Work.{Point, Work, grown, EndsAs, OnlyWrites}
 use Rattle.edf_serve.specs.declared.answering.Answered.{Answered}
 use Rattle.edf_serve.specs.declared.answering.End.{End}
 use Rattle.edf_serve.specs.declared.answering.End.TheVariants.{Left, Lost, Unwritten}
+use Rattle.edf_serve.specs.declared.form.Form.TheVariants.{Canonical, Picture}
 use Rattle.edf_serve.specs.declared.files.Folders.{Folders}
 use Rattle.edf_serve.specs.declared.room.Counts.{Counts}
 use Rattle.edf_serve.specs.declared.room.Outcome.{Outcome}
@@ -51,13 +53,14 @@ IsWorked g folders w (Some list) =
     (grown w.old.why w.new.why)) w.outcome
 IsWorked g folders w (Some LineAsked.status) = OnlyWrites w
     (IsOverview g w.old.store w.new.store w.old.counts w.old.clock.told)
-IsWorked g folders w (Some (runs place)) = IsListedAt g w place
-IsWorked g folders w (Some (runs_of s)) = IsDoneForOne g w s (codes "runs") (IsListed g)
-IsWorked g folders w (Some (export place name)) = IsExportedBelow g w name folders
-    (λ old new file out status. IsPlaceExported g old new file out place status)
-IsWorked g folders w (Some (export_of s name)) = IsDoneForOne g w s (codes "export")
-    (λ v key. IsExportedBelow g v name folders
-    (λ old new file out status. IsKeyExported g old new file out key status))
+IsWorked g folders w (Some (runs place)) =
+    IsDoneForOne g w (by_place place) (codes "runs") (IsListed g)
+IsWorked g folders w (Some (runs_of s)) = IsDoneForOne g w (by_codes s) (codes "runs") (IsListed g)
+IsWorked g folders w (Some (export place name)) =
+    IsMadeOf g Canonical name folders w (by_place place)
+IsWorked g folders w (Some (export_of s name)) = IsMadeOf g Canonical name folders w (by_codes s)
+IsWorked g folders w (Some (picture place name)) = IsMadeOf g Picture name folders w (by_place place)
+IsWorked g folders w (Some (picture_of s name)) = IsMadeOf g Picture name folders w (by_codes s)
 
 -- the counts after a command that accepted no file: one refused more, if it was to take one
 abbrev pub refused_by : Option LineAsked → Counts → Counts

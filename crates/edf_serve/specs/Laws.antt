@@ -8,7 +8,6 @@ use Rattle.edf_header.specs.Key.{Key}
 use Rattle.edf_fragment.specs.Fragment.{DataRecord}
 use Rattle.edf_fragment.specs.Told.{Told, Fragment}
 use Rattle.edf_holdings.specs.Holdings.{Holdings, IsSound}
-use Rattle.edf_holdings.specs.Keys.{AreKeysOf}
 use Rattle.edf_holdings.specs.Reply.{Reply, after, after_one}
 use Rattle.edf_store.specs.Held.{StoreModel, at, Holds}
 use Rattle.edf_intake.specs.Batch.{WillTell}
@@ -16,20 +15,57 @@ use Rattle.edf_intake.specs.Input.{ReadsWhole}
 use Rattle.edf_intake.specs.Refusal.{reply_told}
 use Rattle.edf_intake.specs.declared.answer.Receipt.{Receipt}
 use Rattle.edf_export.specs.Headline.{IsOnlyFile}
-use Rattle.edfserve_arguments.specs.Line.LineAsked.{runs_of, export, export_of}
-use Rattle.edfserve_arguments.specs.Sought.{Sought}
-use Rattle.edf_command.specs.Exporting.{at_place}
+use Rattle.edfserve_arguments.specs.Line.{LineAsked}
+use Rattle.edfserve_arguments.specs.Line.LineAsked.{runs, runs_of, export, export_of, picture}
+use Rattle.edfserve_arguments.specs.Line.LineAsked.{picture_of}
 use Rattle.edf_program.specs.declared.status.Status.TheVariants.{Done, Refused, Trouble}
 use Rattle.edf_serve.specs.Client.{HasAccepted}
 use Rattle.edf_serve.specs.Exchange.{Exchange, IsServed}
+use Rattle.edf_serve.specs.Exporting.{made_line}
 use Rattle.edf_serve.specs.Files.{Made, HasPath, Tries, IsPlace, to_folder}
-use Rattle.edf_serve.specs.Finding.{AreFound, IsOnlyNamed, matches_line}
+use Rattle.edf_serve.specs.Finding.{PickedBy, AreFound, unpicked_line}
+use Rattle.edf_serve.specs.Finding.PickedBy.{by_place, by_codes}
+use Rattle.edf_serve.specs.Picturing.{ShowsRecording}
 use Rattle.edf_serve.specs.Running.{HasRunsOf}
 use Rattle.edf_serve.specs.Session.{AreSubmittedInTurn}
 use Rattle.edf_serve.specs.Work.{Point, Submission, grown}
+use Rattle.edf_serve.specs.declared.form.Form.{Form}
+use Rattle.edf_serve.specs.declared.form.Form.TheVariants.{Canonical, Picture}
 use Rattle.edf_serve.specs.declared.files.Finished.TheVariants.{Named}
-use Rattle.edf_serve.specs.declared.finding.Found.TheVariants.{Other}
 use Rattle.edf_serve.specs.declared.files.Folders.{Folders}
+use Rattle.edf_serve.specs.declared.finding.Found.TheVariants.{One, Other}
+
+-- the lines that ask for the runs of what they pick, and for a new file of it
+abbrev pub asks_runs : PickedBy → LineAsked
+asks_runs (by_place place) = runs place
+asks_runs (by_codes s) = runs_of s
+
+abbrev pub asks_file : Form → List ℕ → PickedBy → LineAsked
+asks_file Canonical name (by_place place) = export place name
+asks_file Canonical name (by_codes s) = export_of s name
+asks_file Picture name (by_place place) = picture place name
+asks_file Picture name (by_codes s) = picture_of s name
+
+-- what that file is: the canonical file of what the recording holds, and no other bytes are one; or
+-- a picture that has the lines of its runs as text
+abbrev pub IsFileOf : Form → Holdings → Key → List ℕ → Type 0
+IsFileOf Canonical h key file = IsOnlyFile file key (h key)
+IsFileOf Picture h key file = ShowsRecording h key file
+
+-- the path of a name is that of a new file, which has such bytes
+pub record HasNewFile {S : Type 0} (folders : Folders) (a b : Point S) (name : List ℕ)
+    (Has : List ℕ → Type 0) : Type 0 where
+  pub path : List ℕ
+  pub leads : IsPlace a.paths (to_folder folders) name (Some path)
+  pub new : IfSome a.made (λ made. ¬ HasPath made path)
+  pub file : List ℕ
+  pub has : Has file
+  pub made : Tries a.made b.made (record {
+    path = path;
+    how = Some (Named (length file));
+    contents = Some file;
+    failed = 0;
+  })
 
 module _ {S : Type 0} (g : Ghosts S) where
   -- what a receipt tells is held: where the store held h before, it is open, and holds what the file
@@ -50,79 +86,49 @@ module _ {S : Type 0} (g : Ghosts S) where
       (h : Holdings) → IsSound it.old.cap h → Holds g it.old h → HasCleanDisk (at g store) →
       HoldsFile store receipt it h
 
-  -- The path of a name is that of a new file. It holds just the canonical file of this recording; no
-  -- other bytes are one.
-  pub record HasRecording (folders : Folders) (a b : Point S) (h : Holdings) (key : Key)
-      (name : List ℕ) : Type 0 where
-    pub path : List ℕ
-    pub leads : IsPlace a.paths (to_folder folders) name (Some path)
-    pub new : IfSome a.made (λ made. ¬ HasPath made path)
-    pub file : List ℕ
-    pub is_file : IsOnlyFile file key (h key)
-    pub made : Tries a.made b.made (record {
-      path = path;
-      how = Some (Named (length file));
-      contents = Some file;
-      failed = 0;
-    })
-
-  -- Where `export` was answered with status 0, over files that are known and a disk that returned
-  -- what was written, that is so of the recording at the place of the list, from 1.
-  pub record HasRecordingAt (folders : Folders) (a b : Point S) (h : Holdings) (place : ℕ)
-      (name : List ℕ) : Type 0 where
-    pub keys : List Key
-    pub key : Key
-    pub are_keys : AreKeysOf h keys
-    pub is_at : at_place keys place ≡ Some key
-    pub has : HasRecording folders a b h key name
-
-  abbrev pub ExportedIsCanonical : Type 0
-  ExportedIsCanonical = (folders : Folders) (a b : Point S) (x : Exchange S) (place : ℕ)
-      (name : List ℕ) (made : Made) → IsServed g x b folders a →
-      x.asked ≡ Some (export place name) → a.made ≡ Some made → x.answered.status ≡ Done →
+  -- Where `export` or `picture` was answered with status 0, over files that are known and a disk
+  -- that returned what was written, just one recording is picked, the file is of it, and a line tells
+  -- how many bytes it has.
+  abbrev pub MadeIsItsOwn : Type 0
+  MadeIsItsOwn = (folders : Folders) (a b : Point S) (x : Exchange S) (form : Form)
+      (name : List ℕ) (p : PickedBy) (made : Made) → IsServed g x b folders a →
+      x.asked ≡ Some (asks_file form name p) → a.made ≡ Some made → x.answered.status ≡ Done →
       HasCleanDisk (at g b.store) → (h : Holdings) → Holds g a.store h →
-      HasRecordingAt folders a b h place name
+      (key : Key) × AreFound p h (One key)
+      × (new : HasNewFile folders a b name (IsFileOf form h key))
+      × (x.work.new.out.bytes.items ≡ made_line form name (length new.file))
 
-  -- Where the line named the recording, it is so of the only one that is held and named so.
-  abbrev pub NamedIsCanonical : Type 0
-  NamedIsCanonical = (folders : Folders) (a b : Point S) (x : Exchange S) (s : Sought)
-      (name : List ℕ) (made : Made) → IsServed g x b folders a →
-      x.asked ≡ Some (export_of s name) → a.made ≡ Some made → x.answered.status ≡ Done →
+  -- The canonical file of a recording is the same however a line picked it, whatever else was held,
+  -- and at another time too, as long as the recording holds the same.
+  abbrev pub ExportedIsTheSame : Type 0
+  ExportedIsTheSame = (folders others : Folders) (a b c d : Point S) (h i : Holdings) (key : Key)
+      (name other : List ℕ) (one : HasNewFile folders a b name (IsFileOf Canonical h key))
+      (two : HasNewFile others c d other (IsFileOf Canonical i key)) → h key ≡ i key →
+      one.file ≡ two.file
+
+  -- The runs that were listed are those of the one recording that is picked.
+  abbrev pub RunsAreItsOwn : Type 0
+  RunsAreItsOwn = (folders : Folders) (a b : Point S) (x : Exchange S) (p : PickedBy) →
+      IsServed g x b folders a → x.asked ≡ Some (asks_runs p) → x.answered.status ≡ Done →
       HasCleanDisk (at g b.store) → (h : Holdings) → Holds g a.store h →
-      (key : Key) × IsOnlyNamed s h key × HasRecording folders a b h key name
-
-  -- The file of a recording that was named is that of its place, whatever stands before it, then or
-  -- at another time.
-  abbrev pub NamedIsAsPlaced : Type 0
-  NamedIsAsPlaced = (folders others : Folders) (a b c d : Point S) (h i : Holdings) (key : Key)
-      (place : ℕ) (name other : List ℕ) (one : HasRecording folders a b h key name)
-      (two : HasRecordingAt others c d i place other) → key ≡ two.key → h key ≡ i key →
-      one.file ≡ two.has.file
-
-  -- The runs that were listed of a recording that a line named are its own, and it is the only one
-  -- that is held and named so.
-  abbrev pub NamedRunsAreItsOwn : Type 0
-  NamedRunsAreItsOwn = (folders : Folders) (a b : Point S) (x : Exchange S) (s : Sought) →
-      IsServed g x b folders a → x.asked ≡ Some (runs_of s) → x.answered.status ≡ Done →
-      HasCleanDisk (at g b.store) → (h : Holdings) → Holds g a.store h →
-      (key : Key) × IsOnlyNamed s h key
+      (key : Key) × AreFound p h (One key)
       × HasRunsOf (grown x.work.old.out x.work.new.out) Done h key
 
-  -- no file was begun or opened; and a line says how many recordings match, with status 1, or there
-  -- was trouble
-  pub record IsUnmatched (a b : Point S) (x : Exchange S) (count : ℕ) : Type 0 where
+  -- no file was begun or opened; and a line says that there is none, or how many recordings match,
+  -- with status 1, or there was trouble
+  pub record IsUnmatched (a b : Point S) (x : Exchange S) (p : PickedBy) (count : ℕ) : Type 0 where
     pub made : b.made ≡ a.made
     pub paths : b.paths ≡ a.paths
     pub told : (x.answered.status ≡ Trouble) ⊎ ((x.answered.status ≡ Refused)
-        × (x.work.new.out.bytes.items ≡ matches_line count))
+        × (x.work.new.out.bytes.items ≡ unpicked_line p count))
 
-  -- so it is where none is named so, or several are
+  -- so it is where another number than one is picked
   abbrev pub UnmatchedIsTold : Type 0
-  UnmatchedIsTold = (folders : Folders) (a b : Point S) (x : Exchange S) (s : Sought) (count : ℕ) →
-      IsServed g x b folders a →
-      (x.asked ≡ Some (runs_of s)) ⊎ ((name : List ℕ) × (x.asked ≡ Some (export_of s name))) →
+  UnmatchedIsTold = (folders : Folders) (a b : Point S) (x : Exchange S) (p : PickedBy)
+      (count : ℕ) → IsServed g x b folders a → (x.asked ≡ Some (asks_runs p))
+      ⊎ ((form : Form) × (name : List ℕ) × (x.asked ≡ Some (asks_file form name p))) →
       HasCleanDisk (at g b.store) → (h : Holdings) → Holds g a.store h →
-      AreFound s h (Other count) → IsUnmatched a b x count
+      AreFound p h (Other count) → IsUnmatched a b x p count
 
   -- A session that is broken off and begun again with all its files ends alike: over a store that
   -- holds what the files told that were submitted before, let one submit files that tell these and

@@ -2,9 +2,10 @@ pub mod Client
 pub mod Files
 pub mod Work
 pub mod Taking
+pub mod Finding
+pub mod Picturing
 pub mod Exporting
 pub mod Running
-pub mod Finding
 pub mod Overview
 pub mod Exchange
 pub mod Lines

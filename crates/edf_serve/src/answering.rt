@@ -13,11 +13,13 @@ ghost use Rattle.edf_serve.specs.declared.room.Counts.{Counts};
 
 use crate::apart::warn_if_apart;
 use crate::client::Client;
-use crate::exporting::{Chosen, export, export_one};
+use crate::exporting::make_of;
 use crate::files::{Folders, NewFiles, Sources};
+use crate::finding::Pick;
+use crate::form::Form;
 use crate::overview::tell_overview;
 use crate::room::{Counts, Outcome, Room};
-use crate::running::{list_runs, list_runs_of};
+use crate::running::list_runs;
 use crate::standing::StoreFiles;
 use crate::taking::take_now;
 use edf_command::list;
@@ -99,13 +101,27 @@ fn work<'l, S: Alter, I: Sources, P: NewFiles, C: Client, K: StoreFiles>(
         Some(LineCommand::Take { name }) => take_now(alloc, name, folders, store, room),
         Some(LineCommand::List) => list_all(alloc, store, room),
         Some(LineCommand::Status) => tell_overview(alloc, store, room),
-        Some(LineCommand::Runs { place }) => list_runs(alloc, place, store, room),
-        Some(LineCommand::RunsOf { wanted }) => list_runs_of(alloc, wanted, store, room),
+        Some(LineCommand::Runs { place }) => {
+            list_runs(alloc, Pick::Place { place }, store, room)
+        }
+        Some(LineCommand::RunsOf { wanted }) => {
+            list_runs(alloc, Pick::Codes { wanted }, store, room)
+        }
         Some(LineCommand::Export { place, name }) => {
-            export(alloc, Chosen::At { place }, name, folders, store, room)
+            let pick = Pick::Place { place };
+            make_of(alloc, Form::Canonical, pick, name, folders, store, room)
         }
         Some(LineCommand::ExportOf { wanted, name }) => {
-            export_one(alloc, wanted, name, folders, store, room)
+            let pick = Pick::Codes { wanted };
+            make_of(alloc, Form::Canonical, pick, name, folders, store, room)
+        }
+        Some(LineCommand::Picture { place, name }) => {
+            let pick = Pick::Place { place };
+            make_of(alloc, Form::Picture, pick, name, folders, store, room)
+        }
+        Some(LineCommand::PictureOf { wanted, name }) => {
+            let pick = Pick::Codes { wanted };
+            make_of(alloc, Form::Picture, pick, name, folders, store, room)
         }
         None => Outcome::Told {
             status: tell_bytes(&mut room.out, b"no such command\n", Status::Usage),

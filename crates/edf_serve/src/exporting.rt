@@ -1,33 +1,31 @@
-//! `export`: a recording as a new file.
+//! A recording as a new file: `export`, its canonical file, and `picture`, what can be seen of it.
 
-ghost use Rattle.std.specs.Prelude.{◌≡◌, ◌⊎◌, Some, None, IfOk, codes};
-ghost use Rattle.edf_export.specs.declared.fault.ExportFault.TheVariants.{Write};
-ghost use Rattle.edfserve_arguments.specs.Sought.{sought_by};
+ghost use Rattle.std.specs.Prelude.{◌≡◌, ◌⊎◌, Some, None, IfOk};
 ghost use Rattle.edf_command.specs.Lines.{export_refused_line, export_status};
 ghost use Rattle.edf_program.specs.Output.{growth, IsWritten};
-ghost use Rattle.edf_serve.specs.Exporting.{IsExportedBelow, IsExportedAs, MakesFile, BeginsNone};
-ghost use Rattle.edf_serve.specs.Exporting.{IsFinishTold, IsChosenExported, IsKeyExported};
-ghost use Rattle.edf_serve.specs.Exporting.{exported_line, there_line};
+ghost use Rattle.edf_serve.specs.Exporting.{IsKeyExported, IsKeyWritten, MakesFile, BeginsNone};
+ghost use Rattle.edf_serve.specs.Exporting.{IsFinishTold, IsMadeAs, IsMadeBelow, IsMadeOf};
+ghost use Rattle.edf_serve.specs.Exporting.{made_line, there_line};
 ghost use Rattle.edf_serve.specs.Files.{IsEnded};
-ghost use Rattle.edf_serve.specs.Finding.{IsDoneForOne};
+ghost use Rattle.edf_serve.specs.Finding.{DoubtsTrouble, picked_by};
 ghost use Rattle.edf_serve.specs.Work.{Work, point, grown};
 ghost use Rattle.edf_serve.specs.declared.files.Finished.{Finished};
 ghost use Rattle.edf_serve.specs.declared.room.Outcome.{Outcome};
 
 use crate::client::Client;
 use crate::files::{Finished, Folders, NewFiles, Sources};
-use crate::finding::find_one;
+use crate::finding::{Pick, find_one};
+use crate::form::{Form, tell_unwritten};
+use crate::picturing::draw_key;
 use crate::places::place_of;
 use crate::room::{Outcome, Room};
 use crate::standing::StoreFiles;
 use crate::taking::tell_outside;
-use edf_command::export_place;
 use edf_export::ExportFault;
 use edf_fragment::Output;
 use edf_header::Identity;
 use edf_program::{Status, status_of_number, tell, tell_memory, tell_parts, tell_refused};
 use edf_store::Store;
-use edfserve_arguments::Wanted;
 use sqlite::Alter;
 use std::alloc::{AllocError, Global};
 
@@ -38,15 +36,6 @@ fn tell_there<O: Output>(out: &mut O, name: &str) -> Status
 {
     let parts = [name.as_bytes(), b" is there\n".as_slice()];
     tell_parts(out, &parts, Status::Refused)
-}
-
-/// Prints that the file could not be written. Printing takes no memory.
-fn tell_unwritten<O: Output>(out: &mut O) -> Status
-    ensures { IsWritten (growth O.Output out.old out.new) (export_refused_line Write) Status.Trouble
-        result }
-{
-    let fault = ExportFault::Write;
-    tell_refused(out, "export", fault.number(), fault.name(), Status::Trouble)
 }
 
 /// Prints why a recording is not exported. Printing takes no memory.
@@ -75,49 +64,37 @@ fn export_key<S: Alter, O: Output, F: Output>(
     }
 }
 
-/// Which recording is exported.
-#[derive(Clone, Copy, Drop)]
-pub(crate) enum Chosen<'i> {
-    /// That at a place of the list, from 1.
-    At {
-        /// The place.
-        place: u32,
-    },
-    /// This.
-    This {
-        /// It.
-        identity: &'i Identity,
-    },
-}
-
-/// Writes its canonical file, or why not.
-fn export_chosen<S: Alter, O: Output, F: Output>(
+/// Writes what a new file has of a recording, or why not.
+fn write_key<S: Alter, O: Output, F: Output>(
     alloc: Global,
-    chosen: Chosen<'_>,
+    form: Form,
+    identity: Identity,
     store: &mut Store<S>,
     file: &mut O,
     out: &mut F,
 ) -> Status
-    ensures { IsChosenExported S.Store chosen.entry store.old store.new
-        (growth O.Output file.old file.new) (growth F.Output out.old out.new) result }
+    ensures { IsKeyWritten S.Store form store.old store.new (growth O.Output file.old file.new)
+        (growth F.Output out.old out.new) identity result }
 {
-    match chosen {
-        Chosen::At { place } => export_place(alloc, place, store, file, out),
-        Chosen::This { identity } => export_key(alloc, identity, store, file, out),
+    match form {
+        Form::Canonical => export_key(alloc, &identity, store, file, out),
+        Form::Picture => draw_key(alloc, identity, store, file, out),
     }
 }
 
 /// The line of a file that was made.
-fn exported_line(alloc: Global, name: &str, bytes: u64) -> Result<Vec<u8>, AllocError>
-    ensures { IfOk result (λ line. line.items ≡ exported_line name.now bytes) }
+fn made_line(alloc: Global, form: Form, name: &str, bytes: u64) -> Result<Vec<u8>, AllocError>
+    ensures { IfOk result (λ line. line.items ≡ made_line form name.now bytes) }
 {
-    let line = format!(in alloc; "{name} exported bytes={bytes}\n")?;
+    let done = form.done_word();
+    let line = format!(in alloc; "{name} {done} bytes={bytes}\n")?;
     Ok(line.into_bytes())
 }
 
 /// Gives a whole file its path, and writes its line.
 fn finish<I: Sources, P: NewFiles, C: Client, K: StoreFiles>(
     alloc: Global,
+    form: Form,
     name: &str,
     path: &str,
     writer: P::Writer,
@@ -129,50 +106,51 @@ fn finish<I: Sources, P: NewFiles, C: Client, K: StoreFiles>(
           how = Some finished;
           contents = P.Writer.contents writer;
           failed = P.Writer.failures writer;
-        }) × IsFinishTold name.now (grown room.old.out room.new.out) finished result }
+        }) × IsFinishTold form name.now (grown room.old.out room.new.out) finished result }
     ensures same { room.new ≡ record room.old { files = room.new.files; out = room.new.out } }
 {
     match room.files.finish(writer, path) {
         Finished::Named { bytes } => {
             tell(
                 &mut room.out,
-                exported_line(alloc, name, bytes),
+                made_line(alloc, form, name, bytes),
                 Status::Done,
             )
         }
         Finished::IsThere => tell_there(&mut room.out, name),
-        Finished::Failed => tell_unwritten(&mut room.out),
+        Finished::Failed => tell_unwritten(&mut room.out, form),
     }
 }
 
 /// Writes a recording to a new file, and its line or why not.
-fn export_to<S: Alter, I: Sources, P: NewFiles, C: Client, K: StoreFiles>(
+fn make_at<S: Alter, I: Sources, P: NewFiles, C: Client, K: StoreFiles>(
     alloc: Global,
-    chosen: Chosen<'_>,
+    form: Form,
+    identity: Identity,
     name: &str,
     path: &str,
     store: &mut Store<S>,
     room: &mut Room<I, P, C, K>,
 ) -> Status
-    ensures exported { (outcome : Outcome) → (let w : Work S = (record {
+    ensures made { (outcome : Outcome) → (let w : Work S = (record {
       old = point I.Sources P.NewFiles C.Client K.StoreFiles store.old room.old;
       new = point I.Sources P.NewFiles C.Client K.StoreFiles store.new room.new;
       submission = None;
       outcome = outcome;
     }) in
-        MakesFile S.Store w name.now path.now result (IsChosenExported S.Store chosen.entry)
-        ⊎ BeginsNone S.Store w name.now path.now result) }
+        MakesFile S.Store w form identity name.now path.now result
+        ⊎ BeginsNone w form name.now path.now result) }
     ensures cap { store.new.cap ≡ store.old.cap }
     ensures same { room.new ≡ record room.old { files = room.new.files; out = room.new.out } }
 {
     let mut writer = match room.files.create(alloc, path) {
         Ok(Some(writer)) => writer,
         Ok(None) => return tell_there(&mut room.out, name),
-        Err(_) => return tell_unwritten(&mut room.out),
+        Err(_) => return tell_unwritten(&mut room.out, form),
     };
-    let told = export_chosen(alloc, chosen, store, &mut writer, &mut room.out);
+    let told = write_key(alloc, form, identity, store, &mut writer, &mut room.out);
     if told == Status::Done {
-        return finish(alloc, name, path, writer, room);
+        return finish(alloc, form, name, path, writer, room);
     }
     room.files.discard(writer, path);
     told
@@ -180,82 +158,78 @@ fn export_to<S: Alter, I: Sources, P: NewFiles, C: Client, K: StoreFiles>(
 
 /// Writes a recording to a new file of that name below the folder, where there is one, and its line
 /// or why not.
-fn export_below<S: Alter, I: Sources, P: NewFiles, C: Client, K: StoreFiles>(
+fn make_as<S: Alter, I: Sources, P: NewFiles, C: Client, K: StoreFiles>(
     alloc: Global,
-    chosen: Chosen<'_>,
+    form: Form,
+    identity: Identity,
     name: &str,
     folders: Folders<'_>,
     store: &mut Store<S>,
     room: &mut Room<I, P, C, K>,
 ) -> Status
-    ensures exported { (outcome : Outcome) → (let w : Work S = record {
+    ensures made { (outcome : Outcome) → (let w : Work S = record {
       old = point I.Sources P.NewFiles C.Client K.StoreFiles store.old room.old;
       new = point I.Sources P.NewFiles C.Client K.StoreFiles store.new room.new;
       submission = None;
       outcome = outcome;
     } in
-        IsExportedAs S.Store w name.now folders.entry (IsChosenExported S.Store chosen.entry)
-        result) }
+        IsMadeAs S.Store form name.now folders.entry w identity result) }
     ensures cap { store.new.cap ≡ store.old.cap }
     ensures same { room.new ≡ record room.old { files = room.new.files; out = room.new.out } }
 {
     match place_of(alloc, folders.to, name, &room.sources) {
-        Ok(Some(path)) => export_to(alloc, chosen, name, path.as_str(), store, room),
+        Ok(Some(path)) => make_at(alloc, form, identity, name, path.as_str(), store, room),
         Ok(None) => tell_outside(&mut room.out, name),
-        Err(_) => tell_memory(&mut room.out, "export"),
+        Err(_) => tell_memory(&mut room.out, form.verb()),
     }
 }
 
 /// Does so, and says what came of it.
-pub(crate) fn export<'l, S: Alter, I: Sources, P: NewFiles, C: Client, K: StoreFiles>(
+fn make_below<'l, S: Alter, I: Sources, P: NewFiles, C: Client, K: StoreFiles>(
     alloc: Global,
-    chosen: Chosen<'_>,
+    form: Form,
+    identity: Identity,
     name: &str,
     folders: Folders<'_>,
     store: &mut Store<S>,
     room: &mut Room<I, P, C, K>,
 ) -> Outcome<'l>
-    ensures exported { IsExportedBelow S.Store (record {
+    ensures made { IsMadeBelow S.Store form name.now folders.entry (record {
       old = point I.Sources P.NewFiles C.Client K.StoreFiles store.old room.old;
       new = point I.Sources P.NewFiles C.Client K.StoreFiles store.new room.new;
       submission = None;
       outcome = result;
-    }) name.now folders.entry (IsChosenExported S.Store chosen.entry) }
+    }) identity }
+    ensures doubt { DoubtsTrouble result }
     ensures cap { store.new.cap ≡ store.old.cap }
 {
-    let status = export_below(alloc, chosen, name, folders, store, room);
+    let status = make_as(alloc, form, identity, name, folders, store, room);
     Outcome::Told {
         status,
         is_doubtful: status == Status::Trouble,
     }
 }
 
-/// Does so with the one recording that matches, or says why there is none.
-pub(crate) fn export_one<'l, S: Alter, I: Sources, P: NewFiles, C: Client, K: StoreFiles>(
+/// Does so with the one recording that is picked, or says why there is none.
+pub(crate) fn make_of<'l, S: Alter, I: Sources, P: NewFiles, C: Client, K: StoreFiles>(
     alloc: Global,
-    wanted: Wanted<'_>,
+    form: Form,
+    pick: Pick<'_>,
     name: &str,
     folders: Folders<'_>,
     store: &mut Store<S>,
     room: &mut Room<I, P, C, K>,
 ) -> Outcome<'l>
-    ensures exported { IsDoneForOne S.Store (record {
+    ensures made { IsMadeOf S.Store form name.now folders.entry (record {
       old = point I.Sources P.NewFiles C.Client K.StoreFiles store.old room.old;
       new = point I.Sources P.NewFiles C.Client K.StoreFiles store.new room.new;
       submission = None;
       outcome = result;
-    }) (sought_by wanted.entry) (codes "export")
-        (λ v key. IsExportedBelow S.Store v name.now folders.entry
-        (λ old new file out status. IsKeyExported S.Store old new file out key status)) }
+    }) (picked_by pick.entry) }
     ensures cap { store.new.cap ≡ store.old.cap }
 {
-    match find_one(alloc, wanted, "export", store, &mut room.out) {
-        Ok(identity) => {
-            let chosen = Chosen::This {
-                identity: &identity,
-            };
-            export(alloc, chosen, name, folders, store, room)
-        }
+    match find_one(alloc, pick, form.verb(), store, &mut room.out) {
+        Ok(identity) => make_below(alloc, form, identity, name, folders, store, room),
         Err(status) => Outcome::Told {
             status,
             is_doubtful: status == Status::Trouble,

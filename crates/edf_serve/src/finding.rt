@@ -1,4 +1,4 @@
-//! The recordings that have the codes that a line names.
+//! The recordings that a line picks, by their places or by their codes.
 
 ghost use Rattle.std.specs.Prelude.{◌≡◌, ◌≢◌, ◌↔◌, ◌+◌, ◌<◌, [], ℕ, true, Some, IsTrue, slice_get};
 ghost use Rattle.std.specs.Prelude.{IfOk, OnOk, IfErr, IfSome, MatchBool, MatchResult};
@@ -9,14 +9,17 @@ ghost use Rattle.edf_holdings.specs.Holdings.{Holdings};
 ghost use Rattle.edf_store.specs.Fault.{HasCause, number, store_fault_name};
 ghost use Rattle.edf_store.specs.Held.{at, Holds, Stays};
 ghost use Rattle.edfserve_arguments.specs.Sought.{sought_by};
+ghost use Rattle.edf_command.specs.Exporting.{at_place};
 ghost use Rattle.edf_command.specs.Lines.{first_start};
 ghost use Rattle.edf_command.specs.Listing.{AreHeldBy};
 ghost use Rattle.edf_program.specs.Output.{growth, IsWritten};
 ghost use Rattle.edf_program.specs.Text.{refused_line};
 ghost use Rattle.edf_serve.specs.Client.{IsIdle};
-ghost use Rattle.edf_serve.specs.Finding.{HasCodes, IsNamedBy, CountsNamed, Finds};
-ghost use Rattle.edf_serve.specs.Finding.{RefusesFinding, TellsNone, matches_line};
+ghost use Rattle.edf_serve.specs.Finding.{HasCodes, IsNamedBy, CountsNamed, Finds, picked_by};
+ghost use Rattle.edf_serve.specs.Finding.{RefusesFinding, TellsNone, matches_line, unpicked_line};
+ghost use Rattle.edf_serve.specs.Finding.PickedBy.{by_place, by_codes};
 
+use edf_command::tell_no_recording;
 use edf_fragment::Output;
 use edf_header::Identity;
 use edf_program::{Status, tell_bytes, tell_parts, tell_refused};
@@ -26,6 +29,21 @@ use edfserve_arguments::Wanted;
 use itoa::Buffer;
 use sqlite::Alter;
 use std::alloc::Global;
+
+/// What a line picks a recording by.
+#[derive(Clone, Copy, Drop)]
+pub(crate) enum Pick<'l> {
+    /// Its place in the list, from 1.
+    Place {
+        /// The place.
+        place: u32,
+    },
+    /// Its codes, and its first start where that is named, which just one recording is to have.
+    Codes {
+        /// What they are.
+        wanted: Wanted<'l>,
+    },
+}
 
 /// What is found.
 #[derive(Drop)]
@@ -161,12 +179,13 @@ fn named_in<S: Alter>(
 }
 
 /// The one recording that matches, or how many do.
-fn find<S: Alter>(
+fn find_named<S: Alter>(
     alloc: Global,
     store: &mut Store<S>,
     wanted: Wanted<'_>,
 ) -> Result<Found, StoreFault>
-    ensures { MatchResult result (Finds S.Store store.old store.new (sought_by wanted.entry))
+    ensures { MatchResult result
+        (Finds S.Store store.old store.new (by_codes (sought_by wanted.entry)))
         (RefusesFinding S.Store store.old store.new) }
 {
     let mut recordings = store.identities()?;
@@ -178,6 +197,43 @@ fn find<S: Alter>(
     Ok(Found::Other {
         count: matches.count,
     })
+}
+
+/// The recording at a place of a list, from 1.
+fn taken_at(mut recordings: Vec<Identity>, place: u32) -> Option<Identity>
+    ensures { result ≡ at_place recordings.items place }
+{
+    if place == 0 {
+        return None;
+    }
+    let at = place as usize - 1;
+    if at >= recordings.len() {
+        return None;
+    }
+    Some(recordings.swap_remove(at))
+}
+
+/// The recording at a place of the list, from 1, where there is one.
+fn find_placed<S: Alter>(store: &mut Store<S>, place: u32) -> Result<Found, StoreFault>
+    ensures { MatchResult result (Finds S.Store store.old store.new (by_place place))
+        (RefusesFinding S.Store store.old store.new) }
+{
+    let recordings = store.identities()?;
+    match taken_at(recordings, place) {
+        Some(identity) => Ok(Found::One { identity }),
+        None => Ok(Found::Other { count: 0 }),
+    }
+}
+
+/// The one recording that is picked, or how many are.
+fn find<S: Alter>(alloc: Global, store: &mut Store<S>, pick: Pick<'_>) -> Result<Found, StoreFault>
+    ensures { MatchResult result (Finds S.Store store.old store.new (picked_by pick.entry))
+        (RefusesFinding S.Store store.old store.new) }
+{
+    match pick {
+        Pick::Place { place } => find_placed(store, place),
+        Pick::Codes { wanted } => find_named(alloc, store, wanted),
+    }
 }
 
 /// Prints how many recordings match. Printing takes no memory.
@@ -194,34 +250,46 @@ fn tell_count<O: Output>(out: &mut O, count: usize) -> Status
     tell_parts(out, &parts, Status::Refused)
 }
 
-/// Prints why recordings are not looked through for a command. Printing takes no memory.
-fn tell_refusal<O: Output>(out: &mut O, verb: &str, fault: &StoreFault) -> Status
+/// Prints that there is no recording, or how many match. Printing takes no memory.
+fn tell_none<O: Output>(out: &mut O, pick: Pick<'_>, count: usize) -> Status
+    ensures { IsWritten (growth O.Output out.old out.new)
+        (unpicked_line (picked_by pick.entry) count) Status.Refused result }
+{
+    match pick {
+        Pick::Place { place } => tell_no_recording(out, place),
+        Pick::Codes { .. } => tell_count(out, count),
+    }
+}
+
+/// Prints that the store refused, after the word of a command. Printing takes no memory.
+pub(crate) fn tell_refusal<O: Output>(out: &mut O, verb: &str, fault: &StoreFault) -> Status
     ensures { IsWritten (growth O.Output out.old out.new) (refused_line verb.now (number fault.now)
         (store_fault_name fault.now)) Status.Trouble result }
 {
     tell_refused(out, verb, fault.number(), fault.name(), Status::Trouble)
 }
 
-/// The one recording that matches.
+/// The one recording that is picked.
 ///
 /// # Errors
-/// Where none matches, several do, or the store or memory refused to look for them: a line says so.
+/// Where there is none, several match, or the store or memory refused to look for them: a line says
+/// so.
 pub(crate) fn find_one<S: Alter, O: Output>(
     alloc: Global,
-    wanted: Wanted<'_>,
+    pick: Pick<'_>,
     verb: &str,
     store: &mut Store<S>,
     out: &mut O,
 ) -> Result<Identity, Status>
     ensures { MatchResult result
-        (λ key. Finds S.Store store.old store.new (sought_by wanted.entry) (Found.One key)
+        (λ key. Finds S.Store store.old store.new (picked_by pick.entry) (Found.One key)
         × (out.new ≡ out.old))
-        (TellsNone S.Store store.old store.new (sought_by wanted.entry) verb.now
+        (TellsNone S.Store store.old store.new (picked_by pick.entry) verb.now
         (growth O.Output out.old out.new)) }
 {
-    match find(alloc, store, wanted) {
+    match find(alloc, store, pick) {
         Ok(Found::One { identity }) => Ok(identity),
-        Ok(Found::Other { count }) => Err(tell_count(out, count)),
+        Ok(Found::Other { count }) => Err(tell_none(out, pick, count)),
         Err(fault) => Err(tell_refusal(out, verb, &fault)),
     }
 }

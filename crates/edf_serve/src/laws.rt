@@ -1,9 +1,8 @@
 //! Laws of sessions: each function has one for a contract, and does nothing.
 
-ghost use Rattle.edf_serve.specs.Laws.{BrokenOffEndsAlike, ExportedIsCanonical, NamedIsCanonical};
 ghost use Rattle.edf_serve.specs.Finding.{FoundIsOne};
-ghost use Rattle.edf_serve.specs.Laws.{NamedIsAsPlaced, NamedRunsAreItsOwn, TakenIsHeld};
-ghost use Rattle.edf_serve.specs.Laws.{UnmatchedIsTold};
+ghost use Rattle.edf_serve.specs.Laws.{BrokenOffEndsAlike, ExportedIsTheSame, MadeIsItsOwn};
+ghost use Rattle.edf_serve.specs.Laws.{RunsAreItsOwn, TakenIsHeld, UnmatchedIsTold};
 ghost use Rattle.edf_serve.specs.Overview.{TotalsAreOne};
 
 use sqlite::Alter;
@@ -21,26 +20,25 @@ pub fn taken_is_held<S: Alter>()
     ensures { TakenIsHeld S.Store }
 {}
 
-/// Where `export` is answered with status 0, and the bytes of new files are known, the file that
-/// got the path holds just the canonical file of the recording at that place, on a disk that
-/// returned what was written. Where the line named the recording by its codes, it is the only one
-/// that is held and named so (`named`); and the file is that of its place, whatever else is held that
-/// is not named so, and whatever stands before it (`same`).
-pub fn exported_is_canonical<S: Alter>()
-    ensures placed { ExportedIsCanonical S.Store }
-    ensures named { NamedIsCanonical S.Store }
-    ensures same { NamedIsAsPlaced S.Store }
+/// Where `export` or `picture` is answered with status 0, and the bytes of new files are known, the
+/// file that got the path is of the one recording that the line picks by its place or its codes, on a
+/// disk that returned what was written: just its canonical file, or a picture with the lines of its
+/// runs as text (`own`). The canonical file is the same however a line picks the recording, whatever
+/// else is held, and whatever stands before it (`same`).
+pub fn made_is_its_own<S: Alter>()
+    ensures own { MadeIsItsOwn S.Store }
+    ensures same { ExportedIsTheSame S.Store }
 {}
 
-/// Where `runs` is answered with status 0, and the line named the recording by its codes, the lines
-/// are of the runs of the only one that is held and named so.
+/// Where `runs` is answered with status 0, the lines are of the runs of the one recording that the
+/// line picks.
 pub fn runs_are_its_own<S: Alter>()
-    ensures { NamedRunsAreItsOwn S.Store }
+    ensures { RunsAreItsOwn S.Store }
 {}
 
-/// Where no recording that is held has the codes that a line names, or several do, a line says how
-/// many, with status 1, and no file is begun; or there is trouble. One number is said at most
-/// (`one`).
+/// Where no recording has the place that a line picks, or none that is held has its codes, or
+/// several have, a line says so, or how many, with status 1, and no file is begun; or there is
+/// trouble. One number is said at most (`one`).
 pub fn unmatched_is_told<S: Alter>()
     ensures told { UnmatchedIsTold S.Store }
     ensures one { FoundIsOne }

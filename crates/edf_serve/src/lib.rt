@@ -2,7 +2,7 @@
 //!
 //! - [`serve`], [`End`]: line after line, and why a session ends; [`Lines`]: the lines of an input.
 //! - [`Room`], [`Folders`]: what commands work on beside the store: [`Sources`] opens the files
-//!   that `take` names, [`NewFiles`] makes those that `export` writes ([`Finished`]).
+//!   that `take` names, [`NewFiles`] makes those that `export` and `picture` write ([`Finished`]).
 //! - [`Client`], [`Console`], [`Flush`]: who is answered.
 //! - [`StoreFiles`]: what tells whether the files of the store still stand under its path.
 #![tactic(auto)]
@@ -13,10 +13,13 @@ mod client;
 mod exporting;
 mod files;
 mod finding;
+mod form;
 mod fronted;
+mod gathering;
 pub mod laws;
 mod lines;
 mod overview;
+mod picturing;
 mod places;
 mod room;
 mod running;

@@ -10,7 +10,8 @@ use Rattle.sqlite.specs.declared.error.Error.{Error}
 use Rattle.edf_store.specs.Held.{StoreModel}
 use Rattle.edfserve_arguments.specs.Line.{LineAsked}
 use Rattle.edfserve_arguments.specs.Line.LineAsked.{take, list, runs, runs_of, export, export_of}
-use Rattle.edf_program.specs.Output.{Growth}
+use Rattle.edfserve_arguments.specs.Line.LineAsked.{picture, picture_of}
+use Rattle.edf_program.specs.Output.{Growth, IsWritten}
 use Rattle.edf_program.specs.Status.{worse}
 use Rattle.edf_program.proofs.Undone.{trouble-told}
 use Rattle.edf_program.specs.declared.status.Status.{Status}
@@ -73,13 +74,24 @@ module _ {S : Type 0} (g : Ghosts S) (folders : Folders) where
   worked w (Some (take name)) (asked, inr n) = ap (λ (p : Point S). p.worst) n.1.0
   worked w (Some list) is = ap (λ (p : Point S). p.worst) is.0
   worked w (Some LineAsked.status) is = ap (λ (p : Point S). p.worst) is.0
-  worked w (Some (runs place)) is = ap (λ (p : Point S). p.worst) is.0
-  worked w (Some (runs_of s)) (inl (mid, place, finds, is)) = ap (λ (p : Point S). p.worst) is.0
+  worked w (Some (runs place)) (inl (mid, key, finds, doubt, is)) =
+      ap (λ (p : Point S). p.worst) is.0
+  worked w (Some (runs place)) (inr is) = ap (λ (p : Point S). p.worst) is.0
+  worked w (Some (runs_of s)) (inl (mid, key, finds, doubt, is)) =
+      ap (λ (p : Point S). p.worst) is.0
   worked w (Some (runs_of s)) (inr is) = ap (λ (p : Point S). p.worst) is.0
-  worked w (Some (export place name)) is = ap (λ (p : Point S). p.worst) is.0
-  worked w (Some (export_of s name)) (inl (mid, place, finds, is)) =
+  worked w (Some (export place name)) (inl (mid, key, finds, doubt, is)) =
+      ap (λ (p : Point S). p.worst) is.0
+  worked w (Some (export place name)) (inr is) = ap (λ (p : Point S). p.worst) is.0
+  worked w (Some (export_of s name)) (inl (mid, key, finds, doubt, is)) =
       ap (λ (p : Point S). p.worst) is.0
   worked w (Some (export_of s name)) (inr is) = ap (λ (p : Point S). p.worst) is.0
+  worked w (Some (picture place name)) (inl (mid, key, finds, doubt, is)) =
+      ap (λ (p : Point S). p.worst) is.0
+  worked w (Some (picture place name)) (inr is) = ap (λ (p : Point S). p.worst) is.0
+  worked w (Some (picture_of s name)) (inl (mid, key, finds, doubt, is)) =
+      ap (λ (p : Point S). p.worst) is.0
+  worked w (Some (picture_of s name)) (inr is) = ap (λ (p : Point S). p.worst) is.0
 
   answered : (x : Exchange S) (b : Point S) → IsAnswered g x b x.work.outcome →
       b.worst ≡ x.work.new.worst

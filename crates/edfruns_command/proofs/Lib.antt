@@ -16,3 +16,4 @@ mod Splits
 mod MadeLists
 mod Finished
 mod Outside
+mod EachLine

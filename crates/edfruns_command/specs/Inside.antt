@@ -10,7 +10,6 @@ use Rattle.edf_runs.specs.declared.onset_listing.OnsetFault.TheVariants as fault
 use Rattle.edf_runs.specs.declared.run.Run.{Run}
 use Rattle.edfruns_command.specs.Joining.{AreClose}
 use Rattle.edfruns_command.specs.Lines.{crowded_line, file_refused_line, file_refused_status}
-
 pub use Rattle.edf_program.specs.Opened.{OpensUpTo}
 
 -- ---- labels of lines

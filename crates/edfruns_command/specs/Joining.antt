@@ -4,7 +4,7 @@ use Rattle.std.specs.Prelude.{All, codes, decimal, Option, Some, None, slice_get
 use Rattle.std.specs.List.{flat_map, sum_by}
 use Rattle.edf_time.specs.Decimal.{short}
 use Rattle.edf_runs.specs.declared.run.Run.{Run}
-use Rattle.edfruns_command.specs.Lines.{end_of, gap_text}
+use Rattle.edfruns_command.specs.Lines.{end_of, gap_text, run_lines}
 
 -- ---- which runs, where their data records last d nanoseconds
 
@@ -83,3 +83,8 @@ group_lines spell most d label number (group ∷ groups) = label
 -- where no tolerance is given: a line for each run
 abbrev pub each_line : (ℕ → List ℕ) → ℕ → List Run → List ℕ
 each_line spell d runs = group_lines spell None d [] 1 (map (λ r. r ∷ []) runs)
+
+-- these are the lines of the runs
+abbrev pub EachLineIsOfARun : Type 0
+EachLineIsOfARun = (spell : ℕ → List ℕ) (d : ℕ) (runs : List Run) →
+    each_line spell d runs ≡ run_lines spell d (λ number. []) 1 runs

@@ -12,7 +12,6 @@ use Rattle.edf_program.specs.declared.status.Status.TheVariants.{Refused, Troubl
 use Rattle.edf_runs.specs.declared.run.Run.{Run}
 use Rattle.edf_runs.specs.declared.fault.WriteFault.{WriteFault}
 use Rattle.edf_runs.specs.declared.fault.WriteFault.TheVariants as run
-
 pub use Rattle.edf_program.specs.Text.{IsSpelling}
 
 -- ---- lines of runs, whose data records last d nanoseconds

@@ -5,9 +5,10 @@
 //!   written. [`parse`]: the words, read, and nothing else.
 //! - [`run_runs`]: one command, over what opens files (`edf_program`'s `Inputs`) and what makes
 //!   them ([`Outputs`], with [`MadeFiles`] for the list of them).
-//! - [`laws`]: runs have groups that share a line, and no others. The function does nothing: its
-//!   contract is a law.
-//! - [`runs_text`]: the lines of runs that were listed.
+//! - [`laws`]: runs have groups that share a line, and no others; the lines of a picture are those
+//!   of `list`. Each function does nothing: its contract is a law.
+//! - [`runs_text`]: the lines of runs that were listed; [`Sight`]: what a picture shows of a
+//!   recording, data record by data record, and the picture.
 #![tactic(auto)]
 
 mod arguments;
@@ -26,6 +27,7 @@ mod planning;
 mod refusal;
 mod removing;
 mod runs_command;
+mod sight;
 mod signals;
 mod split_command;
 mod stop;
@@ -37,3 +39,4 @@ pub use lines::runs_text;
 pub use made_files::MadeFiles;
 pub use outputs::{Outputs, Stage};
 pub use runs_command::{RunsCommand, run_runs};
+pub use sight::Sight;

@@ -10,7 +10,7 @@ use Rattle.std.proofs.lemmas.Option.{none-some}
 use Rattle.edfstore_arguments.specs.Arguments.{is_place, place_of}
 use Rattle.edfserve_arguments.specs.Line.{LineAsked, AskFor, IsPlaced, IsNamed}
 use Rattle.edfserve_arguments.specs.Line.LineAsked.{take, list, status, runs, runs_of, export}
-use Rattle.edfserve_arguments.specs.Line.LineAsked.{export_of}
+use Rattle.edfserve_arguments.specs.Line.LineAsked.{export_of, picture, picture_of}
 use Rattle.edfserve_arguments.specs.Sought.{Sought, Names}
 
 and_left : (a b : Bool) → (a && b) ≡ true → a ≡ true
@@ -38,6 +38,10 @@ for-take name (export place other) a =
     absurd (apart _ (codes "export " ++ a.0) a.1 (λ e. omega (arith, e)))
 for-take name (export_of s other) a =
     absurd (apart _ (codes "export " ++ a.0) a.1 (λ e. omega (arith, e)))
+for-take name (picture place other) a =
+    absurd (apart _ (codes "picture " ++ a.0) a.1 (λ e. omega (arith, e)))
+for-take name (picture_of s other) a =
+    absurd (apart _ (codes "picture " ++ a.0) a.1 (λ e. omega (arith, e)))
 
 pub for-list : (asked : LineAsked) → AskFor (codes "list") asked → list ≡ asked
 for-list (take name) a = absurd (apart _ (codes "take " ++ name) a.0 (λ e. omega (arith, e)))
@@ -49,6 +53,10 @@ for-list (export place name) a =
     absurd (apart _ (codes "export " ++ a.0) a.1 (λ e. omega (arith, e)))
 for-list (export_of s name) a =
     absurd (apart _ (codes "export " ++ a.0) a.1 (λ e. omega (arith, e)))
+for-list (picture place name) a =
+    absurd (apart _ (codes "picture " ++ a.0) a.1 (λ e. omega (arith, e)))
+for-list (picture_of s name) a =
+    absurd (apart _ (codes "picture " ++ a.0) a.1 (λ e. omega (arith, e)))
 
 pub for-status : (asked : LineAsked) → AskFor (codes "status") asked → status ≡ asked
 for-status (take name) a = absurd (apart _ (codes "take " ++ name) a.0 (λ e. omega (arith, e)))
@@ -60,6 +68,10 @@ for-status (export place name) a =
     absurd (apart _ (codes "export " ++ a.0) a.1 (λ e. omega (arith, e)))
 for-status (export_of s name) a =
     absurd (apart _ (codes "export " ++ a.0) a.1 (λ e. omega (arith, e)))
+for-status (picture place name) a =
+    absurd (apart _ (codes "picture " ++ a.0) a.1 (λ e. omega (arith, e)))
+for-status (picture_of s name) a =
+    absurd (apart _ (codes "picture " ++ a.0) a.1 (λ e. omega (arith, e)))
 
 -- the runs of a place, or of a recording that is named
 abbrev pub ListsRuns : List ℕ → LineAsked → Type 0
@@ -87,6 +99,10 @@ for-runs text (export place name) a =
     absurd (apart _ (codes "export " ++ a.0) a.1 (λ e. omega (arith, e)))
 for-runs text (export_of s name) a =
     absurd (apart _ (codes "export " ++ a.0) a.1 (λ e. omega (arith, e)))
+for-runs text (picture place name) a =
+    absurd (apart _ (codes "picture " ++ a.0) a.1 (λ e. omega (arith, e)))
+for-runs text (picture_of s name) a =
+    absurd (apart _ (codes "picture " ++ a.0) a.1 (λ e. omega (arith, e)))
 
 -- a new file of a place, or of a recording that is named
 abbrev pub MakesFile : (ℕ → List ℕ → LineAsked) → (Sought → List ℕ → LineAsked) → List ℕ →
@@ -119,6 +135,39 @@ for-export text (export_of s name) a = inr (
   subst (λ (t : List ℕ). IsNamed t s name)
       (sym (append_cancel_left (codes "export ") text a.0 a.1)) a.2,
 )
+for-export text (picture place name) a =
+    absurd (apart _ (codes "picture " ++ a.0) a.1 (λ e. omega (arith, e)))
+for-export text (picture_of s name) a =
+    absurd (apart _ (codes "picture " ++ a.0) a.1 (λ e. omega (arith, e)))
+
+pub for-picture : (text : List ℕ) (asked : LineAsked) → AskFor (codes "picture " ++ text) asked →
+    MakesFile picture picture_of text asked
+for-picture text (take name) a =
+    absurd (apart _ (codes "take " ++ name) a.0 (λ e. omega (arith, e)))
+for-picture text list a = absurd (apart _ (codes "list") a (λ e. omega (arith, e)))
+for-picture text status a = absurd (apart _ (codes "status") a (λ e. omega (arith, e)))
+for-picture text (runs place) a =
+    absurd (apart _ (codes "runs " ++ a.0) a.1 (λ e. omega (arith, e)))
+for-picture text (runs_of s) a =
+    absurd (apart _ (codes "runs " ++ a.0) a.1 (λ e. omega (arith, e)))
+for-picture text (picture place name) a = inl (
+  place,
+  name,
+  refl,
+  subst (λ (t : List ℕ). IsPlaced t place name)
+      (sym (append_cancel_left (codes "picture ") text a.0 a.1)) a.2,
+)
+for-picture text (picture_of s name) a = inr (
+  s,
+  name,
+  refl,
+  subst (λ (t : List ℕ). IsNamed t s name)
+      (sym (append_cancel_left (codes "picture ") text a.0 a.1)) a.2,
+)
+for-picture text (export place name) a =
+    absurd (apart _ (codes "export " ++ a.0) a.1 (λ e. omega (arith, e)))
+for-picture text (export_of s name) a =
+    absurd (apart _ (codes "export " ++ a.0) a.1 (λ e. omega (arith, e)))
 
 pub no-runs : (text : List ℕ) → ((place : ℕ) → place_of text ≡ Some place → ⊥) →
     ((s : Sought) → Names text s None → ⊥) → (asked : LineAsked) →
@@ -132,6 +181,14 @@ pub no-export : (text : List ℕ) → ((place : ℕ) (name : List ℕ) → IsPla
     ((s : Sought) (name : List ℕ) → IsNamed text s name → ⊥) → (asked : LineAsked) →
     AskFor (codes "export " ++ text) asked → ⊥
 no-export text never none asked a = elim (for-export text asked a) [
+  | inl at ↦ never at.0 at.1 at.3
+  | inr of ↦ none of.0 of.1 of.3
+]
+
+pub no-picture : (text : List ℕ) → ((place : ℕ) (name : List ℕ) → IsPlaced text place name → ⊥) →
+    ((s : Sought) (name : List ℕ) → IsNamed text s name → ⊥) → (asked : LineAsked) →
+    AskFor (codes "picture " ++ text) asked → ⊥
+no-picture text never none asked a = elim (for-picture text asked a) [
   | inl at ↦ never at.0 at.1 at.3
   | inr of ↦ none of.0 of.1 of.3
 ]

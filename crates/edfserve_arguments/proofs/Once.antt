@@ -7,9 +7,10 @@ use Rattle.std.proofs.lemmas.Option.{same_Some}
 use Rattle.edfstore_arguments.specs.Arguments.{place_of}
 use Rattle.edfserve_arguments.specs.Line.{LineAsked, AskFor, IsPlaced, IsNamed}
 use Rattle.edfserve_arguments.specs.Line.LineAsked.{take, list, status, runs, runs_of, export}
-use Rattle.edfserve_arguments.specs.Line.LineAsked.{export_of}
+use Rattle.edfserve_arguments.specs.Line.LineAsked.{export_of, picture, picture_of}
 use Rattle.edfserve_arguments.specs.Sought.{Sought, Names}
 use Rattle.edfserve_arguments.proofs.Forms.{for-take, for-list, for-status, for-runs, for-export}
+use Rattle.edfserve_arguments.proofs.Forms.{for-picture}
 use Rattle.edfserve_arguments.proofs.Forms.{ListsRuns, MakesFile, place-spaced, place-first}
 use Rattle.edfserve_arguments.proofs.Naming.{cut-same, names-once}
 
@@ -80,3 +81,9 @@ asks-once line (export place name) other a b =
 asks-once line (export_of s name) other a b =
     file-once export export_of a.0 (export_of s name) other (inr (s, name, refl, a.2))
     (for-export a.0 other (subst (λ (l : List ℕ). AskFor l other) a.1 b))
+asks-once line (picture place name) other a b =
+    file-once picture picture_of a.0 (picture place name) other (inl (place, name, refl, a.2))
+    (for-picture a.0 other (subst (λ (l : List ℕ). AskFor l other) a.1 b))
+asks-once line (picture_of s name) other a b =
+    file-once picture picture_of a.0 (picture_of s name) other (inr (s, name, refl, a.2))
+    (for-picture a.0 other (subst (λ (l : List ℕ). AskFor l other) a.1 b))

@@ -17,6 +17,8 @@ pub data LineAsked : Type 0 where
   runs_of : Sought → LineAsked
   export : ℕ → List ℕ → LineAsked
   export_of : Sought → List ℕ → LineAsked
+  picture : ℕ → List ℕ → LineAsked
+  picture_of : Sought → List ℕ → LineAsked
 
 -- a place of the list, and a name that is not empty
 abbrev pub IsPlaced : List ℕ → ℕ → List ℕ → Type 0
@@ -38,6 +40,10 @@ AskFor line (runs_of s) = (text : List ℕ) × (line ≡ codes "runs " ++ text) 
 AskFor line (export place name) = (text : List ℕ) × (line ≡ codes "export " ++ text)
     × IsPlaced text place name
 AskFor line (export_of s name) = (text : List ℕ) × (line ≡ codes "export " ++ text)
+    × IsNamed text s name
+AskFor line (picture place name) = (text : List ℕ) × (line ≡ codes "picture " ++ text)
+    × IsPlaced text place name
+AskFor line (picture_of s name) = (text : List ℕ) × (line ≡ codes "picture " ++ text)
     × IsNamed text s name
 
 -- this is all that the bytes may ask for, where it is something; else they ask for nothing
@@ -63,3 +69,5 @@ asked_by (parsed.Runs place) = runs place
 asked_by (parsed.RunsOf wanted) = runs_of (sought_by wanted)
 asked_by (parsed.Export place name) = export place name.now
 asked_by (parsed.ExportOf wanted name) = export_of (sought_by wanted) name.now
+asked_by (parsed.Picture place name) = picture place name.now
+asked_by (parsed.PictureOf wanted name) = picture_of (sought_by wanted) name.now

@@ -1,8 +1,8 @@
 //! What `edfserve` is asked for: its words, and the lines of its standard input.
 //!
-//! - [`parse_line`]: a line to a [`LineCommand`], `take`, `list`, `status`, `runs` or `export` with
-//!   its values; [`Wanted`]: a recording that it names by what it is; [`LONGEST_LINE`]: how many
-//!   bytes it may have.
+//! - [`parse_line`]: a line to a [`LineCommand`], `take`, `list`, `status`, `runs`, `export` or
+//!   `picture` with its values; [`Wanted`]: a recording that it names by what it is;
+//!   [`LONGEST_LINE`]: how many bytes it may have.
 //! - [`path_of`]: what a name stands for below a folder.
 //! - [`parse_words`]: the words after the program's name, as [`ServeWords`].
 //! - [`laws`]: a line asks for one thing, and what `list` writes of a recording names it. The

@@ -46,6 +46,20 @@ pub enum LineCommand<'l> {
         /// The name of the new file, which is not empty.
         name: &'l str,
     },
+    /// Draw a recording in a new file.
+    Picture {
+        /// The recording's place in the list, from 1.
+        place: u32,
+        /// The name of the new file, which is not empty.
+        name: &'l str,
+    },
+    /// Draw the one recording that matches in a new file.
+    PictureOf {
+        /// What it is.
+        wanted: Wanted<'l>,
+        /// The name of the new file, which is not empty.
+        name: &'l str,
+    },
 }
 
 /// What comes after `take `.
@@ -113,11 +127,22 @@ fn export_of(text: &str) -> Option<LineCommand<'_>>
     Some(LineCommand::ExportOf { wanted, name })
 }
 
+/// What comes after `picture `.
+fn picture_of(text: &str) -> Option<LineCommand<'_>>
+    ensures { IsAsked (codes "picture " ++ text.now) (option_map asked_by result) }
+{
+    if let Some((place, name)) = placed(text) {
+        return Some(LineCommand::Picture { place, name });
+    }
+    let (wanted, name) = named(text)?;
+    Some(LineCommand::PictureOf { wanted, name })
+}
+
 /// What a line asks for, which stands here without its line feed.
 ///
-/// It is `take NAME`, `list`, `status`, `runs PLACE` or `export PLACE NAME`, one space between them.
-/// NAME is the rest of the line, byte for byte, and is not empty; PLACE is as `edfstore export` has
-/// it, or `patient=CODE investigation=CODE`, or `patient=CODE investigation=CODE first=INSTANT`.
+/// It is `take NAME`, `list`, `status`, `runs PLACE`, `export PLACE NAME` or `picture PLACE NAME`,
+/// one space between them. NAME is the rest of the line, byte for byte, and is not empty; PLACE is
+/// as `edfstore export` has it, or `patient=CODE investigation=CODE`, or that and `first=INSTANT`.
 /// CODE and INSTANT have a byte at least, all printable and no space. After the form without
 /// `first=` a NAME begins neither with `first=` nor with a space. A line asks for one command at
 /// most. `None` for every other line, and for one that is longer than [`LONGEST_LINE`] or is not
@@ -142,6 +167,9 @@ pub fn parse_line(line: &[u8]) -> Option<LineCommand<'_>>
     }
     if let Some(place) = text.strip_prefix("runs ") {
         return runs_of(place);
+    }
+    if let Some(recording) = text.strip_prefix("picture ") {
+        return picture_of(recording);
     }
     export_of(text.strip_prefix("export ")?)
 }

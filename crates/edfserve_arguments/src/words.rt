@@ -13,11 +13,12 @@ line from standard input, each before it reads the next.";
 /// The lines, and what the statuses mean.
 const EDFSERVE_MORE: &str = "\
 Lines:
-  take NAME          takes a file into the store, as 'edfstore take' does
-  list               lists the recordings, as 'edfstore list' does
-  runs PLACE         lists the runs of a recording, as 'edfruns list' does
-  export PLACE NAME  writes a recording to a new file
-  status             tells what is held, and what was refused and warned of
+  take NAME           takes a file into the store, as 'edfstore take' does
+  list                lists the recordings, as 'edfstore list' does
+  runs PLACE          lists the runs of a recording, as 'edfruns list' does
+  export PLACE NAME   writes a recording to a new file
+  picture PLACE NAME  draws a recording in a new file, as 'edfruns picture' does
+  status              tells what is held, and what was refused and warned of
 
 NAME is the rest of the line; '-' is a file of that name. PLACE is the recording's
 place in the list, which moves when others come that stand before it. Or it is

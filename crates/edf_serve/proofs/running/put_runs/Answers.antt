@@ -1,11 +1,13 @@
 use Rattle.std.proofs.Common.{◌∙◌, ℕ, List, subst, inl, inr}
 use Rattle.edf_program.specs.Output.{growth, IsWritten}
-use Rattle.edf_program.specs.declared.status.Status.TheVariants.{Done}
+use Rattle.edf_program.specs.declared.status.Status.TheVariants.{Done, Trouble}
+use Rattle.edf_store.specs.declared.fault.StoreFault.TheVariants.{Memory}
+use Rattle.edf_serve.proofs.Working.{not-done, trouble-not}
 use Rattle.edf_serve.proofs.running.put_runs.Goals as goal
 
 pub returns-in-Err-clause-listed : goal.returns-in-Err-clause-listed
 returns-in-Err-clause-listed g c clean h held =
-    inr (inl (c.in-Err.fault, c.in-Err.ensures.runs clean h held, c.tell_refusal.ensures))
+    inr (c.in-Err.fault, c.in-Err.ensures.runs clean h held, c.tell_refusal.ensures)
 
 pub returns-in-Ok-runs_text-clause-listed : goal.returns-in-Ok-runs_text-clause-listed
 returns-in-Ok-runs_text-clause-listed g c clean h held = inl (record {
@@ -19,5 +21,18 @@ returns-in-Ok-runs_text-clause-listed g c clean h held = inl (record {
       c.tell_bytes.ensures;
 })
 
+pub returns-in-Err-clause-idle : goal.returns-in-Err-clause-idle
+returns-in-Err-clause-idle g c done =
+    absurd (not-done (growth g.O.Output c.args.out.now c.tell_refusal.new.out) _ Trouble
+    c.tell_refusal.result trouble-not done c.tell_refusal.ensures)
+
+pub returns-in-Ok-runs_text-clause-idle : goal.returns-in-Ok-runs_text-clause-idle
+returns-in-Ok-runs_text-clause-idle g c done = c.in-Ok.ensures.idle
+
+pub returns-clause-idle : goal.returns-clause-idle
+returns-clause-idle g c done =
+    absurd (not-done (growth g.O.Output c.args.out.now c.tell_refusal-in-Err-runs_text.new.out) _ Trouble
+    c.tell_refusal-in-Err-runs_text.result trouble-not done c.tell_refusal-in-Err-runs_text.ensures)
+
 pub returns-clause-listed : goal.returns-clause-listed
-returns-clause-listed g c clean h held = inr (inr c.tell_memory.ensures)
+returns-clause-listed g c clean h held = inr (Memory, tt, c.tell_refusal-in-Err-runs_text.ensures)

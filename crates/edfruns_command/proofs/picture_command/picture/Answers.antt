@@ -1,6 +1,7 @@
 use Rattle.std.proofs.Common.{ℕ, List, inl, inr, subst, string_bytes}
 use Rattle.edf_program.specs.Output.{growth}
 use Rattle.edf_program.proofs.Puts.{nothing-gets}
+use Rattle.edfruns_command.specs.Lines.{unwritten_line, standard_output}
 use Rattle.edfruns_command.specs.Picturing.{SendsPicture}
 use Rattle.edfruns_command.proofs.Answered.{refused}
 use Rattle.edfruns_command.proofs.picture_command.picture.Goals as goal
@@ -16,18 +17,21 @@ returns-in-Err-clause-pictured g c =
 
 pub returns-in-Ok-draw-clause-pictured : goal.returns-in-Ok-draw-clause-pictured
 returns-in-Ok-draw-clause-pictured g c = inl (record {
-  listing = c.in-Ok.seen.listing;
+  listing = record {
+    identity = c.in-Ok.seen.identity;
+    runs = c.in-Ok.seen.sight.runs;
+  };
   has = c.in-Ok.ensures.answer;
   picture = string_bytes c.in-Ok-draw.picture;
   is_picture = c.in-Ok-draw.ensures;
   sent = subst (λ (bytes : List ℕ). SendsPicture
       (growth g.O.Output c.args.out.now c.send_picture.new.out)
       (growth g.F.Output c.args.err.now c.send_picture.new.err) bytes
-      c.send_picture.result) c.as_str.ensures.value c.send_picture.ensures;
+      (unwritten_line standard_output) c.send_picture.result) c.as_str.ensures.value c.send_picture.ensures;
 })
 
-pub returns-clause-pictured : goal.returns-clause-pictured
-returns-clause-pictured g c =
+pub returns-in-Err-draw-clause-pictured : goal.returns-in-Err-draw-clause-pictured
+returns-in-Err-draw-clause-pictured g c =
     inr (inr (
       nothing-gets (g.O.Output.contents c.args.out.now) (g.O.Output.failures c.args.out.now),
       c.tell_memory.ensures,

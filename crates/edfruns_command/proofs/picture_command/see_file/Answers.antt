@@ -11,18 +11,18 @@ pub returns-in_err-fragment : goal.returns-in_err-fragment
 returns-in_err-fragment g c = let told =
     open_refused _ _ _ c.in_err-fragment.ensures.step in search rules
 
-pub returns-in_err-seen : goal.returns-in_err-seen
-returns-in_err-seen g c =
-    let p = err_from_is_err_and c.from_residual-in_err-seen.result
-    c.from_residual-in_err-seen.ensures.1 in
+pub returns-in_err-sight : goal.returns-in_err-sight
+returns-in_err-sight g c =
+    let p = err_from_is_err_and c.from_residual-in_err-sight.result
+    c.from_residual-in_err-sight.ensures.1 in
     rw (p.1, p.2) (records_refused _ _ _ c.in_ok-fragment.fragment.header _
-    c.in_ok-fragment.ensures.step.0 c.in_err-seen.ensures.answer)
+    c.in_ok-fragment.ensures.step.0 c.in_err-sight.ensures.answer)
 
 pub returns : goal.returns
 returns g c =
     let l = c.in_ok-fragment.fragment.header in
-    let answer = c.in_ok-seen.ensures.answer in
-    let header : c.into_header.result ≡ l = c.into_header.ensures ∙ c.in_ok-seen.ensures.header in
+    let answer = c.in_ok-sight.ensures.answer in
+    let header : c.into_header.result ≡ l = c.into_header.ensures ∙ c.in_ok-sight.ensures.header in
     let key : c.identity.result.now ≡ l.key = c.identity.ensures
     ∙ ap (λ (x : Layout). x.key) c.header.ensures in
     let duration : c.duration-duration.result ≡ duration_of l.key.duration =
@@ -32,5 +32,5 @@ returns g c =
       records = answer.0;
       read = fragment_read _ _ _ l _ c.in_ok-fragment.ensures.step.0 answer.1;
       identity = c.into_identity.ensures ∙ ap (λ (x : Layout). x.key) header;
-      listed = subst (λ (d : ℕ). AreListed d answer.0 c.in_ok-seen.seen.runs.items) duration answer.2;
+      listed = subst (λ (d : ℕ). AreListed d answer.0 c.in_ok-sight.sight.runs.items) duration answer.2;
     }

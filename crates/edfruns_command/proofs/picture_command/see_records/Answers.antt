@@ -30,7 +30,7 @@ records-init g c =
         [],
         subst (λ (p : Progress). HasRead c.args.fragment.now.header left left [] p)
             (sym c.requires.first) (reads_none c.args.fragment.now.header left),
-        subst (λ (l : List Run). AreListed c.args.duration [] l) (sym c.new-runs.ensures.items)
+        subst (λ (l : List Run). AreListed c.args.duration [] l) (sym c.new-sight.ensures)
             (nothing_listed c.args.duration),
       );
     }
@@ -58,9 +58,9 @@ records-preserved g c =
     let few : length records < MOST_RECORDS =
     omega (arith, layout.count.1, gives.may_come, before.so_far.1.given) in
     let grows : (rs : List DataRecord) → length rs < MOST_RECORDS →
-    AreListed c.args.duration rs c.records.runs.items
-    → AreListed c.args.duration (rs ++ r ∷ []) c.see_record.new.runs.items =
-    on-ok c.see_record.result _ c.see_record.ensures
+    AreListed c.args.duration rs c.records.sight.runs.items
+    → AreListed c.args.duration (rs ++ r ∷ []) c.add.new.self.runs.items =
+    on-ok c.add.result _ c.add.ensures
     (sym c.is_err.ensures.value ∙ c.if-is_err.false) in
     record {
       header = c.in_ok-record.ensures.header ∙ before.header;

@@ -13,7 +13,7 @@ invariant-records g l = record {
   so_far : (records : List DataRecord)
       × HasRead l.initial.fragment.header (g.R.Input.remaining l.initial.input)
       (g.R.Input.remaining l.input) records l.fragment.progress
-      × AreListed l.fn.duration records l.runs.items;
+      × AreListed l.fn.duration records l.sight.runs.items;
 }
 
 abbrev pub decreases-records : goal.decreases-records

@@ -1,0 +1,21 @@
+use Rattle.std.proofs.Common.{◌≡◌, false, take}
+use Rattle.sqlite.specs.State.{HasCleanDisk}
+use Rattle.edf_header.specs.Key.{Key}
+use Rattle.edf_holdings.specs.Holdings.{Holdings}
+use Rattle.edf_store.specs.Held.{at, Stays}
+use Rattle.edf_store.specs.Walk.{HasGiven, IsWalking}
+use Rattle.edf_runs.specs.Runs.{AreListed}
+use Rattle.edf_serve.proofs.gathering.gather_all.Given as goal
+
+abbrev pub invariant-loop-step : goal.invariant-loop-step
+invariant-loop-step g l = record {
+  going : l.walk.failed ≡ false;
+  ready : IsWalking g.S.Store l.walk;
+  same_reference : l.walk.store.ghost_name ≡ l.initial.walk.store.ghost_name;
+  stays : Stays g.S.Store l.initial.walk.store.now l.walk.store.now;
+  moved : (h : Holdings) (k : Key) →
+      HasGiven g.S.Store l.initial.walk h k 0 → HasGiven g.S.Store l.walk h k l.step;
+  listed : HasCleanDisk (at g.S.Store l.walk.store.now) → (h : Holdings) (k : Key) →
+      HasGiven g.S.Store l.initial.walk h k 0 →
+      AreListed l.duration (take l.step (h k)) (g.G.Gathers.runs l.gathered);
+}
