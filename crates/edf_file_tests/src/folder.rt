@@ -4,8 +4,7 @@ ghost use Rattle.std.specs.Prelude.{◌≡◌, [], None, Some, true, IfOk};
 ghost use Rattle.edf_fragment.specs.Failures.{one_more};
 
 use edf_fragment::Output;
-use edfmend_command::Maker;
-use edfruns_command::Outputs;
+use edf_new_files::{MadeFiles, NewFiles, Unfinished};
 use std::alloc::Global;
 use std::io;
 
@@ -64,9 +63,7 @@ pub(crate) fn free() -> Limits {
 /// A folder that is empty at first, and the files that were made there.
 #[derive(Drop)]
 pub(crate) struct Folder {
-    runs: edfruns_command::MadeFiles,
-    mended: edfmend_command::MadeFiles,
-    failed: u64,
+    made: MadeFiles,
     limits: Limits,
     asked: usize,
     removed: usize,
@@ -75,9 +72,7 @@ pub(crate) struct Folder {
 impl Folder {
     pub(crate) fn new(alloc: Global, limits: Limits) -> Folder {
         Folder {
-            runs: edfruns_command::MadeFiles::new(alloc),
-            mended: edfmend_command::MadeFiles::new(alloc),
-            failed: 0,
+            made: MadeFiles::new(alloc),
             limits,
             asked: 0,
             removed: 0,
@@ -92,9 +87,7 @@ impl Folder {
     /// A new, empty file.
     fn page(&mut self, alloc: Global) -> io::Result<Page>
         ensures page { IfOk result (λ page. (page.bytes.items ≡ []) × (page.failures ≡ 0)) }
-        ensures runs { self.new.runs ≡ self.old.runs }
-        ensures mended { self.new.mended ≡ self.old.mended }
-        ensures failed { self.new.failed ≡ self.old.failed }
+        ensures made { self.new.made ≡ self.old.made }
     {
         let nth = self.asked.saturating_add(1);
         if nth == self.limits.unmade {
@@ -109,108 +102,73 @@ impl Folder {
     }
 }
 
-impl Outputs for Folder {
+impl NewFiles for Folder {
     type Writer = Page;
 
     ghost known = { λ _. true };
 
     ghost there = { λ _ _. None };
 
-    ghost made = { λ folder. folder.runs };
+    ghost made = { λ folder. folder.made.files };
 
-    ghost failed = { λ folder. folder.failed };
+    ghost begun_count = { λ folder. folder.made.begun_count };
+
+    ghost failed = { λ folder. folder.made.failed };
 
     fn is_there(&mut self, _name: &str) -> bool {
         false
     }
 
     fn create(&mut self, alloc: Global, name: &str) -> io::Result<Page> {
-        if let Err(error) = self.runs.begin(alloc, name) {
-            self.failed = one_failure_more(self.failed);
-            return Err(io::Error::from(error));
-        }
+        self.made.begin(alloc, name)?;
         match self.page(alloc) {
-            Ok(page) => Ok(page),
+            Ok(page) => {
+                self.made.confirm();
+                Ok(page)
+            }
             Err(error) => {
-                self.runs.cancel();
-                self.failed = one_failure_more(self.failed);
+                self.made.cancel();
                 Err(error)
             }
         }
     }
 
-    fn finish(&mut self, writer: Page) -> bool {
-        if self.asked == self.limits.unfinished {
-            self.failed = one_failure_more(self.failed);
-            return false;
+    fn finish(&mut self, writer: Page) -> Result<u64, Unfinished> {
+        let Page {
+            bytes,
+            room: _,
+            failures,
+        } = writer;
+        if failures > 0 || self.asked == self.limits.unfinished {
+            self.made.fail(Unfinished::Failed, Some(bytes), false);
+            return Err(Unfinished::Failed);
         }
-        self.runs.finish(Some(writer.bytes));
-        true
+        let count = bytes.len() as u64;
+        self.made.finish(Some(bytes));
+        Ok(count)
     }
 
     fn abandon(&mut self, writer: Page) {
-        self.failed = self.failed.saturating_add(writer.failures);
+        let Page {
+            bytes,
+            room: _,
+            failures,
+        } = writer;
+        self.made.leave(Some(bytes), failures);
     }
 
     fn count(&self) -> usize {
-        self.runs.count()
+        self.made.count()
     }
 
     fn remove(&mut self, place: usize) -> bool {
         let is_gone = place.saturating_add(1) != self.limits.unremoved;
-        self.runs.end(place, is_gone);
+        self.made.end(place, is_gone);
         self.removed = self.removed.saturating_add(is_gone as usize);
         is_gone
     }
-}
 
-impl Maker for Folder {
-    type Writer = Page;
-
-    ghost known = { λ _. true };
-
-    ghost there = { λ _ _. None };
-
-    ghost made = { λ folder. folder.mended };
-
-    ghost failed = { λ folder. folder.failed };
-
-    fn is_there(&mut self, _name: &str) -> bool {
-        false
-    }
-
-    fn create(&mut self, alloc: Global, name: &str) -> io::Result<Page> {
-        if let Err(error) = self.mended.begin(alloc, name) {
-            self.failed = one_failure_more(self.failed);
-            return Err(io::Error::from(error));
-        }
-        match self.page(alloc) {
-            Ok(page) => Ok(page),
-            Err(error) => {
-                self.mended.cancel();
-                self.failed = one_failure_more(self.failed);
-                Err(error)
-            }
-        }
-    }
-
-    fn finish(&mut self, writer: Page) -> bool {
-        if self.asked == self.limits.unfinished {
-            self.failed = one_failure_more(self.failed);
-            return false;
-        }
-        self.mended.finish(Some(writer.bytes));
-        true
-    }
-
-    fn abandon(&mut self, writer: Page) {
-        self.failed = self.failed.saturating_add(writer.failures);
-    }
-
-    fn remove(&mut self, _name: &str) -> bool {
-        let is_gone = self.limits.unremoved == 0;
-        self.mended.end(is_gone);
-        self.removed = self.removed.saturating_add(is_gone as usize);
-        is_gone
+    fn forget(&mut self) {
+        self.made.forget();
     }
 }

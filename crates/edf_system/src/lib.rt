@@ -4,7 +4,8 @@
 //! - [`Program`]: what a program does with its words; [`run_program`], [`run_words`]: does it.
 //!   [`words`], [`refuse_words`]: the words after a program's name.
 //! - [`Files`]: what opens files and standard input; [`FileReader`]: its readers.
-//! - [`NewFiles`]: what makes files, of which none is written over; [`NewFile`]: its writers.
+//! - [`PartFiles`]: what makes files, of which none is written over; [`NewFile`]: its writers.
+//!   [`Barred`]: names that no file gets; [`NoneBarred`]: no such name.
 //! - [`Streams`]: standard output and standard error.
 //! - [`Terminal`]: progress and messages, where standard error is a terminal; [`Clearing`]: a
 //!   stream beside it, which explains the refusals among its lines. [`Mending`]: what its program
@@ -19,6 +20,7 @@ mod files;
 mod front;
 mod mending;
 mod new_files;
+mod parts;
 mod program;
 mod streams;
 mod terminal;
@@ -27,7 +29,8 @@ pub use cause::{FULL, tell_system_error};
 pub use clearing::Clearing;
 pub use files::{FileReader, Files};
 pub use mending::Mending;
-pub use new_files::{NewFile, NewFiles};
+pub use new_files::{Barred, NoneBarred, PartFiles};
+pub use parts::NewFile;
 pub use program::{Program, run_program, run_words};
 pub use streams::{Streams, refuse_words, words};
 pub use terminal::Terminal;

@@ -2,13 +2,10 @@
 //! answered is `edfmend_command`'s; here the system is handed to it.
 #![tactic(auto)]
 
-mod new_file;
-
 use edf_fragment::Output;
 use edf_program::Status;
-use edf_system::{Files, Mending, NewFiles, Program, Streams, Terminal, run_program};
+use edf_system::{Files, Mending, NoneBarred, PartFiles, Program, Streams, Terminal, run_program};
 use edfmend_command::{MendCommand, read_command, run_mend};
-use new_file::MendedFiles;
 use std::alloc::Global;
 use std::process::ExitCode;
 
@@ -37,7 +34,7 @@ fn run_over(
     rt: &HostRuntime,
     command: &MendCommand,
     inputs: &mut Files<'_>,
-    maker: &mut MendedFiles<'_>,
+    maker: &mut PartFiles<'_, NoneBarred>,
     streams: &mut Streams<'_>,
 ) -> Status {
     run_mend(
@@ -69,7 +66,7 @@ impl Program for Edfmend {
         let terminal = Terminal::of_mender(rt, "reading", READINGS, mending_of(command));
         let mut streams = Streams::new(rt, &terminal);
         let mut inputs = Files::new(rt, &terminal);
-        let mut maker = MendedFiles::new(rt.alloc(), NewFiles::new(rt, &terminal));
+        let mut maker = PartFiles::new(rt, &terminal, NoneBarred);
         let status = run_over(rt, command, &mut inputs, &mut maker, &mut streams);
         terminal.wipe_progress();
         if status == Status::Done && !terminal.is_output_begun() {

@@ -1,4 +1,3 @@
-mod MadeLists
 mod Mending
 mod Opened
 mod Told

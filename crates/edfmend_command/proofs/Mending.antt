@@ -2,7 +2,6 @@
 use Rattle.std.proofs.Common.{◌≡◌, ◌≢◌, ℕ, List, [], ◌∷◌, ◌++◌, Bool}
 use Rattle.std.proofs.Common.{true, false, Option, Some, None, refl, sym, ap, ◌∙◌, subst, inl, inr}
 use Rattle.std.specs.Prelude.{Result, Ok, Err, IfOk, IfErr, MatchResult, IfSome, All}
-use Rattle.std.specs.Io.KnownBytes.{Appends}
 use Rattle.std.proofs.KnownBytes.{Consumes-whole}
 use Rattle.edf_header.specs.Key.{Key}
 use Rattle.edf_fragment.specs.Failures.{one_more}
@@ -18,12 +17,12 @@ use Rattle.edf_mend.specs.declared.ledger.Ledger.{Ledger}
 use Rattle.edf_mend.specs.declared.rule.Rule.{Rule}
 use Rattle.edf_mend.proofs.OneToOne.{unchanged}
 use Rattle.edf_mend.proofs.Surveyed.{no-fault}
-use Rattle.edfmend_command.specs.Made.{MadeFile, made_file, finished, failed_with}
-use Rattle.edfmend_command.specs.Making.{Making}
+use Rattle.edf_new_files.specs.Made.{MadeFile, finished, removed, kept, failed_with}
+use Rattle.edf_new_files.specs.Making.{Making}
+use Rattle.edf_new_files.specs.There.{There}
 use Rattle.edfmend_command.specs.Run.{IsFragmentFile, IsMendedFile, IsNotMended, CountsWrite}
 use Rattle.edfmend_command.specs.Run.{LeavesPart}
 use Rattle.edfmend_command.specs.Inside.{MendsAs, StopsMending, MakesFile, StopsMaking}
-use Rattle.edfmend_command.specs.declared.maker.Stage.TheVariants.{Removed, Kept}
 use Rattle.edfmend_command.specs.declared.mend_command.Stop.{Stop}
 
 -- ---- a second reading
@@ -94,17 +93,6 @@ abandoned failed failed' start end Memory none counts is =
 abandoned failed failed' start end Write none counts is =
     is ∙ ap (failed_with failed) (counts ∙ ap one_more none)
 
--- an empty file, of which all is known, holds what was written to it
-held-by : (bytes : List ℕ) (after : Option (List ℕ)) → Appends (Some []) after bytes →
-    after ≡ Some bytes
-held-by bytes None wrote = absurd wrote
-held-by bytes (Some now) wrote = ap (λ (l : List ℕ). Some l) wrote
-
-pub filled : (before after : Option (List ℕ)) (bytes : List ℕ) → before ≡ Some [] →
-    Appends before after bytes → after ≡ Some bytes
-filled before after bytes empty wrote =
-    held-by bytes after (subst (λ (b : Option (List ℕ)). Appends b after bytes) empty wrote)
-
 -- ---- both readings
 
 welcome-file : (bytes : Option (List ℕ)) (fault : Option FragmentFault) → SurveysAs bytes fault →
@@ -169,12 +157,7 @@ module _ (bytes given : Option (List ℕ)) (rules : List Rule) (fault : Option F
 
 -- ---- after it was asked whether there is something of a name
 
-pub free-of : (there : Option Bool) (answer : Bool) → IfSome there (λ is_there. answer ≡ is_there) →
-    answer ≡ false → IfSome there (λ is_there. is_there ≡ false)
-free-of None answer is no_file = tt
-free-of (Some is_there) answer is no_file = sym is ∙ no_file
-
-abbrev pub made-by : Bool → (List ℕ → Option Bool) → List MadeFile → ℕ → List MadeFile → ℕ → Making
+abbrev pub made-by : Bool → There → List MadeFile → ℕ → List MadeFile → ℕ → Making
 made-by known there before failed after failed' = record {
   known = known;
   there = there;
@@ -184,17 +167,25 @@ made-by known there before failed after failed' = record {
   failed_after = failed';
 }
 
-module _ (known known' : Bool) (there there' : List ℕ → Option Bool)
+module _ (known known' : Bool) (there there' : There)
     (before before' after : List MadeFile) (failed failed' end : ℕ) (k : known' ≡ known)
     (b : before' ≡ before) (f : failed' ≡ failed) (name : List ℕ) where
   leaves-part : (is_left : Bool) →
       LeavesPart (made-by known' there' before' failed' after end) name is_left →
       LeavesPart (made-by known there before failed after end) name is_left
   leaves-part is_left (inl none) = inl (none.0 ∙ b, none.1)
-  leaves-part true (inr left) =
-      inr (left ∙ ap (λ (l : List MadeFile). l ++ (made_file name Kept None ∷ [])) b)
-  leaves-part false (inr left) =
-      inr (left ∙ ap (λ (l : List MadeFile). l ++ (made_file name Removed None ∷ [])) b)
+  leaves-part true (inr (part, named, half, left)) = inr (
+    part,
+    named,
+    half,
+    left ∙ ap (λ (l : List MadeFile). l ++ (kept part ∷ [])) b,
+  )
+  leaves-part false (inr (part, named, half, left)) = inr (
+    part,
+    named,
+    half,
+    left ∙ ap (λ (l : List MadeFile). l ++ (removed part ∷ [])) b,
+  )
 
   module _ (bytes left given : Option (List ℕ)) (rules : List Rule) (fault : Option FragmentFault)
       (same : left ≡ bytes) where

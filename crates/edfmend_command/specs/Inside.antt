@@ -11,8 +11,8 @@ use Rattle.edf_mend.specs.Says.{SaysMended}
 use Rattle.edf_mend.specs.declared.fault.MendFault.{MendFault}
 use Rattle.edf_mend.specs.declared.ledger.Ledger.{Ledger}
 use Rattle.edf_mend.specs.declared.rule.Rule.{Rule}
-use Rattle.edfmend_command.specs.Made.{MadeFile, begun, finished}
-use Rattle.edfmend_command.specs.Making.{Making}
+use Rattle.edf_new_files.specs.Made.{MadeFile, begun, finished, HasPart}
+use Rattle.edf_new_files.specs.Making.{Making}
 use Rattle.edfmend_command.specs.Run.{IsFragmentFile, CountsWrite, LeavesPart}
 use Rattle.edfmend_command.specs.declared.mend_command.Stop.{Stop}
 
@@ -45,7 +45,8 @@ module _ (bytes given : Option (List ℕ)) (rules : List Rule) (fault : Option F
     -- it was not, or not whole
     pub record StopsWriting (why : MendFault) : Type 0 where
       pub stops : StopsMending why
-      pub begun : after ≡ before
+      pub left : (files : List MadeFile) (name : List ℕ) → before ≡ files ++ (begun name ∷ []) →
+          HasPart files name after
       pub counted : CountsWrite failed failed' why
 
   module _ (m : Making) (name : List ℕ) where

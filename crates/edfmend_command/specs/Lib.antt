@@ -1,5 +1,3 @@
-pub mod Made
-pub mod Making
 pub mod Lines
 pub mod Ledger
 pub mod Run

@@ -20,12 +20,12 @@ use Rattle.edf_program.specs.Output.{Growth, Gets, IsWritten, IsTold, Explains}
 use Rattle.edf_program.specs.Text.{there_line}
 use Rattle.edf_program.specs.declared.status.Status.{Status}
 use Rattle.edf_program.specs.declared.status.Status.TheVariants.{Done, Refused, Trouble}
-use Rattle.edfmend_command.specs.Made.{IsFree, MayBeThere, made_file, finished}
-use Rattle.edfmend_command.specs.Making.{Making, MakesNothing}
+use Rattle.edf_new_files.specs.Made.{MadeFile, finished, removed, kept as kept_file}
+use Rattle.edf_new_files.specs.Making.{Making, MakesNothing}
+use Rattle.edf_new_files.specs.There.{IsFree, MayBeThere}
 use Rattle.edfmend_command.specs.Lines.{at_fault, why_text, why_status, kept_line}
 use Rattle.edfmend_command.specs.Lines.{kept_status}
 use Rattle.edfmend_command.specs.Ledger.{ledger_lines}
-use Rattle.edfmend_command.specs.declared.maker.Stage.TheVariants.{Removed, Kept}
 use Rattle.edfmend_command.specs.declared.mend_command.MendCommand.{MendCommand}
 
 -- what a command asks for: the file to mend, the new one, or none where the changes are only told,
@@ -91,8 +91,9 @@ CountsWrite failed failed' why = failed' ≡ failed
 abbrev pub LeavesPart : Making → List ℕ → Bool → Type 0
 LeavesPart m name is_left =
     ((m.after ≡ m.before) × (is_left ≡ false))
-    ⊎ MatchBool is_left (m.after ≡ m.before ++ (made_file name Kept None ∷ []))
-    (m.after ≡ m.before ++ (made_file name Removed None ∷ []))
+    ⊎ ((part : MadeFile) × (part.name ≡ name) × (part.whole ≡ false) × MatchBool is_left
+    (m.after ≡ m.before ++ (kept_file part ∷ []))
+    (m.after ≡ m.before ++ (removed part ∷ [])))
 
 -- the name of the file whose part is left, if it is
 abbrev pub left_name : List ℕ → Bool → Option (List ℕ)

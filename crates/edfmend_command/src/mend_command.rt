@@ -6,18 +6,18 @@ ghost use Rattle.edf_program.specs.Opened.{OpensUpTo};
 ghost use Rattle.edf_program.specs.Output.{growth};
 ghost use Rattle.edf_mend.specs.Answers.{IsTrouble};
 ghost use Rattle.edf_mend.specs.Mended.{SurveysAs};
+ghost use Rattle.edf_new_files.specs.Making.{making};
 ghost use Rattle.edfmend_command.specs.Inside.{MendsAs, StopsMending, WritesFile, StopsWriting};
 ghost use Rattle.edfmend_command.specs.Inside.{MakesFile, StopsMaking};
-ghost use Rattle.edfmend_command.specs.Making.{making};
 ghost use Rattle.edfmend_command.specs.Run.{IsMendedFile, IsNotMended, CountsWrite, left_name};
 ghost use Rattle.edfmend_command.specs.Run.{TellsChanges, LacksChanges, FindsName, MakesMended};
 ghost use Rattle.edfmend_command.specs.Run.{LacksMended, IsMendDone, OpensTwice, meaning};
 
 use crate::lines::tell_ledger;
-use crate::maker::Maker;
 use crate::refusal::refuse;
 use edf_fragment::{Counted, Input, Output};
 use edf_mend::{Ledger, MendFault, Rule, Survey, mend, survey_file};
+use edf_new_files::NewFiles;
 use edf_program::{Inputs, Status, tell_there};
 use std::alloc::Global;
 use std::io;
@@ -154,7 +154,7 @@ fn tell_changes<I: Inputs, O: Output, F: Output>(
 }
 
 /// Writes the mended file to one that was just begun, and names it.
-fn write_file<I: Inputs, M: Maker>(
+fn write_file<I: Inputs, M: NewFiles>(
     alloc: Global,
     file: &str,
     patient: Option<&[u8]>,
@@ -177,13 +177,10 @@ fn write_file<I: Inputs, M: Maker>(
         (λ _. OpensUpTo (I.opened inputs.old) (I.opened inputs.new) file.now 1) }
 {
     match mend_again(alloc, file, patient, rules, survey, inputs, &mut writer) {
-        Ok(ledger) => {
-            if maker.finish(writer) {
-                Ok(ledger)
-            } else {
-                Err(MendFault::Write)
-            }
-        }
+        Ok(ledger) => match maker.finish(writer) {
+            Ok(_) => Ok(ledger),
+            Err(_) => Err(MendFault::Write),
+        },
         Err(fault) => {
             maker.abandon(writer);
             Err(fault)
@@ -192,7 +189,7 @@ fn write_file<I: Inputs, M: Maker>(
 }
 
 /// Makes the mended file. After an error no part of it is left, if it could be removed.
-fn make_file<I: Inputs, M: Maker>(
+fn make_file<I: Inputs, M: NewFiles>(
     alloc: Global,
     file: &str,
     patient: Option<&[u8]>,
@@ -204,13 +201,14 @@ fn make_file<I: Inputs, M: Maker>(
 ) -> Result<Ledger, Stop>
     ensures answer { MatchResult result
         (MakesFile (I.bytes inputs.old file.now) (option_map (λ code. code.now) patient.entry)
-        rules.now survey.now.fault (making M.Maker maker.old maker.new) name.now)
+        rules.now survey.now.fault (making M.NewFiles maker.old maker.new) name.now)
         (StopsMaking (I.bytes inputs.old file.now) (option_map (λ code. code.now) patient.entry)
-        rules.now survey.now.fault (making M.Maker maker.old maker.new) name.now) }
+        rules.now survey.now.fault (making M.NewFiles maker.old maker.new) name.now) }
     ensures opened { MatchResult result
         (λ _. I.opened inputs.new ≡ I.opened inputs.old ++ replicate 1 file.now)
         (λ _. OpensUpTo (I.opened inputs.old) (I.opened inputs.new) file.now 1) }
 {
+    let place = maker.count();
     let Ok(writer) = maker.create(alloc, name) else {
         return Err(Stop {
             fault: MendFault::Write,
@@ -220,7 +218,7 @@ fn make_file<I: Inputs, M: Maker>(
     match write_file(alloc, file, patient, rules, survey, inputs, maker, writer) {
         Ok(ledger) => Ok(ledger),
         Err(fault) => {
-            let is_gone = maker.remove(name);
+            let is_gone = maker.remove(place);
             Err(Stop {
                 fault,
                 is_left: !is_gone,
@@ -238,7 +236,7 @@ fn left_name(name: &str, is_left: bool) -> Option<&str>
 
 /// Makes the mended file, and tells its changes. Where anything fails before it has its name,
 /// nothing is left.
-fn mend_to<I: Inputs, M: Maker, O: Output, F: Output>(
+fn mend_to<I: Inputs, M: NewFiles, O: Output, F: Output>(
     alloc: Global,
     file: &str,
     patient: Option<&[u8]>,
@@ -250,7 +248,7 @@ fn mend_to<I: Inputs, M: Maker, O: Output, F: Output>(
     err: &mut F,
 ) -> Status
     ensures done { let given = option_map (λ code. code.now) patient.entry in
-        let m = making M.Maker maker.old maker.new in
+        let m = making M.NewFiles maker.old maker.new in
         FindsName (growth O.Output out.old out.new) (growth F.Output err.old err.new)
         (I.bytes inputs.old file.now) given rules.now file.now result m name.now
         ⊎ (MakesMended (growth O.Output out.old out.new) (growth F.Output err.old err.new)
@@ -282,7 +280,7 @@ fn mend_to<I: Inputs, M: Maker, O: Output, F: Output>(
 /// made. Then the ledger goes to `out`, a line a change. Where that can't be written whole the
 /// answer is `Trouble`, the new file stays, and no more is told. Why it is not made goes to `err`;
 /// then no part of it is left, or one more line names the part that could not be removed.
-pub fn run_mend<I: Inputs, M: Maker, O: Output, F: Output>(
+pub fn run_mend<I: Inputs, M: NewFiles, O: Output, F: Output>(
     alloc: Global,
     command: &MendCommand,
     inputs: &mut I,
@@ -290,7 +288,7 @@ pub fn run_mend<I: Inputs, M: Maker, O: Output, F: Output>(
     out: &mut O,
     err: &mut F,
 ) -> Status
-    ensures done { IsMendDone (making M.Maker maker.old maker.new)
+    ensures done { IsMendDone (making M.NewFiles maker.old maker.new)
         (growth O.Output out.old out.new) (growth F.Output err.old err.new)
         (I.bytes inputs.old (string_bytes command.now.input)) (meaning command.now) result }
     ensures opened { OpensTwice (I.opened inputs.old) (I.opened inputs.new)

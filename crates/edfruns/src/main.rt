@@ -3,13 +3,10 @@
 //! system is handed to it.
 #![tactic(auto)]
 
-mod new_files;
-
 use edf_fragment::Output;
 use edf_program::Status;
-use edf_system::{Files, NewFiles, Program, Streams, Terminal, run_program};
+use edf_system::{Files, NoneBarred, PartFiles, Program, Streams, Terminal, run_program};
 use edfruns_command::{RunsCommand, read_command, run_runs};
-use new_files::RunFiles;
 use std::alloc::Global;
 use std::process::ExitCode;
 
@@ -18,7 +15,7 @@ fn run_over(
     rt: &HostRuntime,
     command: &RunsCommand,
     inputs: &mut Files<'_>,
-    outputs: &mut RunFiles<'_>,
+    outputs: &mut PartFiles<'_, NoneBarred>,
     streams: &mut Streams<'_>,
 ) -> Status {
     run_runs(
@@ -68,7 +65,7 @@ impl Program for Edfruns {
         let terminal = Terminal::new(rt, "reading", command.readings());
         let mut streams = streams_of(rt, command, &terminal);
         let mut inputs = Files::new(rt, &terminal);
-        let mut outputs = RunFiles::new(rt.alloc(), NewFiles::new(rt, &terminal));
+        let mut outputs = PartFiles::new(rt, &terminal, NoneBarred);
         let status = run_over(rt, command, &mut inputs, &mut outputs, &mut streams);
         terminal.wipe_progress();
         status

@@ -7,7 +7,8 @@ use Rattle.edf_header.specs.Key.{Key}
 use Rattle.edf_fragment.specs.Fragment.{DataRecord}
 use Rattle.edf_runs.specs.KeptByOnset.{annotated_runs}
 use Rattle.edf_runs.specs.declared.onset_run.OnsetRun.{OnsetRun}
-use Rattle.edfruns_command.specs.Made.{MadeFile, IsHalf, names_of}
+use Rattle.edf_new_files.specs.Made.{MadeFile, names_of}
+use Rattle.edfruns_command.specs.Made.{IsHalf}
 use Rattle.edfruns_command.specs.Splitting.{HoldsRun, IsKeptRun, WereFinished, WereFirst}
 use Rattle.edfruns_command.specs.InsideSplit.{as_begun}
 

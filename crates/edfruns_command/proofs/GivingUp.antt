@@ -9,11 +9,13 @@ use Rattle.edf_program.specs.declared.status.Status.{Status}
 use Rattle.edf_runs.specs.KeptByOnset.{annotated_runs}
 use Rattle.edf_runs.specs.declared.onset_run.OnsetRun.{OnsetRun}
 use Rattle.edf_runs.specs.declared.onset_listing.OnsetListing.{OnsetListing}
+use Rattle.edf_new_files.specs.Made.{MadeFile, names_of}
+use Rattle.edf_new_files.specs.Making.{Making}
 use Rattle.edfruns_command.specs.Lines.{IsSpelling, reread_line, unwritten_line}
 use Rattle.edfruns_command.specs.Lines.{standard_output}
-use Rattle.edfruns_command.specs.Made.{MadeFile, RemovesMade, names_of}
+use Rattle.edfruns_command.specs.Made.{RemovesMade}
 use Rattle.edfruns_command.proofs.Finished.{first-all, finished-still, same-names}
-use Rattle.edfruns_command.specs.Splitting.{Making, WereFirst, LacksOutput, LacksReading, lines_of}
+use Rattle.edfruns_command.specs.Splitting.{WereFirst, LacksOutput, LacksReading, lines_of}
 use Rattle.edfruns_command.specs.InsideMaking.{HasMade, RereadsAll, StopsMaking}
 use Rattle.edfruns_command.specs.InsideSplit.{as_begun, RemovesFrom, CutsLines, stop_line}
 use Rattle.edfruns_command.specs.declared.stop.Stop.{Stop}

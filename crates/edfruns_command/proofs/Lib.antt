@@ -13,7 +13,6 @@ mod SameGroups
 mod Removals
 mod GivingUp
 mod Splits
-mod MadeLists
 mod Finished
 mod Outside
 mod EachLine

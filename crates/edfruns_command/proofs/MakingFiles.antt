@@ -21,10 +21,11 @@ use Rattle.edf_runs.specs.declared.written.Written.{Written}
 use Rattle.edf_runs.specs.declared.fault.WriteFault.{WriteFault}
 use Rattle.edf_runs.proofs.Annotated.{annotated-length}
 use Rattle.edf_runs.proofs.Growing.{joined_more}
-use Rattle.edfruns_command.specs.Made.{MadeFile, begun, names_of}
+use Rattle.edf_new_files.specs.Made.{MadeFile, names_of, HasPart, failed_with}
+use Rattle.edf_new_files.specs.Making.{Making}
 use Rattle.edfruns_command.specs.Rereading.{IsAtRun, ComesToOutput, IsPassedAs}
 use Rattle.edfruns_command.specs.Rereading.{PassesRuns}
-use Rattle.edfruns_command.specs.Splitting.{Making, HoldsRun, IsKeptRun}
+use Rattle.edfruns_command.specs.Splitting.{HoldsRun, IsKeptRun}
 use Rattle.edfruns_command.specs.InsideMaking.{MakesFile, HalfMakes, LacksFile, HasMade, MakesEach}
 use Rattle.edfruns_command.specs.InsideMaking.{HalfMakesEach, LacksOneOf, StopsFile, StopsEach}
 use Rattle.edfruns_command.specs.InsideMaking.{IsStopOf, MakesFirst, AreLinesOf}
@@ -35,8 +36,6 @@ use Rattle.edfruns_command.specs.declared.stop.Stop.TheVariants as stop
 use Rattle.edf_runs.specs.Written.{CountsFault}
 use Rattle.edf_runs.specs.declared.fault.WriteFault.TheVariants as fault
 use Rattle.edf_runs.proofs.SecondReading.{none_read}
-use Rattle.std.specs.Io.KnownBytes.{Appends}
-use Rattle.edfruns_command.specs.Made.{failed_with}
 use Rattle.edfruns_command.proofs.Rereading.{both, one-more, reads-then}
 use Rattle.edfruns_command.proofs.CountedLines.{counted-text, lines-more}
 use Rattle.edfruns_command.proofs.Finished.{all-finished, half-more}
@@ -121,17 +120,16 @@ module _ (a b : Making) (known : b.known ≡ a.known) (before : b.before ≡ a.a
       ∙ append_assoc a.before so_far.files (file ∷ [])
 
   -- one file more was begun
-  has-more : b.after ≡ b.before ++ (begun name ∷ []) →
-      HasMade (then a b) (take (i + 1) names) l.key runs i
-  has-more made = record {
-    files = so_far.files ++ (begun name ∷ []);
-    made = more-made (begun name) made;
-    named = names-more so_far.files (begun name) names i name named is_name refl so_far.named;
+  has-more : HasPart b.before name b.after → HasMade (then a b) (take (i + 1) names) l.key runs i
+  has-more has = record {
+    files = so_far.files ++ (has.part ∷ []);
+    made = more-made has.part has.behind;
+    named = names-more so_far.files has.part names i name named is_name has.named so_far.named;
     first = record {
       runs = so_far.parts;
       are_listed = so_far.listed;
       finished = half-more a.known l.key (annotated_runs so_far.parts (take i runs)) so_far.files
-          (begun name) so_far.held (refl, refl);
+          has.part so_far.held has.is_half;
     };
   }
 
@@ -366,21 +364,10 @@ first-none m names l to left runs text first made failed none = record {
 
 -- ---- one file
 
-held-by : (file : List ℕ) (after : Option (List ℕ)) → Appends (Some []) after file →
-    after ≡ Some file
-held-by file None wrote = absurd wrote
-held-by file (Some bytes) wrote = ap (λ (b : List ℕ). Some b) wrote
-
--- what a writer that was empty holds
-pub filled : (before after : Option (List ℕ)) (file : List ℕ) → before ≡ Some [] →
-    Appends before after file → after ≡ Some file
-filled before after file empty wrote =
-    held-by file after (subst (λ (b : Option (List ℕ)). Appends b after file) empty wrote)
-
 module _ (m : Making) (name : List ℕ) (l : Layout) (from to : Progress)
     (left rest : Option (List ℕ)) (run : OnsetRun) (blank half : Option (List ℕ))
     (reads reads' failures failures' : ℕ) (none : failures ≡ 0)
-    (made : m.after ≡ m.before ++ (begun name ∷ []))
+    (made : HasPart m.before name m.after)
     (failed : m.failed_after ≡ failed_with m.failed_before failures') where
   no-more : failures' ≡ failures → m.failed_after ≡ m.failed_before
   no-more same = failed ∙ ap (failed_with m.failed_before) (same ∙ none)

@@ -23,9 +23,10 @@ use Rattle.edf_runs.specs.declared.onset_run.OnsetRun.{OnsetRun}
 use Rattle.edf_runs.specs.declared.onset_listing.OnsetListing.{OnsetListing}
 use Rattle.edf_runs.specs.declared.fault.WriteFault.{WriteFault}
 use Rattle.edf_runs.specs.declared.fault.WriteFault.TheVariants as fault
+use Rattle.edf_new_files.specs.Making.{Making}
 use Rattle.edfruns_command.specs.Writing.{ReadsAgain}
 use Rattle.edfruns_command.specs.Rereading.{IsOfReading, IsNoEnd}
-use Rattle.edfruns_command.specs.Splitting.{Making, WereFirst}
+use Rattle.edfruns_command.specs.Splitting.{WereFirst}
 use Rattle.edfruns_command.proofs.Finished.{first-all}
 use Rattle.edfruns_command.specs.InsideMaking.{Ends, StopsAtEnd, MakesEach, MakesFirst, HasMade}
 use Rattle.edfruns_command.specs.InsideMaking.{HalfRereads, HalfMakesEach, StopsEach, StopsMaking}

@@ -11,9 +11,10 @@ use Rattle.edf_program.specs.Output.{Growth}
 use Rattle.edf_program.specs.declared.status.Status.{Status}
 use Rattle.edf_runs.specs.declared.joining.Joining.{Joining}
 use Rattle.edf_runs.specs.declared.onset_listing.OnsetListing.{OnsetListing}
+use Rattle.edf_new_files.specs.Making.{Making}
 use Rattle.edfruns_command.specs.Naming.{run_name, run_names, first_names, asked_names}
 use Rattle.edfruns_command.specs.JoinedPlan.{HasJoinedPlan, AreFiles}
-use Rattle.edfruns_command.specs.Splitting.{Making, RereadsRuns, SplitsFile, GivesUp, IsKeptRun}
+use Rattle.edfruns_command.specs.Splitting.{RereadsRuns, SplitsFile, GivesUp, IsKeptRun}
 use Rattle.edfruns_command.specs.InsideMaking.{RereadsParts}
 use Rattle.edfruns_command.specs.InsideSplit.{SplitsListed}
 use Rattle.edfruns_command.proofs.SameGroups.{planned-files}

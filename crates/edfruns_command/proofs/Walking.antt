@@ -1,7 +1,7 @@
--- A list that is walked, and lines whose labels agree.
-use Rattle.std.proofs.Common.{◌≡◌, ℕ, ◌+◌, ◌<◌, Bool, List, ◌∷◌, ◌++◌, length}
+-- A list that is walked.
+use Rattle.std.proofs.Common.{◌≡◌, ℕ, ◌+◌, ◌<◌, List, ◌∷◌, ◌++◌, length}
 use Rattle.std.proofs.Common.{take, drop, get_or, map, sym, ap, ◌∙◌, subst, All}
-use Rattle.std.proofs.Common.{take-append-drop, Option, Some, None, IfSome}
+use Rattle.std.proofs.Common.{take-append-drop}
 use Rattle.std.proofs.lemmas.List.{take_more, drop_more, get_or-map}
 use Rattle.std.proofs.lemmas.List.Elements.{All-push}
 
@@ -17,13 +17,3 @@ module _ {X : Type 0} (xs : List X) (i : ℕ) (x : X) (lt : i < length xs) (is :
 
     pub mapped : {Y : Type 0} (f : X → Y) → f x ≡ get_or (map f xs) i (f x)
     mapped f = ap f is ∙ sym (get_or-map f xs i x (f x) lt)
-
-turned : (b : Bool) (o : Option Bool) → IfSome o (λ c. b ≡ c) → IfSome o (λ c. c ≡ b)
-turned b None is = tt
-turned b (Some c) is = sym is
-
--- what was asked for has been answered
-pub asked-so : (b : Bool) (o asked : Option Bool) → asked ≡ o → IfSome asked (λ c. b ≡ c) →
-    IfSome o (λ c. c ≡ b)
-asked-so b o asked e some = turned b o
-    (subst (λ (p : Option Bool). IfSome p (λ c. b ≡ c)) e some)

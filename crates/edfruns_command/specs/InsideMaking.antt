@@ -21,11 +21,12 @@ use Rattle.edf_runs.specs.declared.onset_run.OnsetRun.{OnsetRun}
 use Rattle.edf_runs.specs.declared.onset_listing.OnsetListing.{OnsetListing}
 use Rattle.edf_runs.specs.declared.fault.WriteFault.{WriteFault}
 use Rattle.edf_runs.specs.declared.fault.WriteFault.TheVariants as fault
-use Rattle.edfruns_command.specs.Made.{MadeFile, begun, names_of}
+use Rattle.edf_new_files.specs.Made.{MadeFile, HasPart, names_of}
+use Rattle.edf_new_files.specs.Making.{Making}
 use Rattle.edfruns_command.specs.Writing.{ReadsAgain}
 use Rattle.edfruns_command.specs.Rereading.{IsOfReading, IsNoEnd, StopsAmong, StopsRereading}
 use Rattle.edfruns_command.specs.Rereading.{ComesToOutput}
-use Rattle.edfruns_command.specs.Splitting.{Making, HoldsRun, WereFirst, IsKeptRun, lines_of}
+use Rattle.edfruns_command.specs.Splitting.{HoldsRun, WereFirst, IsKeptRun, lines_of}
 use Rattle.edfruns_command.specs.Lines.{IsSpelling}
 use Rattle.edfruns_command.specs.Counting.{split_lines}
 use Rattle.edfruns_command.specs.declared.stop.Stop.{Stop}
@@ -68,7 +69,7 @@ pub record HalfMakes (m : Making) (name : List ℕ) (l : Layout) (from to : Prog
       (kept_of run) why
   pub unchanged : ComesByOnset l from left run.run (starts_of run) (kept_of run) →
       why ≢ fault.Changed
-  pub made : m.after ≡ m.before ++ (begun name ∷ [])
+  pub made : HasPart m.before name m.after
   pub unfailed : m.failed_after ≡ m.failed_before
 
 -- the fault in a run's writing is one of reading, or its file's
@@ -81,7 +82,7 @@ IsStopOf met name (stop.Reading why) = why ≡ met
 -- it could not be made, written or ended
 pub record LacksFile (m : Making) (name output : List ℕ) : Type 0 where
   pub is_output : output ≡ name
-  pub made : (m.after ≡ m.before) ⊎ (m.after ≡ m.before ++ (begun name ∷ []))
+  pub made : (m.after ≡ m.before) ⊎ HasPart m.before name m.after
   pub failed : m.failed_after ≡ one_more m.failed_before
 
 abbrev pub StopsFile : Making → List ℕ → Layout → Progress → Progress → Option (List ℕ) →

@@ -9,12 +9,14 @@ use Rattle.edf_program.specs.declared.status.Status.{Status}
 use Rattle.edf_program.specs.declared.status.Status.TheVariants.{Done, Trouble}
 use Rattle.edf_runs.specs.declared.onset_run.OnsetRun.{OnsetRun}
 use Rattle.edf_runs.specs.declared.onset_listing.OnsetListing.{OnsetListing}
+use Rattle.edf_new_files.specs.Made.{MadeFile, made_file}
+use Rattle.edf_new_files.specs.Making.{Making}
+use Rattle.edf_new_files.specs.There.{There, IsFree, MayBeThere}
+use Rattle.edf_new_files.specs.declared.new_files.Stage.TheVariants.{Begun}
 use Rattle.edfruns_command.specs.Lines.{IsSpelling, reread_line, unwritten_line}
 use Rattle.edfruns_command.specs.Lines.{standard_output}
-use Rattle.edfruns_command.specs.Made.{MadeFile, IsFree, MayBeThere, IsOver, RemovesMade}
-use Rattle.edfruns_command.specs.Made.{left_text, made_file}
-use Rattle.edfruns_command.specs.declared.outputs.Stage.TheVariants.{Begun}
-use Rattle.edfruns_command.specs.Splitting.{Making, WereFirst, LacksOutput, LacksReading, lines_of}
+use Rattle.edfruns_command.specs.Made.{IsOver, RemovesMade, left_text}
+use Rattle.edfruns_command.specs.Splitting.{WereFirst, LacksOutput, LacksReading, lines_of}
 use Rattle.edfruns_command.specs.InsideMaking.{RereadsParts, RereadsAll}
 use Rattle.edfruns_command.specs.declared.stop.Stop.{Stop}
 use Rattle.edfruns_command.specs.declared.stop.Stop.TheVariants as stop
@@ -22,13 +24,12 @@ use Rattle.edfruns_command.specs.declared.stop.Stop.TheVariants as stop
 -- ---- before a file is made
 
 -- of some names this one may be taken, and none before it is
-pub record IsTaken (there : List ℕ → Option Bool) (names : List (List ℕ)) (found : List ℕ) : Type 0
-  where
-    pub front : List (List ℕ)
-    pub later : List (List ℕ)
-    pub parts : names ≡ front ++ (found ∷ later)
-    pub free : All (IsFree there) front
-    pub taken : MayBeThere there found
+pub record IsTaken (there : There) (names : List (List ℕ)) (found : List ℕ) : Type 0 where
+  pub front : List (List ℕ)
+  pub later : List (List ℕ)
+  pub parts : names ≡ front ++ (found ∷ later)
+  pub free : All (IsFree there) front
+  pub taken : MayBeThere there found
 
 -- the run of this number is the first whose start no header can name
 pub record IsUndated (plan : OnsetListing) (number : ℕ) : Type 0 where
@@ -54,7 +55,7 @@ IsPutAfter w text before after =
 
 -- a file as it was before its removal, but for how far it was
 abbrev pub as_begun : MadeFile → MadeFile
-as_begun file = made_file file.name Begun file.whole file.bytes
+as_begun file = made_file file.name Begun file.whole file.bytes file.why
 
 -- the removal of one file was tried, and a line says where it is left
 pub record RemovesOne (old new : List MadeFile) (w : Growth) (front later : List MadeFile)

@@ -3,12 +3,13 @@ use Rattle.std.specs.Prelude.{ℕ, Bool, List, Option, length, map, string_bytes
 use Rattle.edf_program.specs.Output.{Growth}
 use Rattle.edf_program.specs.declared.status.Status.{Status}
 use Rattle.edf_runs.specs.declared.joining.Joining.{Joining}
+use Rattle.edf_new_files.specs.Making.{Making, MakesNothing}
 use Rattle.edfruns_command.specs.Listed.{IsListOut, OpensEach}
 use Rattle.edfruns_command.specs.Listing.{OpensAgain}
 use Rattle.edfruns_command.specs.Picturing.{IsPictured}
 use Rattle.edfruns_command.specs.Writing.{IsRunOut}
 use Rattle.edfruns_command.specs.Canonical.{IsCanonicalOut}
-use Rattle.edfruns_command.specs.Splitting.{Making, MakesNothing, IsSplit}
+use Rattle.edfruns_command.specs.Splitting.{IsSplit}
 use Rattle.edfruns_command.specs.declared.runs_command.RunsCommand.{RunsCommand}
 use Rattle.edfruns_command.specs.declared.runs_command.RunsCommand.TheVariants as parsed
 

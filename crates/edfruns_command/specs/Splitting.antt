@@ -21,40 +21,18 @@ use Rattle.edf_runs.specs.declared.joining.Joining.{Joining}
 use Rattle.edf_runs.specs.declared.onset_run.OnsetRun.{OnsetRun}
 use Rattle.edf_runs.specs.declared.onset_listing.OnsetListing.{OnsetListing}
 use Rattle.edf_runs.specs.declared.fault.WriteFault.{WriteFault}
+use Rattle.edf_new_files.specs.Made.{MadeFile, names_of}
+use Rattle.edf_new_files.specs.Making.{Making, MakesNothing}
+use Rattle.edf_new_files.specs.There.{IsFree, MayBeThere}
+use Rattle.edf_new_files.specs.declared.new_files.Stage.TheVariants.{Finished}
 use Rattle.edfruns_command.specs.Naming.{run_names, asked_names}
 use Rattle.edfruns_command.specs.Lines.{IsSpelling, undated_line, reread_line}
 use Rattle.edfruns_command.specs.Lines.{unwritten_line, standard_output}
 use Rattle.edfruns_command.specs.Counting.{split_lines}
-use Rattle.edfruns_command.specs.Made.{MadeFile, IsHalf, IsFree, MayBeThere, RemovesMade}
-use Rattle.edfruns_command.specs.Made.{names_of}
+use Rattle.edfruns_command.specs.Made.{IsHalf, RemovesMade}
 use Rattle.edfruns_command.specs.JoinedPlan.{HasJoinedPlan, LacksJoinedPlan, AreFiles, part_of}
 use Rattle.edfruns_command.specs.Writing.{ReadsAgain}
 use Rattle.edfruns_command.specs.Rereading.{IsOfReading, StopsRereading, ComesToOutput}
-use Rattle.edfruns_command.specs.declared.outputs.Outputs.{Ghosts}
-use Rattle.edfruns_command.specs.declared.outputs.Stage.TheVariants.{Finished}
-
--- what makes files, before and after
-pub record Making : Type 0 where
-  pub known : Bool
-  pub there : List ℕ → Option Bool
-  pub before : List MadeFile
-  pub failed_before : ℕ
-  pub after : List MadeFile
-  pub failed_after : ℕ
-
-abbrev pub making : {P W : Type 0} → Ghosts P W → P → P → Making
-making g old new = record {
-  known = g.known old;
-  there = g.there old;
-  before = g.made old;
-  failed_before = g.failed old;
-  after = g.made new;
-  failed_after = g.failed new;
-}
-
--- no file was made
-abbrev pub MakesNothing : Making → Type 0
-MakesNothing m = (m.after ≡ m.before) × (m.failed_after ≡ m.failed_before)
 
 -- a file of the run was finished, with just these bytes where what is made is known
 pub record HasFinished (known : Bool) (k : Key) (run : List DataRecord) (whole : Bool)

@@ -4,7 +4,7 @@
 //! - [`read_command`]: the words after the program's name, as a [`RunsCommand`]; help and usage are
 //!   written. [`parse`]: the words, read, and nothing else.
 //! - [`run_runs`]: one command, over what opens files (`edf_program`'s `Inputs`) and what makes
-//!   them ([`Outputs`], with [`MadeFiles`] for the list of them).
+//!   them (`edf_new_files`' `NewFiles`).
 //! - [`laws`]: runs have groups that share a line, and no others; the lines of a picture are those
 //!   of `list`. Each function does nothing: its contract is a law.
 //! - [`runs_text`]: the lines of runs that were listed; [`Sight`]: what a picture shows of a
@@ -18,10 +18,8 @@ mod joining;
 pub mod laws;
 mod lines;
 mod list_command;
-mod made_files;
 mod making;
 mod naming;
-mod outputs;
 mod picture_command;
 mod planning;
 mod refusal;
@@ -36,7 +34,5 @@ mod write_command;
 
 pub use arguments::{parse, read_command};
 pub use lines::runs_text;
-pub use made_files::MadeFiles;
-pub use outputs::{Outputs, Stage};
 pub use runs_command::{RunsCommand, run_runs};
 pub use sight::Sight;

@@ -6,17 +6,17 @@ ghost use Rattle.edf_field.specs.Number.{duration_of};
 ghost use Rattle.edf_header.specs.Key.{MayStart};
 ghost use Rattle.edf_fragment.specs.Reading.{at_first};
 ghost use Rattle.edf_runs.specs.declared.onset_run.OnsetRun.{OnsetRun as PlannedRun};
+ghost use Rattle.edf_new_files.specs.Making.{making};
 ghost use Rattle.edfruns_command.specs.Inside.{OpensUpTo};
 ghost use Rattle.edfruns_command.specs.InsideMaking.{MakesFile, StopsFile, MakesFirst, StopsEach};
 ghost use Rattle.edfruns_command.specs.InsideMaking.{RereadsWith, StopsMaking, IsStopOf};
 ghost use Rattle.edfruns_command.specs.InsideMaking.{Ends, StopsAtEnd};
-ghost use Rattle.edfruns_command.specs.Splitting.{making};
 
 use crate::counting::with_line;
-use crate::outputs::Outputs;
 use crate::stop::Stop;
 use edf_field::MOST_DURATION;
 use edf_fragment::{FragmentFault, Input, OpenFragment};
+use edf_new_files::NewFiles;
 use edf_program::Inputs;
 use edf_runs::{OnsetListing, OnsetRun, WriteFault, Written, reopen_by_onset, write_by_onset};
 use std::alloc::Global;
@@ -49,7 +49,7 @@ fn stop_of(fault: WriteFault, name: &str) -> Stop<'_>
 }
 
 /// Makes the file of the run whose data records come next.
-fn make_file<'a, R: Input, P: Outputs>(
+fn make_file<'a, R: Input, P: NewFiles>(
     alloc: Global,
     fragment: &mut OpenFragment,
     reader: &mut R,
@@ -61,10 +61,10 @@ fn make_file<'a, R: Input, P: Outputs>(
     ensures header { fragment.new.header ≡ fragment.old.header }
     ensures known { P.known outputs.new ≡ P.known outputs.old }
     ensures answer { MatchResult result
-        (MakesFile (making P.Outputs outputs.old outputs.new) name.now fragment.old.header
+        (MakesFile (making P.NewFiles outputs.old outputs.new) name.now fragment.old.header
         fragment.old.progress fragment.new.progress (R.remaining reader.old)
         (R.remaining reader.new) run.now)
-        (StopsFile (making P.Outputs outputs.old outputs.new) name.now fragment.old.header
+        (StopsFile (making P.NewFiles outputs.old outputs.new) name.now fragment.old.header
         fragment.old.progress fragment.new.progress (R.remaining reader.old)
         (R.remaining reader.new) run.now) }
 {
@@ -72,13 +72,10 @@ fn make_file<'a, R: Input, P: Outputs>(
         return Err(Stop::Output(name));
     };
     match write_by_onset(alloc, fragment, reader, run, &mut writer) {
-        Ok(written) => {
-            if outputs.finish(writer) {
-                Ok(written)
-            } else {
-                Err(Stop::Output(name))
-            }
-        }
+        Ok(written) => match outputs.finish(writer) {
+            Ok(_) => Ok(written),
+            Err(_) => Err(Stop::Output(name)),
+        },
         Err(fault) => {
             outputs.abandon(writer);
             Err(stop_of(fault, name))
@@ -88,7 +85,7 @@ fn make_file<'a, R: Input, P: Outputs>(
 
 /// Makes the files of all runs whose data records follow a header that was just read, and answers
 /// their lines.
-fn make_each<'a, R: Input, P: Outputs>(
+fn make_each<'a, R: Input, P: NewFiles>(
     alloc: Global,
     fragment: &mut OpenFragment,
     reader: &mut R,
@@ -105,10 +102,10 @@ fn make_each<'a, R: Input, P: Outputs>(
         runs.now }
     ensures header { fragment.new.header ≡ fragment.old.header }
     ensures answer { MatchResult result
-        (λ text. MakesFirst (making P.Outputs outputs.old outputs.new)
+        (λ text. MakesFirst (making P.NewFiles outputs.old outputs.new)
         (map string_bytes names.now) fragment.old.header fragment.new.progress
         (R.remaining reader.old) (R.remaining reader.new) runs.now (length runs.now) text.items)
-        (StopsEach (making P.Outputs outputs.old outputs.new) (map string_bytes names.now)
+        (StopsEach (making P.NewFiles outputs.old outputs.new) (map string_bytes names.now)
         fragment.old.header (R.remaining reader.old) (R.remaining reader.new) runs.now) }
 {
     let mut text = Vec::new(alloc);
@@ -125,7 +122,7 @@ fn make_each<'a, R: Input, P: Outputs>(
 
 /// Reads a file again, makes a file of one of the names for each of its runs, and answers their
 /// lines.
-pub(crate) fn make_files<'a, I: Inputs, P: Outputs>(
+pub(crate) fn make_files<'a, I: Inputs, P: NewFiles>(
     alloc: Global,
     file: &str,
     plan: &OnsetListing,
@@ -137,9 +134,9 @@ pub(crate) fn make_files<'a, I: Inputs, P: Outputs>(
     requires dated { All (λ (run : PlannedRun). MayStart plan.now.identity run.run.first)
         plan.now.runs.items }
     ensures answer { MatchResult result
-        (λ text. RereadsWith (making P.Outputs outputs.old outputs.new)
+        (λ text. RereadsWith (making P.NewFiles outputs.old outputs.new)
         (I.bytes inputs.old file.now) plan.now (map string_bytes names.now) text.items)
-        (StopsMaking (making P.Outputs outputs.old outputs.new) (I.bytes inputs.old file.now)
+        (StopsMaking (making P.NewFiles outputs.old outputs.new) (I.bytes inputs.old file.now)
         plan.now (map string_bytes names.now)) }
     ensures opened { MatchResult result
         (λ _. I.opened inputs.new ≡ I.opened inputs.old ++ replicate 1 file.now)

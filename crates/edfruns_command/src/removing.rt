@@ -3,18 +3,18 @@
 ghost use Rattle.std.specs.Prelude.{◌≡◌, ◌-◌, ◌≤◌, ◌++◌, ◌∷◌, List, length, map, string_bytes};
 ghost use Rattle.std.specs.Prelude.{drop, take};
 ghost use Rattle.edf_program.specs.Output.{growth};
+ghost use Rattle.edf_new_files.specs.Made.{MadeFile, names_of};
 ghost use Rattle.edfruns_command.specs.InsideSplit.{RemovesOne, RemovesFrom, stop_line};
-ghost use Rattle.edfruns_command.specs.Made.{MadeFile, names_of};
 
-use crate::outputs::Outputs;
 use crate::refusal::{is_left_told, is_stop_told};
 use crate::stop::Stop;
 use edf_fragment::Output;
+use edf_new_files::NewFiles;
 use edf_program::Status;
 
 /// Removes the file at a place of those that were made, and prints its name where that can't be
 /// done, unless printing failed before. Whether all was printed whole.
-fn remove_one<P: Outputs, F: Output>(
+fn remove_one<P: NewFiles, F: Output>(
     place: usize,
     name: &str,
     outputs: &mut P,
@@ -36,7 +36,7 @@ fn remove_one<P: Outputs, F: Output>(
 
 /// Prints why the files of all runs are not there, and removes those that were made from a place
 /// on. They have the first of these names.
-pub(crate) fn give_up<P: Outputs, F: Output>(
+pub(crate) fn give_up<P: NewFiles, F: Output>(
     file: &str,
     stop: Stop<'_>,
     names: &[String],

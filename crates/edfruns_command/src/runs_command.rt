@@ -1,16 +1,16 @@
 //! The commands: what each asks for, how often it reads its file, and its work.
 
 ghost use Rattle.edf_program.specs.Output.{growth};
+ghost use Rattle.edf_new_files.specs.Making.{making};
 ghost use Rattle.edfruns_command.specs.Run.{IsDone, HasMade, HasOpened, meaning};
-ghost use Rattle.edfruns_command.specs.Splitting.{making};
 
 use crate::canonical_command::canonical;
 use crate::list_command::list;
-use crate::outputs::Outputs;
 use crate::picture_command::picture;
 use crate::split_command::split;
 use crate::write_command::write;
 use edf_fragment::Output;
+use edf_new_files::NewFiles;
 use edf_program::{Inputs, Status};
 use edf_runs::Joining;
 use std::alloc::Global;
@@ -106,7 +106,7 @@ impl RunsCommand {
 /// where it is done, and else none but those that it names as not removed; the lines of files that
 /// were removed may have gone out, where writing them failed. The clauses say what `List`, `Write`,
 /// `Canonical` and `Split` do, and of `Picture` all but what the picture shows.
-pub fn run_runs<I: Inputs, P: Outputs, O: Output, F: Output>(
+pub fn run_runs<I: Inputs, P: NewFiles, O: Output, F: Output>(
     alloc: Global,
     command: &RunsCommand,
     inputs: &mut I,
@@ -114,10 +114,10 @@ pub fn run_runs<I: Inputs, P: Outputs, O: Output, F: Output>(
     out: &mut O,
     err: &mut F,
 ) -> Status
-    ensures done { IsDone (I.bytes inputs.old) (making P.Outputs outputs.old outputs.new)
+    ensures done { IsDone (I.bytes inputs.old) (making P.NewFiles outputs.old outputs.new)
         (growth O.Output out.old out.new) (growth F.Output err.old err.new) (meaning command.now)
         result }
-    ensures made { HasMade (making P.Outputs outputs.old outputs.new) (meaning command.now) }
+    ensures made { HasMade (making P.NewFiles outputs.old outputs.new) (meaning command.now) }
     ensures opened { HasOpened
         (I.opened inputs.old) (I.opened inputs.new) (meaning command.now) result }
 {

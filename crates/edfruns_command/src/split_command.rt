@@ -5,16 +5,17 @@ ghost use Rattle.std.specs.Prelude.{string_bytes, take, drop};
 ghost use Rattle.edf_header.specs.Key.{MayStart};
 ghost use Rattle.edf_program.specs.Output.{growth};
 ghost use Rattle.edf_runs.specs.declared.onset_run.OnsetRun.{OnsetRun as PlannedRun};
+ghost use Rattle.edf_new_files.specs.Made.{names_of};
+ghost use Rattle.edf_new_files.specs.Making.{making};
+ghost use Rattle.edf_new_files.specs.There.{IsFree};
 ghost use Rattle.edfruns_command.specs.InsideSplit.{IsTaken, IsUndated, SplitsListed};
 ghost use Rattle.edfruns_command.specs.Listing.{OpensAgain};
-ghost use Rattle.edfruns_command.specs.Made.{IsFree, names_of};
 ghost use Rattle.edfruns_command.specs.Naming.{asked_names};
-ghost use Rattle.edfruns_command.specs.Splitting.{IsSplit, making};
+ghost use Rattle.edfruns_command.specs.Splitting.{IsSplit};
 
 use crate::arguments::{refuse_stream, required_value, twice_read_file_value, value_in};
 use crate::making::make_files;
 use crate::naming::{push_first_names, run_names};
-use crate::outputs::Outputs;
 use crate::planning::{by_onset_option, is_by_onset, part_of, plan_joined, refuse_plan};
 use crate::refusal::{STANDARD_OUTPUT, tell_undated};
 use crate::removing::give_up;
@@ -23,6 +24,7 @@ use crate::stop::Stop;
 use crate::tolerance::{joining_option, read_shift, read_tolerance, shift_option};
 use clap::{ArgMatches, Command};
 use edf_fragment::{Output, send};
+use edf_new_files::NewFiles;
 use edf_program::{CommandFault, Inputs, Status, refuse_value, tell_memory, tell_there};
 use edf_runs::{Joining, OnsetListing};
 use std::alloc::{AllocError, Global};
@@ -155,7 +157,7 @@ fn undated_run(plan: &OnsetListing) -> Option<usize>
 }
 
 /// The first of these names that something has already, if there is one.
-fn taken_name<'a, P: Outputs>(outputs: &mut P, names: &'a [String]) -> Option<&'a str>
+fn taken_name<'a, P: NewFiles>(outputs: &mut P, names: &'a [String]) -> Option<&'a str>
     ensures answer { MatchOption result
         (All (IsFree (P.there outputs.old)) (map string_bytes names.now))
         (λ name. IsTaken (P.there outputs.old) (map string_bytes names.now) name.now) }
@@ -174,7 +176,7 @@ fn taken_name<'a, P: Outputs>(outputs: &mut P, names: &'a [String]) -> Option<&'
 
 /// Makes the files of the listed runs, and writes their lines once all are there. After a fault
 /// what was made is removed.
-fn split_listed<I: Inputs, P: Outputs, O: Output, F: Output>(
+fn split_listed<I: Inputs, P: NewFiles, O: Output, F: Output>(
     alloc: Global,
     file: &str,
     plan: &OnsetListing,
@@ -187,7 +189,7 @@ fn split_listed<I: Inputs, P: Outputs, O: Output, F: Output>(
     requires names { length names.now ≡ length plan.now.runs.items }
     requires dated { All (λ (run : PlannedRun). MayStart plan.now.identity run.run.first)
         plan.now.runs.items }
-    ensures split { SplitsListed (making P.Outputs outputs.old outputs.new)
+    ensures split { SplitsListed (making P.NewFiles outputs.old outputs.new)
         (growth O.Output out.old out.new) (growth F.Output err.old err.new)
         (I.bytes inputs.old file.now) file.now plan.now (map string_bytes names.now) result }
     ensures opened { OpensAgain (I.opened inputs.old) (I.opened inputs.new) file.now 1 result }
@@ -208,7 +210,7 @@ fn split_listed<I: Inputs, P: Outputs, O: Output, F: Output>(
 /// Writes each run of a file to an EDF+C file of its own, or those that are joined to one. No file
 /// that is there is written over. A run whose start no header can name is told before a name that
 /// is taken.
-pub(crate) fn split<I: Inputs, P: Outputs, O: Output, F: Output>(
+pub(crate) fn split<I: Inputs, P: NewFiles, O: Output, F: Output>(
     alloc: Global,
     file: &str,
     prefix: &str,
@@ -219,7 +221,7 @@ pub(crate) fn split<I: Inputs, P: Outputs, O: Output, F: Output>(
     out: &mut O,
     err: &mut F,
 ) -> Status
-    ensures split { IsSplit (making P.Outputs outputs.old outputs.new)
+    ensures split { IsSplit (making P.NewFiles outputs.old outputs.new)
         (growth O.Output out.old out.new) (growth F.Output err.old err.new)
         (I.bytes inputs.old file.now) file.now prefix.now is_by_onset joining result }
     ensures opened { OpensAgain (I.opened inputs.old) (I.opened inputs.new) file.now 2 result }

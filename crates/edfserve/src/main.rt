@@ -24,7 +24,7 @@ use edfstore_host::Standing;
 use input::WatchedInput;
 use journal::Journal;
 use keeper::Keeper;
-use new_files::PartFiles;
+use new_files::ExportedFiles;
 use opening::open_store;
 use output::StandardOutput;
 use sources::SystemFiles;
@@ -38,7 +38,7 @@ type SystemLines<'s> = Lines<WatchedInput<'s, Counted<Stdin>>>;
 /// What a session has beside its store and its lines: the system's files and streams.
 type SystemRoom<'rt> = Room<
     SystemFiles<'rt>,
-    PartFiles<'rt>,
+    ExportedFiles<'rt>,
     Console<StandardOutput, Counted<Stderr>>,
     Keeper<'rt>,
 >;
@@ -95,7 +95,7 @@ fn run_session<'x>(rt: &'x HostRuntime, words: &'x ServeWords) -> Status {
     let mut room = Room::new(
         rt.alloc(),
         SystemFiles::new(rt, &terminal, &standing),
-        PartFiles::new(rt, &terminal, &standing),
+        ExportedFiles::new(rt, &terminal, &standing),
         Console::new(StandardOutput::new(rt), Counted::new(rt.stderr())),
         Keeper::new(&standing),
     );

@@ -2,74 +2,70 @@
 
 ghost use Rattle.std.specs.Prelude.{None};
 
+use edf_new_files::{NewFiles, Unfinished};
 use edf_serve::{Finished, NewFiles as ServedFiles};
-use edf_system::{NewFile, NewFiles, Terminal};
+use edf_system::{Barred, NewFile, PartFiles, Terminal};
 use edfstore_host::Standing;
 use std::alloc::Global;
-use std::io::{self, ErrorKind};
+use std::io;
+
+/// The names beside a store that SQLite has for files of its own.
+#[derive(Drop)]
+pub(crate) struct NamesBeside<'rt> {
+    standing: &'rt Standing<'rt>,
+}
+
+impl Barred for NamesBeside<'_> {
+    fn is_barred(&self, name: &str) -> bool {
+        self.standing.is_beside(name)
+    }
+}
 
 /// Makes the files of recordings, of which it keeps no list. None is made beside the store under a
 /// name that SQLite has for a file of its own.
 #[derive(Drop)]
-pub(crate) struct PartFiles<'rt> {
-    rt: &'rt HostRuntime,
-    terminal: &'rt Terminal<'rt>,
-    standing: &'rt Standing<'rt>,
-    /// What makes the file that is begun, if one is.
-    files: NewFiles<'rt>,
+pub(crate) struct ExportedFiles<'rt> {
+    files: PartFiles<'rt, NamesBeside<'rt>>,
 }
 
-impl<'rt> PartFiles<'rt> {
+impl<'rt> ExportedFiles<'rt> {
     pub(crate) fn new(
         rt: &'rt HostRuntime,
         terminal: &'rt Terminal<'rt>,
         standing: &'rt Standing<'rt>,
-    ) -> PartFiles<'rt> {
-        PartFiles {
-            rt,
-            terminal,
-            standing,
-            files: NewFiles::new(rt, terminal),
+    ) -> ExportedFiles<'rt> {
+        ExportedFiles {
+            files: PartFiles::new(rt, terminal, NamesBeside { standing }),
         }
     }
-
-    /// Keeps nothing of the file that was begun.
-    fn forget(&mut self) {
-        self.files = NewFiles::new(self.rt, self.terminal);
-    }
 }
 
-/// Ends a file.
-fn end<'rt>(files: &mut NewFiles<'rt>, writer: NewFile<'rt>) -> Finished {
-    let bytes = writer.bytes();
-    match files.finish(writer) {
-        Ok(()) => Finished::Named { bytes },
-        Err(error) if error.kind() == ErrorKind::AlreadyExists => Finished::IsThere,
-        Err(_) => Finished::Failed,
-    }
-}
-
-impl<'rt> ServedFiles for PartFiles<'rt> {
+impl<'rt> ServedFiles for ExportedFiles<'rt> {
     type Writer = NewFile<'rt>;
 
     ghost made = { λ _. None };
 
     fn create(&mut self, alloc: Global, path: &str) -> io::Result<Option<NewFile<'rt>>> {
-        if self.files.is_there(path) || self.standing.is_beside(path) {
+        if self.files.is_there(path) {
             return Ok(None);
         }
         Ok(Some(self.files.create(alloc, path)?))
     }
 
     fn finish(&mut self, writer: NewFile<'rt>, _path: &str) -> Finished {
-        let finished = end(&mut self.files, writer);
-        self.forget();
+        let finished = match self.files.finish(writer) {
+            Ok(bytes) => Finished::Named { bytes },
+            Err(Unfinished::IsThere) => Finished::IsThere,
+            Err(Unfinished::Failed) => Finished::Failed,
+        };
+        self.files.forget();
         finished
     }
 
-    fn discard(&mut self, writer: NewFile<'rt>, path: &str) {
-        drop(writer);
-        let _ = self.files.remove(path);
-        self.forget();
+    fn discard(&mut self, writer: NewFile<'rt>, _path: &str) {
+        self.files.abandon(writer);
+        let last = self.files.count().saturating_sub(1);
+        let _ = self.files.remove(last);
+        self.files.forget();
     }
 }

@@ -16,7 +16,6 @@
 #![tactic(auto)]
 
 mod file_programs;
-mod folder;
 mod over_files;
 
 use edf_command::{Status, read_command, run};

@@ -3,7 +3,8 @@ use Rattle.std.specs.Prelude.{option_map}
 use Rattle.edf_program.specs.Output.{growth}
 use Rattle.edf_program.proofs.Puts.{nothing-gets}
 use Rattle.edfmend_command.specs.Run.{SaysWhy}
-use Rattle.edfmend_command.proofs.Mending.{is-mended, is-not-mended, filled, free-of}
+use Rattle.edf_new_files.proofs.Filled.{filled}
+use Rattle.edfmend_command.proofs.Mending.{is-mended, is-not-mended}
 use Rattle.edfmend_command.proofs.Mending.{asked-makes, asked-stops}
 use Rattle.edfmend_command.proofs.Opened.{fewer, then-up, then-twice, says-undone}
 use Rattle.edfmend_command.proofs.mend_command.mend_to.Goals as goal
@@ -16,9 +17,9 @@ returns-in-Ok-make_file-clause-done g c =
     let old = c.args.maker.now in
     let mid = c.is_there.new.self in
     let new = c.make_file.new.maker in
-    let makes = asked-makes (g.M.Maker.known old) (g.M.Maker.known mid) (g.M.Maker.there old)
-    (g.M.Maker.there mid) (g.M.Maker.made old) (g.M.Maker.made mid) (g.M.Maker.made new)
-    (g.M.Maker.failed old) (g.M.Maker.failed mid) (g.M.Maker.failed new)
+    let makes = asked-makes (g.M.NewFiles.known old) (g.M.NewFiles.known mid) (g.M.NewFiles.there old)
+    (g.M.NewFiles.there mid) (g.M.NewFiles.made old) (g.M.NewFiles.made mid) (g.M.NewFiles.made new)
+    (g.M.NewFiles.failed old) (g.M.NewFiles.failed mid) (g.M.NewFiles.failed new)
     c.is_there.ensures.known c.is_there.ensures.made c.is_there.ensures.failed c.args.name.now bytes
     (g.I.Inputs.bytes c.survey_of.new.inputs c.args.file.now) given c.args.rules.now fault
     (c.in-Ok.ensures.same c.args.file.now) c.in-Ok-make_file.ledger
@@ -28,8 +29,7 @@ returns-in-Ok-make_file-clause-done g c =
       ledger = c.in-Ok-make_file.ledger;
       is_mended = is-mended bytes given c.args.rules.now fault c.in-Ok.ensures.surveyed
           makes.start makes.held c.in-Ok-make_file.ledger makes.mends;
-      free = free-of (g.M.Maker.there old c.args.name.now) c.is_there.result
-          c.is_there.ensures.answer c.if-is_there.false;
+      free = c.if-is_there.ensures.answer;
       held = makes.held;
       made = makes.made;
       holds = λ known. filled makes.start makes.held makes.mends.new (makes.empty known)
@@ -55,9 +55,9 @@ returns-in-Err-make_file-clause-done g c =
     let mid = c.is_there.new.self in
     let new = c.make_file.new.maker in
     let stop = c.in-Err-make_file.stop in
-    let stops = asked-stops (g.M.Maker.known old) (g.M.Maker.known mid) (g.M.Maker.there old)
-    (g.M.Maker.there mid) (g.M.Maker.made old) (g.M.Maker.made mid) (g.M.Maker.made new)
-    (g.M.Maker.failed old) (g.M.Maker.failed mid) (g.M.Maker.failed new)
+    let stops = asked-stops (g.M.NewFiles.known old) (g.M.NewFiles.known mid) (g.M.NewFiles.there old)
+    (g.M.NewFiles.there mid) (g.M.NewFiles.made old) (g.M.NewFiles.made mid) (g.M.NewFiles.made new)
+    (g.M.NewFiles.failed old) (g.M.NewFiles.failed mid) (g.M.NewFiles.failed new)
     c.is_there.ensures.known c.is_there.ensures.made c.is_there.ensures.failed c.args.name.now bytes
     (g.I.Inputs.bytes c.survey_of.new.inputs c.args.file.now) given c.args.rules.now fault
     (c.in-Ok.ensures.same c.args.file.now) stop c.in-Err-make_file.ensures.answer in
@@ -65,8 +65,7 @@ returns-in-Err-make_file-clause-done g c =
       why = stop.fault;
       is_why = is-not-mended bytes given c.args.rules.now fault c.in-Ok.ensures.surveyed stop.fault
           stops.stops;
-      free = free-of (g.M.Maker.there old c.args.name.now) c.is_there.result
-          c.is_there.ensures.answer c.if-is_there.false;
+      free = c.if-is_there.ensures.answer;
       is_left = stop.is_left;
       leaves = stops.leaves;
       counted = stops.counted;

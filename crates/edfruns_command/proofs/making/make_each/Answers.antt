@@ -7,9 +7,9 @@ use Rattle.std.proofs.lemmas.Result.{err_from_is_err_and}
 use Rattle.edf_field.specs.Number.{duration_of}
 use Rattle.edf_header.specs.Header.{Layout}
 use Rattle.edf_runs.specs.AsRead.{runs_of}
+use Rattle.edf_new_files.specs.Making.{making}
 use Rattle.edfruns_command.specs.Counting.{file_front, counts_text}
 use Rattle.edfruns_command.specs.Lines.{IsSpelling}
-use Rattle.edfruns_command.specs.Splitting.{making}
 use Rattle.edfruns_command.specs.InsideMaking.{MakesFile, StopsFile, MakesFirst}
 use Rattle.edfruns_command.proofs.MakingFiles.{first-none, first-more, stops-each, stops-telling}
 use Rattle.edfruns_command.proofs.Walking.{mapped}
@@ -22,7 +22,7 @@ loop-at-init g c =
       header = refl;
       known = refl;
       at_most = omega arith;
-      so_far = first-none (making g.P.Outputs c.args.outputs.now c.args.outputs.now)
+      so_far = first-none (making g.P.NewFiles c.args.outputs.now c.args.outputs.now)
           (map string_bytes c.args.names.now) l c.args.fragment.now.progress
           (g.R.Input.remaining c.args.reader.now) c.args.runs.now c.new-text.result.items
           c.requires.first refl refl c.new-text.ensures.items;
@@ -32,8 +32,8 @@ pub returns-in_err-written-clause-answer : goal.returns-in_err-written-clause-an
 returns-in_err-written-clause-answer g c =
     let p = err_from_is_err_and c.from_residual.result c.from_residual.ensures.1 in
     let l = c.args.fragment.now.header in
-    let a = making g.P.Outputs c.args.outputs.now c.loop-at.outputs in
-    let b = making g.P.Outputs c.loop-at.outputs c.make_file.new.outputs in
+    let a = making g.P.NewFiles c.args.outputs.now c.loop-at.outputs in
+    let b = making g.P.NewFiles c.loop-at.outputs c.make_file.new.outputs in
     let all = c.args.names.now in
     let names = map string_bytes all in
     let runs = c.args.runs.now in
@@ -60,8 +60,8 @@ returns-in_err-written-clause-answer g c =
 pub returns-in_default-clause-answer : goal.returns-in_default-clause-answer
 returns-in_default-clause-answer g c =
     let l = c.args.fragment.now.header in
-    let a = making g.P.Outputs c.args.outputs.now c.loop-at.outputs in
-    let b = making g.P.Outputs c.loop-at.outputs c.make_file.new.outputs in
+    let a = making g.P.NewFiles c.args.outputs.now c.loop-at.outputs in
+    let b = making g.P.NewFiles c.loop-at.outputs c.make_file.new.outputs in
     let all = c.args.names.now in
     let names = map string_bytes all in
     let runs = c.args.runs.now in
@@ -87,8 +87,8 @@ returns-in_default-clause-answer g c =
 pub loop-at-preserved : goal.loop-at-preserved
 loop-at-preserved g c =
     let l = c.args.fragment.now.header in
-    let a = making g.P.Outputs c.args.outputs.now c.loop-at.outputs in
-    let b = making g.P.Outputs c.loop-at.outputs c.make_file.new.outputs in
+    let a = making g.P.NewFiles c.args.outputs.now c.loop-at.outputs in
+    let b = making g.P.NewFiles c.loop-at.outputs c.make_file.new.outputs in
     let all = c.args.names.now in
     let names = map string_bytes all in
     let runs = c.args.runs.now in
@@ -129,7 +129,7 @@ pub returns-clause-answer : goal.returns-clause-answer
 returns-clause-answer g c =
     let done : c.loop-at.at ≡ length c.args.runs.now =
     omega (arith, c.loop-at-test.false, c.loop-at.invariant.at_most) in
-    subst (λ n. MakesFirst (making g.P.Outputs c.args.outputs.now c.loop-at.outputs)
+    subst (λ n. MakesFirst (making g.P.NewFiles c.args.outputs.now c.loop-at.outputs)
     (map string_bytes c.args.names.now) c.args.fragment.now.header c.loop-at.fragment.progress
     (g.R.Input.remaining c.args.reader.now) (g.R.Input.remaining c.loop-at.reader)
     c.args.runs.now n c.loop-at.text.items) done c.loop-at.invariant.so_far

@@ -1,14 +1,14 @@
 use Rattle.std.proofs.Common.{◌≡◌, ◌≤◌, length, map, string_bytes}
-use Rattle.edfruns_command.specs.Splitting.{making}
+use Rattle.edf_new_files.specs.Making.{making}
 use Rattle.edfruns_command.specs.InsideMaking.{MakesFirst}
 use Rattle.edfruns_command.proofs.making.make_each.Given as goal
 
 abbrev pub invariant-loop-at : goal.invariant-loop-at
 invariant-loop-at g l = record {
   header : l.fragment.header ≡ l.initial.fragment.header;
-  known : g.P.Outputs.known l.outputs ≡ g.P.Outputs.known l.initial.outputs;
+  known : g.P.NewFiles.known l.outputs ≡ g.P.NewFiles.known l.initial.outputs;
   at_most : l.at ≤ length l.runs;
-  so_far : MakesFirst (making g.P.Outputs l.initial.outputs l.outputs)
+  so_far : MakesFirst (making g.P.NewFiles l.initial.outputs l.outputs)
       (map string_bytes l.names) l.initial.fragment.header l.fragment.progress
       (g.R.Input.remaining l.initial.reader) (g.R.Input.remaining l.reader) l.runs l.at
       l.text.items;

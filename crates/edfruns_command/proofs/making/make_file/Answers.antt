@@ -1,12 +1,14 @@
-use Rattle.std.proofs.Common.{◌∙◌, ap, refl, Err}
+use Rattle.std.proofs.Common.{◌∙◌, ap, refl, inr, Err}
+use Rattle.edf_fragment.specs.Failures.{one_more}
 use Rattle.edf_runs.specs.declared.fault.WriteFault.{WriteFault}
-use Rattle.edfruns_command.specs.Made.{finished, failed_with}
-use Rattle.edfruns_command.specs.Splitting.{making}
-use Rattle.edfruns_command.proofs.MakingFiles.{filled, half-made}
+use Rattle.edf_new_files.specs.Made.{finished, half, unnamed, failed_with}
+use Rattle.edf_new_files.specs.Making.{making}
+use Rattle.edf_new_files.proofs.Filled.{filled}
+use Rattle.edfruns_command.proofs.MakingFiles.{half-made}
 use Rattle.edfruns_command.proofs.making.make_file.Goals as goal
 
-pub returns-then-finish-clause-answer : goal.returns-then-finish-clause-answer
-returns-then-finish-clause-answer g c =
+pub returns-in-Ok-finish-clause-answer : goal.returns-in-Ok-finish-clause-answer
+returns-in-Ok-finish-clause-answer g c =
     let w = c.in-Ok-write_by_onset.ensures.written in
     let before = g.P.Writer.Output.contents c.in-Ok.writer in
     let after = g.P.Writer.Output.contents c.write_by_onset.new.out in
@@ -17,7 +19,7 @@ returns-then-finish-clause-answer g c =
       listed = record { start = w.start; listed = w.listed };
       counted = w.counted;
       file = finished name after;
-      made = c.if-finish.ensures.made (g.P.Outputs.made c.args.outputs.now) name
+      made = c.in-Ok-finish.ensures.made (g.P.NewFiles.made c.args.outputs.now) name
           c.in-Ok.ensures.made;
       named = refl;
       held = record {
@@ -29,19 +31,41 @@ returns-then-finish-clause-answer g c =
           held = λ known. filled before after w.file (c.in-Ok.ensures.empty known) w.wrote;
         };
       };
-      unfailed = c.if-finish.ensures.failed ∙ c.in-Ok.ensures.failed;
+      unfailed = c.in-Ok-finish.ensures.failed ∙ c.in-Ok.ensures.failed;
+    }
+
+pub returns-in-Err-finish-clause-answer : goal.returns-in-Err-finish-clause-answer
+returns-in-Err-finish-clause-answer g c =
+    let ended = c.in-Err-finish.ensures.made (g.P.NewFiles.made c.args.outputs.now)
+    c.args.name.now c.in-Ok.ensures.made in
+    record {
+      is_output = refl;
+      made = inr (record {
+        part = unnamed c.args.name.now _ (g.P.Writer.Output.contents c.write_by_onset.new.out)
+            ended.0;
+        behind = ended.1;
+        named = refl;
+        is_half = refl;
+      });
+      failed = c.in-Err-finish.ensures.failed ∙ ap one_more c.in-Ok.ensures.failed;
     }
 
 pub returns-in-Err-clause-answer : goal.returns-in-Err-clause-answer
 returns-in-Err-clause-answer g c =
-    let m = making g.P.Outputs c.args.outputs.now c.abandon.new.self in
+    let m = making g.P.NewFiles c.args.outputs.now c.abandon.new.self in
     half-made m c.args.name.now c.args.fragment.now.header c.args.fragment.now.progress
     c.write_by_onset.new.fragment.progress (g.R.Input.remaining c.args.reader.now)
     (g.R.Input.remaining c.write_by_onset.new.input) c.args.run.now
     (g.P.Writer.Output.contents c.in-Ok.writer) (g.P.Writer.Output.contents c.write_by_onset.new.out)
     (g.R.Input.failures c.args.reader.now) (g.R.Input.failures c.write_by_onset.new.input)
     (g.P.Writer.Output.failures c.in-Ok.writer) (g.P.Writer.Output.failures c.write_by_onset.new.out)
-    c.in-Ok.ensures.unfailed (c.abandon.ensures.made ∙ c.in-Ok.ensures.made)
+    c.in-Ok.ensures.unfailed (record {
+      part = half c.args.name.now (g.P.Writer.Output.contents c.write_by_onset.new.out);
+      behind = c.abandon.ensures.made (g.P.NewFiles.made c.args.outputs.now) c.args.name.now
+          c.in-Ok.ensures.made;
+      named = refl;
+      is_half = refl;
+    })
     (c.abandon.ensures.failed ∙ ap (λ n. failed_with n
     (g.P.Writer.Output.failures c.write_by_onset.new.out)) c.in-Ok.ensures.failed)
     c.in-Err.fault c.stop_of.result c.stop_of.ensures c.in-Err.ensures.refused

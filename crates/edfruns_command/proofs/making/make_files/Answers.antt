@@ -8,8 +8,8 @@ use Rattle.edf_header.specs.Header.{Layout}
 use Rattle.edf_fragment.specs.Reading.{ReadsHeader}
 use Rattle.edf_runs.specs.Again.{IsNotReopened}
 use Rattle.edf_runs.specs.declared.onset_run.OnsetRun.{OnsetRun}
+use Rattle.edf_new_files.specs.Making.{making}
 use Rattle.edfruns_command.specs.Writing.{ReadsAgain}
-use Rattle.edfruns_command.specs.Splitting.{making}
 use Rattle.edfruns_command.specs.InsideMaking.{MakesFirst, StopsEach, Ends, StopsAtEnd}
 use Rattle.edf_program.proofs.Opened.{opened-once}
 use Rattle.edfruns_command.proofs.Rereads.{not-opened, not-reopened, stops-making, stops-after}
@@ -18,14 +18,14 @@ use Rattle.edfruns_command.proofs.making.make_files.Goals as goal
 
 pub returns-in_default-clause-answer : goal.returns-in_default-clause-answer
 returns-in_default-clause-answer g c =
-    not-opened (making g.P.Outputs c.args.outputs.now c.args.outputs.now)
+    not-opened (making g.P.NewFiles c.args.outputs.now c.args.outputs.now)
     (g.I.Inputs.bytes c.args.inputs.now c.args.file.now) c.args.plan.now
     (map string_bytes c.args.names.now) refl refl
 
 pub returns-in-Err-clause-answer : goal.returns-in-Err-clause-answer
 returns-in-Err-clause-answer g c =
     let rest = g.I.Reader.Input.remaining c.reopen_by_onset.new.input in
-    not-reopened (making g.P.Outputs c.args.outputs.now c.args.outputs.now)
+    not-reopened (making g.P.NewFiles c.args.outputs.now c.args.outputs.now)
     (g.I.Inputs.bytes c.args.inputs.now c.args.file.now) c.args.plan.now
     (map string_bytes c.args.names.now) refl refl rest c.in-Err.fault
     (subst (λ (b : Option (List ℕ)). IsNotReopened b rest c.args.plan.now.identity
@@ -34,7 +34,7 @@ returns-in-Err-clause-answer g c =
 pub returns-in_err-text-clause-answer : goal.returns-in_err-text-clause-answer
 returns-in_err-text-clause-answer g c =
     let p = err_from_is_err_and c.from_residual.result c.from_residual.ensures.1 in
-    let m = making g.P.Outputs c.args.outputs.now c.make_each.new.outputs in
+    let m = making g.P.NewFiles c.args.outputs.now c.make_each.new.outputs in
     let bytes = g.I.Inputs.bytes c.args.inputs.now c.args.file.now in
     let l = c.in-Ok-reopen_by_onset.fragment.header in
     let start = g.I.Reader.Input.remaining c.reopen_by_onset.new.input in
@@ -57,7 +57,7 @@ returns-in_err-text-clause-opened g c =
 
 pub returns-in-Ok-expect_end-clause-answer : goal.returns-in-Ok-expect_end-clause-answer
 returns-in-Ok-expect_end-clause-answer g c =
-    let m = making g.P.Outputs c.args.outputs.now c.make_each.new.outputs in
+    let m = making g.P.NewFiles c.args.outputs.now c.make_each.new.outputs in
     let bytes = g.I.Inputs.bytes c.args.inputs.now c.args.file.now in
     let l = c.in-Ok-reopen_by_onset.fragment.header in
     let start = g.I.Reader.Input.remaining c.reopen_by_onset.new.input in
@@ -82,7 +82,7 @@ returns-in-Ok-expect_end-clause-answer g c =
 
 pub returns-clause-answer : goal.returns-clause-answer
 returns-clause-answer g c =
-    let m = making g.P.Outputs c.args.outputs.now c.make_each.new.outputs in
+    let m = making g.P.NewFiles c.args.outputs.now c.make_each.new.outputs in
     let bytes = g.I.Inputs.bytes c.args.inputs.now c.args.file.now in
     let l = c.in-Ok-reopen_by_onset.fragment.header in
     let start = g.I.Reader.Input.remaining c.reopen_by_onset.new.input in

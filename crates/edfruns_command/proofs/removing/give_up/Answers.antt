@@ -3,15 +3,15 @@ use Rattle.std.proofs.Common.{arith, length, map, take, drop, get_or, string_byt
 use Rattle.std.proofs.lemmas.List.{length-map, length-take, length-take-le, length-drop, get_or-map}
 use Rattle.std.proofs.lemmas.List.{get_or-take}
 use Rattle.edf_program.specs.Output.{growth}
+use Rattle.edf_new_files.specs.Made.{MadeFile, begun}
 use Rattle.edfruns_command.specs.InsideSplit.{stop_line}
-use Rattle.edfruns_command.specs.Made.{MadeFile, begun}
 use Rattle.edfruns_command.proofs.Removals.{RemovedSoFar, nth, next-there, next-place}
 use Rattle.edfruns_command.proofs.Removals.{removes-more, removes-all, removes-none}
 use Rattle.edfruns_command.proofs.removing.give_up.Goals as goal
 
 pub loop-place-init : goal.loop-place-init
 loop-place-init g c =
-    let old = g.P.Outputs.made c.args.outputs.now in
+    let old = g.P.NewFiles.made c.args.outputs.now in
     let first = c.args.first in
     let w = growth g.F.Output c.args.err.now c.is_stop_told-is_told.new.err in
     let line = stop_line c.args.file.now c.args.stop in
@@ -25,9 +25,9 @@ loop-place-init g c =
 
 pub loop-place-preserved : goal.loop-place-preserved
 loop-place-preserved g c =
-    let old = g.P.Outputs.made c.args.outputs.now in
-    let now = g.P.Outputs.made c.loop-place.outputs in
-    let later = g.P.Outputs.made c.remove_one-is_told.new.outputs in
+    let old = g.P.NewFiles.made c.args.outputs.now in
+    let now = g.P.NewFiles.made c.loop-place.outputs in
+    let later = g.P.NewFiles.made c.remove_one-is_told.new.outputs in
     let first = c.args.first in
     let place = c.loop-place.place in
     let base = take first old in
@@ -81,9 +81,9 @@ loop-place-preserved g c =
 
 pub returns-clause-removed : goal.returns-clause-removed
 returns-clause-removed g c =
-    let old = g.P.Outputs.made c.args.outputs.now in
+    let old = g.P.NewFiles.made c.args.outputs.now in
     let first = c.args.first in
-    removes-all first (c.loop-place.place - first) old (g.P.Outputs.made c.loop-place.outputs)
+    removes-all first (c.loop-place.place - first) old (g.P.NewFiles.made c.loop-place.outputs)
     (growth g.F.Output c.args.err.now c.loop-place.err)
     (stop_line c.args.file.now c.args.stop) c.loop-place.is_told
     (omega (arith, c.loop-place-test.false, c.count-place-end.ensures, length-drop first old))

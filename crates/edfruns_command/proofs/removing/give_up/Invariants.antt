@@ -6,11 +6,11 @@ use Rattle.edfruns_command.proofs.removing.give_up.Given as goal
 
 abbrev pub invariant-loop-place : goal.invariant-loop-place
 invariant-loop-place g l =
-    let old = g.P.Outputs.made l.initial.outputs in
+    let old = g.P.NewFiles.made l.initial.outputs in
     record {
       started : l.first ≤ l.place;
-      failed : g.P.Outputs.failed l.outputs ≡ g.P.Outputs.failed l.initial.outputs;
-      so_far : RemovedSoFar (take l.first old) (drop l.first old) (g.P.Outputs.made l.outputs)
+      failed : g.P.NewFiles.failed l.outputs ≡ g.P.NewFiles.failed l.initial.outputs;
+      so_far : RemovedSoFar (take l.first old) (drop l.first old) (g.P.NewFiles.made l.outputs)
           (l.place - l.first) (growth g.F.Output l.fn.err l.err)
           (stop_line l.file l.stop) l.is_told;
     }

@@ -1,9 +1,10 @@
 use Rattle.std.proofs.Common.{List, ℕ, sym, subst, map, string_bytes}
 use Rattle.edf_program.specs.Output.{growth}
+use Rattle.edf_new_files.specs.Making.{making}
 use Rattle.edfruns_command.specs.Listed.{IsListOut, OpensEach}
 use Rattle.edfruns_command.specs.Run.{IsDone, HasOpened, meaning}
 use Rattle.edfruns_command.specs.Canonical.{IsCanonicalOut}
-use Rattle.edfruns_command.specs.Splitting.{IsSplit, making}
+use Rattle.edfruns_command.specs.Splitting.{IsSplit}
 use Rattle.edfruns_command.specs.Writing.{IsRunOut}
 use Rattle.edfruns_command.specs.declared.runs_command.RunsCommand.{RunsCommand}
 use Rattle.edfruns_command.proofs.runs_command.run_runs.Goals as goal
@@ -13,7 +14,7 @@ returns-in-List-clause-done g c =
     let out = growth g.O.Output c.args.out.now c.list.new.out in
     let err = growth g.F.Output c.args.err.now c.list.new.err in
     let bytes = g.I.Inputs.bytes c.args.inputs.now in
-    let made = making g.P.Outputs c.args.outputs.now c.args.outputs.now in
+    let made = making g.P.NewFiles c.args.outputs.now c.args.outputs.now in
     let Does : RunsCommand → Type 0 = λ command.
     IsDone bytes made out err (meaning command) c.list.result in
     subst Does (sym c.in-List.is)
@@ -35,7 +36,7 @@ returns-in-Write-clause-done g c =
     let out = growth g.O.Output c.args.out.now c.write.new.out in
     let err = growth g.F.Output c.args.err.now c.write.new.err in
     let bytes = g.I.Inputs.bytes c.args.inputs.now in
-    let made = making g.P.Outputs c.args.outputs.now c.args.outputs.now in
+    let made = making g.P.NewFiles c.args.outputs.now c.args.outputs.now in
     let Does : RunsCommand → Type 0 = λ command.
     IsDone bytes made out err (meaning command) c.write.result in
     let Writes : List ℕ → Type 0 = λ name.
@@ -48,7 +49,7 @@ returns-in-Canonical-clause-done g c =
     let out = growth g.O.Output c.args.out.now c.canonical.new.out in
     let err = growth g.F.Output c.args.err.now c.canonical.new.err in
     let bytes = g.I.Inputs.bytes c.args.inputs.now in
-    let made = making g.P.Outputs c.args.outputs.now c.args.outputs.now in
+    let made = making g.P.NewFiles c.args.outputs.now c.args.outputs.now in
     let Does : RunsCommand → Type 0 = λ command.
     IsDone bytes made out err (meaning command) c.canonical.result in
     let Writes : List ℕ → Type 0 = λ name.
@@ -61,7 +62,7 @@ returns-in-Split-clause-done g c =
     let out = growth g.O.Output c.args.out.now c.split.new.out in
     let err = growth g.F.Output c.args.err.now c.split.new.err in
     let bytes = g.I.Inputs.bytes c.args.inputs.now in
-    let made = making g.P.Outputs c.args.outputs.now c.split.new.outputs in
+    let made = making g.P.NewFiles c.args.outputs.now c.split.new.outputs in
     let Does : RunsCommand → Type 0 = λ command.
     IsDone bytes made out err (meaning command) c.split.result in
     let prefix = c.as_str-in-Split-2.result.now in

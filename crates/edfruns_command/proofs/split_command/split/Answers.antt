@@ -7,11 +7,11 @@ use Rattle.edf_program.specs.Output.{growth, IsWritten}
 use Rattle.edf_program.specs.declared.status.Status.TheVariants.{Refused}
 use Rattle.edf_program.proofs.Puts.{nothing-gets}
 use Rattle.edf_runs.specs.declared.onset_run.OnsetRun.{OnsetRun}
+use Rattle.edf_new_files.specs.Making.{Making, making}
+use Rattle.edf_new_files.specs.There.{IsFree}
 use Rattle.edfruns_command.specs.Inside.{IsPlanRefused}
 use Rattle.edfruns_command.specs.Lines.{undated_line}
-use Rattle.edfruns_command.specs.Made.{IsFree}
 use Rattle.edfruns_command.specs.Naming.{run_name, run_names, first_names, asked_names}
-use Rattle.edfruns_command.specs.Splitting.{Making, making}
 use Rattle.edfruns_command.specs.InsideSplit.{SplitsListed}
 use Rattle.edfruns_command.proofs.Answered.{opened-first, opened-then, opened-refused}
 use Rattle.edf_program.proofs.Undone.{refused-undone, trouble-undone}
@@ -151,8 +151,8 @@ returns-clause-split g c =
     let err = growth g.F.Output c.args.err.now c.split_listed.new.err in
     let name = c.args.file.now in
     let bytes = g.I.Inputs.bytes c.args.inputs.now name in
-    let m = making g.P.Outputs c.args.outputs.now c.split_listed.new.outputs in
-    let later = making g.P.Outputs c.taken_name.new.outputs c.split_listed.new.outputs in
+    let m = making g.P.NewFiles c.args.outputs.now c.split_listed.new.outputs in
+    let later = making g.P.NewFiles c.taken_name.new.outputs c.split_listed.new.outputs in
     let status = c.split_listed.result in
     let asked = map string_bytes c.in-Ok-asked_names.asked.items in
     let same : ◌≡◌ {A = Making} later m = as-before later m c.in_default-taken_name.ensures.known
@@ -182,7 +182,7 @@ returns-clause-split g c =
       record {
         has = c.in-Ok.ensures.answer;
         dated = c.in_default-undated_run.ensures;
-        free = subst (λ (ns : List (List ℕ)). All (IsFree (g.P.Outputs.there c.args.outputs.now))
+        free = subst (λ (ns : List (List ℕ)). All (IsFree (g.P.NewFiles.there c.args.outputs.now))
             ns) (ap (map string_bytes) c.deref.ensures.value ∙ (c.in-Ok-asked_names.ensures ∙ ap (λ (rs : List OnsetRun). asked_names c.args.prefix.now
             (length rs)) c.as_slice.ensures.value))
             c.in_default-taken_name.ensures.answer;

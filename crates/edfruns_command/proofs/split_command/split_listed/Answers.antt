@@ -2,13 +2,13 @@ use Rattle.std.proofs.Common.{◌∙◌, inl, inr, refl, subst, map, string_byte
 use Rattle.std.proofs.lemmas.List.{length-map}
 use Rattle.edf_program.specs.Output.{Gets, GetsFront, growth}
 use Rattle.edf_program.proofs.Puts.{nothing-gets, put-sent}
-use Rattle.edfruns_command.specs.Splitting.{making}
+use Rattle.edf_new_files.specs.Making.{making}
 use Rattle.edfruns_command.proofs.GivingUp.{made-of, named, stopped, untold}
 use Rattle.edfruns_command.proofs.split_command.split_listed.Goals as goal
 
 pub give_up-requires-clause-named : goal.give_up-requires-clause-named
 give_up-requires-clause-named g c =
-    let m = making g.P.Outputs c.args.outputs.now c.make_files.new.outputs in
+    let m = making g.P.NewFiles c.args.outputs.now c.make_files.new.outputs in
     let names = map string_bytes c.args.names.now in
     let has = made-of m (g.I.Inputs.bytes c.args.inputs.now c.args.file.now) c.args.plan.now
     names c.in-Err.stop c.in-Err.ensures.answer in
@@ -17,11 +17,11 @@ give_up-requires-clause-named g c =
 
 pub returns-in-Err-clause-split : goal.returns-in-Err-clause-split
 returns-in-Err-clause-split g c =
-    let m = making g.P.Outputs c.args.outputs.now c.make_files.new.outputs in
+    let m = making g.P.NewFiles c.args.outputs.now c.make_files.new.outputs in
     let names = map string_bytes c.args.names.now in
     inr (inr (stopped m (g.I.Inputs.bytes c.args.inputs.now c.args.file.now) c.args.plan.now
-    names c.count-first.result c.count-first.ensures (g.P.Outputs.made c.give_up.new.outputs)
-    (g.P.Outputs.failed c.give_up.new.outputs) c.give_up.ensures.failed
+    names c.count-first.result c.count-first.ensures (g.P.NewFiles.made c.give_up.new.outputs)
+    (g.P.NewFiles.failed c.give_up.new.outputs) c.give_up.ensures.failed
     (growth g.O.Output c.args.out.now c.args.out.now)
     (growth g.F.Output c.args.err.now c.give_up.new.err) c.args.file.now c.give_up.result
     c.in-Err.stop c.in-Err.ensures.answer
@@ -44,13 +44,13 @@ returns-then-send-clause-split g c =
 
 pub returns-clause-split : goal.returns-clause-split
 returns-clause-split g c =
-    let m = making g.P.Outputs c.args.outputs.now c.make_files.new.outputs in
+    let m = making g.P.NewFiles c.args.outputs.now c.make_files.new.outputs in
     let names = map string_bytes c.args.names.now in
     let all = c.in-Ok.ensures.answer in
     inr (inl (
     untold m (g.I.Inputs.bytes c.args.inputs.now c.args.file.now) c.args.plan.now names
-    c.count-first.result c.count-first.ensures (g.P.Outputs.made c.give_up-2.new.outputs)
-    (g.P.Outputs.failed c.give_up-2.new.outputs) c.give_up-2.ensures.failed
+    c.count-first.result c.count-first.ensures (g.P.NewFiles.made c.give_up-2.new.outputs)
+    (g.P.NewFiles.failed c.give_up-2.new.outputs) c.give_up-2.ensures.failed
     (growth g.O.Output c.args.out.now c.send.new.out)
     (growth g.F.Output c.args.err.now c.give_up-2.new.err) c.args.file.now
     c.give_up-2.result all.0

@@ -1,9 +1,16 @@
 use Rattle.std.proofs.Common.{◌≡◌, ◌+◌, ◌<◌, ◌∷◌, ◌++◌, ℕ, List, ap, sym, ◌∙◌, subst, arith}
-use Rattle.std.proofs.Common.{All, take, drop, length, map, string_bytes, true, false}
+use Rattle.std.proofs.Common.{All, take, drop, length, map, string_bytes, ◌≢◌, Option, None, IfSome}
 use Rattle.std.proofs.lemmas.List.{take_all, length-map}
-use Rattle.edfruns_command.specs.Made.{IsFree, MayBeThere}
-use Rattle.edfruns_command.proofs.Walking.{all-more, around, mapped, asked-so}
+use Rattle.edf_new_files.specs.There.{Found, IsFree, MayBeThere}
+use Rattle.edfruns_command.proofs.Walking.{all-more, around, mapped}
 use Rattle.edfruns_command.proofs.split_command.taken_name.Goals as goal
+
+-- of what is known of a name
+abbrev MayHave : Option Found → Type 0
+MayHave known = IfSome known (λ found. found ≢ None)
+
+abbrev HasNone : Option Found → Type 0
+HasNone known = IfSome known (λ found. found ≡ None)
 
 pub returns-then-is_there-clause-answer : goal.returns-then-is_there-clause-answer
 returns-then-is_there-clause-answer g c =
@@ -13,11 +20,10 @@ returns-then-is_there-clause-answer g c =
     let name = string_bytes c.name-item.result in
     let lt : at < length names = omega (arith, c.loop-name-test.true, length-map all string_bytes) in
     let is = mapped all at c.name-item.result c.loop-name-test.true c.name-item.is string_bytes in
-    let there = g.P.Outputs.there c.args.outputs.now in
-    let same = subst (λ (n : List ℕ). g.P.Outputs.there c.loop-name.outputs n ≡ there name)
+    let there = g.P.NewFiles.there c.args.outputs.now in
+    let same = subst (λ (n : List ℕ). g.P.NewFiles.there c.loop-name.outputs n ≡ there name)
     (sym c.as_str.ensures.value) (c.loop-name.invariant.there name) in
-    let taken : MayBeThere there name = asked-so true (there name)
-    (g.P.Outputs.there c.loop-name.outputs c.as_str.result.now) same c.if-is_there.ensures.answer in
+    let taken : MayBeThere there name = subst MayHave same c.if-is_there.ensures.answer in
     record {
       front = take at names;
       later = drop (at + 1) names;
@@ -35,11 +41,10 @@ loop-name-preserved g c =
     let name = string_bytes c.name-item.result in
     let lt : at < length names = omega (arith, c.loop-name-test.true, length-map all string_bytes) in
     let is = mapped all at c.name-item.result c.loop-name-test.true c.name-item.is string_bytes in
-    let there = g.P.Outputs.there c.args.outputs.now in
-    let same = subst (λ (n : List ℕ). g.P.Outputs.there c.loop-name.outputs n ≡ there name)
+    let there = g.P.NewFiles.there c.args.outputs.now in
+    let same = subst (λ (n : List ℕ). g.P.NewFiles.there c.loop-name.outputs n ≡ there name)
     (sym c.as_str.ensures.value) (c.loop-name.invariant.there name) in
-    let free : IsFree there name = asked-so false (there name)
-    (g.P.Outputs.there c.loop-name.outputs c.as_str.result.now) same c.if-is_there.ensures.answer in
+    let free : IsFree there name = subst HasNone same c.if-is_there.ensures.answer in
     record {
       free = all-more names at name lt is (IsFree there) c.loop-name.invariant.free free;
       there = λ other. c.is_there.ensures.there other ∙ c.loop-name.invariant.there other;
@@ -52,7 +57,7 @@ pub returns-clause-answer : goal.returns-clause-answer
 returns-clause-answer g c =
     let all = c.args.names.now in
     let names = map string_bytes all in
-    subst (All (IsFree (g.P.Outputs.there c.args.outputs.now)))
+    subst (All (IsFree (g.P.NewFiles.there c.args.outputs.now)))
     (take_all c.loop-name.name-index names
     (omega (arith, c.loop-name-test.false, length-map all string_bytes)))
     c.loop-name.invariant.free

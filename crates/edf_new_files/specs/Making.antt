@@ -1,18 +1,19 @@
 -- What makes files, before and after.
-use Rattle.std.specs.Prelude.{◌≡◌, ℕ, List, Bool, Option}
-use Rattle.edfmend_command.specs.Made.{MadeFile}
-use Rattle.edfmend_command.specs.declared.maker.Maker.{Ghosts}
+use Rattle.std.specs.Prelude.{◌≡◌, ℕ, List, Bool}
+use Rattle.edf_new_files.specs.Made.{MadeFile}
+use Rattle.edf_new_files.specs.There.{There}
+use Rattle.edf_new_files.specs.declared.new_files.NewFiles.{Ghosts}
 
 -- by what it tells before and after
 pub record Making : Type 0 where
   pub known : Bool
-  pub there : List ℕ → Option Bool
+  pub there : There
   pub before : List MadeFile
   pub failed_before : ℕ
   pub after : List MadeFile
   pub failed_after : ℕ
 
-abbrev pub making : {M W : Type 0} → Ghosts M W → M → M → Making
+abbrev pub making : {P W : Type 0} → Ghosts P W → P → P → Making
 making g old new = record {
   known = g.known old;
   there = g.there old;
@@ -22,6 +23,6 @@ making g old new = record {
   failed_after = g.failed new;
 }
 
--- no file was made, and none could not be
+-- no file was begun, and no call failed
 abbrev pub MakesNothing : Making → Type 0
 MakesNothing m = (m.after ≡ m.before) × (m.failed_after ≡ m.failed_before)
