@@ -58,7 +58,9 @@ def month(bench: Bench) -> None:
         bench.write(mended, bench.parts(code)[0][:-9], code)
         bench.write(f"{mended}.txt", b"its patient's name\n", *({code} - {X}))
     listed = measure.done(bench.given.program, "list", folders[0] / "night.db").out
-    bench.write("r01/status/now", b"2026-12-01T06:00:00 waiting=0\n" + listed, WHO)
+    bench.write("r01/status/now", b"time=2026-12-01T06:00:00+0000 waiting=0 refused=900\n"
+                + 900 * (b"refused 2026-12-01T05:00:00+0000 of patient=P-10 investigation=N1 in "
+                         b"its name.edf refused E1 Cut\n") + b"list\n" + listed, WHO)
     shutil.copy(folders[0] / "so_far.svg", folders[0] / "status")
     bench.owners[folders[0] / "status/so_far.svg"] = {WHO}
     (folders[0] / "inbox/.taking").mkdir(parents=True)
@@ -118,8 +120,8 @@ def a_service(bench: Bench) -> None:
             env={**os.environ, "PATH": f"{bench.given.edfserve.parent}:{os.environ['PATH']}"},
             stdin=subprocess.DEVNULL, stderr=subprocess.DEVNULL)
         until = time.monotonic() + 20
-        while not is_locked(log) and time.monotonic() < until:
-            time.sleep(0.1)
+        while not (is_locked(log) and (home / "status/now").exists()) and time.monotonic() < until:
+            time.sleep(0.1)         # then it tells no more for five minutes
     else:
         print("no inotifywait here: the lock of `receive` without `receive`")
         fcntl.flock(log, fcntl.LOCK_EX)

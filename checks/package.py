@@ -18,6 +18,7 @@ needs a library that is not there and one with a byte changed are not installed.
 lintian, man and readelf.
 """
 import os
+import re
 import shutil
 from pathlib import Path
 
@@ -28,8 +29,11 @@ MOST = 2_400_000
 SUITE = "bookworm"
 PROGRAMS = ("edfstore", "edfruns", "edfserve", "edfmend")
 SHARED = "usr/share/doc/edfstore"
-SERVICE = {"usr/lib/edfstore/receive": ("examples/receiving/receive", 0o755),
-           installed.UNIT: ("examples/receiving/edfserve@.service", 0o644)}
+SERVICES = {"usr/lib/edfstore/receive": ("examples/receiving/receive", 0o755),
+            installed.UNIT: ("examples/receiving/edfserve@.service", 0o644),
+            "usr/lib/edfstore/overview": ("examples/site/overview", 0o755),
+            installed.PAGE: ("examples/site/edfoverview.service", 0o644),
+            installed.TIMER: ("examples/site/edfoverview.timer", 0o644)}
 EXAMPLES = ("edflib.edf", "one-record.edf")
 DOCUMENTS = ("README.md", "copyright", "changelog.gz", "docs/FORMAT.md", "docs/REFUSALS.md",
              "docs/RELIABILITY.md", "docs/READERS.md", *(f"examples/{name}" for name in EXAMPLES))
@@ -101,12 +105,13 @@ def contents(checks: Checks, package: Path, folder: Path) -> Path:
         page = text("zcat", root / f"usr/share/man/man1/{name}.1.gz")
         checks.same(f"{name}.1", page == (arguments.TOP / f"docs/{name}.1").read_text(), True)
         rendered(checks, name, root)
-    for name, (source, mode) in SERVICE.items():
+    for name, (source, mode) in SERVICES.items():
         there = root / name
         checks.same(name, (there.read_bytes(), there.stat().st_mode & 0o777),
                     ((arguments.TOP / source).read_bytes(), mode))
-    runs_there = (root / installed.UNIT).read_text().split("\nExecStart=/")[1].split(" ")[0]
-    checks.same("the unit runs what is there", (root / runs_there).is_file(), True)
+    for unit in (installed.UNIT, installed.PAGE):
+        runs_there = re.search("^ExecStart=.*?/(usr/lib/[^ ]*)", (root / unit).read_text(), re.M)
+        checks.same(f"{unit} runs what is there", (root / runs_there[1]).is_file(), True)
     missing = [name for name in DOCUMENTS if not (root / SHARED / name).is_file()]
     checks.same("documents that it lacks", missing, [])
     checks.same("dead links", links.dead(sorted((root / SHARED).rglob("*.md")), root / SHARED), [])
@@ -214,7 +219,7 @@ class Bare:
 
     def installed(self) -> list:
         """What of the package is there."""
-        paths = (*(f"usr/bin/{name}" for name in PROGRAMS), *SERVICE, SHARED)
+        paths = (*(f"usr/bin/{name}" for name in PROGRAMS), *SERVICES, SHARED)
         return [path for path in paths if (self.root / path).exists()]
 
 

@@ -13,15 +13,17 @@ and never renamed: one is kept open, and rests inside a data record for longer t
 one is opened anew for each piece. `receive` and its `edfserve` are killed 50 times if KILLS is left
 out, and begun again as systemd does it. One store's disk is filled, and has room again. In the
 morning all is begun again, and the card comes. Then each upload is in taken/ or refused/, nothing
-was taken in part, and each export is that of the card. Before that one file is put into a folder
-without a rename: it waits, or is taken by --on-close; and one comes whose name is no UTF-8: it
-waits, and is told by its name, until it is renamed. One whose name is too long is told and left
-alone.
+was taken in part, and each export is that of the card.
 
---control runs other `receive`s, each of which must lose something: one takes files whose names say
-that they are still written, one any that lie there, one at its start any that lie there, one then
-also those that are open, one moves a file before its answer, one takes a file's line for the end of
-an answer, one forgets what came while nothing received, one gives the store all files as they came.
+Before that, in folders of their own: what `status` tells, how often, to whom, and that each of its
+files is whole; a file that is put there without a rename waits, or is taken by --on-close; names
+that are no UTF-8 or too long; no `inotifywait`; two uploads under one name; the lines of the README
+that mend uploads; and 10,000 uploads while `inotifywait` is stopped, more than its queue has room
+for: each is answered once, without a restart.
+
+--control runs other `receive`s, each of which must lose something or tell something else: one takes
+files whose names say that they are still written, one any that lie there, one moves a file before
+its answer, one writes `status` in place, one goes on where the queue overflowed, and more.
 """
 import errno
 import os
@@ -34,12 +36,12 @@ import time
 from dataclasses import dataclass, field, replace
 from pathlib import Path
 
-from checks.lib import arguments, measure, model, night, runs
+from checks.lib import arguments, measure, model, night, received, runs
 from checks.lib.checks import Lost, end
 from checks.lib.disks import Disk
 from checks.lib.edf import keeping, tal
+from checks.lib.receivers import RECEIVE
 
-RECEIVE = arguments.TOP / "examples/receiving/receive"
 SFTP, SFTP_SERVER = shutil.which("sftp"), Path("/usr/lib/openssh/sftp-server")
 NAMES = ("part {:02}.edf", "Nacht Müller {:02}.edf", "status 1 {:02}.EDF", "部分-{:02}.edf")
 MOST_SECONDS = 120      # until all that came is answered, and in a control
@@ -48,14 +50,17 @@ RECORDS, FRAGMENTS = 960, 24
 NEVER_SENT = 2          # files of each night that only the card brings
 STILL = 6               # seconds without a change, here; a rest of a writer, by whether it is open
 RESTS = {True: 8, False: 2.5}
+NO_AGE = ('    \\( ! -newerct "@$((EPOCHSECONDS - still))" -o '
+          '-newerct "@$((EPOCHSECONDS + still))" \\) \\\n', "")
+NOT_OPEN = ('if is_open "inbox/$name"', "if false")
 CONTROLS = {
     "takes a file whose name says that it is still written": (
         ("events=moved_to\n", "events=create,moved_to,modify\n"),
         (".* | *.part)", ".taking)")),
     "takes any file that lies there": (
-        ('! is_still "inbox/$name"', "false"), ('[ -n "${early[$name]:-}" ]', "true")),
-    "takes at its start any file that lies there": (('! is_still "inbox/$name"', "false"),),
-    "takes at its start a file that is open": (("! perl", "! false"),),
+        NO_AGE, NOT_OPEN, ('[ -n "${early[$name]:-}" ]', "true")),
+    "takes at its start any file that lies there": (NO_AGE, NOT_OPEN),
+    "takes at its start a file that is open": (NOT_OPEN,),
     "moves a file before its answer": (
         ('  printf \'take %s\\n\' "$1" >&"$ask" || fail "edfserve has ended"\n',
          '  put_away "inbox/.taking/$1" "taken/$1"; sleep 0.1\n'
@@ -65,9 +70,8 @@ CONTROLS = {
         ("cd inbox/.taking ", "cd taken ")),
     "takes a file's line for the end of its answer": (('"status "[0-3] ]]', '"status "* ]]'),),
     "forgets what came while it was down": (
-        ("for name in inbox/*; do early[${name##*/}]=1; done\nsweep\n",
-         "due=$((SECONDS + wait))\n"),
-        ("  if [ $SECONDS -ge $due ]; then sweep; fi\n", "")),
+        ("look_at_all\nbefore=", "before="), ("\nsweep\n", "\ndue=$((SECONDS + wait))\n"),
+        ('  if is_due "$due" "$wait"; then sweep; fi\n', "")),
     "gives the store all files as they came": (
         ('if [ "$by_onset" = yes ]; then', "if false; then"),),
 }
@@ -364,65 +368,8 @@ def night_of(sites: list, disk: Disk, given, seconds: float) -> int:
 
 def surroundings(given, still: int) -> dict:
     return {"PATH": f"{given.edfserve.parent}:{given.edfruns.parent}:{os.environ['PATH']}",
-            "RECEIVE_WAIT": "1", "RECEIVE_STILL": str(still), "LC_ALL": "C.UTF-8"}
-
-
-def unrenamed(given, folder: Path) -> None:
-    """A file that was put there without a rename waits, and the journal says so once, until
-    `receive` begins again; --on-close takes it at once."""
-    source = arguments.TOP / "examples/oximeter/part1.edf"
-    for options in ((), ("--on-close",)):
-        home = folder / f"without a rename {len(options)}"
-        (home / "inbox").mkdir(parents=True)
-        site = Site(home, [], source, RECEIVE, surroundings(given, 2), random.Random(0),
-                    options=options)
-        site.start()
-        try:
-            site.rename(site.write("first.edf", source.read_bytes(), 1), "first.edf", b"")
-            settle([site], 20)          # now it watches
-            shutil.copyfile(source, home / "inbox/there.edf")
-            if options:
-                settle([site], 20)
-            time.sleep(8)
-            waits, lines = (home / "inbox/there.edf").exists(), (home / "journal").read_text()
-            told = lines.count("receive: there.edf: no rename of it was seen")
-            if (waits, told) != ((False, 0) if options else (True, 1)):
-                raise Lost(f"{options}: waits in the inbox: {waits}, told {told} times")
-            site.end()
-            site.start()
-            settle([site], 20)
-            if not (home / "taken/there.edf").exists():
-                raise Lost(f"{options}: not taken at the next start")
-        finally:
-            site.end()
-
-
-def unnameable(given, folder: Path) -> None:
-    """A file whose name is no UTF-8 waits, and is told by its name, until it is renamed; one whose
-    name is too long to be put away is left alone and told."""
-    data = (arguments.TOP / "examples/oximeter/part1.edf").read_bytes()
-    home = folder / "no name"
-    (home / "inbox").mkdir(parents=True)
-    site = Site(home, [], home, RECEIVE, surroundings(given, 2), random.Random(0))
-    name, long = os.fsdecode("Nacht Ü".encode("latin-1")), 250 * "x"
-    site.start()
-    try:
-        for each in ("first.edf", long, name, "last.edf"):
-            whole = data[:-1] if each == long else data
-            os.rename(site.write("new", whole, 1), site.inbox / each)
-        time.sleep(5)
-        settle([site], IN_CONTROL, besides=(name,))
-        journal = (home / "journal").read_bytes()
-        told = [journal.count(words) for words in (b"receive: Nacht \xdc: no UTF-8", b"x: no file")]
-        taken = sorted(path.name for path in (home / "taken").iterdir())
-        if (told, taken) != ([1, 1], ["first.edf", "last.edf"]):
-            raise Lost(f"of a name that is no UTF-8, and a long one, told {told}, taken {taken}")
-        os.rename(site.inbox / ".taking" / name, site.inbox / ".taking/renamed.edf")
-        settle([site], IN_CONTROL)
-        if not (home / "taken/renamed.edf").exists():
-            raise Lost("a file that was renamed in .taking is not taken")
-    finally:
-        site.end()
+            "RECEIVE_WAIT": "1", "RECEIVE_STILL": str(still), "RECEIVE_TELL": "2",
+            "LC_ALL": "C.UTF-8"}
 
 
 def tried(given, script: Path, folder: Path, seconds: float = MOST_SECONDS) -> int:
@@ -444,29 +391,27 @@ def controlled(name: str, folder: Path) -> Path:
     """A `receive` that does what its name says."""
     text = RECEIVE.read_text()
     for old, new in CONTROLS[name]:
-        if old not in text:
-            raise SystemExit(f"receive has no line {old!r} for the control that {name}")
-        text = text.replace(old, new)
+        text = received.replaced(text, name, old, new)
     path = folder / "receive"
     path.write_text(text)
     return path
 
 
 def control(given) -> None:
-    failed = 0
+    failed = received.control(given)
     for name in CONTROLS:
         with measure.scratch() as scratch:
             try:
                 tried(given, controlled(name, Path(scratch)), Path(scratch), IN_CONTROL)
-                print(f"NOT FOUND: a receive that {name}")
+                print(f"NOT FOUND: a receive that {name}", flush=True)
                 failed += 1
             except Lost as why:
-                print(f"found: a receive that {name}: {why}")
-    end(len(CONTROLS), failed)
+                print(f"found: a receive that {name}: {why}", flush=True)
+    end(len(CONTROLS) + len(received.CONTROLS), failed)
 
 
 def main() -> None:
-    parser = arguments.Parser(__doc__, programs=("edfstore", "edfserve", "edfruns"), count=50)
+    parser = arguments.Parser(__doc__, programs=arguments.PROGRAMS, count=50)
     parser.add_argument("--seed", type=int, default=1, help="of the nights, 1 if left out")
     parser.add_argument("--control", action="store_true", help="run wrong ones instead")
     given = parser.read()
@@ -475,15 +420,14 @@ def main() -> None:
         control(given)
     with measure.scratch() as scratch:
         try:
-            unrenamed(given, Path(scratch))
-            unnameable(given, Path(scratch))
+            told = received.tried(given, Path(scratch))
             count = tried(given, RECEIVE, Path(scratch))
         except Lost as why:
             print(f"LOST OR IN PART: {why}")
             end(1, 1)
     print(f"{count} uploads of three recorders, {given.count} kills: each is in taken/ or "
-          "refused/, and each export is that of its card")
-    end(count, 0)
+          f"refused/, and each export is that of its card; {told} compared in folders of their own")
+    end(count + told, 0)
 
 
 if __name__ == "__main__":

@@ -71,6 +71,10 @@ CONTROLS = {
     "follows links to folders": (
         ("FOLDER = os.O_RDONLY | os.O_DIRECTORY | os.O_NOFOLLOW",
          "FOLDER = os.O_RDONLY | os.O_DIRECTORY"),),
+    "reads the front of a status alone": (("os.fstat(fd).st_size if is_told else", ""),),
+    "takes a file's name for a line of a status": (
+        ("return {line[1] for line in lines if line}",
+         'return set(re.findall(rb"patient=([!-~]+) inv", head))'),),
     "does not look at the sum": (("given.yes != look.sum()", "not given.yes"),),
     "sums the paths alone": ((' + self.goes[path].sum)', ")"),),
     "does not ask whether a service receives": (

@@ -13,7 +13,9 @@ from checks.lib import measure, model, sessions
 from checks.lib.checks import Checks
 
 SHARED = "/usr/share/doc/edfstore"
-HOME, UNIT = "srv/recordings/r01", "usr/lib/systemd/system/edfserve@.service"
+UNITS = "usr/lib/systemd/system"
+HOME, UNIT = "srv/recordings/r01", f"{UNITS}/edfserve@.service"
+PAGE, TIMER = f"{UNITS}/edfoverview.service", f"{UNITS}/edfoverview.timer"
 BOOTED = ("systemd", "adduser")     # what a Debian that boots has
 SITE = "root/site"
 MOUNTED = 'mount -t proc proc "$0/proc" && exec chroot "$0" "$@"'
@@ -25,7 +27,7 @@ if [ "$1" = enable ]; then exec /usr/bin/systemctl enable "$3"; fi
 SFTP = ("sftp", "-q", "-b", "-", "-i", "/root/key", "-o", "StrictHostKeyChecking=no",
         "-o", "ProxyCommand=/usr/sbin/sshd -i", "r01@here")
 MOST_SECONDS = 60
-SOON = ("env", "RECEIVE_WAIT=2", "RECEIVE_STILL=4")
+SOON = ("env", "RECEIVE_WAIT=2", "RECEIVE_STILL=4", "RECEIVE_TELL=2")
 
 
 class Machine:
@@ -65,7 +67,7 @@ class Machine:
         command = [line for line in lines if line.startswith("ExecStart=")][-1].split("=", 1)[1]
         self.child = subprocess.Popen(
             self.words(*SOON, "runuser", "-u", "r01", "--", "sh", "-c",
-                       f"umask 077; cd /{HOME} && exec {command}"),
+                       f"umask 027; cd /{HOME} && exec {command}"),
             start_new_session=True, stdin=subprocess.DEVNULL, stderr=subprocess.DEVNULL)
 
     def end(self) -> None:
@@ -115,6 +117,30 @@ def by_cp(checks: Checks, machine: Machine, lines: str) -> None:
     checks.same("cp: it is taken", machine.has(f"{HOME}/taken/part2.edf"), True)
 
 
+def overview(checks: Checks, machine: Machine) -> None:
+    """The page of the one recorder, as its unit writes it, and a unit that tells somebody."""
+    there = machine.run("apt-get", "install", "--no-install-recommends", "python3")
+    checks.same("python3", there.status, 0)
+    readme = machine.root / f"{SHARED[1:]}/examples/site/README.md"
+    timer, tells, _ = sessions.blocks(readme)
+    checks.same("the timer", machine.shown(timer).status, 0)
+    checks.same("whom it tells", machine.shown(tells).outcome(), (b"", b"", 0))
+    units = ("edfoverview.service", "edfoverview.timer", "edfoverview-tell.service")
+    said = machine.run("systemd-analyze", "verify", *units)
+    checks.same("systemd-analyze verify", said.outcome(), (b"", b"", 0))
+    checks.same("its status is there", machine.has(f"{HOME}/status/so_far.svg"), True)
+    unit = (machine.root / PAGE).read_text().replace("\\\n", " ")
+    command = unit.split("\nExecStart=/bin/sh -c '")[1].split("'")[0].replace("$$", "$")
+    ran = machine.run("sh", "-c", "umask 077; mkdir /var/lib/edfoverview; "
+                      f"OVERVIEW=--hours=24; {command}")
+    page = machine.root / "var/lib/edfoverview/index.html"
+    checks.same("the page", (ran.outcome(), page.stat().st_mode & 0o777), ((b"", b"", 0), 0o600))
+    text = page.read_text()
+    checks.same("what it has", [word in text for word in (
+        "1 recorder: 1 alive", "2023-11-04 22:15:00 to 2023-11-05 00:55:00, 320 data records; no",
+        "<img ", "S-0118")], [True, True, True, False])
+
+
 def morning(checks: Checks, machine: Machine, first: str, then: str) -> None:
     """The card, and another night after it."""
     machine.end()
@@ -127,7 +153,7 @@ def morning(checks: Checks, machine: Machine, first: str, then: str) -> None:
                 True)
     checks.same("the next night", machine.shown(f"cd /{HOME}\n{then}").outcome(), (b"", b"", 0))
     checks.same("what is left", sorted(path.name for path in (machine.root / HOME).iterdir()),
-                [".ssh", "2026-11-26", "inbox"])
+                [".ssh", "2026-11-26", "inbox", "status"])
     machine.begin(UNIT)
     checks.same("another store", machine.has(f"{HOME}/night.db"), True)
 
@@ -135,7 +161,7 @@ def morning(checks: Checks, machine: Machine, first: str, then: str) -> None:
 def receiving(checks: Checks, machine: Machine) -> None:
     checks.begin("the receiving folder's commands")
     readme = machine.root / f"{SHARED[1:]}/examples/receiving/README.md"
-    service, sshd, sftp, on_close, first, then = sessions.blocks(readme)
+    service, sshd, sftp, on_close, _, first, then = sessions.blocks(readme)
     try:
         checks.same("the service", machine.shown(service).status, 0)
         said = machine.run("systemd-analyze", "verify", "edfserve@r01.service").err.decode()
@@ -149,6 +175,7 @@ def receiving(checks: Checks, machine: Machine) -> None:
         checks.same("the inbox is there", machine.has(f"{HOME}/inbox/.taking"), True)
         by_sftp(checks, machine, [line.removeprefix("sftp> ") for line in sftp.splitlines()])
         by_cp(checks, machine, on_close)
+        overview(checks, machine)
         morning(checks, machine, first, then)
     finally:
         machine.end()

@@ -1,0 +1,148 @@
+"""A page of HTML as text: read here, and by headless Chromium over a pipe, without packages."""
+import base64
+import html.parser
+import json
+import os
+import re
+import signal
+import subprocess
+import time
+from pathlib import Path
+
+from .checks import Lost
+
+BLOCKS = {"h1", "h2", "h3", "li", "p", "section", "table", "td", "th", "tr", "ul", "img"}
+PICTURE = re.compile(rb"data:image/svg\+xml;base64,([A-Za-z0-9+/=]*)")
+FLAGS = ("--headless=new", "--no-sandbox", "--disable-gpu", "--disable-dev-shm-usage",
+         "--no-first-run", "--hide-scrollbars", "--remote-debugging-pipe",
+         "--disable-background-networking", "--disable-component-update", "--disable-sync",
+         "--window-size=1280,1000")
+SECONDS = 90        # that Chromium may take
+
+
+def plain(text: str) -> str:
+    """A text with one space between its words."""
+    return " ".join(text.split())
+
+
+class Texts(html.parser.HTMLParser):
+    """The rows of the table and the sections, as texts, and the names of all elements and
+    attributes."""
+
+    def __init__(self, data: bytes):
+        super().__init__()
+        self.rows, self.sections, self.names = [], [], set()
+        self.into = None
+        self.feed(data.decode())
+        self.rows, self.sections = ([plain(text) for text in texts]
+                                    for texts in (self.rows, self.sections))
+
+    def handle_starttag(self, tag: str, attributes: list) -> None:
+        self.names |= {tag, *(name for name, _ in attributes)}
+        if tag in ("tr", "section"):
+            self.into = self.rows if tag == "tr" else self.sections
+            self.into.append("")
+        if self.into is not None and tag in BLOCKS:
+            self.into[-1] += " "
+
+    def handle_endtag(self, tag: str) -> None:
+        if self.into is not None and tag in BLOCKS:
+            self.into[-1] += " "
+        if tag in ("tr", "section"):
+            self.into = None
+
+    def handle_data(self, data: str) -> None:
+        if self.into is not None:
+            self.into[-1] += data
+
+
+def pictures(data: bytes) -> list:
+    """The pictures of a page, as they are in it."""
+    return [base64.b64decode(found) for found in PICTURE.findall(data)]
+
+
+class Chromium:
+    """A headless Chromium that speaks over a pipe, until the `with` ends."""
+
+    def __init__(self, folder: Path):
+        theirs, ours = os.pipe()            # its descriptors 3 and 4
+        self.read_from, other = os.pipe()
+        line = f"exec chromium {' '.join(FLAGS)} '--user-data-dir={folder}' " \
+               f"about:blank 3<&{theirs} 4>&{other}"
+        self.child = subprocess.Popen(["bash", "-c", line], pass_fds=(theirs, other),
+                                      stdin=subprocess.DEVNULL, stdout=subprocess.DEVNULL,
+                                      stderr=subprocess.DEVNULL, start_new_session=True)
+        os.close(theirs), os.close(other)
+        self.to, self.had, self.count, self.events = ours, b"", 0, []
+        self.session = None
+
+    def __enter__(self) -> "Chromium":
+        return self
+
+    def __exit__(self, *_) -> None:
+        os.killpg(self.child.pid, signal.SIGKILL)
+        self.child.wait()
+        os.close(self.to), os.close(self.read_from)
+
+    def message(self) -> dict:
+        until = time.monotonic() + SECONDS
+        while b"\0" not in self.had:
+            more = os.read(self.read_from, 1 << 20)
+            if not more or time.monotonic() > until:
+                raise Lost("Chromium has ended, or does not answer")
+            self.had += more
+        text, _, self.had = self.had.partition(b"\0")
+        return json.loads(text)
+
+    def ask(self, method: str, **words) -> dict:
+        self.count += 1
+        asked = {"id": self.count, "method": method, "params": words}
+        if self.session:
+            asked["sessionId"] = self.session
+        os.write(self.to, json.dumps(asked).encode() + b"\0")
+        while True:
+            told = self.message()
+            if told.get("id") == self.count:
+                if "error" in told:
+                    raise Lost(f"Chromium: {method}: {told['error']}")
+                return told["result"]
+            self.events.append(told)
+
+    def wait_for(self, method: str) -> None:
+        while not any(event.get("method") == method for event in self.events):
+            self.events.append(self.message())
+
+    def open(self, path: Path) -> None:
+        target = self.ask("Target.createTarget", url="about:blank")["targetId"]
+        self.session = self.ask("Target.attachToTarget", targetId=target,
+                                flatten=True)["sessionId"]
+        for domain in ("Page", "Network", "Log", "Runtime"):
+            self.ask(f"{domain}.enable")
+        self.events.clear()
+        self.ask("Page.navigate", url=path.as_uri())
+        self.wait_for("Page.loadEventFired")
+
+    def value(self, expression: str):
+        return self.ask("Runtime.evaluate", expression=expression, awaitPromise=True,
+                        returnByValue=True)["result"].get("value")
+
+    def texts(self, selector: str) -> list:
+        return [plain(text) for text in self.value(
+            f"[...document.querySelectorAll({json.dumps(selector)})].map(it => it.innerText)")]
+
+    def asked_for(self) -> list:
+        """What the page asked for, but for what it has itself."""
+        return [event["params"]["request"]["url"] for event in self.events
+                if event.get("method") == "Network.requestWillBeSent"
+                and not event["params"]["request"]["url"].startswith("data:")]
+
+    def complaints(self) -> list:
+        return [event["params"]["entry"]["text"] for event in self.events
+                if event.get("method") == "Log.entryAdded"]
+
+    def screenshot(self, path: Path) -> None:
+        size = self.ask("Page.getLayoutMetrics")["cssContentSize"]
+        shot = self.ask("Page.captureScreenshot", captureBeyondViewport=True,
+                        clip={"x": 0, "y": 0, "width": size["width"],
+                              "height": min(size["height"], 16_000), "scale": 1})
+        path.write_bytes(base64.b64decode(shot["data"]))
