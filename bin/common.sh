@@ -1,12 +1,17 @@
 # shellcheck shell=bash
-# What the scripts of this folder share: which sources the programs are made from, and their digest.
+# What the scripts of this folder and of ports/arm64 share: which sources the programs are made
+# from, their digest, and where a program is. A machine is named as `uname -m` names it.
 top=$(cd "$(dirname "${BASH_SOURCE[0]}")/.." && pwd)
 programs=(edfstore edfruns edfserve edfmend)
 release=$top/release
 
-# Where the program $1 is when it was built here.
+# Where the program $1 is when it was built here, for x86-64 or for the machine $2; for machines
+# that no program is made for it prints nothing.
 built() {
-  echo "$top/crates/$1/out/$1"
+  case ${2:-x86_64} in
+    x86_64) echo "$top/crates/$1/out/$1" ;;
+    aarch64) echo "$top/ports/arm64/out/$1" ;;
+  esac
 }
 
 # The crates $* and all that they stand on, a line each, by crates.txt.
@@ -39,17 +44,33 @@ source_files() {
   } | LC_ALL=C sort)
 }
 
-# The SHA-256 of the names and the contents of those files, of all programs.
-sources_digest() {
-  (cd "$top" && source_files "${programs[@]}" | xargs -d '\n' sha256sum) |
-    sha256sum | cut -d ' ' -f 1
+# What the programs for the machine $1 are made from besides: for x86-64 nothing.
+port_files() {
+  [ "$1" != aarch64 ] || printf 'ports/arm64/%s\n' build host.c packages.sha256
 }
 
-# Whether the program $1 was built here and no source of it is newer.
-is_fresh() {
+# The SHA-256 of the names and the contents of those files, of all programs.
+sources_digest() {
+  (cd "$top" && { source_files "${programs[@]}" && port_files aarch64; } |
+    xargs -d '\n' sha256sum) | sha256sum | cut -d ' ' -f 1
+}
+
+# Whether the file $1, which was made of the crate $2 for the machine $3, is there and no source of
+# it is newer.
+is_newer() {
   # shellcheck disable=SC2016     # sh puts them in
-  [ -x "$(built "$1")" ] && [ -z "$(cd "$top" && source_files "$1" |
-    xargs -d '\n' sh -c 'find "$@" -newer "$0" -print -quit' "$(built "$1")")" ]
+  [ -e "$1" ] && [ -z "$(cd "$top" && { source_files "$2" && port_files "$3"; } |
+    xargs -d '\n' sh -c 'find "$@" -newer "$0" -print -quit' "$1")" ]
+}
+
+# Whether the program $1 was built here, for x86-64 or for the machine $2, and is not stale.
+is_fresh() {
+  is_newer "$(built "$@")" "$1" "${2:-x86_64}"
+}
+
+# Whether this line is the verdict of a program that was proved for arm64.
+names_arm64() {
+  [[ $1 =~ ^logic=proved\ .*target=aarch64-unknown-linux-gnu\  && ! $1 =~ (hides|bugs)= ]]
 }
 
 # Whether the release was made from the sources that lie here.
@@ -57,16 +78,17 @@ is_released() {
   [ -f "$release/SOURCES" ] && [ "$(cat "$release/SOURCES")" = "$(sources_digest)" ]
 }
 
-# The one archive of programs that SHA256SUMS names; the other is a Debian package.
+# The archive of programs for the machine $1 that SHA256SUMS names, if it names one.
 released_archive() {
-  sed -n 's/^[0-9a-f]*  \(.*\.tar\.xz\)$/\1/p' "$release/SHA256SUMS"
+  sed -n "s/^[0-9a-f]*  \(.*-$1-linux\.tar\.xz\)\$/\1/p" "$release/SHA256SUMS"
 }
 
-# Unpacks the released programs, once, and prints the path of $1. The archive must have the sum that
-# SHA256SUMS says.
+# Unpacks the released programs for x86-64, or for the machine $2, once, and prints the path of $1.
+# The archive must have the sum that SHA256SUMS says.
 released_program() {
   local archive sum folder
-  archive=$(released_archive)
+  archive=$(released_archive "${2:-x86_64}")
+  [ -n "$archive" ] || return 1
   sum=$(sed -n "s/  $archive\$//p" "$release/SHA256SUMS")
   folder=$release/out/$sum
   if [ ! -x "$folder/$1" ]; then
@@ -82,12 +104,20 @@ released_program() {
   echo "$folder/$1"
 }
 
-# The path of the program $1 to run: the one that was built here, where no source is newer; else the
-# released one, where the release was made from these sources; else it is proved and built first.
+# The path of the program $1 to run on this machine, or on the machine $2: the one that was built
+# here, where no source is newer; else the released one, where the release was made from these
+# sources; else, for x86-64, it is proved and built first.
 chosen_program() {
-  if is_fresh "$1"; then
-    built "$1"
-  elif ! is_released || ! released_program "$1"; then
+  local machine=${2:-$(uname -m)}
+  if is_fresh "$1" "$machine"; then
+    built "$1" "$machine"
+  elif is_released && released_program "$1" "$machine"; then
+    :
+  elif [ "$machine" != x86_64 ]; then
+    echo "$1: of these sources there is no program for $machine here; for arm64, which is" \
+      "aarch64, ports/arm64/build makes it on x86-64" >&2
+    return 3
+  else
     # Status 1 says that the released bytes are others: what was proved here is run all the same.
     "$top/bin/build" "$1" >&2 </dev/null || [ $? = 1 ] || return 3
     built "$1"

@@ -50,6 +50,7 @@ exit "$status"
 DEBIANS_OWN = "/usr/bin/python3"        # the Python that knows the packages of Debian
 READERS = ("cc", "save2gdf", "edfbrowser", "Xvfb", "xdotool", "xwininfo", "python3-mne",
            "libedf-dev")
+FOR_ARM64 = ("cc", "qemu-aarch64", "aarch64-linux-gnu-gcc")
 # The options that name the programs
 EDFSTORE, EDFRUNS, EDFSERVE, EDFMEND = "program", "edfruns", "edfserve", "edfmend"
 
@@ -74,6 +75,10 @@ class Check:
 CHECKS = (
     Check("edits.run", "edits that the prover refuses", (), needs=("rt",), is_on_disk=True,
           is_for_long=True),
+    Check("arm64.run", "answers of the arm64 programs under qemu",
+          (EDFSTORE, EDFRUNS, EDFSERVE, EDFMEND),
+          needs=(*FOR_ARM64, "dpkg-deb", "readelf", "sqlite3", "inotifywait", "perl"),
+          is_on_disk=True, is_for_long=True),
     Check("readers.of_runs", "runs of a night read by other programs", (EDFRUNS,),
           needs=READERS, is_for_long=True, python=DEBIANS_OWN),
     Check("readers.drifting", "a night that drifts, read by other programs", (EDFRUNS,),
@@ -125,6 +130,8 @@ CHECKS = (
     Check("mend.foreign", "files of other programs, mended", (EDFSTORE, EDFMEND),
           needs=("cc", "save2gdf", "python3-mne", "libedf-dev"), is_for_long=True,
           python=DEBIANS_OWN),
+    Check("arm64.host", "answers of the C functions for arm64", (), needs=FOR_ARM64,
+          is_for_long=True),
     Check("edits.standing", "edits whose lines stand in the sources", ()),
     Check("released", "first commands and comparisons of clones", (),
           needs=("git", "tar", "xz"), is_for_long=True),

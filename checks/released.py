@@ -10,8 +10,10 @@ programs where a build leaves them `bin/compare` and `.ci/run` end with status 0
 another status where one byte of a program is changed, and `.ci/run` where `rt ci` fails; where the
 sources or the toolchain are others, or no program is there, a line says so. Where dpkg-deb is here
 `bin/release` of these programs writes the same release twice, and `bin/release --documents` too; a
-line says whether it is the committed one.
+line says whether it is the committed one. It writes none where a verdict does not name arm64. Where
+the machine says that it is one for arm64, the scripts in `bin` take the programs for that.
 """
+import itertools
 import os
 import shutil
 import sys
@@ -24,6 +26,8 @@ SECONDS = 2.0
 TIMES = 3       # clones at most, since others may use the machine
 EXAMPLES = ("examples/edflib.edf", "examples/one-record.edf")
 PROGRAMS = ("edfstore", "edfruns", "edfserve", "edfmend")
+MACHINES = {"x86_64": ("crates/{0}/out/{0}", 62), "aarch64": ("ports/arm64/out/{0}", 183)}
+NAMED = "logic=proved main= target=aarch64-unknown-linux-gnu sum=0\n"
 SAME = "release: {}, as it was proved here, has the released bytes\n"
 OTHER = "release: {}, as it was proved here, does NOT have the released bytes\n"
 NONE = ("release: no {} lies here to compare: rt ci kept what an earlier run on this machine "
@@ -31,6 +35,7 @@ NONE = ("release: no {} lies here to compare: rt ci kept what an earlier run on 
 OTHER_SOURCES = "release: made from other sources than these; bin/release makes it anew\n"
 NO_TOOLCHAIN = ("bin/build: this takes the toolchain of release/TOOLCHAIN, whose command 'rt' is "
                 "not on the path\n")
+OTHER_MACHINE = "#!/bin/sh\necho {}\n"
 STUB = """#!/bin/sh
 case $1 in
   version) echo "{build}" ;;
@@ -64,8 +69,7 @@ class Clones:
         (self.stub / "rt").chmod(0o755)
 
     def run(self, clone: Path, *words: str) -> measure.Ran:
-        path = f"{self.stub}:{self.tools}" if (self.stub / "rt").exists() else str(self.tools)
-        return measure.ran(*words, folder=clone, added={"PATH": path})
+        return measure.ran(*words, folder=clone, added={"PATH": f"{self.stub}:{self.tools}"})
 
 
 def first_commands(checks: Checks, clones: Clones) -> None:
@@ -100,14 +104,34 @@ def change_a_source(clone: Path) -> None:
 
 
 def built(clones: Clones) -> Path:
-    """A clone with the released programs where `rt ci` leaves what it built."""
+    """A clone with the released programs where `rt ci` and ports/arm64/build leave what they
+    built."""
     clone = clones.fresh()
-    for name in PROGRAMS:
-        line = f". bin/common.sh && released_program {name}"
-        target = clone / "crates" / name / "out" / name
-        target.parent.mkdir()
+    for name, (machine, (place, _)) in itertools.product(PROGRAMS, MACHINES.items()):
+        line = f". bin/common.sh && released_program {name} {machine}"
+        target = clone / place.format(name)
+        target.parent.mkdir(exist_ok=True)
         shutil.copy(clones.run(clone, "bash", "-c", line).out.decode().strip(), target)
+        target.with_suffix(".verdict").write_text(NAMED)
     return clone
+
+
+def on_machines(checks: Checks, clones: Clones) -> None:
+    """Which program the scripts take, by what the machine says of itself."""
+    clone, uname = clones.fresh(), clones.stub / "uname"
+    for machine, name in itertools.product((*MACHINES, "armv7l"), PROGRAMS):
+        uname.write_text(OTHER_MACHINE.format(machine))
+        uname.chmod(0o755)
+        ran = clones.run(clone, "bash", "-c", f". bin/common.sh && chosen_program {name}")
+        kinds = [MACHINES[machine][1]] if machine in MACHINES else []
+        found = [kind_of(Path(line)) for line in ran.out.decode().splitlines()]
+        checks.same(f"{name} on {machine}", (found, ran.status), (kinds, 0 if kinds else 3))
+    uname.unlink()
+
+
+def kind_of(program: Path) -> int:
+    """The machine that a program is for, by its number in the header."""
+    return int.from_bytes(program.read_bytes()[18:20], "little")
 
 
 def compared(checks: Checks, clones: Clones, what: str, clone: Path, out: str) -> None:
@@ -123,6 +147,19 @@ def release_of(clone: Path) -> dict:
     return {path.name: path.read_bytes() for path in files}
 
 
+def not_named(checks: Checks, clones: Clones, clone: Path) -> None:
+    """A verdict that names no machine, and one that is not there, which are put back."""
+    committed = release_of(clone)
+    verdict = clone / "ports/arm64/out/edfruns.verdict"
+    for change in (lambda: verdict.write_text("logic=proved main= sum=0\n"), verdict.unlink):
+        change()
+        ran = clones.run(clone, "bin/release")
+        checks.same("bin/release by another verdict", (ran.status, ran.err.splitlines()[-1:]),
+                    (3, [b"bin/release: the verdict of edfruns does not name arm64"]))
+        checks.same("the release is as it was", release_of(clone) == committed, True)
+    verdict.write_text(NAMED)
+
+
 def written_again(checks: Checks, clones: Clones, clone: Path) -> None:
     """The release, written by the scripts of the clone from the same programs and documents."""
     committed, written = release_of(clone), []
@@ -131,7 +168,7 @@ def written_again(checks: Checks, clones: Clones, clone: Path) -> None:
         written.append(release_of(clone))
     checks.same("the release has the same bytes", written[1:] == written[:1] * 2, True)
     checks.same("its files", [sorted(path.rpartition(".")[2] for path in written[0])],
-                [["SHA256SUMS", "SOURCES", "TOOLCHAIN", "deb", "xz"]])
+                [["SHA256SUMS", "SOURCES", "TOOLCHAIN", "deb", "deb", "xz", "xz"]])
     for name in ("SOURCES", "TOOLCHAIN"):
         checks.same(name, written[0][name], committed[name])
     print("bin/release writes the committed release" if written[0] == committed else
@@ -141,7 +178,7 @@ def written_again(checks: Checks, clones: Clones, clone: Path) -> None:
     checks.same("bin/release --documents: the status",
                 clones.run(clone, "bin/release", "--documents").status, 0)
     last = release_of(clone)
-    checks.same("with another page both archives are others",
+    checks.same("with another page all archives are others",
                 sorted(name for name in last if last[name] != written[0][name]),
                 sorted(name for name in last if name not in ("SOURCES", "TOOLCHAIN")))
     checks.compare("with another page bin/compare", clones.run(clone, "bin/compare"),
@@ -177,6 +214,7 @@ def comparison(checks: Checks, clones: Clones) -> None:
     clone = built(clones)
     compared(checks, clones, "the released programs", clone, "".join(map(SAME.format, PROGRAMS)))
     if shutil.which("dpkg-deb"):
+        not_named(checks, clones, clone)
         written_again(checks, clones, clone)
     for name in PROGRAMS:
         changed(checks, clones, clone, name)
@@ -201,6 +239,7 @@ def main() -> None:
         if clones.run(clones.fresh(), "bash", "-c", ". bin/common.sh && is_released").status:
             sys.exit("the state that is committed here is no released one: bin/release makes it so")
         first_commands(checks, clones)
+        on_machines(checks, clones)
         comparison(checks, clones)
     checks.end()
 

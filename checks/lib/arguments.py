@@ -21,11 +21,12 @@ def path(word: str) -> Path:
     return Path(word).resolve()
 
 
-def chosen(name: str) -> Path:
-    """The program that the script bin/NAME runs, which proves and builds it where it is stale."""
-    script = '. "$0/bin/common.sh" && chosen_program "$1"'
-    ran = subprocess.run(["bash", "-c", script, TOP, name], stdout=subprocess.PIPE, text=True,
-                         check=False)
+def chosen(name: str, machine: str = "") -> Path:
+    """The program that the script bin/NAME runs, which proves and builds it where it is stale; or
+    the one that it runs on that machine."""
+    script = '. "$0/bin/common.sh" && chosen_program "$1" "$2"'
+    ran = subprocess.run(["bash", "-c", script, TOP, name, machine], stdout=subprocess.PIPE,
+                         text=True, check=False)
     if ran.returncode:
         sys.exit(f"bin/{name} has no program to run")
     return Path(ran.stdout.strip())
