@@ -8,15 +8,14 @@ was refused, an export and a picture; two of them share a store. One is X. One h
 begins as another's, one the same in small letters, one a name that is another's code. They are
 forgotten one after another. Then: a session that has the store, `receive` that has the folder
 (where `inotifywait` is, else its lock alone), a store that is opened or filled between its list and
-its removal; a sum that no longer holds; a full disk, where one may be mounted; a kill before each
-removal, after which the rest goes; names of two lines and of no UTF-8; links; files whose headers
-name no code; texts of several files; words that name nobody.
+its removal, or whose list breaks off; recordings that have the name of a log or a text; a sum that
+no longer holds; a full disk, where one may be mounted; a kill before each removal, after which the
+rest goes; odd names; links; headers that name no code; texts of several files; words of nobody.
 
---control runs other `forget`s, each of which must be found: one takes a code that begins so, one
-removes a store without its log, one follows links, one does not look at the sum, and more.
+--control runs other `forget`s, each of which one case must find: one takes a code that begins so,
+one removes a store without its log, one follows links, one does not look at the sum, and more.
 """
 import fcntl
-import hashlib
 import os
 import shutil
 import signal
@@ -24,11 +23,11 @@ import subprocess
 import time
 from pathlib import Path
 
-from checks.lib import arguments, measure, model, printed
+from checks.lib import arguments, meanwhile, measure, model
 from checks.lib.checks import Lost, end
 from checks.lib.disks import Disk
-from checks.lib.forgotten import (CONTROLS, FORGET, KILL, KILLED, PATIENTS, WHO, X, Bench,
-                                  controlled, exchange, is_locked, snapshot)
+from checks.lib.forgotten import (CONTROLS, FORGET, PATIENTS, WHO, X, Bench, controlled, exchange,
+                                  is_locked, snapshot)
 from checks.lib.serving import Client
 
 RECEIVE = arguments.TOP / "examples/receiving/receive"
@@ -40,9 +39,14 @@ SHARED = 20         # the night of two patients
 
 def alone(bench: Bench) -> None:
     """A folder that has the patient alone: status 0, and nothing is found after it."""
-    home = bench.night("r01", WHO)
-    bench.removed(WHO, home)
-    told, left = bench.forget(WHO, home), sorted(path.name for path in home.rglob("*.*"))
+    home, bare = bench.night("r01", WHO), bench.top / "empty"
+    bare.mkdir()
+    listed = measure.done(bench.given.program, "list", home / "night.db").out
+    bench.write("r01/status/now", b"time=2026-12-01T06:00:00+0000 waiting=0 refused=900\n"
+                + 900 * (b"refused 2026-12-01T05:00:00+0000 of patient=P-10 investigation=N1 in "
+                         b"its name.edf refused E1 Cut\n") + b"list\n" + listed, WHO)
+    bench.removed(WHO, home, bare)
+    told, left = bench.forget(WHO, home, bare), sorted(path.name for path in home.rglob("*.*"))
     bench.same("once more", (told.ran.status, told.lines), (1, [f"nothing of {WHO} was found"]))
     bench.same("what is left", left, ["answers.log", "night.edf.sha256"])
 
@@ -57,10 +61,7 @@ def month(bench: Bench) -> None:
         mended = f"r01/raw/mended/{codes.index(code)}.edf"
         bench.write(mended, bench.parts(code)[0][:-9], code)
         bench.write(f"{mended}.txt", b"its patient's name\n", *({code} - {X}))
-    listed = measure.done(bench.given.program, "list", folders[0] / "night.db").out
-    bench.write("r01/status/now", b"time=2026-12-01T06:00:00+0000 waiting=0 refused=900\n"
-                + 900 * (b"refused 2026-12-01T05:00:00+0000 of patient=P-10 investigation=N1 in "
-                         b"its name.edf refused E1 Cut\n") + b"list\n" + listed, WHO)
+    (folders[0] / "status").mkdir()
     shutil.copy(folders[0] / "so_far.svg", folders[0] / "status")
     bench.owners[folders[0] / "status/so_far.svg"] = {WHO}
     (folders[0] / "inbox/.taking").mkdir(parents=True)
@@ -86,21 +87,8 @@ def a_session(bench: Bench) -> None:
         client.end()
 
 
-def killed_session(bench: Bench) -> Path:
-    """A folder in which a session was killed, which left all that it took in the log."""
-    home = bench.top / "r01"
-    upload = bench.write("r01/taken/part.edf", bench.parts(WHO)[0], WHO)
-    client = Client(bench.given.edfserve, home)
-    client.ask(f"take {upload}")
-    client.child.kill()
-    client.end()
-    bench.owners |= {home / "s.db": {WHO}, home / "s.db-wal": {WHO}}
-    bench.same("the log has something", (home / "s.db-wal").stat().st_size > 1_000, True)
-    return home
-
-
 def after_a_kill(bench: Bench) -> None:
-    home = killed_session(bench)
+    home = bench.killed_session("r01")
     told = bench.forget(WHO, home)
     bench.same("goes", (sorted(told.paths("goes")), told.ran.status), (bench.of(WHO, "goes"), 0))
     bench.removed(WHO, home)
@@ -138,47 +126,31 @@ def a_service(bench: Bench) -> None:
             child.wait()
 
 
-def listing(bench: Bench, store: Path, turn: str) -> dict:
-    """An edfstore after whose list of that store something happens."""
-    program = bench.aside / "edfstore"
-    program.write_text(f'#!/bin/bash\n"{bench.given.program}" "$@"\nstatus=$?\n'
-                       f'if [ "$2" = "{store}" ]; then\n{turn}\nfi\nexit $status\n')
-    program.chmod(0o755)
-    return {"EDFSTORE": str(program)}
-
-
-def between(bench: Bench) -> None:
-    """What is done to a store between its list and its removal."""
-    first, second = bench.night("r01", WHO), bench.night("r02", WHO, number=2)
-    other, said = bench.aside / "other.edf", bench.aside / "said"
-    other.write_bytes(bench.parts("P-10")[0])
-    sum_of_all = bench.listed(WHO, first, second).sum
-    killed = listing(bench, second / "night.db", f"""
-        coproc serve {{ exec "{bench.given.edfserve}" "$2"; }}
-        echo 'take {other}' >&"${{serve[1]}}"
-        read -r line <&"${{serve[0]}}"
-        kill -KILL $serve_PID; wait $serve_PID 2> '{said}'; echo "$line" > '{said}'""")
-    before = snapshot(bench.top)
-    told = bench.forget("--yes", sum_of_all, WHO, first, second, added=killed)
-    bench.same("a session takes another's file, and is killed", said.read_text(),
-               printed.line(other, printed.accepted(2)))
-    bench.stays("a log that has something", told, before, words=b"something came into its log")
-    listed = measure.done(bench.given.program, "list", second / "night.db").out
-    bench.same("it is held", listed.count(b"\n"), 2)
-    shutil.copy(first / "night.db", second / "night.db")
-    (second / "night.db-wal").unlink()
-    measure.done(bench.given.program, "list", second / "night.db")      # makes it anew
-    sum_of_all = bench.listed(WHO, first, second).sum
-    opened = listing(bench, second / "night.db",
-                     f'"{bench.given.program}" take "{first}/night.db" "{other}" > "{said}" 2>&1')
-    told = bench.forget("--yes", sum_of_all, WHO, first, second, added=opened)
-    bench.same("a take meanwhile", said.read_text(), printed.NO_STORE)
-    bench.same("all is gone", sorted(told.paths("gone")), bench.of(WHO, "goes"))
+def beside_a_store(bench: Bench) -> None:
+    """What has a name that begins as the store's stays, and so does a recording that has the name
+    of its log: the store is then of nobody known, since a list of it would spoil that."""
+    other = bench.parts("P-10")[0]
+    bench.night("r01", WHO)
+    for name in ("night.db-part.edf", "night.db2", "night.db.edf"):
+        bench.write(f"r01/{name}", other, "P-10")
+    bench.write("r01/night.db-shm", bytes(32), WHO)
+    cut = bench.write("r01/refused/cut", other[:-7], "P-10")
+    measure.ran(bench.given.program, "take", bench.top / "r01/empty.db", cut)
+    elsewhere, beside = bench.write("elsewhere", other), []
+    for nth, end in enumerate(2 * ("wal", "shm", "journal")):
+        store = bench.night(f"r1{nth}", WHO) / "night.db"
+        beside.append(Path(f"{store}-{end}"))
+        beside[nth].unlink(missing_ok=True)
+        beside[nth].symlink_to(elsewhere) if nth > 2 else beside[nth].write_bytes(other)
+        bench.owners |= {store: {X}, Path(f"{store}-wal"): set()}
+    bench.removed(WHO, *sorted(bench.top.glob("r*")))
+    bench.same("what is beside", [path.read_bytes() == other for path in beside], [True] * 6)
 
 
 def sums(bench: Bench) -> None:
     """What changes after the list."""
     home = bench.night("r01", WHO, "P-10")
+    large = bench.write("r01/taken/z.edf", bench.parts(WHO)[0] + bytes(200_000), WHO)
     told = bench.listed(WHO, home)
     theirs, others = (sorted(path for path, codes in bench.owners.items() if codes == {code}
                              and path.parent.name == "taken") for code in (WHO, "P-10"))
@@ -189,6 +161,7 @@ def sums(bench: Bench) -> None:
             ("a byte more", lambda: theirs[0].write_bytes(theirs[0].read_bytes() + b"\0")),
             ("another sample", lambda: theirs[0].write_bytes(theirs[0].read_bytes()[:-120]
                                                              + bytes(120))),
+            ("its last byte", lambda: large.write_bytes(large.read_bytes()[:-1] + b"x")),
             ("another's file", lambda: shutil.copy(others[0], theirs[0])),
             ("the names of two exchanged", lambda: exchange(*theirs[:2]))):
         bench.put_back()
@@ -229,7 +202,7 @@ def no_room_for_the_log(bench: Bench) -> None:
     with Disk(bench.top, 2 * 1_024) as disk:
         if not disk.is_mounted:
             return
-        home = killed_session(bench)
+        home = bench.killed_session("r01")
         upload = home / "taken/part.edf"
         held = model.Store()
         held.take(upload.read_bytes())
@@ -242,49 +215,6 @@ def no_room_for_the_log(bench: Bench) -> None:
         disk.empty()
         listed = measure.done(bench.given.program, "list", home / "s.db").out.decode()
         bench.same("what is held", listed, held.lines())
-
-
-def kills(bench: Bench) -> None:
-    """A kill before each removal, and then the rest."""
-    home = bench.night("r01", WHO, "P-10")
-    uploads = [path for path in (home / "taken").iterdir() if bench.owners[path] == {WHO}]
-    store, owners = bench.store("r01/alone.db", *uploads), dict(bench.owners)
-    told = bench.listed(WHO, home)
-    export = measure.done(bench.given.program, "export", store, 1).out
-    bench.keep()
-    order = told.paths("goes")
-    for nth in range(len(order)):
-        bench.put_back()
-        before, bench.owners = snapshot(bench.top), dict(owners)
-        ran = bench.forget("--yes", told.sum, WHO, home,
-                           before=("-c", KILLED.format(turn=KILL), str(nth))).ran
-        for path in order[:nth]:
-            del before[path], bench.owners[path]
-        bench.same(f"killed before removal {nth}", (ran.status, snapshot(bench.top)),
-                   (-signal.SIGKILL, before))
-        log = Path(f"{store}-wal")
-        if store in before:
-            left = measure.done(bench.given.program, "export", store, 1).out
-            bench.same("the store is whole", left == export, True)
-            if log not in before:       # which the export made anew
-                bench.owners[log] = {WHO}
-        bench.same("no log without its store", store in before or not log.exists(), True)
-        bench.removed(WHO, home)
-
-
-def exchanged(bench: Bench) -> None:
-    """Another's file comes in place of the second while the first is removed."""
-    home, other = bench.night("r01", WHO), bench.aside / "other.edf"
-    other.write_bytes(bench.parts("P-10")[0])
-    told, before = bench.listed(WHO, home), snapshot(bench.top)
-    first, second = told.paths("goes")[:2]
-    data = other.read_bytes()
-    turn = KILLED.format(turn=f"os.replace({str(other)!r}, {str(second)!r})")
-    gone = bench.forget("--yes", told.sum, WHO, home, before=("-c", turn, "0"))
-    del before[first]
-    before[second] = hashlib.sha256(data).hexdigest()
-    bench.same("it is told", (gone.ran.status, b"changed meanwhile" in gone.ran.err), (3, True))
-    bench.same("it and the rest stay", snapshot(bench.top), before)
 
 
 def odd_names(bench: Bench) -> None:
@@ -314,6 +244,7 @@ def links(bench: Bench) -> None:
                          (home / "raw", theirs / "raw")):
         path.symlink_to(target)
         bench.owners[path / "mended" if path.name == "raw" else path] = {X}
+    bench.owners[home / "raw/refused"] = {X}
     (home / "latest").symlink_to(theirs)
     (bench.top / "r04").symlink_to(home)
     os.link(next((home / "taken").iterdir()), theirs / "kept.edf")
@@ -330,6 +261,12 @@ def nameless(bench: Bench) -> None:
     named = b"S-0118 F 02-MAY-1951 X"
     for name, data, *code in (
             ("taken/x", of(b"X F 02-MAY-1951 X"), X), ("taken/of X", of(b"X X X X"), X),
+            ("taken/of X, named", of(b"X F 02-MAY-1951 S-0118"), X),
+            ("refused/two words", of(b"S 0118 F 02-MAY-1951 X"), X),
+            ("refused/a longer code", of(b"S-01180 F 02-MAY-1951 X"), "S-01180"),
+            ("refused/another letter", of(b"s-0118 F 02-MAY-1951 X"), "s-0118"),
+            ("refused/a shorter code", of(b"S-011 F 02-MAY-1951 X"), "S-011"),
+            ("refused/another sign", of(b"S_0118 F 02-MAY-1951 X"), "S_0118"),
             ("refused/a name", of(b"Jan Jansen"), X), ("refused/blank", of(b""), X),
             ("refused/the code alone", of(b"S-0118"), X),
             ("refused/a name first", of(b"Jansen S-0118 F 02-MAY-1951"), X),
@@ -347,18 +284,23 @@ def nameless(bench: Bench) -> None:
             ("old.db-wal", b"a log", X),
             ("picture.svg", b"<svg xmlns='http://www.w3.org/2000/svg'></svg>\n", X),
             ("Thumbs.db", b"no database", X), ("notes", b"S-0118\n"), ("list.txt", named),
-            ("night.edf.part", of(named), WHO), ("part.~2~", of(named), WHO)):
+            ("night.edf.part", of(named), WHO), ("part.~2~", of(named), WHO),
+            ("status/now.part", b"list\n1 records=2 first=T patient=S-0118 investigation=N1\n"
+                                b"2 records=2 first=T patient=P-1", WHO)):
         bench.write(f"r01/{name}", data, *code)
     os.mkfifo(bench.top / "r01/taken/pipe")
     bench.owners[bench.top / "r01/taken/pipe"] = {X}
     upload = bench.write("r01/all X.edf", of(b"X X X X"), X)
     bench.store("r01/all X.db", upload)
+    bench.store("r01/X too.db", upload, bench.write("r01/taken/mine.edf", header, WHO))
     measure.ran(bench.given.program, "list", bench.top / "r01/Thumbs.db")    # its log is made
-    bench.removed(WHO, bench.top / "r01")
+    for code in (WHO, "S_0118"):
+        bench.removed(code, bench.top / "r01")
 
 
 def texts(bench: Bench) -> None:
-    """A text of several files goes with the last of them."""
+    """A text of several files goes with the last of them; a recording is none, whatever its
+    name."""
     mine, other = bench.parts(WHO)[0], bench.parts("P-10")[0]
     for name, data, *codes in (
             ("refused/a.edf", other, "P-10"), ("refused/a.edf.~1~", mine, WHO),
@@ -371,14 +313,25 @@ def texts(bench: Bench) -> None:
             ("refused/e.edf.txt", b"", WHO, X), ("raw/mended/a.edf", other, "P-10"),
             ("raw/mended/a.edf.~1~", mine, WHO), ("raw/mended/a.edf.txt", b"", WHO, "P-10"),
             ("raw/mended/a.edf.txt.~1~", b"", WHO, "P-10"), ("raw/mended/b.edf", mine, WHO),
-            ("raw/mended/b.edf.txt", b"", WHO), ("taken/f.txt", mine, WHO)):
+            ("raw/mended/b.edf.txt", b"", WHO), ("taken/f.txt", mine, WHO),
+            ("refused/g.edf", mine, WHO), ("refused/g.edf.txt", other, "P-10"),
+            ("refused/g.edf.txt.txt", b""),
+            ("raw/refused/c.edf", mine[:-9], WHO), ("raw/refused/c.edf.txt", b"", WHO),
+            ("left/d.edf.part", mine, WHO), ("left/e.part", mine[:9], X),
+            ("card.edf", mine, WHO), ("card.edf.txt", b"its patient's name\n", WHO),
+            ("g.edf", other, "P-10"), ("g.edf.~1~", mine, WHO), ("g.edf.txt", b"", WHO, "P-10"),
+            ("h.edf", other, "P-10"), ("h.edf.txt", b""), ("i.txt", mine, WHO),
+            ("i.txt.txt", b"", WHO), ("j.edf.txt", mine, WHO), ("j.edf", mine, WHO),
+            ("k.edf", mine, WHO), ("k.edf.txt", other, "P-10"), ("notes.txt", b"S-0118\n")):
         bench.write(f"r01/{name}", data, *codes)
     bench.removed(WHO, bench.top / "r01")
 
 
 def folders_below(bench: Bench) -> None:
-    """What waits, and a night that was put away, are told and stay, until they are named."""
+    """What waits, and a night that was put away, are told and stay, until they are named. A folder
+    that is looked at anyway, such as `taken`, is no other one where it is named."""
     home, data = bench.night("r01", WHO), bench.parts(WHO, number=2)[0]
+    look = bench.write("r01/taken/look.db", (home / "night.db").read_bytes(), X)
     put_away = bench.night("r01/2026-11-02", WHO, number=2)
     below, bench.owners = bench.owners, {path: codes for path, codes in bench.owners.items()
                                          if put_away not in path.parents}
@@ -387,9 +340,9 @@ def folders_below(bench: Bench) -> None:
     waits.write_bytes(data)
     bench.write("r01/.ssh/authorized_keys", b"a key\n")
     bench.owners |= {home / "inbox": {WHO, "?"}, put_away: {WHO, "?"}}
-    bench.removed(WHO, home)
+    bench.removed(WHO, home / "taken", home, home / "refused")
     bench.owners = {path: below[path] for path in below if put_away in path.parents}
-    bench.owners |= {waits: {WHO}}
+    bench.owners |= {waits: {WHO}, look: {X}}
     bench.removed(WHO, home, put_away, waits.parent)
 
 
@@ -411,15 +364,14 @@ def words(bench: Bench) -> None:
     bench.stays("no edfstore", bench.forget(WHO, home, added=missing), before, 3, b"needs edfstore")
 
 
-CASES = (alone, month, a_session, after_a_kill, a_service, between, sums, a_full_disk,
-         no_room_for_the_log, kills, exchanged, odd_names, links, nameless, texts, folders_below,
-         words)
+CASES = (alone, nameless, texts, folders_below, odd_names, links, beside_a_store, *meanwhile.CASES,
+         sums, a_session, after_a_kill, a_service, a_full_disk, no_room_for_the_log, words, month)
 
 
-def tried(given, script: Path, folder: Path) -> int:
+def tried(given, script: Path, folder: Path, cases: tuple = CASES) -> int:
     """How much was compared."""
     count = 0
-    for case in CASES:
+    for case in cases:
         top = folder / case.__name__
         top.mkdir()
         bench = Bench(given, script, top)
@@ -433,11 +385,12 @@ def tried(given, script: Path, folder: Path) -> int:
 
 def control(given) -> None:
     failed = 0
-    for name in CONTROLS:
+    for name, (finder, _) in CONTROLS.items():
         with measure.scratch() as scratch:
             folder = Path(scratch).resolve()
+            cases = tuple(case for case in CASES if case.__name__ == finder)
             try:
-                tried(given, controlled(name, folder), folder)
+                tried(given, controlled(name, folder), folder, cases)
                 print(f"NOT FOUND: a forget that {name}")
                 failed += 1
             except Lost as why:

@@ -9,14 +9,16 @@ silent, one was refused a file, one has a gap, one has stopped, one has two pati
 that waits. The page comes within MOST_SECONDS, has for each the state, the last file and its
 answer, what waits and was refused, and each recording with its gaps and picture; the services go
 on. Chromium shows the same texts and all pictures, and asks for nothing else; --screenshot keeps
-what it shows. Then: codes and names of files come only where they are asked for, and names of
-patients never, be it in pictures; the status; `status/` alone is read, also by a user of the group
-that the mask 027 lets in; the page in a file is its user's alone and whole, on a full disk too; a
-status that is missing, cut, none, too large, a link, a pipe or written to do harm keeps no other
-recorder from being shown.
+what it shows. Then: a recording without a code is told where it may be of several people; codes and
+names of files come only where they are asked for, and names of patients never, be it in pictures;
+the status; `status/` alone is read, also by a user of the group that the mask 027 lets in; the page
+in a file is its user's alone and whole, on a full disk too; recorders that were never heard of, or
+whose clocks are ahead; the longest of many gaps; no picture of another recording; a status that is
+missing, cut, none, too large, a link, a pipe or written to do harm keeps no other recorder from
+being shown.
 
---control runs other `overview`s, each of which must be found: one names codes, one follows links,
-one tells the silent as alive, and more.
+--control runs other `overview`s, each of which one case must find: one names codes, one follows
+links, one tells the silent as alive, and more.
 """
 import os
 import re
@@ -24,21 +26,23 @@ import shutil
 import sys
 import tempfile
 import time
+from datetime import datetime, timedelta
 from pathlib import Path
 
 from checks.lib import arguments, measure, pages
 from checks.lib.checks import Lost, compare, end
 from checks.lib.disks import Disk
 from checks.lib.receivers import Receiver
-from checks.lib.recorders import (COUNT, GAP, NAME, SILENT, STOPPED, Site, code_of, row, section,
-                                  upload, words)
+from checks.lib.recorders import (CONTROLS, COUNT, GAP, NAME, OTHER, SILENT, STOPPED, Site,
+                                  code_of, put_told, row, section, upload, words)
 
 OVERVIEW = arguments.TOP / "examples/site/overview"
 MOST_SECONDS = 10
 AGO = re.compile(r"\b(\d+ d \d+ h|\d+ h \d\d min|\d+ min \d\d s|\d+ min|\d+ s) ago\b")
 USER = 64_123           # a user and its group, of no name
 HARM = "<script>alert(1)</script><img src=x onerror=alert(2)>'\"&lt;"
-SECRET = b"time=2026-01-01T00:00:00+0000 waiting=0 refused=0\nlast secret words\nlist\n"
+SECRET = (b"time=2026-01-01T00:00:00+0000 waiting=0 refused=0\n"
+          b"last 2026-01-01T00:00:00+0000 x refused E1 SecretWord\nlist\n")
 
 
 class Bench:
@@ -86,8 +90,9 @@ def all_of_them(bench: Bench) -> None:
                "1 with files that wait, 1 with gaps")
     bench.same("the summary, in the title too", data.decode().count(summary), 2)
     err = bench.run(*bench.site.folders()).err.decode()
-    bench.same("on standard error", AGO.sub("AGO", err),
-               f"overview: {SILENT}: {words(SILENT, bench.site.all[SILENT])[1]}\n")
+    told = "".join(f"overview: {name}: {words(name, it)[1]}\n"
+                   for name, it in bench.site.all.items() if name in (SILENT, STOPPED))
+    bench.same("on standard error", AGO.sub("AGO", err), told)
     drawn = pages.pictures(data)
     bench.same("pictures", len(drawn), COUNT)
     bench.same("each is in its section", [part.count(b"<img ") for part in
@@ -104,8 +109,9 @@ def all_of_them(bench: Bench) -> None:
 def statuses(bench: Bench) -> None:
     found = bench.folder / "lost+found"
     found.mkdir()
-    for given, status in (((*bench.site.folders(SILENT),), 0),
-                          (("--hours", "48", *bench.site.folders()), 0),
+    for given, status in (((*bench.site.folders(SILENT, STOPPED),), 0),
+                          ((*bench.site.folders(SILENT),), 1),
+                          (("--hours", "48", *bench.site.folders(STOPPED)), 0),
                           (("--hours=29.5", *bench.site.folders()), 1),
                           (("--hours", "0.5", *bench.site.folders(SILENT)), 1),
                           (("--hours", "0.5", *bench.site.folders(SILENT, STOPPED)), 0),
@@ -115,6 +121,19 @@ def statuses(bench: Bench) -> None:
                           ((bench.folder / "missing",), 2), (("--code", *bench.site.folders()), 2)):
         ran = bench.run(*given)
         bench.same(f"overview {given[:2]}: {ran.err!r:.200}", ran.status, status)
+
+
+def of_nobody(bench: Bench) -> None:
+    """A recording without a code that has a long gap may be of several people."""
+    good, words = bench.site.all[GAP], "it may be of different people"
+    for nth, (code, gap, wanted) in enumerate((
+            ("X", "28801", 1), ("X", "28800.5", 1), ("X", "28800", 0), ("X1", "99999", 0))):
+        now = good.now.read_text().replace(f"patient={code_of(GAP)[0]} ", f"patient={code} ")
+        folder = bench.folder / f"{nth}"
+        (folder / "status").mkdir(parents=True)
+        (folder / "status/now").write_text(now.replace(" gap=4800\n", f" gap={gap}\n"))
+        found = bench.texts(bench.page(folder, status=0))[1][0]
+        bench.same(f"{code}, a gap of {gap} s", found.count(words), wanted)
 
 
 def codes(bench: Bench) -> None:
@@ -218,7 +237,7 @@ def odd_statuses(bench: Bench) -> None:
         bench.same(f"{name}: status", ran.status, 1 if is_missing else 3)
         bench.same(f"{name}: rows", (len(rows), rows[0]), (2, row(GAP, good)))
         bench.same(f"{name}: it is told", sections[1].startswith(f"{name} unknown it"), True)
-        bench.same(f"{name}: not what is elsewhere", b"secret words" in ran.out, False)
+        bench.same(f"{name}: not what is elsewhere", b"SecretWord" in ran.out, False)
 
 
 def put_status(folder: Path, name: str, data, good: Receiver) -> None:
@@ -248,14 +267,19 @@ def odd_pictures(bench: Bench) -> None:
     picture = good.picture.read_bytes()
     secret.write_bytes(picture)
     code = code_of(GAP)[0].encode()
+    title = b"<title id='edf-title'>"
+    heading = picture.split(title)[1].split(b"</title>")[0]
     entities = b"<!DOCTYPE svg [<!ENTITY a 'aaaaaaaaaa'>" + b"".join(
         b"<!ENTITY %c '%s'>" % (98 + n, b"&%c;" % (97 + n) * 10) for n in range(9)) + b"]>"
     cases = {"none": None, "empty": b"", "noise": bytes(range(256)), "cut": picture[:-100],
              "entities": entities + picture, "deep": b"<svg " + picture[5:-7] + 100_000 * b"<g>"
              + 100_000 * b"</g>" + b"</svg>", "large": picture + bytes(9 << 20),
              "another heading": picture.replace(b"Patient " + code, b"Of " + code),
+             "its heading in a comment": picture.replace(b"Patient ", b"Of ").replace(
+                 title, b"<!--%s%s</title>-->%s" % (title, heading, title)),
              "one heading more": picture.replace(b"</svg>", b"<text>Patient %s, investigation V"
                                                  b"</text></svg>" % code),
+             "another recording's": bench.site.all[OTHER].picture.read_bytes(),
              "a link": secret, "a pipe": None}
     for name, data in cases.items():
         folder = bench.folder / name
@@ -293,8 +317,68 @@ def odd_names(bench: Bench) -> None:
         bench.same(f"it has {word}", word in text, True)
 
 
-CASES = (all_of_them, statuses, codes, status_alone, in_a_file, odd_statuses, odd_pictures,
-         odd_names)
+def since_when(bench: Bench) -> None:
+    """Of statuses that are so many hours old, and of a last file that is: state and words."""
+    for name, told, heard, state in (
+            ("never heard of", 0, None, "silent silent: nobody heard of it yet"),
+            ("stopped and never heard of", 2, None,
+             "stopped nothing receives since {}, AGO; silent: nobody heard of it yet"),
+            ("both", 2, 30, "stopped nothing receives since {}, AGO; silent since {}, AGO"),
+            ("just heard of", 0.2, 23.9, "alive the last file came {1}, AGO"),
+            ("its files are ahead", 0, -30, "silent silent since {1}, ahead by 1 d 5 h"),
+            ("its service is ahead", -1, 0.5, "stopped nothing receives since {}, ahead by AHEAD")):
+        folder = bench.folder / name
+        times = put_told(folder, told, heard)
+        rows, sections = bench.texts(bench.page(folder, status=int(not state.startswith("alive"))))
+        words = state.format(*times)
+        found = re.sub(r"ahead by \d+ min\b", "ahead by AHEAD", rows[0])
+        bench.same(name, found, f"{name} {words} 0 0 0 none")
+        bench.same(f"{name}: the section", sections[0].startswith(f"{name} {state.split()[0]} "),
+                   True)
+
+
+def foreign_lines(bench: Bench) -> None:
+    """Lines of another form keep nothing else from being shown, and name codes where these are
+    asked for."""
+    good, code = bench.site.all[GAP], code_of(GAP)[0]
+    now = good.now.read_text()
+    begun = now.index("patient=") + len(f"patient={code} inv")
+    for name, text in (("cut", f"{now[:begun]}\n"),
+                       ("a zone", re.sub(r"(\nruns 1\n.*?first=\S+)", r"\1+01:00", now)),
+                       ("a week", re.sub(r"(\nruns 1\n.*?first=)[^T]+", r"\g<1>2026-W01-1", now))):
+        folder = bench.folder / name
+        (folder / "status").mkdir(parents=True)
+        (folder / "status/now").write_text(text)
+        for codes in (False, True):
+            data = bench.page(*["--codes"] * codes, folder, good.folder, status=0)
+            rows, sections = bench.texts(data)
+            bench.same(f"{name}: the other", (rows[1], sections[1]),
+                       (row(GAP, good), section(GAP, good, codes=codes)))
+            told = "The store answers: " + ("" if codes else "another line, which its status has")
+            bench.same(f"{name}: its line", told in sections[0], True)
+            bench.same(f"{name}: codes", code in data.decode(), codes)
+
+
+def many_gaps(bench: Bench) -> None:
+    """The eight longest of eleven gaps, in their order."""
+    lengths = (50, 700, 61, 3_600, 90_000, 8, 0.5, 600, 599, 7_200, 70)
+    lines, at = [], datetime(2026, 1, 1)
+    for nth, gap in enumerate((*lengths, 0), 1):
+        lines.append(f"{nth} records=1 first={at:%Y-%m-%dT%H:%M:%S} seconds=30"
+                     + f" gap={gap}" * (gap > 0))
+        at += timedelta(seconds=30 + int(gap))
+    put_told(bench.folder / "gaps", 0, 0, "1 records=12 first=x patient=P investigation=I\nruns 1\n"
+             + "\n".join(lines))
+    rows, sections = bench.texts(bench.page(bench.folder / "gaps", status=0))
+    bench.same("the row", rows[0].endswith(" 0 0 1 11 gaps, 1 d 4 h"), True)
+    told = re.findall(r"gap from \S+ \S+ to \S+ \S+, (.*?)(?= gap| and)", sections[0])
+    bench.same("the longest", told, ["11 min", "1 min 01 s", "1 h 00 min", "1 d 1 h", "10 min",
+                                     "9 min 59 s", "2 h 00 min", "1 min 10 s"])
+    bench.same("the rest", "and 3 shorter ones" in sections[0], True)
+
+
+CASES = (all_of_them, statuses, of_nobody, codes, status_alone, in_a_file, odd_statuses,
+         odd_pictures, odd_names, since_when, foreign_lines, many_gaps)
 
 
 def in_chromium(bench: Bench) -> None:
@@ -330,47 +414,6 @@ def services_go_on(bench: Bench) -> None:
             bench.same(f"{name} goes on", (it.log(), it.child.poll()), (it.answers, None))
 
 
-CONTROLS = {
-    "names codes": ("if self.given.codes else ''", "if True else ''"),
-    "leaves codes in pictures": ("it.picture if self.given.codes else", "it.picture if True else"),
-    "leaves a heading of two in a picture": (
-        "not HEADING.search(\"\".join(root.itertext()))", "True"),
-    "shows a picture of any heading": ("HEADING.fullmatch(heading) and", "heading and"),
-    "names files": ("if self.given.files else \"\"", "if True else \"\""),
-    "shows no picture without codes": ("return ElementTree.tostring(root) if", "return b'' if"),
-    "tells the silent as alive": ("        return not last or abs(", "        return 0 * abs("),
-    "tells one that nobody heard as alive": ("        return not last or abs(",
-                                             "        return last and abs("),
-    "takes a service for its recorder": ("abs(self.now - last.time)",
-                                         "abs(self.now - it.status.time)"),
-    "tells the stopped as alive": ("abs(self.now - it.status.time) > STALE", "False"),
-    "always ends with 0": ("status = max(status, 3 if it.is_failure else 1)", "pass"),
-    "ends with 1 at a failure": ("3 if it.is_failure else 1", "1"),
-    "follows links to files": ("FILE = os.O_RDONLY | os.O_NOFOLLOW |", "FILE = os.O_RDONLY |"),
-    "follows links to folders": ("os.O_DIRECTORY | os.O_NOFOLLOW", "os.O_DIRECTORY"),
-    "waits for a pipe": ("| os.O_NONBLOCK", ""),
-    "takes what is no plain file": ("if not stat.S_ISREG(os.fstat(file).st_mode):", "if False:"),
-    "reads any size": ("if len(data) > most:", "if False:"),
-    "leaves names as they are": ("return escape(\"\".join(", "return (\"\".join("),
-    "leaves what is not printable": ("c if c.isprintable() else ascii(c)[1:-1]", "c"),
-    "ends at an odd status": ("except (ValueError, KeyError, ArithmeticError):",
-                              "except ZeroDivisionError:"),
-    "ends at a deep picture": ("LookupError, RecursionError, ValueError", "LookupError"),
-    "writes its file in place": ("part = f\"{path}.part\"", "part = path"),
-    "writes a file for all": ("0o600)", "0o644)"),
-    "does not see a full disk": ("        print(f\"overview: {why}\", file=sys.stderr)\n"
-                                 "        return 3\n", "        pass\n"),
-    "tells one gap of several as none": ("if run.gap]", "if run.gap > 9_999]"),
-    "draws beside the last recording": ("if each is drawn else",
-                                        "if each is it.status.recordings[-1] else"),
-    "reads the answers": ("        it.status = status_of(read(folder, \"now\"",
-                          "        open(os.path.join(folder, 'answers.log')).close()\n"
-                          "        it.status = status_of(read(folder, \"now\""),
-    "asks for a script": ("f\"<h1>Recorders", "\"<script src='https://example.org/x.js'></script>\""
-                          "\n            f\"<h1>Recorders"),
-}
-
-
 def tried(bench: Bench, cases: tuple) -> None:
     top = bench.folder
     for case in cases:
@@ -386,14 +429,15 @@ def tried(bench: Bench, cases: tuple) -> None:
 
 def control(given, site: Site, folder: Path) -> None:
     failed = 0
-    for nth, (name, (old, new)) in enumerate(CONTROLS.items()):
+    for nth, (name, (finder, old, new)) in enumerate(CONTROLS.items()):
         text = OVERVIEW.read_text()
         if old not in text:
             raise SystemExit(f"overview has no {old!r} for the control that {name}")
         script = folder / f"overview-{nth}"
         script.write_text(text.replace(old, new))
         try:
-            tried(Bench(given, script, site, folder / f"control-{nth}"), CASES)
+            tried(Bench(given, script, site, folder / f"control-{nth}"),
+                  tuple(case for case in CASES if case.__name__ == finder))
             print(f"NOT FOUND: an overview that {name}", flush=True)
             failed += 1
         except Lost as why:

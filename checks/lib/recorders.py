@@ -80,6 +80,19 @@ class Site:
         return [it.folder for name, it in self.all.items() if name not in without]
 
 
+def put_told(folder: Path, told: float, heard: float, lines: str = "") -> list:
+    """A status of so many hours ago, whose last file came so many hours ago; both as the page shows
+    them."""
+    now = datetime.now().astimezone()
+    times = [now - timedelta(hours=hours) for hours in (told, heard) if hours is not None]
+    stamps = [f"{time:%Y-%m-%dT%H:%M:%S%z}" for time in times]
+    last = "".join(f"last {stamp} a.edf accepted new=1 known=0\n" for stamp in stamps[1:])
+    (folder / "status").mkdir(parents=True)
+    text = f"time={stamps[0]} waiting=0 refused=0\n{last}list\n{lines}\n"
+    (folder / "status/now").write_text(text)
+    return [f"{time:%Y-%m-%d %H:%M:%S}" for time in times]
+
+
 # What the page must have
 
 def shown_time(text: str) -> str:
@@ -122,3 +135,85 @@ def section(name: str, it: Receiver, codes: bool = False, files: bool = False) -
     return text + ("2023-11-05 02:15:00, 320 data records; 1 gap, 1 h 20 min missing, the longest "
                    "1 h 20 min gap from 2023-11-04 23:35:00 to 2023-11-05 00:55:00, 1 h 20 min"
                    if name == GAP else "2023-11-05 00:55:00, 320 data records; no gap")
+
+
+# Other `overview`s, by what they do wrong: the case that must find each, and how it comes of the
+# right one.
+
+CONTROLS = {
+    "names codes": ("codes", "if self.given.codes else ''", "if True else ''"),
+    "leaves codes in pictures": (
+        "codes", "it.picture if self.given.codes else", "it.picture if True else"),
+    "leaves a heading of two in a picture": (
+        "odd_pictures", "not HEADING.search(\"\".join(root.itertext()))", "True"),
+    "shows a picture of any heading": (
+        "odd_pictures", "HEADING.fullmatch(heading) and", "heading and"),
+    "names files": ("codes", "if self.given.files else \"\"", "if True else \"\""),
+    "shows no picture without codes": (
+        "all_of_them", "return ElementTree.tostring(root) if", "return b'' if"),
+    "tells the silent as alive": (
+        "all_of_them", "        return not last or abs(", "        return 0 * abs("),
+    "tells one that nobody heard as alive": (
+        "since_when", "        return not last or abs(", "        return last and abs("),
+    "takes a service for its recorder": (
+        "all_of_them", "abs(self.now - last.time)", "abs(self.now - it.status.time)"),
+    "tells the stopped as alive": (
+        "all_of_them", "abs(self.now - it.status.time) > STALE", "False"),
+    "ends with 0 where one has stopped": (
+        "statuses", 'page.state(it) != "alive"', "page.is_silent(it)"),
+    "says nothing of people without a code": (
+        "of_nobody", 'self.patient == "X" and', "False and"),
+    "takes people for those without a code": ("of_nobody", 'self.patient == "X" and', ""),
+    "tells any gap of them": ("of_nobody", "run.gap > APART", "run.gap"),
+    "always ends with 0": (
+        "all_of_them", "status = max(status, 3 if it.is_failure else 1)", "pass"),
+    "ends with 1 at a failure": ("odd_statuses", "3 if it.is_failure else 1", "1"),
+    "follows links to files": (
+        "odd_statuses", "FILE = os.O_RDONLY | os.O_NOFOLLOW |", "FILE = os.O_RDONLY |"),
+    "follows links to folders": (
+        "odd_statuses", "os.O_DIRECTORY | os.O_NOFOLLOW", "os.O_DIRECTORY"),
+    "waits for a pipe": ("odd_statuses", "| os.O_NONBLOCK", ""),
+    "takes what is no plain file": (
+        "odd_statuses", "if not stat.S_ISREG(os.fstat(file).st_mode):", "if False:"),
+    "reads any size": ("odd_statuses", "if len(data) > most:", "if False:"),
+    "leaves names as they are": ("odd_names", "return escape(\"\".join(", "return (\"\".join("),
+    "leaves what is not printable": ("odd_names", "c if c.isprintable() else ascii(c)[1:-1]", "c"),
+    "ends at an odd status": (
+        "odd_statuses", "except (ValueError, KeyError, ArithmeticError):",
+        "except ZeroDivisionError:"),
+    "ends at a deep picture": (
+        "odd_pictures", "LookupError, RecursionError, ValueError", "LookupError"),
+    "writes its file in place": ("in_a_file", "part = f\"{path}.part\"", "part = path"),
+    "writes a file for all": ("in_a_file", "0o600)", "0o644)"),
+    "does not see a full disk": (
+        "in_a_file", "        print(f\"overview: {why}\", file=sys.stderr)\n"
+        "        return 3\n", "        pass\n"),
+    "tells one gap of several as none": ("all_of_them", "if run.gap]", "if run.gap > 9_999]"),
+    "draws beside the last recording": (
+        "all_of_them", "if each is drawn else", "if each is it.status.recordings[-1] else"),
+    "reads the answers": (
+        "status_alone", "        it.status = status_of(read(folder, \"now\"",
+        "        open(os.path.join(folder, 'answers.log')).close()\n"
+        "        it.status = status_of(read(folder, \"now\""),
+    "names codes in lines of another form": (
+        "foreign_lines", "self.given.codes or OF_NO_CODE", "True or OF_NO_CODE"),
+    "takes instants of any form": (
+        "foreign_lines",
+        "first=(\\d{4}-\\d\\d-\\d\\dT\\d\\d:\\d\\d:\\d\\d(?:\\.\\d{1,9})?)", "first=(\\S+)"),
+    "shows another recording's picture": (
+        "odd_pictures", ' or told_by(it.picture, b"title") != heading', ""),
+    "shows the first gaps": ("many_gaps", "sorted(gaps, key=lambda run: -run.gap)", "gaps"),
+    "shows gaps by their length": (
+        "many_gaps", "key=lambda run: run.first)", "key=lambda run: -run.gap)"),
+    "takes a last file ahead for a new one": (
+        "since_when", "abs(self.now - last.time)", "(self.now - last.time)"),
+    "takes a status ahead for a new one": (
+        "since_when", "abs(self.now - it.status.time)", "(self.now - it.status.time)"),
+    "tells of the stopped no silence": (
+        "since_when", "        if self.is_silent(it):\n            words +=",
+        "        if self.is_silent(it) and not words:\n"
+        "            words +="),
+    "asks for a script": (
+        "all_of_them", "f\"<h1>Recorders", "\"<script src='https://example.org/x.js'></script>\""
+        "\n            f\"<h1>Recorders"),
+}
