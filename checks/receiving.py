@@ -12,14 +12,15 @@ renames of OpenSSH's `sftp`. Two files of each recorder, of count -1, are writte
 and never renamed: one is kept open, and rests inside a data record for longer than RECEIVE_STILL,
 one is opened anew for each piece. `receive` and its `edfserve` are killed 50 times if KILLS is left
 out, and begun again as systemd does it. One store's disk is filled, and has room again. In the
-morning all is begun again, and the card comes. Then each upload is in taken/ or refused/, nothing
-was taken in part, and each export is that of the card.
+morning all is begun again, and the card comes. Then each upload is in taken/ or refused/ and has
+its line in answers.log, nothing was taken in part, and each export is that of the card.
 
 Before that, in folders of their own: what `status` tells, how often, to whom, and that each of its
 files is whole; a file that is put there without a rename waits, or is taken by --on-close; names
-that are no UTF-8 or too long; no `inotifywait`; two uploads under one name; the lines of the README
-that mend uploads; and 10,000 uploads while `inotifywait` is stopped, more than its queue has room
-for: each is answered once, without a restart.
+that are no UTF-8, too long, or as of options and patterns; links and pipes; no `inotifywait`; two
+uploads under one name; the lines of the README that mend uploads, and those for a morning on which
+something was left, came late, was refused or is damaged; and 10,000 uploads while `inotifywait` is
+stopped, more than its queue has room for: each is answered once, without a restart.
 
 --control runs other `receive`s, each of which must lose something or tell something else: one takes
 files whose names say that they are still written, one any that lie there, one moves a file before
@@ -39,8 +40,7 @@ from pathlib import Path
 from checks.lib import arguments, measure, model, night, received, runs
 from checks.lib.checks import Lost, end
 from checks.lib.disks import Disk
-from checks.lib.edf import keeping, tal
-from checks.lib.receivers import RECEIVE
+from checks.lib.receivers import RECEIVE, SpreadNight
 
 SFTP, SFTP_SERVER = shutil.which("sftp"), Path("/usr/lib/openssh/sftp-server")
 NAMES = ("part {:02}.edf", "Nacht Müller {:02}.edf", "status 1 {:02}.EDF", "部分-{:02}.edf")
@@ -68,6 +68,9 @@ CONTROLS = {
         ('  put_away "inbox/.taking/$1" "$place"\n',
          '  [[ $place == taken/* ]] || put_away "taken/$1" "$place"\n'),
         ("cd inbox/.taking ", "cd taken ")),
+    "puts a file away before its line is written": (
+        ('  echo "$last" >> answers.log\n  put_away "inbox/.taking/$1" "$place"\n',
+         '  put_away "inbox/.taking/$1" "$place"; sleep 0.1\n  echo "$last" >> answers.log\n'),),
     "takes a file's line for the end of its answer": (('"status "[0-3] ]]', '"status "* ]]'),),
     "forgets what came while it was down": (
         ("look_at_all\nbefore=", "before="), ("\nsweep\n", "\ndue=$((SECONDS + wait))\n"),
@@ -75,19 +78,6 @@ CONTROLS = {
     "gives the store all files as they came": (
         ('if [ "$by_onset" = yes ]; then', "if false; then"),),
 }
-
-
-class SpreadNight(night.Night):
-    """The n-th annotation of a file is in its n-th data record."""
-
-    def block(self, nth: int, first: int) -> bytes:
-        ends = ((part + 1) * self.records // self.fragments for part in range(self.fragments))
-        noted = range(first + -first % 7, next(end for end in ends if end > first), 7)
-        block = keeping(f"+{self.seconds * (nth - first)}")
-        if nth - first < len(noted):
-            onset = self.seconds * (noted[nth - first] - first)
-            block += tal(f"+{onset}.2500", "Spindle", duration="1.50")
-        return block.ljust(2 * self.annotation_samples, b"\0")
 
 
 def uncounted(data: bytes) -> bytes:
@@ -278,12 +268,16 @@ def look(site: Site, program: Path) -> int:
     """Compares what a site has with what was sent; how many uploads it looked at."""
     if site.lost:
         raise Lost(f"an upload failed: {site.lost}")
+    log = (site.folder / "answers.log").read_text()
+    answers = [line.partition(" ")[2] for line in log.split("\n")]
     for name, data in site.sent.items():
         found = [path for place in ("taken", "refused")
                  for path in (site.folder / place).glob(f"{name}*")
                  if not path.name.endswith(".txt") and path.read_bytes() == data]
         if not found:
             raise Lost(f"{name} is in neither taken/ nor refused/")
+        if not any(line.startswith((f"{name} accepted ", f"{name} refused ")) for line in answers):
+            raise Lost(f"{name} has no line in answers.log")
         is_cut = name.startswith("cut.edf")
         if (found[0].parent.name == "refused") != is_cut:
             raise Lost(f"{name} is in {found[0].parent.name}/")

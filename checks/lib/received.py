@@ -1,19 +1,17 @@
 """What `receive` of `examples/receiving` tells in its folder `status`; what it does with files that
 no rename brings, with odd names, with two uploads under one name, without `inotifywait`, and where
-the queue of that overflows; and the lines that mend uploads. A wrong script has the case that must
-find it beside it.
+the queue of that overflows. A wrong script has the case that must find it beside it.
 """
 import os
 import re
 import shutil
 import signal
 import sys
-import threading
 import time
 from datetime import timedelta
 from pathlib import Path
 
-from . import measure, model, night
+from . import measure, model, mornings, night
 from .checks import Lost, compare
 from .receivers import EVENING, MOST_REFUSED, README, RECEIVE, STILL, Receiver, is_so, parts
 
@@ -21,7 +19,9 @@ ONE, OTHER = "S-0118 F 02-MAY-1951 Jan_Jansen", "P-10 M X X"
 MANY = 10_000       # uploads while `inotifywait` is stopped; its queue has room for 16,384 events
 RESTING = 60        # seconds without an answer, after which no more are waited for
 SFTP, SFTP_SERVER = shutil.which("sftp"), Path("/usr/lib/openssh/sftp-server")
-MENDING = re.compile(r"^    (rules=.*?^    done; done)$", re.MULTILINE | re.DOTALL)
+ODD_NAMES = ("-rf", "-", "-n", "--", "*", "?[a]", "@", "a]b[", " in front", "behind ", "$(touch x)",
+             "`touch x`", "\\n", "a\\", "'", '"', "%s", "&", "\t.edf", "a  b", "status 0", "~",
+             "x refused E1 Cut", "x accepted new=9 known=9", "\u202e.edf", "\x1b[31m.edf")
 
 
 # An edfserve whose `picture` draws, is no command, or fails; where it draws it has no `export`.
@@ -246,6 +246,30 @@ def unnameable(told: Told) -> None:
         told.same("once it is renamed", it.log(), it.answers)
 
 
+def odd_names(told: Told) -> None:
+    """Names that a shell or an option would take for something else are names, in both ways of
+    taking a file; links and pipes are left alone, be they to a recording elsewhere."""
+    files = parts(ONE)
+    for by_onset in ("no", "yes"):
+        with told.receiver(f"r12 {by_onset}", by_onset=by_onset) as it:
+            told.same("told", it.tells(), it.wanted())
+            (it.folder / "elsewhere").write_bytes(files[3])
+            (it.inbox / "link.part").symlink_to(it.folder / "elsewhere")
+            os.mkfifo(it.inbox / "pipe.part")
+            for name in ("link", "pipe"):
+                os.rename(it.inbox / f"{name}.part", it.inbox / name)
+            for nth, name in enumerate(ODD_NAMES):
+                it.send(name, files[nth % 3] if nth % 2 else files[0][:-1 - nth])
+                told.same(f"{name!r} is answered", it.log(), it.answers)
+            for place, wanted in (("taken", ODD_NAMES[1::2]), ("refused", ODD_NAMES[::2])):
+                found = {path.name for path in (it.folder / place).iterdir()}
+                told.same(place, found - {f"{name}.txt" for name in wanted}, set(wanted))
+            told.same("told again", it.tells(waiting=2), it.wanted(waiting=2))
+            said = is_so(lambda: it.journal().count(": no file, or an odd name") == 2)
+            told.same("a link and a pipe", (said, sorted(os.listdir(it.inbox))),
+                      (True, [".taking", "link", "pipe"]))
+
+
 def without_inotifywait(told: Told) -> None:
     """Each file once nobody has changed it for a while, nor has it open."""
     tools = told.folder / "tools"
@@ -353,37 +377,10 @@ def by_sftp(it: Receiver, data: bytes) -> bool:
     return measure.ran(SFTP, "-q", "-b", "-", "-D", server, given=lines.encode()).status != 0
 
 
-def mending(told: Told) -> None:
-    """The lines of the README that mend uploads: what was cut is refused."""
-    files = [data.replace(b"Jan_Jansen", "Jän_Jansen".encode("latin-1")) for data in parts(ONE)]
-    uncounted = files[2][:236] + b"-1      " + files[2][244:]
-    lines = MENDING.search(told.readme)[1].replace("\n    ", "\n")
-    with told.receiver("r08") as it:
-        told.same("told", it.tells(), it.wanted())
-        script = it.folder / "mend_raw"
-        script.write_text(f"cd '{it.folder}'\n" + lines.replace("sleep 30", "sleep 0.3"))
-        (it.folder / "raw").mkdir()
-        path = f"{told.given.edfmend.parent}:{it.added['PATH']}"
-        loop = threading.Thread(target=measure.ran, args=("sh", script),
-                                kwargs={"added": {"PATH": path}, "most": 12}, daemon=True)
-        loop.start()
-        for name, data in (("whole.edf", files[0]), ("cut.edf", files[1][:-40]),
-                           ("uncounted.edf", uncounted[:-7]), ("good.edf", parts(OTHER)[0])):
-            (it.folder / "raw/new upload").write_bytes(data)
-            os.rename(it.folder / "raw/new upload", it.folder / "raw" / name)
-        loop.join()
-        told.same("what is answered", sorted(it.log()), ["good.edf accepted new=2 known=0",
-                                                         "whole.edf accepted new=2 known=0"])
-        for place, names in (("mended", ["good.edf", "whole.edf"]),
-                             ("refused", ["cut.edf", "uncounted.edf"])):
-            found = sorted(path.name for path in (it.folder / "raw" / place).glob("*.edf"))
-            told.same(f"raw/{place}", found, names)
-
-
 # The wrong scripts, by the case that must find them
 
-CASES = (status, seldom, whole, pictures, unwritten, unrenamed, unnameable, without_inotifywait,
-         one_name, mending, overflow)
+CASES = (status, seldom, whole, pictures, unwritten, unrenamed, unnameable, odd_names,
+         without_inotifywait, one_name, *mornings.CASES, overflow)
 # and what is another in them, or in the README
 CONTROLS = {
     "tells nothing": (status, ("    tell || :\n", "    :\n")),
@@ -409,6 +406,10 @@ CONTROLS = {
     "ends where it has no picture": (pictures, ("say_once /picture", "fail")),
     "ends where it can't tell": (
         unwritten, ("    say \"status/now could", "    fail \"status/now could")),
+    "reads names as a shell does": (odd_names, ("if IFS= read -r -t", "if read -t")),
+    "writes names as a shell does": (odd_names, ('echo "$answer" >>', "echo $answer >>")),
+    "follows links": (odd_names, (" && ! -L inbox/$1", "")),
+    "keeps one file of a name": (one_name, ("mv --backup=numbered -T", "mv -T")),
     "needs inotifywait": (without_inotifywait, (
         "watch=$(command -v inotifywait) || :", "watch=$(command -v inotifywait) || fail no")),
     "takes files that are open": (without_inotifywait, ("if is_open \"", "if ! true \"")),
@@ -419,7 +420,7 @@ CONTROLS = {
     "does not look at all once the queue overflowed": (overflow, ("      look_at_all ;;\n",
                                                                   "      ;;\n")),
     "asks for no overflow": (overflow, (",q_overflow", "")),
-    "mends the count": (mending, (" --as $rules", "")),
+    **mornings.CONTROLS,
 }
 
 
@@ -448,7 +449,7 @@ def control(given) -> int:
     missed = 0
     for name, (case, edit) in CONTROLS.items():
         script, readme = RECEIVE.read_text(), README.read_text()
-        if case is mending:
+        if case in mornings.CASES:
             readme = replaced(readme, name, *edit)
         else:
             script = replaced(script, name, *edit)

@@ -9,6 +9,7 @@ from datetime import datetime
 from pathlib import Path
 
 from . import arguments, measure, model, night, printed, runs
+from .edf import keeping, tal
 
 RECEIVE = arguments.TOP / "examples/receiving/receive"
 README = RECEIVE.with_name("README.md")
@@ -27,12 +28,25 @@ def is_so(condition, seconds: float = MOST_SECONDS) -> bool:
     return bool(condition())
 
 
-def parts(patient: str, count: int = 4, start: datetime = EVENING) -> list:
-    """The files of a short night, as bytes: two data records each."""
-    of = night.Night(records=2 * count, samples=(16,), fragments=count, start=start,
-                     patient=patient)
+class SpreadNight(night.Night):
+    """The n-th annotation of a file is in its n-th data record."""
+
+    def block(self, nth: int, first: int) -> bytes:
+        ends = ((part + 1) * self.records // self.fragments for part in range(self.fragments))
+        noted = range(first + -first % 7, next(end for end in ends if end > first), 7)
+        block = keeping(f"+{self.seconds * (nth - first)}")
+        if nth - first < len(noted):
+            onset = self.seconds * (noted[nth - first] - first)
+            block += tal(f"+{onset}.2500", "Spindle", duration="1.50")
+        return block.ljust(2 * self.annotation_samples, b"\0")
+
+
+def parts(patient: str, count: int = 4, start: datetime = EVENING, each: int = 2,
+          of=night.Night) -> list:
+    """The files of a short night, as bytes, with so many data records each."""
+    made = of(records=each * count, samples=(16,), fragments=count, start=start, patient=patient)
     with measure.scratch() as folder:
-        return [path.read_bytes() for path in of.parts(Path(folder))]
+        return [path.read_bytes() for path in made.parts(Path(folder))]
 
 
 class Receiver:

@@ -55,12 +55,11 @@ NIGHTS = {
                                             gaps=((20, SECOND), (21, 100 * SECOND + SECOND // 7))),
     "no gap": night(records=120, samples=(64, 32)),
 }
-READ = '        raws = [mne.io.read_raw_edf(file, verbose="error") for file in files]\n'
 CONTROLS = {
     "is MNE's own": (("def read_edfplus_d(path, missing: float = 0.0) -> mne.io.RawArray:\n",
                       "def read_edfplus_d(path, missing: float = 0.0) -> mne.io.RawArray:\n"
                       "    return mne.io.read_raw_edf(path, preload=True, verbose='error')\n"),),
-    "cuts the fraction of an instant": (("Fraction(rest or 0), ", "0, "),),
+    "cuts the fraction of an instant": (("Fraction(rest or 0),", "0,"),),
     "rounds down": ((" + Fraction(1, 2)) // 1", ") // 1"),),
     "joins the runs": (
         ("        ends = [", "        begins = [sum(each.n_times for each in raws[:n])"
