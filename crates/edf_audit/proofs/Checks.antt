@@ -1,23 +1,16 @@
 -- What one row of the table of recordings tells.
 use Rattle.std.proofs.Common.{◌≡◌, ◌≢◌, ℕ, ◌<◌, ◌≤◌, ℤ, List, [], ◌∷◌, length, Option, Some, None}
-use Rattle.std.proofs.Common.{Contains, Ok, Err, Result, OnOk, IfOk, refl, sym, ap, subst, ◌∙◌}
+use Rattle.std.proofs.Common.{Contains, Ok, Err, Result, IfOk, refl, sym, ap, subst, ◌∙◌}
 use Rattle.std.proofs.Common.{arith}
 use Rattle.std.proofs.lemmas.List.{length-map, get_or_past}
-use Rattle.std.specs.List.{AllByRecursion}
-use Rattle.sqlite.specs.declared.types.Value.{Value}
 use Rattle.sqlite.specs.declared.types.Value.TheVariants.{Null, Int, Blob}
 use Rattle.sqlite.specs.declared.error.Error.{Error}
 use Rattle.sqlite.specs.Order.{Row}
 use Rattle.sqlite.specs.Tree.{Trees}
-use Rattle.sqlite.specs.State.{State, IsUnchanged}
 use Rattle.sqlite_value.specs.Order.{column}
 use Rattle.edf_header.specs.Key.{Key, IsKey, key_bytes}
 use Rattle.edf_header.specs.Identity.{IsFirstKeyFault, IsCleanKey, identity_fault_order}
 use Rattle.edf_header.specs.declared.identity.IdentityFault.{IdentityFault}
-use Rattle.edf_header.specs.declared.identity.IdentityFault.TheVariants.{Length, Unprintable}
-use Rattle.edf_header.specs.declared.identity.IdentityFault.TheVariants.{Patient, Recording}
-use Rattle.edf_header.specs.declared.identity.IdentityFault.TheVariants.{Duration, Label, Physical}
-use Rattle.edf_header.specs.declared.identity.IdentityFault.TheVariants.{Digital, Samples, Size}
 use Rattle.edf_header.specs.declared.identity.IdentityFault.TheVariants.{Memory}
 use Rattle.edf_field.specs.Number.{duration_of}
 use Rattle.edf_header.proofs.Faults.{key-clean}
@@ -25,23 +18,10 @@ use Rattle.edf_holdings.proofs.Joining.{lasting}
 use Rattle.edf_rows.specs.Cells.{recording_cells, recordings_in, records_in}
 use Rattle.edf_rows.specs.Foreign.{bad_recording, bad_records}
 use Rattle.edf_rows.proofs.Rows.{mapped}
-use Rattle.edf_tables.proofs.Keeping.{same_left}
 use Rattle.edf_audit.specs.Inside.Records.{ChecksRecords}
-use Rattle.edf_audit.specs.Inside.Checked.{KeepsRows, ChecksRow}
-
-pub kept_if : {X E : Type 0} (r : Result X E) (a b : State) → OnOk r (IsUnchanged a b) →
-    OnOk r (KeepsRows a b)
-kept_if (Ok x) a b h = record {
-  now_is = h.0.now_is;
-  commit = same_left a b h;
-  mode = h.0.mode;
-  stays = λ _. h.0.is_open;
-}
-kept_if (Err e) a b h = tt
-
-all_any : (xs : List Row) → AllByRecursion (λ (x : Row). Unit {0}) xs
-all_any [] = tt
-all_any (x ∷ xs) = (tt, all_any xs)
+use Rattle.edf_audit.specs.Inside.Checked.{ChecksRow}
+use Rattle.edf_rows.proofs.RowCells.{blob-bytes}
+use Rattle.edf_audit.proofs.GivenRows.{all_any}
 
 pub is_two : (trees : Trees) (row : Row) → Contains (recordings_in trees) row →
     row ≡ column row 0 ∷ column row 1 ∷ []
@@ -60,21 +40,9 @@ pub no_blob : (cap : ℕ) (trees : Trees) (row : Row) →
 no_blob cap trees row none c =
     bad_recording row c (λ is. none (key_bytes is.key) (ap (λ (r : Row). column r 1) is.cells))
 
-blob-bytes : (a b : List ℕ) → ◌≡◌ {A = Value} (Blob a) (Blob b) → a ≡ b
-blob-bytes a b h = cc
-
 order-below : (fault : IdentityFault) → fault ≢ Memory → identity_fault_order fault < 11
-order-below Length other = omega arith
-order-below (Unprintable offset) other = omega arith
-order-below Patient other = omega arith
-order-below Recording other = omega arith
-order-below Duration other = omega arith
-order-below (Label signal) other = omega arith
-order-below (Physical signal) other = omega arith
-order-below (Digital signal) other = omega arith
-order-below (Samples signal) other = omega arith
-order-below Size other = omega arith
 order-below Memory other = absurd (other refl)
+order-below fault other = omega arith
 
 pub no_key : (cap : ℕ) (trees : Trees) (row : Row) (bytes : List ℕ) (fault : IdentityFault) →
     column row 1 ≡ Blob bytes → IsFirstKeyFault bytes fault → fault ≢ Memory →

@@ -2,13 +2,14 @@
 use Rattle.std.proofs.Common.{◌≡◌, ◌≢◌, ◌⊎◌, inl, inr, ℕ, ◌+◌, ◌*◌, ◌≤◌, ◌<◌, ℤ, pos, List, [], ◌∷◌}
 use Rattle.std.proofs.Common.{length, Contains, refl, sym, ap, subst, ◌∙◌, arith, slice_index}
 use Rattle.sqlite.specs.declared.types.Value.{Value}
-use Rattle.sqlite.specs.declared.types.Value.TheVariants.{Null, Int, Real, Text, Blob}
+use Rattle.sqlite.specs.declared.types.Value.TheVariants.{Int, Blob}
 use Rattle.sqlite.specs.Order.{Row}
 use Rattle.sqlite.specs.Tree.{Trees}
 use Rattle.sqlite_value.specs.Order.{column}
 use Rattle.edf_time.proofs.Decided.{Decided, like, both, either, at-most, same-bytes, some-below}
 use Rattle.edf_field.specs.Number.{field}
 use Rattle.edf_field.specs.Text.{IsPrintable}
+use Rattle.edf_field.proofs.Cited.{patient-no-fault}
 use Rattle.edf_header.specs.Key.{Key, IsKey, key_at, key_bytes}
 use Rattle.edf_header.specs.Signal.{samples_in_all}
 use Rattle.edf_header.specs.Identity.{HasLength, HasMark, KeyFails, IsCleanKey}
@@ -21,7 +22,7 @@ use Rattle.edf_header.specs.declared.identity.IdentityFault.{IdentityFault}
 use Rattle.edf_header.specs.declared.identity.IdentityFault.TheVariants as fault
 use Rattle.edf_header.proofs.Decided.{same, same-int, first-bad}
 use Rattle.edf_header.proofs.DecidedFields.{printable, spaces, follows-startdate}
-use Rattle.edf_header.proofs.DecidedTexts.{patient, duration}
+use Rattle.edf_header.proofs.DecidedTexts.{patient-or-fault, duration}
 use Rattle.edf_header.proofs.DecidedSignals.{checked}
 use Rattle.edf_header.proofs.Faults.{is-key, key-clean}
 use Rattle.edf_tal.specs.declared.place.Place.TheVariants.{Any}
@@ -35,7 +36,7 @@ use Rattle.edf_rows.specs.Foreign.{IsBadRow, bad_start, bad_samples, bad_block}
 use Rattle.edf_rows.specs.Rows.{IsRowOf}
 use Rattle.edf_rows.specs.Inside.Shape.{OwnBlock}
 use Rattle.edf_rows.proofs.RowCells.{other-block, refused-block, row-of, bad-len, bad-own}
-use Rattle.edf_rows.proofs.RowCells.{bad-starts}
+use Rattle.edf_rows.proofs.RowCells.{bad-starts, blob-bytes}
 use Rattle.edf_audit.proofs.Checks.{is_two}
 
 -- ---- keys
@@ -104,8 +105,9 @@ key_or_none b =
       | inr never ↦ inr (no_key_at b fault.Length (omega arith) never)
       | inl len ↦ elim (first-bad IsPrintable printable b) [
         | inr bad ↦ inr (no_key_at b (fault.Unprintable bad.0) (omega arith) bad.1)
-        | inl text ↦ elim (patient (field b 0 80)) [
-          | inr never ↦ inr (no_key_at b fault.Patient (omega arith) never)
+        | inl text ↦ elim (patient-or-fault (field b 0 80)) [
+          | inr why ↦ inr (no_key_at b fault.Patient (omega arith)
+              (λ is. patient-no-fault (field b 0 80) why.0 is why.1))
           | inl person ↦ elim (both (has_mark b) (follows-startdate (key_at b).after)) [
             | inr never ↦ inr (no_key_at b fault.Recording (omega arith) never)
             | inl recording ↦ elim (duration (field b 150 8)) [
@@ -126,21 +128,12 @@ key_or_none b =
 
 -- ---- values
 int_or : (v : Value) → ((n : ℤ) × (v ≡ Int n)) ⊎ ((n : ℤ) → v ≢ Int n)
-int_or Null = inr (λ n e. absurd (cc))
 int_or (Int m) = inl (m, refl)
-int_or (Real x) = inr (λ n e. absurd (cc))
-int_or (Text t) = inr (λ n e. absurd (cc))
-int_or (Blob b) = inr (λ n e. absurd (cc))
+int_or v = inr (λ n e. absurd (cc))
 
 blob_or : (v : Value) → ((b : List ℕ) × (v ≡ Blob b)) ⊎ ((b : List ℕ) → v ≢ Blob b)
-blob_or Null = inr (λ n e. absurd (cc))
-blob_or (Int m) = inr (λ n e. absurd (cc))
-blob_or (Real x) = inr (λ n e. absurd (cc))
-blob_or (Text t) = inr (λ n e. absurd (cc))
 blob_or (Blob b) = inl (b, refl)
-
-blob-bytes : (a b : List ℕ) → ◌≡◌ {A = Value} (Blob a) (Blob b) → a ≡ b
-blob-bytes a b h = cc
+blob_or v = inr (λ n e. absurd (cc))
 
 -- ---- a row of the table of recordings
 pub recording_or : (trees : Trees) (row : Row) → Contains (recordings_in trees) row →

@@ -12,7 +12,7 @@ use Rattle.std.proofs.lemmas.List.Elements.{All-from_recursion}
 use Rattle.std.proofs.lemmas.List.Sorted.{length_permutation, Contains-permutation}
 use Rattle.std.proofs.lemmas.List.Sorted.{IsPermutation-sym, IsPermutation-refl}
 use Rattle.sqlite.specs.declared.types.Value.{Value}
-use Rattle.sqlite.specs.declared.types.Value.TheVariants.{Null, Int, Real, Text, Blob}
+use Rattle.sqlite.specs.declared.types.Value.TheVariants.{Int, Blob}
 use Rattle.sqlite.specs.Order.{Row}
 use Rattle.sqlite.specs.Tree.{Trees}
 use Rattle.sqlite_value.specs.Order.{column, value_cmp}
@@ -216,31 +216,19 @@ module _ (cap : ℕ) (trees : Trees) where
 -- ---- no id and no identity twice
 abbrev has_int : ℤ → Value → Bool
 has_int m (Int n) = int_eq n m
-has_int m Null = false
-has_int m (Real x) = false
-has_int m (Text t) = false
-has_int m (Blob b) = false
+has_int m v = false
 
 abbrev has_bytes : List ℕ → Value → Bool
 has_bytes bytes (Blob b) = bytes_eq b bytes
-has_bytes bytes Null = false
-has_bytes bytes (Int n) = false
-has_bytes bytes (Real x) = false
-has_bytes bytes (Text t) = false
+has_bytes bytes v = false
 
 int_is : (m : ℤ) (v : Value) → has_int m v ≡ true → v ≡ Int m
 int_is m (Int n) h = ap Int ((Decides-int_eq n m).0 h)
-int_is m Null h = absurd (true≢false (sym h))
-int_is m (Real x) h = absurd (true≢false (sym h))
-int_is m (Text t) h = absurd (true≢false (sym h))
-int_is m (Blob b) h = absurd (true≢false (sym h))
+int_is m v h = absurd (true≢false (sym h))
 
 bytes_are : (bytes : List ℕ) (v : Value) → has_bytes bytes v ≡ true → v ≡ Blob bytes
 bytes_are bytes (Blob b) h = ap Blob ((bytes_eq-Decides b bytes).0 h)
-bytes_are bytes Null h = absurd (true≢false (sym h))
-bytes_are bytes (Int n) h = absurd (true≢false (sym h))
-bytes_are bytes (Real x) h = absurd (true≢false (sym h))
-bytes_are bytes (Text t) h = absurd (true≢false (sym h))
+bytes_are bytes v h = absurd (true≢false (sym h))
 
 abbrev IsPair : (Row → Bool) → List Row → Type 0
 IsPair p rows = (a : Row) × (b : Row) × AreTwoOf rows a b × (p a ≡ true) × (p b ≡ true)

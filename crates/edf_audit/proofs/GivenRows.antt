@@ -1,9 +1,8 @@
 -- Rows that were given one at a time, against a recording's rows by rising starts.
-use Rattle.std.proofs.Common.{◌≡◌, ℕ, zero, suc, ◌+◌, ◌<◌, ◌≤◌, ℤ, pos, Bool, true, false, List, []}
-use Rattle.std.proofs.Common.{◌∷◌, ◌++◌, map, filter, length, Option, Some, None, Contains, refl}
+use Rattle.std.proofs.Common.{◌≡◌, ℕ, zero, suc, ◌+◌, ◌<◌, ℤ, pos, Bool, true, false, List, []}
+use Rattle.std.proofs.Common.{◌∷◌, ◌++◌, map, filter, Option, Some, None, Contains, refl}
 use Rattle.std.proofs.Common.{sym, ap, subst, ◌∙◌, arith, ap₂, int_cmp, Ordering, Less, Equal}
 use Rattle.std.proofs.Common.{Greater, is_lt, is_gt, true≢false, IsPermutation, IsSorted}
-use Rattle.std.proofs.Common.{append_assoc}
 use Rattle.std.specs.List.{AllByRecursion}
 use Rattle.std.specs.Cmp.{IsTotalOrder}
 use Rattle.std.specs.Ordering.{ordering_reverse}
@@ -207,7 +206,7 @@ by_start trees id = subst (IsAscending (λ a b. is_gt (by_column 0 a b) ≡ fals
     (sort_by-map (by_column 0) shown (kept trees id))
     (rising_sort (by_column 0) (column_total 0) (map shown (kept trees id)))
 
-all_any : (xs : List Row) → AllByRecursion (λ (x : Row). Unit {0}) xs
+pub all_any : (xs : List Row) → AllByRecursion (λ (x : Row). Unit {0}) xs
 all_any [] = tt
 all_any (x ∷ xs) = (tt, all_any xs)
 

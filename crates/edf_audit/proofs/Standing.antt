@@ -21,15 +21,13 @@ use Rattle.sqlite_trees.specs.declared.store.Store.{Ghosts}
 use Rattle.sqlite.specs.Held.{Held, state}
 use Rattle.sqlite.specs.Given.{HasGiven, Advances}
 use Rattle.sqlite.specs.State.{State, IsUnchanged}
-use Rattle.sqlite.specs.Listing.{understood}
-use Rattle.sqlite.proofs.Callers.{IsPlain}
 use Rattle.edf_field.specs.Number.{duration_of}
 use Rattle.edf_header.specs.Key.{Key}
 use Rattle.edf_fragment.specs.Fragment.{DataRecord}
 use Rattle.edf_fragment.specs.Sound.{AreSound, MayBegin}
 use Rattle.edf_tables.specs.Schema.{HasBoth}
 use Rattle.edf_tables.proofs.QueryTexts.{rows_text, rows_is}
-use Rattle.edf_tables.proofs.Shown.{plain_at, answer_of, answer_begun}
+use Rattle.edf_tables.proofs.Shown.{answer_of, answer_begun}
 use Rattle.edf_rows.specs.Cells.{record_cells, records_in}
 use Rattle.edf_rows.specs.Foreign.{AreBadRecords, bad_row, too_near, too_few, too_many}
 use Rattle.edf_audit.specs.Inside.Records.{IsNextRow, IsWrong, MayComeNext, HasSound, IsRowRefused}
@@ -48,16 +46,10 @@ pub record Stands {S : Type 0} (g : Ghosts S) (recording : ℤ) (k : Key) (last 
   pub last_is : last ≡ last_start records
   pub size : length records ≡ count
 
-some_is : (m n : ℕ) → ◌≡◌ {A = Option ℕ} (Some m) (Some n) → m ≡ n
-some_is m n h = cc
-
 module _ {S : Type 0} (g : Ghosts S) (recording : ℤ) (k : Key) (long : 0 < duration_of k.duration)
     (old : State) (has : HasBoth old.now.schema) where
   abbrev pub rows_there : List Row
   rows_there = records_in old.now.trees recording
-
-  pub plain_here : IsPlain (understood old.now.schema rows_text)
-  plain_here = plain_at rows_text _ _ rows_is old has
 
   -- the rows that were given and some more are the recording's, in order
   pub begun : (h : Held S) (rows : List Row) → IsUnchanged old (state g h) →

@@ -6,6 +6,7 @@ ghost use Rattle.edf_command.specs.Run.{IsConverted};
 ghost use Rattle.edf_command.specs.Taking.{HasOpened};
 
 use crate::exporting::export_recording;
+use crate::refusal::remark_of;
 use crate::taking::refused_file_line;
 use edf_fragment::Output;
 use edf_intake::submit;
@@ -36,7 +37,9 @@ pub(crate) fn convert<S: Alter, I: Inputs, O: Output, F: Output>(
         Ok(receipt) => export_recording(alloc, store, &receipt.identity, out, err),
         Err(refusal) => {
             let status = status_of_number(refusal.number());
-            tell(err, refused_file_line(alloc, file, &refusal), status)
+            let told = tell(err, refused_file_line(alloc, file, &refusal), status);
+            err.remark(file, remark_of(&refusal));
+            told
         }
     }
 }

@@ -2,8 +2,8 @@
 //!
 //! - [`read_command`]: the words after the program's name, as a command; help and usage are
 //!   written.
-//! - [`store_path`], [`refuse_store`], [`tell_store_not_closed`]: the store that a command names, and
-//!   the line where it can't be opened, or closed.
+//! - [`store_path`], [`refuse_store`], [`tell_store_not_closed`]: the store that a command names,
+//!   and the line where it can't be opened, or closed.
 //! - [`run`]: one command over its store and over what opens files ([`Inputs`]).
 //! - [`list`], [`export_place`]: the work of two commands, for a caller that has a store open;
 //!   [`refused_file_line`], [`tell_no_recording`]: the line of a file that is not taken, and of a

@@ -4,6 +4,7 @@ ghost use Rattle.std.specs.Prelude.{◌≡◌, ℕ, ◌++◌, List, IfOk, codes}
 ghost use Rattle.edf_command.specs.Refusals.{details, refusal_text};
 ghost use Rattle.edf_program.specs.Text.{IsSpelling};
 
+use edf_fragment::Remark;
 use edf_intake::Refusal;
 use edf_program::{fragment_details, joined, spelled};
 use edf_time::Instant;
@@ -47,6 +48,14 @@ fn refusal_details(alloc: Global, refusal: &Refusal) -> Result<Vec<u8>, AllocErr
             Ok(format!(in alloc; " held={held} new={new} cap={cap}")?.into_bytes())
         }
         _ => Ok(Vec::new(alloc)),
+    }
+}
+
+/// What the line of a refusal tells.
+pub(crate) fn remark_of(refusal: &Refusal) -> Remark {
+    match refusal {
+        Refusal::Form(fault) => Remark::Fault(*fault),
+        _ => Remark::Refused(refusal.number()),
     }
 }
 

@@ -5,10 +5,10 @@ ghost use Rattle.std.specs.Prelude.{string_bytes};
 ghost use Rattle.edf_command.specs.Lines.{accepted_line, refused_file_line, take_line};
 ghost use Rattle.edf_command.specs.Lines.{first_take_lines, answer_status, take_status};
 ghost use Rattle.edf_command.specs.Taking.{IsTaken, HasOpened, OpensFront};
-ghost use Rattle.edf_program.specs.Output.{growth, AreLinesPut};
+ghost use Rattle.edf_program.specs.Output.{growth, IsLinePut, AreLinesPut};
 ghost use Rattle.edf_program.specs.Text.{IsSpelling};
 
-use crate::refusal::refusal_text;
+use crate::refusal::{refusal_text, remark_of};
 use edf_fragment::Output;
 use edf_intake::{Receipt, Refusal, submit_all};
 use edf_program::{Inputs, Status, joined, put_line, status_of_number, tell_memory, worse};
@@ -79,6 +79,29 @@ fn take_line(
     }
 }
 
+/// Writes what became of a file, and tells a person more of a refusal. Whether the line was written
+/// whole.
+fn put_answer<O: Output>(
+    alloc: Global,
+    out: &mut O,
+    name: &str,
+    answer: &Result<Receipt, Refusal>,
+) -> bool
+    ensures { (spell : ℕ → List ℕ) → IsSpelling spell →
+        IsLinePut (growth O.Output out.old out.new) (take_line spell name.now answer.now) result }
+{
+    if !put_line(out, take_line(alloc, name, answer)) {
+        return false;
+    }
+    match answer {
+        Ok(_) => true,
+        Err(refusal) => {
+            out.remark(name, remark_of(refusal));
+            true
+        }
+    }
+}
+
 /// One line for each file, in their order. After one that is not written whole none is written.
 fn put_answers<O: Output>(
     alloc: Global,
@@ -92,7 +115,7 @@ fn put_answers<O: Output>(
         (length answers.now) result }
 {
     for (file, answer) in files.iter().zip(answers) {
-        if !put_line(out, take_line(alloc, file.as_str(), answer)) {
+        if !put_answer(alloc, out, file.as_str(), answer) {
             return false;
         }
     }

@@ -1,5 +1,5 @@
 -- What the answer says of a file that is written, and of one that is not.
-use Rattle.std.proofs.Common.{◌≡◌, ◌∙◌, ℕ, List, Option, None, Ok, Err, Result, subst}
+use Rattle.std.proofs.Common.{◌≡◌, ◌∙◌, ℕ, List, Option, Ok, Err, Result, subst}
 use Rattle.std.specs.Prelude.{⊤}
 use Rattle.sqlite_trees.specs.declared.store.Store.{Ghosts}
 use Rattle.sqlite.specs.State.{State, HasCleanDisk}
@@ -9,7 +9,7 @@ use Rattle.edf_store.specs.Walk.{WalksOn}
 use Rattle.edf_store.specs.declared.cursor.Cursor.{Cursor}
 use Rattle.edf_store.specs.declared.records.Records.{Records}
 use Rattle.edf_store.specs.declared.fault.StoreFault.{StoreFault}
-use Rattle.edf_store.specs.declared.fault.StoreFault.TheVariants.{Store as StoreRefused, Failed}
+use Rattle.edf_store.specs.declared.fault.StoreFault.TheVariants.{Failed}
 use Rattle.edf_store.proofs.Readiness.{stays_then}
 use Rattle.edf_export.specs.Export.{AnswersTruly}
 use Rattle.edf_export.specs.Inside.Calls.{LeavesWalk, CountsWriting, CountsWritingFault}
@@ -32,11 +32,9 @@ leaves_on g Left a b c result same stays step left = record {
 -- the same where it is busy for another reason
 pub counts_weaker : (Busy More : Type 0) (old new : ℕ) (fault : ExportFault) → (Busy → More) →
     CountsWritingFault Busy old new fault → CountsWritingFault More old new fault
-counts_weaker Busy More old new NoRecording more counts = counts
 counts_weaker Busy More old new (Refused fault) more counts =
     (counts.0, refusal_why Busy ⊤ ⊥ More fault counts.1 more (λ no. no))
-counts_weaker Busy More old new Memory more counts = counts
-counts_weaker Busy More old new Write more counts = counts
+counts_weaker Busy More old new fault more counts = counts
 
 -- ---- what an export tells on any disk
 
@@ -88,9 +86,3 @@ module _ (before after : Option (List ℕ)) (old new : ℕ) (Busy : Type 0) wher
     unfailed = λ same. let e : ◌≡◌ {A = Result ℕ ExportFault} (Err Write)
         (Err (Refused Failed)) = same in cc;
   }
-
--- where the answer is that it was busy, it was
-pub busy_before : (Busy : Type 0) (old new : ℕ) (result : Result ℕ ExportFault) →
-    CountsWriting Busy old new result → result ≡ Err (Refused (StoreRefused None)) → Busy
-busy_before Busy old new result counts is =
-    (subst (λ (r : Result ℕ ExportFault). CountsWriting Busy old new r) is counts).1

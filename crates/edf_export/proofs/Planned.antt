@@ -1,14 +1,11 @@
 -- What is written as planned is the recording's canonical file.
-use Rattle.std.proofs.Common.{◌≡◌, ℕ, ◌+◌, ◌*◌, List, [], ◌∷◌, ◌++◌, length, ap, ◌∙◌, subst, All}
+use Rattle.std.proofs.Common.{◌≡◌, ℕ, ◌+◌, ◌*◌, List, [], ◌∷◌, ◌++◌, length, ap, ◌∙◌, subst}
 use Rattle.std.specs.Prelude.{Option, None, Some}
 use Rattle.std.specs.Io.KnownBytes.{Appends}
-use Rattle.std.proofs.lemmas.List.Elements.{All-cons, All-nil}
-use Rattle.edf_field.specs.Number.{duration_of}
 use Rattle.edf_header.specs.Key.{Key}
 use Rattle.edf_header.specs.Signal.{samples_in_all}
 use Rattle.edf_header.specs.Canonical.{IsCanonicalHeader}
 use Rattle.edf_fragment.specs.Fragment.{DataRecord}
-use Rattle.edf_fragment.specs.Sound.{AreSound}
 use Rattle.edf_canonical.specs.File.{second_of, IsCanonicalFile}
 use Rattle.edf_export.specs.Export.{IsExported, StaysInFile, IsNotExported}
 use Rattle.edf_canonical.specs.Output.{WritesFront}
@@ -19,17 +16,11 @@ use Rattle.edf_export.specs.declared.fault.ExportFault.TheVariants.{NoRecording,
 use Rattle.edf_export.specs.declared.fault.ExportFault.TheVariants.{Write}
 use Rattle.edf_canonical.proofs.Files.{canonical, one-file}
 use Rattle.edf_canonical.proofs.Written.{laid-out, file-length}
+use Rattle.edf_fragment.proofs.Sound.{sound_sizes}
 
 -- the file of a plan, its header given
 abbrev pub planned_text : List ℕ → Plan → List DataRecord → List ℕ
 planned_text header plan records = header ++ planned_records plan records
-
-sound_sizes : (k : Key) (low : ℕ) (rs : List DataRecord) → AreSound k low rs →
-    All (λ r. length r.samples ≡ 2 * samples_in_all k.signals) rs
-sound_sizes k low [] are = All-nil (λ r. length r.samples ≡ 2 * samples_in_all k.signals)
-sound_sizes k low (r ∷ rs) (e, lower, more) =
-    All-cons (λ x. length x.samples ≡ 2 * samples_in_all k.signals) r rs e.samples_len
-    (sound_sizes k (r.start + duration_of k.duration) rs more)
 
 pub planned_file : (k : Key) (records : List DataRecord) (plan : Plan) (header : List ℕ) →
     IsPlanOf k records plan

@@ -1,15 +1,15 @@
 -- The texts of the records that a walk gives, put out one after another.
 use Rattle.std.proofs.Common.{◌≡◌, ℕ, ◌+◌, ◌*◌, ◌≤◌, ◌<◌, List, ◌++◌, length, take, drop, get_or}
-use Rattle.std.proofs.Common.{sym, ap, ◌∙◌, subst, take-append-drop, Some, Err}
+use Rattle.std.proofs.Common.{sym, ap, ◌∙◌, subst, take-append-drop, Some}
 use Rattle.std.specs.List.{flat_map, slice_get}
 use Rattle.std.proofs.lemmas.Grind.{flat_map-append}
 use Rattle.std.proofs.lemmas.Option.{slice_get_within, get_or_from_slice_get}
 use Rattle.std.proofs.lemmas.List.Elements.{All-get_or}
 use Rattle.edf_fragment.specs.Fragment.{DataRecord}
 use Rattle.edf_canonical.specs.File.{second_of, block_of, record_text, BlocksFit}
-use Rattle.edf_canonical.specs.Output.{Buffered, Writes, CountsOutputFault, IsPutThrough}
+use Rattle.edf_canonical.specs.Output.{Buffered, Writes, CountsOutputFault}
 use Rattle.edf_export.specs.Inside.Calls.{CountsWritingFault}
-use Rattle.edf_export.specs.Inside.Walks.{export_fault_of, IsWritingFault, IsPutOut}
+use Rattle.edf_export.specs.Inside.Walks.{export_fault_of, IsWritingFault}
 use Rattle.edf_export.specs.Inside.Walks.{planned_records}
 use Rattle.edf_export.specs.declared.plan.Plan.{Plan}
 use Rattle.edf_canonical.specs.declared.fault.OutputFault.{OutputFault}
@@ -26,12 +26,6 @@ fault_counts : (Busy : Type 0) (old new : ℕ) (fault : OutputFault) →
     CountsOutputFault old new fault → CountsWritingFault Busy old new (export_fault_of fault)
 fault_counts Busy old new Write counts = counts
 fault_counts Busy old new Memory counts = counts
-
--- what was put is put out
-pub put_out : (a b : Buffered) (bytes : List ℕ) (fault : OutputFault) (told : ExportFault) →
-    told ≡ export_fault_of fault → IsPutThrough a b bytes (Err fault) →
-    IsPutOut a b bytes (Err told)
-put_out a b bytes fault told is p = (p.0, subst IsWritingFault (sym is) (fault_of_writing fault))
 
 pub counts_out : (Busy : Type 0) (old new : ℕ) (fault : OutputFault) (told : ExportFault) →
     told ≡ export_fault_of fault → CountsOutputFault old new fault

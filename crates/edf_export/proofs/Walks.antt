@@ -1,17 +1,16 @@
 -- A walk over the records of a recording: what holds the blocks so far, and what a refusal is.
-use Rattle.std.proofs.Common.{inl, false, ◌≡◌, ℕ, ℤ, ◌+◌, ◌*◌, ◌≤◌, ◌<◌, max, List}
-use Rattle.std.proofs.Common.{[], ◌∷◌, length, take, refl, sym, ◌∙◌, ap, subst, arith, Option, Some}
+use Rattle.std.proofs.Common.{false, ◌≡◌, ℕ, ℤ, ◌+◌, ◌*◌, ◌≤◌, ◌<◌, max, List}
+use Rattle.std.proofs.Common.{[], ◌∷◌, length, take, sym, ◌∙◌, ap, subst, arith, Option, Some}
 use Rattle.std.proofs.Common.{None, All, Bool, true}
 use Rattle.std.specs.Prelude.{⊤}
 use Rattle.std.specs.List.{slice_get}
 use Rattle.std.proofs.lemmas.Option.{slice_get_within, get_or_from_slice_get}
 use Rattle.std.proofs.lemmas.List.Elements.{All-nil, All-weaker}
 use Rattle.edf_fragment.specs.Fragment.{DataRecord}
-use Rattle.edf_store.specs.Fault.{MayRefuse, IsStoreRefusal}
+use Rattle.edf_store.specs.Fault.{MayRefuse}
 use Rattle.sqlite_trees.specs.declared.store.Store.{Ghosts}
 use Rattle.sqlite.specs.State.{State, HasCleanDisk}
 use Rattle.edf_store.specs.Held.{StoreModel, at, Stays}
-use Rattle.edf_store.proofs.Held.{others_committed_same}
 use Rattle.edf_store.specs.Overview.{start_at}
 use Rattle.edf_store.specs.declared.fault.StoreFault.{StoreFault}
 use Rattle.edf_store.specs.declared.fault.StoreFault.TheVariants.{Memory, Store, Foreign, Failed}
@@ -29,16 +28,9 @@ use Rattle.edf_export.specs.declared.fault.ExportFault.{ExportFault}
 use Rattle.edf_export.specs.declared.fault.ExportFault.TheVariants.{NoRecording, Store as Refused}
 use Rattle.edf_export.specs.declared.fault.ExportFault.TheVariants.{Memory as NoRoom, Write}
 use Rattle.edf_export.proofs.Longest.{holds-more, least-more}
+pub use Rattle.edf_store.proofs.Begun.{stays_same}
 
 -- ---- refusals
-
--- neither foreign rows nor an earlier fault
-pub store_refusal : (IfBusy IfForeign IfFailed : Type 0) (fault : StoreFault) →
-    MayRefuse IfBusy IfForeign IfFailed fault → ¬ IfForeign → ¬ IfFailed → IsStoreRefusal fault
-store_refusal IfBusy IfForeign IfFailed Memory why ours unfailed = tt
-store_refusal IfBusy IfForeign IfFailed (Store cause) why ours unfailed = tt
-store_refusal IfBusy IfForeign IfFailed Foreign why ours unfailed = ours why
-store_refusal IfBusy IfForeign IfFailed Failed why ours unfailed = unfailed why
 
 -- no earlier fault, and busy for another reason
 pub refusal_why : (IfBusy IfForeign IfFailed Busy : Type 0) (fault : StoreFault) →
@@ -130,22 +122,6 @@ sound_recording cap s recording cursor h k n it =
     }
 
 -- ---- the store
-
--- nothing was done
-pub stays_same : {S : Type 0} (g : Ghosts S) (s : StoreModel S) → Stays g s s
-stays_same g s = record {
-  cap = refl;
-  holdings = λ h held. held;
-  others = others_committed_same (at g s);
-  crash = record {
-    clean = omega arith;
-    shield = λ x. x;
-    counts = omega arith;
-    limit = refl;
-    closes = λ clean is_open. inl is_open;
-    crash = λ clean db may. inl may;
-  };
-}
 
 -- what was clean
 pub clean_before : {S : Type 0} (g : Ghosts S) (old new : StoreModel S) → Stays g old new →

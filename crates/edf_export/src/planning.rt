@@ -1,6 +1,6 @@
 //! What is known of a file before its first byte is written.
 
-ghost use Rattle.std.specs.Prelude.{◌≡◌, ◌≤◌, ◌<◌, None, Err, ℕ, false, length, IfOk, OnOk, IfErr};
+ghost use Rattle.std.specs.Prelude.{◌≡◌, ◌≤◌, ◌<◌, None, Err, false, length, IfOk, OnOk, IfErr};
 ghost use Rattle.std.specs.Prelude.{IfSome, MatchResult, ⊤};
 ghost use Rattle.sqlite.specs.State.{HasCleanDisk};
 ghost use Rattle.edf_header.specs.Key.{Key, MayStart};

@@ -3,6 +3,7 @@ pub mod Grammar
 pub mod Durations
 pub mod Recordings
 pub mod Subfields
+pub mod Faults
 pub mod WrittenNumbers
 pub mod Decimals
 pub mod DecimalDigits

@@ -1,3 +1,4 @@
 pub mod Number
 pub mod Text
+pub mod Fault
 pub mod Grammar

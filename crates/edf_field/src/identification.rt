@@ -1,13 +1,15 @@
 //! The patient and the recording identification, and their subfields: the parts between runs of
 //! spaces.
 
-ghost use Rattle.std.specs.Prelude.{◌≡◌, ◌∷◌, ◌==◌, [], not, MatchOption, ◌↔◌, IsTrue, ◌≤◌, List};
-ghost use Rattle.std.specs.Prelude.{ℕ, ℤ, Option, length};
+ghost use Rattle.std.specs.Prelude.{◌≡◌, ◌∷◌, ◌==◌, [], not, MatchOption, ◌↔◌, IsTrue, ◌≤◌, length};
+ghost use Rattle.std.specs.Prelude.{MatchResult};
 ghost use Rattle.std.specs.List.{prefix_len};
 ghost use Rattle.edf_field.specs.Number.{front_len};
 ghost use Rattle.edf_field.specs.Text.{subfields, IsPatient, IsSex, IsBirthdate, IsStartdate};
 ghost use Rattle.edf_field.specs.Text.{IsRecording, FollowsStartdate};
+ghost use Rattle.edf_field.specs.Fault.{IsPatientFault, IsRecordingFault, IsStartdateFault};
 
+use crate::fault::{PatientFault, RecordingFault};
 use edf_time::{Day, id_date};
 
 /// How many spaces are at the front.
@@ -65,24 +67,40 @@ fn is_birthdate(text: &[u8]) -> bool
     text == b"X".as_slice() || id_date(text).is_some()
 }
 
-/// Whether a text is a patient identification: code, sex `F`, `M` or `X`, birthdate `dd-MMM-yyyy`
-/// or `X`, and name, and maybe more subfields.
+/// Why a text is no patient identification, or `None` where it is one: code, sex `F`, `M` or `X`,
+/// birthdate `dd-MMM-yyyy` or `X`, and name, and maybe more subfields.
 ///
 /// In a header it has 80 bytes, 8 to 87, filled with spaces (EDF, header record; EDF+, additional
 /// specifications).
+pub fn patient_fault(text: &[u8]) -> Option<PatientFault>
+    ensures { MatchOption result (IsPatient text.now) (IsPatientFault text.now) }
+{
+    let Some((_, rest)) = next_subfield(text) else {
+        return Some(PatientFault::Few);
+    };
+    let Some((sex, rest)) = next_subfield(rest) else {
+        return Some(PatientFault::Few);
+    };
+    if !is_sex(sex) {
+        return Some(PatientFault::NoSex);
+    }
+    let Some((birthdate, name)) = next_subfield(rest) else {
+        return Some(PatientFault::Few);
+    };
+    if !is_birthdate(birthdate) {
+        return Some(PatientFault::NoBirthdate);
+    }
+    match next_subfield(name) {
+        Some(_) => None,
+        None => Some(PatientFault::Few),
+    }
+}
+
+/// Whether a text is a patient identification.
 pub fn is_patient(text: &[u8]) -> bool
     ensures { IsTrue result ↔ IsPatient text.now }
 {
-    let Some((_, rest)) = next_subfield(text) else {
-        return false;
-    };
-    let Some((sex, rest)) = next_subfield(rest) else {
-        return false;
-    };
-    let Some((birthdate, name)) = next_subfield(rest) else {
-        return false;
-    };
-    next_subfield(name).is_some() && is_sex(sex) && is_birthdate(birthdate)
+    patient_fault(text).is_none()
 }
 
 /// Whether a text has three subfields or more.
@@ -113,41 +131,44 @@ pub fn follows_startdate(after: &[u8]) -> bool
 
 /// The Startdate subfield after `Startdate` and a space: its day, or none where it is `X`; and what
 /// follows it.
-fn read_startdate(text: &[u8]) -> Option<(Option<Day>, &[u8])>
+fn read_startdate(text: &[u8]) -> Result<(Option<Day>, &[u8]), RecordingFault>
     requires { length text.now ≡ 80 }
-    ensures { MatchOption result
-        ((startdate : Option ℤ) (after : List ℕ) → ¬ IsStartdate text.now startdate after)
-        (λ found. IsStartdate text.now found.0 found.1.now) }
+    ensures { MatchResult result
+        (λ found. IsStartdate text.now found.0 found.1.now) (IsStartdateFault text.now) }
 {
     if &text[..10] != b"Startdate ".as_slice() {
-        return None;
+        return Err(RecordingFault::NoStartdate);
     }
     if text[10] == b'X' {
-        return Some((None, &text[11..]));
+        return Ok((None, &text[11..]));
     }
     let Some(day) = id_date(&text[10..21]) else {
-        return None;
+        return Err(RecordingFault::NoDate);
     };
-    Some((Some(day), &text[21..]))
+    Ok((Some(day), &text[21..]))
 }
 
 /// Reads a recording field, 80 bytes, 88 to 167 of a header: the day of its Startdate subfield, or
 /// none where that is `X`; and what follows it, 59 or 69 bytes (EDF, header record; EDF+,
 /// additional specifications).
 ///
-/// `None` where the field does not begin with `Startdate` and one space, where neither a date
-/// `dd-MMM-yyyy` nor `X` follows, or where the rest is none by `follows_startdate`.
-pub fn read_recording(text: &[u8]) -> Option<(Option<Day>, &[u8])>
+/// # Errors
+/// `NoStartdate` where the field does not begin with `Startdate` and one space, `NoDate` where
+/// neither a date `dd-MMM-yyyy` nor `X` follows, `Few` where the rest is none by
+/// `follows_startdate`.
+pub fn read_recording(text: &[u8]) -> Result<(Option<Day>, &[u8]), RecordingFault>
     requires { length text.now ≡ 80 }
-    ensures { MatchOption result
-        ((startdate : Option ℤ) (after : List ℕ) → ¬ IsRecording text.now startdate after)
-        (λ found. IsRecording text.now found.0 found.1.now) }
+    ensures { MatchResult result
+        (λ found. IsRecording text.now found.0 found.1.now) (IsRecordingFault text.now) }
 {
-    let Some((startdate, after)) = read_startdate(text) else {
-        return None;
-    };
-    if !follows_startdate(after) {
-        return None;
+    match read_startdate(text) {
+        Ok((startdate, after)) => {
+            if follows_startdate(after) {
+                Ok((startdate, after))
+            } else {
+                Err(RecordingFault::Few)
+            }
+        }
+        Err(why) => Err(why),
     }
-    Some((startdate, after))
 }

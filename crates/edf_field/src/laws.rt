@@ -1,8 +1,12 @@
 //! Laws of the texts of fields: each function has a law for a contract, and does nothing.
-ghost use Rattle.std.specs.Prelude.{◌≡◌, ℕ, Bool, List, [], ◌∷◌, Option, ◌≤◌, ◌<◌, ◌⊎◌, length};
+ghost use Rattle.std.specs.Prelude.{◌≡◌, ℕ, Bool, List, [], ◌∷◌, Option, ◌≤◌, ◌<◌, ◌⊎◌, length, ℤ};
 ghost use Rattle.std.specs.Option.{unwrap_or};
 ghost use Rattle.edf_field.specs.Number.{IsDuration, MayLast, duration_of};
 ghost use Rattle.edf_field.specs.Grammar.{AreDigits, IsSpelledAs, spelled};
+ghost use Rattle.edf_field.specs.Text.{IsPatient, IsRecording};
+ghost use Rattle.edf_field.specs.Fault.{IsPatientFault, IsRecordingFault};
+ghost use Rattle.edf_field.specs.declared.fault.PatientFault.{PatientFault};
+ghost use Rattle.edf_field.specs.declared.fault.RecordingFault.{RecordingFault};
 
 use crate::number::MOST_DURATION;
 
@@ -26,4 +30,21 @@ pub fn duration_value()
         nanos ≡ duration_of field }
     ensures bound { (field : List ℕ) (nanos : ℕ) → length field ≤ 8 → IsDuration field nanos →
         nanos ≤ MOST_DURATION }
+{}
+
+/// A patient identification has no fault, and any other text has one at most.
+pub fn one_patient_fault()
+    ensures none { (text : List ℕ) (fault : PatientFault) → IsPatient text →
+        ¬ IsPatientFault text fault }
+    ensures one { (text : List ℕ) (fault other : PatientFault) → IsPatientFault text fault →
+        IsPatientFault text other → fault ≡ other }
+{}
+
+/// A recording identification has no fault, and any other text has one at most.
+pub fn one_recording_fault()
+    ensures none { (text : List ℕ) (startdate : Option ℤ) (after : List ℕ)
+        (fault : RecordingFault) → IsRecording text startdate after →
+        ¬ IsRecordingFault text fault }
+    ensures one { (text : List ℕ) (fault other : RecordingFault) → IsRecordingFault text fault →
+        IsRecordingFault text other → fault ≡ other }
 {}

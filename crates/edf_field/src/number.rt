@@ -60,7 +60,7 @@ pub(crate) fn without_sign(text: &[u8]) -> &[u8]
 }
 
 /// The digits at the front, and what follows them.
-pub(crate) fn split_digits(text: &[u8]) -> (&[u8], &[u8])
+pub fn split_digits(text: &[u8]) -> (&[u8], &[u8])
     ensures digits { result.0.now ≡ digits text.now }
     ensures rest { result.1.now ≡ after_digits text.now }
     ensures each { (k : ℕ) → k < length result.0.now →

@@ -1,9 +1,8 @@
 //! What takes files in place of a disk.
 
 ghost use Rattle.std.specs.Prelude.{◌≡◌, [], None, Some, true, IfOk};
-ghost use Rattle.edf_fragment.specs.Failures.{one_more};
 
-use edf_fragment::Output;
+use edf_fragment::{Output, one_more};
 use edf_new_files::{MadeFiles, NewFiles, Unfinished};
 use std::alloc::Global;
 use std::io;
@@ -16,13 +15,6 @@ pub(crate) struct Page {
     failures: u64,
 }
 
-/// The count after one more failure.
-fn one_failure_more(count: u64) -> u64
-    ensures { result ≡ one_more count }
-{
-    count.saturating_add(1)
-}
-
 impl Output for Page {
     ghost contents = { λ page. Some page.bytes.items };
 
@@ -32,7 +24,7 @@ impl Output for Page {
         let most = buf.len().min(self.room.saturating_sub(self.bytes.len()));
         let is_full = most == 0 && !buf.is_empty();
         if is_full || self.bytes.extend_from_slice(&buf[..most]).is_err() {
-            self.failures = one_failure_more(self.failures);
+            self.failures = one_more(self.failures);
             return Err(io::Error::from(io::ErrorKind::StorageFull));
         }
         Ok(most)
@@ -139,7 +131,8 @@ impl NewFiles for Folder {
             room: _,
             failures,
         } = writer;
-        if failures > 0 || self.asked == self.limits.unfinished {
+        let is_writing = self.made.is_writing();
+        if !is_writing || failures > 0 || self.asked == self.limits.unfinished {
             self.made.fail(Unfinished::Failed, Some(bytes), false);
             return Err(Unfinished::Failed);
         }
@@ -162,6 +155,9 @@ impl NewFiles for Folder {
     }
 
     fn remove(&mut self, place: usize) -> bool {
+        if place >= self.made.count() {
+            return false;
+        }
         let is_gone = place.saturating_add(1) != self.limits.unremoved;
         self.made.end(place, is_gone);
         self.removed = self.removed.saturating_add(is_gone as usize);

@@ -2,7 +2,7 @@
 //! pictures are SVG. And the text of a fault.
 
 use crate::stage::plain_story;
-use edf_header::HeaderFault;
+use edf_header::{Format, HeaderFault};
 use edf_program::VERSION;
 use std::alloc::Global;
 
@@ -64,15 +64,18 @@ fn is_shown_as(alloc: Global, fault: HeaderFault, text: &str) -> Option<bool> {
 
 /// A fault, its text, and its number.
 const FAULTS: &[(HeaderFault, &str, u8)] = &[
-    (HeaderFault::Cut, "the file has fewer than 256 bytes", 1),
+    (HeaderFault::Cut, "it has fewer than 256 bytes", 1),
     (
-        HeaderFault::Unprintable { offset: 20 },
-        "byte 20 is not printable",
+        HeaderFault::Unprintable {
+            offset: 20,
+            format: Format::Edf,
+        },
+        "a byte of its header is no printable ASCII",
         2,
     ),
     (
         HeaderFault::Physical { signal: 3 },
-        "signal 3 has no two different physical values",
+        "this signal's physical limits are no numbers, or equal",
         17,
     ),
     (HeaderFault::Memory, "out of memory", 41),

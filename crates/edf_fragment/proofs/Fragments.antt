@@ -259,13 +259,10 @@ fragment_of_all all (Some rest) l rs f =
 
 told_of_all : (all : List ℕ) (e : FragmentFault) → IsFirstWhereKnown (Some all) e → (e ≡ Read)
     ⊎ ((e ≡ Memory) ⊎ IsFirstFault all e)
-told_of_all all (BadHeader e) f = inr (inr f)
-told_of_all all (CutRecord nth) f = inr (inr f)
-told_of_all all (Tal nth e) f = inr (inr f)
-told_of_all all Trailing f = inr (inr f)
 told_of_all all Read f = inl refl
 told_of_all all Memory f = inr (inl refl)
 told_of_all all Failed f = absurd f
+told_of_all all e f = inr (inr f)
 
 pub fault_of_all : (all : List ℕ) (rest : Option (List ℕ)) (e : FragmentFault) →
     IsFragmentFault (Some all) rest e → (e ≡ Read) ⊎ ((e ≡ Memory) ⊎ IsFirstFault all e)

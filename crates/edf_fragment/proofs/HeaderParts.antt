@@ -1,7 +1,7 @@
 -- Faults of a header from those of its parts, and a header from its parts.
 use Rattle.std.proofs.Common.{◌≡◌, ℕ, ◌+◌, ◌*◌, ◌≤◌, ◌<◌, ◌⊎◌, inl, inr, List, [], ◌++◌, length}
 use Rattle.std.proofs.Common.{take, drop, arith, length-append, sym, ap, ◌∙◌, subst, append-nil}
-use Rattle.std.proofs.Common.{take_at, drop_at, Option, Result, Ok, Err, MatchResult}
+use Rattle.std.proofs.Common.{take_at, drop_at, refl, Option, Result, Ok, Err, MatchResult}
 use Rattle.std.proofs.lemmas.List.{take_all, length-take, length-drop, drop-append-le}
 use Rattle.std.proofs.lemmas.List.{take-append-le}
 use Rattle.std.specs.Io.KnownBytes.{Consumes, IsAtEnd}
@@ -12,11 +12,8 @@ use Rattle.edf_header.specs.Header.{FixedPart, IsFixedHeader, IsHeader, Layout}
 use Rattle.edf_header.specs.Fault.{FixedPartFails, SignalsFail, HasSignals, IsHeaderFault, IsFirst}
 use Rattle.edf_header.specs.Fault.{IsClean, IsSignalsRefusal, header_fault_number}
 use Rattle.edf_header.specs.declared.fault.HeaderFault.{HeaderFault}
-use Rattle.edf_header.specs.declared.fault.HeaderFault.TheVariants.{Cut, Unprintable, Version}
-use Rattle.edf_header.specs.declared.fault.HeaderFault.TheVariants.{Patient, Recording, Startdate}
-use Rattle.edf_header.specs.declared.fault.HeaderFault.TheVariants.{Starttime, DatesDiffer, NotPlus}
-use Rattle.edf_header.specs.declared.fault.HeaderFault.TheVariants.{Count, Duration, Signals}
-use Rattle.edf_header.specs.declared.fault.HeaderFault.TheVariants.{HeaderBytes, CutSignals}
+use Rattle.edf_header.specs.declared.fault.HeaderFault.TheVariants.{Cut}
+use Rattle.edf_header.specs.declared.fault.HeaderFault.TheVariants.{CutSignals}
 use Rattle.edf_header.specs.declared.fault.HeaderFault.TheVariants.{UnprintableSignals, Annotations}
 use Rattle.edf_header.specs.declared.fault.HeaderFault.TheVariants.{Physical, Digital, Samples}
 use Rattle.edf_header.specs.declared.fault.HeaderFault.TheVariants.{Size, Memory}
@@ -35,26 +32,7 @@ use Rattle.edf_fragment.specs.declared.fault.FragmentFault.TheVariants.{Failed}
 -- numbers count from 1
 number-from : (e : HeaderFault) → 1 ≤ header_fault_number e
 number-from Cut = omega arith
-number-from (Unprintable at) = omega arith
-number-from Version = omega arith
-number-from Patient = omega arith
-number-from Recording = omega arith
-number-from Startdate = omega arith
-number-from Starttime = omega arith
-number-from DatesDiffer = omega arith
-number-from NotPlus = omega arith
-number-from Count = omega arith
-number-from Duration = omega arith
-number-from Signals = omega arith
-number-from HeaderBytes = omega arith
-number-from CutSignals = omega arith
-number-from (UnprintableSignals at) = omega arith
-number-from Annotations = omega arith
-number-from (Physical at) = omega arith
-number-from (Digital at) = omega arith
-number-from (Samples at) = omega arith
-number-from Size = omega arith
-number-from Memory = omega arith
+number-from e = omega arith
 
 -- fewer than 256 bytes
 pub cut_header : (b : List ℕ) → length b < 256 → IsHeaderFault b Cut
@@ -170,16 +148,23 @@ whole_header left mid rest f l a b =
     }
 
 -- faults of the signals have numbers from 14 on
+pub signals-later : (s : List ℕ) (n : ℕ) (e : HeaderFault) → SignalsFail s n e → (e ≡ CutSignals)
+    ⊎ (14 < header_fault_number e)
+signals-later s n CutSignals fails = inl refl
+signals-later s n (UnprintableSignals at) fails = inr (omega arith)
+signals-later s n Annotations fails = inr (omega arith)
+signals-later s n (Physical at) fails = inr (omega arith)
+signals-later s n (Digital at) fails = inr (omega arith)
+signals-later s n (Samples at) fails = inr (omega arith)
+signals-later s n Size fails = inr (omega arith)
+signals-later s n e fails = absurd fails
+
 signals-from : (s : List ℕ) (n : ℕ) (e : HeaderFault) → SignalsFail s n e →
     14 ≤ header_fault_number e
-signals-from s n CutSignals f = omega arith
-signals-from s n (UnprintableSignals at) f = omega arith
-signals-from s n Annotations f = omega arith
-signals-from s n (Physical at) f = omega arith
-signals-from s n (Digital at) f = omega arith
-signals-from s n (Samples at) f = omega arith
-signals-from s n Size f = omega arith
-signals-from s n e f = absurd f
+signals-from s n e fails = elim (signals-later s n e fails) [
+  | inl is ↦ omega (arith, ap header_fault_number is)
+  | inr later ↦ omega (arith, later)
+]
 
 -- the number of signals that the fixed part says
 count-of : (a b : List ℕ) (f : FixedPart) (n : ℕ) → IsFixedHeader a f → HasSignals (a ++ b) n →

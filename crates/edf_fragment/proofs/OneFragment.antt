@@ -25,7 +25,7 @@ use Rattle.edf_fragment.proofs.Fronts.{same_front}
 
 -- ---- one data record
 
-one-record : (l : Layout) (p : Place) (b : List ℕ) (r s : DataRecord) → IsDataRecord l p b r →
+pub one-record : (l : Layout) (p : Place) (b : List ℕ) (r s : DataRecord) → IsDataRecord l p b r →
     IsDataRecord l p b s → r ≡ s
 one-record l p b r s x y =
     let same = blocks-one-read (blocks l b) l.start p r.start s.start r.annotations s.annotations

@@ -10,14 +10,8 @@ use Rattle.edf_header.specs.Header.{HeaderRecord, IsHeader, Layout}
 use Rattle.edf_header.specs.Fault.{FixedPartFails, SignalsFail, HasSignals, IsHeaderFault, IsFirst}
 use Rattle.edf_header.specs.Fault.{IsClean, header_fault_number}
 use Rattle.edf_header.specs.declared.fault.HeaderFault.{HeaderFault}
-use Rattle.edf_header.specs.declared.fault.HeaderFault.TheVariants.{Cut, Unprintable, Version}
-use Rattle.edf_header.specs.declared.fault.HeaderFault.TheVariants.{Patient, Recording, Startdate}
-use Rattle.edf_header.specs.declared.fault.HeaderFault.TheVariants.{Starttime, DatesDiffer, NotPlus}
-use Rattle.edf_header.specs.declared.fault.HeaderFault.TheVariants.{Count, Duration, Signals}
-use Rattle.edf_header.specs.declared.fault.HeaderFault.TheVariants.{HeaderBytes, CutSignals}
-use Rattle.edf_header.specs.declared.fault.HeaderFault.TheVariants.{UnprintableSignals, Annotations}
-use Rattle.edf_header.specs.declared.fault.HeaderFault.TheVariants.{Physical, Digital, Samples}
-use Rattle.edf_header.specs.declared.fault.HeaderFault.TheVariants.{Size, Memory}
+use Rattle.edf_header.specs.declared.fault.HeaderFault.TheVariants.{Cut}
+use Rattle.edf_header.specs.declared.fault.HeaderFault.TheVariants.{CutSignals}
 use Rattle.edf_tal.specs.declared.place.Place.{Place}
 use Rattle.edf_tal.specs.declared.place.Place.TheVariants.{First}
 use Rattle.edf_fragment.specs.Fragment.{DataRecord, IsDataRecord, AreDataRecords, place_after}
@@ -26,7 +20,7 @@ use Rattle.edf_fragment.specs.Whole.{HasRead}
 use Rattle.edf_fragment.specs.declared.advance.Progress.{Progress}
 use Rattle.edf_fragment.specs.declared.advance.ReaderState.{ReaderState}
 use Rattle.edf_fragment.specs.declared.advance.ReaderState.TheVariants.{Reading}
-use Rattle.edf_fragment.proofs.HeaderParts.{field_front}
+use Rattle.edf_fragment.proofs.HeaderParts.{field_front, signals-later}
 
 -- ---- lists of data records
 
@@ -93,30 +87,6 @@ enough-clean b n later clean =
 cut-or-later : (e : HeaderFault) → (e ≡ Cut) ⊎ (1 < header_fault_number e)
 cut-or-later Cut = inl refl
 cut-or-later e = inr (omega arith)
-
-signals-later : (s : List ℕ) (n : ℕ) (e : HeaderFault) → SignalsFail s n e → (e ≡ CutSignals)
-    ⊎ (14 < header_fault_number e)
-signals-later s n CutSignals fails = inl refl
-signals-later s n (UnprintableSignals at) fails = inr (omega arith)
-signals-later s n Annotations fails = inr (omega arith)
-signals-later s n (Physical at) fails = inr (omega arith)
-signals-later s n (Digital at) fails = inr (omega arith)
-signals-later s n (Samples at) fails = inr (omega arith)
-signals-later s n Size fails = inr (omega arith)
-signals-later s n Cut fails = absurd fails
-signals-later s n (Unprintable at) fails = absurd fails
-signals-later s n Version fails = absurd fails
-signals-later s n Patient fails = absurd fails
-signals-later s n Recording fails = absurd fails
-signals-later s n Startdate fails = absurd fails
-signals-later s n Starttime fails = absurd fails
-signals-later s n DatesDiffer fails = absurd fails
-signals-later s n NotPlus fails = absurd fails
-signals-later s n Count fails = absurd fails
-signals-later s n Duration fails = absurd fails
-signals-later s n Signals fails = absurd fails
-signals-later s n HeaderBytes fails = absurd fails
-signals-later s n Memory fails = absurd fails
 
 -- the fault of signals that are there
 second-more : (b more : List ℕ) (n : ℕ) (e : HeaderFault) →

@@ -1,10 +1,11 @@
 -- What the data records of a fragment have, and those that were read so far.
 use Rattle.std.proofs.Common.{◌≡◌, ℕ, ◌+◌, ◌*◌, ◌^◌, ◌≤◌, ◌<◌, inl, inr, List, [], ◌∷◌, ◌++◌}
 use Rattle.std.proofs.Common.{length, arith, sym, ap, ◌∙◌, subst, length-append, Option, None, Some}
-use Rattle.std.proofs.Common.{Result, Ok, Err, IfOk, IfSome, ℤ, pos, negsuc}
+use Rattle.std.proofs.Common.{Result, Ok, Err, IfOk, IfSome, ℤ, pos, negsuc, All}
 use Rattle.std.specs.Prelude.{unsigned_abs, ◌+ℤ◌, ◌≤ℤ◌, ◌<ℤ◌}
 use Rattle.std.proofs.lemmas.Bool.{cases_lt}
 use Rattle.std.proofs.lemmas.Int.{ints}
+use Rattle.std.proofs.lemmas.List.Elements.{All-nil, All-cons}
 use Rattle.edf_field.specs.Number.{duration_of}
 use Rattle.edf_header.specs.Signal.{samples_in_all}
 use Rattle.edf_header.specs.Key.{Key, IsKey}
@@ -227,6 +228,14 @@ front-of a b c h g rest rs all p q is read are spelled =
     let few = not-past l First p q (b ++ c) c rs all (header-has-layout a h [] read) here there in
     let on = goes_on l First p q (b ++ c) c [] rs all few here there in
     (ap (λ (x : HeaderRecord). (layout_of x).key) one.0, (on.others, on.all))
+
+-- each has as many samples as the key says
+pub sound_sizes : (k : Key) (low : ℕ) (rs : List DataRecord) → AreSound k low rs →
+    All (λ r. length r.samples ≡ 2 * samples_in_all k.signals) rs
+sound_sizes k low [] sound = All-nil (λ r. length r.samples ≡ 2 * samples_in_all k.signals)
+sound_sizes k low (r ∷ rs) (one, lower, more) =
+    All-cons (λ x. length x.samples ≡ 2 * samples_in_all k.signals) r rs one.samples_len
+    (sound_sizes k (r.start + duration_of k.duration) rs more)
 
 pub read-front : (all : List ℕ) (one two : Option (List ℕ)) (l : Layout) (rs : List DataRecord)
     (p : Progress) (k : Key) (others : List DataRecord)

@@ -6,8 +6,6 @@ use Rattle.std.specs.Io.KnownBytes.{Consumes}
 use Rattle.edf_header.specs.Header.{Layout, IsLayout, most_records}
 use Rattle.edf_tal.specs.Block.{AreRead, IsBlocksFault, IsBlocksRefusal, cut}
 use Rattle.edf_tal.specs.declared.place.TalFault.{TalFault}
-use Rattle.edf_tal.specs.declared.place.TalFault.TheVariants.{Tal as NotTals, Text, NotTimed}
-use Rattle.edf_tal.specs.declared.place.TalFault.TheVariants.{FirstOnset, Window, Order, TooMany}
 use Rattle.edf_tal.specs.declared.place.TalFault.TheVariants.{Memory as TalMemory}
 use Rattle.edf_fragment.specs.Fragment.{DataRecord, IsDataRecord, blocks, ordinary_bytes}
 use Rattle.edf_fragment.specs.Reading.{GivesRecord, EndsThere}
@@ -93,27 +91,9 @@ told_blocks l p left rest whole nth TalMemory told h is memory other (start, lis
     let gives = given_whole l p left rest whole r h read refl in
     subst (IsNextFault l p left rest) (sym (memory refl))
     (record { may_come = h.may_come; read = inr (r, gives) })
-told_blocks l p left rest whole nth (NotTals at) told h is memory other fault =
+told_blocks l p left rest whole nth e told h is memory other fault =
     subst (IsNextFault l p left rest) (sym (other (λ no. cc)))
-    (refused_blocks l p left rest whole nth (NotTals at) h is fault)
-told_blocks l p left rest whole nth (Text at) told h is memory other fault =
-    subst (IsNextFault l p left rest) (sym (other (λ no. cc)))
-    (refused_blocks l p left rest whole nth (Text at) h is fault)
-told_blocks l p left rest whole nth NotTimed told h is memory other fault =
-    subst (IsNextFault l p left rest) (sym (other (λ no. cc)))
-    (refused_blocks l p left rest whole nth NotTimed h is fault)
-told_blocks l p left rest whole nth FirstOnset told h is memory other fault =
-    subst (IsNextFault l p left rest) (sym (other (λ no. cc)))
-    (refused_blocks l p left rest whole nth FirstOnset h is fault)
-told_blocks l p left rest whole nth Window told h is memory other fault =
-    subst (IsNextFault l p left rest) (sym (other (λ no. cc)))
-    (refused_blocks l p left rest whole nth Window h is fault)
-told_blocks l p left rest whole nth Order told h is memory other fault =
-    subst (IsNextFault l p left rest) (sym (other (λ no. cc)))
-    (refused_blocks l p left rest whole nth Order h is fault)
-told_blocks l p left rest whole nth TooMany told h is memory other fault =
-    subst (IsNextFault l p left rest) (sym (other (λ no. cc)))
-    (refused_blocks l p left rest whole nth TooMany h is fault)
+    (refused_blocks l p left rest whole nth e h is fault)
 
 -- ---- and cut
 

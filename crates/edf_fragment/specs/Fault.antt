@@ -6,7 +6,7 @@ use Rattle.edf_header.specs.Header.{most_records}
 use Rattle.edf_header.specs.Fault.{IsHeaderFault, header_fault_number, header_fault_name}
 use Rattle.edf_header.specs.Fault.{header_fault_offset, header_fault_signal}
 use Rattle.edf_tal.specs.Block.{IsBlocksFault}
-use Rattle.edf_tal.specs.Fault.{tal_fault_number, tal_fault_name, tal_fault_offset}
+use Rattle.edf_tal.specs.Block.{tal_fault_number, tal_fault_name, tal_fault_offset}
 use Rattle.edf_tal.specs.declared.place.Place.{Place}
 use Rattle.edf_tal.specs.declared.place.Place.TheVariants.{First}
 use Rattle.edf_tal.specs.declared.place.TalFault.{TalFault}

@@ -1,6 +1,6 @@
 //! The buffers of a data record: its bytes as they are in the file, and its annotations blocks
 //! one after another.
-ghost use Rattle.std.specs.Prelude.{◌≡◌, ℕ, ◌+◌, length, map, sum_by, IfOk};
+ghost use Rattle.std.specs.Prelude.{◌≡◌, ◌+◌, length, map, IfOk};
 ghost use Rattle.std.specs.List.{flat_map};
 ghost use Rattle.edf_header.specs.Header.{block_bytes};
 ghost use Rattle.edf_fragment.specs.Fragment.{blocks, ordinary_bytes};

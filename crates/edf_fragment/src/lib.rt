@@ -16,7 +16,8 @@
 //!   be read, E40 and E41.
 //! - [`Input`], [`Output`]: readers and writers whose contracts also count the calls that failed,
 //!   so that a failed read or write is a refusal only where one failed. [`Counted`]: one of any
-//!   reader or writer of std.
+//!   reader or writer of std. [`one_more`]: such a count after one more. [`Remark`]: what a line of
+//!   an output tells, for a person.
 //! - [`fill`], [`Filled`]: a buffer filled from an input, in whatever pieces it comes. [`send`]:
 //!   all of some bytes, to an output.
 //! - [`each_tells_one`], [`one_fragment`], [`one_fault`], [`no_fault_where_spelled`]: each list of
@@ -35,6 +36,7 @@ mod open_fragment;
 mod opening;
 mod reader;
 mod record;
+mod remark;
 mod streams;
 mod whole;
 
@@ -47,5 +49,6 @@ pub use laws::{
 pub use open_fragment::OpenFragment;
 pub use reader::FragmentReader;
 pub use record::Record;
-pub use streams::{Counted, Filled, Input, Output, fill, send};
+pub use remark::Remark;
+pub use streams::{Counted, Filled, Input, Output, fill, one_more, send};
 pub use whole::read_fragment;

@@ -1,4 +1,4 @@
-ghost use Rattle.std.specs.Prelude.{◌≡◌, ℕ, ◌≤◌, IfOk, IfSome};
+ghost use Rattle.std.specs.Prelude.{◌≡◌, ◌≤◌, IfOk, IfSome};
 ghost use Rattle.edf_header.specs.Header.{most_records};
 ghost use Rattle.edf_fragment.specs.Inside.Buffers.{HaveRoom};
 ghost use Rattle.edf_fragment.specs.Sound.{IsSoundRecord};

@@ -1,4 +1,4 @@
-ghost use Rattle.std.specs.Prelude.{◌≡◌, ◌≢◌, ℕ, length};
+ghost use Rattle.std.specs.Prelude.{◌≡◌, ◌≢◌};
 ghost use Rattle.edf_fragment.specs.Reading.{ReadsHeader, IsOpenFault};
 ghost use Rattle.edf_fragment.specs.Call.{ReadsInput, ValueOr, input_state};
 ghost use Rattle.edf_fragment.specs.Inside.Steps.{ReadsFixed, ReadsSignals, IsSignalsFault};

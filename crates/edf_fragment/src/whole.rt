@@ -1,4 +1,4 @@
-ghost use Rattle.std.specs.Prelude.{◌≡◌, ℕ};
+ghost use Rattle.std.specs.Prelude.{◌≡◌};
 ghost use Rattle.edf_fragment.specs.Reading.{at_first};
 ghost use Rattle.edf_fragment.specs.Whole.{ReadsFragment, FailsAfterRecords, IsFragmentFault};
 ghost use Rattle.edf_fragment.specs.Call.{ReadsInput, ValueOr, input_state};

@@ -1,5 +1,5 @@
 -- Whether a text is a duration, a patient identification or a recording identification.
-use Rattle.std.proofs.Common.{◌≡◌, ℕ, suc, ◌+◌, ◌*◌, ◌^◌, ◌<◌, List, [], ◌∷◌, ◌++◌, length}
+use Rattle.std.proofs.Common.{◌≡◌, ◌≢◌, ℕ, suc, ◌+◌, ◌*◌, ◌^◌, ◌<◌, List, [], ◌∷◌, ◌++◌, length}
 use Rattle.std.proofs.Common.{length-append, take, drop, arith, refl, sym, ap, ◌∙◌, subst, inl, inr}
 use Rattle.std.proofs.Common.{ℤ, Option, Some, None}
 use Rattle.std.specs.Prelude.{◌⊎◌, codes}
@@ -11,7 +11,14 @@ use Rattle.edf_time.specs.Decimal.{IsDecimal, IsFine, fraction_value as places}
 use Rattle.edf_field.specs.Number.{field, AreSpaces, IsDuration, MayLast, front_len}
 use Rattle.edf_field.proofs.Cited.{lasts-or-not}
 use Rattle.edf_field.specs.Text.{FollowsStartdate, IsBirthdate, IsPatient, IsRecording, IsSex}
-use Rattle.edf_field.specs.Text.{subfields}
+use Rattle.edf_field.specs.Text.{IsStartdate, subfields}
+use Rattle.edf_field.specs.Fault.{IsPatientFault, IsRecordingFault, IsStartdateFault, PartsFail}
+use Rattle.edf_field.specs.declared.fault.PatientFault.{PatientFault}
+use Rattle.edf_field.specs.declared.fault.PatientFault.TheVariants.{NoSex, NoBirthdate, Few}
+use Rattle.edf_field.specs.declared.fault.RecordingFault.{RecordingFault}
+use Rattle.edf_field.specs.declared.fault.RecordingFault.TheVariants.{NoStartdate, NoDate}
+use Rattle.edf_field.specs.declared.fault.RecordingFault.TheVariants.{Few as FewCodes}
+use Rattle.edf_field.proofs.Cited.{recording-no-fault}
 use Rattle.edf_header.proofs.Decided.{Decided, like, both, either, less, same, same-bytes, every}
 use Rattle.edf_header.proofs.Decided.{some-below}
 use Rattle.edf_header.proofs.DecidedFields.{spaces, follows-startdate}
@@ -122,64 +129,102 @@ sex text = either (same-bytes text (codes "F"))
 birthdate : (text : List ℕ) → Decided (IsBirthdate text)
 birthdate text = either (same-bytes text (codes "X")) (some-id_date text)
 
-patient-by : (text : List ℕ) (parts : List (List ℕ)) → subfields text ≡ parts →
-    Decided (IsPatient text)
-patient-by text (c ∷ s ∷ b ∷ n ∷ more) e =
-    like (both (sex s) (birthdate b))
-    (λ p. record {
-      code = c;
-      sex = s;
-      birthdate = b;
-      name = n;
-      more = more;
-      parts = e;
-      is_sex = p.0;
-      is_birthdate = p.1;
-    })
-    (λ p.
-    let one : p.sex ≡ s = cc in
-    let two : p.birthdate ≡ b = cc in
-    (subst IsSex one p.is_sex, subst IsBirthdate two p.is_birthdate))
-patient-by text parts e = inr (λ p. absurd (omega (arith, ap length e, ap length p.parts)))
+abbrev pub HasPatientFault : List ℕ → Type 0
+HasPatientFault text = (why : PatientFault) × IsPatientFault text why
 
-pub patient : (text : List ℕ) → Decided (IsPatient text)
-patient text = patient-by text (subfields text) refl
+patient-by : (text : List ℕ) (parts : List (List ℕ)) → subfields text ≡ parts →
+    IsPatient text ⊎ ((why : PatientFault) × PartsFail why parts)
+patient-by text [] e = inr (Few, (omega arith, tt))
+patient-by text (c ∷ []) e = inr (Few, (omega arith, tt))
+patient-by text (c ∷ s ∷ []) e =
+    elim (sex s) [
+      | inl is ↦ inr (Few, (omega arith, is))
+      | inr none ↦ inr (NoSex, none)
+    ]
+patient-by text (c ∷ s ∷ b ∷ []) e =
+    elim (sex s) [
+      | inl is ↦ elim (birthdate b) [
+        | inl date ↦ inr (Few, (omega arith, (is, date)))
+        | inr none ↦ inr (NoBirthdate, (is, none))
+      ]
+      | inr none ↦ inr (NoSex, none)
+    ]
+patient-by text (c ∷ s ∷ b ∷ n ∷ more) e =
+    elim (sex s) [
+      | inl is ↦ elim (birthdate b) [
+        | inl date ↦ inl (record {
+          code = c;
+          sex = s;
+          birthdate = b;
+          name = n;
+          more = more;
+          parts = e;
+          is_sex = is;
+          is_birthdate = date;
+        })
+        | inr none ↦ inr (NoBirthdate, (is, none))
+      ]
+      | inr none ↦ inr (NoSex, none)
+    ]
+
+pub patient-or-fault : (text : List ℕ) → IsPatient text ⊎ HasPatientFault text
+patient-or-fault text = patient-by text (subfields text) refl
 
 -- the recording field
-abbrev IsUndated : List ℕ → Type 0
-IsUndated text = (take 11 text ≡ codes "Startdate X") × FollowsStartdate (drop 11 text)
-
-abbrev IsDated : List ℕ → Type 0
-IsDated text = ((take 10 text ≡ codes "Startdate ") × ((day : ℤ) × IsIdDate (field text 10 11) day))
-    × FollowsStartdate (drop 21 text)
-
 abbrev pub HasRecording : List ℕ → Type 0
 HasRecording text = (startdate : Option ℤ) × (after : List ℕ) × IsRecording text startdate after
 
-from-dated : (text : List ℕ) → IsUndated text ⊎ IsDated text → HasRecording text
-from-dated text p =
-    elim p [
-      | inl x ↦ (None, drop 11 text, record { front = (x.0, refl); rest = x.1 })
-      | inr d ↦ (
-        Some d.0.1.0,
-        drop 21 text,
-        record { front = (d.0.0, d.0.1.1, refl); rest = d.1 },
-      )
+abbrev HasStartdate : List ℕ → Type 0
+HasStartdate text = (startdate : Option ℤ) × (after : List ℕ) × IsStartdate text startdate after
+
+abbrev pub HasRecordingFault : List ℕ → Type 0
+HasRecordingFault text = (why : RecordingFault) × IsRecordingFault text why
+
+no-startdate : (text : List ℕ) → take 11 text ≢ codes "Startdate X" →
+    ((day : ℤ) → ¬ IsIdDate (field text 10 11) day) → (s : Option ℤ) (after : List ℕ) →
+    ¬ IsStartdate text s after
+no-startdate text no_x no_day None after p = no_x p.0
+no-startdate text no_x no_day (Some day) after p = no_day day p.1
+
+startdate : (text : List ℕ) → HasStartdate text
+    ⊎ ((why : RecordingFault) × IsStartdateFault text why)
+startdate text =
+    elim (same-bytes (take 10 text) (codes "Startdate ")) [
+      | inl front ↦ elim (same-bytes (take 11 text) (codes "Startdate X")) [
+        | inl x ↦ inl (None, drop 11 text, (x, refl))
+        | inr no_x ↦ elim (some-id_date (field text 10 11)) [
+          | inl day ↦ inl (Some day.0, drop 21 text, (front, day.1, refl))
+          | inr no_day ↦ inr (
+            NoDate,
+            (front, no-startdate text no_x (λ day is. no_day (day, is))),
+          )
+        ]
+      ]
+      | inr other ↦ inr (NoStartdate, other)
     ]
 
-to-dated : (text : List ℕ) (s : Option ℤ) (after : List ℕ) → IsRecording text s after →
-    IsUndated text ⊎ IsDated text
-to-dated text None after r = inl (r.front.0, subst FollowsStartdate r.front.1 r.rest)
-to-dated text (Some day) after r =
-    inr ((r.front.0, (day, r.front.1)), subst FollowsStartdate r.front.2 r.rest)
+of-startdate : (text : List ℕ) (why : RecordingFault) → IsStartdateFault text why →
+    IsRecordingFault text why
+of-startdate text NoStartdate fails = fails
+of-startdate text NoDate fails = fails
+of-startdate text FewCodes fails = absurd fails
+
+pub recording-or-fault : (text : List ℕ) → HasRecording text ⊎ HasRecordingFault text
+recording-or-fault text =
+    elim (startdate text) [
+      | inl s ↦ elim (follows-startdate s.1) [
+        | inl follows ↦ inl (s.0, s.1, record { front = s.2; rest = follows })
+        | inr none ↦ inr (FewCodes, (s.0, s.1, s.2, none))
+      ]
+      | inr f ↦ inr (f.0, of-startdate text f.0 f.1)
+    ]
 
 pub recording : (text : List ℕ) → Decided (HasRecording text)
 recording text =
-    like (either (both (same-bytes (take 11 text) (codes "Startdate X"))
-    (follows-startdate (drop 11 text)))
-    (both (both (same-bytes (take 10 text) (codes "Startdate ")) (some-id_date (field text 10 11)))
-    (follows-startdate (drop 21 text))))
-    (from-dated text) (λ r. to-dated text r.0 r.1 r.2)
+    elim (recording-or-fault text) [
+      | inl is ↦ inl is
+      | inr f ↦ inr (λ r. recording-no-fault text r.0 r.1 f.0 r.2 f.1)
+    ]
 
 -- one with X in place of the startdate
 pub undated : (text : List ℕ) → Decided ((after : List ℕ) × IsRecording text None after)

@@ -1,5 +1,6 @@
 -- Rows that are decided, in the order of their numbers: none is true, or one is the first.
-use Rattle.std.proofs.Common.{◌≡◌, ℕ, suc, ◌+◌, ◌*◌, List, [], length, arith, refl, sym, ap, ◌∙◌}
+use Rattle.std.proofs.Common.{◌≡◌, ◌≢◌, ℕ, suc, ◌+◌, ◌*◌, List, [], length, arith, refl, sym, ap}
+use Rattle.std.proofs.Common.{◌∙◌}
 use Rattle.std.proofs.Common.{subst, inl, inr, cond, eqb, Option, ℤ, Some}
 use Rattle.std.specs.Prelude.{◌⊎◌, codes}
 use Rattle.edf_time.specs.Civil.{HasDateForm, IsDateText, IsTimeText}
@@ -9,7 +10,16 @@ use Rattle.edf_header.specs.Signal.{IsFirstBad, Passes, signals_of}
 use Rattle.edf_header.specs.Fault.{FixedPartFails}
 use Rattle.edf_header.specs.Condition.{DatesAreOther, HasNoYear, HasSignals}
 use Rattle.edf_header.specs.Fault.{IsClean, IsFirst, SignalsFail}
-use Rattle.edf_header.specs.Condition.{IsBadSignal, IsNoStartdate}
+use Rattle.edf_header.specs.Condition.{HasBadByteAt, IsBadSignal, IsNoStartdate}
+use Rattle.edf_header.specs.Format.{IsFormat}
+use Rattle.edf_header.specs.declared.format.Format.{Format}
+use Rattle.edf_header.specs.declared.format.Format.TheVariants.{Other}
+use Rattle.edf_field.specs.Fault.{IsPatientFault, IsRecordingFault}
+use Rattle.edf_field.specs.declared.fault.PatientFault.{PatientFault}
+use Rattle.edf_field.specs.declared.fault.PatientFault.TheVariants.{NoSex}
+use Rattle.edf_field.specs.declared.fault.RecordingFault.{RecordingFault}
+use Rattle.edf_field.specs.declared.fault.RecordingFault.TheVariants.{NoDate}
+use Rattle.edf_field.proofs.Cited.{patient-no-fault, recording-no-fault}
 use Rattle.edf_header.specs.Fault.{header_fault_number}
 use Rattle.edf_header.specs.declared.signal_checks.Check.{Check}
 use Rattle.edf_header.specs.declared.signal_checks.Check.TheVariants as checks
@@ -24,6 +34,7 @@ use Rattle.edf_header.specs.declared.fault.HeaderFault.TheVariants.{Physical, Di
 use Rattle.edf_header.specs.declared.fault.HeaderFault.TheVariants.{Size, Memory}
 use Rattle.edf_field.proofs.Recordings.{one-after}
 use Rattle.edf_header.proofs.FixedRows.{clean-more}
+use Rattle.edf_header.proofs.Formats.{some-format}
 use Rattle.edf_header.proofs.Startdates.{other-startdates, same-startdates}
 use Rattle.edf_header.proofs.Faults.{not-bad}
 use Rattle.edf_header.proofs.Decided.{Decided, like, both, either, negated, less, same-bytes}
@@ -33,55 +44,59 @@ use Rattle.edf_time.proofs.Cited.{some-date, some-startdates, some-time, some-ye
 use Rattle.edf_header.proofs.DecidedTexts as texts
 use Rattle.edf_header.proofs.DecidedSignals as rows
 
--- the offset or the signal that a fault names, or 0
-abbrev spot : HeaderFault → ℕ
-spot (Unprintable offset) = offset
-spot (UnprintableSignals offset) = offset
-spot (Physical signal) = signal
-spot (Digital signal) = signal
-spot (Samples signal) = signal
-spot e = 0
+-- what a fault names beside its number
+record Spot : Type 0 where
+  at : ℕ
+  format : Format
+  patient : PatientFault
+  recording : RecordingFault
 
--- the fault of a number, with the offset or the signal
-abbrev made : ℕ → ℕ → HeaderFault
-made n at =
-    cond (eqb n 1) Cut (cond (eqb n 2) (Unprintable at)
-    (cond (eqb n 3) Version (cond (eqb n 4) Patient (cond (eqb n 5) Recording
+-- an offset or a signal alone
+abbrev at_only : ℕ → Spot
+at_only at = record { at = at; format = Other; patient = NoSex; recording = NoDate }
+
+abbrev by_format : ℕ → Format → Spot
+by_format at format = record { at = at; format = format; patient = NoSex; recording = NoDate }
+
+abbrev by_patient : PatientFault → Spot
+by_patient why = record { at = 0; format = Other; patient = why; recording = NoDate }
+
+abbrev by_recording : RecordingFault → Spot
+by_recording why = record { at = 0; format = Other; patient = NoSex; recording = why }
+
+abbrev spot : HeaderFault → Spot
+spot (Unprintable offset format) = by_format offset format
+spot (Version format) = by_format 0 format
+spot (Patient why) = by_patient why
+spot (Recording why) = by_recording why
+spot (UnprintableSignals offset) = at_only offset
+spot (Physical signal) = at_only signal
+spot (Digital signal) = at_only signal
+spot (Samples signal) = at_only signal
+spot e = at_only 0
+
+-- the fault of a number, with what it names
+abbrev made : ℕ → Spot → HeaderFault
+made n s =
+    cond (eqb n 1) Cut (cond (eqb n 2) (Unprintable s.at s.format)
+    (cond (eqb n 3) (Version s.format) (cond (eqb n 4) (Patient s.patient)
+    (cond (eqb n 5) (Recording s.recording)
     (cond (eqb n 6) Startdate (cond (eqb n 7) Starttime
     (cond (eqb n 8) DatesDiffer (cond (eqb n 9) NotPlus (cond (eqb n 10) Count
     (cond (eqb n 11) Duration (cond (eqb n 12) Signals
     (cond (eqb n 13) HeaderBytes (cond (eqb n 14) CutSignals
-    (cond (eqb n 15) (UnprintableSignals at)
-    (cond (eqb n 16) Annotations (cond (eqb n 17) (Physical at)
-    (cond (eqb n 18) (Digital at) (cond (eqb n 19) (Samples at) (cond (eqb n 20) Size
+    (cond (eqb n 15) (UnprintableSignals s.at)
+    (cond (eqb n 16) Annotations (cond (eqb n 17) (Physical s.at)
+    (cond (eqb n 18) (Digital s.at) (cond (eqb n 19) (Samples s.at) (cond (eqb n 20) Size
     Memory)))))))))))))))))))
 
 made-is : (e : HeaderFault) → e ≡ made (header_fault_number e) (spot e)
 made-is Cut = refl
-made-is (Unprintable at) = refl
-made-is Version = refl
-made-is Patient = refl
-made-is Recording = refl
-made-is Startdate = refl
-made-is Starttime = refl
-made-is DatesDiffer = refl
-made-is NotPlus = refl
-made-is Count = refl
-made-is Duration = refl
-made-is Signals = refl
-made-is HeaderBytes = refl
-made-is CutSignals = refl
-made-is (UnprintableSignals at) = refl
-made-is Annotations = refl
-made-is (Physical at) = refl
-made-is (Digital at) = refl
-made-is (Samples at) = refl
-made-is Size = refl
-made-is Memory = refl
+made-is e = refl
 
--- the fault of a number is true of some offset or signal
+-- the fault of a number is true, with whatever it names
 abbrev IsTrueAt : (HeaderFault → Type 0) → ℕ → Type 0
-IsTrueAt Holds n = (at : ℕ) × Holds (made n at)
+IsTrueAt Holds n = (s : Spot) × Holds (made n s)
 
 abbrev IsCleanOrFirst : (HeaderFault → Type 0) → ℕ → Type 0
 IsCleanOrFirst Holds n = IsClean Holds n ⊎ ((fault : HeaderFault) × IsFirst Holds fault)
@@ -92,7 +107,7 @@ none-here Holds n none e is holds =
     none (spot e, subst Holds (made-is e ∙ ap (λ (k : ℕ). made k (spot e)) is) holds)
 
 -- one row more
-row : (Holds : HeaderFault → Type 0) (n : ℕ) → ((at : ℕ) → header_fault_number (made n at) ≡ n) →
+row : (Holds : HeaderFault → Type 0) (n : ℕ) → ((s : Spot) → header_fault_number (made n s) ≡ n) →
     Decided (IsTrueAt Holds n) → IsCleanOrFirst Holds n → IsCleanOrFirst Holds (suc n)
 row Holds n named here before =
     elim before [
@@ -103,9 +118,20 @@ row Holds n named here before =
       | inr first ↦ inr first
     ]
 
--- a fault that names no offset and no signal
-plain : {P : Type 0} → Decided P → Decided ((at : ℕ) × P)
-plain d = like d (λ p. (0, p)) (λ p. p.1)
+-- a fault that names nothing
+plain : {P : Type 0} → Decided P → Decided (Spot × P)
+plain d = like d (λ p. (at_only 0, p)) (λ p. p.1)
+
+-- one that names an offset or a signal alone
+placed : (P : ℕ → Type 0) → Decided ((at : ℕ) × P at) → Decided ((s : Spot) × P s.at)
+placed P d = like d (λ p. (at_only p.0, p.1)) (λ p. (p.0.at, p.1))
+
+-- one that names what the file is
+of-format : (b : List ℕ) (P : ℕ → Type 0) → Decided ((at : ℕ) × P at) →
+    Decided ((s : Spot) × (P s.at × IsFormat b s.format))
+of-format b P d =
+    let f = some-format b in
+    like d (λ p. (by_format p.0 f.0, (p.1, f.1))) (λ p. (p.0.at, p.1.0))
 
 none-of : {X : Type 0} (P : X → Type 0) → Decided ((x : X) × P x) → Decided ((x : X) → ¬ P x)
 none-of P d = like (negated d) (λ none x p. none (x, p)) (λ none p. none p.0 p.1)
@@ -117,10 +143,25 @@ unprintable b =
       | inr bad ↦ inl bad
     ]
 
-no-recording : (text : List ℕ) → Decided ((startdate : Option ℤ) (after : List ℕ) →
-    ¬ IsRecording text startdate after)
-no-recording text = like (negated (texts.recording text)) (λ none s after is. none (s, after, is))
-    (λ none r. none r.0 r.1 r.2)
+no-patient : (text : List ℕ) → Decided ((s : Spot) × IsPatientFault text s.patient)
+no-patient text =
+    elim (texts.patient-or-fault text) [
+      | inl is ↦ inr (λ p. patient-no-fault text p.0.patient is p.1)
+      | inr f ↦ inl (by_patient f.0, f.1)
+    ]
+
+no-recording : (text : List ℕ) → Decided ((s : Spot) × IsRecordingFault text s.recording)
+no-recording text =
+    elim (texts.recording-or-fault text) [
+      | inl r ↦ inr (λ p. recording-no-fault text r.0 r.1 p.0.recording r.2 p.1)
+      | inr f ↦ inl (by_recording f.0, f.1)
+    ]
+
+other-version : (b : List ℕ) →
+    Decided ((s : Spot) × ((field b 0 8 ≢ codes "0       ") × IsFormat b s.format))
+other-version b =
+    of-format b (λ at. field b 0 8 ≢ codes "0       ")
+    (like (negated (same-bytes (field b 0 8) (codes "0       "))) (λ p. (0, p)) (λ p. p.1))
 
 no-startdate : (b : List ℕ) → Decided (IsNoStartdate (field b 168 8) ⊎ HasNoYear b)
 no-startdate b =
@@ -179,11 +220,11 @@ fixed-rows b =
     (row (FixedPartFails b) 7 (λ at. refl)
     (plain (none-of (IsTimeText (field b 176 8)) (some-time (field b 176 8))))
     (row (FixedPartFails b) 6 (λ at. refl) (plain (no-startdate b))
-    (row (FixedPartFails b) 5 (λ at. refl) (plain (no-recording (field b 88 80)))
-    (row (FixedPartFails b) 4 (λ at. refl) (plain (negated (texts.patient (field b 8 80))))
-    (row (FixedPartFails b) 3 (λ at. refl)
-    (plain (negated (same-bytes (field b 0 8) (codes "0       "))))
-    (row (FixedPartFails b) 2 (λ at. refl) (unprintable b)
+    (row (FixedPartFails b) 5 (λ at. refl) (no-recording (field b 88 80))
+    (row (FixedPartFails b) 4 (λ at. refl) (no-patient (field b 8 80))
+    (row (FixedPartFails b) 3 (λ at. refl) (other-version b)
+    (row (FixedPartFails b) 2 (λ at. refl)
+    (of-format b (IsFirstBad IsPrintable b) (unprintable b))
     (row (FixedPartFails b) 1 (λ at. refl) (plain (less (length b) 256))
     (inl (no-number b))))))))))))))
 
@@ -201,6 +242,9 @@ bad-signal check ss =
       | inr bad ↦ inl (bad.0 + 1, (bad.0, bad.1, refl))
     ]
 
+bad-at : (check : Check) (ss : List (List ℕ)) → Decided ((s : Spot) × IsBadSignal check ss s.at)
+bad-at check ss = placed (IsBadSignal check ss) (bad-signal check ss)
+
 clean-14 : (s : List ℕ) (n : ℕ) → IsClean (SignalsFail s n) 14
 clean-14 s n CutSignals lt fails = omega arith
 clean-14 s n (UnprintableSignals at) lt fails = omega arith
@@ -214,10 +258,10 @@ clean-14 s n e lt fails = fails
 pub signal-rows : (s : List ℕ) (n : ℕ) → IsCleanOrFirst (SignalsFail s n) 21
 signal-rows s n =
     row (SignalsFail s n) 20 (λ at. refl) (plain (rows.too-large (signals_of s n)))
-    (row (SignalsFail s n) 19 (λ at. refl) (bad-signal checks.Samples (signals_of s n))
-    (row (SignalsFail s n) 18 (λ at. refl) (bad-signal checks.Digital (signals_of s n))
-    (row (SignalsFail s n) 17 (λ at. refl) (bad-signal checks.Physical (signals_of s n))
+    (row (SignalsFail s n) 19 (λ at. refl) (bad-at checks.Samples (signals_of s n))
+    (row (SignalsFail s n) 18 (λ at. refl) (bad-at checks.Digital (signals_of s n))
+    (row (SignalsFail s n) 17 (λ at. refl) (bad-at checks.Physical (signals_of s n))
     (row (SignalsFail s n) 16 (λ at. refl) (plain (negated (rows.annotations (signals_of s n))))
-    (row (SignalsFail s n) 15 (λ at. refl) (unprintable-signals s)
+    (row (SignalsFail s n) 15 (λ at. refl) (placed (HasBadByteAt s) (unprintable-signals s))
     (row (SignalsFail s n) 14 (λ at. refl) (plain (less (length s) (256 * n)))
     (inl (clean-14 s n))))))))

@@ -1,12 +1,12 @@
 -- A fixed part that bytes spell: it has no fault, is one, and keeps the bounds.
-use Rattle.std.proofs.Common.{◌≡◌, ℕ, suc, ◌+◌, ◌^◌, ◌≤◌, ◌<◌, Bool, true, false, eqb, cond, List}
+use Rattle.std.proofs.Common.{◌≡◌, ℕ, suc, ◌+◌, ◌^◌, ◌≤◌, ◌<◌, Bool, true, false, cond, List}
 use Rattle.std.proofs.Common.{[], ◌∷◌, length, take, drop, arith, refl, sym, ap, ◌∙◌, subst, inl}
 use Rattle.std.proofs.Common.{inr, one-add, ℤ, Option, Some, None}
 use Rattle.std.specs.Prelude.{All, codes}
 use Rattle.std.specs.List.{prefix_len}
 use Rattle.std.specs.Char.{is_ascii_digit, digit_value}
 use Rattle.std.specs.Str.Parse.{AllDigits}
-use Rattle.std.proofs.lemmas.Bool.{cases_lt, cases_eq}
+use Rattle.std.proofs.lemmas.Bool.{cases_lt}
 use Rattle.std.proofs.lemmas.Bool.Decides.{nat_tests}
 use Rattle.std.proofs.lemmas.Int.Digits.{digits_value-lt}
 use Rattle.std.proofs.lemmas.List.{length-take, length-drop}
@@ -27,13 +27,16 @@ use Rattle.edf_header.specs.declared.fault.HeaderFault.TheVariants.{Cut, Unprint
 use Rattle.edf_header.specs.declared.fault.HeaderFault.TheVariants.{Patient, Recording, Startdate}
 use Rattle.edf_header.specs.declared.fault.HeaderFault.TheVariants.{Starttime, DatesDiffer, NotPlus}
 use Rattle.edf_header.specs.declared.fault.HeaderFault.TheVariants.{Count, Duration, Signals}
-use Rattle.edf_header.specs.declared.fault.HeaderFault.TheVariants.{HeaderBytes, CutSignals}
-use Rattle.edf_header.specs.declared.fault.HeaderFault.TheVariants.{UnprintableSignals, Annotations}
-use Rattle.edf_header.specs.declared.fault.HeaderFault.TheVariants.{Physical, Digital, Samples}
-use Rattle.edf_header.specs.declared.fault.HeaderFault.TheVariants.{Size, Memory}
+use Rattle.edf_header.specs.declared.fault.HeaderFault.TheVariants.{HeaderBytes}
+use Rattle.edf_field.specs.declared.fault.PatientFault.{PatientFault}
+use Rattle.edf_field.specs.declared.fault.RecordingFault.{RecordingFault}
+use Rattle.edf_field.proofs.Cited.{patient-no-fault, one-patient-fault}
+use Rattle.edf_field.proofs.Cited.{recording-no-fault, one-recording-fault}
+use Rattle.edf_header.specs.declared.format.Format.{Format}
+use Rattle.edf_header.proofs.Formats.{one-format}
 use Rattle.edf_header.proofs.Startdates.{has-startdate, same-startdates}
 
-one-number : (text : List ℕ) (m n : ℕ) → IsNumber text m → IsNumber text n → m ≡ n
+pub one-number : (text : List ℕ) (m n : ℕ) → IsNumber text m → IsNumber text n → m ≡ n
 one-number text m n p q = p.value ∙ sym q.value
 
 -- the count that a field names
@@ -54,10 +57,12 @@ one-count text (Some m) (Some n) p q = ap (λ (k : ℕ). Some k) (one-number tex
 pub no-fault : (b : List ℕ) (h : FixedPart) → IsFixedHeader b h → (e : HeaderFault) →
     ¬ FixedPartFails b e
 no-fault b h f Cut bad = omega (arith, f.len)
-no-fault b h f (Unprintable at) bad = bad.bad 0 (f.printable at 0 bad.within)
-no-fault b h f Version bad = bad f.version
-no-fault b h f Patient bad = bad (rw (sym f.patient) f.is_patient)
-no-fault b h f Recording bad = bad h.startdate h.after f.recording
+no-fault b h f (Unprintable at format) bad = bad.0.bad 0 (f.printable at 0 bad.0.within)
+no-fault b h f (Version format) bad = bad.0 f.version
+no-fault b h f (Patient why) bad =
+    patient-no-fault (field b 8 80) why (rw (sym f.patient) f.is_patient) bad
+no-fault b h f (Recording why) bad =
+    recording-no-fault (field b 88 80) h.startdate h.after why f.recording bad
 no-fault b h f Startdate bad = has-startdate b h.startdate h.after f.recording
     (has-form (field b 168 8) h.startdate f.start.0 f.start.2) bad
 no-fault b h f Starttime bad = bad f.start.1 f.start.3
@@ -71,14 +76,7 @@ no-fault b h f HeaderBytes bad =
     let same : bad.0 ≡ h.signal_count =
     one-number (field b 252 4) bad.0 h.signal_count bad.1.0 f.signals in
     bad.2 (rw same f.header_bytes)
-no-fault b h f CutSignals bad = bad
-no-fault b h f (UnprintableSignals at) bad = bad
-no-fault b h f Annotations bad = bad
-no-fault b h f (Physical at) bad = bad
-no-fault b h f (Digital at) bad = bad
-no-fault b h f (Samples at) bad = bad
-no-fault b h f Size bad = bad
-no-fault b h f Memory bad = bad
+no-fault b h f e bad = bad
 
 pub fixed-clean : (b : List ℕ) (h : FixedPart) → IsFixedHeader b h → IsClean (FixedPartFails b) 14
 fixed-clean b h f e lt = no-fault b h f e
@@ -120,53 +118,40 @@ one-first-bad P xs a b p q =
       ]
     ]
 
--- the offset that a fault names, or 0
-abbrev spot : HeaderFault → ℕ
-spot (Unprintable offset) = offset
-spot e = 0
-
--- a fault of the fixed part, by its number and its offset
-abbrev fault_at : ℕ → ℕ → HeaderFault
-fault_at n at =
-    cond (eqb n 1) Cut (cond (eqb n 2) (Unprintable at)
-    (cond (eqb n 3) Version (cond (eqb n 4) Patient
-    (cond (eqb n 5) Recording (cond (eqb n 6) Startdate (cond (eqb n 7) Starttime
-    (cond (eqb n 8) DatesDiffer (cond (eqb n 9) NotPlus
-    (cond (eqb n 10) Count (cond (eqb n 11) Duration
-    (cond (eqb n 12) Signals HeaderBytes)))))))))))
-
-placed : (b : List ℕ) (e : HeaderFault) → FixedPartFails b e →
-    e ≡ fault_at (header_fault_number e) (spot e)
-placed b Cut fails = refl
-placed b (Unprintable at) fails = refl
-placed b Version fails = refl
-placed b Patient fails = refl
-placed b Recording fails = refl
-placed b Startdate fails = refl
-placed b Starttime fails = refl
-placed b DatesDiffer fails = refl
-placed b NotPlus fails = refl
-placed b Count fails = refl
-placed b Duration fails = refl
-placed b Signals fails = refl
-placed b HeaderBytes fails = refl
-placed b CutSignals fails = absurd fails
-placed b (UnprintableSignals at) fails = absurd fails
-placed b Annotations fails = absurd fails
-placed b (Physical at) fails = absurd fails
-placed b (Digital at) fails = absurd fails
-placed b (Samples at) fails = absurd fails
-placed b Size fails = absurd fails
-placed b Memory fails = absurd fails
-
-spot-bad : (b : List ℕ) (e : HeaderFault) → FixedPartFails b e → header_fault_number e ≡ 2 →
-    IsFirstBad IsPrintable b (spot e)
-spot-bad b (Unprintable at) fails same = fails
-spot-bad b e fails same = absurd (omega arith)
-
-spot-none : (b : List ℕ) (e : HeaderFault) → (header_fault_number e ≡ 2 → ⊥) → spot e ≡ 0
-spot-none b (Unprintable at) other = absurd (other refl)
-spot-none b e other = refl
+same-fixed : (b : List ℕ) (e f : HeaderFault) → header_fault_number e ≡ header_fault_number f →
+    FixedPartFails b e → FixedPartFails b f → e ≡ f
+same-fixed b Cut Cut same p q = refl
+same-fixed b Cut f same p q = absurd (omega arith)
+same-fixed b (Unprintable at format) (Unprintable other_at other) same p q =
+    ap (λ (n : ℕ). Unprintable n format) (one-first-bad IsPrintable b at other_at p.0 q.0)
+    ∙ ap (λ (f : Format). Unprintable other_at f) (one-format b format other p.1 q.1)
+same-fixed b (Unprintable at format) f same p q = absurd (omega arith)
+same-fixed b (Version format) (Version other) same p q =
+    ap (λ (f : Format). Version f) (one-format b format other p.1 q.1)
+same-fixed b (Version format) f same p q = absurd (omega arith)
+same-fixed b (Patient why) (Patient other) same p q =
+    ap (λ (f : PatientFault). Patient f) (one-patient-fault (field b 8 80) why other p q)
+same-fixed b (Patient why) f same p q = absurd (omega arith)
+same-fixed b (Recording why) (Recording other) same p q =
+    ap (λ (f : RecordingFault). Recording f) (one-recording-fault (field b 88 80) why other p q)
+same-fixed b (Recording why) f same p q = absurd (omega arith)
+same-fixed b Startdate Startdate same p q = refl
+same-fixed b Startdate f same p q = absurd (omega arith)
+same-fixed b Starttime Starttime same p q = refl
+same-fixed b Starttime f same p q = absurd (omega arith)
+same-fixed b DatesDiffer DatesDiffer same p q = refl
+same-fixed b DatesDiffer f same p q = absurd (omega arith)
+same-fixed b NotPlus NotPlus same p q = refl
+same-fixed b NotPlus f same p q = absurd (omega arith)
+same-fixed b Count Count same p q = refl
+same-fixed b Count f same p q = absurd (omega arith)
+same-fixed b Duration Duration same p q = refl
+same-fixed b Duration f same p q = absurd (omega arith)
+same-fixed b Signals Signals same p q = refl
+same-fixed b Signals f same p q = absurd (omega arith)
+same-fixed b HeaderBytes HeaderBytes same p q = refl
+same-fixed b HeaderBytes f same p q = absurd (omega arith)
+same-fixed b e f same p q = absurd p
 
 same-number : (b : List ℕ) (e f : HeaderFault) → IsFirst (FixedPartFails b) e →
     IsFirst (FixedPartFails b) f → header_fault_number e ≡ header_fault_number f
@@ -181,15 +166,7 @@ same-number b e f p q =
 
 pub one-fault : (b : List ℕ) (e f : HeaderFault) → IsFirst (FixedPartFails b) e →
     IsFirst (FixedPartFails b) f → e ≡ f
-one-fault b e f p q =
-    let same = same-number b e f p q in
-    let spots : spot e ≡ spot f = elim (cases_eq (header_fault_number e) 2) [
-      | inl two ↦ one-first-bad IsPrintable b (spot e) (spot f) (spot-bad b e p.0 two)
-          (spot-bad b f q.0 (sym same ∙ two))
-      | inr other ↦ spot-none b e other ∙ sym (spot-none b f (λ two. other (same ∙ two)))
-    ] in
-    placed b e p.0 ∙ ap (λ (n : ℕ). fault_at n (spot e)) same
-    ∙ ap (fault_at (header_fault_number f)) spots ∙ sym (placed b f q.0)
+one-fault b e f p q = same-fixed b e f (same-number b e f p q) p.0 q.0
 
 -- ---- the bounds
 

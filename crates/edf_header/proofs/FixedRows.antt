@@ -6,13 +6,15 @@ use Rattle.edf_time.specs.declared.civil.StartFault.{StartFault}
 use Rattle.edf_time.specs.declared.civil.StartFault.TheVariants as why
 use Rattle.edf_time.proofs.Cited.{has-form}
 use Rattle.edf_field.specs.Number.{field, IsDuration}
-use Rattle.edf_field.specs.Text.{IsStartdate, IsRecording, after_of}
+use Rattle.edf_field.specs.Text.{IsPatient, IsStartdate, IsRecording, after_of}
+use Rattle.edf_field.proofs.Cited.{patient-no-fault, recording-no-fault}
 use Rattle.edf_header.specs.Fault.{FixedPartFails, IsClean, IsFirst}
 use Rattle.edf_header.specs.Condition.{HasSignals}
 use Rattle.edf_header.specs.Fault.{header_fault_number}
 use Rattle.edf_header.specs.declared.fault.HeaderFault.{HeaderFault}
-use Rattle.edf_header.specs.declared.fault.HeaderFault.TheVariants.{Recording, Startdate, Starttime}
-use Rattle.edf_header.specs.declared.fault.HeaderFault.TheVariants.{DatesDiffer, Duration, Signals}
+use Rattle.edf_header.specs.declared.fault.HeaderFault.TheVariants.{Patient, Recording, Startdate}
+use Rattle.edf_header.specs.declared.fault.HeaderFault.TheVariants.{Starttime, DatesDiffer}
+use Rattle.edf_header.specs.declared.fault.HeaderFault.TheVariants.{Duration, Signals}
 use Rattle.edf_header.proofs.Startdates.{has-startdate, no-startdate, same-startdates}
 use Rattle.edf_header.proofs.Startdates.{other-startdates}
 
@@ -25,13 +27,24 @@ clean-more Holds n clean row fault lt holds =
       | inr le ↦ row fault (omega arith) holds
     ]
 
+-- E4
+past-patient : (b : List ℕ) → IsPatient (field b 8 80) → (fault : HeaderFault) →
+    header_fault_number fault ≡ 4 → ¬ FixedPartFails b fault
+past-patient b is (Patient why) e fails = patient-no-fault (field b 8 80) why is fails
+past-patient b is fault e fails = absurd (omega arith)
+
+pub patient-in : (b : List ℕ) → IsClean (FixedPartFails b) 4 → IsPatient (field b 8 80) →
+    IsPatient (field b 8 80) × IsClean (FixedPartFails b) 5
+patient-in b clean is = (is, clean-more (FixedPartFails b) 4 clean (past-patient b is))
+
+-- E5
 past-recording : (b : List ℕ) (s : Option ℤ) (after : List ℕ) →
     IsRecording (field b 88 80) s after → (fault : HeaderFault) → header_fault_number fault ≡ 5 →
     ¬ FixedPartFails b fault
-past-recording b s after is Recording e fails = fails s after is
+past-recording b s after is (Recording why) e fails =
+    recording-no-fault (field b 88 80) s after why is fails
 past-recording b s after is fault e fails = absurd (omega arith)
 
--- E5
 after-is : (f : List ℕ) (s : Option ℤ) (after : List ℕ) → IsStartdate f s after →
     after ≡ after_of s f
 after-is f None after p = p.1

@@ -5,7 +5,7 @@ use Rattle.std.specs.Prelude.{All, ◌⊎◌, codes}
 use Rattle.std.proofs.lemmas.List.{length-take, take-append-drop}
 use Rattle.edf_time.specs.Civil.{AreStartdates, HasDateForm, IsTimeText}
 use Rattle.edf_field.specs.Number.{field, IsDuration, IsNumber}
-use Rattle.edf_field.specs.Text.{IsPrintable}
+use Rattle.edf_field.specs.Text.{IsPrintable, IsPatient}
 use Rattle.edf_header.specs.Signal.{IsFirstBad, Passes, signals_of}
 use Rattle.edf_header.specs.Header.{AreSignals, HeaderRecord, IsHeader}
 use Rattle.edf_header.specs.Fixed.{FixedPart, IsFixedHeader}
@@ -32,6 +32,7 @@ use Rattle.edf_header.proofs.DecidedFields as fields
 use Rattle.edf_time.proofs.Cited.{some-startdates, some-time}
 use Rattle.edf_header.proofs.DecidedTexts as texts
 use Rattle.edf_header.proofs.DecidedSignals as rows
+use Rattle.edf_header.proofs.Formats.{some-format}
 use Rattle.edf_header.proofs.FirstFault.{fixed-rows, signal-rows}
 use Rattle.edf_header.proofs.Startdates.{no-startdate, other-startdates}
 
@@ -46,12 +47,26 @@ some-of : {X : Type 0} (P : X → Type 0) → Decided ((x : X) × P x) → (¬ (
     × P x
 some-of P d not-none = held d (λ none. not-none (λ x p. none (x, p)))
 
+has-patient : (b : List ℕ) → IsClean (FixedPartFails b) 14 → IsPatient (field b 8 80)
+has-patient b clean =
+    elim (texts.patient-or-fault (field b 8 80)) [
+      | inl is ↦ is
+      | inr f ↦ absurd (clean (Patient f.0) (omega arith) f.1)
+    ]
+
+has-recording : (b : List ℕ) → IsClean (FixedPartFails b) 14 →
+    texts.HasRecording (field b 88 80)
+has-recording b clean =
+    elim (texts.recording-or-fault (field b 88 80)) [
+      | inl is ↦ is
+      | inr f ↦ absurd (clean (Recording f.0) (omega arith) f.1)
+    ]
+
 fixed-part : (b : List ℕ) → length b ≤ 256 → IsClean (FixedPartFails b) 14 → (h : FixedPart)
     × IsFixedHeader b h
 fixed-part b le clean =
-    let recording : texts.HasRecording (field b 88 80) =
-    held (texts.recording (field b 88 80)) (λ none.
-    clean Recording (omega arith) (λ s after is. none (s, after, is))) in
+    let format = some-format b in
+    let recording : texts.HasRecording (field b 88 80) = has-recording b clean in
     let form : HasDateForm (field b 168 8) recording.0 =
     held (texts.date-form (field b 168 8) recording.0)
     (λ none. clean Startdate (omega arith)
@@ -78,10 +93,12 @@ fixed-part b le clean =
       },
       record {
         len = let long : ¬ (length b < 256) = clean Cut (omega arith) in omega (arith, long);
-        printable = all-printable b (λ at. clean (Unprintable at) (omega arith));
-        version = held (same-bytes (field b 0 8) (codes "0       ")) (clean Version (omega arith));
+        printable = all-printable b (λ at bad.
+            clean (Unprintable at format.0) (omega arith) (bad, format.1));
+        version = held (same-bytes (field b 0 8) (codes "0       "))
+            (λ other. clean (Version format.0) (omega arith) (other, format.1));
         patient = refl;
-        is_patient = held (texts.patient (field b 8 80)) (clean Patient (omega arith));
+        is_patient = has-patient b clean;
         recording = recording.2;
         start = (date.0, time.0, date.1, time.1, refl);
         header_bytes = held (fields.number (field b 184 8) (256 + 256 * signals.0))

@@ -26,32 +26,22 @@ same-order b e f p q =
 same-fault : (b : List ℕ) (e f : IdentityFault) → identity_fault_order e ≡ identity_fault_order f →
     KeyFails b e → KeyFails b f → e ≡ f
 same-fault b Length Length same p q = refl
-same-fault b Length f same p q = absurd (omega arith)
 same-fault b (Unprintable x) (Unprintable y) same p q =
     ap (λ (o : ℕ). Unprintable o) (one-first-bad IsPrintable 0 b x y p q)
-same-fault b (Unprintable x) f same p q = absurd (omega arith)
 same-fault b Patient Patient same p q = refl
-same-fault b Patient f same p q = absurd (omega arith)
 same-fault b Recording Recording same p q = refl
-same-fault b Recording f same p q = absurd (omega arith)
 same-fault b Duration Duration same p q = refl
-same-fault b Duration f same p q = absurd (omega arith)
 same-fault b (Label x) (Label y) same p q =
     ap (λ (o : ℕ). Label o) (one-bad-signal checks.Label (signals_at b) x y p q)
-same-fault b (Label x) f same p q = absurd (omega arith)
 same-fault b (Physical x) (Physical y) same p q =
     ap (λ (o : ℕ). Physical o) (one-bad-signal checks.Physical (signals_at b) x y p q)
-same-fault b (Physical x) f same p q = absurd (omega arith)
 same-fault b (Digital x) (Digital y) same p q =
     ap (λ (o : ℕ). Digital o) (one-bad-signal checks.Digital (signals_at b) x y p q)
-same-fault b (Digital x) f same p q = absurd (omega arith)
 same-fault b (Samples x) (Samples y) same p q =
     ap (λ (o : ℕ). Samples o) (one-bad-signal checks.Samples (signals_at b) x y p q)
-same-fault b (Samples x) f same p q = absurd (omega arith)
 same-fault b Size Size same p q = refl
-same-fault b Size f same p q = absurd (omega arith)
 same-fault b Memory Memory same p q = refl
-same-fault b Memory f same p q = absurd (omega arith)
+same-fault b e f same p q = absurd (omega arith)
 
 pub one-key-fault : (b : List ℕ) (e f : IdentityFault) → IsFirstKeyFault b e → IsFirstKeyFault b f →
     e ≡ f

@@ -2,6 +2,7 @@ pub mod Decided
 pub mod DecidedFields
 pub mod DecidedTexts
 pub mod DecidedSignals
+pub mod Formats
 pub mod FirstFault
 pub mod HeaderOrFault
 pub mod Strides

@@ -22,7 +22,7 @@ use Rattle.edf_header.specs.declared.fault.HeaderFault.TheVariants.{HeaderBytes,
 use Rattle.edf_header.specs.declared.fault.HeaderFault.TheVariants.{UnprintableSignals, Annotations}
 use Rattle.edf_header.specs.declared.fault.HeaderFault.TheVariants.{Physical, Digital, Samples}
 use Rattle.edf_header.specs.declared.fault.HeaderFault.TheVariants.{Size}
-use Rattle.edf_header.proofs.FixedLaws.{no-fault, one-fixed, one-fault}
+use Rattle.edf_header.proofs.FixedLaws.{no-fault, one-fixed, one-fault, one-number}
 use Rattle.edf_header.proofs.SignalLaws.{one-signals, signals-clean}
 use Rattle.edf_header.proofs.SpelledParts.{IsPartAt, part-here}
 
@@ -68,9 +68,6 @@ number-at b at n fits =
     let small : n ≤ 256 - at = omega arith in
     ap (λ (k : ℕ). field (take k b) at n) whole ∙ ap (take n) (drop-take at (256 - at) b)
     ∙ take-take n (256 - at) (drop at b) small
-
-one-number : (text : List ℕ) (m n : ℕ) → IsNumber text m → IsNumber text n → m ≡ n
-one-number text m n p q = p.value ∙ sym q.value
 
 -- the number of signals that the fixed part names
 same-count : (b : List ℕ) (h : HeaderRecord) (r : List ℕ) (n : ℕ) → (i : IsHeader b h r) →
@@ -174,10 +171,10 @@ one-signals-fault s n e f p q = same-fault s n e f (same-number (SignalsFail s n
 -- a fault of the fixed part has a number below 14
 fails-below : (b : List ℕ) (e : HeaderFault) → FixedPartFails b e → header_fault_number e < 14
 fails-below b Cut fails = omega arith
-fails-below b (Unprintable at) fails = omega arith
-fails-below b Version fails = omega arith
-fails-below b Patient fails = omega arith
-fails-below b Recording fails = omega arith
+fails-below b (Unprintable at format) fails = omega arith
+fails-below b (Version format) fails = omega arith
+fails-below b (Patient why) fails = omega arith
+fails-below b (Recording why) fails = omega arith
 fails-below b Startdate fails = omega arith
 fails-below b Starttime fails = omega arith
 fails-below b DatesDiffer fails = omega arith

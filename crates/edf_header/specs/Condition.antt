@@ -25,10 +25,7 @@ HasNoSignals b = (n : ℕ) → ¬ HasSignals b n
 abbrev pub HasOtherHeaderBytes : List ℕ → Type 0
 HasOtherHeaderBytes b = (n : ℕ) × HasSignals b n × ¬ IsNumber (header_bytes_field b) (256 + 256 * n)
 
--- the text is no recording identification, no time, no duration
-abbrev pub IsNoRecording : List ℕ → Type 0
-IsNoRecording text = (startdate : Option ℤ) (after : List ℕ) → ¬ IsRecording text startdate after
-
+-- the text is no time, no duration
 abbrev pub IsNoTime : List ℕ → Type 0
 IsNoTime text = (seconds : ℕ) → ¬ IsTimeText text seconds
 

@@ -3,12 +3,14 @@
 use Rattle.std.specs.Prelude.{◌≡◌, ◌≢◌, ℕ, ◌*◌, ◌<◌, ◌⊎◌, List, length, codes, take, Option, Some}
 use Rattle.std.specs.Prelude.{None}
 use Rattle.edf_field.specs.Number.{field}
-use Rattle.edf_field.specs.Text.{IsPrintable, IsPatient}
+use Rattle.edf_field.specs.Text.{IsPrintable}
+use Rattle.edf_field.specs.Fault.{IsPatientFault, IsRecordingFault}
 use Rattle.edf_header.specs.Fields.{version_field, patient_field, recording_field, startdate_field}
 use Rattle.edf_header.specs.Fields.{starttime_field, reserved_field, duration_field}
 use Rattle.edf_header.specs.Signal.{signals_of, IsFirstBad}
 use Rattle.edf_header.specs.Fixed.{IsPlus}
-use Rattle.edf_header.specs.Condition.{HasCount, HasNoSignals, HasOtherHeaderBytes, IsNoRecording}
+use Rattle.edf_header.specs.Format.{IsFormat}
+use Rattle.edf_header.specs.Condition.{HasCount, HasNoSignals, HasOtherHeaderBytes}
 use Rattle.edf_header.specs.Condition.{IsNoTime, IsNoDuration, IsNoStartdate, HasNoYear}
 use Rattle.edf_header.specs.Condition.{DatesAreOther, HasAnnotations, IsBadSignal, IsTooLarge}
 use Rattle.edf_header.specs.Condition.{HasBadByteAt}
@@ -28,10 +30,11 @@ pub use Rattle.edf_header.specs.Condition.{HasSignals}
 -- E1 to E13: the fault is true of b, the fixed part's bytes
 abbrev pub FixedPartFails : List ℕ → HeaderFault → Type 0
 FixedPartFails b Cut = length b < 256  -- E1
-FixedPartFails b (Unprintable offset) = IsFirstBad IsPrintable b offset  -- E2
-FixedPartFails b Version = version_field b ≢ codes "0       "  -- E3
-FixedPartFails b Patient = ¬ IsPatient (patient_field b)  -- E4
-FixedPartFails b Recording = IsNoRecording (recording_field b)  -- E5
+FixedPartFails b (Unprintable offset format) = IsFirstBad IsPrintable b offset  -- E2
+    × IsFormat b format
+FixedPartFails b (Version format) = (version_field b ≢ codes "0       ") × IsFormat b format  -- E3
+FixedPartFails b (Patient fault) = IsPatientFault (patient_field b) fault  -- E4
+FixedPartFails b (Recording fault) = IsRecordingFault (recording_field b) fault  -- E5
 FixedPartFails b Startdate = IsNoStartdate (startdate_field b) ⊎ HasNoYear b  -- E6
 FixedPartFails b Starttime = IsNoTime (starttime_field b)  -- E7
 FixedPartFails b DatesDiffer = DatesAreOther b  -- E8
@@ -56,10 +59,10 @@ SignalsFail s n _ = ⊥
 -- the numbers, by which the faults are ordered
 abbrev pub header_fault_number : HeaderFault → ℕ
 header_fault_number Cut = 1
-header_fault_number (Unprintable offset) = 2
-header_fault_number Version = 3
-header_fault_number Patient = 4
-header_fault_number Recording = 5
+header_fault_number (Unprintable offset format) = 2
+header_fault_number (Version format) = 3
+header_fault_number (Patient fault) = 4
+header_fault_number (Recording fault) = 5
 header_fault_number Startdate = 6
 header_fault_number Starttime = 7
 header_fault_number DatesDiffer = 8
@@ -80,10 +83,10 @@ header_fault_number Memory = 41
 -- the names: those of the variants
 abbrev pub header_fault_name : HeaderFault → List ℕ
 header_fault_name Cut = codes "Cut"
-header_fault_name (Unprintable offset) = codes "Unprintable"
-header_fault_name Version = codes "Version"
-header_fault_name Patient = codes "Patient"
-header_fault_name Recording = codes "Recording"
+header_fault_name (Unprintable offset format) = codes "Unprintable"
+header_fault_name (Version format) = codes "Version"
+header_fault_name (Patient fault) = codes "Patient"
+header_fault_name (Recording fault) = codes "Recording"
 header_fault_name Startdate = codes "Startdate"
 header_fault_name Starttime = codes "Starttime"
 header_fault_name DatesDiffer = codes "DatesDiffer"
@@ -103,7 +106,7 @@ header_fault_name Memory = codes "Memory"
 
 -- the offset in the file of a byte that is not printable
 abbrev pub header_fault_offset : HeaderFault → Option ℕ
-header_fault_offset (Unprintable offset) = Some offset
+header_fault_offset (Unprintable offset format) = Some offset
 header_fault_offset (UnprintableSignals offset) = Some offset
 header_fault_offset _ = None
 

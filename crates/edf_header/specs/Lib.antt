@@ -3,6 +3,7 @@ pub mod Signal
 pub mod Key
 pub mod Fixed
 pub mod Header
+pub mod Format
 pub mod Condition
 pub mod Fault
 pub mod Canonical

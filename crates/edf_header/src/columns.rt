@@ -1,9 +1,8 @@
 //! The signal part of a header, whose fields are in columns: each field of all signals in turn
 //! (EDF, header record). In an identity the fields of one signal are in a row.
-ghost use Rattle.std.specs.Prelude.{◌≡◌, ℕ, ◌+◌, ◌*◌, ◌/◌, ◌%◌, ◌≤◌, ◌<◌, List, [], ◌∷◌, ◌++◌};
+ghost use Rattle.std.specs.Prelude.{◌≡◌, ℕ, ◌+◌, ◌*◌, ◌/◌, ◌≤◌, ◌<◌, List, [], ◌∷◌, ◌++◌};
 ghost use Rattle.std.specs.Prelude.{length, slice_index_or, OnOk};
 ghost use Rattle.edf_field.specs.Number.{field};
-ghost use Rattle.edf_header.specs.Fields.{fields};
 ghost use Rattle.edf_header.specs.Signal.{column_of, columns, row_at, rows_of, signals_of};
 
 use crate::fields::ROW;

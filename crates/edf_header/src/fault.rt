@@ -2,77 +2,92 @@ ghost use Rattle.std.specs.Prelude.{◌≡◌};
 ghost use Rattle.edf_header.specs.Fault.{header_fault_number, header_fault_name};
 ghost use Rattle.edf_header.specs.Fault.{header_fault_offset, header_fault_signal};
 
+use crate::format::Format;
+use edf_field::{PatientFault, RecordingFault};
 use thiserror::Error;
+
+/// What is wrong with a file of this format by which a byte is not printable, or that is not EDF.
+fn format_words(format: &Format) -> &'static str {
+    match format {
+        Format::Edf => "a byte of its header is no printable ASCII",
+        Format::Bdf => "a BDF file, whose samples have 24 bits",
+        Format::Zip => "a ZIP file",
+        Format::Sqlite => "an SQLite file",
+        Format::Other => "its first bytes are not those of EDF",
+    }
+}
 
 /// Why a header is refused, the first condition by number (EDF, header record; EDF+, additional
 /// specifications and the annotations signal). Signals count from 1, offsets in bytes from the
-/// file's first, which is 0.
+/// file's first, which is 0. The sentence of each is for a person who has its line, which names
+/// these.
 #[derive(Clone, Copy, Debug, PartialEq, Eq, Drop, Error)]
 pub enum HeaderFault {
     /// E1: the file has fewer than 256 bytes.
-    #[error("the file has fewer than 256 bytes")]
+    #[error("it has fewer than 256 bytes")]
     Cut,
-    /// E2: a byte of the fixed part is not 32 to 126.
-    #[error("byte {offset} is not printable")]
-    Unprintable { offset: usize },
-    /// E3: the version is not `0` and seven spaces.
-    #[error("the version is not 0")]
-    Version,
+    /// E2: a byte of the fixed part is not 32 to 126. The file is what its first bytes say.
+    #[error("{what}", what = format_words(.format))]
+    Unprintable { offset: usize, format: Format },
+    /// E3: the version is not `0` and seven spaces. The file is what its first bytes say.
+    #[error("{what}", what = format_words(.0))]
+    Version(Format),
     /// E4: the patient field is no patient identification of EDF+.
-    #[error("the patient identification is not that of EDF+")]
-    Patient,
+    #[error("{0}")]
+    Patient(PatientFault),
     /// E5: the recording field is no recording identification of EDF+.
-    #[error("the recording identification is not that of EDF+")]
-    Recording,
+    #[error("{0}")]
+    Recording(RecordingFault),
     /// E6: the startdate is not `dd.mm.yy` of a day of 1985 to 2084, nor such a text with the
     /// letters `yy` and a date in the Startdate subfield.
-    #[error("the startdate is no date")]
+    #[error("its startdate is no day as dd.mm.yy")]
     Startdate,
     /// E7: the starttime is not `hh.mm.ss` of a second of a day.
-    #[error("the starttime is no time")]
+    #[error("its starttime is no second as hh.mm.ss")]
     Starttime,
     /// E8: the Startdate subfield is a date, and not the startdate's.
-    #[error("the Startdate subfield is not the startdate")]
+    #[error("its startdate and the one in its recording field differ")]
     DatesDiffer,
     /// E9: the reserved field does not begin with `EDF+C` or `EDF+D`.
-    #[error("the file is not EDF+")]
+    #[error("plain EDF has no annotations signal and no start for each data record")]
     NotPlus,
     /// E10: the number of data records is no whole number from 1 on, and not `-1` and six spaces.
-    #[error("the number of data records is not a whole number from 1 on, and not -1")]
+    #[error("its number of data records is no number above 0")]
     Count,
     /// E11: the duration of a data record is no decimal, or out of range.
-    #[error("the duration of a data record is not a decimal, or out of range")]
+    #[error("its duration of data records is no decimal above 0")]
     Duration,
     /// E12: the number of signals is no whole number from 2 to [`crate::MOST_SIGNALS`].
-    #[error("the number of signals is not a whole number, or out of range")]
+    #[error("its number of signals is not from 2 to 640")]
     Signals,
     /// E13: the number of header bytes is not 256 and 256 for each signal.
-    #[error("the number of header bytes is not that of the signals")]
+    #[error("its header was edited or is damaged")]
     HeaderBytes,
     /// E14: the file ends in the signal part of the header.
-    #[error("the file ends in the signal headers")]
+    #[error("it ends in its header")]
     CutSignals,
     /// E15: a byte of the signal part is not 32 to 126.
-    #[error("byte {offset} is not printable")]
+    #[error("a byte of its signals' headers is no printable ASCII")]
     UnprintableSignals { offset: usize },
     /// E16: no signal is labelled `EDF Annotations` and a space, or every signal; or of one so
     /// labelled the digital minimum is not -32,768, the maximum not 32,767, or the physical ones
     /// are no numbers, or equal.
-    #[error("no annotations signal, no ordinary one, or an annotations signal is not well-formed")]
+    #[error("it has no annotations signal, or nothing else, or that signal's limits are not those \
+        of EDF+")]
     Annotations,
     /// E17: an ordinary signal's physical minimum and maximum are no numbers, or equal.
-    #[error("signal {signal} has no two different physical values")]
+    #[error("this signal's physical limits are no numbers, or equal")]
     Physical { signal: u32 },
     /// E18: an ordinary signal's digital minimum and maximum are no whole numbers of -32,768 to
     /// 32,767, or do not rise.
-    #[error("signal {signal} has no two rising digital values of 16 bits")]
+    #[error("this signal's digital limits are no numbers of 16 bits, or don't rise")]
     Digital { signal: u32 },
     /// E19: a signal's samples per data record are no whole number from 1 on.
-    #[error("signal {signal} has no samples per data record")]
+    #[error("this signal has no samples")]
     Samples { signal: u32 },
     /// E20: the ordinary samples of a data record, or its annotations blocks together, have more
     /// than 4,194,304 bytes.
-    #[error("a data record is too large")]
+    #[error("its data records are too long")]
     Size,
     /// E41: memory ran out.
     #[error("out of memory")]
@@ -86,10 +101,10 @@ impl HeaderFault {
     {
         match self {
             HeaderFault::Cut => 1,
-            HeaderFault::Unprintable { offset: _ } => 2,
-            HeaderFault::Version => 3,
-            HeaderFault::Patient => 4,
-            HeaderFault::Recording => 5,
+            HeaderFault::Unprintable { .. } => 2,
+            HeaderFault::Version(_) => 3,
+            HeaderFault::Patient(_) => 4,
+            HeaderFault::Recording(_) => 5,
             HeaderFault::Startdate => 6,
             HeaderFault::Starttime => 7,
             HeaderFault::DatesDiffer => 8,
@@ -115,10 +130,10 @@ impl HeaderFault {
     {
         match self {
             HeaderFault::Cut => "Cut",
-            HeaderFault::Unprintable { offset: _ } => "Unprintable",
-            HeaderFault::Version => "Version",
-            HeaderFault::Patient => "Patient",
-            HeaderFault::Recording => "Recording",
+            HeaderFault::Unprintable { .. } => "Unprintable",
+            HeaderFault::Version(_) => "Version",
+            HeaderFault::Patient(_) => "Patient",
+            HeaderFault::Recording(_) => "Recording",
             HeaderFault::Startdate => "Startdate",
             HeaderFault::Starttime => "Starttime",
             HeaderFault::DatesDiffer => "DatesDiffer",
@@ -143,7 +158,7 @@ impl HeaderFault {
         ensures { result ≡ header_fault_offset self.now }
     {
         match self {
-            HeaderFault::Unprintable { offset } => Some(*offset),
+            HeaderFault::Unprintable { offset, .. } => Some(*offset),
             HeaderFault::UnprintableSignals { offset } => Some(*offset),
             _ => None,
         }

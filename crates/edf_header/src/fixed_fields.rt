@@ -17,9 +17,10 @@ use crate::fields::{
     COUNT, DURATION, FIXED_END, HEADER_BYTES, PATIENT, RECORDING, RESERVED, SIGNALS, STARTDATE,
     STARTTIME, VERSION,
 };
+use crate::format::format_of;
 use crate::limits::MOST_SIGNALS;
 use crate::signal_checks::first_unprintable;
-use edf_field::{is_patient, read_duration, read_recording, read_whole};
+use edf_field::{patient_fault, read_duration, read_recording, read_whole};
 use edf_time::{Day, Instant, StartFault, start_of};
 
 /// The field of N bytes at this offset.
@@ -39,7 +40,10 @@ pub(crate) fn check_printable(bytes: &[u8; 256]) -> Result<(), HeaderFault>
         (IsFirst (FixedPartFails bytes.now)) }
 {
     match first_unprintable(bytes.as_slice()) {
-        Some(offset) => Err(HeaderFault::Unprintable { offset }),
+        Some(offset) => {
+            let format = format_of(bytes);
+            Err(HeaderFault::Unprintable { offset, format })
+        }
         None => Ok(()),
     }
 }
@@ -52,7 +56,7 @@ pub(crate) fn check_version(bytes: &[u8; 256]) -> Result<(), HeaderFault>
         (IsFirst (FixedPartFails bytes.now)) }
 {
     if &bytes[VERSION..PATIENT] != b"0       ".as_slice() {
-        return Err(HeaderFault::Version);
+        return Err(HeaderFault::Version(format_of(bytes)));
     }
     Ok(())
 }
@@ -64,10 +68,10 @@ pub(crate) fn check_patient(bytes: &[u8; 256]) -> Result<(), HeaderFault>
         (λ _. IsPatient (patient_field bytes.now) × IsClean (FixedPartFails bytes.now) 5)
         (IsFirst (FixedPartFails bytes.now)) }
 {
-    if !is_patient(&bytes[PATIENT..RECORDING]) {
-        return Err(HeaderFault::Patient);
+    match patient_fault(&bytes[PATIENT..RECORDING]) {
+        Some(why) => Err(HeaderFault::Patient(why)),
+        None => Ok(()),
     }
-    Ok(())
 }
 
 /// The day of the Startdate subfield in the recording field, bytes 88 to 167, or none where that
@@ -81,8 +85,8 @@ pub(crate) fn read_startdate(bytes: &[u8; 256]) -> Result<Option<Day>, HeaderFau
         (IsFirst (FixedPartFails bytes.now)) }
 {
     match read_recording(&bytes[RECORDING..STARTDATE]) {
-        Some((startdate, _)) => Ok(startdate),
-        None => Err(HeaderFault::Recording),
+        Ok((startdate, _)) => Ok(startdate),
+        Err(why) => Err(HeaderFault::Recording(why)),
     }
 }
 

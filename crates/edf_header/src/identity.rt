@@ -1,14 +1,11 @@
-ghost use Rattle.std.specs.Prelude.{◌≡◌, ◌≤◌, ◌<◌, ◌+◌, ◌*◌, ◌^◌, ◌↔◌, ◌∷◌, ◌++◌, List, ℕ, IfOk};
-ghost use Rattle.std.specs.Prelude.{OnOk, IsTrue, MatchResult, All, length, take, if◌then◌else◌};
+ghost use Rattle.std.specs.Prelude.{◌≡◌, ◌≤◌, ◌<◌, ◌+◌, ◌*◌, ◌↔◌, ◌++◌, IfOk};
+ghost use Rattle.std.specs.Prelude.{OnOk, IsTrue, MatchResult, length};
 ghost use Rattle.edf_field.specs.Number.{duration_of};
-ghost use Rattle.edf_field.specs.Text.{FollowsStartdate, subfields};
 ghost use Rattle.edf_header.specs.Signal.{rows_of, ordinary, samples_in_all};
-ghost use Rattle.edf_header.specs.Signal.{HasSamples, Passes};
 ghost use Rattle.edf_header.specs.Key.{Key, IsKey, MayStart, dated_bytes, key_bytes, key_at};
 ghost use Rattle.edf_header.specs.Key.{patient_code, investigation_code};
-ghost use Rattle.edf_header.specs.Identity.{HasLength, HasMark, signals_at, IsCleanKey};
 ghost use Rattle.edf_header.specs.Identity.{IsFirstKeyFault};
-ghost use Rattle.edf_header.specs.Inside.Shape.{key_from, check_order};
+ghost use Rattle.edf_header.specs.Inside.Shape.{key_from};
 
 use crate::columns::Columns;
 use crate::fields::{KEY_DURATION, KEY_MARK, KEY_PATIENT, KEY_SIGNALS};

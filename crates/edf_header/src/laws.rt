@@ -1,6 +1,6 @@
 //! Laws of headers and identities: each function has a law for a contract, and does nothing.
 
-ghost use Rattle.std.specs.Prelude.{◌≡◌, ◌<◌, ◌≤◌, ◌^◌, ℕ, List, All, length};
+ghost use Rattle.std.specs.Prelude.{◌≡◌, ◌<◌, ◌≤◌, ℕ, List, All, length};
 ghost use Rattle.edf_field.specs.Number.{duration_of};
 ghost use Rattle.edf_header.specs.Signal.{columns, signals_of};
 ghost use Rattle.edf_header.specs.Key.{Key, IsKey, IsSized, key_bytes, key_at};

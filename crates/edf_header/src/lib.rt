@@ -3,7 +3,8 @@
 //! - [`read_fixed`], [`Fixed`]: the fixed part, 256 bytes, or the first of E2 to E13.
 //! - [`read_signals`], [`Header`]: the signal part, 256 bytes a signal, or the first of E14 to E20;
 //!   what a header says of its data records.
-//! - [`HeaderFault`]: why a header is refused, E1 to E20.
+//! - [`HeaderFault`]: why a header is refused, E1 to E20; [`Format`], [`format_of`]: what a file is
+//!   by its first bytes.
 //! - [`Identity`], [`IdentityFault`]: to which recording a file belongs, as bytes and back.
 //! - [`write_header`]: the one header that a canonical file has.
 //! - [`MOST_RECORDS`], [`MOST_BLOCK_BYTES`], [`MOST_SIGNALS`] and their like: the limits of what a
@@ -18,6 +19,7 @@ mod fault;
 mod fields;
 mod fixed;
 mod fixed_fields;
+mod format;
 mod header;
 mod header_signals;
 mod identity;
@@ -31,6 +33,7 @@ mod signals;
 pub use canonical::write_header;
 pub use fault::HeaderFault;
 pub use fixed::{Fixed, read_fixed};
+pub use format::{Format, format_of};
 pub use header::{Block, Header};
 pub use identity::{Identity, IdentityFault};
 pub use limits::{

@@ -1,4 +1,4 @@
-ghost use Rattle.std.specs.Prelude.{◌≡◌, ◌<◌, ℕ, List, length, MatchOption, IsTrue, ◌↔◌, All};
+ghost use Rattle.std.specs.Prelude.{◌≡◌, ◌<◌, MatchOption, IsTrue, ◌↔◌, All};
 ghost use Rattle.edf_field.specs.Text.{IsPrintable};
 ghost use Rattle.edf_header.specs.Signal.{rows_of, has_label, samples, IsLabelled, IsFirstBad};
 ghost use Rattle.edf_header.specs.Signal.{Passes};

@@ -92,18 +92,6 @@ held_near d r (x ∷ xs) z =
         both_ways _ e (and_from (nat_lt r.start (x.start + d)) (nat_lt x.start (r.start + d))
         (lt-ltb _ _ (omega (arith, q))) (lt-ltb _ _ (omega (arith, q))))
 
--- where nothing near is another record, the record is new exactly where nothing is near
-pub new_where_none_near : (r : DataRecord) (ns : List DataRecord) → other_of r ns ≡ None →
-    contains_record ns r ≡ false → ns ≡ []
-new_where_none_near r [] o e = refl
-new_where_none_near r (n ∷ ns) o e =
-    elim (cases_Bool (same_record r n)) [
-      | inl t ↦ absurd (both_ways _ e (or_left (same_record n r) (contains_record ns r)
-          (subst (λ (u : DataRecord). same_record n u ≡ true) (sym (same_record-true r n t))
-          (same_record-refl n))))
-      | inr t ↦ cc (sym (cond-true (not (same_record r n)) (Some n) (other_of r ns) (ap not t)) ∙ o)
-    ]
-
 pub held_where_near : (r n : DataRecord) (ns : List DataRecord) → other_of r (n ∷ ns) ≡ None →
     contains_record (n ∷ ns) r ≡ true
 held_where_near r n ns o =

@@ -210,7 +210,7 @@ again_fragment cap h h' key records w g g' up k new known q =
         let u : length records ≡ new + known = omega arith in
         cc
 
-form_reply : (cap : ℕ) (h : Holdings) (fault : FragmentFault) →
+pub form_reply : (cap : ℕ) (h : Holdings) (fault : FragmentFault) →
     reply cap h (Fault fault) ≡ Form fault
 unfolding reply
 form_reply cap h fault = refl

@@ -39,7 +39,7 @@ each-sound k low (r ∷ rs) s y (inr m) = each-sound k (r.start + duration_of k.
 
 -- a recording begins with what is there, or with an earlier record: where it may start with that,
 -- it may with this
-inserted-some : (r : DataRecord) (xs : List DataRecord) → inserted r xs ≢ []
+pub inserted-some : (r : DataRecord) (xs : List DataRecord) → inserted r xs ≢ []
 inserted-some r [] = λ e. cc
 inserted-some r (x ∷ xs) =
     cond_both (same_record x r) (x ∷ xs)

@@ -13,8 +13,7 @@ use Rattle.edf_fragment.specs.Fault.{IsFirstFault}
 use Rattle.edf_fragment.specs.Told.{Told, Fragment, Fault, Tells}
 use Rattle.edf_fragment.specs.Whole.{IsFirstWhereKnown}
 use Rattle.edf_fragment.specs.declared.fault.FragmentFault.{FragmentFault}
-use Rattle.edf_fragment.specs.declared.fault.FragmentFault.TheVariants.{Header, CutRecord, Tal}
-use Rattle.edf_fragment.specs.declared.fault.FragmentFault.TheVariants.{Trailing, Read, Memory}
+use Rattle.edf_fragment.specs.declared.fault.FragmentFault.TheVariants.{Read, Memory}
 use Rattle.edf_fragment.specs.declared.fault.FragmentFault.TheVariants.{Failed}
 use Rattle.edf_fragment.proofs.Told.{one-telling}
 use Rattle.edf_holdings.specs.Holdings.{Holdings}
@@ -61,7 +60,7 @@ own-one g mid new was (Err refused) own = of (cause refused) own
     of OfMemory own = tt
     of (OfStore fault) own = by fault own
 
-own-later : {S : Type 0} (g : Ghosts S) (mid new : StoreModel S) →
+pub own-later : {S : Type 0} (g : Ghosts S) (mid new : StoreModel S) →
     (HasCleanDisk (at g new) → HasCleanDisk (at g mid)) → (answers : List Answer) →
     AllByRecursion (IsOwnRefusal g mid) answers → AllByRecursion (IsOwnRefusal g new) answers
 own-later g mid new was [] all = tt
@@ -232,13 +231,10 @@ in_turn g old new froms tos answers all = list_then g old old new [] [] [] froms
 
 first_known : (bytes : List ℕ) (fault : FragmentFault) → IsOfForm fault →
     IsFirstWhereKnown (Some bytes) fault → IsFirstFault bytes fault
-first_known bytes (Header e) form first = first
-first_known bytes (CutRecord n) form first = first
-first_known bytes (Tal n e) form first = first
-first_known bytes Trailing form first = first
 first_known bytes Read form first = absurd form
 first_known bytes Memory form first = absurd form
 first_known bytes Failed form first = absurd form
+first_known bytes fault form first = first
 
 all_read : (bytes b : List ℕ) (rest : Option (List ℕ)) → Consumes (Some bytes) rest b →
     IsAtEnd rest → b ≡ bytes

@@ -1,5 +1,5 @@
 -- How a submission ends: what the calls of its transaction left, one after another.
-use Rattle.std.proofs.Common.{◌≡◌, ℕ, List, Some, None, Ok, Err, refl, sym, subst, ◌∙◌, inl, inr}
+use Rattle.std.proofs.Common.{◌≡◌, ℕ, List, Some, None, Ok, Err, sym, subst, ◌∙◌, inl, inr}
 use Rattle.std.proofs.Common.{arith}
 use Rattle.std.specs.Result.{IsErrAnd}
 use Rattle.sqlite_trees.specs.declared.store.Store.{Ghosts}
@@ -8,9 +8,8 @@ use Rattle.sqlite.proofs.StateLemmas.{survives_weaker}
 use Rattle.edf_header.specs.Key.{Key}
 use Rattle.edf_fragment.specs.Fragment.{DataRecord}
 use Rattle.edf_fragment.specs.Told.{Told, Fragment, Fault}
-use Rattle.edf_fragment.specs.declared.fault.FragmentFault.{FragmentFault}
 use Rattle.edf_holdings.specs.Holdings.{Holdings}
-use Rattle.edf_holdings.specs.Reply.{Reply, Form, reply, after_one}
+use Rattle.edf_holdings.specs.Reply.{Reply, reply, after_one}
 use Rattle.edf_rows.specs.Rows.{AreKept}
 use Rattle.edf_tables.proofs.Commits.{quiet_then}
 use Rattle.edf_store.specs.Held.{StoreModel, at, Holds, Stays}
@@ -34,6 +33,7 @@ use Rattle.edf_intake.specs.Inside.Taken.{IsAcceptedInside, StopsFor, IsStop, Is
 use Rattle.edf_intake.specs.declared.answer.Receipt.{Receipt}
 use Rattle.edf_intake.specs.declared.answer.Refusal.{Refusal}
 use Rattle.edf_intake.specs.declared.answer.Stop.TheVariants.{Input}
+use Rattle.edf_holdings.proofs.Replies.{form_reply}
 
 -- the refusal for a fault of the store
 pub refused_by : {S : Type 0} (g : Ghosts S) (old new : StoreModel S) (from to : InputState)
@@ -80,11 +80,6 @@ in_doubt (Store (Some error)) cause = tt
 in_doubt (Store None) cause = tt
 in_doubt Foreign cause = absurd cause
 in_doubt Failed cause = absurd cause
-
-reply_to_fault : (cap : ℕ) (h : Holdings) (fault : FragmentFault) →
-    reply cap h (Fault fault) ≡ Form fault
-unfolding reply
-reply_to_fault cap h fault = refl
 
 -- old was held, a transaction saw it as first, and last as it was to end, and new is held then
 module _ {S : Type 0} (g : Ghosts S) (old : StoreModel S) (first last : StoreTx S)
@@ -191,7 +186,7 @@ module _ {S : Type 0} (g : Ghosts S) (old : StoreModel S) (first last : StoreTx 
       refused (OfForm fault) r =
           record {
             read = r;
-            reply_is = λ clean h held. reply_to_fault old.cap h fault;
+            reply_is = λ clean h held. form_reply old.cap h fault;
             stays =
                 all_stays;
           }

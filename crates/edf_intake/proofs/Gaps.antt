@@ -36,15 +36,6 @@ none_near d start gap (x ∷ xs) late early all =
     (misses d start gap.from gap.until x late early (All-head out x xs all))
     ∙ none_near d start gap xs late early (All-tail out x xs all)
 
-pub rest_of_gap : (start : ℕ) (gap : Gap) (records : List DataRecord) → gap.from ≤ start →
-    IsGap records gap → IsGap records (record { from = start; until = gap.until })
-rest_of_gap start gap records later all =
-    let rest : Gap = record { from = start; until = gap.until } in
-    All-weaker (λ (r : DataRecord). IsOutside gap r.start)
-    (λ (r : DataRecord). IsOutside rest r.start)
-    (λ r out. elim out [ inl before ↦ inl (omega (arith, before, later)) | inr after ↦ inr after ])
-    records all
-
 -- up to the next start there is a gap
 pub next_gap : (start : ℕ) (records : List DataRecord) (until : Option ℕ) →
     IsNextStart start records until → IsGap records (record { from = start; until = until })

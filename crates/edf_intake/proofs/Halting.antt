@@ -6,8 +6,7 @@ use Rattle.edf_fragment.specs.Reading.{ReadsHeader, CountsFault, at_first}
 use Rattle.edf_fragment.specs.Whole.{IsFragmentFault, ReadsFragment}
 use Rattle.edf_fragment.specs.Fragment.{DataRecord}
 use Rattle.edf_fragment.specs.declared.fault.FragmentFault.{FragmentFault}
-use Rattle.edf_fragment.specs.declared.fault.FragmentFault.TheVariants.{Header, CutRecord, Tal}
-use Rattle.edf_fragment.specs.declared.fault.FragmentFault.TheVariants.{Trailing, Read, Memory}
+use Rattle.edf_fragment.specs.declared.fault.FragmentFault.TheVariants.{Read, Memory}
 use Rattle.edf_fragment.specs.declared.fault.FragmentFault.TheVariants.{Failed}
 use Rattle.edf_fragment.proofs.Fragments.{reads_none}
 use Rattle.edf_fragment.proofs.OneFragment.{spelled-no-fault}
@@ -31,38 +30,16 @@ pub stopped_by : {S : Type 0} (g : Ghosts S) (old new : StoreTx S) (from to : In
     (fault : FragmentFault) → IsFragmentFault from.left to.left fault →
     CountsFault from.failed to.failed fault
     → IsStop g old new from to (Input (fragment_refusal fault))
-stopped_by g old new from to (Header e) is n =
-    record {
-      of_form = tt;
-      is_fault = is;
-      none = spells_none from.left (Header e) is.first;
-      counted = n;
-    }
-stopped_by g old new from to (CutRecord nth) is n =
-    record {
-      of_form = tt;
-      is_fault = is;
-      none = spells_none from.left (CutRecord nth) is.first;
-      counted = n;
-    }
-stopped_by g old new from to (Tal nth e) is n =
-    record {
-      of_form = tt;
-      is_fault = is;
-      none = spells_none from.left (Tal nth e) is.first;
-      counted = n;
-    }
-stopped_by g old new from to Trailing is n =
-    record {
-      of_form = tt;
-      is_fault = is;
-      none = spells_none from.left Trailing is.first;
-      counted =
-          n;
-    }
 stopped_by g old new from to Read is n = record { is_fault = is; counted = n }
 stopped_by g old new from to Memory is n = record { is_fault = is; counted = n }
 stopped_by g old new from to Failed is n = absurd is.first
+stopped_by g old new from to fault is n =
+    record {
+      of_form = tt;
+      is_fault = is;
+      none = spells_none from.left fault is.first;
+      counted = n;
+    }
 
 -- a header that was read, and no data record
 pub reads_header_alone : (from to : InputState) (l : Layout) → ReadsHeader from.left to.left l →

@@ -31,7 +31,7 @@ use Rattle.edf_intake.proofs.Conflicts.{by_cause}
 
 -- ---- lists
 
-somes-append : {A : Type 0} (os ps : List (Option A)) → somes (os ++ ps) ≡ somes os ++ somes ps
+pub somes-append : {A : Type 0} (os ps : List (Option A)) → somes (os ++ ps) ≡ somes os ++ somes ps
 somes-append [] ps = refl
 somes-append (None ∷ os) ps = somes-append os ps
 somes-append {A} (Some x ∷ os) ps = ap (λ (l : List A). x ∷ l) (somes-append os ps)
@@ -72,7 +72,7 @@ pub record IsMade {S : Type 0} (g : Ghosts S) (old new : StoreModel S) (t : Turn
       AreKept old.cap rows (after old.cap h (somes (t.told ∷ [])))
       ⊎ AreUnended old.cap h (t ∷ []) rows)
 
-sound_told : (from to : InputState) (told : Told) → Hears from to told → IsSoundTold told
+pub sound_told : (from to : InputState) (told : Told) → Hears from to told → IsSoundTold told
 sound_told from to (Fragment key records) r = (
   spelled-key r.bytes key records r.spells,
   spelled-sound r.bytes key records r.spells,

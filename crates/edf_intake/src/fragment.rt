@@ -1,7 +1,6 @@
 //! A whole fragment inside a transaction.
 
-ghost use Rattle.std.specs.Prelude.{◌≡◌, ◌≢◌, List, Some, None, Err, length, IfOk, IfErr, IfSome};
-ghost use Rattle.edf_header.specs.Key.{Key};
+ghost use Rattle.std.specs.Prelude.{◌≡◌, List, Some, None, Err, length, IfOk, IfErr, IfSome};
 ghost use Rattle.edf_header.specs.Header.{most_records};
 ghost use Rattle.edf_fragment.specs.Fragment.{DataRecord};
 ghost use Rattle.edf_fragment.specs.Told.{Fragment};

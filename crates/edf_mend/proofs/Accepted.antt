@@ -22,23 +22,20 @@ use Rattle.edf_fragment.specs.declared.fault.FragmentFault.TheVariants as fragme
 use Rattle.edf_fragment.proofs.Fragments.{open_refused}
 use Rattle.edf_fragment.proofs.Layouts.{record-some}
 use Rattle.edf_fragment.proofs.Runs.{IsHeader-more}
-use Rattle.edf_canonical.specs.declared.fault.OutputFault.{OutputFault}
-use Rattle.edf_canonical.specs.declared.fault.OutputFault.TheVariants.{Write as FailedWrite}
-use Rattle.edf_canonical.specs.declared.fault.OutputFault.TheVariants.{Memory as NoRoom}
 use Rattle.edf_mend.specs.Answers.{RefusesFor, AsksCode}
 use Rattle.edf_mend.specs.Carried.{IsCarried}
-use Rattle.edf_mend.specs.Inside.Faults.{fault_out}
 use Rattle.edf_mend.specs.Inside.Steps.{IsUnfit}
 use Rattle.edf_mend.specs.declared.fault.MendFault.{MendFault}
-use Rattle.edf_mend.specs.declared.fault.MendFault.TheVariants.{Refused, Code, Read, Write, Memory}
+use Rattle.edf_mend.specs.declared.fault.MendFault.TheVariants.{Refused, Identity, Mark, Code}
+use Rattle.edf_mend.specs.declared.fault.MendFault.TheVariants.{Memory}
 
 -- a reason for another
 pub refuses-then : (A B : Type 0) (f : MendFault) → (A → B) → RefusesFor A f → RefusesFor B f
 refuses-then A B (Refused fault) more why = more why
+refuses-then A B Identity more why = more why
+refuses-then A B Mark more why = more why
 refuses-then A B Code more why = absurd why
-refuses-then A B Read more why = tt
-refuses-then A B Write more why = tt
-refuses-then A B Memory more why = tt
+refuses-then A B f more why = tt
 
 pub refuses-some : (A : Type 0) (f : MendFault) → RefusesFor A f → RefusesFor ⊤ f
 refuses-some A f why = refuses-then A ⊤ f (λ _. tt) why
@@ -181,13 +178,6 @@ record-of-none l p (Some left) r gives i = omega (
 )
 
 -- ---- other faults
-
-pub out-trouble : (fault : OutputFault) → RefusesFor ⊥ (fault_out fault)
-out-trouble FailedWrite = tt
-out-trouble NoRoom = tt
-
-pub trouble-some : (A : Type 0) (f : MendFault) → RefusesFor ⊥ f → RefusesFor A f
-trouble-some A f why = refuses-then ⊥ A f (λ never. absurd never) why
 
 -- no code is asked for
 pub asks-none : (given : Option (List ℕ)) (f : MendFault) → RefusesFor ⊤ f → AsksCode given f

@@ -6,6 +6,7 @@ pub mod Carrying
 pub mod Parts
 pub mod OneToOne
 pub mod Accepted
+pub mod Refusals
 pub mod Good
 pub mod Surveyed
 pub mod Further

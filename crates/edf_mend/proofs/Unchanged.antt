@@ -8,7 +8,7 @@ use Rattle.std.proofs.lemmas.List.Elements.{All-same}
 use Rattle.std.proofs.lemmas.List.Sums.{prefix_len_is}
 use Rattle.edf_field.specs.Number.{field, IsNumber, whole_value}
 use Rattle.edf_field.specs.Text.{IsPrintable}
-use Rattle.edf_header.specs.Fields.{version_field, reserved_field, signals_field}
+use Rattle.edf_header.specs.Fields.{reserved_field, signals_field}
 use Rattle.edf_header.specs.Header.{HeaderRecord, IsHeader}
 use Rattle.edf_fragment.proofs.HeaderParts.{field_front}
 use Rattle.edf_mend.specs.Inside.Whole.{IsWholeHeader}

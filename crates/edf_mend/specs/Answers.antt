@@ -2,11 +2,15 @@
 use Rattle.std.specs.Prelude.{◌≡◌, ℕ, List, Option, None}
 use Rattle.std.specs.Io.KnownBytes.{Consumes, Appends, IsAtEnd}
 use Rattle.edf_mend.specs.declared.fault.MendFault.{MendFault}
-use Rattle.edf_mend.specs.declared.fault.MendFault.TheVariants.{Refused, Code, Read, Write, Memory}
+use Rattle.edf_mend.specs.declared.fault.MendFault.TheVariants.{Refused, Identity, Mark, Code, Read}
+use Rattle.edf_mend.specs.declared.fault.MendFault.TheVariants.{Write}
+use Rattle.edf_mend.specs.declared.fault.MendFault.TheVariants.{Memory}
 
 -- a file is refused only for this reason; then or else a read or a write failed, or memory ran out
 abbrev pub RefusesFor : Type 0 → MendFault → Type 0
 RefusesFor Reason (Refused fault) = Reason
+RefusesFor Reason Identity = Reason
+RefusesFor Reason Mark = Reason
 RefusesFor Reason Code = ⊥
 RefusesFor Reason Read = Unit {0}
 RefusesFor Reason Write = Unit {0}

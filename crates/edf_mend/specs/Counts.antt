@@ -2,11 +2,15 @@
 use Rattle.std.specs.Prelude.{◌≡◌, ℕ, Result, MatchResult}
 use Rattle.edf_fragment.specs.Failures.{one_more}
 use Rattle.edf_mend.specs.declared.fault.MendFault.{MendFault}
-use Rattle.edf_mend.specs.declared.fault.MendFault.TheVariants.{Refused, Code, Read, Write, Memory}
+use Rattle.edf_mend.specs.declared.fault.MendFault.TheVariants.{Refused, Identity, Mark, Code, Read}
+use Rattle.edf_mend.specs.declared.fault.MendFault.TheVariants.{Write}
+use Rattle.edf_mend.specs.declared.fault.MendFault.TheVariants.{Memory}
 
 -- a read failed where the fault is `Read`, a write where it is `Write`, and none before another
 abbrev pub CountsFault : ℕ → ℕ → ℕ → ℕ → MendFault → Type 0
 CountsFault reads reads' writes writes' (Refused fault) = (reads' ≡ reads) × (writes' ≡ writes)
+CountsFault reads reads' writes writes' Identity = (reads' ≡ reads) × (writes' ≡ writes)
+CountsFault reads reads' writes writes' Mark = (reads' ≡ reads) × (writes' ≡ writes)
 CountsFault reads reads' writes writes' Code = (reads' ≡ reads) × (writes' ≡ writes)
 CountsFault reads reads' writes writes' Read = (reads' ≡ one_more reads) × (writes' ≡ writes)
 CountsFault reads reads' writes writes' Write = (reads' ≡ reads) × (writes' ≡ one_more writes)

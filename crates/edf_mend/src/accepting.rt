@@ -8,6 +8,7 @@ ghost use Rattle.edf_mend.specs.Inside.Steps.{IsOpened, IsAccepted, IsUnfit};
 ghost use Rattle.edf_mend.specs.Inside.Faults.{IsQuiet};
 
 use crate::fault::MendFault;
+use crate::of_file::of_file;
 use crate::piece::Piece;
 use edf_fragment::{FragmentFault, OpenFragment, Record};
 use edf_header::HeaderFault;
@@ -27,7 +28,7 @@ fn refusal(fault: FragmentFault) -> MendFault
 }
 
 /// Reads a header, which is all of the bytes.
-pub(crate) fn accept_header(alloc: Global, bytes: &[u8]) -> Result<OpenFragment, MendFault>
+fn accept_header(alloc: Global, bytes: &[u8]) -> Result<OpenFragment, MendFault>
     ensures opened { IfOk result (IsOpened bytes.now) }
     ensures refused { IfErr result
         (RefusesFor ((header : HeaderRecord) → IsHeader bytes.now header [] → ⊥)) }
@@ -43,6 +44,23 @@ pub(crate) fn accept_header(alloc: Global, bytes: &[u8]) -> Result<OpenFragment,
             }
         }
         Err(fault) => Err(refusal(fault)),
+    }
+}
+
+/// Reads a header that rules made of an old one, of which is told why it is refused.
+pub(crate) fn accept_draft(
+    alloc: Global,
+    old: &[u8],
+    bytes: &[u8],
+) -> Result<OpenFragment, MendFault>
+    ensures opened { IfOk result (IsOpened bytes.now) }
+    ensures refused { IfErr result
+        (RefusesFor ((header : HeaderRecord) → IsHeader bytes.now header [] → ⊥)) }
+    ensures quiet { IfErr result IsQuiet }
+{
+    match accept_header(alloc, bytes) {
+        Ok(fragment) => Ok(fragment),
+        Err(fault) => Err(of_file(old, fault)),
     }
 }
 

@@ -1,6 +1,6 @@
 //! The rules that were asked for.
 
-ghost use Rattle.std.specs.Prelude.{◌≡◌, ◌≢◌, ◌<◌, [], All, Contains, IsTrue, ◌⊎◌, List};
+ghost use Rattle.std.specs.Prelude.{◌≡◌, ◌≢◌, ◌<◌, [], All, Contains, IsTrue};
 ghost use Rattle.edf_mend.specs.Asked.{IsAsked};
 ghost use Rattle.edf_mend.specs.declared.rule.Rule.{Rule};
 

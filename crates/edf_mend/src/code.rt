@@ -1,6 +1,6 @@
 //! The code of a patient.
 
-ghost use Rattle.std.specs.Prelude.{◌≡◌, ◌≢◌, ◌≤◌, ◌⊎◌, option_map, Some, length, IsTrue, All};
+ghost use Rattle.std.specs.Prelude.{◌≡◌, ◌≤◌, ◌⊎◌, option_map, Some, length, IsTrue, All};
 ghost use Rattle.std.specs.Prelude.{false};
 ghost use Rattle.edf_mend.specs.Patient.{code_of, KeepsCode, IsBehindPatient, IsHonest, IsNoCode};
 ghost use Rattle.edf_mend.specs.Patient.{IsGiven, IsSpelledOut, KeepsPatient};

@@ -1,10 +1,9 @@
 //! The header of the mended file, and the steps that lead to it.
 
-ghost use Rattle.std.specs.Prelude.{◌≡◌, ◌++◌, ◌∷◌, [], ℕ, List, None, Ok, option_map, All, OnOk};
+ghost use Rattle.std.specs.Prelude.{◌≡◌, [], ℕ, List, None, Ok, option_map, OnOk};
 ghost use Rattle.std.specs.Prelude.{IfOk, IfErr, MatchResult, Option, false, ◌≢◌};
-ghost use Rattle.edf_mend.specs.Edits.{AreEdited, AreMendedBy};
+ghost use Rattle.edf_mend.specs.Edits.{AreEdited};
 ghost use Rattle.edf_mend.specs.Answers.{IsTrouble, AsksCode};
-ghost use Rattle.edf_mend.specs.Patient.{IsHonest};
 ghost use Rattle.edf_mend.specs.Retimed.{IsContinuous};
 ghost use Rattle.edf_mend.specs.Inside.Steps.{IsDrafted};
 ghost use Rattle.edf_mend.specs.Inside.Faults.{IsQuiet};
@@ -20,6 +19,7 @@ use crate::fault::MendFault;
 use crate::fields::{FIXED_WIDTHS, SIGNAL_FIELDS};
 use crate::header::signals_named;
 use crate::ledger::Step;
+use crate::of_file::of_file;
 use crate::patient::mend_patient;
 use crate::physical::mend_physical;
 use crate::plain::mend_plain;
@@ -28,7 +28,6 @@ use crate::records::Rewriting;
 use crate::rule::Rule;
 use crate::surveying::Survey;
 use edf_fragment::FragmentFault;
-use edf_header::HeaderFault;
 use edf_tal::TalFault;
 use std::alloc::{AllocError, Global};
 
@@ -210,7 +209,7 @@ fn take_step(
         return Ok(());
     }
     if !is_honest(rule, patient, changes.as_slice()) {
-        return Err(MendFault::Refused(FragmentFault::Header(HeaderFault::Patient)));
+        return Err(MendFault::Identity);
     }
     if draft.steps.push(Step::of(rule, changes)).is_err() {
         return Err(MendFault::Memory);
@@ -218,6 +217,27 @@ fn take_step(
     draft.header = made;
     draft.added = added;
     Ok(())
+}
+
+/// The same of a file whose header was this before any rule, of which is told why it is refused.
+fn take_step_of(
+    alloc: Global,
+    old: &[u8],
+    draft: &mut Draft,
+    rule: Rule,
+    survey: &Survey,
+    patient: Option<&[u8]>,
+) -> Result<(), MendFault>
+    ensures drafted { (before : List ℕ) → OnOk result
+        (IsDrafted before (option_map (λ code. code.now) patient.entry) draft.old →
+        IsDrafted before (option_map (λ code. code.now) patient.entry) draft.new) }
+    ensures asked { IfErr result (AsksCode (option_map (λ code. code.now) patient.entry)) }
+    ensures quiet { IfErr result IsQuiet }
+{
+    match take_step(alloc, draft, rule, survey, patient) {
+        Ok(()) => Ok(()),
+        Err(fault) => Err(of_file(old, fault)),
+    }
 }
 
 /// The header of the mended file: the old one where that has no fault, and else as the rules make
@@ -254,7 +274,7 @@ pub(crate) fn draft_header(
     draft.rewriting.texts = is_asked(Rule::Texts, only);
     for rule in &ORDER {
         if is_wanted(*rule, only, draft.steps.as_slice(), survey) {
-            take_step(alloc, &mut draft, *rule, survey, patient)?;
+            take_step_of(alloc, old, &mut draft, *rule, survey, patient)?;
         }
     }
     draft.rewriting.clock = clock_wanted(old, draft.header.as_slice(), only, survey);

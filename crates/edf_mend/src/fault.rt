@@ -9,6 +9,14 @@ pub enum MendFault {
     /// After all rules the file still has this fault. It is none of `Read`, `Memory` and `Failed`.
     #[error("{0}")]
     Refused(FragmentFault),
+    /// A rule would change what names the patient, or says whose recording it is, and the patient
+    /// field of the file is an identification of EDF+. It is told as E4.
+    #[error("its patient field can't be made that of EDF+")]
+    Identity,
+    /// The recording field has no room for the word `mended`, and is an identification of EDF+. It
+    /// is told as E5.
+    #[error("its recording field has no room for the word mended at its end")]
+    Mark,
     /// The patient field has no code, and none was given.
     #[error("the patient field has no code, and none was given")]
     Code,

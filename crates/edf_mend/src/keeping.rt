@@ -1,6 +1,6 @@
 //! What stays of a header.
 
-ghost use Rattle.std.specs.Prelude.{◌≡◌, ◌≤◌, ◌<◌, ◌↔◌, ℕ, ◌+◌, ◌*◌, length, IsTrue, ◌⊎◌, codes};
+ghost use Rattle.std.specs.Prelude.{◌≡◌, ◌≤◌, ◌<◌, ◌↔◌, ℕ, ◌+◌, ◌*◌, length, IsTrue, codes};
 ghost use Rattle.std.specs.Prelude.{[]};
 ghost use Rattle.edf_field.specs.Number.{IsNumber};
 ghost use Rattle.edf_header.specs.Fields.{signals_field};

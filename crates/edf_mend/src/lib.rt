@@ -20,6 +20,7 @@ pub mod laws;
 mod ledger;
 mod limits;
 mod mending;
+mod of_file;
 mod patient;
 mod physical;
 mod piece;

@@ -1,14 +1,12 @@
 //! A mended file, written in a second reading.
 
-ghost use Rattle.std.specs.Prelude.{◌≡◌, ◌≤◌, ◌++◌, [], ℕ, List, Option, Some, None, option_map};
+ghost use Rattle.std.specs.Prelude.{◌≡◌, ◌≤◌, [], ℕ, List, Option, Some, None, option_map};
 ghost use Rattle.std.specs.Prelude.{length, IfOk, IfErr, IsTrue, All, MatchResult, ⊤};
-ghost use Rattle.std.specs.Prelude.{◌+◌, ◌*◌, ◌<◌, ◌≢◌, false, Contains, codes};
-ghost use Rattle.std.specs.Io.KnownBytes.{Consumes, Appends, IsAtEnd};
+ghost use Rattle.std.specs.Prelude.{◌<◌, ◌≢◌, false, Contains, codes};
 ghost use Rattle.edf_header.specs.Fields.{version_field, recording_field};
 ghost use Rattle.edf_header.specs.Key.{Key};
 ghost use Rattle.edf_fragment.specs.Fragment.{DataRecord, Spells};
 ghost use Rattle.edf_fragment.specs.Reading.{at_first};
-ghost use Rattle.edf_canonical.specs.Output.{buffered};
 ghost use Rattle.edf_mend.specs.Answers.{RefusesFor, IsTrouble, AsksCode, GoesOn, Copies};
 ghost use Rattle.edf_mend.specs.Mended.{Mends, TellsNone};
 ghost use Rattle.edf_mend.specs.Asked.{IsAsked};
@@ -21,7 +19,7 @@ ghost use Rattle.edf_mend.specs.Inside.Steps.{IsFitting, IsSent, HoldsRecords, I
 ghost use Rattle.edf_mend.specs.Inside.Timed.{IsUntold};
 ghost use Rattle.edf_mend.specs.Inside.Whole.{IsWholeHeader};
 
-use crate::accepting::accept_header;
+use crate::accepting::accept_draft;
 use crate::asked::{keeps_to, may_leave_out};
 use crate::clock::keeps_clock;
 use crate::code::keeps_patient;
@@ -30,6 +28,7 @@ use crate::fault::MendFault;
 use crate::header::read_header;
 use crate::keeping::keeps_header;
 use crate::ledger::{Ledger, Step};
+use crate::of_file::of_file;
 use crate::records::{Rewriting, Shape, carry_records, shape_of};
 use crate::rewriting::{Telling, nothing_told};
 use crate::rule::Rule;
@@ -196,10 +195,11 @@ fn fault_at_end(survey: &Survey, only: &[Rule], left_out: usize) -> FragmentFaul
 /// `Refused` where the file still has a fault, which is the first, where starts can't be told anew
 /// or bytes at the end are not to be left out, with the fault that the first reading found, or
 /// where the rule `patient` finds no version of EDF, by the first fault of the file as it is;
-/// `Code` where a code of the patient is wanted, and none was given; `Read` where a read failed,
-/// `Write` where a write failed or took none of some bytes, `Memory` where memory ran out. A front
-/// of a file may have been written then. A file that is a fragment is never refused, and never
-/// asked for a code.
+/// `Identity` where a rule would change whose recording it is, `Mark` where the recording field has
+/// no room to say that the file was mended; `Code` where a code of the patient is wanted, and none
+/// was given; `Read` where a read failed, `Write` where a write failed or took none of some bytes,
+/// `Memory` where memory ran out. A front of a file may have been written then. A file that is a
+/// fragment is never refused, and never asked for a code.
 pub fn mend<R: Input, W: Output>(
     alloc: Global,
     input: &mut R,
@@ -229,7 +229,7 @@ pub fn mend<R: Input, W: Output>(
 {
     let old = read_header(alloc, input)?;
     let draft = draft_header(alloc, old.as_slice(), survey, only, patient)?;
-    let mut fragment = accept_header(alloc, draft.header.as_slice())?;
+    let mut fragment = accept_draft(alloc, old.as_slice(), draft.header.as_slice())?;
     if !keeps_identity(
         patient,
         draft.added,
@@ -237,7 +237,7 @@ pub fn mend<R: Input, W: Output>(
         draft.header.as_slice(),
         draft.steps.as_slice(),
     ) {
-        return Err(MendFault::Refused(FragmentFault::Header(HeaderFault::Patient)));
+        return Err(of_file(old.as_slice(), MendFault::Identity));
     }
     if !counts_records(&fragment, &draft, only) {
         return Err(MendFault::Refused(FragmentFault::Header(HeaderFault::Count)));

@@ -9,8 +9,6 @@ use crate::fault::MendFault;
 use crate::fields::{count_subfields, in_capitals, part, push_subfield, push_subfields, set};
 use crate::saying::says_mended;
 use edf_field::{next_subfield, read_recording};
-use edf_fragment::FragmentFault;
-use edf_header::HeaderFault;
 use edf_time::id_date;
 use std::alloc::{AllocError, Global};
 
@@ -164,7 +162,7 @@ pub(crate) fn mend_recording(alloc: Global, header: &mut [u8]) -> Result<(), Men
     ensures quiet { IfErr result IsQuiet }
 {
     let old = part(header, 88, 80);
-    if old.len() != 80 || read_recording(old).is_some() {
+    if old.len() != 80 || read_recording(old).is_ok() {
         return Ok(());
     }
     let startdate = part(header, 168, 8);
@@ -178,7 +176,7 @@ pub(crate) fn mend_recording(alloc: Global, header: &mut [u8]) -> Result<(), Men
 /// Adds `mended` as the last subfield of the recording field.
 ///
 /// # Errors
-/// `Recording` where the field has no room for it behind all that it has.
+/// `Mark` where the field has no room for it behind all that it has.
 pub(crate) fn mark_mended(alloc: Global, header: &mut [u8]) -> Result<(), MendFault>
     ensures asked { IfErr result (RefusesFor ⊤) }
     ensures quiet { IfErr result IsQuiet }
@@ -190,7 +188,7 @@ pub(crate) fn mark_mended(alloc: Global, header: &mut [u8]) -> Result<(), MendFa
     let mut text = Vec::from_slice(alloc, old.trim_ascii_end())?;
     text.extend_from_slice(MARK)?;
     if text.len() > WIDTH {
-        return Err(MendFault::Refused(FragmentFault::Header(HeaderFault::Recording)));
+        return Err(MendFault::Mark);
     }
     set(header, 88, WIDTH, text.as_slice());
     Ok(())

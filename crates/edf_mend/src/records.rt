@@ -1,17 +1,16 @@
 //! Data records, carried over one after another.
 
-ghost use Rattle.std.specs.Prelude.{◌≡◌, ◌≢◌, ℕ, ◌+◌, ◌*◌, ◌<◌, ◌≤◌, ◌++◌, ◌∷◌, [], List, Ok, ⊤};
+ghost use Rattle.std.specs.Prelude.{◌≡◌, ℕ, ◌+◌, ◌*◌, ◌<◌, ◌∷◌, [], List, Ok, ⊤};
 ghost use Rattle.std.specs.Prelude.{length, IfOk, IfErr, IfSome, IsTrue, MatchResult, None, false};
 ghost use Rattle.edf_field.specs.Number.{duration_of};
 ghost use Rattle.std.specs.Io.KnownBytes.{Appends};
-ghost use Rattle.edf_fragment.specs.Fragment.{DataRecord};
 ghost use Rattle.edf_fragment.specs.Reading.{at_first};
 ghost use Rattle.edf_fragment.specs.declared.advance.ReaderState.TheVariants.{Reading};
-ghost use Rattle.edf_canonical.specs.Output.{buffered, IsPutThrough};
+ghost use Rattle.edf_canonical.specs.Output.{buffered};
 ghost use Rattle.edf_mend.specs.Carried.{IsCarried};
 ghost use Rattle.edf_mend.specs.Counts.{CountsCalls};
 ghost use Rattle.edf_mend.specs.Answers.{RefusesFor, IsTrouble, GoesOn};
-ghost use Rattle.edf_mend.specs.Inside.Steps.{IsAccepted, CarriesOne, CarriedAll, IsFitting};
+ghost use Rattle.edf_mend.specs.Inside.Steps.{CarriesOne, CarriedAll, IsFitting};
 ghost use Rattle.edf_mend.specs.Inside.Steps.{IsUnfit, HoldsRecords};
 ghost use Rattle.edf_mend.specs.Inside.Timed.{IsUntold};
 ghost use Rattle.edf_mend.specs.Inside.Faults.{IsQuiet, CountsWrites};

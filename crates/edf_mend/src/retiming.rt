@@ -3,7 +3,6 @@
 ghost use Rattle.std.specs.Prelude.{◌≡◌, ◌≢◌, ◌+◌, ◌*◌, ◌++◌, ◌∷◌, ⊤, List, None, All, length};
 ghost use Rattle.std.specs.Prelude.{IfOk, IfErr, IfSome, IsTrue, MatchResult};
 ghost use Rattle.edf_field.specs.Number.{duration_of};
-ghost use Rattle.edf_header.specs.Header.{IsLayout};
 ghost use Rattle.edf_header.specs.Signal.{rows_of};
 ghost use Rattle.edf_header.specs.declared.header.Block.{Block};
 ghost use Rattle.edf_tal.specs.Block.{IsRead};

@@ -1,6 +1,6 @@
 //! Which fields of a header a rule may change.
 
-ghost use Rattle.std.specs.Prelude.{◌≡◌, ◌⊎◌, ◌≤◌, ◌+◌, ◌*◌, [], length, All, IsTrue};
+ghost use Rattle.std.specs.Prelude.{◌≡◌, ◌≤◌, ◌+◌, ◌*◌, length, All, IsTrue};
 ghost use Rattle.edf_field.specs.Number.{whole_value};
 ghost use Rattle.edf_header.specs.Fields.{signals_field};
 ghost use Rattle.edf_mend.specs.Rules.{IsField, IsInColumns, AddsSignal, IsTransliterated};
@@ -73,8 +73,8 @@ fn mends_recording(change: &Change) -> bool
         return false;
     }
     match read_recording(change.old()) {
-        Some(_) => false,
-        None => true,
+        Ok(_) => false,
+        Err(_) => true,
     }
 }
 

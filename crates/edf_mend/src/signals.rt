@@ -2,14 +2,14 @@
 
 ghost use Rattle.std.specs.Prelude.{◌≡◌, ◌≤◌, ◌<◌, ◌+◌, ◌*◌, ℕ, length, take, codes, IfSome};
 ghost use Rattle.std.specs.Prelude.{IsTrue};
-ghost use Rattle.edf_field.specs.Number.{digits, digits_len};
+ghost use Rattle.edf_field.specs.Number.{digits};
 ghost use Rattle.edf_mend.specs.Signals.{cell, is_printable, printable_len, front_of, KeepsText};
 ghost use Rattle.edf_mend.specs.Signals.{KeepsNumber, KeepsLabel, KeepsSignal, KeepsSignals};
 ghost use Rattle.edf_mend.specs.Signals.{NamesAnnotations, IsOrdinaryAt};
 
 use crate::limits::keeps_mapping_of;
 use crate::words::keeps_words;
-use edf_field::{are_spaces, read_whole};
+use edf_field::{are_spaces, read_whole, split_digits};
 
 /// A field of signal `i` of `n`, by its place in a row of 256 bytes; nothing where the header ends
 /// before its end.
@@ -40,18 +40,6 @@ fn printable_end(text: &[u8]) -> usize
 {
     for (i, b) in text.iter().enumerate() {
         if !is_printable(*b) {
-            return i;
-        }
-    }
-    text.len()
-}
-
-/// The index of the first byte that is no digit, or the length.
-fn digits_end(text: &[u8]) -> usize
-    ensures { result ≡ digits_len text.now }
-{
-    for (i, b) in text.iter().enumerate() {
-        if !b.is_ascii_digit() {
             return i;
         }
     }
@@ -93,12 +81,9 @@ pub(crate) fn keeps_number(before: &[u8], after: &[u8]) -> bool
 fn keeps_digits(before: &[u8], after: &[u8]) -> bool
     ensures { IsTrue result → digits after.now ≡ digits before.now }
 {
-    let old = digits_end(before);
-    let new = digits_end(after);
-    if old > before.len() || new > after.len() {
-        return false;
-    }
-    &after[..new] == &before[..old]
+    let (old, _) = split_digits(before);
+    let (new, _) = split_digits(after);
+    new == old
 }
 
 /// Whether a label is that of annotations signals.

@@ -1,5 +1,5 @@
 -- Files that were begun, and what is left of them.
-use Rattle.std.specs.Prelude.{◌≡◌, ◌≢◌, ℕ, zero, suc, ◌+◌, ◌-◌, ◌^◌, min, List, [], ◌∷◌, ◌++◌, map}
+use Rattle.std.specs.Prelude.{◌≡◌, ◌≢◌, ◌⊎◌, ℕ, zero, suc, ◌+◌, ◌-◌, ◌^◌, min, List, [], ◌∷◌, ◌++◌, map}
 use Rattle.std.specs.Prelude.{Bool, true, false, Option, Some, None, Result, Ok, Err}
 use Rattle.edf_new_files.specs.declared.new_files.Stage.{Stage}
 use Rattle.edf_new_files.specs.declared.new_files.Stage.TheVariants.{Begun, Left, Finished, Removed}
@@ -63,10 +63,10 @@ pub record HasPart (files : List MadeFile) (name : List ℕ) (now : List MadeFil
   pub named : part.name ≡ name
   pub is_half : part.whole ≡ false
 
--- where the last file is none that is written, nothing changes
-abbrev pub LeavesOther : List MadeFile → List MadeFile → Type 0
-LeavesOther old new = (files : List MadeFile) (file : MadeFile) → old ≡ files ++ (file ∷ []) →
-    file.stage ≢ Begun → new ≡ old
+-- none of them is written: there is none, or the last is one that is not
+abbrev pub WritesNone : List MadeFile → Type 0
+WritesNone made = (made ≡ []) ⊎ ((files : List MadeFile) × (file : MadeFile)
+    × (made ≡ files ++ (file ∷ [])) × (file.stage ≢ Begun))
 
 abbrev pub names_of : List MadeFile → List (List ℕ)
 names_of files = map (λ (file : MadeFile). file.name) files

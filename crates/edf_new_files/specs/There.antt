@@ -34,8 +34,8 @@ IsSame old new = (other : List ℕ) → new other ≡ old other
 abbrev pub IsSameBut : There → There → List ℕ → Type 0
 IsSameBut old new name = (other : List ℕ) → other ≢ name → new other ≡ old other
 
--- a file whose writer held this got its name, of which nothing was there; or it did not, and nothing
--- changed: something was there of it, or it failed
+-- a file whose writer held this got its name, of which nothing was there; or it did not, and
+-- nothing changed: something was there of it, or it failed
 abbrev pub IsNamed : There → There → List ℕ → Option (List ℕ) → Result ℕ Unfinished → Type 0
 IsNamed old new name held (Ok bytes) = IsFree old name
     × Becomes (old name) (new name) (Some held) × IsSameBut old new name

@@ -1,13 +1,14 @@
 //! The list of the files that were begun, for what makes them.
 
-ghost use Rattle.std.specs.Prelude.{◌≡◌, ◌++◌, ◌∷◌, [], ℕ, List, MatchResult, length};
-ghost use Rattle.std.specs.Prelude.{option_map, slice_get};
+ghost use Rattle.std.specs.Prelude.{◌≡◌, ◌≤◌, ◌++◌, ◌∷◌, [], ℕ, true, false, List, MatchResult};
+ghost use Rattle.std.specs.Prelude.{length, option_map, slice_get};
 ghost use Rattle.std.specs.Bool.{MatchBool};
 ghost use Rattle.edf_fragment.specs.Failures.{one_more};
 ghost use Rattle.edf_new_files.specs.Made.{MadeFile, made_file, begun, half, finished, removed};
-ghost use Rattle.edf_new_files.specs.Made.{kept, unnamed, stage_after, LeavesOther, failed_with};
+ghost use Rattle.edf_new_files.specs.Made.{kept, unnamed, stage_after, WritesNone, failed_with};
 
 use crate::new_files::{Stage, Unfinished};
+use edf_fragment::one_more;
 use std::alloc::{AllocError, Global};
 use std::marker::Model;
 
@@ -53,16 +54,9 @@ fn stage_after(is_gone: bool) -> Stage
     if is_gone { Stage::Removed } else { Stage::Kept }
 }
 
-/// The count after one more.
-fn one_more(count: u64) -> u64
-    ensures { result ≡ one_more count }
-{
-    count.saturating_add(1)
-}
-
-/// The files that were begun so far, in turn; how many were, with those that were forgotten; and how
-/// many could not be begun or finished, with how many writes of abandoned ones failed. Counts go up
-/// to `u64::MAX`.
+/// The files that were begun so far, in turn; how many were, with those that were forgotten; and
+/// how many could not be begun or finished, with how many writes of abandoned ones failed. Counts
+/// go up to `u64::MAX`.
 #[derive(Drop)]
 pub struct MadeFiles {
     entries: Vec<MadeEntry>,
@@ -103,6 +97,15 @@ impl MadeFiles {
         ensures { result ≡ length self.now.files }
     {
         self.entries.len()
+    }
+
+    /// Whether a file is written: the last of them.
+    pub fn is_writing(&self) -> bool
+        ensures some { result ≡ true → ¬ WritesNone self.now.files }
+        ensures none { result ≡ false → WritesNone self.now.files }
+    {
+        let count = self.entries.len();
+        count > 0 && self.entries[count - 1].stage == Stage::Begun
     }
 
     /// Adds a file of that name that is begun.
@@ -159,6 +162,7 @@ impl MadeFiles {
     pub fn cancel(&mut self)
         ensures files { (files : List MadeFile) (file : MadeFile) →
             self.old.files ≡ files ++ (file ∷ []) → self.new.files ≡ files }
+        ensures none { self.old.files ≡ [] → self.new.files ≡ [] }
         ensures failed { self.new.failed ≡ one_more self.old.failed }
         ensures begun_count { self.new.begun_count ≡ self.old.begun_count }
     {
@@ -177,7 +181,7 @@ impl MadeFiles {
         ensures files { (files : List MadeFile) (name : List ℕ) →
             self.old.files ≡ files ++ (begun name ∷ []) → self.new.files ≡ files
             ++ (made_file name stage is_whole (option_map (λ bytes. bytes.items) bytes) why ∷ []) }
-        ensures other { LeavesOther self.old.files self.new.files }
+        ensures none { WritesNone self.old.files → self.new.files ≡ self.old.files }
         ensures failed { self.new.failed ≡ self.old.failed }
         ensures begun_count { self.new.begun_count ≡ self.old.begun_count }
     {
@@ -192,6 +196,7 @@ impl MadeFiles {
         ensures files { (files : List MadeFile) (name : List ℕ) →
             self.old.files ≡ files ++ (begun name ∷ []) → self.new.files
             ≡ files ++ (finished name (option_map (λ bytes. bytes.items) bytes) ∷ []) }
+        ensures none { WritesNone self.old.files → self.new.files ≡ self.old.files }
         ensures failed { self.new.failed ≡ self.old.failed }
         ensures begun_count { self.new.begun_count ≡ self.old.begun_count }
     {
@@ -204,7 +209,7 @@ impl MadeFiles {
         ensures files { (files : List MadeFile) (name : List ℕ) →
             self.old.files ≡ files ++ (begun name ∷ []) → self.new.files ≡ files
             ++ (unnamed name why (option_map (λ bytes. bytes.items) bytes) is_gone ∷ []) }
-        ensures other { LeavesOther self.old.files self.new.files }
+        ensures none { WritesNone self.old.files → self.new.files ≡ self.old.files }
         ensures failed { self.new.failed ≡ one_more self.old.failed }
         ensures begun_count { self.new.begun_count ≡ self.old.begun_count }
     {
@@ -217,7 +222,7 @@ impl MadeFiles {
         ensures files { (files : List MadeFile) (name : List ℕ) →
             self.old.files ≡ files ++ (begun name ∷ []) → self.new.files
             ≡ files ++ (half name (option_map (λ bytes. bytes.items) bytes) ∷ []) }
-        ensures other { LeavesOther self.old.files self.new.files }
+        ensures none { WritesNone self.old.files → self.new.files ≡ self.old.files }
         ensures failed { self.new.failed ≡ failed_with self.old.failed failures }
         ensures begun_count { self.new.begun_count ≡ self.old.begun_count }
     {
@@ -254,6 +259,7 @@ impl MadeFiles {
             MatchBool is_gone
             (self.new.files ≡ front ++ (removed file ∷ later))
             (self.new.files ≡ front ++ (kept file ∷ later)) }
+        ensures none { length self.old.files ≤ place → self.new.files ≡ self.old.files }
         ensures failed { self.new.failed ≡ self.old.failed }
         ensures begun_count { self.new.begun_count ≡ self.old.begun_count }
     {

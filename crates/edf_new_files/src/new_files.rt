@@ -1,11 +1,11 @@
 //! What makes new files.
 
-ghost use Rattle.std.specs.Prelude.{◌≡◌, ◌++◌, ◌∷◌, [], ℕ, Bool, true, List, Option, Some, IfOk};
-ghost use Rattle.std.specs.Prelude.{IfErr, IfSome, MatchResult, length};
+ghost use Rattle.std.specs.Prelude.{◌≡◌, ◌≤◌, ◌++◌, ◌∷◌, [], ℕ, Bool, true, false, List, Some};
+ghost use Rattle.std.specs.Prelude.{IfOk, IfSome, MatchResult, length};
 ghost use Rattle.std.specs.Bool.{MatchBool};
 ghost use Rattle.edf_fragment.specs.Failures.{one_more};
 ghost use Rattle.edf_new_files.specs.Made.{MadeFile, begun, half, removed, kept};
-ghost use Rattle.edf_new_files.specs.Made.{IsEnded, LeavesOther, failed_with};
+ghost use Rattle.edf_new_files.specs.Made.{IsEnded, WritesNone, failed_with};
 ghost use Rattle.edf_new_files.specs.There.{There, IsFree, MayBeThere, IsSame, IsNamed, IsTakenAway};
 
 use edf_fragment::Output;
@@ -100,12 +100,14 @@ pub trait NewFiles {
     /// answers how many bytes it has. It has its name then, and has all that was written.
     ///
     /// # Errors
-    /// Where it has not its name. What was written is removed then, if it could be.
+    /// Where it has not its name. What was written is removed then, if it could be. Where none is
+    /// written here, as after `forget`, nothing gets a name.
     fn finish(&mut self, writer: Self::Writer) -> Result<u64, Unfinished>
         ensures made { (files : List MadeFile) (name : List ℕ) →
             made self.old ≡ files ++ (begun name ∷ []) →
             IsEnded files name (Self.Writer.contents writer) (made self.new) result }
-        ensures other { IfErr result (λ _. LeavesOther (made self.old) (made self.new)) }
+        ensures none { WritesNone (made self.old) → IfOk result (λ _. ⊥)
+            × (made self.new ≡ made self.old) × IsSame (there self.old) (there self.new) }
         ensures begun_count { begun_count self.new ≡ begun_count self.old }
         ensures failed { MatchResult result
             (λ _. failed self.new ≡ failed self.old)
@@ -122,7 +124,7 @@ pub trait NewFiles {
         ensures made { (files : List MadeFile) (name : List ℕ) →
             made self.old ≡ files ++ (begun name ∷ []) →
             made self.new ≡ files ++ (half name (Self.Writer.contents writer) ∷ []) }
-        ensures other { LeavesOther (made self.old) (made self.new) }
+        ensures none { WritesNone (made self.old) → made self.new ≡ made self.old }
         ensures begun_count { begun_count self.new ≡ begun_count self.old }
         ensures failed { failed self.new
             ≡ failed_with (failed self.old) (Self.Writer.failures writer) }
@@ -133,13 +135,16 @@ pub trait NewFiles {
     fn count(&self) -> usize
         ensures { result ≡ length (made self.now) };
 
-    /// Removes the file at this place, from 0, of those that were begun here. Whether it is gone.
+    /// Removes the file at this place, from 0, of those that were begun here. Whether there was one
+    /// and it is gone.
     fn remove(&mut self, place: usize) -> bool
         ensures made { (front later : List MadeFile) (file : MadeFile) →
             made self.old ≡ front ++ (file ∷ later) → length front ≡ place →
             MatchBool result
             (made self.new ≡ front ++ (removed file ∷ later))
             (made self.new ≡ front ++ (kept file ∷ later)) }
+        ensures none { length (made self.old) ≤ place → (result ≡ false)
+            × (made self.new ≡ made self.old) × IsSame (there self.old) (there self.new) }
         ensures begun_count { begun_count self.new ≡ begun_count self.old }
         ensures failed { failed self.new ≡ failed self.old }
         ensures there { (front later : List MadeFile) (file : MadeFile) →

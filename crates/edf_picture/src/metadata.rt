@@ -3,21 +3,16 @@
 ghost use Rattle.std.specs.Prelude.{◌≡◌, ◌++◌, IfOk, OnOk, string_bytes};
 ghost use Rattle.edf_picture.specs.Picture.{IsPicture, line_piece, lines_text};
 
+use edf_markup::push_piece;
 use std::alloc::{AllocError, Global};
 
 /// Appends what stands for a byte of the lines.
-fn push_byte(out: &mut String, byte: u8) -> Result<(), AllocError>
+fn push_line_piece(out: &mut String, byte: u8) -> Result<(), AllocError>
     ensures { OnOk result (string_bytes out.new ≡ string_bytes out.old ++ line_piece byte) }
 {
     match byte {
         b'\n' => out.push('\n'),
-        b'&' => out.push_str("&amp;"),
-        b'<' => out.push_str("&lt;"),
-        b'>' => out.push_str("&gt;"),
-        b'"' => out.push_str("&quot;"),
-        b'\'' => out.push_str("&#39;"),
-        b' '..=b'~' => out.push(char::from(byte)),
-        _ => Ok(()),
+        _ => push_piece(out, byte),
     }
 }
 
@@ -27,7 +22,7 @@ fn lines_text(alloc: Global, lines: &[u8]) -> Result<String, AllocError>
 {
     let mut out = String::new(alloc);
     for byte in lines {
-        push_byte(&mut out, *byte)?;
+        push_line_piece(&mut out, *byte)?;
     }
     Ok(out)
 }

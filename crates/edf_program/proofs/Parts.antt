@@ -1,15 +1,13 @@
 -- A text in parts, one after another.
 use Rattle.std.proofs.Common.{◌≡◌, ℕ, ◌+◌, ◌<◌, Bool, true, false, List, [], ◌++◌, length, take}
-use Rattle.std.proofs.Common.{drop, get_or, refl, sym, ap, ◌∙◌, subst, inr, append_assoc}
+use Rattle.std.proofs.Common.{drop, get_or, sym, ap, ◌∙◌, subst, append_assoc}
 use Rattle.std.proofs.Common.{take-append-drop}
 use Rattle.std.specs.Prelude.{Option}
 use Rattle.std.specs.List.{flat_map}
 use Rattle.std.proofs.lemmas.Bool.{false≢true}
 use Rattle.std.proofs.lemmas.List.{take_more, flat_map_more}
 use Rattle.std.proofs.lemmas.Grind.{flat_map-append}
-use Rattle.edf_program.specs.Output.{Gets, IsPut, IsWritten}
-use Rattle.edf_program.specs.declared.status.Status.{Status}
-use Rattle.edf_program.specs.declared.status.Status.TheVariants.{Trouble}
+use Rattle.edf_program.specs.Output.{Gets, GetsFront, IsPut}
 use Rattle.edf_program.proofs.Puts.{grown, gets-after, front-after}
 
 pub four-parts : (a b c d rest : List ℕ) → (a ++ (b ++ (c ++ d))) ++ rest ≡ a
@@ -43,13 +41,7 @@ module _ (a : Option (List ℕ)) (old : ℕ) (b : Option (List ℕ)) (mid : ℕ)
   parts-more false put e = absurd (false≢true e)
 
   -- a part that was not written whole
-  pub parts-stop : (written : Bool) (wanted : Status) →
-      IsPut (grown b mid c new) (f (get_or xs i d)) written → written ≡ false →
-      IsWritten (grown a old c new) (flat_map f xs) wanted Trouble
-  parts-stop false wanted put e =
-      inr (
-        front-after a old b mid c new (flat_map f (take i xs)) (f (get_or xs i d))
-            (flat_map f (drop (i + 1) xs)) (flat_map f xs) (lines-split f xs i d within) done put,
-        refl,
-      )
-  parts-stop true wanted put e = absurd (false≢true (sym e))
+  pub parts-stop : IsPut (grown b mid c new) (f (get_or xs i d)) false →
+      GetsFront (grown a old c new) (flat_map f xs)
+  parts-stop put = front-after a old b mid c new (flat_map f (take i xs)) (f (get_or xs i d))
+      (flat_map f (drop (i + 1) xs)) (flat_map f xs) (lines-split f xs i d within) done put

@@ -9,7 +9,8 @@ use Rattle.std.proofs.KnownBytes.{Appends-nil, Appends-trans}
 use Rattle.std.specs.Bool.{MatchBool}
 use Rattle.std.specs.Io.KnownBytes.{Appends}
 use Rattle.edf_fragment.specs.Failures.{one_more}
-use Rattle.edf_program.specs.Output.{Growth, Gets, GetsFront, LacksText, IsPut, IsLinePut}
+use Rattle.edf_fragment.specs.declared.streams.Output.{Ghosts}
+use Rattle.edf_program.specs.Output.{Growth, growth, Gets, GetsFront, LacksText, IsPut, IsLinePut}
 use Rattle.edf_program.specs.Output.{IsWritten, IsTold, AreTold}
 use Rattle.edf_program.specs.declared.status.Status.{Status}
 use Rattle.edf_program.specs.declared.status.Status.TheVariants.{Trouble}
@@ -93,6 +94,24 @@ module _ (w : Growth) where
         IsPutBy line written → written ≡ false → IsToldBy line wanted Trouble
     told-trouble (Ok l) written wanted p e = trouble-put (items l) written wanted p e
     told-trouble (Err x) written wanted p e = (p.0, refl)
+
+-- ---- a remark
+
+-- what is said of a writer before a remark is so after it
+pub remarked : {W : Type 0} (g : Ghosts W) (old new later : W) (Is : Growth → Type 0) →
+    g.contents later ≡ g.contents new → g.failures later ≡ g.failures new →
+    Is (growth g old new) → Is (growth g old later)
+remarked g old new later Is same_contents same_failures is =
+    let c = sym same_contents in
+    let f = sym same_failures in
+    let same : growth g old new ≡ growth g old later =
+    λ i. record {
+      before = g.contents old;
+      failed_before = g.failures old;
+      after = c i;
+      failed_after = f i;
+    } in
+    subst Is same is
 
 -- ---- one after the other
 

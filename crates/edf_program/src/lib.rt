@@ -5,8 +5,9 @@
 //! - [`Status`]: how a command ends, and the number that the program ends with;
 //!   [`status_of_number`]: by a refusal's number; [`worse`]: the worse of two.
 //! - [`Inputs`]: what gives each name its reader.
-//! - [`put_line`]: writes a line, and answers whether it was written whole; [`tell`],
-//!   [`tell_bytes`], [`tell_parts`]: the same, answered by a status.
+//! - [`put_line`], [`put_parts`]: writes a line, and answers whether it was written whole;
+//!   [`tell`], [`tell_bytes`], [`tell_parts`]: the same, answered by a status; [`tell_line`]: with
+//!   a remark for a person.
 //! - [`joined`]: a text of its parts; [`spelled`]: that of an instant.
 //! - [`fragment_fault_text`], [`fragment_details`]: why a file was not read as a fragment, as a
 //!   line has it; [`tell_refused`], [`tell_memory`]: a line why something is refused;
@@ -23,7 +24,7 @@ mod text;
 mod words;
 
 pub use inputs::Inputs;
-pub use output::{put_line, tell, tell_bytes, tell_parts};
+pub use output::{put_line, put_parts, tell, tell_bytes, tell_line, tell_parts};
 pub use status::{Status, status_of_number, worse};
 pub use text::{
     fragment_details, fragment_fault_text, joined, spelled, tell_memory, tell_refused, tell_there,

@@ -5,7 +5,7 @@ ghost use Rattle.std.specs.List.{flat_map};
 ghost use Rattle.edf_program.specs.Output.{growth, Gets, IsPut, IsLinePut, IsWritten, IsTold};
 
 use crate::status::Status;
-use edf_fragment::{Output, send};
+use edf_fragment::{Output, Remark, send};
 use std::alloc::AllocError;
 
 /// Writes a line, which brings its own line feed, and answers whether it was written whole. One for
@@ -48,16 +48,45 @@ pub fn tell<W: Output>(out: &mut W, line: Result<Vec<u8>, AllocError>, status: S
     }
 }
 
-/// Writes the parts of a text one after another and answers a status; trouble where they are not
-/// written whole. It takes no memory.
+/// Writes the parts of a text one after another, and answers whether they were written whole. It
+/// takes no memory.
+pub fn put_parts<W: Output>(out: &mut W, parts: &[&[u8]]) -> bool
+    ensures { IsPut (growth W.Output out.old out.new) (flat_map (λ part. part.now) parts.now)
+        result }
+{
+    for part in parts {
+        if !send(out, part) {
+            return false;
+        }
+    }
+    true
+}
+
+/// The same, answered by a status; trouble where they are not written whole.
 pub fn tell_parts<W: Output>(out: &mut W, parts: &[&[u8]], status: Status) -> Status
     ensures { IsWritten (growth W.Output out.old out.new) (flat_map (λ part. part.now) parts.now)
         status result }
 {
-    for part in parts {
-        if !send(out, part) {
-            return Status::Trouble;
-        }
+    if put_parts(out, parts) {
+        status
+    } else {
+        Status::Trouble
     }
-    status
+}
+
+/// Writes the parts of a line, tells what it says, for a person, and answers a status; trouble
+/// where it is not written whole. It takes no memory.
+pub fn tell_line<W: Output>(
+    out: &mut W,
+    parts: &[&[u8]],
+    name: &str,
+    remark: Remark,
+    status: Status,
+) -> Status
+    ensures { IsWritten (growth W.Output out.old out.new) (flat_map (λ part. part.now) parts.now)
+        status result }
+{
+    let told = tell_parts(out, parts, status);
+    out.remark(name, remark);
+    told
 }

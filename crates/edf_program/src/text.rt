@@ -8,9 +8,9 @@ ghost use Rattle.edf_program.specs.Text.{IsSpelling, detail, fragment_details};
 ghost use Rattle.edf_program.specs.Text.{fragment_fault_text, memory_line, refused_line};
 ghost use Rattle.edf_program.specs.Text.{there_line};
 
-use crate::output::tell_parts;
+use crate::output::tell_line;
 use crate::status::Status;
-use edf_fragment::{FragmentFault, Output};
+use edf_fragment::{FragmentFault, Output, Remark};
 use edf_time::laws::instant_is_in_window;
 use edf_time::{Instant, instant_text};
 use itoa::Buffer;
@@ -115,7 +115,7 @@ pub fn tell_refused<F: Output>(
         fault.as_bytes(),
         b"\n",
     ];
-    tell_parts(err, &parts, status)
+    tell_line(err, &parts, name, Remark::Refused(number), status)
 }
 
 /// Prints that something is refused for want of memory. Printing takes none.
@@ -133,5 +133,5 @@ pub fn tell_there<F: Output>(err: &mut F, name: &str) -> Status
         result }
 {
     let parts = [name.as_bytes(), b" is there already; nothing was written\n"];
-    tell_parts(err, &parts, Status::Refused)
+    tell_line(err, &parts, name, Remark::Taken, Status::Refused)
 }

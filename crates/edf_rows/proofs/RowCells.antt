@@ -11,8 +11,6 @@ use Rattle.edf_tal.specs.Tal.{Annotation}
 use Rattle.edf_tal.specs.Block.{IsRead, IsBlockFault, IsBlockRefusal}
 use Rattle.edf_tal.specs.declared.place.Place.TheVariants.{Any}
 use Rattle.edf_tal.specs.declared.place.TalFault.{TalFault}
-use Rattle.edf_tal.specs.declared.place.TalFault.TheVariants.{Tal as NotTals, Text, NotTimed}
-use Rattle.edf_tal.specs.declared.place.TalFault.TheVariants.{FirstOnset, Window, Order, TooMany}
 use Rattle.edf_tal.specs.declared.place.TalFault.TheVariants.{Memory}
 use Rattle.std.proofs.lemmas.Int.{to_z-of_z}
 use Rattle.std.proofs.lemmas.List.{append-nil}
@@ -59,10 +57,10 @@ row-of k start samples block list own len = record {
   };
 }
 
-blob-bytes : (a b : List ℕ) → ◌≡◌ {A = Value} (Blob a) (Blob b) → a ≡ b
+pub blob-bytes : (a b : List ℕ) → ◌≡◌ {A = Value} (Blob a) (Blob b) → a ≡ b
 blob-bytes a b h = cc
 
-int-number : (a b : ℤ) → ◌≡◌ {A = Value} (Int a) (Int b) → a ≡ b
+pub int-number : (a b : ℤ) → ◌≡◌ {A = Value} (Int a) (Int b) → a ≡ b
 int-number a b h = cc
 
 pub bad-len : (k : Key) (start : Value) (samples : List ℕ) (block : Value) →
@@ -93,14 +91,8 @@ bad-starts k start samples block read list is other = bad_block (λ own.
 
 pub fault-of : (block : List ℕ) (fault : TalFault) → fault ≢ Memory →
     IsBlockRefusal block 0 Any fault → IsBlockFault block 0 Any fault
-fault-of block (NotTals offset) other refused = refused
-fault-of block (Text offset) other refused = refused
-fault-of block NotTimed other refused = refused
-fault-of block FirstOnset other refused = refused
-fault-of block Window other refused = refused
-fault-of block Order other refused = refused
-fault-of block TooMany other refused = refused
 fault-of block Memory other refused = absurd (other refl)
+fault-of block fault other refused = refused
 
 pub same-cell : (n : ℕ) (z : ℤ) → n < 2 ^ 63 → FitsSigned w64 z → of_z w64 (pos n) ≡ of_z w64 z →
     pos n ≡ z

@@ -1,7 +1,7 @@
 -- Rows stand for one holdings at most, and are not foreign where they stand for sound ones.
 use Rattle.std.proofs.Common.{◌≡◌, ◌≢◌, ℕ, zero, suc, ◌+◌, ◌<◌, ◌≤◌, ◌⊎◌, inl, inr, ℤ, pos, Bool}
 use Rattle.std.proofs.Common.{true, false, cond, ◌&&◌, nat_le, nat_lt, List, [], ◌∷◌, map, length}
-use Rattle.std.proofs.Common.{sum_by, Contains, All, IsPermutation, slice_index_or, refl, sym, ap}
+use Rattle.std.proofs.Common.{sum_by, Contains, slice_index_or, refl, sym, ap}
 use Rattle.std.proofs.Common.{subst, ◌∙◌, arith, true≢false}
 use Rattle.std.specs.List.{AllByRecursion}
 use Rattle.std.proofs.Math.Path.{fun_ext}
@@ -32,7 +32,7 @@ use Rattle.edf_rows.specs.Foreign.{IsBadRow, bad_start, bad_samples, bad_block, 
 use Rattle.edf_rows.specs.Foreign.{BeginsTooLate, AreBadRecords, bad_row, too_near, too_late}
 use Rattle.edf_rows.specs.Foreign.{too_few, too_many, IsForeign, bad_recording, bad_records}
 use Rattle.edf_rows.specs.Foreign.{without_recording, twice}
-use Rattle.edf_rows.proofs.RowCells.{own-read}
+use Rattle.edf_rows.proofs.RowCells.{own-read, blob-bytes, int-number}
 
 -- ---- members
 pub here : {X : Type 0} (x : X) (xs : List X) → Contains (x ∷ xs) x
@@ -63,12 +63,6 @@ mapped f P (x ∷ xs) row all c = go (cases_first (f x) row (map f xs) c) (mappe
     go (inr c) more = more c
 
 -- ---- cells are one to one
-blob-bytes : (a b : List ℕ) → ◌≡◌ {A = Value} (Blob a) (Blob b) → a ≡ b
-blob-bytes a b h = cc
-
-int-number : (a b : ℤ) → ◌≡◌ {A = Value} (Int a) (Int b) → a ≡ b
-int-number a b h = cc
-
 pos-number : (a b : ℕ) → pos a ≡ pos b → a ≡ b
 pos-number a b h = cc
 

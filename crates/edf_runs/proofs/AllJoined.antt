@@ -11,7 +11,7 @@ use Rattle.std.proofs.lemmas.Slice.Zip.{all_zipped_more, AllZip-long}
 use Rattle.edf_header.specs.declared.limits.TheConstants.{MOST_RECORDS}
 use Rattle.edf_fragment.specs.Fragment.{DataRecord}
 use Rattle.edf_runs.specs.Groups.{MayShare, AreFull, AreGroups, ShareFiles, starts_in}
-use Rattle.edf_runs.specs.JoinedRead.{IsGroup, AreWithin, AreGroupsOf, IsFirstCrowdedFile}
+use Rattle.edf_runs.specs.JoinedRead.{IsGroup, AreWithin, IsFirstCrowdedFile}
 use Rattle.edf_runs.specs.Inside.Joining.{IsFrontGroup, IsRising}
 use Rattle.edf_runs.specs.declared.joining.Joining.{Joining}
 use Rattle.edf_runs.specs.declared.onset_run.OnsetRun.{OnsetRun}
@@ -189,23 +189,6 @@ module _ (d : ℕ) (j : Joining) where
       within = All-nil (AreWithin b d);
       rising = rising;
       few = few;
-    }
-
-    pub all-joined : (all : List DataRecord) (runs : List OnsetRun) → AreSoFar all [] runs →
-        AreGroupsOf b d j all runs
-    all-joined all runs is = record {
-      groups = is.groups;
-      are_joined = subst (ShareFiles d j all) (append-nil is.groups)
-          (with-rest all [] is.groups [] is.front (record {
-            joined = refl;
-            are_groups = record {
-              none_empty = All-nil IsSome;
-              share = All-nil (MayShare d j);
-              full = tt;
-            };
-          }));
-      each = is.each;
-      within = is.within;
     }
 
     module _ (all left : List DataRecord) (runs : List OnsetRun) (count : ℕ)

@@ -1,5 +1,5 @@
--- Files over short gaps of data records without their samples are those of the data records; and what
--- is told where files are listed.
+-- Files over short gaps of data records without their samples are those of the data records; and
+-- what is told where files are listed.
 use Rattle.std.proofs.Common.{◌≡◌, ℕ, ◌+◌, ◌≤◌, List, [], ◌∷◌, ◌++◌, All, Bool, true, false}
 use Rattle.std.proofs.Common.{length, map, refl, sym, ap, ◌∙◌, subst, arith, Option, inl, inr}
 use Rattle.std.specs.List.{flat_map, AllZip}
@@ -36,6 +36,7 @@ use Rattle.edf_runs.proofs.JoinedGroups.{has-its-groups, has-no-others}
 use Rattle.edf_runs.proofs.MovedFiles.{all-moved-limits}
 use Rattle.edf_runs.proofs.Shifting.{rising-from}
 use Rattle.edf_runs.proofs.SoundGroups.{sound-within, spaced-rises, asked-spaced}
+use Rattle.edf_runs.proofs.ByOnset.{head-is, tail-is}
 
 abbrev joined : List (List DataRecord) → List DataRecord
 joined groups = flat_map (λ group. group) groups
@@ -117,12 +118,6 @@ record Parts (groups before : List (List DataRecord)) (g : List DataRecord)
   parts : groups ≡ front ++ one ∷ back
   front_is : before ≡ map bare front
   one_is : g ≡ bare one
-
-head-is : (x y : List DataRecord) (xs ys : List (List DataRecord)) → x ∷ xs ≡ y ∷ ys → x ≡ y
-head-is x y xs ys same = cc
-
-tail-is : (x y : List DataRecord) (xs ys : List (List DataRecord)) → x ∷ xs ≡ y ∷ ys → xs ≡ ys
-tail-is x y xs ys same = cc
 
 parts-of : (groups before : List (List DataRecord)) (g : List DataRecord)
     (after : List (List DataRecord)) → before ++ g ∷ after ≡ map bare groups →
@@ -213,25 +208,15 @@ module _ (d : ℕ) (l : Layout) (left rest : Option (List ℕ)) (slots : List Da
 -- a fault of the reading while data records are read
 pub slots-lacking : (l : Layout) (left rest : Option (List ℕ)) (fault : FragmentFault) →
     FailsAfterRecords l left rest fault → LacksSlots l left rest (fault_by_onset fault)
-slots-lacking l left rest (Header fault) is = is
-slots-lacking l left rest (CutRecord nth) is = is
-slots-lacking l left rest (Tal nth fault) is = is
-slots-lacking l left rest Trailing is = is
-slots-lacking l left rest Read is = is
 slots-lacking l left rest NoMemory is = inl is
-slots-lacking l left rest Failed is = is
+slots-lacking l left rest fault is = is
 
 module _ (j : Joining) (b : Bool) (left rest : Option (List ℕ)) where
   -- a fault of the reading
   pub joined-told : (fault : FragmentFault) → IsFragmentFault left rest fault →
       IsJoinedFault j b left rest (fault_by_onset fault)
-  joined-told (Header fault) is = is
-  joined-told (CutRecord nth) is = is
-  joined-told (Tal nth fault) is = is
-  joined-told Trailing is = is
-  joined-told Read is = is
   joined-told NoMemory is = inl is
-  joined-told Failed is = is
+  joined-told fault is = is
 
   -- a fault after the header
   pub slots-told : (l : Layout) (mid : Option (List ℕ)) (fault : OnsetFault) →

@@ -152,9 +152,6 @@ once d (r ∷ rs) spaced =
 
 -- ---- each where its onset lies
 
-abbrev StartsBy : ℕ → DataRecord → List DataRecord → DataRecord → ℕ → Type 0
-StartsBy low r before g onset = ((before ≡ []) × (low ≤ onset)) ⊎ (g.start ≤ onset)
-
 pub record Placed (all : List Annotation) (low : ℕ) (before : List DataRecord) (g : DataRecord)
     (after : List DataRecord) (a : Annotation) : Type 0 where
   pub is_one : Contains all a
@@ -162,10 +159,10 @@ pub record Placed (all : List Annotation) (low : ℕ) (before : List DataRecord)
   pub last : All (λ r. a.onset < r.start) after
 
 -- the first of a list, and the others
-head-is : {X : Type 0} (x y : X) (xs ys : List X) → x ∷ xs ≡ y ∷ ys → x ≡ y
+pub head-is : {X : Type 0} (x y : X) (xs ys : List X) → x ∷ xs ≡ y ∷ ys → x ≡ y
 head-is x y xs ys same = cc
 
-tail-is : {X : Type 0} (x y : X) (xs ys : List X) → x ∷ xs ≡ y ∷ ys → xs ≡ ys
+pub tail-is : {X : Type 0} (x y : X) (xs ys : List X) → x ∷ xs ≡ y ∷ ys → xs ≡ ys
 tail-is x y xs ys same = cc
 
 cons-is-not-nil : {X : Type 0} (x : X) (xs : List X) → ¬ (x ∷ xs ≡ [])

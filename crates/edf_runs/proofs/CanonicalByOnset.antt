@@ -1,8 +1,6 @@
 -- The canonical file by onset, by two readings of one file.
-use Rattle.std.proofs.Common.{◌≡◌, ℕ, List, Option, map, sym, ap, ◌∙◌, subst}
+use Rattle.std.proofs.Common.{◌≡◌, ℕ, List, map, sym, ap, ◌∙◌, subst}
 use Rattle.std.specs.Io.KnownBytes.{Appends}
-use Rattle.edf_header.specs.Key.{Key}
-use Rattle.edf_fragment.specs.Fragment.{DataRecord}
 use Rattle.edf_fragment.proofs.Fragments.{fragment_of_all}
 use Rattle.edf_fragment.proofs.OneFragment.{one-fragment}
 use Rattle.edf_fragment.proofs.Sound.{spelled-sound}

@@ -1,5 +1,5 @@
 -- What the file of data records has: they are moved, and by onset placed once more.
-use Rattle.std.proofs.Common.{◌≡◌, ◌≢◌, ℕ, ◌+◌, ◌≤◌, List, [], ◌∷◌, ◌++◌, All, Bool, true, false}
+use Rattle.std.proofs.Common.{◌≡◌, ℕ, ◌+◌, ◌≤◌, List, [], ◌∷◌, ◌++◌, All, Bool, true, false}
 use Rattle.std.proofs.Common.{length, map, refl, sym, ap, ◌∙◌, subst, arith}
 use Rattle.std.proofs.lemmas.List.{length-map}
 use Rattle.std.proofs.lemmas.List.Elements.{All-nil, All-cons, All-head, All-tail}
@@ -160,11 +160,6 @@ module _ (b : Bool) (d : ℕ) (group kept : List DataRecord) (are : kept ≡ bar
     kept-length : length kept ≡ length group
     kept-length = ap (λ (l : List DataRecord). length l) are
         ∙ length-map (as_filed b d group) without_samples ∙ filed-length b d group
-
-    pub some-kept : 1 ≤ length group → kept ≢ []
-    some-kept some none =
-        let len : length kept ≡ 0 = ap (λ (l : List DataRecord). length l) none in
-        omega (arith, some, len, kept-length)
 
     pub kept-crowded : ¬ All within kept → ¬ AreWithin b d group
     kept-crowded crowded few =

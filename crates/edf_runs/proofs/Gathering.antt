@@ -1,5 +1,5 @@
 -- Data records that are gathered, and the annotations that are assigned to them.
-use Rattle.std.proofs.Common.{◌≡◌, ℕ, suc, length, List, [], ◌∷◌, ◌++◌, map, refl, sym, ap, ◌∙◌}
+use Rattle.std.proofs.Common.{◌≡◌, ℕ, suc, length, List, [], ◌∷◌, ◌++◌, map, refl, ap, ◌∙◌}
 use Rattle.std.proofs.Common.{All, Option, inl, inr}
 use Rattle.std.proofs.lemmas.List.Elements.{All-nil, All-cons, All-head, All-tail}
 use Rattle.edf_field.specs.Number.{duration_of}
@@ -12,16 +12,12 @@ use Rattle.edf_runs.specs.Order.{in_order}
 use Rattle.edf_fragment.specs.Reading.{CountsFault}
 use Rattle.edf_fragment.specs.Whole.{ReadsFragment, IsFragmentFault}
 use Rattle.edf_fragment.specs.declared.fault.FragmentFault.{FragmentFault}
-use Rattle.edf_fragment.specs.declared.fault.FragmentFault.TheVariants.{Header, CutRecord, Tal}
-use Rattle.edf_fragment.specs.declared.fault.FragmentFault.TheVariants.{Trailing, Read, Failed}
 use Rattle.edf_fragment.specs.declared.fault.FragmentFault.TheVariants.{Memory as NoMemory}
 use Rattle.edf_runs.specs.OnsetRead.{without_samples, IsOnsetFault, CountsOnsetFault}
 use Rattle.edf_runs.specs.declared.onset_listing.OnsetFault.{OnsetFault}
 use Rattle.edf_runs.specs.declared.onset_listing.OnsetFault.TheVariants.{Fragment, TooMany, Memory}
 use Rattle.edf_runs.specs.Inside.Assigning.{start_alone}
-use Rattle.edf_runs.specs.Inside.Keeping.{IsGathered, IsKeptFault, fault_by_onset}
-use Rattle.edf_runs.specs.declared.listing_by_onset.Gathered.{Gathered}
-use Rattle.edf_runs.proofs.Tallies.{annotations-more}
+use Rattle.edf_runs.specs.Inside.Keeping.{IsKeptFault, fault_by_onset}
 
 -- ---- annotations are assigned by starts alone
 
@@ -68,15 +64,6 @@ starts-more : (records : List DataRecord) (r : DataRecord) →
 starts-more [] r = refl
 starts-more (x ∷ xs) r = ap (λ l. start_alone x ∷ l) (starts-more xs r)
 
-pub gathered-more : (records : List DataRecord) (r : DataRecord) (old new : Gathered) →
-    IsGathered records old → new.slots.items ≡ old.slots.items ++ start_alone r ∷ [] →
-    new.notes.items ≡ old.notes.items ++ r.annotations → IsGathered (records ++ r ∷ []) new
-gathered-more records r old new is slots notes = record {
-  starts = slots ∙ ap (λ l. l ++ start_alone r ∷ []) is.starts
-      ∙ sym (starts-more records r);
-  all = notes ∙ ap (λ l. l ++ r.annotations) is.all ∙ sym (annotations-more records r);
-}
-
 -- ---- what is told
 
 pub full-within : (xs : List DataRecord) →
@@ -92,13 +79,8 @@ module _ (left rest : Option (List ℕ)) where
   -- a fault of the reading
   pub read-told : (fault : FragmentFault) → IsFragmentFault left rest fault →
       IsOnsetFault left rest (fault_by_onset fault)
-  read-told (Header fault) is = is
-  read-told (CutRecord nth) is = is
-  read-told (Tal nth fault) is = is
-  read-told Trailing is = is
-  read-told Read is = is
   read-told NoMemory is = inl is
-  read-told Failed is = is
+  read-told fault is = is
 
   -- a fault after it
   pub kept-told : (l : Layout) (records : List DataRecord) (fault : OnsetFault) →
@@ -112,13 +94,8 @@ module _ (left rest : Option (List ℕ)) where
 
 pub read-counts : (old new : ℕ) (fault : FragmentFault) → CountsFault old new fault →
     CountsOnsetFault old new (fault_by_onset fault)
-read-counts old new (Header fault) counts = counts
-read-counts old new (CutRecord nth) counts = counts
-read-counts old new (Tal nth fault) counts = counts
-read-counts old new Trailing counts = counts
-read-counts old new Read counts = counts
 read-counts old new NoMemory counts = counts
-read-counts old new Failed counts = counts
+read-counts old new fault counts = counts
 
 pub kept-counts : (d old : ℕ) (records : List DataRecord) (fault : OnsetFault) →
     IsKeptFault d records fault → CountsOnsetFault old old fault

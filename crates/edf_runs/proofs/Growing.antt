@@ -86,7 +86,7 @@ all_front P xs ys all = All-weaker (Contains xs) P
 pub all_last : {X : Type 0} (P : X → Type 0) (xs : List X) (x : X) → All P (xs ++ x ∷ []) → P x
 all_last P xs x all = All-contains P (xs ++ x ∷ []) x all (Contains-push xs x)
 
-some_more : (run : List DataRecord) (r : DataRecord) → (run ++ r ∷ []) ≢ []
+pub some_more : (run : List DataRecord) (r : DataRecord) → (run ++ r ∷ []) ≢ []
 some_more [] r same = let none : ◌≡◌ {A = List DataRecord} (r ∷ []) [] = same in cc
 some_more (x ∷ xs) r same = let none : ◌≡◌ {A = List DataRecord} (x ∷ (xs ++ r ∷ [])) [] = same in
     cc
@@ -144,28 +144,6 @@ samples_hold len samples few = omega arith
 
 pub samples_least : (len fewer : ℕ) → len ≤ 2 * fewer → (len + 1) / 2 ≤ fewer
 samples_least len fewer fits = omega arith
-
-pub listed_one : (d : ℕ) (run : Run) (r : DataRecord) → run.first ≡ r.start → run.last ≡ r.start →
-    run.records ≡ 1
-    → run.block_samples ≡ (length (block_of (second_of r.start) r) + 1) / 2 →
-    IsListed d (r ∷ []) run
-listed_one d run r first last count samples =
-    let base : second_of run.first ≡ second_of r.start = ap second_of first in
-    let here : run.block_samples ≡ (length (block_of (second_of run.first) r) + 1) / 2 =
-    subst (λ n. run.block_samples ≡ (length (block_of n r) + 1) / 2) (sym base) samples in
-    let none : (run.records - 1) * d ≡ 0 = ap (λ n. (n - 1) * d) count ∙ omega arith in
-    record {
-      count = count;
-      starts = (sym first, tt);
-      last = omega (arith, last, first, none);
-      holds = All-cons (λ x. length (block_of (second_of run.first) x) ≤ 2 * run.block_samples) r []
-          (samples_hold _ run.block_samples (omega (arith, here)))
-          (All-nil (λ x. length (block_of (second_of run.first) x) ≤ 2 * run.block_samples));
-      least = λ fewer hold.
-          let fits = all_last (λ x. length (block_of (second_of run.first) x) ≤ 2 * fewer) [] r
-          hold in
-          omega (arith, here, samples_least _ fewer fits);
-    }
 
 pub listed_more : (d : ℕ) (records : List DataRecord) (run new : Run) (r : DataRecord) →
     IsListed d records run → r.start ≡ run.last + d → length records < MOST_RECORDS
@@ -302,15 +280,6 @@ next_listed d records before run new r are apart one =
       each = zip_more d (l.front ++ l.last ∷ []) (before
           ++ run ∷ []) (r ∷ []) new (zip_more d l.front before l.last run l.each l.listed) one;
     }
-
--- a last run has no more data records than there are
-pub last_few : (d : ℕ) (records : List DataRecord) (before : List Run) (run : Run) →
-    AreListed d records (before ++ run ∷ []) → run.records ≤ length records
-last_few d records before run are =
-    let l = last_listed d are.runs before run are.each in
-    let runs : IsRuns d records (l.front ++ l.last ∷ []) =
-    subst (IsRuns d records) l.parts are.are_runs in
-    omega (arith, l.listed.count, few_in d records l.front l.last runs)
 
 -- before the first
 pub nothing_listed : (d : ℕ) → AreListed d [] []

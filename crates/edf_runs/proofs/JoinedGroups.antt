@@ -14,6 +14,7 @@ use Rattle.edf_runs.specs.Groups.{AreNear, missing_of, most_shift, MayShare, Are
 use Rattle.edf_runs.specs.Groups.{ShareFiles, starts_in}
 use Rattle.edf_runs.specs.TakenBack.{HasItsGroups, HasNoOthers}
 use Rattle.edf_runs.specs.declared.joining.Joining.{Joining}
+use Rattle.edf_runs.proofs.Growing.{some_more}
 
 abbrev joined : List (List DataRecord) → List DataRecord
 joined groups = flat_map (λ group. group) groups
@@ -40,10 +41,6 @@ and-parts false b is = absurd (let e : ◌≡◌ {A = Bool} false true = is in c
 pub some-starts : (file : List DataRecord) → file ≢ [] → IsSome (starts_in file)
 some-starts [] some none = some refl
 some-starts (r ∷ rs) some none = let e : ◌≡◌ {A = List ℕ} (r.start ∷ starts_in rs) [] = none in cc
-
-pub some-more : (file : List DataRecord) (r : DataRecord) → (file ++ r ∷ []) ≢ []
-some-more [] r none = let e : ◌≡◌ {A = List DataRecord} (r ∷ []) [] = none in cc
-some-more (x ∷ xs) r none = let e : ◌≡◌ {A = List DataRecord} (x ∷ (xs ++ r ∷ [])) [] = none in cc
 
 pub alike-starts : (xs ys : List DataRecord) → AllZip AreAlike xs ys → starts_in xs ≡ starts_in ys
 alike-starts [] [] alike = refl
@@ -189,9 +186,9 @@ module _ (d : ℕ) (j : Joining) where
   are-from file (r ∷ rs) some share =
       by-test (λ groups. AreGroups d j (map starts_in groups)) (test (file ++ r ∷ []))
       (files_from (file ++ r ∷ []) rs) (file ∷ files_from (r ∷ []) rs)
-      (λ yes. are-from (file ++ r ∷ []) rs (some-more file r) (test-yes (file ++ r ∷ []) yes))
+      (λ yes. are-from (file ++ r ∷ []) rs (some_more file r) (test-yes (file ++ r ∷ []) yes))
       (λ no.
-      let later = are-from (r ∷ []) rs (some-more [] r) (share-one r) in
+      let later = are-from (r ∷ []) rs (some_more [] r) (share-one r) in
       let apart : ¬ shares (file ++ r ∷ []) = λ both.
       let yes = test-is (file ++ r ∷ []) both in
       let e : ◌≡◌ {A = Bool} true false = sym yes ∙ no in cc in
@@ -256,7 +253,7 @@ module _ (d : ℕ) (j : Joining) where
   }
   are-joined (r ∷ rs) = record {
     joined = joined-from (r ∷ []) rs;
-    are_groups = are-from (r ∷ []) rs (some-more [] r) (share-one r);
+    are_groups = are-from (r ∷ []) rs (some_more [] r) (share-one r);
   }
 
   -- ---- and no others are

@@ -21,7 +21,7 @@ use Rattle.edf_runs.specs.WrittenByOnset.{annotated, with_samples, StartAs}
 use Rattle.edf_runs.specs.KeptByOnset.{annotated_runs, IsAsKept, KeptAreByOnset, StaySound}
 use Rattle.edf_runs.specs.declared.onset_run.OnsetRun.{OnsetRun}
 use Rattle.edf_runs.specs.declared.run.Run.{Run}
-use Rattle.edf_runs.proofs.ByOnset.{stay-alike}
+use Rattle.edf_runs.proofs.ByOnset.{stay-alike, head-is, tail-is}
 use Rattle.edf_runs.proofs.Parts.{begins_at, put_before, before_runs, runs_of, are-runs, one-runs}
 
 -- ---- the runs of data records that are alike
@@ -165,13 +165,6 @@ is_listed d run = IsListed d (kept_of run) run.run
 abbrev is_unmoved : OnsetRun → Type 0
 is_unmoved run = starts_of run ≡ []
 
-head-same : (a b : List DataRecord) (rest bs : List (List DataRecord)) → a ∷ rest ≡ b ∷ bs → a ≡ b
-head-same a b rest bs same = cc
-
-tail-same : (a b : List DataRecord) (rest bs : List (List DataRecord)) → a ∷ rest ≡ b ∷ bs →
-    rest ≡ bs
-tail-same a b rest bs same = cc
-
 none-some : {P : Type 0} (a : List DataRecord) (rest : List (List DataRecord)) →
     ◌≡◌ {A = List (List DataRecord)} [] (a ∷ rest) → P
 none-some a rest same = absurd (let e = same in cc)
@@ -192,9 +185,9 @@ runs-as-kept d (x ∷ xs) [] listed alike kept each unmoved = absurd alike
 runs-as-kept d (x ∷ xs) (raw ∷ raws) [] alike kept each unmoved =
     none-some (bare x) (map bare xs) kept
 runs-as-kept d (x ∷ xs) (raw ∷ raws) (run ∷ runs) alike kept each unmoved =
-    let here = head-same (kept_of run) (bare x) (map kept_of runs) (map bare xs) kept in
+    let here = head-is (kept_of run) (bare x) (map kept_of runs) (map bare xs) kept in
     let later = runs-as-kept d xs raws runs alike.1
-    (tail-same (kept_of run) (bare x) (map kept_of runs) (map bare xs) kept)
+    (tail-is (kept_of run) (bare x) (map kept_of runs) (map bare xs) kept)
     (All-tail (is_listed d) run runs each) (All-tail is_unmoved run runs unmoved) in (
       (
         as-kept d x raw run alike.0 here (All-head (is_listed d) run runs each)

@@ -1,7 +1,7 @@
 -- What is measured of data records, one after another.
 use Rattle.std.proofs.Common.{◌≡◌, ℕ, ◌+◌, ◌*◌, ◌/◌, ◌≤◌, ◌<◌, min, max, List, [], ◌∷◌, ◌++◌}
-use Rattle.std.proofs.Common.{length, refl, sym, ap, ◌∙◌, subst, arith, length-append}
-use Rattle.std.proofs.lemmas.List.Elements.{All-nil, All-cons, All-push, All-weaker}
+use Rattle.std.proofs.Common.{length, sym, ap, ◌∙◌, subst, arith, length-append}
+use Rattle.std.proofs.lemmas.List.Elements.{All-push, All-weaker}
 use Rattle.edf_header.specs.Key.{Key, MayStart}
 use Rattle.edf_header.specs.declared.limits.TheConstants.{MOST_RECORDS}
 use Rattle.edf_fragment.specs.Fragment.{DataRecord, Spells}
@@ -11,28 +11,6 @@ use Rattle.edf_canonical.specs.File.{second_of, block_of, BlocksFit}
 use Rattle.edf_runs.specs.Canonical.{IsMeasured}
 use Rattle.edf_runs.specs.declared.canonical_plan.Measure.{Measure}
 use Rattle.edf_runs.proofs.Growing.{all_front, all_last, samples_hold, samples_least}
-
-pub one_measured : (m : Measure) (r : DataRecord) → m.first ≡ r.start → m.records ≡ 1
-    → m.block_samples ≡ (length (block_of (second_of r.start) r) + 1) / 2 →
-    IsMeasured (r ∷ []) m
-one_measured m r first count samples =
-    let base : second_of m.first ≡ second_of r.start = ap second_of first in
-    let here : m.block_samples ≡ (length (block_of (second_of m.first) r) + 1) / 2 =
-    subst (λ n. m.block_samples ≡ (length (block_of n r) + 1) / 2) (sym base) samples in
-    record {
-      first = r;
-      others = [];
-      parts = refl;
-      start = first;
-      count = count;
-      holds = All-cons (λ x. length (block_of (second_of m.first) x) ≤ 2 * m.block_samples) r []
-          (samples_hold _ m.block_samples (omega (arith, here)))
-          (All-nil (λ x. length (block_of (second_of m.first) x) ≤ 2 * m.block_samples));
-      least = λ fewer hold.
-          let fits = all_last (λ x. length (block_of (second_of m.first) x) ≤ 2 * fewer) [] r
-          hold in
-          omega (arith, here, samples_least _ fewer fits);
-    }
 
 pub more_measured : (records : List DataRecord) (old new : Measure) (r : DataRecord) →
     IsMeasured records old → length records < MOST_RECORDS → new.first ≡ old.first

@@ -1,4 +1,5 @@
--- Data records of a file over short gaps begin one after another, with the annotations that they had.
+-- Data records of a file over short gaps begin one after another, with the annotations that they
+-- had.
 use Rattle.std.proofs.Common.{◌≡◌, ℕ, ◌+◌, ◌-◌, ◌≤◌, List, [], ◌∷◌, All}
 use Rattle.std.proofs.Common.{length, map, refl, sym, ap, ◌∙◌, arith}
 use Rattle.std.specs.Prelude.{sum_by}
@@ -10,7 +11,8 @@ use Rattle.edf_tal.specs.Tal.{Annotation, IsAnnotation}
 use Rattle.edf_tal.specs.Block.{IsWithinLimits}
 use Rattle.edf_fragment.specs.Fragment.{DataRecord}
 use Rattle.edf_runs.specs.Groups.{starts_in}
-use Rattle.edf_runs.specs.Moved.{missing_before, moved_instant, moved, moved_record, moved_annotation}
+use Rattle.edf_runs.specs.Moved.{missing_before, moved_instant, moved, moved_record}
+use Rattle.edf_runs.specs.Moved.{moved_annotation}
 use Rattle.edf_runs.specs.OnsetRead.{without_samples}
 use Rattle.edf_runs.specs.Runs.{StartFrom}
 use Rattle.edf_runs.proofs.Shifting.{RisesFrom, rising-from, none-missing, behind-first}

@@ -9,7 +9,7 @@ use Rattle.edf_header.specs.Header.{Layout, IsLayout, most_records}
 use Rattle.edf_tal.specs.Block.{IsBlocksFault}
 use Rattle.edf_tal.specs.declared.place.Place.{Place}
 use Rattle.edf_tal.specs.declared.place.TalFault.{TalFault}
-use Rattle.edf_tal.proofs.Cited.{blocks-one-read, blocks-read-no-fault}
+use Rattle.edf_tal.proofs.Cited.{blocks-read-no-fault}
 use Rattle.edf_fragment.specs.Fragment.{DataRecord, IsDataRecord, AreDataRecords, place_after}
 use Rattle.edf_fragment.specs.Fragment.{blocks}
 use Rattle.edf_fragment.specs.Reading.{IsAnswer, AnswersIn, IsNext, GivesRecord, EndsThere}
@@ -38,6 +38,7 @@ use Rattle.edf_runs.proofs.Growing.{all_front, all_last, run_end, samples_least,
 use Rattle.edf_runs.proofs.Growing.{last_start}
 use Rattle.edf_runs.proofs.Annotated.{annotated-length, annotated-front, annotated-nth}
 use Rattle.edf_runs.proofs.StartsAs.{start-as-of}
+use Rattle.edf_fragment.proofs.OneFragment.{one-record}
 
 -- ---- one more data record of known bytes
 
@@ -66,14 +67,6 @@ all_read left rest all front is read end =
     ap (λ (x : List ℕ). length x) (k.parts ∙ ap (λ (x : List ℕ). front ++ x) none
     ∙ append-nil front)
 
-one_record : (l : Layout) (p : Place) (b : List ℕ) (r s : DataRecord) → IsDataRecord l p b r →
-    IsDataRecord l p b s → r ≡ s
-one_record l p b r s x y =
-    let same = blocks-one-read (blocks l b) l.start p r.start s.start r.annotations s.annotations
-    x.read y.read in
-    let samples : r.samples ≡ s.samples = x.samples_are ∙ sym y.samples_are in
-    λ i. record { start = same.start i; samples = samples i; annotations = same.list i }
-
 -- the data records after the one that was read
 record Follows (l : Layout) (rest : Option (List ℕ)) (x r : DataRecord) (xs : List DataRecord)
     (last : Place) (after : List ℕ) : Type 0 where
@@ -90,7 +83,7 @@ follows l from left rest all x r xs last after is (front, back, parts, one, more
     let k = known left rest all gives.bytes is gives.read in
     let fronts = same_front all front back gives.bytes k.bytes parts k.parts (one.len
     ∙ sym gives.is_record.len) in
-    let same : x ≡ r = one_record l from.place gives.bytes x r
+    let same : x ≡ r = one-record l from.place gives.bytes x r
     (subst (λ (z : List ℕ). IsDataRecord l from.place z x) fronts.front one) gives.is_record in
     let here = subst (λ (z : DataRecord).
     AreDataRecords l (place_after l z.start) back xs last after) same more in

@@ -7,6 +7,7 @@ use Rattle.std.specs.Prelude.{All}
 use Rattle.std.specs.List.{flat_map}
 use Rattle.edf_fragment.specs.Fragment.{DataRecord}
 use Rattle.edf_runs.specs.Runs.{StartFrom, IsTouching, AreParted, IsRuns}
+use Rattle.edf_runs.proofs.Growing.{touching_from}
 
 abbrev IsSome : List DataRecord → Type 0
 IsSome run = run ≢ []
@@ -42,10 +43,6 @@ from-same : (d a b : ℕ) (rs : List DataRecord) → a ≡ b → StartFrom d (a 
     StartFrom d (b + d) rs
 from-same d a b rs same from = subst (λ (n : ℕ). StartFrom d (n + d) rs) same from
 
-start-touching : (d instant : ℕ) (rs : List DataRecord) → StartFrom d instant rs → IsTouching d rs
-start-touching d instant [] from = tt
-start-touching d instant (s ∷ rs) from = from-same d instant s.start rs (sym from.0) from.1
-
 touching-start : (d instant : ℕ) (rs : List DataRecord) → begins_at instant rs ≡ true →
     IsTouching d rs → StartFrom d instant rs
 touching-start d instant [] begins touching = tt
@@ -73,7 +70,7 @@ parted-longer : (d : ℕ) (r : DataRecord) (run : List DataRecord) (runs : List 
     AreParted d (run ∷ runs) → AreParted d ((r ∷ run) ∷ runs)
 parted-longer d r run [] parted = tt
 parted-longer d r run (next ∷ runs) parted =
-    (λ touching. parted.0 (start-touching d (r.start + d) (run ++ next) touching), parted.1)
+    (λ touching. parted.0 (touching_from d (r.start + d) (run ++ next) touching), parted.1)
 
 put-runs : (d : ℕ) (r : DataRecord) (rs : List DataRecord) (b : Bool) (run : List DataRecord)
     (runs : List (List DataRecord)) → begins_at (r.start + d) run ≡ b

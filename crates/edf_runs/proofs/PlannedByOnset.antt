@@ -1,7 +1,7 @@
 -- What is planned of data records that were kept by onset.
 use Rattle.std.proofs.Common.{◌≡◌, ℕ, suc, ◌*◌, ◌≤◌, List, [], ◌∷◌, ◌++◌, All, length, map, refl}
 use Rattle.std.proofs.Common.{sym, ap, ◌∙◌, subst, arith, Option}
-use Rattle.std.specs.Prelude.{not, count_by, sum_by, cond}
+use Rattle.std.specs.Prelude.{not, sum_by, cond}
 use Rattle.std.specs.List.{flat_map}
 use Rattle.std.proofs.lemmas.List.Elements.{All-nil, All-cons, All-head, All-tail}
 use Rattle.std.proofs.lemmas.List.Sorted.{sum_by-IsPermutation}
@@ -21,7 +21,6 @@ use Rattle.edf_runs.specs.OneByOnset.{lies_in, outside_count}
 use Rattle.edf_runs.specs.OnsetRead.{AreKept, ReadsByOnset, kept_of, without_samples}
 use Rattle.edf_runs.specs.Order.{in_order}
 use Rattle.edf_runs.specs.PlanByOnset.{ReadsPlanByOnset}
-use Rattle.edf_runs.specs.Runs.{IsRuns}
 use Rattle.edf_runs.specs.declared.canonical_plan.CanonicalPlan.{CanonicalPlan}
 use Rattle.edf_runs.specs.declared.canonical_plan.Measure.{Measure}
 use Rattle.edf_runs.specs.declared.onset_listing.OnsetListing.{OnsetListing}

@@ -18,13 +18,13 @@ use Rattle.edf_canonical.specs.Output.{Buffered, Writes}
 use Rattle.edf_runs.specs.Canonical.{IsMeasured, StartAlike, MayComeFirst}
 use Rattle.edf_runs.specs.WrittenByOnset.{annotated}
 use Rattle.edf_runs.specs.Inside.Measuring.{IsMeasuredSoFar, IsNoMore, HoldsBlock}
-use Rattle.edf_runs.specs.Inside.Sending.{records_text, next_text, MayBeFirst, IsMore, IsPutNext}
+use Rattle.edf_runs.specs.Inside.Sending.{records_text, next_text, MayBeFirst, IsPutNext}
 use Rattle.edf_runs.specs.Inside.Sending.{StopsAtNext, StopsPuttingWhole}
 use Rattle.edf_runs.specs.Inside.Steps.{annotated_one}
 use Rattle.edf_runs.specs.declared.canonical_plan.Measure.{Measure}
 use Rattle.edf_runs.specs.declared.fault.WriteFault.{WriteFault}
 use Rattle.edf_runs.specs.declared.fault.WriteFault.TheVariants.{Changed}
-use Rattle.edf_runs.proofs.Annotated.{annotated-none, annotated-length, annotated-more, block-same}
+use Rattle.edf_runs.proofs.Annotated.{annotated-none, annotated-more, block-same}
 use Rattle.edf_runs.proofs.Annotated.{start-same, sound-one}
 use Rattle.edf_runs.proofs.KeptWhole.{alike-more, alike-last, measured-other, sound-more}
 use Rattle.edf_runs.proofs.Whole.{PutMeasured, may_come, none_first, put_one_more, one_more_fits}

@@ -1,54 +1,21 @@
 -- A second reading, data record by data record.
 use Rattle.std.proofs.Common.{◌≡◌, ℕ, suc, ◌+◌, ◌*◌, ◌≤◌, ◌<◌, List, [], ◌∷◌, ◌++◌, length, refl}
-use Rattle.std.proofs.Common.{sym, ap, ◌∙◌, subst, arith, length-append, Option, Some, Ok, Result}
+use Rattle.std.proofs.Common.{sym, ap, ◌∙◌, subst, arith, length-append, Option, Some}
 use Rattle.std.proofs.Math.Nat.{suc-mul}
 use Rattle.std.proofs.KnownBytes.{Consumes-nil, Consumes-trans}
 use Rattle.edf_field.specs.Number.{duration_of}
 use Rattle.edf_header.specs.Header.{Layout, most_records}
 use Rattle.edf_tal.specs.declared.place.Place.{Place}
 use Rattle.edf_fragment.specs.Fragment.{DataRecord, AreDataRecords, place_after}
-use Rattle.edf_fragment.specs.Sound.{IsSoundRecord}
-use Rattle.edf_fragment.specs.Reading.{IsAnswer, AnswersIn, GivesRecord, progress_after}
 use Rattle.edf_fragment.specs.declared.advance.Progress.{Progress}
-use Rattle.edf_fragment.specs.declared.advance.ReaderState.{ReaderState}
-use Rattle.edf_fragment.specs.declared.advance.ReaderState.TheVariants.{Reading, Ended, Stopped}
-use Rattle.edf_fragment.specs.declared.fault.FragmentFault.{FragmentFault}
 use Rattle.edf_fragment.proofs.Runs.{AreDataRecords-snoc}
 use Rattle.edf_runs.specs.Read.{ReadsOn}
-use Rattle.edf_runs.specs.Again.{StopsAt, StopsBefore, PassesRun}
 use Rattle.edf_runs.specs.Inside.Steps.{StepsOn, ReadSoFar, due}
 use Rattle.edf_runs.specs.declared.run.Run.{Run}
-use Rattle.edf_runs.specs.declared.fault.WriteFault.{WriteFault}
 use Rattle.edf_runs.proofs.Next.{has_more}
 use Rattle.edf_runs.proofs.StartsAs.{starts-as-none, starts-as-more}
 
 -- ---- one data record
-
-answered : (s : ReaderState) (l : Layout) (from to : Progress) (left rest : Option (List ℕ))
-    (r : DataRecord) → AnswersIn s l from to left rest (Ok (Some r))
-    → (s ≡ Reading) × (to ≡ progress_after l from (Ok (Some r))) × GivesRecord l from left rest r
-answered Reading l from to left rest r is = (refl, is.0, is.1)
-answered Ended l from to left rest r is =
-    let e : ◌≡◌ {A = Result (Option DataRecord) FragmentFault} (Ok (Some r)) _ = is.0 in
-    absurd (let f = e in cc)
-answered Stopped l from to left rest r is =
-    let e : ◌≡◌ {A = Result (Option DataRecord) FragmentFault} (Ok (Some r)) _ = is.0 in
-    absurd (let f = e in cc)
-
-pub steps_on : (l : Layout) (from to : Progress) (left rest : Option (List ℕ)) (instant : ℕ)
-    (r : DataRecord) → IsAnswer l from to left rest (Ok (Some r)) → IsSoundRecord l.key r
-    → r.start ≡ instant → StepsOn l from to left rest instant r
-steps_on l from to left rest instant r is sound start =
-    let a = answered from.state l from to left rest r is in
-    record {
-      going = a.0;
-      is_answer = is;
-      progress = a.1;
-      gives = a.2;
-      sound = sound;
-      start =
-          start;
-    }
 
 -- ---- one after another
 
@@ -138,23 +105,3 @@ more_so_far l from mid to left middle rest run starts rs next later instant coun
       first = λ all has len. has_more l mid to middle rest all rs instant r
           (so.first all has len) (omega (arith, so.counted, few, len)) step;
     }
-
-pub stops_before : (l : Layout) (from mid to : Progress) (left middle rest : Option (List ℕ))
-    (run : Run) (rs : List DataRecord) (next count : ℕ) (fault : WriteFault)
-    → ReadSoFar l from mid left middle run [] rs next count → count < run.records →
-    StopsAt l mid to middle rest next fault → StopsBefore l from to left rest run fault
-stops_before l from mid to left middle rest run rs next count fault so few stop = record {
-  records = rs;
-  mid = mid;
-  middle = middle;
-  read = so.read;
-  starts = so.start;
-  fewer = omega (arith, so.counted);
-  stop = subst (λ (n : ℕ). StopsAt l mid to middle rest n fault) so.next_is stop;
-}
-
-pub passes_run : (l : Layout) (from to : Progress) (left rest : Option (List ℕ)) (run : Run)
-    (rs : List DataRecord) (next count : ℕ) → ReadSoFar l from to left rest run [] rs next count
-    → count ≡ run.records → PassesRun l from to left rest run
-passes_run l from to left rest run rs next count so all =
-    record { records = rs; read = so.read; starts = so.start; count = so.counted ∙ all }

@@ -260,13 +260,7 @@ pub not_written_plain : (l : Layout) (from to : Progress)
     → IsNotWrittenByOnset l from to left rest before after run [] [] fault →
     IsNotWritten l from to left rest before after run fault
 not_written_plain l from to left rest before after run Undated s = s
-not_written_plain l from to left rest before after run Changed s =
-    stops_plain l from to left rest before after run s
-not_written_plain l from to left rest before after run Read s =
-    stops_plain l from to left rest before after run s
-not_written_plain l from to left rest before after run Memory s =
-    stops_plain l from to left rest before after run s
-not_written_plain l from to left rest before after run Write s =
+not_written_plain l from to left rest before after run fault s =
     stops_plain l from to left rest before after run s
 
 pub ok_plain : (l : Layout) (from to : Progress) (left rest before after : Option (List ℕ))
@@ -326,11 +320,5 @@ pub not_written : (l : Layout) (from to : Progress) (left rest before after : Op
     IsNotWrittenByOnset l from to left rest before after run starts kept fault
 not_written l from to left rest before after header run starts kept Undated is-header s dated =
     absurd (dated refl)
-not_written l from to left rest before after header run starts kept Changed is-header s dated =
-    stops_in_run l from to left rest before after header run starts kept is-header s
-not_written l from to left rest before after header run starts kept Read is-header s dated =
-    stops_in_run l from to left rest before after header run starts kept is-header s
-not_written l from to left rest before after header run starts kept Memory is-header s dated =
-    stops_in_run l from to left rest before after header run starts kept is-header s
-not_written l from to left rest before after header run starts kept Write is-header s dated =
+not_written l from to left rest before after header run starts kept fault is-header s dated =
     stops_in_run l from to left rest before after header run starts kept is-header s

@@ -15,10 +15,6 @@ use Rattle.edf_runs.specs.Inside.Joining.{IsRising, shifts_from, behind}
 abbrev pub begun_by : ℕ → ℕ → Bool
 begun_by instant s = nat_le s instant
 
-rising-tail : (d s : ℕ) (ss : List ℕ) → IsRising d (s ∷ ss) → IsRising d ss
-rising-tail d s [] rising = tt
-rising-tail d s (next ∷ ss) rising = rising.1
-
 -- nothing is missing before an instant at which none of them has ended
 pub none-missing : (d instant s : ℕ) (ss : List ℕ) → instant ≤ s + d → IsRising d (s ∷ ss) →
     missing_before d (s ∷ ss) instant ≡ 0
@@ -40,8 +36,8 @@ none-begun d instant (s ∷ ss) none rising = elim (cases_lt instant s) [
       absurd (omega (arith, one, none))
 ]
 
--- what is missing before an instant: the shift of the last that started by then, and what of the gap
--- behind it is before the instant
+-- what is missing before an instant: the shift of the last that started by then, and what of the
+-- gap behind it is before the instant
 last-begun : (d instant shift s : ℕ) (ss : List ℕ) → s ≤ instant → IsRising d (s ∷ ss) →
     shift + missing_before d (s ∷ ss) instant
     ≡ unwrap_or (slice_get (shifts_from d shift (s ∷ ss)) (prefix_len (begun_by instant) ss)) 0

@@ -1,6 +1,6 @@
 -- A whole file, read again and put data record by data record.
 use Rattle.std.proofs.Common.{◌≡◌, ℕ, ◌+◌, ◌*◌, ◌≤◌, inl, inr, List, [], ◌∷◌, ◌++◌, length}
-use Rattle.std.proofs.Common.{refl, sym, ap, ◌∙◌, subst, arith, length-append, append-nil, All}
+use Rattle.std.proofs.Common.{refl, sym, ap, ◌∙◌, subst, arith, length-append, append-nil}
 use Rattle.std.proofs.Common.{Option, Some, None, Ok, Err, Result, append_assoc, ◌⊎◌}
 use Rattle.std.proofs.lemmas.Grind.{flat_map-append}
 use Rattle.std.proofs.lemmas.List.Elements.{All-weaker}
@@ -36,8 +36,7 @@ use Rattle.edf_header.specs.Canonical.{IsCanonicalHeader}
 use Rattle.edf_header.specs.declared.limits.TheConstants.{MOST_RECORDS}
 use Rattle.edf_fragment.specs.Sound.{AreSound}
 use Rattle.edf_fragment.proofs.Sound.{spelled-key, spelled-sound}
-use Rattle.edf_field.specs.Number.{duration_of}
-use Rattle.std.proofs.lemmas.List.Elements.{All-nil, All-cons}
+use Rattle.std.proofs.lemmas.List.Elements.{All-nil}
 use Rattle.edf_runs.specs.Canonical.{IsCanonicalWritten, planned_text}
 use Rattle.edf_runs.specs.Inside.Sending.{IsSentWhole}
 use Rattle.edf_runs.specs.declared.canonical_plan.CanonicalPlan.{CanonicalPlan}
@@ -47,14 +46,15 @@ use Rattle.edf_fragment.proofs.Fragments.{open_refused, reads_none}
 use Rattle.edf_runs.specs.Again.{fault_again, IsNotReopened}
 use Rattle.std.specs.Io.KnownBytes.{Keeps}
 use Rattle.edf_canonical.specs.Output.{WritesFront}
-use Rattle.edf_runs.specs.Canonical.{IsMeasured, MayComeFirst, StartsAt, IsPlanned}
+use Rattle.edf_runs.specs.Canonical.{IsMeasured, MayComeFirst, StartsAt}
 use Rattle.edf_runs.specs.Canonical.{StopsInFile, WritesPlannedFront, LeavesFrontOfFile}
 use Rattle.edf_runs.specs.Inside.Measuring.{IsMeasuredSoFar, IsNoMore}
 use Rattle.edf_runs.specs.Inside.Sending.{records_text}
 use Rattle.edf_runs.specs.declared.canonical_plan.Measure.{Measure}
 use Rattle.edf_runs.specs.declared.fault.WriteFault.{WriteFault}
 use Rattle.edf_runs.specs.declared.fault.WriteFault.TheVariants.{Changed, Read, Memory}
-use Rattle.edf_runs.proofs.Growing.{all_front, all_last}
+use Rattle.edf_runs.proofs.Growing.{all_front}
+use Rattle.edf_fragment.proofs.Sound.{sound_sizes}
 
 -- the data records that were read so far, measured and put
 pub record PutMeasured (l : Layout) (p : Progress) (left rest : Option (List ℕ))
@@ -225,13 +225,6 @@ all_first records m is = may_come records m m is
     (record { first = refl; records = omega arith; samples = omega arith })
 
 -- ---- the file
-
-sound_sizes : (k : Key) (low : ℕ) (rs : List DataRecord) → AreSound k low rs →
-    All (λ r. length r.samples ≡ 2 * samples_in_all k.signals) rs
-sound_sizes k low [] sound = All-nil (λ r. length r.samples ≡ 2 * samples_in_all k.signals)
-sound_sizes k low (r ∷ rs) (one, lower, more) =
-    All-cons (λ x. length x.samples ≡ 2 * samples_in_all k.signals) r rs one.samples_len
-    (sound_sizes k (r.start + duration_of k.duration) rs more)
 
 file_of : (k : Key) (rs : List DataRecord) (m : Measure) (header : List ℕ) → IsKey k →
     AreSound k 0 rs → IsMeasured rs m → MayStart k m.first →

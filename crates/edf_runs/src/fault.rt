@@ -1,4 +1,3 @@
-use edf_fragment::FragmentFault;
 use thiserror::Error;
 
 /// Why a run is not written, or not to its end.

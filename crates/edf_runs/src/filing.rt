@@ -1,40 +1,23 @@
 //! The file of data records over short gaps.
 
-ghost use Rattle.std.specs.Prelude.{◌≡◌, ◌≤◌, [], ℕ, List, All, IfOk, IfSome, MatchOption};
+ghost use Rattle.std.specs.Prelude.{◌≡◌, ◌≤◌, [], ℕ, All, IfOk, IfSome, MatchOption};
 ghost use Rattle.std.specs.Prelude.{length, map};
 ghost use Rattle.edf_header.specs.declared.limits.TheConstants.{MOST_RECORDS};
 ghost use Rattle.edf_tal.specs.Block.{IsWithinLimits};
-ghost use Rattle.edf_fragment.specs.Fragment.{DataRecord};
 ghost use Rattle.edf_runs.specs.Runs.{IsListed, IsTouching};
-ghost use Rattle.edf_runs.specs.ByOnset.{by_onset};
 ghost use Rattle.edf_runs.specs.OnsetRead.{without_samples};
 ghost use Rattle.edf_runs.specs.Groups.{starts_in};
 ghost use Rattle.edf_runs.specs.JoinedRead.{as_filed, IsGroup, AreWithin};
 ghost use Rattle.edf_runs.specs.Inside.Joining.{IsMoves, IsRising};
-ghost use Rattle.edf_runs.specs.Inside.Keeping.{IsGathered};
-ghost use Rattle.edf_runs.specs.Inside.Spaced.{Spaced};
 
-use crate::assigning::{Slot, assign_all};
-use crate::listing_by_onset::Gathered;
+use crate::assigning::Slot;
+use crate::listing_by_onset::slots_by_onset;
 use crate::moving::{Moves, moved_apart, moved_slots};
 use crate::onset_run::OnsetRun;
-use crate::ordering::in_order;
 use crate::run::Run;
 use edf_field::MOST_DURATION;
 use edf_fragment::Record;
 use std::alloc::{AllocError, Global};
-
-/// Data records that were gathered, with each annotation in the one that has its onset.
-pub(crate) fn slots_by_onset(gathered: Gathered) -> Result<Vec<Slot>, AllocError>
-    ensures { IfOk result (λ slots. (d : ℕ) (records : List DataRecord) →
-        IsGathered records gathered → Spaced d 0 records →
-        slots.items ≡ map without_samples (by_onset records)) }
-{
-    let Gathered { mut slots, notes } = gathered;
-    let notes = in_order(notes)?;
-    assign_all(&mut slots, notes)?;
-    Ok(slots)
-}
 
 /// What the file of data records has, without samples: they are moved, and by onset each annotation
 /// is then in the one that has its onset in the file.

@@ -1,6 +1,7 @@
 //! The runs of a file, with each annotation in the data record that has its onset.
 
-ghost use Rattle.std.specs.Prelude.{◌≡◌, ◌≤◌, ◌++◌, ◌∷◌, [], List, MatchResult, OnOk, length, map};
+ghost use Rattle.std.specs.Prelude.{◌≡◌, ◌≤◌, ◌++◌, ◌∷◌, [], ℕ, List, MatchResult, IfOk, OnOk};
+ghost use Rattle.std.specs.Prelude.{length, map};
 ghost use Rattle.edf_header.specs.declared.limits.TheConstants.{MOST_RECORDS};
 ghost use Rattle.edf_fragment.specs.Fragment.{DataRecord};
 ghost use Rattle.edf_fragment.specs.Reading.{CountsAnswer, at_first};
@@ -93,6 +94,18 @@ pub(crate) fn gather<R: Input>(
     }
 }
 
+/// Data records that were gathered, with each annotation in the one that has its onset.
+pub(crate) fn slots_by_onset(gathered: Gathered) -> Result<Vec<Slot>, AllocError>
+    ensures { IfOk result (λ slots. (d : ℕ) (records : List DataRecord) →
+        IsGathered records gathered → Spaced d 0 records →
+        slots.items ≡ map without_samples (by_onset records)) }
+{
+    let Gathered { mut slots, notes } = gathered;
+    let notes = in_order(notes)?;
+    assign_all(&mut slots, notes)?;
+    Ok(slots)
+}
+
 /// The runs of the data records that were gathered, with each annotation where its onset is.
 fn runs_by_onset(
     alloc: Global,
@@ -105,13 +118,9 @@ fn runs_by_onset(
         (λ runs. AreKeptWithin duration (map without_samples (by_onset records)) runs.items)
         (IsKeptFault duration (map without_samples (by_onset records))) }
 {
-    let Gathered { mut slots, notes } = gathered;
-    let Ok(notes) = in_order(notes) else {
+    let Ok(slots) = slots_by_onset(gathered) else {
         return Err(OnsetFault::Memory);
     };
-    if assign_all(&mut slots, notes).is_err() {
-        return Err(OnsetFault::Memory);
-    }
     keep_all(alloc, slots, duration)
 }
 

@@ -13,10 +13,10 @@ ghost use Rattle.edf_runs.specs.JoinedRead.{AreGroupsOf, ReadsJoined, IsJoinedFa
 ghost use Rattle.edf_runs.specs.Inside.Joining.{IsRising, IsGroupsFault, HasSlots, LacksSlots};
 
 use crate::assigning::{Slot, copy_notes};
-use crate::filing::{filed_run, slots_by_onset};
+use crate::filing::filed_run;
 use crate::grouping::group_len;
 use crate::joining::Joining;
-use crate::listing_by_onset::gather;
+use crate::listing_by_onset::{gather, slots_by_onset};
 use crate::onset_listing::{OnsetFault, OnsetListing};
 use crate::onset_run::OnsetRun;
 use edf_field::MOST_DURATION;

@@ -1,10 +1,9 @@
 //! What is known of a canonical file by onset before its first byte is written.
 
-ghost use Rattle.std.specs.Prelude.{◌≡◌, ◌+◌, ◌≤◌, IfOk, MatchResult, length, sum_by, count_by};
+ghost use Rattle.std.specs.Prelude.{◌≡◌, ◌+◌, ◌≤◌, IfOk, MatchResult, length, sum_by};
 ghost use Rattle.std.specs.List.{flat_map};
 ghost use Rattle.edf_header.specs.declared.limits.TheConstants.{MOST_RECORDS};
 ghost use Rattle.edf_tal.specs.declared.limits.TheConstants.{MOST_ANNOTATIONS};
-ghost use Rattle.edf_runs.specs.Counted.{is_outside};
 ghost use Rattle.edf_runs.specs.OnsetRead.{IsOnsetFault, CountsOnset, kept_of};
 ghost use Rattle.edf_runs.specs.PlanByOnset.{ReadsPlanByOnset};
 ghost use Rattle.edf_runs.specs.Inside.Measuring.{IsMeasuredSoFar, outside_here};

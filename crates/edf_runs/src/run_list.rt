@@ -1,4 +1,4 @@
-ghost use Rattle.std.specs.Prelude.{◌≡◌, ◌≤◌, ◌^◌, List, MatchResult};
+ghost use Rattle.std.specs.Prelude.{◌≡◌, ◌≤◌, List, MatchResult};
 ghost use Rattle.edf_fragment.specs.Fragment.{DataRecord};
 ghost use Rattle.edf_fragment.specs.Reading.{CountsAnswer, at_first};
 ghost use Rattle.edf_fragment.specs.Whole.{FailsAfterRecords, IsFragmentFault};

@@ -1,6 +1,6 @@
 //! The canonical file of a recording, written data record by data record in a second reading.
 
-ghost use Rattle.std.specs.Prelude.{◌≡◌, ◌≤◌, ◌<◌, ◌↔◌, ◌++◌, ◌∷◌, ℕ, List, [], All, length};
+ghost use Rattle.std.specs.Prelude.{◌≡◌, ◌≤◌, ◌<◌, ◌↔◌, ℕ, List, [], All, length};
 ghost use Rattle.std.specs.Prelude.{IsTrue, IfOk, IfErr, MatchResult};
 ghost use Rattle.edf_header.specs.declared.limits.TheConstants.{MOST_RECORDS};
 ghost use Rattle.edf_fragment.specs.Fragment.{DataRecord};

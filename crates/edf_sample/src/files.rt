@@ -45,11 +45,6 @@ impl<'a> Signal<'a> {
         }
     }
 
-    pub fn label(mut self, text: &'a str) -> Signal<'a> {
-        self.label = text;
-        self
-    }
-
     pub fn dimension(mut self, text: &'a [u8]) -> Signal<'a> {
         self.dimension = text;
         self
@@ -181,12 +176,6 @@ impl<'a> Header<'a> {
         self
     }
 
-    /// The EEG signal's label.
-    pub fn label(mut self, text: &'a str) -> Header<'a> {
-        self.eeg = self.eeg.label(text);
-        self
-    }
-
     /// The EEG signal's physical dimension.
     pub fn dimension(mut self, text: &'a [u8]) -> Header<'a> {
         self.eeg = self.eeg.dimension(text);
@@ -208,12 +197,6 @@ impl<'a> Header<'a> {
     /// The EEG signal's samples in each data record.
     pub fn samples(mut self, text: &'a str) -> Header<'a> {
         self.eeg = self.eeg.samples(text);
-        self
-    }
-
-    /// The label of the annotations signal.
-    pub fn annotations_label(mut self, text: &'a str) -> Header<'a> {
-        self.annotations = self.annotations.label(text);
         self
     }
 

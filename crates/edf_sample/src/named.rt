@@ -147,11 +147,3 @@ pub fn file_u(alloc: Global) -> Result<Vec<u8>, AllocError> {
     let second = b"\x03\0\x04\0+1\x14\x14\0";
     file(alloc, &u(), &[first, &ZEROS[..86], second, &ZEROS[..109]])
 }
-
-/// The canonical file of U: 820 bytes.
-pub fn canonical_u(alloc: Global) -> Result<Vec<u8>, AllocError> {
-    let header = u().reserved("EDF+D").annotations_samples("11");
-    let first = b"\x01\0\x02\0+0\x14\x14\0+0.5\x14Lights off\x14\0";
-    let second = b"\x03\0\x04\0+1\x14\x14\0";
-    file(alloc, &header, &[first, second, &ZEROS[..17]])
-}

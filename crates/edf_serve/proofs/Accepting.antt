@@ -9,7 +9,6 @@ use Rattle.edf_intake.specs.declared.answer.Receipt.{Receipt}
 use Rattle.edfserve_arguments.specs.Line.{LineAsked}
 use Rattle.edfserve_arguments.specs.Line.LineAsked.{take, list, runs, runs_of, export, export_of}
 use Rattle.edfserve_arguments.specs.Line.LineAsked.{picture, picture_of}
-use Rattle.edf_export.proofs.Walks.{clean_before}
 use Rattle.edf_program.specs.Output.{Growth}
 use Rattle.edf_serve.specs.Client.{HasAccepted, IsIdle}
 use Rattle.edf_serve.specs.Exchange.{IsWorked}

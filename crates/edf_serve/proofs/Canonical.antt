@@ -1,6 +1,8 @@
--- What the file holds that an `export` or a `picture` line made, and what is said where there is none.
+-- What the file holds that an `export` or a `picture` line made, and what is said where there is
+-- none.
 use Rattle.std.proofs.Common.{◌≡◌, ◌≢◌, ◌⊎◌, ◌∙◌, ◌++◌, ℕ, Bool, List, [], Option, Some}
-use Rattle.std.proofs.Common.{None, ap, refl, sym, subst, inl, inr, IfSome, length, codes}
+use Rattle.std.proofs.Common.{None, true, ap, refl, sym, subst, inl, inr, length, codes}
+use Rattle.std.specs.Prelude.{Result, Ok, Err}
 use Rattle.std.specs.Io.KnownBytes.{Appends}
 use Rattle.std.proofs.lemmas.List.{append-nil}
 use Rattle.sqlite_trees.specs.declared.store.Store.{Ghosts}
@@ -14,15 +16,19 @@ use Rattle.edf_export.proofs.Walks.{clean_before}
 use Rattle.edf_program.specs.Output.{Growth, Gets, IsWritten, IsTold}
 use Rattle.edf_program.specs.declared.status.Status.{Status}
 use Rattle.edf_program.specs.declared.status.Status.TheVariants.{Done, Refused, Trouble}
+use Rattle.edf_new_files.specs.declared.new_files.Unfinished.{Unfinished}
+use Rattle.edf_new_files.specs.declared.new_files.Unfinished.TheVariants.{IsThere, Failed}
 use Rattle.edf_serve.specs.Exchange.{Exchange, IsServed, IsWorked, IsAnswered, IsAfterTold}
 use Rattle.edf_serve.specs.Exchange.{TellsLines}
 use Rattle.edf_serve.specs.Exporting.{IsKeyWritten, MakesFile, IsMadeAs, IsMadeOf}
 use Rattle.edf_serve.specs.Exporting.{IsFinishTold, verb, made_line}
-use Rattle.edf_serve.specs.Files.{Made, Paths, HasPath, Tries, IsPlace, to_folder}
-use Rattle.edf_serve.specs.Finding.{PickedBy, AreFound, Finds, TellsNone, IsDoneForOne, unpicked_line}
+use Rattle.edf_serve.specs.Files.{Paths, IsPlace, to_folder}
+use Rattle.edf_serve.specs.Finding.{PickedBy, AreFound, Finds, TellsNone, IsDoneForOne}
+use Rattle.edf_serve.specs.Finding.{unpicked_line}
 use Rattle.edf_serve.specs.Finding.PickedBy.{by_place, by_codes}
 use Rattle.edf_serve.specs.Laws.{HasNewFile, IsFileOf, MadeIsItsOwn, ExportedIsTheSame, asks_file}
 use Rattle.edf_serve.specs.Laws.{RunsAreItsOwn, IsUnmatched, UnmatchedIsTold, asks_runs}
+use Rattle.edf_serve.specs.NewFile.{Maker, BeginsFile, FinishesFile}
 use Rattle.edf_serve.specs.Running.{AreRunsOf, HasRunsOf, IsListed}
 use Rattle.edf_serve.specs.Work.{Point, Work, EndsAs, grown}
 use Rattle.edf_serve.specs.declared.answering.Answered.{Answered}
@@ -31,38 +37,29 @@ use Rattle.edf_serve.specs.declared.answering.End.TheVariants as end
 use Rattle.edf_serve.specs.declared.form.Form.{Form}
 use Rattle.edf_serve.specs.declared.form.Form.TheVariants.{Canonical, Picture}
 use Rattle.edf_serve.specs.declared.finding.Found.TheVariants.{One, Other}
-use Rattle.edf_serve.specs.declared.files.Finished.{Finished}
-use Rattle.edf_serve.specs.declared.files.Finished.TheVariants.{Named, IsThere, Failed}
 use Rattle.edf_serve.specs.declared.files.Folders.{Folders}
 use Rattle.edf_serve.specs.declared.room.Outcome.{Outcome}
 use Rattle.edf_serve.specs.declared.room.Outcome.TheVariants as outcome
 use Rattle.edf_serve.specs.declared.text.Text.{Text}
+use Rattle.edf_new_files.specs.There.{Found, Becomes}
+use Rattle.edf_new_files.proofs.Filled.{filled}
+use Rattle.edf_program.proofs.Undone.{undone, refused-undone, trouble-undone, number-undone}
+use Rattle.edf_program.proofs.Undone.{trouble-told}
 use Rattle.edf_serve.proofs.Matching.{found_is_one}
 use Rattle.edf_serve.proofs.Orderly.{made-stays}
-use Rattle.edf_serve.proofs.Working.{not-done, number-not, trouble-not}
 
-refused-not : Refused ≢ Done
-refused-not wrong = cc
-
--- what a new writer got is all that it holds
-all-of : (before after : Option (List ℕ)) (bytes : List ℕ) → before ≡ Some [] →
-    Appends before after bytes → after ≡ Some bytes
-all-of before after bytes empty wrote =
-    by after (subst (λ (b : Option (List ℕ)). Appends b after bytes) empty wrote)
-  where
-    by : (after : Option (List ℕ)) → Appends (Some []) after bytes → after ≡ Some bytes
-    by None wrote = absurd wrote
-    by (Some held) wrote = ap (λ (b : List ℕ). Some b) wrote
+trouble-not : Trouble ≢ Done
+trouble-not wrong = cc
 
 -- the first status is not of a file that has no path
-named-only : (form : Form) (name : List ℕ) (out : Growth) (finished : Finished)
-    (status : Status) → IsFinishTold form name out finished status → status ≡ Done →
-    (bytes : ℕ) × (finished ≡ Named bytes)
-named-only form name out (Named bytes) status told done = (bytes, refl)
-named-only form name out IsThere status told done =
-    absurd (not-done out _ Refused status refused-not done told)
-named-only form name out Failed status told done =
-    absurd (not-done out _ Trouble status trouble-not done told)
+named-only : (form : Form) (name : List ℕ) (out : Growth) (how : Result ℕ Unfinished)
+    (status : Status) → IsFinishTold form name out how status → status ≡ Done →
+    (bytes : ℕ) × (how ≡ Ok bytes)
+named-only form name out (Ok bytes) status told done = (bytes, refl)
+named-only form name out (Err IsThere) status told done =
+    absurd (refused-undone out _ status told done)
+named-only form name out (Err Failed) status told done =
+    absurd (trouble-undone out _ status told done)
 
 -- what went to a file with the first status is of the recording
 whole-file : {S : Type 0} (g : Ghosts S) (form : Form) (old new : StoreModel S)
@@ -79,15 +76,15 @@ whole-file g Canonical old new file out key told is clean h held done =
             r.2,
             record { canonical = it.canonical; only = it.only },
           )
-      | inr n ↦ absurd (not-done out _ _ told (number-not (export_fault_number n.0)) done n.3)
+      | inr n ↦ absurd (undone out _ _ told (number-undone (export_fault_number n.0)) n.3 done)
     ]
 whole-file g Picture old new file out key told is clean h held done =
     elim (is.drawn clean h held) [
       | inl drawn ↦ elim drawn.2 [
         | inl went ↦ (drawn.0, went.0, went.1, drawn.1)
-        | inr failed ↦ absurd (not-done out _ Trouble told trouble-not done failed.1)
+        | inr failed ↦ absurd (trouble-undone out _ told failed.1 done)
       ]
-      | inr n ↦ absurd (not-done out _ Trouble told trouble-not done n.1.2)
+      | inr n ↦ absurd (trouble-undone out _ told n.1.2 done)
     ]
 
 -- a line that is told with the first status was written whole
@@ -110,72 +107,42 @@ after-nothing before mid old new text is first then =
         then ∙ ap (λ (l : List ℕ). l ++ text) (first ∙ append-nil old)
 
 module _ {S : Type 0} (g : Ghosts S) (folders : Folders) (a b : Point S) (w : Work S)
-    (form : Form) (key : Key) (name : List ℕ) (made : Made) (old-made : w.old.made ≡ a.made)
-    (old-paths : w.old.paths ≡ a.paths) (known : a.made ≡ Some made)
+    (form : Form) (key : Key) (name : List ℕ) (old-made : w.old.made ≡ a.made)
+    (old-paths : w.old.paths ≡ a.paths) (known : a.made.known ≡ true)
     (same : w.new.made ≡ b.made) where
-  abbrev Tried-so : List ℕ → Option Finished → Option (List ℕ) → ℕ → Type 0
-  Tried-so path how contents failed = Tries a.made b.made (record {
-    path = path;
-    how = how;
-    contents = contents;
-    failed = failed;
-  })
-
-  tries : (path : List ℕ) (status : Status) (m : MakesFile g w form key name path status) →
-      Tried-so path m.how m.file.after m.file.failed_after
-  tries path status m = subst (λ (o : Option Made). Tries a.made o (record {
-    path = path;
-    how = m.how;
-    contents = m.file.after;
-    failed = m.file.failed_after;
-  })) same (subst (λ (o : Option Made). Tries o w.new.made (record {
-    path = path;
-    how = m.how;
-    contents = m.file.after;
-    failed = m.file.failed_after;
-  })) old-made m.tries)
-
+  -- a file that was finished has its path, and all that went to it
   module _ (path : List ℕ) (leads : IsPlace a.paths (to_folder folders) name (Some path))
       (status : Status) (m : MakesFile g w form key name path status) (bytes : ℕ)
-      (how : m.how ≡ Some (Named bytes)) where
-    is-new : (m.file.before ≡ Some []) × (m.file.failed_before ≡ 0)
-    is-new =
-        let f = subst (λ (o : Option Made). IfSome o (λ it. ¬ HasPath it path
-        × (m.file.before ≡ Some []) × (m.file.failed_before ≡ 0))) (old-made ∙ known) m.new in
-        (f.1, f.2)
+      (finishes : FinishesFile m.mid w.new.made path m.file.after m.file.failed_after (Ok bytes))
+      (file : List ℕ) (gets : Gets m.file file) where
+    its-begin : BeginsFile a.made m.mid path m.file.before m.file.failed_before
+    its-begin = subst (λ (o : Maker). BeginsFile o m.mid path m.file.before m.file.failed_before)
+        old-made m.begun
 
-    had-none : IfSome a.made (λ it. ¬ HasPath it path)
-    had-none =
-        let f = subst (λ (o : Option Made). IfSome o (λ it. ¬ HasPath it path
-        × (m.file.before ≡ Some []) × (m.file.failed_before ≡ 0))) (old-made ∙ known) m.new in
-        subst (λ (o : Option Made). IfSome o (λ it. ¬ HasPath it path)) (sym known) f.0
+    its-end : FinishesFile m.mid b.made path (Some file) m.file.failed_after (Ok bytes)
+    its-end = subst (λ (held : Option (List ℕ)).
+        FinishesFile m.mid b.made path held m.file.failed_after (Ok bytes))
+        (filled m.file.before m.file.after file (its-begin.empty known) gets.0)
+        (subst (λ (o : Maker).
+        FinishesFile m.mid o path m.file.after m.file.failed_after (Ok bytes)) same finishes)
 
-    -- it holds all that went to it
-    contents-of : (file : List ℕ) → Gets m.file file → m.file.after ≡ Some file
-    contents-of file gets = all-of m.file.before m.file.after file is-new.0 gets.0
+    size-of : length file ≡ bytes
+    size-of = its-end.whole.1
 
-    size-of : (file : List ℕ) → Gets m.file file → length file ≡ bytes
-    size-of file gets =
-        subst (λ (o : Option (List ℕ)). IfSome o (λ it. length it ≡ bytes)) (contents-of file gets)
-        (m.sized bytes how)
-
-    holds-all : (Has : List ℕ → Type 0) (file : List ℕ) → Gets m.file file → Has file →
-        HasNewFile folders a b name Has
-    holds-all Has file gets has =
-        let contents : m.file.after ≡ Some file = contents-of file gets in
-        let how2 : m.how ≡ Some (Named (length file)) =
-        how ∙ ap (λ (n : ℕ). Some (Named n)) (sym (size-of file gets)) in
-        record {
-          path = path;
-          leads = leads;
-          new = had-none;
-          file = file;
-          has = has;
-          made = subst (λ (w : Option Finished). Tried-so path w (Some file) 0) how2
-              (subst (λ (o : Option (List ℕ)). Tried-so path m.how o 0) contents
-              (subst (λ (n : ℕ). Tried-so path m.how m.file.after n) (gets.1 ∙ is-new.1)
-              (tries path status m)));
-        }
+    holds-all : (Has : List ℕ → Type 0) → Has file → HasNewFile folders a b name Has
+    holds-all Has has = record {
+      path = path;
+      leads = leads;
+      new = its-begin.free;
+      file = file;
+      has = has;
+      made = its-end.made;
+      there = subst (λ (was : Option Found). Becomes was (b.made.there path) (Some (Some file)))
+          (its-begin.there path) its-end.there.1;
+      others = λ other not. its-end.there.2 other not ∙ its-begin.there other;
+      one = its-end.begun_count ∙ its-begin.begun_count;
+      unfailed = its-end.failed ∙ its-begin.failed;
+    }
 
   module _ (clean : HasCleanDisk (at g w.new.store)) (h : Holdings)
       (held : Holds g w.old.store h) (status : Status) (done : status ≡ Done) where
@@ -194,16 +161,18 @@ module _ {S : Type 0} (g : Ghosts S) (folders : Folders) (a b : Point S) (w : Wo
           let n = named-only form name _ f.1.0 status f.1.2 done in
           let it = whole-file g form w.old.store w.new.store m.file m.out key m.told m.written
           clean h held f.0 in
-          let how : m.how ≡ Some (Named n.0) = f.1.1 ∙ ap (λ (w : Finished). Some w) n.1 in
+          let finishes = subst (FinishesFile m.mid w.new.made path m.file.after
+          m.file.failed_after) n.1 f.1.1 in
           let out : Growth = record (grown w.old.out w.new.out) {
             before = m.out.after;
             failed_before = m.out.failed_after;
           } in
           let line : Gets out (made_line form name n.0) =
           line-told out (made_line form name n.0) status done
-          (subst (λ (f : Finished). IsFinishTold form name out f status) n.1 f.1.2) in
-          let size : length it.0 ≡ n.0 = size-of path leads status m n.0 how it.0 it.1 in (
-            holds-all path leads status m n.0 how (IsFileOf form h key) it.0 it.1 it.3,
+          (subst (λ (how : Result ℕ Unfinished). IsFinishTold form name out how status) n.1 f.1.2)
+          in
+          let size : length it.0 ≡ n.0 = size-of path leads status m n.0 finishes it.0 it.1 in (
+            holds-all path leads status m n.0 finishes it.0 it.1 (IsFileOf form h key) it.3,
             after-nothing m.out.before m.out.after w.old.out.bytes.items w.new.out.bytes.items
                 (made_line form name (length it.0)) m.from.0 it.2.0
                 (subst (λ (n : ℕ). Appends m.out.after (Some w.new.out.bytes.items)
@@ -215,14 +184,15 @@ module _ {S : Type 0} (g : Ghosts S) (folders : Folders) (a b : Point S) (w : Wo
     -- and so where it is told with the first status
     pub made-of : IsMadeAs g form name folders w key status → IsThereSo
     made-of (inl n) = elim n.2 [
-      | inl outside ↦ absurd (not-done _ _ Refused status refused-not done outside.1)
-      | inr memory ↦ absurd (not-done _ _ Trouble status trouble-not done memory)
+      | inl outside ↦ absurd (refused-undone _ _ status outside.1 done)
+      | inr memory ↦ absurd (trouble-undone _ _ status memory done)
     ]
     made-of (inr (path, leads, inl m)) = of-file path
         (subst (λ (p : Paths). IsPlace p (to_folder folders) name (Some path)) old-paths leads) m
     made-of (inr (path, leads, inr n)) =
-        let finished = named-only form name (grown w.old.out w.new.out) n.how status n.said done in
-        absurd (n.unnamed finished.0 finished.1)
+        let named = named-only form name (grown w.old.out w.new.out) (Err n.why) status n.said
+        done in
+        absurd (let wrong = named.1 in cc)
 
 -- an answer with the first status is of a command with it
 told-done : {S : Type 0} (g : Ghosts S) (x : Exchange S) (b : Point S) (told : Status)
@@ -248,12 +218,6 @@ told-or g x b told d status (Some end.Unread) a = absurd a
 told-or g x b told d status (Some end.Unwritten) a = absurd a
 told-or g x b told d status (Some end.Lost) a = absurd a
 told-or g x b told d status (Some end.Full) a = absurd a
-
--- a line that is written with trouble, or not
-trouble-told : (out : Growth) (line : List ℕ) (status : Status) →
-    IsWritten out line Trouble status → status ≡ Trouble
-trouble-told out line status (inl w) = w.1
-trouble-told out line status (inr w) = w.1
 
 -- how many are picked is said, or there was trouble
 told-count : (p : PickedBy) (h : Holdings) (count many : ℕ) (out : Text) (new : Text)
@@ -299,19 +263,19 @@ module _ {S : Type 0} (g : Ghosts S) (folders : Folders) (a b : Point S) (x : Ex
   found-at mid = record x.work { old = record x.work.old { store = mid } }
 
   -- a new file is of the one that was found
-  file-there : (form : Form) (name : List ℕ) (made : Made) → a.made ≡ Some made →
+  file-there : (form : Form) (name : List ℕ) → a.made.known ≡ true →
       x.answered.status ≡ Done → (p : PickedBy) (mid : StoreModel S) (key : Key) →
       Finds g x.work.old.store mid p (One key) → (o : Outcome) →
       EndsAs (found-at mid) (IsMadeAs g form name folders (found-at mid) key) o →
       IsAnswered g x b o → (k : Key) × AreFound p h (One k)
       × (new : HasNewFile folders a b name (IsFileOf form h k))
       × (x.work.new.out.bytes.items ≡ made_line form name (length new.file))
-  file-there form name made known done p mid key finds (outcome.Told told d) e answer =
+  file-there form name known done p mid key finds (outcome.Told told d) e answer =
       let v : Work S = found-at mid in
       let new = new-clean told d answer in
       let was = clean_before g mid x.work.new.store (made-stays g folders form name v key told e.1)
       new in
-      let it = made-of g folders a b v form key name made
+      let it = made-of g folders a b v form key name
       (ap (λ (p : Point S). p.made) served.begins) (ap (λ (p : Point S). p.paths) served.begins)
       known (sym (ap (λ (p : Point S). p.made) answer.same)) new h
       (finds.stays.holdings h found-held) told (answered-done done told d answer) e.1 in (
@@ -320,15 +284,15 @@ module _ {S : Type 0} (g : Ghosts S) (folders : Folders) (a b : Point S) (x : Ex
         it.0,
         it.1 ∙ ap (λ (l : List ℕ). l ++ made_line form name (length it.0.file)) served.blank.0,
       )
-  file-there form name made known done p mid key finds (outcome.Accepted n receipt start) e
+  file-there form name known done p mid key finds (outcome.Accepted n receipt start) e
       answer = absurd e
 
   none-done : x.answered.status ≡ Done → (p : PickedBy) (word : List ℕ) (o : Outcome) →
       EndsAs x.work (TellsNone g x.work.old.store x.work.new.store p word
       (grown x.work.old.out x.work.new.out)) o → IsAnswered g x b o → ⊥
   none-done done p word (outcome.Told told d) e answer = elim e.1 [
-    | inl none ↦ not-done _ _ Refused told refused-not (answered-done done told d answer) none.2
-    | inr why ↦ not-done _ _ Trouble told trouble-not (answered-done done told d answer) why.2
+    | inl none ↦ refused-undone _ _ told none.2 (answered-done done told d answer)
+    | inr why ↦ trouble-undone _ _ told why.2 (answered-done done told d answer)
   ]
   none-done done p word (outcome.Accepted n receipt start) e answer = e
 
@@ -348,7 +312,7 @@ module _ {S : Type 0} (g : Ghosts S) (folders : Folders) (a b : Point S) (x : Ex
         elim (e.1.listed new h (finds.stays.holdings h found-held)) [
           | inl has ↦ subst (λ (t : Status). HasRunsOf (grown x.work.old.out x.work.new.out) t h
               key) is has
-          | inr refused ↦ absurd (not-done _ _ Trouble told trouble-not is refused.2)
+          | inr refused ↦ absurd (trouble-undone _ _ told refused.2 is)
         ],
       )
   runs-there done p mid key finds (outcome.Accepted n receipt start) e answer = absurd e
@@ -420,10 +384,10 @@ runs-of g folders w (by_place place) is = is
 runs-of g folders w (by_codes s) is = is
 
 pub made_is_its_own : {S : Type 0} (g : Ghosts S) → MadeIsItsOwn g
-made_is_its_own g folders a b x form name p made served asked known done clean h held =
+made_is_its_own g folders a b x form name p served asked known done clean h held =
     elim (file-of g folders x.work form name p
     (subst (IsWorked g folders x.work) asked served.worked)) [
-      | inl one ↦ file-there g folders a b x served clean h held form name made known done p one.0
+      | inl one ↦ file-there g folders a b x served clean h held form name known done p one.0
           one.1 one.2 x.work.outcome one.4.1 served.answered
       | inr none ↦ absurd (none-done g folders a b x served clean h held done p (verb form)
           x.work.outcome none.1 served.answered)

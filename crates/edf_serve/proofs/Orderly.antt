@@ -1,7 +1,6 @@
 -- What a session needs to know of the work of any command.
-use Rattle.std.proofs.Common.{◌≡◌, ◌⊎◌, ◌∙◌, ℕ, List, [], ◌∷◌, Option, Some, None, sym}
-use Rattle.std.proofs.Common.{ap, subst, inl, inr, codes}
-use Rattle.std.proofs.lemmas.List.{append-nil}
+use Rattle.std.proofs.Common.{◌≡◌, ◌⊎◌, ◌∙◌, ℕ, List, Option, Some, None, sym, ap, subst}
+use Rattle.std.proofs.Common.{inl, inr, codes}
 use Rattle.sqlite_trees.specs.declared.store.Store.{Ghosts}
 use Rattle.edf_header.specs.Key.{Key}
 use Rattle.edf_store.specs.Held.{StoreModel, Stays}
@@ -15,10 +14,10 @@ use Rattle.edf_program.specs.Output.{Growth}
 use Rattle.edf_program.specs.declared.status.Status.{Status}
 use Rattle.edf_serve.specs.Exchange.{IsWorked}
 use Rattle.edf_serve.specs.Exporting.{IsKeyWritten, IsMadeAs, IsMadeBelow, IsMadeOf, verb}
-use Rattle.edf_serve.specs.Files.{Paths, Made, Tried, opens, Tries, IsPlace, LiesBelow, MakesBelow}
-use Rattle.edf_serve.specs.Files.{from_folder, to_folder}
+use Rattle.edf_serve.specs.Files.{Paths, opens, IsPlace, LiesBelow, from_folder, to_folder}
 use Rattle.edf_serve.specs.Finding.{PickedBy, TellsNone, IsDoneForOne}
 use Rattle.edf_serve.specs.Finding.PickedBy.{by_place, by_codes}
+use Rattle.edf_serve.specs.NewFile.{Maker, Tries, MakesBelow}
 use Rattle.edf_serve.specs.Overview.{IsOverview}
 use Rattle.edf_serve.specs.Running.{IsListed}
 use Rattle.edf_serve.specs.Work.{Point, Work, Submission, EndsAs, OnlyWrites}
@@ -27,6 +26,7 @@ use Rattle.edf_serve.specs.declared.form.Form.TheVariants.{Canonical, Picture}
 use Rattle.edf_serve.specs.declared.files.Folders.{Folders}
 use Rattle.edf_serve.specs.declared.room.Outcome.{Outcome}
 use Rattle.edf_serve.specs.declared.room.Outcome.TheVariants as outcome
+use Rattle.edf_serve.proofs.Making.{finished-one, given-up-one, begun-none}
 
 module _ {S : Type 0} (g : Ghosts S) (folders : Folders) (w : Work S) where
   -- nothing was submitted: the store is as it was, or holds what it held
@@ -54,19 +54,12 @@ lies : (paths : Paths) (folder : Option (List ℕ)) (name path : List ℕ) →
 lies paths None name path place = tt
 lies paths (Some folder) name path place = (name, place.0.0, place.0.1)
 
-made-none : (folder : Option (List ℕ)) (old new : Option Made) → new ≡ old →
-    MakesBelow folder old new
-made-none folder None new same = tt
-made-none folder (Some made) new same = (
-  [],
-  same ∙ ap (λ (l : List Tried). Some (record made { tried = l })) (sym (append-nil made.tried)),
-  tt,
-)
+made-none : (folder : Option (List ℕ)) (old new : Maker) → new ≡ old → MakesBelow folder old new
+made-none folder old new same = inl same
 
-made-one : (folder : Option (List ℕ)) (old new : Option Made) (one : Tried) →
-    LiesBelow folder one.path → Tries old new one → MakesBelow folder old new
-made-one folder None new one below tries = tt
-made-one folder (Some made) new one below tries = (one ∷ [], tries, (below, tt))
+made-one : (folder : Option (List ℕ)) (old new : Maker) (path : List ℕ) →
+    LiesBelow folder path → Tries old new path → MakesBelow folder old new
+made-one folder old new path below tries = inr (path, below, tries)
 
 -- what goes out leaves what is held
 pub written-stays : {S : Type 0} (g : Ghosts S) (form : Form) (old new : StoreModel S)
@@ -119,11 +112,17 @@ module _ {S : Type 0} (g : Ghosts S) (folders : Folders) where
   made-below form name w key status (inl n) =
       made-none (to_folder folders) w.old.made w.new.made n.1
   made-below form name w key status (inr (path, at, inl m)) =
-      made-one (to_folder folders) w.old.made w.new.made _
-      (lies w.old.paths (to_folder folders) name path at) m.tries
+      made-one (to_folder folders) w.old.made w.new.made path
+      (lies w.old.paths (to_folder folders) name path at) (elim m.ended [
+        | inl f ↦ finished-one w.old.made m.mid w.new.made path m.file.before m.file.after
+            m.file.failed_before m.file.failed_after m.begun f.1.0 f.1.1
+        | inr f ↦ given-up-one w.old.made m.mid w.new.made path m.file.before m.file.after
+            m.file.failed_before m.file.failed_after m.begun f.1
+      ])
   made-below form name w key status (inr (path, at, inr n)) =
-      made-one (to_folder folders) w.old.made w.new.made _
-      (lies w.old.paths (to_folder folders) name path at) n.tries
+      made-one (to_folder folders) w.old.made w.new.made path
+      (lies w.old.paths (to_folder folders) name path at)
+      (begun-none w.old.made w.new.made path n.why n.begins)
 
   -- a command that submits nothing
   abbrev IsQuiet : Work S → Type 0

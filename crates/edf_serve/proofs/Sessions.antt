@@ -10,10 +10,11 @@ use Rattle.edf_export.proofs.Walks.{stays_same}
 use Rattle.edf_intake.proofs.Batches.{none_submitted}
 use Rattle.edf_intake.proofs.Turns.{map-next}
 use Rattle.edf_serve.specs.Exchange.{Exchange, IsAnswered}
-use Rattle.edf_serve.specs.Files.{Paths, Made, Tried, opens, from_folder, to_folder, LiesBelow}
-use Rattle.edf_serve.specs.Files.{MakesBelow}
+use Rattle.edf_serve.specs.Files.{Paths, opens, from_folder, to_folder, LiesBelow}
+use Rattle.edf_serve.specs.NewFile.{Maker}
 use Rattle.edf_serve.specs.Session.{Moment, IsExchange, AreExchanges, IsStep, IsWhole}
-use Rattle.edf_serve.specs.Session.{AreSubmittedInTurn, IsSession, submissions, status_at}
+use Rattle.edf_serve.specs.Session.{AreSubmittedInTurn, AreMadeBelow, IsSession, submissions}
+use Rattle.edf_serve.specs.Session.{status_at}
 use Rattle.edf_serve.specs.Work.{Point, Submission}
 use Rattle.edf_serve.specs.declared.answering.End.{End}
 use Rattle.edf_serve.specs.declared.answering.End.TheVariants as end
@@ -53,25 +54,6 @@ all-append : {A : Type 0} (P : A → Type 0) (xs ys : List A) → AllByRecursion
     AllByRecursion P ys → AllByRecursion P (xs ++ ys)
 all-append P [] ys a b = b
 all-append P (x ∷ xs) ys a b = (a.0, all-append P xs ys a.1 b)
-
-made-both : (folder : Option (List ℕ)) (a b c : Option Made) → MakesBelow folder a b →
-    MakesBelow folder b c → MakesBelow folder a c
-made-both folder None b c p q = tt
-made-both folder (Some made) b c p q =
-    let r = subst (λ (o : Option Made). MakesBelow folder o c) p.1 q in (
-      p.0 ++ r.0,
-      r.1 ∙ ap (λ (l : List Tried). Some (record made { tried = l }))
-          (append_assoc made.tried p.0 r.0),
-      all-append (λ (t : Tried). LiesBelow folder t.path) p.0 r.0 p.2 r.2,
-    )
-
-made-same : (folder : Option (List ℕ)) (a : Option Made) → MakesBelow folder a a
-made-same folder None = tt
-made-same folder (Some made) = (
-  [],
-  ap (λ (l : List Tried). Some (record made { tried = l })) (sym (append-nil made.tried)),
-  tt,
-)
 
 module _ {S : Type 0} (g : Ghosts S) (folders : Folders) (a : Point S) where
   -- what was submitted since `a`
@@ -142,9 +124,10 @@ module _ {S : Type 0} (g : Ghosts S) (folders : Folders) where
         one.submitted) one.given one.below one.paths)
   ]
 
-  made-by : (a b : Option Made) → b ≡ a → MakesBelow (to_folder folders) a b
-  made-by a b same = subst (MakesBelow (to_folder folders) a) (sym same)
-      (made-same (to_folder folders) a)
+  -- nothing was made meanwhile
+  made-same : (a b c : Maker) (all : List (Exchange S)) → c ≡ b →
+      AreMadeBelow (to_folder folders) a all b → AreMadeBelow (to_folder folders) a all c
+  made-same a b c all same = subst (AreMadeBelow (to_folder folders) a all) (sym same)
 
   cap-mid : (x : Exchange S) (point : Point S) (o : Outcome) → IsAnswered g x point o →
       (cap : ℕ) → point.store.cap ≡ cap → x.work.new.store.cap ≡ cap
@@ -159,7 +142,7 @@ module _ {S : Type 0} (g : Ghosts S) (folders : Folders) where
     pub answered : AreExchanges g folders a all b
     pub counted : length all ≡ count
     pub took : Took g folders a.at b.at (submissions all)
-    pub made : MakesBelow (to_folder folders) a.at.made b.at.made
+    pub made : AreMadeBelow (to_folder folders) a.at.made all b.at.made
 
   module _ (a b c : Moment S) (count : ℕ) (so : SoFar a b count) where
     took-next : (x : Exchange S) → IsExchange g folders b c x →
@@ -181,23 +164,20 @@ module _ {S : Type 0} (g : Ghosts S) (folders : Folders) where
         (inl (ap (λ (p : Point S). p.store) is.worst)) (ap (λ (p : Point S). p.paths) is.worst)
 
     made-next : (x : Exchange S) → IsExchange g folders b c x →
-        MakesBelow (to_folder folders) a.at.made c.at.made
-    made-next x is =
-        let w = x.work in
-        let folder = to_folder folders in
-        let left = left-store x is.point w.outcome is.served.answered in
-        let begun = made-both folder a.at.made b.at.made w.old.made so.made
-        (made-by b.at.made w.old.made (ap (λ (p : Point S). p.made) is.served.begins)) in
-        let did = made-both folder a.at.made w.old.made w.new.made begun
-        (orderly g folders w x.asked is.served.worked).made in
-        made-both folder a.at.made w.new.made c.at.made did (made-by w.new.made c.at.made
-        (ap (λ (p : Point S). p.made) is.worst ∙ left.2))
+        AreMadeBelow (to_folder folders) a.at.made (x ∷ so.all) c.at.made
+    made-next x is = (
+      made-same a.at.made b.at.made x.work.old.made so.all
+          (ap (λ (p : Point S). p.made) is.served.begins) so.made,
+      (orderly g folders x.work x.asked is.served.worked).made,
+      ap (λ (p : Point S). p.made) is.worst
+          ∙ (left-store x is.point x.work.outcome is.served.answered).2,
+    )
 
     -- the end of a session whose last answer or none came so
     whole : (d : Moment S) (why : End) (all : List (Exchange S)) →
         d ≡ record c { at = record c.at { worst = status_at why c.at.worst } } →
         Took g folders a.at c.at (submissions all) →
-        MakesBelow (to_folder folders) a.at.made c.at.made → IsSession g folders a d all why →
+        AreMadeBelow (to_folder folders) a.at.made all c.at.made → IsSession g folders a d all why →
         IsWhole g folders a d why
     whole d why all status took made session =
         let point = ap (λ (m : Moment S). m.at) status in
@@ -209,8 +189,8 @@ module _ {S : Type 0} (g : Ghosts S) (folders : Folders) where
           submitted = now.submitted;
           opened = now.opened;
           given = now.given;
-          made = made-both (to_folder folders) a.at.made c.at.made d.at.made made
-              (made-by c.at.made d.at.made (ap (λ (p : Point S). p.made) point));
+          made = made-same a.at.made c.at.made d.at.made all (ap (λ (p : Point S). p.made) point)
+              made;
         }
 
     ends-with : (d : Moment S) (why : End) (x : Option (Exchange S)) →
@@ -229,8 +209,8 @@ module _ {S : Type 0} (g : Ghosts S) (folders : Folders) where
     ends-with d why None step status = whole d why so.all status
         (took-none g folders a.at b.at c.at (submissions so.all) so.took
         (inl (ap (λ (p : Point S). p.store) step.3)) (ap (λ (p : Point S). p.paths) step.3))
-        (made-both (to_folder folders) a.at.made b.at.made c.at.made so.made
-        (made-by b.at.made c.at.made (ap (λ (p : Point S). p.made) step.3))) (record {
+        (made-same a.at.made b.at.made c.at.made so.all (ap (λ (p : Point S). p.made) step.3)
+        so.made) (record {
           mid = b;
           before = so.all;
           answered = so.answered;
@@ -296,5 +276,5 @@ module _ {S : Type 0} (g : Ghosts S) (folders : Folders) where
       opened = nothing-opened a.at.paths;
       given = tt;
     };
-    made = made-same (to_folder folders) a.at.made;
+    made = refl;
   }

@@ -1,51 +1,19 @@
 -- What a session submits, turn after turn.
-use Rattle.std.proofs.Common.{◌≡◌, List, [], ◌∷◌, ◌∙◌, ◌++◌, map, Some, None, Ok, Err}
+use Rattle.std.proofs.Common.{◌≡◌, List, [], ◌∷◌, ◌∙◌, ◌++◌, map}
 use Rattle.std.proofs.Common.{sym, subst, arith}
-use Rattle.std.specs.List.{AllByRecursion}
 use Rattle.sqlite_trees.specs.declared.store.Store.{Ghosts}
 use Rattle.sqlite.specs.State.{HasCleanDisk}
 use Rattle.sqlite.proofs.StateLemmas.{survives_then}
 use Rattle.edf_fragment.specs.Call.{InputState}
 use Rattle.edf_store.specs.Held.{StoreModel, at, Stays}
-use Rattle.edf_store.specs.declared.fault.StoreFault.{StoreFault}
-use Rattle.edf_store.specs.declared.fault.StoreFault.TheVariants.{Memory, Store, Foreign, Failed}
 use Rattle.edf_store.proofs.Held.{others_committed_then}
-use Rattle.edf_intake.specs.Refusal.{Answer, Cause, OfForm, OfConflict, OfRead, OfMemory, OfStore}
-use Rattle.edf_intake.specs.Refusal.{cause}
-use Rattle.edf_intake.specs.Submitted.{IsRefusal, IsSubmitted}
-use Rattle.edf_intake.specs.Batch.{AreSubmittedAsList, IsOwnCause, IsOwnRefusal}
-use Rattle.edf_intake.proofs.Batches.{next_submitted}
+use Rattle.edf_intake.specs.Refusal.{Answer}
+use Rattle.edf_intake.specs.Submitted.{IsSubmitted}
+use Rattle.edf_intake.specs.Batch.{AreSubmittedAsList}
+use Rattle.edf_intake.proofs.Batches.{next_submitted, own-later}
 use Rattle.edf_intake.proofs.Turns.{map-next}
 use Rattle.edf_serve.specs.Session.{AreSubmittedInTurn}
 use Rattle.edf_serve.specs.Work.{Submission}
-
--- what was no refusal of a clean disk is none later
-own-one : {S : Type 0} (g : Ghosts S) (mid new : StoreModel S) →
-    (HasCleanDisk (at g new) → HasCleanDisk (at g mid)) → (answer : Answer) →
-    IsOwnRefusal g mid answer → IsOwnRefusal g new answer
-own-one g mid new was (Ok receipt) own = tt
-own-one g mid new was (Err refused) own = of (cause refused) own
-  where
-    by : (fault : StoreFault) → IsRefusal g (Unit {0}) mid fault → IsRefusal g (Unit {0}) new fault
-    by Memory own = own
-    by (Store (Some error)) own = tt
-    by (Store None) own = tt
-    by Foreign own = λ clean. own (was clean)
-    by Failed own = own
-
-    of : (c : Cause) → IsOwnCause g mid c → IsOwnCause g new c
-    of (OfForm fault) own = tt
-    of (OfConflict conflict) own = tt
-    of OfRead own = tt
-    of OfMemory own = tt
-    of (OfStore fault) own = by fault own
-
-own-later : {S : Type 0} (g : Ghosts S) (mid new : StoreModel S) →
-    (HasCleanDisk (at g new) → HasCleanDisk (at g mid)) → (answers : List Answer) →
-    AllByRecursion (IsOwnRefusal g mid) answers → AllByRecursion (IsOwnRefusal g new) answers
-own-later g mid new was [] all = tt
-own-later g mid new was (a ∷ rest) all =
-    (own-one g mid new was a all.0, own-later g mid new was rest all.1)
 
 abbrev froms : List Submission → List InputState
 froms all = map (λ (s : Submission). s.from) all

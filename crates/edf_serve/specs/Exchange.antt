@@ -68,8 +68,8 @@ refused_by (Some (take name)) counts = refused_once counts
 refused_by asked counts = counts
 
 module _ {S : Type 0} (g : Ghosts S) (x : Exchange S) (b : Point S) where
-  -- Whole lines, and behind them the line of the status, go out to a client that then heard so much.
-  -- The session goes on or ends so, or ends since not all of that went out.
+  -- Whole lines, and behind them the line of the status, go out to a client that then heard so
+  -- much. The session goes on or ends so, or ends since not all of that went out.
   pub record Tells (lines : List ℕ) (status : Status) (goes : Option End) (heard : Heard) : Type 0
     where
       pub whole : lines ≡ whole_lines lines
@@ -104,8 +104,8 @@ module _ {S : Type 0} (g : Ghosts S) (x : Exchange S) (b : Point S) where
       counts = refused_by x.asked x.work.new.counts;
     }
 
-  -- After an accepted file the session goes on over an open store in no transaction. Or the store is
-  -- left, only of a patient without code and name. (That it was asked more then is not said.)
+  -- After an accepted file the session goes on over an open store in no transaction. Or the store
+  -- is left, only of a patient without code and name. (That it was asked more then is not said.)
   abbrev pub IsAfterAccepted : Receipt → Option End → Type 0
   IsAfterAccepted receipt None = IsIdle g b.store × IsOpenSince g x.work.new.store b.store
   IsAfterAccepted receipt (Some Left) = IsUntold receipt.identity

@@ -1,6 +1,6 @@
 -- What `export` and `picture` do: which file they make, what they write, and what they leave.
-use Rattle.std.specs.Prelude.{◌≡◌, ◌≢◌, ◌⊎◌, ℕ, List, [], ◌∷◌, ◌++◌, Option, Some, None, IfSome, length}
-use Rattle.std.specs.Prelude.{codes, decimal}
+use Rattle.std.specs.Prelude.{◌≡◌, ◌≢◌, ◌⊎◌, ℕ, List, [], ◌∷◌, ◌++◌, Some, codes, decimal}
+use Rattle.std.specs.Prelude.{Result, Ok, Err}
 use Rattle.sqlite_trees.specs.declared.store.Store.{Ghosts}
 use Rattle.sqlite.specs.State.{HasCleanDisk}
 use Rattle.edf_header.specs.Key.{Key}
@@ -12,16 +12,17 @@ use Rattle.edf_program.specs.Output.{Growth, IsWritten, IsTold}
 use Rattle.edf_program.specs.Text.{memory_line}
 use Rattle.edf_program.specs.declared.status.Status.{Status}
 use Rattle.edf_program.specs.declared.status.Status.TheVariants.{Done, Refused, Trouble}
+use Rattle.edf_new_files.specs.declared.new_files.Unfinished.{Unfinished}
+use Rattle.edf_new_files.specs.declared.new_files.Unfinished.TheVariants.{IsThere, Failed}
 use Rattle.edf_serve.specs.Client.{IsIdle}
-use Rattle.edf_serve.specs.Files.{to_folder, IsPlace, HasPath, Tries, not_begun}
+use Rattle.edf_serve.specs.Files.{to_folder, IsPlace}
 use Rattle.edf_serve.specs.Finding.{PickedBy, IsDoneForOne}
+use Rattle.edf_serve.specs.NewFile.{Maker, BeginsFile, BeginsNot, FinishesFile, GivesUpFile}
 use Rattle.edf_serve.specs.Picturing.{IsKeyDrawn}
 use Rattle.edf_serve.specs.Taking.{HasNoPath}
 use Rattle.edf_serve.specs.Work.{Work, grown, EndsAs}
 use Rattle.edf_serve.specs.declared.form.Form.{Form}
 use Rattle.edf_serve.specs.declared.form.Form.TheVariants.{Canonical, Picture}
-use Rattle.edf_serve.specs.declared.files.Finished.{Finished}
-use Rattle.edf_serve.specs.declared.files.Finished.TheVariants.{Named, IsThere, Failed}
 use Rattle.edf_serve.specs.declared.files.Folders.{Folders}
 
 -- What is held stays, and with the first status no transaction is open. The canonical file of this
@@ -58,51 +59,43 @@ made_line form name bytes = name ++ (codes " " ++ (done_word form
 abbrev pub there_line : List ℕ → List ℕ
 there_line name = name ++ (codes " is there" ++ (10 ∷ []))
 
--- what is said of a file that was written whole, or was not begun
-abbrev pub IsFinishTold : Form → List ℕ → Growth → Finished → Status → Type 0
-IsFinishTold form name out (Named bytes) status =
+-- what is said of a file that has its name with so many bytes, or has it not
+abbrev pub IsFinishTold : Form → List ℕ → Growth → Result ℕ Unfinished → Status → Type 0
+IsFinishTold form name out (Ok bytes) status =
     IsTold out (made_line form name bytes) Done status
-IsFinishTold form name out IsThere status = IsWritten out (there_line name) Refused status
-IsFinishTold form name out Failed status =
+IsFinishTold form name out (Err IsThere) status = IsWritten out (there_line name) Refused status
+IsFinishTold form name out (Err Failed) status =
     IsWritten out (unwritten_line (verb form)) Trouble status
 
 module _ {S : Type 0} (g : Ghosts S) (w : Work S) (form : Form) (key : Key) (name path : List ℕ)
     (status : Status) where
-  -- What is asked for went to a new file, of whose path nothing was there, and which has just the
-  -- bytes that went to it, where that is known. Where all of it did, the file was finished, and else
-  -- removed.
+  -- What is asked for went to a new file, of whose path nothing was there. Where all of it did, the
+  -- file was finished: it has its path, and just the bytes that went to it, or did not get it. Else
+  -- it was given up.
   pub record MakesFile : Type 0 where
     pub file : Growth
     pub out : Growth
     pub told : Status
     pub written : IsKeyWritten g form w.old.store w.new.store file out key told
     pub from : (out.before ≡ Some w.old.out.bytes.items) × (out.failed_before ≡ w.old.out.failures)
-    pub how : Option Finished
-    pub new : IfSome w.old.made (λ made. ¬ HasPath made path × (file.before ≡ Some [])
-        × (file.failed_before ≡ 0))
-    pub tries : Tries w.old.made w.new.made (record {
-      path = path;
-      how = how;
-      contents = file.after;
-      failed = file.failed_after;
-    })
-    pub sized : (n : ℕ) → how ≡ Some (Named n) → IfSome file.after (λ held. length held ≡ n)
-    pub ended : ((told ≡ Done) × ((finished : Finished) × (how ≡ Some finished)
+    pub mid : Maker
+    pub begun : BeginsFile w.old.made mid path file.before file.failed_before
+    pub ended : ((told ≡ Done) × ((how : Result ℕ Unfinished)
+        × FinishesFile mid w.new.made path file.after file.failed_after how
         × IsFinishTold form name (record (grown w.old.out w.new.out) {
           before = out.after;
           failed_before = out.failed_after;
-        }) finished status))
-        ⊎ ((told ≢ Done) × (how ≡ None) × (out ≡ grown w.old.out w.new.out) × (status ≡ told))
+        }) how status))
+        ⊎ ((told ≢ Done) × GivesUpFile mid w.new.made path file.after file.failed_after
+        × (out ≡ grown w.old.out w.new.out) × (status ≡ told))
 
 module _ {S : Type 0} (w : Work S) (form : Form) (name path : List ℕ) (status : Status) where
   -- or no file was begun: something had the path, or no file could be had
   pub record BeginsNone : Type 0 where
     pub store : w.new.store ≡ w.old.store
-    pub how : Finished
-    pub tries : Tries w.old.made w.new.made (not_begun path how)
-    pub there : how ≡ IsThere → IfSome w.old.made (λ made. HasPath made path)
-    pub unnamed : (bytes : ℕ) → how ≢ Named bytes
-    pub said : IsFinishTold form name (grown w.old.out w.new.out) how status
+    pub why : Unfinished
+    pub begins : BeginsNot w.old.made w.new.made path why
+    pub said : IsFinishTold form name (grown w.old.out w.new.out) (Err why) status
 
 module _ {S : Type 0} (g : Ghosts S) (form : Form) (name : List ℕ) (folders : Folders) where
   -- there is no path, or no memory for it; or the recording went to its path, or no file was begun

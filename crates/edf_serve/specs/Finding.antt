@@ -28,8 +28,8 @@ use Rattle.edf_serve.specs.declared.finding.Pick.TheVariants as pick
 use Rattle.edf_serve.specs.declared.room.Outcome.{Outcome}
 use Rattle.edf_serve.specs.declared.room.Outcome.TheVariants as outcome
 
--- what a line picks a recording by: its place in the list, from 1, or its codes, and its first start
--- where that is named
+-- what a line picks a recording by: its place in the list, from 1, or its codes, and its first
+-- start where that is named
 pub data PickedBy : Type 0 where
   by_place : ℕ → PickedBy
   by_codes : Sought → PickedBy
@@ -38,8 +38,8 @@ abbrev pub picked_by : Pick → PickedBy
 picked_by (pick.Place place) = by_place place
 picked_by (pick.Codes wanted) = by_codes (sought_by wanted)
 
--- Its codes are these, byte for byte. So `X`, which stands where a code is not known, is the code of
--- the recordings that have `X`, and of no other.
+-- Its codes are these, byte for byte. So `X`, which stands where a code is not known, is the code
+-- of the recordings that have `X`, and of no other.
 pub record HasCodes (s : Sought) (k : Key) : Type 0 where
   pub patient : patient_code k ≡ s.patient
   pub investigation : investigation_code k ≡ s.investigation

@@ -1,12 +1,13 @@
 -- Laws of sessions.
-use Rattle.std.specs.Prelude.{◌≡◌, ℕ, ◌+◌, List, ◌++◌, length, map, Some, IfSome, All, Contains}
-use Rattle.std.specs.Prelude.{IsTrue, ◌⊎◌}
+use Rattle.std.specs.Prelude.{◌≡◌, ℕ, ◌+◌, true, List, [], ◌∷◌, ◌++◌, length, map, Some, All}
+use Rattle.std.specs.Prelude.{Contains, IsTrue, ◌⊎◌}
 use Rattle.std.specs.List.{AllZip}
 use Rattle.sqlite_trees.specs.declared.store.Store.{Ghosts}
 use Rattle.sqlite.specs.State.{HasCleanDisk}
 use Rattle.edf_header.specs.Key.{Key}
 use Rattle.edf_fragment.specs.Fragment.{DataRecord}
 use Rattle.edf_fragment.specs.Told.{Told, Fragment}
+use Rattle.edf_fragment.specs.Failures.{one_more}
 use Rattle.edf_holdings.specs.Holdings.{Holdings, IsSound}
 use Rattle.edf_holdings.specs.Reply.{Reply, after, after_one}
 use Rattle.edf_store.specs.Held.{StoreModel, at, Holds}
@@ -19,10 +20,12 @@ use Rattle.edfserve_arguments.specs.Line.{LineAsked}
 use Rattle.edfserve_arguments.specs.Line.LineAsked.{runs, runs_of, export, export_of, picture}
 use Rattle.edfserve_arguments.specs.Line.LineAsked.{picture_of}
 use Rattle.edf_program.specs.declared.status.Status.TheVariants.{Done, Refused, Trouble}
+use Rattle.edf_new_files.specs.Made.{finished}
+use Rattle.edf_new_files.specs.There.{IsFree, IsSameBut, Becomes}
 use Rattle.edf_serve.specs.Client.{HasAccepted}
 use Rattle.edf_serve.specs.Exchange.{Exchange, IsServed}
 use Rattle.edf_serve.specs.Exporting.{made_line}
-use Rattle.edf_serve.specs.Files.{Made, HasPath, Tries, IsPlace, to_folder}
+use Rattle.edf_serve.specs.Files.{IsPlace, to_folder}
 use Rattle.edf_serve.specs.Finding.{PickedBy, AreFound, unpicked_line}
 use Rattle.edf_serve.specs.Finding.PickedBy.{by_place, by_codes}
 use Rattle.edf_serve.specs.Picturing.{ShowsRecording}
@@ -31,7 +34,6 @@ use Rattle.edf_serve.specs.Session.{AreSubmittedInTurn}
 use Rattle.edf_serve.specs.Work.{Point, Submission, grown}
 use Rattle.edf_serve.specs.declared.form.Form.{Form}
 use Rattle.edf_serve.specs.declared.form.Form.TheVariants.{Canonical, Picture}
-use Rattle.edf_serve.specs.declared.files.Finished.TheVariants.{Named}
 use Rattle.edf_serve.specs.declared.files.Folders.{Folders}
 use Rattle.edf_serve.specs.declared.finding.Found.TheVariants.{One, Other}
 
@@ -52,24 +54,24 @@ abbrev pub IsFileOf : Form → Holdings → Key → List ℕ → Type 0
 IsFileOf Canonical h key file = IsOnlyFile file key (h key)
 IsFileOf Picture h key file = ShowsRecording h key file
 
--- the path of a name is that of a new file, which has such bytes
+-- the path of a name is that of a new file, which has such bytes; no other was begun, and nothing
+-- else changed of what is there, as far as it is known
 pub record HasNewFile {S : Type 0} (folders : Folders) (a b : Point S) (name : List ℕ)
     (Has : List ℕ → Type 0) : Type 0 where
   pub path : List ℕ
   pub leads : IsPlace a.paths (to_folder folders) name (Some path)
-  pub new : IfSome a.made (λ made. ¬ HasPath made path)
+  pub new : IsFree a.made.there path
   pub file : List ℕ
   pub has : Has file
-  pub made : Tries a.made b.made (record {
-    path = path;
-    how = Some (Named (length file));
-    contents = Some file;
-    failed = 0;
-  })
+  pub made : b.made.made ≡ finished path (Some file) ∷ []
+  pub there : Becomes (a.made.there path) (b.made.there path) (Some (Some file))
+  pub others : IsSameBut a.made.there b.made.there path
+  pub one : b.made.begun_count ≡ one_more a.made.begun_count
+  pub unfailed : b.made.failed ≡ a.made.failed
 
 module _ {S : Type 0} (g : Ghosts S) where
-  -- what a receipt tells is held: where the store held h before, it is open, and holds what the file
-  -- leaves, the data records of the file, different ones, as many as the receipt counts
+  -- what a receipt tells is held: where the store held h before, it is open, and holds what the
+  -- file leaves, the data records of the file, different ones, as many as the receipt counts
   pub record HoldsFile (store : StoreModel S) (receipt : Receipt)
       (it : HasAccepted g store receipt) (h : Holdings) : Type 0 where
     pub records : List DataRecord
@@ -86,13 +88,13 @@ module _ {S : Type 0} (g : Ghosts S) where
       (h : Holdings) → IsSound it.old.cap h → Holds g it.old h → HasCleanDisk (at g store) →
       HoldsFile store receipt it h
 
-  -- Where `export` or `picture` was answered with status 0, over files that are known and a disk
-  -- that returned what was written, just one recording is picked, the file is of it, and a line tells
-  -- how many bytes it has.
+  -- Where `export` or `picture` was answered with status 0, over files whose bytes are known and a
+  -- disk that returned what was written, just one recording is picked, the file is of it, and a
+  -- line tells how many bytes it has.
   abbrev pub MadeIsItsOwn : Type 0
   MadeIsItsOwn = (folders : Folders) (a b : Point S) (x : Exchange S) (form : Form)
-      (name : List ℕ) (p : PickedBy) (made : Made) → IsServed g x b folders a →
-      x.asked ≡ Some (asks_file form name p) → a.made ≡ Some made → x.answered.status ≡ Done →
+      (name : List ℕ) (p : PickedBy) → IsServed g x b folders a →
+      x.asked ≡ Some (asks_file form name p) → a.made.known ≡ true → x.answered.status ≡ Done →
       HasCleanDisk (at g b.store) → (h : Holdings) → Holds g a.store h →
       (key : Key) × AreFound p h (One key)
       × (new : HasNewFile folders a b name (IsFileOf form h key))

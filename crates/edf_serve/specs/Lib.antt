@@ -1,5 +1,6 @@
 pub mod Client
 pub mod Files
+pub mod NewFile
 pub mod Work
 pub mod Taking
 pub mod Finding

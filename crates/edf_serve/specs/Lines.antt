@@ -17,7 +17,8 @@ without_empty_last (part ∷ next ∷ more) = part ∷ without_empty_last (next 
 abbrev pub lines_of : List ℕ → List (List ℕ)
 lines_of bytes = without_empty_last (slice_split (λ b. b == 10) bytes)
 
--- these bytes up to and with the last line feed: a byte is among them that is one, or has one behind
+-- these bytes up to and with the last line feed: a byte is among them that is one, or has one
+-- behind
 abbrev pub onto_lines : ℕ → List ℕ → List ℕ
 onto_lines byte [] = cond (byte == 10) (byte ∷ []) []
 onto_lines byte (next ∷ more) = byte ∷ next ∷ more

@@ -32,7 +32,8 @@ pub record ShowsRuns (key : Key) (picture : List ℕ) : Type 0 where
   pub shows : IsPictureOf (duration_of key.duration) runs picture
 
 module _ (file out : Growth) (status : Status) where
-  -- such a picture went to the file whole; or a front of one did, and a line says that a write failed
+  -- such a picture went to the file whole; or a front of one did, and a line says that a write
+  -- failed
   abbrev pub Draws : (List ℕ → Type 0) → Type 0
   Draws Is = (picture : List ℕ) × Is picture
       × SendsPicture file out picture (unwritten_line (codes "picture")) status
@@ -41,9 +42,9 @@ module _ (file out : Growth) (status : Status) where
   abbrev pub DrawsNone : (StoreFault → Type 0) → Type 0
   DrawsNone P = Gets file [] × IsRefused (codes "picture") P out status
 
--- What is held stays, and with the first status no transaction is open. On any disk a picture of some
--- runs went to the file, or a front of one; or a line says why not, but never E0, which is for a
--- fault of an earlier call.
+-- What is held stays, and with the first status no transaction is open. On any disk a picture of
+-- some runs went to the file, or a front of one; or a line says why not, but never E0, which is for
+-- a fault of an earlier call.
 pub record IsKeyDrawn {S : Type 0} (g : Ghosts S) (old new : StoreModel S) (file out : Growth)
     (key : Key) (status : Status) : Type 0 where
   pub stays : Stays g old new

@@ -9,9 +9,10 @@ use Rattle.edf_intake.specs.Batch.{AreSubmittedAsList}
 use Rattle.edf_program.specs.Status.{worse}
 use Rattle.edf_program.specs.declared.status.Status.{Status}
 use Rattle.edf_program.specs.declared.status.Status.TheVariants.{Trouble}
-use Rattle.edf_serve.specs.Files.{from_folder, to_folder, LiesBelow, MakesBelow}
+use Rattle.edf_serve.specs.Files.{from_folder, to_folder, LiesBelow}
 use Rattle.edf_serve.specs.Lines.{Coming, IsNext}
 use Rattle.edf_serve.specs.Exchange.{Exchange, IsServed}
+use Rattle.edf_serve.specs.NewFile.{Maker, MakesBelow}
 use Rattle.edf_serve.specs.Work.{Point, Submission}
 use Rattle.edf_serve.specs.declared.answering.End.{End}
 use Rattle.edf_serve.specs.declared.answering.End.TheVariants as end
@@ -35,6 +36,14 @@ pub record AreSubmittedInTurn {S : Type 0} (g : Ghosts S) (old new : StoreModel 
   pub cap : new.cap ≡ old.cap
   pub submitted : AreSubmittedAsList g old new (map (λ (s : Submission). s.from) all)
       (map (λ (s : Submission). s.to) all) (map (λ (s : Submission). s.answer) all)
+
+-- what makes files, before and after lines of which the last stands first: the path of each lies
+-- below the folder, where there is one, one file was begun for it at most, and none between lines
+abbrev pub AreMadeBelow : {S : Type 0} → Option (List ℕ) → Maker → List (Exchange S) → Maker →
+    Type 0
+AreMadeBelow folder old [] new = new ≡ old
+AreMadeBelow folder old (x ∷ before) new = AreMadeBelow folder old before x.work.old.made
+    × MakesBelow folder x.work.old.made x.work.new.made × (new ≡ x.work.new.made)
 
 -- the input ended; or it could not be read, or a line of it does not end
 abbrev pub EndsInput : Coming → Coming → End → Type 0
@@ -68,9 +77,9 @@ module _ {S : Type 0} (g : Ghosts S) (folders : Folders) where
   AreExchanges a (x ∷ before) b = (mid : Moment S) × AreExchanges a before mid
       × IsStep mid b (Some x) None
 
-  -- A whole session, and its lines with their answers, the last first. While the input gives a line,
-  -- the line is answered, up to where an answer did not go out, or the store was left or lost, or as
-  -- many were answered as can be counted. Every end but that of the input is trouble.
+  -- A whole session, and its lines with their answers, the last first. While the input gives a
+  -- line, the line is answered, up to where an answer did not go out, or the store was left or
+  -- lost, or as many were answered as can be counted. Every end but that of the input is trouble.
   pub record IsSession (a b : Moment S) (all : List (Exchange S)) (why : End) : Type 0 where
     pub mid : Moment S
     pub before : List (Exchange S)
@@ -83,8 +92,8 @@ module _ {S : Type 0} (g : Ghosts S) (folders : Folders) where
     pub status : b ≡ record last { at = record last.at { worst = status_at why last.at.worst } }
 
   -- The files of all lines were submitted as one list, and just those were opened, each with the
-  -- bytes of its path. Each file that was begun was ended. Where there are folders, all paths lie
-  -- below them.
+  -- bytes of its path. For each line one file was begun at most, and ended. Where there are
+  -- folders, all paths lie below them.
   pub record IsWhole (a b : Moment S) (why : End) : Type 0 where
     pub all : List (Exchange S)
     pub session : IsSession a b all why
@@ -95,4 +104,4 @@ module _ {S : Type 0} (g : Ghosts S) (folders : Folders) where
     }
     pub given : AllByRecursion (λ (s : Submission). (s.from.left ≡ a.at.paths.bytes s.path)
         × LiesBelow (from_folder folders) s.path) (submissions all)
-    pub made : MakesBelow (to_folder folders) a.at.made b.at.made
+    pub made : AreMadeBelow (to_folder folders) a.at.made all b.at.made

@@ -6,10 +6,11 @@ use Rattle.edf_intake.specs.Refusal.{Answer}
 use Rattle.edf_program.specs.Output.{Growth}
 use Rattle.edf_program.specs.declared.status.Status.{Status}
 use Rattle.edf_program.specs.declared.status.Status.TheVariants.{Trouble}
+use Rattle.edf_new_files.specs.declared.new_files.NewFiles as files
 use Rattle.edf_serve.specs.Client.{Heard, Looks}
-use Rattle.edf_serve.specs.Files.{Paths, Clock, Made}
+use Rattle.edf_serve.specs.Files.{Paths, Clock}
+use Rattle.edf_serve.specs.NewFile.{Maker, maker}
 use Rattle.edf_serve.specs.declared.client.Client as client
-use Rattle.edf_serve.specs.declared.files.NewFiles as files
 use Rattle.edf_serve.specs.declared.files.Sources as sources
 use Rattle.edf_serve.specs.declared.room.Counts.{Counts}
 use Rattle.edf_serve.specs.declared.room.Outcome.{Outcome}
@@ -18,14 +19,14 @@ use Rattle.edf_serve.specs.declared.room.Room.{Room}
 use Rattle.edf_serve.specs.declared.standing.StoreFiles as standing
 use Rattle.edf_serve.specs.declared.text.Text.{Text}
 
--- the store, paths, the clock, files that are made, the lines of a command and why there are no
+-- the store, paths, the clock, what makes files, the lines of a command and why there are no
 -- more, what the client heard, how often it was asked whether the store's files stand, what was
 -- counted, and the worst status so far
 pub record Point (S : Type 0) : Type 0 where
   pub store : StoreModel S
   pub paths : Paths
   pub clock : Clock
-  pub made : Option Made
+  pub made : Maker
   pub out : Text
   pub why : Text
   pub heard : Heard
@@ -39,7 +40,7 @@ point i p c k store room = record {
   store = store;
   paths = i.paths room.sources;
   clock = i.clock room.sources;
-  made = p.made room.files;
+  made = maker p room.files;
   out = room.out;
   why = room.why;
   heard = c.heard room.client;

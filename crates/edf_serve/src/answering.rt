@@ -1,6 +1,6 @@
 //! One line, answered.
 
-ghost use Rattle.std.specs.Prelude.{◌≡◌, ◌⊎◌, ◌++◌, Option, Some, None, IsTrue, true, false, cond};
+ghost use Rattle.std.specs.Prelude.{◌≡◌, ◌⊎◌, Option, Some, None, IsTrue, true, false, cond};
 ghost use Rattle.std.specs.Prelude.{option_map};
 ghost use Rattle.edfserve_arguments.specs.Line.{asked_by};
 ghost use Rattle.edf_command.specs.Listing.{AreRecordingsListed};
@@ -14,7 +14,7 @@ ghost use Rattle.edf_serve.specs.declared.room.Counts.{Counts};
 use crate::apart::warn_if_apart;
 use crate::client::Client;
 use crate::exporting::make_of;
-use crate::files::{Folders, NewFiles, Sources};
+use crate::files::{Folders, Sources};
 use crate::finding::Pick;
 use crate::form::Form;
 use crate::overview::tell_overview;
@@ -23,6 +23,7 @@ use crate::running::list_runs;
 use crate::standing::StoreFiles;
 use crate::taking::take_now;
 use edf_command::list;
+use edf_new_files::NewFiles;
 use edf_program::{Status, tell_bytes, tell_refused};
 use edf_store::{Store, StoreFault};
 use edfserve_arguments::{LineCommand, parse_line};

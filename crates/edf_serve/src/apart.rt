@@ -1,7 +1,7 @@
 //! Files of a patient without code and name, beside which their recording has a pause of more than
 //! 8 hours.
 
-ghost use Rattle.std.specs.Prelude.{◌≡◌, ◌⊎◌, ℕ, ◌+◌, ◌*◌, ◌<◌, ◌≤◌, [], true, false, Some, IfSome};
+ghost use Rattle.std.specs.Prelude.{◌≡◌, ◌⊎◌, ℕ, ◌+◌, ◌*◌, ◌<◌, ◌≤◌, true, false, Some, IfSome};
 ghost use Rattle.std.specs.Prelude.{◌↔◌, IsTrue, IfOk, OnOk};
 ghost use Rattle.sqlite.specs.State.{HasCleanDisk};
 ghost use Rattle.edf_holdings.specs.Holdings.{Holdings};

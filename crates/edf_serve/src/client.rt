@@ -49,10 +49,10 @@ pub trait Client {
             (lines.now ++ (why.now ++ status_line status)) result };
 
     /// Warns that files of different people may have become one recording: the accepted file of
-    /// this name is of a patient without code and name, all of its data records are new, and anywhere
-    /// in its recording two data records, one after the other, begin more than 8 hours apart (that
-    /// its own are beside that pause is tested, and no clause says so). No transaction of the store
-    /// is open. What was answered is as it was.
+    /// this name is of a patient without code and name, all of its data records are new, and
+    /// anywhere in its recording two data records, one after the other, begin more than 8 hours
+    /// apart (that its own are beside that pause is tested, and no clause says so). No transaction
+    /// of the store is open. What was answered is as it was.
     fn warn<S: Alter>(&mut self, store: &Store<S>, name: &str, receipt: &Receipt)
         requires idle { IsIdle S.Store store.now }
         requires apart { IsApart S.Store store.now receipt.now }

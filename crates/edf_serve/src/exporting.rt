@@ -1,19 +1,19 @@
 //! A recording as a new file: `export`, its canonical file, and `picture`, what can be seen of it.
 
-ghost use Rattle.std.specs.Prelude.{◌≡◌, ◌⊎◌, Some, None, IfOk};
+ghost use Rattle.std.specs.Prelude.{◌≡◌, ◌⊎◌, ◌∷◌, [], ℕ, List, None, IfOk, MatchResult};
 ghost use Rattle.edf_command.specs.Lines.{export_refused_line, export_status};
 ghost use Rattle.edf_program.specs.Output.{growth, IsWritten};
+ghost use Rattle.edf_new_files.specs.Made.{begun};
 ghost use Rattle.edf_serve.specs.Exporting.{IsKeyExported, IsKeyWritten, MakesFile, BeginsNone};
 ghost use Rattle.edf_serve.specs.Exporting.{IsFinishTold, IsMadeAs, IsMadeBelow, IsMadeOf};
 ghost use Rattle.edf_serve.specs.Exporting.{made_line, there_line};
-ghost use Rattle.edf_serve.specs.Files.{IsEnded};
 ghost use Rattle.edf_serve.specs.Finding.{DoubtsTrouble, picked_by};
-ghost use Rattle.edf_serve.specs.Work.{Work, point, grown};
-ghost use Rattle.edf_serve.specs.declared.files.Finished.{Finished};
+ghost use Rattle.edf_serve.specs.NewFile.{maker, BeginsFile, BeginsNot, GivesUpFile};
+ghost use Rattle.edf_serve.specs.Work.{Work, point};
 ghost use Rattle.edf_serve.specs.declared.room.Outcome.{Outcome};
 
 use crate::client::Client;
-use crate::files::{Finished, Folders, NewFiles, Sources};
+use crate::files::{Folders, Sources};
 use crate::finding::{Pick, find_one};
 use crate::form::{Form, tell_unwritten};
 use crate::picturing::draw_key;
@@ -24,6 +24,7 @@ use crate::taking::tell_outside;
 use edf_export::ExportFault;
 use edf_fragment::Output;
 use edf_header::Identity;
+use edf_new_files::{NewFiles, Unfinished};
 use edf_program::{Status, status_of_number, tell, tell_memory, tell_parts, tell_refused};
 use edf_store::Store;
 use sqlite::Alter;
@@ -91,34 +92,50 @@ fn made_line(alloc: Global, form: Form, name: &str, bytes: u64) -> Result<Vec<u8
     Ok(line.into_bytes())
 }
 
-/// Gives a whole file its path, and writes its line.
-fn finish<I: Sources, P: NewFiles, C: Client, K: StoreFiles>(
+/// Begins a file of that path, as the one file of a line.
+///
+/// # Errors
+/// Where something has the path, or no file could be begun.
+fn begin<P: NewFiles>(alloc: Global, path: &str, files: &mut P) -> Result<P::Writer, Unfinished>
+    ensures { MatchResult result
+        (λ writer. BeginsFile (maker P.NewFiles files.old) (maker P.NewFiles files.new) path.now
+        (P.Writer.contents writer) (P.Writer.failures writer))
+        (BeginsNot (maker P.NewFiles files.old) (maker P.NewFiles files.new) path.now) }
+{
+    if files.is_there(path) {
+        return Err(Unfinished::IsThere);
+    }
+    files.forget();
+    match files.create(alloc, path) {
+        Ok(writer) => Ok(writer),
+        Err(_) => Err(Unfinished::Failed),
+    }
+}
+
+/// Gives up the one file of a line.
+fn give_up<P: NewFiles>(writer: P::Writer, files: &mut P)
+    ensures { (path : List ℕ) → P.made files.old ≡ begun path ∷ [] →
+        GivesUpFile (maker P.NewFiles files.old) (maker P.NewFiles files.new) path
+        (P.Writer.contents writer) (P.Writer.failures writer) }
+{
+    files.abandon(writer);
+    let _ = files.remove(0);
+}
+
+/// Writes the line of a file that has its path with so many bytes, or of one that has it not.
+fn tell_finish<O: Output>(
     alloc: Global,
     form: Form,
     name: &str,
-    path: &str,
-    writer: P::Writer,
-    room: &mut Room<I, P, C, K>,
+    finished: Result<u64, Unfinished>,
+    out: &mut O,
 ) -> Status
-    ensures ended { (finished : Finished) × IsEnded (P.made room.old.files)
-        (P.made room.new.files) (record {
-          path = path.now;
-          how = Some finished;
-          contents = P.Writer.contents writer;
-          failed = P.Writer.failures writer;
-        }) × IsFinishTold form name.now (grown room.old.out room.new.out) finished result }
-    ensures same { room.new ≡ record room.old { files = room.new.files; out = room.new.out } }
+    ensures { IsFinishTold form name.now (growth O.Output out.old out.new) finished result }
 {
-    match room.files.finish(writer, path) {
-        Finished::Named { bytes } => {
-            tell(
-                &mut room.out,
-                made_line(alloc, form, name, bytes),
-                Status::Done,
-            )
-        }
-        Finished::IsThere => tell_there(&mut room.out, name),
-        Finished::Failed => tell_unwritten(&mut room.out, form),
+    match finished {
+        Ok(bytes) => tell(out, made_line(alloc, form, name, bytes), Status::Done),
+        Err(Unfinished::IsThere) => tell_there(out, name),
+        Err(Unfinished::Failed) => tell_unwritten(out, form),
     }
 }
 
@@ -143,16 +160,16 @@ fn make_at<S: Alter, I: Sources, P: NewFiles, C: Client, K: StoreFiles>(
     ensures cap { store.new.cap ≡ store.old.cap }
     ensures same { room.new ≡ record room.old { files = room.new.files; out = room.new.out } }
 {
-    let mut writer = match room.files.create(alloc, path) {
-        Ok(Some(writer)) => writer,
-        Ok(None) => return tell_there(&mut room.out, name),
-        Err(_) => return tell_unwritten(&mut room.out, form),
+    let mut writer = match begin(alloc, path, &mut room.files) {
+        Ok(writer) => writer,
+        Err(why) => return tell_finish(alloc, form, name, Err(why), &mut room.out),
     };
     let told = write_key(alloc, form, identity, store, &mut writer, &mut room.out);
     if told == Status::Done {
-        return finish(alloc, form, name, path, writer, room);
+        let finished = room.files.finish(writer);
+        return tell_finish(alloc, form, name, finished, &mut room.out);
     }
-    room.files.discard(writer, path);
+    give_up(writer, &mut room.files);
     told
 }
 

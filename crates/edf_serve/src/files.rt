@@ -1,20 +1,19 @@
-//! What opens the files that lines name, and what makes them.
+//! What opens the files that lines name.
 
-ghost use Rattle.std.specs.Prelude.{◌≡◌, ◌*◌, ◌/◌, ◌^◌, [], Option, Some, None, IfOk, IfSome, MatchResult};
+ghost use Rattle.std.specs.Prelude.{◌≡◌, ◌*◌, ◌/◌, ◌^◌, None, IfOk, IfSome, MatchResult};
 ghost use Rattle.edf_fragment.specs.Failures.{one_more};
-ghost use Rattle.edf_serve.specs.Files.{Paths, Clock, Made, opens, IsCreated, IsEnded};
+ghost use Rattle.edf_serve.specs.Files.{Paths, Clock, opens};
 
-use edf_fragment::{Input, Output};
+use edf_fragment::Input;
 use edf_time::Instant;
 use std::alloc::{AllocError, Global};
-use std::io;
 
 /// The folders below which files are opened and made, where there are any.
 #[derive(Clone, Copy, Drop)]
 pub struct Folders<'f> {
     /// That of the files of `take`.
     pub from: Option<&'f str>,
-    /// That of the files of `export`.
+    /// That of the files of `export` and `picture`.
     pub to: Option<&'f str>,
 }
 
@@ -61,59 +60,4 @@ pub trait Sources {
             (λ _. paths self.new ≡ opens (paths self.old) path.now)
             (λ _. paths self.new ≡ paths self.old) }
         ensures clock { clock self.new ≡ clock self.old };
-}
-
-/// What became of a file that was written.
-#[derive(Clone, Copy, Debug, PartialEq, Eq)]
-pub enum Finished {
-    /// It is whole, and has its path.
-    Named {
-        /// How many bytes it has.
-        bytes: u64,
-    },
-    /// Something of that path came in between, and is as it was.
-    IsThere,
-    /// It could not be made whole or named.
-    Failed,
-}
-
-/// What makes the files that `export` writes. A file is written beside its path and gets it when it
-/// is whole, so what has the path is whole.
-pub trait NewFiles {
-    /// The writers.
-    type Writer: Output + Drop;
-
-    // What was there, and what became of the files that were to be made, where that is known.
-    ghost made: { Self → Option Made };
-
-    /// Begins a file: a writer of a new, empty one. `None` where something of that path may be
-    /// there, which is as it was.
-    ///
-    /// # Errors
-    /// Where no file could be made.
-    fn create(&mut self, alloc: Global, path: &str) -> io::Result<Option<Self::Writer>>
-        ensures made { IsCreated (made self.old) (made self.new) path.now result }
-        ensures empty { IfOk result (λ begun. IfSome begun (λ writer. IfSome (made self.old)
-            (λ made. Self.Writer.contents writer ≡ Some []))) }
-        ensures unfailed { IfOk result (λ begun. IfSome begun
-            (λ writer. Self.Writer.failures writer ≡ 0)) };
-
-    /// Ends the file that was begun last, all of which was written, and gives it the path. It is
-    /// removed where it does not get it.
-    fn finish(&mut self, writer: Self::Writer, path: &str) -> Finished
-        ensures { IsEnded (made self.old) (made self.new) (record {
-          path = path.now;
-          how = Some result;
-          contents = Self.Writer.contents writer;
-          failed = Self.Writer.failures writer;
-        }) };
-
-    /// Removes what was written of the file that was begun last.
-    fn discard(&mut self, writer: Self::Writer, path: &str)
-        ensures { IsEnded (made self.old) (made self.new) (record {
-          path = path.now;
-          how = None;
-          contents = Self.Writer.contents writer;
-          failed = Self.Writer.failures writer;
-        }) };
 }

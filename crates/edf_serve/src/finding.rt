@@ -1,6 +1,6 @@
 //! The recordings that a line picks, by their places or by their codes.
 
-ghost use Rattle.std.specs.Prelude.{◌≡◌, ◌≢◌, ◌↔◌, ◌+◌, ◌<◌, [], ℕ, true, Some, IsTrue, slice_get};
+ghost use Rattle.std.specs.Prelude.{◌≡◌, ◌≢◌, ◌↔◌, ◌+◌, ◌<◌, [], true, Some, IsTrue, slice_get};
 ghost use Rattle.std.specs.Prelude.{IfOk, OnOk, IfErr, IfSome, MatchBool, MatchResult};
 ghost use Rattle.sqlite.specs.State.{HasCleanDisk};
 ghost use Rattle.edf_time.specs.Civil.{IsInstantText};

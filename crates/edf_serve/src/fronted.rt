@@ -83,8 +83,8 @@ fn start_in(front: &[u8]) -> Option<Instant>
     let date = field_at(front, 168);
     let time = field_at(front, 176);
     match read_recording(&front[88..168]) {
-        Some((day, _)) => start_by(&date, &time, day),
-        None => None,
+        Ok((day, _)) => start_by(&date, &time, day),
+        Err(_) => None,
     }
 }
 

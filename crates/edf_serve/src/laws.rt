@@ -21,10 +21,10 @@ pub fn taken_is_held<S: Alter>()
 {}
 
 /// Where `export` or `picture` is answered with status 0, and the bytes of new files are known, the
-/// file that got the path is of the one recording that the line picks by its place or its codes, on a
-/// disk that returned what was written: just its canonical file, or a picture with the lines of its
-/// runs as text (`own`). The canonical file is the same however a line picks the recording, whatever
-/// else is held, and whatever stands before it (`same`).
+/// file that got the path is of the one recording that the line picks by its place or its codes, on
+/// a disk that returned what was written: just its canonical file, or a picture with the lines of
+/// its runs as text (`own`). The canonical file is the same however a line picks the recording,
+/// whatever else is held, and whatever stands before it (`same`).
 pub fn made_is_its_own<S: Alter>()
     ensures own { MadeIsItsOwn S.Store }
     ensures same { ExportedIsTheSame S.Store }

@@ -2,7 +2,7 @@
 //!
 //! - [`serve`], [`End`]: line after line, and why a session ends; [`Lines`]: the lines of an input.
 //! - [`Room`], [`Folders`]: what commands work on beside the store: [`Sources`] opens the files
-//!   that `take` names, [`NewFiles`] makes those that `export` and `picture` write ([`Finished`]).
+//!   that `take` names; `NewFiles` of `edf_new_files` makes those of `export` and `picture`.
 //! - [`Client`], [`Console`], [`Flush`]: who is answered.
 //! - [`StoreFiles`]: what tells whether the files of the store still stand under its path.
 #![tactic(auto)]
@@ -31,7 +31,7 @@ mod untold;
 
 pub use answering::End;
 pub use client::{Client, Console, Flush};
-pub use files::{Finished, Folders, NewFiles, Sources};
+pub use files::{Folders, Sources};
 pub use lines::Lines;
 pub use room::Room;
 pub use session::serve;

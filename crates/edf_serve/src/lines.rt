@@ -1,8 +1,8 @@
 //! The lines of an input.
 
-ghost use Rattle.std.specs.Prelude.{◌≡◌, ◌≢◌, ◌++◌, ◌==◌, ◌≤◌, ◌<◌, ◌⊎◌, [], ◌∷◌, ℕ, Bool, true, false};
+ghost use Rattle.std.specs.Prelude.{◌≡◌, ◌≢◌, ◌++◌, ◌==◌, ◌≤◌, ◌<◌, ◌∷◌, ℕ, true, false};
 ghost use Rattle.std.specs.Prelude.{All, IfOk, IfSome, Some, None, List, length, position, take};
-ghost use Rattle.std.specs.Prelude.{slice_range, option_map, cond};
+ghost use Rattle.std.specs.Prelude.{slice_range, option_map};
 ghost use Rattle.std.specs.Io.KnownBytes.{Consumes, IsAtEnd};
 ghost use Rattle.edf_fragment.specs.Failures.{one_more};
 ghost use Rattle.edf_serve.specs.Lines.{Coming, IsNext, lines_in};

@@ -18,11 +18,12 @@ ghost use Rattle.edf_serve.specs.Overview.{AreTotals, IsOverview, overview_line,
 ghost use Rattle.edf_serve.specs.Work.{OnlyWrites, point};
 
 use crate::client::Client;
-use crate::files::{NewFiles, Sources};
+use crate::files::Sources;
 use crate::room::{Counts, Outcome, Room};
 use crate::standing::StoreFiles;
 use edf_fragment::Output;
 use edf_header::Identity;
+use edf_new_files::NewFiles;
 use edf_program::{Status, joined, spelled, tell_bytes, tell_refused};
 use edf_store::{Store, StoreFault, Summary};
 use edf_time::Instant;

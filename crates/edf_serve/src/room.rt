@@ -1,15 +1,16 @@
 //! What a session has beside its store, and what comes of a command.
 
-ghost use Rattle.std.specs.Prelude.{◌≡◌, []};
-ghost use Rattle.edf_fragment.specs.Failures.{one_more};
+ghost use Rattle.std.specs.Prelude.{◌≡◌};
 ghost use Rattle.edf_program.specs.declared.status.Status;
 ghost use Rattle.edf_serve.specs.Client.{refused_once, warned_once};
 
 use crate::client::Client;
-use crate::files::{NewFiles, Sources};
+use crate::files::Sources;
 use crate::standing::StoreFiles;
 use crate::text::Text;
+use edf_fragment::one_more;
 use edf_intake::Receipt;
+use edf_new_files::NewFiles;
 use edf_program::Status;
 use edf_time::Instant;
 use std::alloc::Global;
@@ -53,13 +54,6 @@ impl Counts {
             warned: one_more(self.warned),
         }
     }
-}
-
-/// The count after one more.
-fn one_more(count: u64) -> u64
-    ensures { result ≡ one_more count }
-{
-    count.saturating_add(1)
 }
 
 /// What a session has beside its store and its lines: what opens files, what makes them, who is

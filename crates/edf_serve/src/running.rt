@@ -13,13 +13,14 @@ ghost use Rattle.edf_serve.specs.Running.{HasRunsOf, IsListed};
 ghost use Rattle.edf_serve.specs.Work.{point};
 
 use crate::client::Client;
-use crate::files::{NewFiles, Sources};
+use crate::files::Sources;
 use crate::finding::{Pick, find_one, tell_refusal};
 use crate::gathering::gather_of;
 use crate::room::{Outcome, Room};
 use crate::standing::StoreFiles;
 use edf_fragment::Output;
 use edf_header::Identity;
+use edf_new_files::NewFiles;
 use edf_program::{Status, tell_bytes};
 use edf_runs::{Listing, Run};
 use edf_store::{Store, StoreFault};

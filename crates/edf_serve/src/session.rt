@@ -2,16 +2,17 @@
 
 ghost use Rattle.std.specs.Prelude.{◌≡◌, Option};
 ghost use Rattle.edf_serve.specs.Exchange.{Exchange};
-ghost use Rattle.edf_serve.specs.Session.{Moment, IsStep, IsWhole, status_at};
+ghost use Rattle.edf_serve.specs.Session.{IsStep, IsWhole, status_at};
 ghost use Rattle.edf_serve.specs.Work.{point};
 
 use crate::answering::{End, serve_line};
 use crate::client::Client;
-use crate::files::{Folders, NewFiles, Sources};
+use crate::files::{Folders, Sources};
 use crate::lines::{Lines, Next};
 use crate::room::Room;
 use crate::standing::StoreFiles;
 use edf_fragment::Input;
+use edf_new_files::NewFiles;
 use edf_program::{Status, worse};
 use edf_store::Store;
 use sqlite::Alter;
@@ -54,14 +55,14 @@ fn serve_next<S: Alter, R: Input, I: Sources, P: NewFiles, C: Client, K: StoreFi
 /// Answers line after line over the store, each from what the line before left. It ends where the
 /// input does or a read of it fails, where an answer can't be written, where the store is to be
 /// opened anew before the next line, and where its path does not stand for its files any more. The
-/// room's worst status becomes the worst of its own and the lines'; trouble at every end but that of
-/// the input.
+/// room's worst status becomes the worst of its own and the lines'; trouble at every end but that
+/// of the input.
 ///
 /// The files of all its `take` lines are submitted as one list, of which the store then holds what
 /// fits, and a crash leaves what some first of them leave. Each line has its answer, and no line is
-/// passed over. Each file that it begins for a line has its path when the line is answered, or was
-/// removed. So it is of any input and files; of those whose bytes, links or paths are not known, as
-/// those of the system, only as far as the same code serves all.
+/// passed over. For a line one file is begun at most, which has its path when the line is answered,
+/// or was to be removed. So it is of any input and files; of those whose bytes, links or paths are
+/// not known, as those of the system, only as far as the same code serves all.
 pub fn serve<S: Alter, R: Input, I: Sources, P: NewFiles, C: Client, K: StoreFiles>(
     alloc: Global,
     folders: Folders<'_>,

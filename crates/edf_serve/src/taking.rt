@@ -10,7 +10,7 @@ ghost use Rattle.edf_serve.specs.Taking.{SubmitsFile, IsTakenBelow, IsTakenNow, 
 ghost use Rattle.edf_serve.specs.Work.{Submission, Work, OnlyWrites, point};
 
 use crate::client::Client;
-use crate::files::{Folders, NewFiles, Sources};
+use crate::files::{Folders, Sources};
 use crate::fronted::Fronted;
 use crate::places::place_of;
 use crate::room::{Outcome, Room};
@@ -18,6 +18,7 @@ use crate::standing::StoreFiles;
 use edf_command::refused_file_line;
 use edf_fragment::Output;
 use edf_intake::{Refusal, submit};
+use edf_new_files::NewFiles;
 use edf_program::{Status, status_of_number, tell, tell_memory, tell_parts};
 use edf_store::Store;
 use sqlite::Alter;

@@ -1,10 +1,9 @@
 //! Texts in memory.
 
 ghost use Rattle.std.specs.Prelude.{◌≡◌, [], Some};
-ghost use Rattle.edf_fragment.specs.Failures.{one_more};
 ghost use Rattle.edf_serve.specs.Lines.{whole_lines};
 
-use edf_fragment::Output;
+use edf_fragment::{Output, one_more};
 use std::alloc::Global;
 use std::io;
 
@@ -58,13 +57,6 @@ fn whole_lines(bytes: &[u8]) -> &[u8]
     &bytes[..0]
 }
 
-/// The count after one more failure.
-fn one_failure_more(count: u64) -> u64
-    ensures { result ≡ one_more count }
-{
-    count.saturating_add(1)
-}
-
 impl Output for Text {
     ghost use Rattle.std.specs.Prelude.{Some};
 
@@ -76,7 +68,7 @@ impl Output for Text {
         match self.bytes.extend_from_slice(buf) {
             Ok(()) => Ok(buf.len()),
             Err(error) => {
-                self.failures = one_failure_more(self.failures);
+                self.failures = one_more(self.failures);
                 Err(io::Error::from(error))
             }
         }

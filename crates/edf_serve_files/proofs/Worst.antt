@@ -11,7 +11,7 @@ use Rattle.edf_store.specs.Held.{StoreModel}
 use Rattle.edfserve_arguments.specs.Line.{LineAsked}
 use Rattle.edfserve_arguments.specs.Line.LineAsked.{take, list, runs, runs_of, export, export_of}
 use Rattle.edfserve_arguments.specs.Line.LineAsked.{picture, picture_of}
-use Rattle.edf_program.specs.Output.{Growth, IsWritten}
+use Rattle.edf_program.specs.Output.{Growth}
 use Rattle.edf_program.specs.Status.{worse}
 use Rattle.edf_program.proofs.Undone.{trouble-told}
 use Rattle.edf_program.specs.declared.status.Status.{Status}

@@ -12,8 +12,9 @@ ghost use Rattle.edf_serve.specs.Work.{point};
 ghost use Rattle.edf_serve_files.specs.Sitting.{IsSat, beside, closes_after};
 
 use edf_fragment::{Input, Output};
+use edf_new_files::NewFiles;
 use edf_schema::is_ours;
-use edf_serve::{Client, End, Folders, Lines, NewFiles, Room, Sources, StoreFiles, serve};
+use edf_serve::{Client, End, Folders, Lines, Room, Sources, StoreFiles, serve};
 use edf_session::{Cap, Session, Watch, close, leave, refuse};
 use edf_store::Store;
 use edf_tables::obey;

@@ -21,11 +21,7 @@ use Rattle.edf_intake.specs.declared.answer.Receipt.{Receipt}
 use Rattle.edf_session.specs.Files.{Keeps, no_table, one_table, both_tables, FilesKeep}
 use Rattle.edf_session.specs.Turns.{ended, StepsBy}
 use Rattle.edf_session.proofs.Chains.{somes_first, sound_turns}
-
-somes_append : {A : Type 0} (os ps : List (Option A)) → somes (os ++ ps) ≡ somes os ++ somes ps
-somes_append [] ps = refl
-somes_append (None ∷ os) ps = somes_append os ps
-somes_append {A} (Some x ∷ os) ps = ap (λ (l : List A). x ∷ l) (somes_append os ps)
+use Rattle.edf_intake.proofs.Turns.{somes-append}
 
 -- ---- the reply to a turn that was accepted
 
@@ -124,7 +120,7 @@ has_accepted cap h turns sound each same before behind t receipt splits is =
     let list : told_in turns ≡ told_in before ++ (Fragment key it.records ∷ told_in behind) =
     ap told_in splits
     ∙ ap somes (map-append (λ (u : Turn). u.told) before (t ∷ behind))
-    ∙ somes_append (tolds_of before) (tolds_of (t ∷ behind))
+    ∙ somes-append (tolds_of before) (tolds_of (t ∷ behind))
     ∙ ap (λ (o : Option Told). told_in before ++ somes (o ∷ tolds_of behind)) it.told in (
       it.records,
       it.told,

@@ -6,17 +6,15 @@ use Rattle.std.proofs.Math.Logic.{∥∥₁_elim, ∥∥₁_map}
 use Rattle.std.specs.List.{AllByRecursion}
 use Rattle.sqlite_wal.specs.Recovery.{Image}
 use Rattle.edf_fragment.specs.Told.{Told, Fragment, Fault}
-use Rattle.edf_fragment.proofs.Sound.{spelled-key, spelled-sound, spelled-begins}
 use Rattle.edf_holdings.specs.Holdings.{Holdings, IsSound}
-use Rattle.edf_holdings.specs.Reply.{IsSoundTold, Reply, after}
+use Rattle.edf_holdings.specs.Reply.{Reply, after}
 use Rattle.edf_holdings.specs.Laws.{AreSoundTold}
 use Rattle.edf_holdings.proofs.Settled.{after-append}
-use Rattle.edf_fragment.specs.Call.{InputState}
 use Rattle.edf_intake.specs.Refusal.{Answer, reply_told}
 use Rattle.edf_intake.specs.Input.{Hears}
 use Rattle.edf_intake.specs.Batch.{Turn, somes, told_in, GoesWith, IsTurn}
 use Rattle.edf_intake.specs.declared.answer.Refusal.TheVariants as refusal
-use Rattle.edf_intake.proofs.Turns.{told-next, all-next}
+use Rattle.edf_intake.proofs.Turns.{told-next, all-next, sound_told}
 use Rattle.edf_export.proofs.Headline.{headline}
 use Rattle.edf_session.specs.Files.{FilesKeep}
 use Rattle.edf_session.specs.Turns.{IsFront, given_in, PastRun, ended, idle, broken}
@@ -25,21 +23,13 @@ use Rattle.edf_session.specs.Turns.{LeaveAfterAll}
 
 -- ---- what turns told is sound
 
-sound_heard : (from to : InputState) (told : Told) → Hears from to told → IsSoundTold told
-sound_heard from to (Fragment key records) r = (
-  spelled-key r.bytes key records r.spells,
-  spelled-sound r.bytes key records r.spells,
-  spelled-begins r.bytes key records r.spells,
-)
-sound_heard from to (Fault fault) r = tt
-
 sound_append : (xs ys : List Told) → AreSoundTold xs → AreSoundTold ys → AreSoundTold (xs ++ ys)
 sound_append [] ys one two = two
 sound_append (x ∷ xs) ys one two = (one.0, sound_append xs ys one.1 two)
 
 sound_turn : (t : Turn) (told : Option Told) (r : Option Reply) → GoesWith t told r →
     AreSoundTold (somes (told ∷ []))
-sound_turn t (Some x) (Some answer) h = (sound_heard t.from t.to x h.0, tt)
+sound_turn t (Some x) (Some answer) h = (sound_told t.from t.to x h.0, tt)
 sound_turn t (Some x) None h = absurd h
 sound_turn t None r h = tt
 

@@ -22,12 +22,8 @@ use Rattle.edf_session.specs.Close.{IsLetGo}
 -- only a store that was broken tells that it is closed
 pub broken_cause : (v : View) (fault large : Type 0) (e : StoreError) →
     store_error e ≡ SqliteFailure Closed → HasCause v fault large e → IsTrue v.is_broken
-broken_cause v fault large OutOfMemory is cause = absurd (cc)
-broken_cause v fault large Io is cause = absurd (cc)
-broken_cause v fault large Corrupt is cause = absurd (cc)
-broken_cause v fault large Full is cause = absurd (cc)
 broken_cause v fault large Broken is cause = cause
-broken_cause v fault large Unstorable is cause = absurd (cc)
+broken_cause v fault large e is cause = absurd (cc)
 
 module _ {D : Type 0} {g : Ghosts D} (c : Held (FileStore D g)) (before last : FileStore D g)
     (up : faults c.store ≤ faults before) (more : faults before ≤ faults last)

@@ -36,15 +36,8 @@ is_store_refusal B F L (Store cause) may ours first = tt
 is_store_refusal B F L Foreign may ours first = absurd (ours may)
 is_store_refusal B F L Failed may ours first = absurd (first may)
 
--- only a busy connection is refused without a cause
-pub is_busy : (B F L : Type 0) (fault : StoreFault) → MayRefuse B F L fault → fault ≡ Store None → B
-is_busy B F L fault may is = subst (MayRefuse B F L) is may
-
 pub is_foreign : (B F L : Type 0) (fault : StoreFault) → MayRefuse B F L fault → fault ≡ Foreign → F
 is_foreign B F L fault may is = subst (MayRefuse B F L) is may
-
-pub has_failed : (B F L : Type 0) (fault : StoreFault) → MayRefuse B F L fault → fault ≡ Failed → L
-has_failed B F L fault may is = subst (MayRefuse B F L) is may
 
 pub cause_is_not_foreign : (fault : StoreFault) → HasCause fault → fault ≢ Foreign
 cause_is_not_foreign fault cause is = is_foreign ⊥ ⊥ ⊥ fault cause is
@@ -55,18 +48,6 @@ pub row_refused : (B F L : Type 0) (fault : RowFault) (refusal : StoreFault) →
 row_refused B F L (row.Sqlite error) refusal by foreign = with_cause B F L refusal by.cause
 row_refused B F L row.Foreign refusal by foreign =
     subst (MayRefuse B F L) (sym by) (foreign refl)
-
--- an answer that is an error of `sqlite`
-pub if_caused : {A : Type 0} (error : Error) (r : Result A StoreFault) →
-    IsErrAnd r (IsRefusalOf error) → IfErr r HasCause
-if_caused error (Ok x) is = tt
-if_caused error (Err fault) is = is.cause
-
--- an answer that is a fault with rows
-pub if_row_refused : {A : Type 0} (B F L : Type 0) (fault : RowFault) (r : Result A StoreFault) →
-    IsErrAnd r (IsRefusalBy fault) → (fault ≡ row.Foreign → F) → IfErr r (MayRefuse B F L)
-if_row_refused B F L fault (Ok x) is foreign = tt
-if_row_refused B F L fault (Err refusal) is foreign = row_refused B F L fault refusal is foreign
 
 -- what is said of results that are done is true of one that is refused
 pub on_refused : {A E : Type 0} (P : Type 0) (Q : E → Type 0) (r : Result A E) → IsErrAnd r Q →

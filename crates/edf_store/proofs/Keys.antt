@@ -30,6 +30,7 @@ use Rattle.edf_rows.specs.Rows.{IsThere, IsRecordingRow, AreOther, StandFor, Are
 use Rattle.edf_rows.proofs.Rows.{here, there, cases_first, no_member, same-keys, finds, Finds}
 use Rattle.edf_store.proofs.StoredRows.{Show, start_cell}
 use Rattle.edf_store.proofs.Found.{pairs_of, pairs_along, member_along, shown}
+use Rattle.edf_rows.proofs.RowCells.{blob-bytes, int-number}
 
 -- ---- the identities differ, so sorted they rise
 asc_all : (P : Row → Type 0) (R S T : Row → Row → Type 0) →
@@ -119,9 +120,6 @@ unfolding IsStrictlySortedBy
 sorted_keys [] up = tt
 sorted_keys (k ∷ keys) up = (up.0, sorted_keys keys up.1)
 
-blob-bytes : (a b : List ℕ) → ◌≡◌ {A = Value} (Blob a) (Blob b) → a ≡ b
-blob-bytes a b h = cc
-
 -- the keys whose bytes are the identities in their order are those that hold records
 pub are_keys : (cap : ℕ) (trees : Trees) (h : Holdings) (keys : List Key) → AreKept cap trees h →
     AllByRecursion IsKey keys → map cell_of keys ≡ map identity_of (by_identity (trees 0)) →
@@ -196,9 +194,6 @@ are_keys cap trees h keys kept good same =
             it.1
 
 -- ---- first and last starts
-int-number : (a b : ℤ) → ◌≡◌ {A = Value} (Int a) (Int b) → a ≡ b
-int-number a b h = cc
-
 pub first_is : (rows : List Row) (xs : List DataRecord) (start : Option ℤ) → Show rows xs →
     option_map Int start ≡ option_map (λ row. column row 2) (slice_get rows 0) →
     start ≡ option_map (λ (r : DataRecord). pos r.start) (slice_get xs 0)

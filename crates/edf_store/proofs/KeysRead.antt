@@ -25,12 +25,9 @@ use Rattle.std.specs.List.{AllByRecursion}
 use Rattle.edf_header.specs.Key.{Key, IsKey, key_bytes}
 use Rattle.edf_header.specs.Identity.{IsFirstKeyFault, identity_fault_order}
 use Rattle.edf_header.specs.declared.identity.IdentityFault.{IdentityFault}
-use Rattle.edf_header.specs.declared.identity.IdentityFault.TheVariants.{Length, Unprintable}
-use Rattle.edf_header.specs.declared.identity.IdentityFault.TheVariants.{Patient, Recording}
-use Rattle.edf_header.specs.declared.identity.IdentityFault.TheVariants.{Duration, Label, Physical}
-use Rattle.edf_header.specs.declared.identity.IdentityFault.TheVariants.{Digital, Samples, Size}
 use Rattle.edf_header.specs.declared.identity.IdentityFault.TheVariants.{Memory}
 use Rattle.edf_header.proofs.Faults.{key-clean}
+use Rattle.edf_rows.proofs.RowCells.{blob-bytes}
 
 pub all_place : {X : Type 0} (P : X → Type 0) (xs : List X) → AllByRecursion P xs →
     (n : ℕ) (x : X) → slice_get xs n ≡ Some x → P x
@@ -45,31 +42,14 @@ clean bytes fault first of early =
 
 pub refused_for_memory : (bytes : List ℕ) (fault : IdentityFault) → IsFirstKeyFault bytes fault →
     (k : Key) × IsKey k × (bytes ≡ key_bytes k) → fault ≡ Memory
-refused_for_memory bytes Length first of = absurd (clean bytes Length first of (omega arith))
-refused_for_memory bytes (Unprintable at) first of =
-    absurd (clean bytes (Unprintable at) first of (omega arith))
-refused_for_memory bytes Patient first of = absurd (clean bytes Patient first of (omega arith))
-refused_for_memory bytes Recording first of = absurd (clean bytes Recording first of (omega arith))
-refused_for_memory bytes Duration first of = absurd (clean bytes Duration first of (omega arith))
-refused_for_memory bytes (Label at) first of =
-    absurd (clean bytes (Label at) first of (omega arith))
-refused_for_memory bytes (Physical at) first of =
-    absurd (clean bytes (Physical at) first of (omega arith))
-refused_for_memory bytes (Digital at) first of =
-    absurd (clean bytes (Digital at) first of (omega arith))
-refused_for_memory bytes (Samples at) first of =
-    absurd (clean bytes (Samples at) first of (omega arith))
-refused_for_memory bytes Size first of = absurd (clean bytes Size first of (omega arith))
 refused_for_memory bytes Memory first of = refl
+refused_for_memory bytes fault first of = absurd (clean bytes fault first of (omega arith))
 
 abbrev Bytes : Type 0
 Bytes = Vec ℕ Global
 
 abbrev pub IsOfKey : Bytes → Type 0
 IsOfKey b = (k : Key) × IsKey k × (b.items ≡ key_bytes k)
-
-blob-bytes : (a b : List ℕ) → ◌≡◌ {A = Value} (Blob a) (Blob b) → a ≡ b
-blob-bytes a b h = cc
 
 of_keys : (all : List Bytes) (rows : List Row) →
     AllByRecursion (λ r. IsRecordingRow (shown r)) rows →

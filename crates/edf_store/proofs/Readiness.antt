@@ -1,14 +1,13 @@
 -- What an empty text tells, and what is read outside a transaction.
-use Rattle.std.proofs.Common.{◌≡◌, ℕ, ℤ, List, [], false, IsTrue, Some, None, Ok, inl, inr, refl}
+use Rattle.std.proofs.Common.{◌≡◌, ℕ, ℤ, List, [], false, IsTrue, Some, None, Ok, refl}
 use Rattle.std.proofs.Common.{sym, subst, ◌∙◌, arith, Option}
-use Rattle.sqlite.specs.Order.{Row}
 use Rattle.sqlite.specs.Tree.{Trees}
 use Rattle.sqlite.specs.Effect.{Database}
 use Rattle.sqlite.specs.Schema.{Schema}
 use Rattle.sqlite_schema.specs.declared.command.Command.TheVariants.{Nothing}
 use Rattle.sqlite_tied.specs.Compute.{everything}
 use Rattle.sqlite.specs.Listing.{understood}
-use Rattle.sqlite.specs.State.{State, HasCleanDisk, Survives, KeepsCommit, IsUnchanged, MayCommit}
+use Rattle.sqlite.specs.State.{State, HasCleanDisk, Survives, KeepsCommit, IsUnchanged}
 use Rattle.sqlite.specs.State.{CommitsBy, Executes}
 use Rattle.sqlite.proofs.StateLemmas.{survives_weaker}
 use Rattle.sqlite.proofs.Callers.{IsPlain, command_of, statement_of, runs_as}
@@ -26,23 +25,18 @@ use Rattle.edf_tables.specs.Schema.{HasBoth}
 use Rattle.edf_store.proofs.Held.{still_held, still_others, others_committed_then}
 use Rattle.edf_store.proofs.Found.{found, absent}
 use Rattle.edf_store.proofs.Keys.{identities_rise}
+use Rattle.edf_tables.proofs.Creating.{nothing_commits}
 
 nothing_is : (schema : Schema) → (command_of (understood schema []) ≡ Nothing)
     × IsPlain (understood schema [])
 unfolding understood everything
 nothing_is schema = (refl, (refl, refl))
 
-commits_nothing : (old : State) (text : List ℕ) (params : Row) (db : Trees) →
-    ¬ MayCommit old None Nothing text params db
-commits_nothing old text params db (inl (inl e, same)) = absurd (cc)
-commits_nothing old text params db (inl (inr e, same)) = absurd (let k = e.2 in cc)
-commits_nothing old text params db (inr may) = absurd (let k = may.3 in cc)
-
 pub nothing_survives : (old new : State) → Survives old new (CommitsBy [] [] old) →
     Survives old new (λ _. ⊥)
 nothing_survives old new s =
     survives_weaker old new _ _ (λ clean db may.
-    commits_nothing old (statement_of [] (understood old.now.schema [])) [] db
+    nothing_commits old (statement_of [] (understood old.now.schema [])) [] db
     (commits_as [] [] old old.now.schema refl Nothing (nothing_is old.now.schema).0
     (nothing_is old.now.schema).1 db may)) s
 

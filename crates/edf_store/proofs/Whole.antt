@@ -1,32 +1,23 @@
 -- That each recording holds a record, from call to call of a transaction.
-use Rattle.std.proofs.Common.{◌≡◌, ◌≢◌, inl, inr, ℕ, ℤ, Bool, true, false, cond, nat_lt, List, []}
-use Rattle.std.proofs.Common.{◌∷◌, length, refl, sym, ap, subst, ◌∙◌, arith, true≢false}
+use Rattle.std.proofs.Common.{◌≡◌, ◌≢◌, inl, inr, ℕ, ℤ, Bool, true, false, []}
+use Rattle.std.proofs.Common.{◌∷◌, refl, sym, subst, ◌∙◌, true≢false}
 use Rattle.std.proofs.lemmas.Bool.{cond-true, cond-false}
 use Rattle.sqlite.specs.State.{State, HasCleanDisk}
 use Rattle.edf_header.specs.Key.{Key}
 use Rattle.edf_fragment.specs.Fragment.{DataRecord}
-use Rattle.edf_holdings.specs.Same.{same_key, same_record}
-use Rattle.edf_holdings.specs.Rising.{inserted, joined}
+use Rattle.edf_holdings.specs.Same.{same_key}
+use Rattle.edf_holdings.specs.Rising.{joined}
 use Rattle.edf_holdings.specs.Holdings.{Holdings, put}
 use Rattle.edf_holdings.proofs.Same.{same_key-Decides}
 use Rattle.edf_rows.proofs.Rows.{one-holdings}
 use Rattle.edf_store.specs.Transaction.{AreSeen, SeesSome, SeesOn, IsUnder, MakesNone, MakesOnly}
 use Rattle.edf_store.specs.Transaction.{IsAddedIn, EachHasRecordIn}
+use Rattle.edf_holdings.proofs.Sound.{inserted-some}
 
 -- each recording but this one holds a record
 abbrev pub IsWholeBut : Key → ℕ → State → Type 0
 IsWholeBut made cap s = HasCleanDisk s → (h : Holdings) (id : ℤ) (k : Key) → AreSeen cap s h →
     IsUnder s id k → k ≢ made → h k ≢ []
-
-some_inserted : (r : DataRecord) (xs : List DataRecord) → inserted r xs ≢ []
-some_inserted r [] none = absurd (let n : ◌≡◌ {A = ℕ} 1 0 = ap length none in omega (arith, n))
-some_inserted r (x ∷ xs) none = go (same_record x r) (nat_lt r.start x.start) none
-  where
-    go : (a b : Bool) → cond a (x ∷ xs) (cond b (r ∷ x ∷ xs) (x ∷ inserted r xs)) ≡ [] → ⊥
-    go true b e = absurd (let n : length (x ∷ xs) ≡ 0 = ap length e in omega (arith, n))
-    go false true e = absurd (let n : length (r ∷ x ∷ xs) ≡ 0 = ap length e in omega (arith, n))
-    go false false e = absurd (let n : length (x ∷ inserted r xs) ≡ 0 = ap length e in
-        omega (arith, n))
 
 module _ (cap : ℕ) (a b : State) (was : HasCleanDisk b → HasCleanDisk a) (running : SeesSome cap a)
   where
@@ -79,7 +70,7 @@ module _ (cap : ℕ) (a b : State) (was : HasCleanDisk b → HasCleanDisk a) (ru
       where
         go : (g : Holdings) → (k ≢ made → g k ≢ []) → (s : Bool) → same_key made k ≡ s →
             put made (r ∷ []) g k ≢ []
-        go g held true e empty = some_inserted r (g k)
+        go g held true e empty = inserted-some r (g k)
             (sym (cond-true (same_key made k) (joined (g k) (r ∷ [])) (g k) e) ∙ empty)
         go g held false e empty =
             held (λ p. true≢false (sym ((same_key-Decides made k).1 (sym p)) ∙ e))

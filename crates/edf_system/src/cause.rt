@@ -1,11 +1,29 @@
 //! Why a file could not be read or written, in plain words for a person.
 
-use crate::terminal::Terminal;
+use crate::terminal::{Mending, Terminal};
 use std::fs;
 use std::io::{self, ErrorKind};
 
 /// What is said where a disk is full.
 pub const FULL: &str = "the disk is full";
+
+/// What E40 means where no read failed.
+pub(crate) const CHANGED: &str = "it changed between the two readings: run this again once no \
+    program writes it";
+
+/// What to do where the name of a new file is taken.
+pub(crate) const RENAME: &str = "no file is written over another: give another name, or move that \
+    file away";
+
+/// What to do after a failed write to what has this name: a new file, that of a program that mends
+/// or one of a split, or else a stream.
+pub(crate) fn on_unwritten(terminal: &Terminal<'_>, name: &str) -> &'static str {
+    if terminal.mending() != Mending::Nothing || name.ends_with(".edf") {
+        "remove the cause and run it again: no part of it is left, unless a line says so"
+    } else {
+        "remove the cause and run it again: what standard output got is not whole"
+    }
+}
 
 /// Plain words for a system error; `None` means print the error itself.
 fn system_words(error: &io::Error) -> Option<&'static str> {

@@ -1,118 +1,70 @@
-//! A sentence of what to do below each line of a refusal, of a name that is taken, and of
-//! annotations that lie outside of their run, for a person.
+//! What a person is told below a line, on a terminal.
 
-use crate::advice::{advice, on_unwritten};
-use crate::front::{has_field, told_by_front};
-use crate::mending::{Mending, on_field, why_unmended};
+use crate::advice::{Row, row_of};
+use crate::cause::{CHANGED, RENAME, on_unwritten};
+use crate::terminal::Mending::{ByAll, ByNamed, Nothing};
 use crate::terminal::Terminal;
+use edf_fragment::{FragmentFault, Remark};
 
-/// What comes between a name and the number of its refusal.
-const REFUSED: &str = " refused E";
+const BY_NAMED: &str = "the rules that --as names do not mend it, so name others too, or leave \
+    --as out; where clock is named, a start may be too far from its place";
 
-/// What E40 means where no read failed.
-const CHANGED: &str = "it changed between the two readings: run this again once no program writes \
-    it";
-
-/// The name and the number of a refusal, where a line tells one.
-fn refusal_in(line: &[u8]) -> Option<(&str, u8)> {
-    let text = str::from_utf8(line).ok()?;
-    let (name, rest) = text.rsplit_once(REFUSED)?;
-    let (number, _) = rest.split_once(' ')?;
-    Some((name, number.parse::<u8>().ok()?))
-}
-
-/// Prints what the front of a refused file tells, and what to do. Whether it tells anything.
-fn is_front_told(rt: &HostRuntime, terminal: &Terminal<'_>, name: &str, number: u8) -> bool {
-    let Some(words) = told_by_front(rt, name, number) else {
-        return false;
-    };
-    if has_field(number) {
-        terminal.say_both(name, words, on_field(terminal.mending(), number));
-    } else {
-        terminal.say(name, words);
-    }
-    true
-}
-
-/// Whether what has that name and can't be written is a new file, and no stream: the one of a
-/// program that mends, or one of a split.
-fn is_new_file(terminal: &Terminal<'_>, name: &str) -> bool {
-    terminal.mending() != Mending::Nothing || name.ends_with(".edf")
-}
-
-/// What to do after a refusal of that name and number, as far as the number tells.
-fn told_by_number(terminal: &Terminal<'_>, name: &str, number: u8) -> Option<&'static str> {
-    if number == 43 {
-        return Some(on_unwritten(is_new_file(terminal, name)));
-    }
-    why_unmended(terminal.mending(), number).or(advice(number))
-}
-
-/// Prints what to do after a refusal of that name and number. What is no more than its number tells
-/// is printed once.
-fn explain_refusal(rt: &HostRuntime, terminal: &Terminal<'_>, name: &str, number: u8) {
-    if is_front_told(rt, terminal, name, number) {
-        return;
-    }
-    if number == 40 && !terminal.is_unread_told() {
-        return terminal.say(name, CHANGED);
-    }
-    if let Some(words) = told_by_number(terminal, name, number)
-        && terminal.is_first(number)
-    {
-        terminal.say(name, words);
-    }
-}
-
-/// What comes before the number of annotations that lie outside of their run, at the end of a line.
-const OUTSIDE: &str = " outside=";
-
-/// What the line of a run has behind the name of its file, if there is one, and its number.
-const RECORDS: &str = " records=";
-
-/// What that means, and what to do.
 const LEFT_OUT: &str = "readers may leave out annotations that lie outside of the run; with \
     --by-onset only those do whose onsets lie in no run";
 
-/// The number under which that is noted as told, which is that of no refusal.
-const TOLD_OUTSIDE: u8 = 0;
-
-/// The file that a line tells of, or else standard output, where annotations lie outside of its
-/// run.
-fn outside_in(line: &[u8]) -> Option<&str> {
-    let text = str::from_utf8(line).ok()?;
-    let (of_run, outside) = text.rsplit_once(OUTSIDE)?;
-    if outside.parse::<u64>().ok()? == 0 {
-        return None;
+fn explain_form(terminal: &Terminal<'_>, name: &str, fault: &FragmentFault) {
+    let row = row_of(fault);
+    if !matches!(row, Row::Own(_) | Row::Field(..)) && !terminal.is_first(fault.number()) {
+        return;
     }
-    let (front, _) = of_run.rsplit_once(RECORDS)?;
-    match front.rsplit_once(' ') {
-        Some((name, _)) => Some(name),
-        None => Some("standard output"),
+    match (row, terminal.mending()) {
+        (Row::Never(words) | Row::Own(words), _)
+        | (Row::Behind(words, _) | Row::Field(words, _) | Row::Instead(words, _), Nothing)
+        | (Row::Behind(_, words) | Row::Field(_, words), ByAll) => {
+            terminal.say_of(name, fault, words);
+        }
+        (Row::Instead(_, words), ByAll) => terminal.say(name, words),
+        (Row::Field(..), ByNamed) => terminal.say_both(name, fault, BY_NAMED),
+        (_, ByNamed) => terminal.say(name, BY_NAMED),
     }
 }
 
-/// What comes after the name of a new file, where it is taken.
-const TAKEN: &str = " is there already; nothing was written";
-
-/// What to do then.
-const RENAME: &str = "no file is written over another: give another name, or move that file away";
-
-/// The name that a line tells to be taken.
-fn taken_in(line: &[u8]) -> Option<&str> {
-    str::from_utf8(line).ok()?.strip_suffix(TAKEN)
+/// Explains what is no fault of form, and E4 and E5 of `edfmend` where the file's own fields are
+/// right.
+fn explain_number(terminal: &Terminal<'_>, name: &str, number: u8) {
+    let words = match number {
+        4 | 5 if terminal.mending() == ByNamed => BY_NAMED,
+        4 => "its patient field can't be made that of EDF+: correct it in a copy",
+        5 => {
+            "its recording field has no room for the word mended at its end: shorten it to 73 \
+            characters in a copy"
+        }
+        30 => {
+            "it overlaps what is stored, which stays, as where a clock was set back: keep the \
+            file; a store of its own takes it"
+        }
+        31 => {
+            "other samples or annotations are stored for this start, and stay: keep the file; \
+            where a clock was set back, or EDFlib wrote a card beside its pieces, a store of its \
+            own takes it"
+        }
+        32 => "its recording is full: begin another store",
+        40 if !terminal.is_unread_told() => return terminal.say(name, CHANGED),
+        41 => "run it again with more memory: what standard output got may not be whole",
+        43 => on_unwritten(terminal, name),
+        _ => return,
+    };
+    terminal.say_once(number, name, words);
 }
 
-/// Prints what to do, where a line tells a refusal, a name that is taken, or annotations outside of
-/// their run. The last is printed once.
-pub(crate) fn explain_line(rt: &HostRuntime, terminal: &Terminal<'_>, line: &[u8]) {
-    if let Some((name, number)) = refusal_in(line) {
-        explain_refusal(rt, terminal, name, number);
-    } else if let Some(name) = taken_in(line) {
-        terminal.say(name, RENAME);
-    } else if let Some(name) = outside_in(line)
-        && terminal.is_first(TOLD_OUTSIDE)
-    {
-        terminal.say(name, LEFT_OUT);
+/// Prints what a person is told below a line about what has this name. What its number says alone
+/// is told once.
+pub(crate) fn explain(terminal: &Terminal<'_>, name: &str, remark: Remark) {
+    match remark {
+        Remark::Fault(fault) if fault.number() < 40 => explain_form(terminal, name, &fault),
+        Remark::Fault(fault) => explain_number(terminal, name, fault.number()),
+        Remark::Refused(number) => explain_number(terminal, name, number),
+        Remark::Taken => terminal.say(name, RENAME),
+        Remark::Outside => terminal.say_once(0, name, LEFT_OUT),
     }
 }

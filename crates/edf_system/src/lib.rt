@@ -8,7 +8,7 @@
 //!   [`Barred`]: names that no file gets; [`NoneBarred`]: no such name.
 //! - [`Streams`]: standard output and standard error.
 //! - [`Terminal`]: progress and messages, where standard error is a terminal; [`Clearing`]: a
-//!   stream beside it, which explains the refusals among its lines. [`Mending`]: what its program
+//!   stream beside it, below whose lines it explains what they tell. [`Mending`]: what its program
 //!   mends. [`tell_system_error`], [`FULL`]: causes in plain words.
 #![tactic(auto)]
 
@@ -17,8 +17,6 @@ mod cause;
 mod clearing;
 mod explain;
 mod files;
-mod front;
-mod mending;
 mod new_files;
 mod parts;
 mod program;
@@ -28,9 +26,8 @@ mod terminal;
 pub use cause::{FULL, tell_system_error};
 pub use clearing::Clearing;
 pub use files::{FileReader, Files};
-pub use mending::Mending;
 pub use new_files::{Barred, NoneBarred, PartFiles};
 pub use parts::NewFile;
 pub use program::{Program, run_program, run_words};
 pub use streams::{Streams, refuse_words, words};
-pub use terminal::Terminal;
+pub use terminal::{Mending, Terminal};

@@ -117,6 +117,10 @@ impl<'rt, B: Barred> NewFiles for PartFiles<'rt, B> {
     }
 
     fn finish(&mut self, writer: NewFile<'rt>) -> Result<u64, Unfinished> {
+        if !self.made.is_writing() {
+            self.made.fail(Unfinished::Failed, None, false);
+            return Err(Unfinished::Failed);
+        }
         let bytes = writer.bytes();
         match self.system.finish(writer) {
             Ok(()) => {
@@ -146,6 +150,9 @@ impl<'rt, B: Barred> NewFiles for PartFiles<'rt, B> {
     }
 
     fn remove(&mut self, place: usize) -> bool {
+        if place >= self.made.count() {
+            return false;
+        }
         let was_gone = matches!(self.made.stage(place), Some(Stage::Removed));
         let is_gone = was_gone || self.is_removed(place);
         self.made.end(place, is_gone);

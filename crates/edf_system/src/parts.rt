@@ -1,11 +1,10 @@
 //! Files that are written under another name, synced, and then named.
 
 ghost use Rattle.std.specs.Prelude.{◌≡◌, None, IfOk};
-ghost use Rattle.edf_fragment.specs.Failures.{one_more};
 
 use crate::cause::{tell_system_error, tell_unmade};
 use crate::terminal::Terminal;
-use edf_fragment::Output;
+use edf_fragment::{Output, one_more};
 use std::fs::{self, File};
 use std::io::{self, ErrorKind, Write};
 use std::path::Path;
@@ -52,13 +51,6 @@ impl NewFile<'_> {
     }
 }
 
-/// The count after one more failure.
-fn one_failure_more(count: u64) -> u64
-    ensures { result ≡ one_more count }
-{
-    count.saturating_add(1)
-}
-
 impl Output for NewFile<'_> {
     ghost contents = { λ _. None };
 
@@ -68,13 +60,13 @@ impl Output for NewFile<'_> {
         match self.file.write(buf) {
             Ok(count) => {
                 if count == 0 && !buf.is_empty() {
-                    self.failures = one_failure_more(self.failures);
+                    self.failures = one_more(self.failures);
                 }
                 self.bytes = self.bytes.saturating_add(count as u64);
                 Ok(count)
             }
             Err(error) => {
-                self.failures = one_failure_more(self.failures);
+                self.failures = one_more(self.failures);
                 tell_system_error(self.terminal, self.part.as_str(), &error);
                 Err(error)
             }

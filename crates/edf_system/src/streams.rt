@@ -29,24 +29,26 @@ pub fn refuse_words(rt: &HostRuntime, error: &io::Error) -> Status {
 /// Standard output and standard error.
 #[derive(Drop)]
 pub struct Streams<'t> {
-    pub out: Counted<Clearing<'t, Stdout>>,
-    pub err: Counted<Clearing<'t, Stderr>>,
+    pub out: Clearing<'t, Counted<Stdout>>,
+    pub err: Clearing<'t, Counted<Stderr>>,
 }
 
 impl<'t> Streams<'t> {
     /// The streams of a program whose progress a terminal shows.
     pub fn new(rt: &'t HostRuntime, terminal: &'t Terminal<'t>) -> Streams<'t> {
         Streams {
-            out: Counted::new(Clearing::output(rt, terminal, rt.stdout())),
-            err: Counted::new(Clearing::of_lines(rt, terminal, rt.stderr(), false)),
-        }
-    }
-
-    /// Those of a program whose standard output has lines below which something may be said.
-    pub fn of_answers(rt: &'t HostRuntime, terminal: &'t Terminal<'t>) -> Streams<'t> {
-        Streams {
-            out: Counted::new(Clearing::of_lines(rt, terminal, rt.stdout(), true)),
-            err: Counted::new(Clearing::of_lines(rt, terminal, rt.stderr(), false)),
+            out: Clearing {
+                rt,
+                terminal,
+                stream: Counted::new(rt.stdout()),
+                is_output: true,
+            },
+            err: Clearing {
+                rt,
+                terminal,
+                stream: Counted::new(rt.stderr()),
+                is_output: false,
+            },
         }
     }
 }

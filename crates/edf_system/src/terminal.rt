@@ -2,7 +2,7 @@
 //!
 //! Messages are lines; progress is one overwritten line, erased before other output.
 
-use crate::mending::Mending;
+use edf_fragment::FragmentFault;
 use std::cell::Cell;
 use std::fmt::Display;
 use std::io::IsTerminal;
@@ -12,6 +12,17 @@ const MEGABYTE: u64 = 1_000_000;
 
 /// What is written over the line of progress, which is never longer.
 const WIPED: &str = "\r                                                            \r";
+
+/// What a program mends of the files that it refuses.
+#[derive(Clone, Copy, Debug, PartialEq, Eq, Drop)]
+pub enum Mending {
+    /// It mends none.
+    Nothing,
+    /// It applies all rules of `edfmend`.
+    ByAll,
+    /// It applies those rules alone that were named.
+    ByNamed,
+}
 
 /// Standard error as a person sees it. Nothing is printed where it is no terminal.
 #[derive(Drop)]
@@ -99,11 +110,26 @@ impl<'rt> Terminal<'rt> {
         }
     }
 
-    /// The same in two parts: what is wrong, and what to do.
-    pub(crate) fn say_both(&self, name: &str, wrong: &str, to_do: &str) {
+    /// The sentence of a fault of the file of this name, and these words behind it.
+    pub(crate) fn say_of(&self, name: &str, fault: &FragmentFault, words: &str) {
         if self.is_there {
             self.wipe_progress();
-            let _ = eprintln!(self.rt; "{name}: {wrong}: {to_do}");
+            let _ = eprintln!(self.rt; "{name}: {fault}{words}");
+        }
+    }
+
+    /// The same, where the words say what to do by themselves.
+    pub(crate) fn say_both(&self, name: &str, fault: &FragmentFault, words: &str) {
+        if self.is_there {
+            self.wipe_progress();
+            let _ = eprintln!(self.rt; "{name}: {fault}: {words}");
+        }
+    }
+
+    /// A line that is told once, under the number of a refusal.
+    pub(crate) fn say_once(&self, number: u8, name: &str, words: &str) {
+        if self.is_first(number) {
+            self.say(name, words);
         }
     }
 
@@ -112,9 +138,11 @@ impl<'rt> Terminal<'rt> {
         self.mending
     }
 
-    /// Keeps that something was written to standard output.
-    pub(crate) fn note_output(&self) {
-        self.is_output_begun.set(true);
+    /// Keeps whether something was written to standard output.
+    pub(crate) fn note_output(&self, count: usize) {
+        if count != 0 {
+            self.is_output_begun.set(true);
+        }
     }
 
     /// Whether something was written to standard output.

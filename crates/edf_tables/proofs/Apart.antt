@@ -1,24 +1,19 @@
 -- What a caller derives: no record is at the start where none is near, and an identity names at
 -- most one recording.
 use Rattle.std.proofs.Common.{◌≡◌, ◌≤◌, ℕ, ℤ, Bool, true, false, ◌&&◌, List, [], ◌∷◌, filter}
-use Rattle.std.proofs.Common.{length, refl, sym, ap, ap₂, subst, ◌∙◌, arith, Ordering, Less, Equal}
+use Rattle.std.proofs.Common.{length, refl, sym, ap, ap₂, ◌∙◌, arith, Ordering, Less, Equal}
 use Rattle.std.proofs.Common.{Greater, is_eq, is_lt, is_gt, true≢false}
 use Rattle.std.specs.List.{AllByRecursion}
 use Rattle.std.specs.Ordering.{int_cmp, ordering_reverse}
 use Rattle.std.proofs.lemmas.Cmp.{alike_right, int_cmp_total}
-use Rattle.std.proofs.lemmas.List.Sorted.{length_permutation}
 use Rattle.sqlite.specs.declared.types.Value.{Value}
-use Rattle.sqlite.specs.declared.types.Value.TheVariants.{Int, Blob}
+use Rattle.sqlite.specs.declared.types.Value.TheVariants.{Int}
 use Rattle.sqlite.specs.Order.{Row}
 use Rattle.sqlite_value.specs.Order.{column, value_cmp}
 use Rattle.sqlite_value.proofs.OrderLemmas.{value_cmp_total, value_cmp-Int}
 use Rattle.sqlite_trees.specs.Tree.{IsAscending}
-use Rattle.sqlite_keyed.proofs.ListLemmas.{ascending-filter, IsPermutation-filter}
-use Rattle.sqlite_keyed.proofs.SortLemmas.{IsPermutation-sort_by}
 use Rattle.edf_tables.specs.Records.{starts_between}
 use Rattle.edf_schema.specs.Columns.{by_column}
-use Rattle.edf_tables.specs.Recordings.{by_identity, named}
-use Rattle.edf_tables.proofs.Answers.{column_total}
 use Rattle.edf_tables.proofs.Held.{AreOthers}
 
 at_start : (after s before : ℤ) (v : Value) → int_cmp after s ≡ Less → int_cmp s before ≡ Less →
@@ -90,16 +85,3 @@ at_most_one at v (r ∷ s ∷ rows) up all =
     alike_right value_cmp_total (column s at) v (column r at) (equal_of _ all.1.0)
     ∙ equal_of _ all.0 in
     absurd (let e : Less ≡ Equal = sym up.0.0 ∙ tied in cc)
-
--- where no two recordings have one identity, an identity names at most one
-pub named_once : (identity : List ℕ) (rows : List Row) →
-    IsAscending (λ a b. by_column 2 a b ≡ Less) (by_identity rows) →
-    length (named identity rows) ≤ 1
-named_once identity rows up =
-    let p = λ (row : Row). is_eq (value_cmp (column row 2) (Blob identity)) in
-    let same : length (named identity (by_identity rows)) ≡ length (named identity rows) =
-    sym (length_permutation _ _ (IsPermutation-filter p _ _
-    (IsPermutation-sort_by (by_column 2) (column_total 2) rows))) in
-    subst (λ n. n ≤ 1) same (at_most_one 2 (Blob identity) _
-    (ascending-filter (λ a b. by_column 2 a b ≡ Less) p (by_identity rows) up)
-    (all_pass p (by_identity rows)))

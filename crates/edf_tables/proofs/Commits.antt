@@ -137,15 +137,6 @@ pub quiet_then : (a b c : State) (P : Trees → Type 0) → Survives a b (λ _. 
 quiet_then a b c P one two = survives_then a b c (λ _. ⊥) P P (λ _ db none. absurd none)
     (λ _ db h. h) one two
 
--- and the other way round
-pub then_quiet : (a b c : State) (P : Trees → Type 0) → Survives a b P → Survives b c (λ _. ⊥) →
-    Survives a c P
-then_quiet a b c P one two = survives_then a b c P (λ _. ⊥) P (λ _ db h. h)
-    (λ _ db none. absurd none) one two
-
-pub quiet : (a b : State) (P : Trees → Type 0) → Survives a b (λ _. ⊥) → Survives a b P
-quiet a b P one = survives_weaker a b _ P (λ _ db none. absurd none) one
-
 pub survives_same : (a : State) (P : Trees → Type 0) → Survives a a P
 survives_same a P = record {
   clean = omega arith;

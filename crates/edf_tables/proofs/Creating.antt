@@ -19,14 +19,7 @@ use Rattle.edf_tables.specs.Made.{AreOf, HasFirst, made_first, kept_first, HasTa
 use Rattle.edf_tables.proofs.Commits.{commits_as}
 use Rattle.edf_tables.proofs.Texts.{create_recording_text, create_records_text, create_recording_is}
 use Rattle.edf_tables.proofs.Texts.{recording_there, create_records_is, created_one, created_both}
-
-went : {B E R : Type 0} {b : B} {Stops : E → Type 0} → ((stop : E) × Stops stop × (Ok b ≡ Err stop))
-    ⊎ R → R
-went (inl stopped) = absurd (let e = stopped.2 in cc)
-went (inr on) = on
-
-same_value : {B E : Type 0} {a b : B} → ◌≡◌ {A = Result B E} (Ok a) (Ok b) → a ≡ b
-same_value e = cc
+use Rattle.edf_tables.proofs.Writing.{went, same_value}
 
 pub makes_recording : (limit : Option ℕ) (mode : Mode) (trees : Trees) (tally : Tally)
     (after : Database) → Does limit mode [] (record { schema = no_schema; trees = trees })
@@ -113,7 +106,7 @@ second_if old new (Err e) one h = tt
 second_if old new (Ok count) one h = second_made old new count one h
 
 -- a text that does nothing commits nothing
-nothing_commits : (old : State) (text : List ℕ) (params : Row) (db : Trees) →
+pub nothing_commits : (old : State) (text : List ℕ) (params : Row) (db : Trees) →
     ¬ MayCommit old None Nothing text params db
 nothing_commits old text params db (inl (inl e, same)) = absurd (cc)
 nothing_commits old text params db (inl (inr e, same)) = absurd (let k = e.2 in cc)

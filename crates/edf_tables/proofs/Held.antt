@@ -7,21 +7,19 @@ use Rattle.std.proofs.lemmas.Cmp.{tied_itself}
 use Rattle.sqlite.specs.declared.types.Value.TheVariants.{Int}
 use Rattle.sqlite.specs.Order.{Row}
 use Rattle.sqlite.specs.State.{State, KeepsCommit}
-use Rattle.sqlite_value.specs.Order.{value_cmp}
 use Rattle.sqlite_value.proofs.OrderLemmas.{value_cmp_total, value_cmp-Int}
-use Rattle.sqlite_trees.specs.Tree.{IsAscending, rowid, put_row}
+use Rattle.sqlite_trees.specs.Tree.{IsAscending}
 use Rattle.sqlite_trees.proofs.ListLemmas.{all-permutation}
 use Rattle.sqlite_keyed.specs.Lists.{insert_sorted}
-use Rattle.sqlite_keyed.proofs.ListLemmas.{all_weaker, all_kept, none_from_any}
+use Rattle.sqlite_keyed.proofs.ListLemmas.{all_weaker, all_kept}
 use Rattle.sqlite_keyed.proofs.SortLemmas.{IsPermutation-sort_by}
-use Rattle.edf_tables.specs.Row.{cells, named_cells, new_row, IsInside, HasRecord, HasRecording}
+use Rattle.edf_tables.specs.Row.{cells, new_row, IsInside, HasRecord, HasRecording}
 use Rattle.edf_tables.specs.Records.{records_of}
 use Rattle.edf_schema.specs.Columns.{by_column, is_of}
-use Rattle.edf_tables.specs.Recordings.{by_identity}
 use Rattle.edf_tables.proofs.Answers.{column_total}
 use Rattle.edf_tables.proofs.Keeping.{shows_keeps}
-use Rattle.edf_tables.proofs.Sorting.{filter_true, all_insert}
-use Rattle.edf_tables.proofs.Steps.{add_is_step, add_elsewhere, put_passing}
+use Rattle.edf_tables.proofs.Sorting.{all_insert}
+use Rattle.edf_tables.proofs.Steps.{add_is_step, add_elsewhere}
 
 -- none of the rows has what the new one has in the column
 abbrev pub AreOthers : ℕ → Row → List Row → Type 0
@@ -70,24 +68,6 @@ recording_inside old new row h = record { schema = h.schema; mode = h.shown.mode
 
 pub recording_keeps : (old new : State) (row : Row) → HasRecording old new row → KeepsCommit old new
 recording_keeps old new row h = shows_keeps old new new.now true h.shown
-
--- a recording more, in its place
-pub more_recordings : (old new : State) (identity : List ℕ) →
-    HasRecording old new (named_cells identity) →
-    AreOthers 2 (new_row (old.now.trees 0) (named_cells identity)) (by_identity (old.now.trees 0))
-    → by_identity (new.now.trees 0) ≡ insert_sorted (by_column 2)
-    (new_row (old.now.trees 0) (named_cells identity)) (by_identity (old.now.trees 0))
-more_recordings old new identity h others =
-    let rows = old.now.trees 0 in
-    let row = new_row rows (named_cells identity) in
-    let kept = all-permutation (λ r. is_eq (by_column 2 r row) ≡ false) _ _
-    (IsPermutation-sort_by (by_column 2) (column_total 2) rows) others in
-    let fresh = none_from_any (λ r. is_eq (value_cmp (rowid r) (rowid row))) rows h.fresh in
-    ap by_identity h.recordings ∙ ap by_identity (sym (filter_true (put_row row rows)))
-    ∙ put_passing (by_column 2) (column_total 2) (λ _. true) row rows refl fresh
-    (all_weaker _ (λ r. true ≡ true → is_eq (by_column 2 r row) ≡ false) (λ r apart _. apart)
-    rows kept)
-    ∙ ap (λ l. insert_sorted (by_column 2) row (by_identity l)) (filter_true rows)
 
 -- a list that rises still does with one more in its place
 pub rising_more : (at : ℕ) (new : Row) (rows : List Row) → AreOthers at new rows →

@@ -11,14 +11,12 @@ use Rattle.sqlite_trees.specs.Tree.{with_tree}
 use Rattle.sqlite_schema.specs.declared.schema.Table.{Table}
 use Rattle.sqlite_schema.specs.declared.schema.Index.{Index}
 use Rattle.sqlite_schema.specs.declared.schema.Schema.{Schema}
-use Rattle.sqlite_schema.specs.declared.schema.Constraint.TheVariants.{Datatype, NotNull, Check}
-use Rattle.sqlite_schema.specs.declared.schema.Constraint.TheVariants.{PrimaryKey, Unique}
-use Rattle.sqlite_schema.specs.declared.schema.Constraint.TheVariants.{ForeignKey}
+use Rattle.sqlite_schema.specs.declared.schema.Constraint.TheVariants.{Unique}
 use Rattle.sqlite_schema.specs.declared.schema.Keys.TheVariants.{Enforced}
 use Rattle.sqlite_schema.specs.Rules.{Keeps, guards, clashes, Obeys}
 use Rattle.sqlite_rules.specs.declared.error.Refusal.{Refusal}
-use Rattle.sqlite_rules.specs.declared.error.Refusal.TheVariants.{Violates, Mismatch, NoRowid}
-use Rattle.sqlite_rules.specs.declared.error.Refusal.TheVariants.{BadReference, TooDeep}
+use Rattle.sqlite_rules.specs.declared.error.Refusal.TheVariants.{Violates}
+use Rattle.sqlite_rules.specs.declared.error.Refusal.TheVariants.{BadReference}
 use Rattle.sqlite_rules.specs.Edit.{IsRefused, edited}
 use Rattle.sqlite_rules.proofs.ListLemmas.{all_has, all_from}
 use Rattle.edf_tables.specs.Schema.{recording, records, both_schema, Others, schema_with}
@@ -85,10 +83,6 @@ pub refused_by_ours : (has : Schema) (both : HasBoth has) (db : Trees) (of : Tab
     (rule : Refusal) → of.tree < 4 → of.references ≡ [] → Obeys has db →
     IsRefused has Enforced db (one_row db of cells) rule →
     IsRefused both_schema Enforced db (one_row db of cells) rule
-refused_by_ours has both db of cells (Violates Datatype) low none obeys h = h
-refused_by_ours has both db of cells (Violates NotNull) low none obeys h = h
-refused_by_ours has both db of cells (Violates Check) low none obeys h = h
-refused_by_ours has both db of cells (Violates PrimaryKey) low none obeys h = h
 refused_by_ours has both db of cells (Violates Unique) low none obeys h = λ keeps.
     let o = both.others in
     h (subst (λ (s : Schema). Keeps Unique s
@@ -96,9 +90,7 @@ refused_by_ours has both db of cells (Violates Unique) low none obeys h = λ kee
     (unique_with o db of.tree (edited db (one_row db of cells)) low
     (recursion_from_All _ _ both.tables) (recursion_from_All _ _ both.indexes)
     (subst (λ (s : Schema). Keeps Unique s db) both.is (obeys.rules Unique)) keeps))
-refused_by_ours has both db of cells (Violates ForeignKey) low none obeys h = h
-refused_by_ours has both db of cells Mismatch low none obeys h = h
-refused_by_ours has both db of cells NoRowid low none obeys h = h
 refused_by_ours has both db of cells BadReference low none obeys h =
     absurd (let k = rw none at h in cc)
-refused_by_ours has both db of cells TooDeep low none obeys h = h
+refused_by_ours has both db of cells (Violates rule) low none obeys h = h
+refused_by_ours has both db of cells rule low none obeys h = h

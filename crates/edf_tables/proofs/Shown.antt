@@ -1,7 +1,7 @@
 -- What each query shows of the rows.
 use Rattle.std.proofs.Common.{◌≡◌, ◌≢◌, IsSorted, ℕ, ℤ, pos, Bool, true, ◌&&◌, List, [], ◌∷◌, ◌++◌}
 use Rattle.std.proofs.Common.{map, filter, length, reverse, take, min, slice_get, Option, Some}
-use Rattle.std.proofs.Common.{None, Contains, refl, sym, ap, subst, ◌∙◌, arith, Less, IsPermutation}
+use Rattle.std.proofs.Common.{None, refl, sym, ap, subst, ◌∙◌, arith, Less, IsPermutation}
 use Rattle.std.specs.Option.{option_map}
 use Rattle.std.proofs.lemmas.List.{take-map}
 use Rattle.std.proofs.lemmas.List.Sorted.{length_permutation, Contains-permutation}

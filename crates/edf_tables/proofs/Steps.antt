@@ -52,9 +52,6 @@ module _ {X : Type 0} (cmp : X → X → Ordering) (total : IsTotalOrder cmp) wh
       go false false Equal e f g d more = absurd (true≢false (sym (ap is_eq g) ∙ d))
       go false false Greater e f g d more = rw (e, f) (rw (g, back a b Greater g, e) refl)
 
-is_fresh : Row → Row → Type 0
-is_fresh new r = is_eq (value_cmp (rowid r) (rowid new)) ≡ false
-
 module _ (cmp : Row → Row → Ordering) (total : IsTotalOrder cmp) (p : Row → Bool) (new : Row) where
   -- a row that passes goes into its place among those that do
   pub put_passing : (rows : List Row) → p new ≡ true →

@@ -22,37 +22,25 @@ equals : (v : Value) (n : ℤ) → is_true (binary (by.Compare Eq Binary) v (Int
     (value_cmp v (Int n))
 unfolding binary value_cmp
 equals Null n = refl
-equals (Int m) n = truth_of _
-equals (Real x) n = truth_of _
-equals (Text t) n = truth_of _
-equals (Blob b) n = truth_of _
+equals v n = truth_of _
 
 equals_bytes : (v : Value) (bytes : List ℕ) →
     is_true (binary (by.Compare Eq Binary) v (Blob bytes)) ≡ is_eq (value_cmp v (Blob bytes))
 unfolding binary value_cmp
 equals_bytes Null bytes = refl
-equals_bytes (Int m) bytes = truth_of _
-equals_bytes (Real x) bytes = truth_of _
-equals_bytes (Text t) bytes = truth_of _
-equals_bytes (Blob b) bytes = truth_of _
+equals_bytes v bytes = truth_of _
 
 above : (v : Value) (n : ℤ) → is_true (binary (by.Compare Gt Binary) v (Int n)) ≡ is_gt
     (value_cmp v (Int n))
 unfolding binary value_cmp
 above Null n = refl
-above (Int m) n = truth_of _
-above (Real x) n = truth_of _
-above (Text t) n = truth_of _
-above (Blob b) n = truth_of _
+above v n = truth_of _
 
 not_below : (v : Value) (n : ℤ) →
     is_true (binary (by.Compare Ge Binary) v (Int n)) ≡ is_ge (value_cmp v (Int n))
 unfolding binary value_cmp
 not_below Null n = refl
-not_below (Int m) n = truth_of _
-not_below (Real x) n = truth_of _
-not_below (Text t) n = truth_of _
-not_below (Blob b) n = truth_of _
+not_below v n = truth_of _
 
 both : (a b : Bool) → (is_true (from_truth (Some a)) && is_true (from_truth (Some b))) ≡ (a && b)
 both true b = truth_of b

@@ -22,7 +22,7 @@ use Rattle.edf_tal.specs.declared.place.Place.{Place}
 use Rattle.edf_tal.specs.declared.place.Place.TheVariants.{First, After, Any}
 use Rattle.edf_tal.specs.Inside.Scan.{AreZeros}
 use Rattle.edf_tal.proofs.Joined.{all_tals-one}
-use Rattle.edf_tal.proofs.OneAnswer.{SameAnswer, one-read}
+use Rattle.edf_tal.proofs.Judge.{SameAnswer, one-read}
 
 ahead : (base onset : ℕ) → base ≤ onset → pos onset -ℤ pos base ≡ pos (onset - base)
 ahead base onset h = omega (arith, ints)

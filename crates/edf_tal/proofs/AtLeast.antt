@@ -1,4 +1,4 @@
--- The blocks of a data record are read, or have a fault.
+-- What is decided of the blocks of a data record.
 use Rattle.std.proofs.Common.{◌≡◌, ℕ, zero, suc, ◌+◌, ◌-◌, ◌^◌, ◌≤◌, ◌<◌, ◌⊎◌, inl, inr, Bool, true}
 use Rattle.std.proofs.Common.{false, ◌&&◌, List, [], ◌∷◌, ◌++◌, length, arith, refl, sym, ap, ◌∙◌}
 use Rattle.std.proofs.Common.{subst, append-nil, append_assoc, ℤ, pos, negsuc, ◌≤ℤ◌, ◌<ℤ◌, ◌+ℤ◌}
@@ -10,21 +10,16 @@ use Rattle.std.proofs.lemmas.Bool.{cases_eq, cases_lt}
 use Rattle.std.proofs.lemmas.Int.{ints}
 use Rattle.std.proofs.lemmas.Str.{IsUtf8-from_is_utf8, is_utf8-from_IsUtf8}
 use Rattle.edf_time.specs.Civil.{window}
-use Rattle.edf_tal.specs.Tal.{Tal, Annotation, IsText, ended, IsTalInWindow, instant}
-use Rattle.edf_tal.specs.Block.{AreRead, IsRead, IsBadText, IsBroken, IsBlocksFault, IsBlockFault}
+use Rattle.edf_tal.specs.Tal.{Tal, IsText, ended, IsTalInWindow}
+use Rattle.edf_tal.specs.Condition.{IsBadText, IsBroken}
 use Rattle.edf_tal.specs.Inside.Scan.{Lacks, NoTal, AreZeros, IsTalAtFront, IsBadAmong}
 use Rattle.edf_tal.specs.Inside.Scan.{AreGoodTexts, FollowsTals, IsSurvey, KeepsSecond, KeepsOrder}
-use Rattle.edf_tal.specs.Inside.Blocks.{AreSurveyed, HasForm}
-use Rattle.edf_tal.specs.declared.blocks.Sums.{Sums}
+use Rattle.edf_tal.specs.Inside.Blocks.{HasForm}
 use Rattle.edf_tal.specs.declared.blocks.Form.{Form}
 use Rattle.edf_tal.specs.declared.blocks.Form.TheVariants.{Good, BadText}
 use Rattle.edf_tal.specs.declared.limits.TheConstants.{MOST_ANNOTATIONS, MOST_TEXT_BYTES}
 use Rattle.edf_tal.specs.declared.place.Place.{Place}
 use Rattle.edf_tal.specs.declared.place.Place.TheVariants.{First, After, Any}
-use Rattle.edf_tal.specs.declared.place.TalFault.{TalFault}
-use Rattle.edf_tal.specs.declared.place.TalFault.TheVariants.{Tal as NotTals, Text, NotTimed}
-use Rattle.edf_tal.specs.declared.place.TalFault.TheVariants.{FirstOnset, Window, Order, TooMany}
-use Rattle.edf_tal.specs.declared.place.TalFault.TheVariants.{Memory}
 use Rattle.edf_tal.proofs.Unique.{Lacks-text}
 use Rattle.edf_tal.proofs.Decide.{Front, front}
 use Rattle.edf_tal.proofs.Totals.{after-none, after-more, after-after, front-shorter}
@@ -32,9 +27,6 @@ use Rattle.edf_tal.proofs.Totals.{good-count, survey-none, survey-more, survey-b
 use Rattle.edf_tal.proofs.Totals.{both-true}
 use Rattle.edf_tal.proofs.Joined.{form-append, form-lists, form-bad, broken-one, broken-front}
 use Rattle.edf_tal.proofs.Joined.{broken-back, surveyed-one, surveyed-none}
-use Rattle.edf_tal.proofs.Judge.{Known, IsEmptyFirst, known, timed, checked, fault-tal, fault-empty}
-use Rattle.edf_tal.proofs.Judge.{fault-text, fault-none, fault-untimed, fault-second, fault-window}
-use Rattle.edf_tal.proofs.Judge.{fault-order, fault-many}
 
 -- ---- what is decided
 
@@ -233,12 +225,12 @@ survey block s = survey-from (suc (length block)) block block s true 0 0 (omega 
 
 -- ---- the first TAL's rules
 
-keeps-second : (p : Place) (z : ℤ) → KeepsSecond p z ⊎ (¬ KeepsSecond p z)
+pub keeps-second : (p : Place) (z : ℤ) → KeepsSecond p z ⊎ (¬ KeepsSecond p z)
 keeps-second First z = below z (10 ^ 9)
 keeps-second (After before duration) z = inl tt
 keeps-second Any z = inl tt
 
-keeps-order : (p : Place) (start : ℕ) → KeepsOrder p start ⊎ (¬ KeepsOrder p start)
+pub keeps-order : (p : Place) (start : ℕ) → KeepsOrder p start ⊎ (¬ KeepsOrder p start)
 keeps-order First start = inl tt
 keeps-order (After before duration) start =
     elim (cases_lt start (before + duration)) [
@@ -249,13 +241,13 @@ keeps-order (After before duration) start =
     ]
 keeps-order Any start = inl tt
 
-true-or-not : (b : Bool) → IsTrue b ⊎ (¬ IsTrue b)
+pub true-or-not : (b : Bool) → IsTrue b ⊎ (¬ IsTrue b)
 true-or-not true = inl refl
 true-or-not false = inr (λ h. absurd (let e : false ≡ true = h in cc))
 
-limits : (count bytes : ℕ) → ((count ≤ MOST_ANNOTATIONS + 1) × (bytes ≤ MOST_TEXT_BYTES))
+pub few-or-not : (count bytes : ℕ) → ((count ≤ MOST_ANNOTATIONS + 1) × (bytes ≤ MOST_TEXT_BYTES))
     ⊎ (¬ ((count ≤ MOST_ANNOTATIONS + 1) × (bytes ≤ MOST_TEXT_BYTES)))
-limits count bytes =
+few-or-not count bytes =
     elim (cases_lt (MOST_ANNOTATIONS + 1) count) [
       | inl many ↦ inr (λ h. let le = h.0 in absurd (omega arith))
       | inr few ↦ elim (cases_lt MOST_TEXT_BYTES bytes) [
@@ -265,10 +257,10 @@ limits count bytes =
       ]
     ]
 
-first-empty : (texts : List ℕ) → ((rest : List ℕ) × (texts ≡ 20 ∷ rest))
+pub empty-or-not : (texts : List ℕ) → ((rest : List ℕ) × (texts ≡ 20 ∷ rest))
     ⊎ (¬ ((rest : List ℕ) × (texts ≡ 20 ∷ rest)))
-first-empty [] = inr (λ (rest, e). absurd cc)
-first-empty (b ∷ texts) =
+empty-or-not [] = inr (λ (rest, e). absurd cc)
+empty-or-not (b ∷ texts) =
     elim (cases_eq b 20) [
       | inl is ↦ inl (texts, ap (λ (x : ℕ). x ∷ texts) is)
       | inr isnt ↦ inr (λ (rest, e). isnt (let z : b ≡ 20 = cc in z))
@@ -302,7 +294,7 @@ form b s =
       ]
     ]
 
-forms : (bs : List (List ℕ)) (s : ℕ) → ((f : Form) × HasForm bs s f) ⊎ ((at : ℕ) × IsBroken bs at)
+pub forms : (bs : List (List ℕ)) (s : ℕ) → ((f : Form) × HasForm bs s f) ⊎ ((at : ℕ) × IsBroken bs at)
 forms [] s = inl (Good (record { in_window = true; count = 0; text_bytes = 0 }), surveyed-none s)
 forms (b ∷ bs) s =
     elim (form b s) [
@@ -313,80 +305,3 @@ forms (b ∷ bs) s =
       ]
       | inr x ↦ inr (x.0, broken-front (b ∷ []) bs x.0 x.1)
     ]
-
--- ---- the answer
-
--- a start and a list, or a fault
-abbrev pub HaveAnswer : List (List ℕ) → ℕ → Place → Type 0
-HaveAnswer bs s p = ((start : ℕ) × (list : List Annotation) × AreRead bs s p start list)
-    ⊎ ((e : TalFault) × IsBlocksFault bs s p e)
-
--- of TALs and zeros, the first of which is known
-module _ (bs : List (List ℕ)) (s : ℕ) (p : Place) (sums : Sums) (t : Tal) (k : Known bs s sums t)
-    (empty : IsEmptyFirst t) where
-  by-limits : KeepsSecond p t.onset → IsTrue sums.in_window → KeepsOrder p (instant s t.onset) →
-      HaveAnswer bs s p
-  by-limits second window order =
-      elim (limits sums.count sums.text_bytes) [
-        | inl few ↦ let c = checked bs s p sums t k (instant s t.onset) empty second window refl
-            order few in inl (instant s t.onset, c.list, c.read)
-        | inr many ↦ inr (TooMany, fault-many bs s p sums t k empty second window order many)
-      ]
-
-  by-rules : HaveAnswer bs s p
-  by-rules =
-      elim (keeps-second p t.onset) [
-        | inl second ↦ elim (true-or-not sums.in_window) [
-          | inl window ↦ elim (keeps-order p (instant s t.onset)) [
-            | inl order ↦ by-limits second window order
-            | inr fails ↦ inr (Order, fault-order bs s p sums t k empty second window fails)
-          ]
-          | inr fails ↦ inr (Window, fault-window bs s p sums t k empty second fails)
-        ]
-        | inr fails ↦ inr (FirstOnset, fault-second bs s p sums t k empty fails)
-      ]
-
--- of TALs and zeros
-judged : (bs : List (List ℕ)) (s : ℕ) (p : Place) (sums : Sums) → AreSurveyed bs s sums →
-    HaveAnswer bs s p
-judged [] s p sums v = inr (NotTimed, fault-empty s p)
-judged (b ∷ bs) s p sums v =
-    elim (front b) [
-      | inl f ↦
-          let k = known b bs f.texts f.rest s sums f.tal v f.is_front in
-          elim (first-empty f.texts) [
-            | inl e ↦ by-rules (b ∷ bs) s p sums f.tal k (timed b f.texts f.rest f.tal f.is_front e)
-            | inr never ↦ inr (
-              NotTimed,
-              fault-untimed (b ∷ bs) s p sums f.tal k b f.texts f.rest
-                  f.is_front never,
-            )
-          ]
-      | inr none ↦ inr (NotTimed, fault-none b bs s p sums v none)
-    ]
-
-by-form : (bs : List (List ℕ)) (s : ℕ) (p : Place) (f : Form) → HasForm bs s f → HaveAnswer bs s p
-by-form bs s p (Good sums) v = judged bs s p sums v
-by-form bs s p (BadText at) h = inr (Text at, fault-text bs s p at h.0 h.1)
-
-pub blocks-some-answer : (bs : List (List ℕ)) (s : ℕ) (p : Place) → HaveAnswer bs s p
-blocks-some-answer bs s p = elim (forms bs s) [
-  | inl f ↦ by-form bs s p f.0 f.1
-  | inr x ↦
-      inr (NotTals x.0, fault-tal bs s p x.0 x.1)
-]
-
-pub blocks-no-memory : (bs : List (List ℕ)) (s : ℕ) (p : Place) → ¬ IsBlocksFault bs s p Memory
-blocks-no-memory bs s p f = f.holds
-
--- ---- the same of a data record with one block
-
-abbrev pub HasAnswer : List ℕ → ℕ → Place → Type 0
-HasAnswer b s p = ((start : ℕ) × (list : List Annotation) × IsRead b s p start list)
-    ⊎ ((e : TalFault) × IsBlockFault b s p e)
-
-pub some-answer : (b : List ℕ) (s : ℕ) (p : Place) → HasAnswer b s p
-some-answer b s p = blocks-some-answer (b ∷ []) s p
-
-pub no-memory : (b : List ℕ) (s : ℕ) (p : Place) → ¬ IsBlockFault b s p Memory
-no-memory b s p = blocks-no-memory (b ∷ []) s p

@@ -6,7 +6,7 @@ use Rattle.std.specs.List.{AllByRecursion}
 use Rattle.std.proofs.lemmas.List.{length-append}
 use Rattle.edf_tal.specs.Tal.{Tal, IsTal, IsOnset, IsDurationPart, IsText, ended, AreTals}
 use Rattle.edf_tal.specs.Tal.{AreTalsAndZeros, HaveUtf8Texts}
-use Rattle.edf_tal.specs.Block.{IsBadText}
+use Rattle.edf_tal.specs.Condition.{IsBadText}
 use Rattle.edf_tal.specs.Inside.Scan.{Lacks, AreZeros}
 use Rattle.edf_tal.proofs.Unique.{same-sides, Lacks-append, Lacks-onset, Lacks-duration, Lacks-text}
 use Rattle.edf_tal.proofs.Fronts.{same-front, HasEnd-tal}

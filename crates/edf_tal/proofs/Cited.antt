@@ -2,9 +2,9 @@
 -- record with one block.
 pub use Rattle.edf_tal.proofs.Unique.{one-tal}
 pub use Rattle.edf_tal.proofs.OneBlock.{one-block, one-lists}
-pub use Rattle.edf_tal.proofs.OneAnswer.{SameAnswer, blocks-one-read, blocks-read-no-fault}
-pub use Rattle.edf_tal.proofs.OneAnswer.{blocks-one-fault, one-read, read-no-fault, one-fault}
-pub use Rattle.edf_tal.proofs.AtLeast.{blocks-some-answer, blocks-no-memory, some-answer, no-memory}
+pub use Rattle.edf_tal.proofs.Judge.{SameAnswer, blocks-one-read, blocks-read-no-fault}
+pub use Rattle.edf_tal.proofs.Judge.{blocks-one-fault, one-read, read-no-fault, one-fault}
+pub use Rattle.edf_tal.proofs.Judge.{blocks-some-answer, blocks-no-memory, some-answer, no-memory}
 pub use Rattle.edf_tal.proofs.Cuts.{cut-joined}
 pub use Rattle.edf_tal.proofs.Again.{read-any, read-first, read-after, read-alone}
 pub use Rattle.edf_tal.proofs.Again.{blocks-read-elsewhere, read-elsewhere, one-writing}

@@ -10,13 +10,14 @@ use Rattle.std.proofs.lemmas.List.{take_all, take_at, drop_at}
 use Rattle.std.proofs.lemmas.List.Sums.{sum_by-append, sum_by-cons, sum_by-drop_more}
 use Rattle.edf_tal.specs.Tal.{Tal, Annotation, AreBlocks, first_tals, all_tals, HaveUtf8Texts}
 use Rattle.edf_tal.specs.Tal.{IsTimed, IsTalInWindow, tal_annotations, annotations}
-use Rattle.edf_tal.specs.Block.{AreRead, IsBroken, cut}
+use Rattle.edf_tal.specs.Block.{AreRead, cut}
+use Rattle.edf_tal.specs.Condition.{IsBroken}
 use Rattle.edf_tal.specs.Inside.Blocks.{HasForm, AreSoundTals, AreSoundLists}
 use Rattle.edf_tal.specs.declared.blocks.Form.{Form}
 use Rattle.edf_tal.specs.declared.place.Place.{Place}
 use Rattle.edf_tal.proofs.OneBlock.{one-block}
 use Rattle.edf_tal.proofs.Joined.{all-front, all-back, broken-front, broken-back, form-lists}
-use Rattle.edf_tal.proofs.Judge.{dropped-first}
+use Rattle.edf_tal.proofs.FirstTal.{dropped-first}
 
 pub cut-joined : (bs : List (List ℕ)) → cut (map length bs) (flat_map (λ b. b) bs) ≡ bs
 cut-joined [] = refl

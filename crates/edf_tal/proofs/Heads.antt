@@ -1,5 +1,5 @@
 -- What the scan's helpers test.
-use Rattle.std.proofs.Common.{◌≡◌, ◌≢◌, ℕ, suc, ◌-◌, ◌^◌, ◌≤◌, ◌<◌, ◌⊎◌, nat_eq, List, [], ◌∷◌}
+use Rattle.std.proofs.Common.{◌≡◌, ◌≢◌, ℕ, suc, ◌-◌, ◌≤◌, ◌<◌, ◌⊎◌, nat_eq, List, [], ◌∷◌}
 use Rattle.std.proofs.Common.{◌++◌, length, get_or, take, drop, arith, refl, sym, ap, ◌∙◌, subst}
 use Rattle.std.proofs.Common.{inl, inr, append_assoc, ℤ, pos, neg_ℤ, Option, Some, None}
 use Rattle.std.specs.Prelude.{IsTrue}
@@ -9,23 +9,17 @@ use Rattle.std.proofs.lemmas.List.{append-nil, length-append, take_all}
 use Rattle.edf_time.specs.Decimal.{IsDecimal, IsFine, IsSeconds}
 use Rattle.edf_tal.specs.Tal.{Tal, IsTal, IsOnset, IsDurationPart, IsText, ended}
 use Rattle.edf_tal.specs.Inside.Scan.{Lacks, NoTal, IsTimes, IsHead, EndsWith20, IsTalAtFront}
-use Rattle.edf_tal.specs.Inside.Scan.{capped}
 use Rattle.edf_time.proofs.Cited.{same-parts}
 use Rattle.edf_tal.proofs.Unique.{same-sides, not-both, Lacks-append, Lacks-onset, Lacks-duration}
 use Rattle.edf_tal.proofs.Unique.{Lacks-seconds}
 use Rattle.edf_tal.proofs.Fronts.{NoZero-tal}
+use Rattle.edf_tal.proofs.Totals.{Lacks-back}
 
 -- a decimal that is too fine has no value
 pub too-fine : (text w f : List ℕ) (n : ℕ) → IsDecimal text w f → ¬ IsFine f → ¬ IsSeconds text n
 too-fine text w f n d bad s =
     bad (subst (λ (x : List ℕ). IsFine x)
     (sym (same-parts text w f s.whole s.fraction d s.parts).fraction) s.fine)
-
-pub capped-small : (n : ℕ) → n < 2 ^ 63 → n ≡ capped n
-capped-small n h = omega arith
-
-pub capped-large : (n : ℕ) → 2 ^ 63 ≤ n → 2 ^ 63 ≡ capped n
-capped-large n h = omega arith
 
 pub alone : (bytes : List ℕ) (n : ℕ) → IsSeconds bytes n → IsTimes bytes n None
 alone bytes n s = record {
@@ -274,10 +268,6 @@ front-sides bytes body rest head texts front later t lacks e lacks' f g s =
       };
       texts = same.back;
     }
-
-Lacks-back : (c : ℕ) (a b : List ℕ) → Lacks c (a ++ b) → Lacks c b
-Lacks-back c [] b p = p
-Lacks-back c (x ∷ a) b p = Lacks-back c a b p.1
 
 pub front-made : (bytes body rest head texts : List ℕ) (z : ℤ) (d : Option ℕ) → Lacks 0 body →
     bytes ≡ body ++ 0 ∷ rest → body ≡ head ++ 20 ∷ texts → IsHead head z d → EndsWith20 texts

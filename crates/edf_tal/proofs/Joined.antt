@@ -9,7 +9,7 @@ use Rattle.std.proofs.lemmas.List.{take_at}
 use Rattle.std.proofs.lemmas.List.Sums.{sum_by-append, sum_by-cons}
 use Rattle.edf_tal.specs.Tal.{Tal, Annotation, AreTalsAndZeros, AreBlocks, all_tals, HaveUtf8Texts}
 use Rattle.edf_tal.specs.Tal.{IsTalInWindow, tal_annotations}
-use Rattle.edf_tal.specs.Block.{IsBadText, IsLongestFront, IsBroken, HasBadText}
+use Rattle.edf_tal.specs.Condition.{IsBadText, IsLongestFront, IsBroken, HasBadText}
 use Rattle.edf_tal.specs.Inside.Scan.{NoTal, AreZeros, FollowsTals, IsSurvey}
 use Rattle.edf_tal.specs.Inside.Blocks.{AreSurveyed, HasForm}
 use Rattle.edf_tal.specs.declared.blocks.Sums.{Sums}

@@ -1,18 +1,22 @@
--- The first fault of the blocks of a data record.
-use Rattle.std.proofs.Common.{◌≡◌, ℕ, suc, ◌+◌, ◌-◌, ◌≤◌, ◌<◌, List, [], ◌∷◌, ◌++◌, length, drop}
-use Rattle.std.proofs.Common.{map, arith, refl, sym, ap, ◌∙◌, subst, append_assoc}
-use Rattle.std.specs.Prelude.{IsTrue, ◌↔◌}
+-- The first fault of the blocks of a data record; and that they have one answer, and one at least:
+-- a start and a list, or a fault.
+use Rattle.std.proofs.Common.{◌≡◌, ℕ, ◌+◌, ◌-◌, ◌≤◌, ◌<◌, ◌⊎◌, List, [], ◌∷◌, ◌++◌, length}
+use Rattle.std.proofs.Common.{arith, refl, sym, ap, ◌∙◌, subst, append_assoc, inl, inr}
+use Rattle.std.specs.Prelude.{IsTrue}
 use Rattle.std.specs.List.{AllByRecursion, flat_map}
-use Rattle.std.proofs.lemmas.List.Sums.{sum_by-cons}
-use Rattle.edf_tal.specs.Tal.{Tal, Annotation, IsTal, IsText, ended, AreTalsAndZeros, AreBlocks}
-use Rattle.edf_tal.specs.Tal.{first_tals, all_tals, HaveUtf8Texts, IsTimed, IsTalInWindow, instant}
-use Rattle.edf_tal.specs.Tal.{tal_annotations, annotations, record_start}
-use Rattle.edf_tal.specs.Block.{IsBroken, HasBadText, IsWithinLimits, KeepsPlace, BlocksFail}
-use Rattle.edf_tal.specs.Fault.{tal_fault_number}
-use Rattle.edf_tal.specs.Block.{IsBlocksFault}
+use Rattle.std.proofs.lemmas.Bool.{cases_lt}
+use Rattle.edf_tal.specs.Tal.{Tal, Annotation, AreTalsAndZeros, AreBlocks, first_tals, all_tals}
+use Rattle.edf_tal.specs.Tal.{HaveUtf8Texts, IsTimed, IsTalInWindow, instant, tal_annotations}
+use Rattle.edf_tal.specs.Tal.{annotations, record_start}
+use Rattle.edf_tal.specs.Block.{AreRead, IsRead, IsWithinLimits, KeepsPlace}
+use Rattle.edf_tal.specs.Condition.{IsBroken, HasBadText}
+use Rattle.edf_tal.specs.Block.{BlocksFail, IsBlocksFault, IsBlockFault}
+use Rattle.edf_tal.specs.Block.{tal_fault_number}
 use Rattle.edf_tal.specs.Inside.Scan.{NoTal, IsTalAtFront, KeepsSecond, KeepsOrder}
-use Rattle.edf_tal.specs.Inside.Blocks.{AreSurveyed, IsChecked}
+use Rattle.edf_tal.specs.Inside.Blocks.{AreSurveyed, HasForm, IsChecked}
 use Rattle.edf_tal.specs.declared.blocks.Sums.{Sums}
+use Rattle.edf_tal.specs.declared.blocks.Form.{Form}
+use Rattle.edf_tal.specs.declared.blocks.Form.TheVariants.{Good, BadText}
 use Rattle.edf_tal.specs.declared.limits.TheConstants.{MOST_ANNOTATIONS, MOST_TEXT_BYTES}
 use Rattle.edf_tal.specs.declared.place.Place.{Place}
 use Rattle.edf_tal.specs.declared.place.Place.TheVariants.{First, After, Any}
@@ -20,22 +24,23 @@ use Rattle.edf_tal.specs.declared.place.TalFault.{TalFault}
 use Rattle.edf_tal.specs.declared.place.TalFault.TheVariants.{Tal as NotTals, Text, NotTimed}
 use Rattle.edf_tal.specs.declared.place.TalFault.TheVariants.{FirstOnset, Window, Order, TooMany}
 use Rattle.edf_tal.specs.declared.place.TalFault.TheVariants.{Memory}
-use Rattle.edf_tal.proofs.Unique.{one-tal}
-use Rattle.edf_tal.proofs.Fronts.{same-front, HasEnd-tal}
-use Rattle.edf_tal.proofs.OneBlock.{zeros-no-tal}
-use Rattle.edf_tal.proofs.Joined.{not-broken, not-bad}
-use Rattle.edf_tal.proofs.OneAnswer.{on-tals}
-use Rattle.edf_tal.proofs.Totals.{text_bytes, note_of}
+use Rattle.edf_tal.proofs.OneBlock.{one-lists}
+use Rattle.edf_tal.proofs.Joined.{not-broken, not-bad, one-broken, one-bad-place}
+use Rattle.edf_tal.proofs.Totals.{text_bytes}
+use Rattle.edf_tal.proofs.Decide.{front}
+use Rattle.edf_tal.proofs.AtLeast.{forms, keeps-second, keeps-order, true-or-not, few-or-not}
+use Rattle.edf_tal.proofs.AtLeast.{empty-or-not}
+use Rattle.edf_tal.proofs.FirstTal.{Known, Dropped, IsEmptyFirst, known, timed, untimed}
+use Rattle.edf_tal.proofs.FirstTal.{dropped-first}
+
+-- a fault on the TALs of blocks is a fault on those TALs
+on-tals : (P : List (List Tal) → Type 0) (bs : List (List ℕ)) (ts us : List (List Tal)) →
+    AreBlocks bs ts → AreBlocks bs us → P ts → ¬ P us → ⊥
+on-tals P bs ts us p q h fails = fails (rw (one-lists bs us ts q p) h)
 
 lowest : (e : TalFault) → tal_fault_number e < 22 → ⊥
 lowest (NotTals offset) h = omega arith
-lowest (Text offset) h = omega arith
-lowest NotTimed h = omega arith
-lowest FirstOnset h = omega arith
-lowest Window h = omega arith
-lowest Order h = omega arith
-lowest TooMany h = omega arith
-lowest Memory h = omega arith
+lowest e h = omega arith
 
 pub fault-tal : (bs : List (List ℕ)) (s : ℕ) (p : Place) (at : ℕ) → IsBroken bs at →
     IsBlocksFault bs s p (NotTals at)
@@ -128,96 +133,6 @@ fault-none b later s p sums v none =
 
 pub fault-empty : (s : ℕ) (p : Place) → IsBlocksFault [] s p NotTimed
 fault-empty s p = fault-lists [] s p [] tt tt (λ h. h)
-
--- blocks of TALs, the first of which is known
-pub record Known (bs : List (List ℕ)) (s : ℕ) (sums : Sums) (t : Tal) : Type 0 where
-  pub more : List Tal
-  pub others : List (List Tal)
-  pub lists : AreBlocks bs ((t ∷ more) ∷ others)
-  pub good : HaveUtf8Texts (all_tals ((t ∷ more) ∷ others))
-  pub window : IsTrue sums.in_window ↔ AllByRecursion (IsTalInWindow s)
-      (all_tals ((t ∷ more) ∷ others))
-  pub count_is : sums.count ≡ length (flat_map (tal_annotations s) (all_tals ((t ∷ more) ∷ others)))
-  pub bytes_is : sums.text_bytes ≡ text_bytes
-      (flat_map (tal_annotations s) (all_tals ((t ∷ more) ∷ others)))
-
-first-of : (b f more : List ℕ) (ts : List Tal) (t : Tal) → AreTalsAndZeros b ts → IsTal f t → b ≡ f
-    ++ more → (us : List Tal) × (ts ≡ t ∷ us)
-first-of b f more [] t (front, zeros, parts, a, are) s e =
-    absurd (zeros-no-tal zeros are f more t (sym (parts ∙ ap (λ (x : List ℕ). x ++ zeros) a) ∙ e) s)
-first-of b f more (u ∷ us) t (front, zeros, parts, (g, r, same, is, others), are) s e =
-    let both = same-front g f (r ++ zeros) more (HasEnd-tal g u is) (HasEnd-tal f t s)
-    (sym (append_assoc g r zeros) ∙ ap (λ (x : List ℕ). x ++ zeros) (sym same) ∙ sym parts
-    ∙ e) in
-    (us, ap (λ (x : Tal). x ∷ us) (one-tal g u t is (rw (both.front) s)))
-
-first-list : (b : List ℕ) (later : List (List ℕ)) (f more : List ℕ) (tss : List (List Tal))
-    (t : Tal) → AreBlocks (b ∷ later) tss → IsTal f t → b ≡ f ++ more
-    → (us : List Tal) × (others : List (List Tal)) × (tss ≡ (t ∷ us) ∷ others)
-first-list b later f more [] t l s e = absurd l
-first-list b later f more (ts ∷ tss) t l s e =
-    let first = first-of b f more ts t l.0 s e in
-    (first.0, tss, ap (λ (x : List Tal). x ∷ tss) first.1)
-
-pub known : (b : List ℕ) (later : List (List ℕ)) (texts rest : List ℕ) (s : ℕ) (sums : Sums)
-    (t : Tal) → AreSurveyed (b ∷ later) s sums → IsTalAtFront b texts rest t
-    → Known (b ∷ later) s sums t
-known b later texts rest s sums t v f =
-    let first = first-list b later f.front rest v.tals t v.lists f.tal f.parts in
-    record {
-      more = first.0;
-      others = first.1;
-      lists = subst (AreBlocks (b ∷ later)) first.2 v.lists;
-      good = subst (λ (ts : List (List Tal)). HaveUtf8Texts (all_tals ts)) first.2 v.good;
-      window = subst (λ (ts : List (List Tal)).
-          IsTrue sums.in_window ↔ AllByRecursion (IsTalInWindow s) (all_tals ts)) first.2 v.window;
-      count_is = v.count_is ∙ ap (λ (ts : List (List Tal)).
-          length (flat_map (tal_annotations s) (all_tals ts))) first.2;
-      bytes_is = v.bytes_is ∙ ap (λ (ts : List (List Tal)).
-          text_bytes (flat_map (tal_annotations s) (all_tals ts))) first.2;
-    }
-
--- a first text that is empty
-first-empty : (xs : List (List ℕ)) (rest : List ℕ) → AllByRecursion IsText xs →
-    ended xs ≡ 20 ∷ rest → (ys : List (List ℕ)) × (xs ≡ [] ∷ ys)
-first-empty [] rest a e = absurd cc
-first-empty ([] ∷ xs) rest a e = (xs, refl)
-first-empty ((b ∷ x) ∷ xs) rest a e = absurd (a.0.0.1 (let z : b ≡ 20 = cc in z))
-
--- its TAL keeps time
-abbrev pub IsEmptyFirst : Tal → Type 0
-IsEmptyFirst t = (xs : List (List ℕ)) × (t.texts ≡ [] ∷ xs)
-
-pub timed : (b texts more : List ℕ) (t : Tal) → IsTalAtFront b texts more t →
-    ((rest : List ℕ) × (texts ≡ 20 ∷ rest)) → IsEmptyFirst t
-timed b texts more t f (rest, e) = first-empty t.texts rest f.tal.are_texts (sym f.texts_are ∙ e)
-
-untimed : (b texts more : List ℕ) (t : Tal) → IsTalAtFront b texts more t →
-    ¬ ((rest : List ℕ) × (texts ≡ 20 ∷ rest)) → ¬ IsEmptyFirst t
-untimed b texts more t f fails (xs, e) = fails (ended xs, f.texts_are ∙ ap ended e)
-
--- the list without the empty first annotation
-pub record Dropped (list : List Annotation) : Type 0 where
-  pub count : length list ≡ suc (length (drop 1 list))
-  pub bytes : text_bytes list ≡ text_bytes (drop 1 list)
-
-dropped : (a : Annotation) (list : List Annotation) → a.text ≡ [] → Dropped (a ∷ list)
-dropped a list e = record {
-  count = refl;
-  bytes = sum_by-cons (λ (x : Annotation). length x.text) a list
-      ∙ ap (λ (x : List ℕ). length x + text_bytes list) e
-      ∙ (let z : 0 + text_bytes list ≡ text_bytes list = omega arith in z);
-}
-
-pub dropped-first : (s : ℕ) (t : Tal) (ts : List Tal) (xs : List (List ℕ)) → t.texts ≡ [] ∷ xs →
-    Dropped (flat_map (tal_annotations s) (t ∷ ts))
-dropped-first s t ts xs e =
-    let same : flat_map (tal_annotations s) (t ∷ ts) ≡ note_of (instant s t.onset) t.duration
-    [] ∷ (map (note_of (instant s t.onset) t.duration) xs ++ flat_map (tal_annotations s) ts) =
-    ap (λ (w : List (List ℕ)). map (note_of (instant s t.onset) t.duration) w
-    ++ flat_map (tal_annotations s) ts) e in
-    rw same (dropped (note_of (instant s t.onset) t.duration [])
-    (map (note_of (instant s t.onset) t.duration) xs ++ flat_map (tal_annotations s) ts) refl)
 
 keeps-place : (p : Place) (s : ℕ) (t : Tal) (ts : List Tal) → KeepsSecond p t.onset →
     KeepsOrder p (instant s t.onset) → KeepsPlace p s (t ∷ ts)
@@ -345,3 +260,164 @@ fault-order bs s (After before duration) sums t k timed second window fails = re
       (λ h. window) (λ h. absurd (omega arith)));
 }
 fault-order bs s Any sums t k timed second window fails = absurd (fails tt)
+
+-- ---- one answer
+
+pub record SameAnswer (m n : ℕ) (k l : List Annotation) : Type 0 where
+  pub start : m ≡ n
+  pub list : k ≡ l
+
+pub blocks-one-read : (bs : List (List ℕ)) (s : ℕ) (p : Place) (m n : ℕ) (k l : List Annotation) →
+    AreRead bs s p m k → AreRead bs s p n l → SameAnswer m n k l
+blocks-one-read bs s p m n k l r q =
+    let same = one-lists bs r.tals q.tals r.lists q.lists in
+    record {
+      start = r.start_is ∙ ap (λ (ts : List (List Tal)). record_start s (first_tals ts)) same
+          ∙ sym q.start_is;
+      list = r.list_is ∙ ap (λ (ts : List (List Tal)). annotations s (all_tals ts)) same
+          ∙ sym q.list_is;
+    }
+
+-- blocks that are read have no fault
+no-fault : (bs : List (List ℕ)) (s : ℕ) (p : Place) (m : ℕ) (l : List Annotation) (e : TalFault) →
+    AreRead bs s p m l → BlocksFail bs s p e → ⊥
+no-fault bs s p m l (NotTals offset) r f = not-broken bs r.tals offset r.lists f
+no-fault bs s p m l (Text offset) r f = not-bad bs r.tals offset r.lists r.good f.1
+no-fault bs s p m l NotTimed r (us, w, fails) =
+    on-tals (λ (ts : List (List Tal)). IsTimed (first_tals ts)) bs r.tals us r.lists w r.timed fails
+no-fault bs s First m l FirstOnset r (us, w, fails) =
+    on-tals (λ (ts : List (List Tal)). KeepsPlace First s (first_tals ts)) bs r.tals us r.lists w
+    r.keeps fails
+no-fault bs s (After before duration) m l FirstOnset r f = f
+no-fault bs s Any m l FirstOnset r f = f
+no-fault bs s p m l Window r (us, w, fails) =
+    on-tals (λ (ts : List (List Tal)). AllByRecursion (IsTalInWindow s) (all_tals ts)) bs r.tals us
+    r.lists w r.window fails
+no-fault bs s First m l Order r f = f
+no-fault bs s (After before duration) m l Order r (us, w, fails) =
+    on-tals (λ (ts : List (List Tal)). KeepsPlace (After before duration) s (first_tals ts)) bs
+    r.tals us r.lists w r.keeps fails
+no-fault bs s Any m l Order r f = f
+no-fault bs s p m l TooMany r (us, w, fails) =
+    on-tals (λ (ts : List (List Tal)). IsWithinLimits (annotations s (all_tals ts))) bs r.tals us
+    r.lists w (subst IsWithinLimits r.list_is r.limits) fails
+no-fault bs s p m l Memory r f = f
+
+pub blocks-read-no-fault : (bs : List (List ℕ)) (s : ℕ) (p : Place) (m : ℕ) (l : List Annotation)
+    (e : TalFault) → AreRead bs s p m l → ¬ IsBlocksFault bs s p e
+blocks-read-no-fault bs s p m l e r f = no-fault bs s p m l e r f.holds
+
+-- faults of one number
+same-number : (bs : List (List ℕ)) (s : ℕ) (p : Place) (e f : TalFault) →
+    tal_fault_number e ≡ tal_fault_number f → BlocksFail bs s p e → BlocksFail bs s p f → e ≡ f
+same-number bs s p (NotTals m) (NotTals n) same h g =
+    ap (λ (k : ℕ). NotTals k) (one-broken bs m n h g)
+same-number bs s p (Text m) (Text n) same h g =
+    ap (λ (k : ℕ). Text k) (one-bad-place bs m n h.1 g.1)
+same-number bs s p NotTimed NotTimed same h g = refl
+same-number bs s p FirstOnset FirstOnset same h g = refl
+same-number bs s p Window Window same h g = refl
+same-number bs s p Order Order same h g = refl
+same-number bs s p TooMany TooMany same h g = refl
+same-number bs s p Memory Memory same h g = refl
+same-number bs s p e f same h g = absurd (omega arith)
+
+pub blocks-one-fault : (bs : List (List ℕ)) (s : ℕ) (p : Place) (e f : TalFault) →
+    IsBlocksFault bs s p e → IsBlocksFault bs s p f → e ≡ f
+blocks-one-fault bs s p e f h g =
+    elim (cases_lt (tal_fault_number e) (tal_fault_number f)) [
+      | inl low ↦ absurd (g.first e low h.holds)
+      | inr high ↦ elim (cases_lt (tal_fault_number f) (tal_fault_number e)) [
+        | inl low ↦ absurd (h.first f low g.holds)
+        | inr high' ↦ same-number bs s p e f (omega arith) h.holds g.holds
+      ]
+    ]
+
+-- ---- an answer
+
+-- a start and a list, or a fault
+abbrev pub HaveAnswer : List (List ℕ) → ℕ → Place → Type 0
+HaveAnswer bs s p = ((start : ℕ) × (list : List Annotation) × AreRead bs s p start list)
+    ⊎ ((e : TalFault) × IsBlocksFault bs s p e)
+
+-- of TALs and zeros, the first of which is known
+module _ (bs : List (List ℕ)) (s : ℕ) (p : Place) (sums : Sums) (t : Tal) (k : Known bs s sums t)
+    (empty : IsEmptyFirst t) where
+  by-limits : KeepsSecond p t.onset → IsTrue sums.in_window → KeepsOrder p (instant s t.onset) →
+      HaveAnswer bs s p
+  by-limits second window order =
+      elim (few-or-not sums.count sums.text_bytes) [
+        | inl few ↦ let c = checked bs s p sums t k (instant s t.onset) empty second window refl
+            order few in inl (instant s t.onset, c.list, c.read)
+        | inr many ↦ inr (TooMany, fault-many bs s p sums t k empty second window order many)
+      ]
+
+  by-rules : HaveAnswer bs s p
+  by-rules =
+      elim (keeps-second p t.onset) [
+        | inl second ↦ elim (true-or-not sums.in_window) [
+          | inl window ↦ elim (keeps-order p (instant s t.onset)) [
+            | inl order ↦ by-limits second window order
+            | inr fails ↦ inr (Order, fault-order bs s p sums t k empty second window fails)
+          ]
+          | inr fails ↦ inr (Window, fault-window bs s p sums t k empty second fails)
+        ]
+        | inr fails ↦ inr (FirstOnset, fault-second bs s p sums t k empty fails)
+      ]
+
+-- of TALs and zeros
+judged : (bs : List (List ℕ)) (s : ℕ) (p : Place) (sums : Sums) → AreSurveyed bs s sums →
+    HaveAnswer bs s p
+judged [] s p sums v = inr (NotTimed, fault-empty s p)
+judged (b ∷ bs) s p sums v =
+    elim (front b) [
+      | inl f ↦
+          let k = known b bs f.texts f.rest s sums f.tal v f.is_front in
+          elim (empty-or-not f.texts) [
+            | inl e ↦ by-rules (b ∷ bs) s p sums f.tal k (timed b f.texts f.rest f.tal f.is_front e)
+            | inr never ↦ inr (
+              NotTimed,
+              fault-untimed (b ∷ bs) s p sums f.tal k b f.texts f.rest
+                  f.is_front never,
+            )
+          ]
+      | inr none ↦ inr (NotTimed, fault-none b bs s p sums v none)
+    ]
+
+by-form : (bs : List (List ℕ)) (s : ℕ) (p : Place) (f : Form) → HasForm bs s f → HaveAnswer bs s p
+by-form bs s p (Good sums) v = judged bs s p sums v
+by-form bs s p (BadText at) h = inr (Text at, fault-text bs s p at h.0 h.1)
+
+pub blocks-some-answer : (bs : List (List ℕ)) (s : ℕ) (p : Place) → HaveAnswer bs s p
+blocks-some-answer bs s p = elim (forms bs s) [
+  | inl f ↦ by-form bs s p f.0 f.1
+  | inr x ↦
+      inr (NotTals x.0, fault-tal bs s p x.0 x.1)
+]
+
+pub blocks-no-memory : (bs : List (List ℕ)) (s : ℕ) (p : Place) → ¬ IsBlocksFault bs s p Memory
+blocks-no-memory bs s p f = f.holds
+
+-- ---- the same of a data record with one block
+
+pub one-read : (b : List ℕ) (s : ℕ) (p : Place) (m n : ℕ) (k l : List Annotation) →
+    IsRead b s p m k → IsRead b s p n l → SameAnswer m n k l
+one-read b s p m n k l r q = blocks-one-read (b ∷ []) s p m n k l r q
+
+pub read-no-fault : (b : List ℕ) (s : ℕ) (p : Place) (m : ℕ) (l : List Annotation) (e : TalFault) →
+    IsRead b s p m l → ¬ IsBlockFault b s p e
+read-no-fault b s p m l e r = blocks-read-no-fault (b ∷ []) s p m l e r
+
+pub one-fault : (b : List ℕ) (s : ℕ) (p : Place) (e f : TalFault) → IsBlockFault b s p e →
+    IsBlockFault b s p f → e ≡ f
+one-fault b s p e f h g = blocks-one-fault (b ∷ []) s p e f h g
+
+abbrev pub HasAnswer : List ℕ → ℕ → Place → Type 0
+HasAnswer b s p = ((start : ℕ) × (list : List Annotation) × IsRead b s p start list)
+    ⊎ ((e : TalFault) × IsBlockFault b s p e)
+
+pub some-answer : (b : List ℕ) (s : ℕ) (p : Place) → HasAnswer b s p
+some-answer b s p = blocks-some-answer (b ∷ []) s p
+
+pub no-memory : (b : List ℕ) (s : ℕ) (p : Place) → ¬ IsBlockFault b s p Memory
+no-memory b s p = blocks-no-memory (b ∷ []) s p

@@ -4,15 +4,15 @@ pub mod OneBlock
 pub mod Joined
 pub mod Cuts
 pub mod BadText
-pub mod OneAnswer
 pub mod Again
 pub mod ReadAnnotations
 pub mod Heads
 pub mod Surveys
 pub mod Totals
-pub mod Judge
 pub mod Lists
 pub mod BlockLength
 pub mod Decide
 pub mod AtLeast
+pub mod FirstTal
+pub mod Judge
 pub mod Cited

@@ -1,7 +1,7 @@
 -- The list of a data record's annotations, as far as it is made.
-use Rattle.std.proofs.Common.{◌≡◌, ℕ, ◌<◌, Bool, List, [], ◌∷◌, ◌++◌, drop, map, arith, refl, sym}
-use Rattle.std.proofs.Common.{ap, ◌∙◌, subst, append_assoc, Option, Some, None}
-use Rattle.std.specs.Prelude.{IsUtf8, IfSome}
+use Rattle.std.proofs.Common.{◌≡◌, ℕ, Bool, List, [], ◌∷◌, ◌++◌, drop, map, refl, sym}
+use Rattle.std.proofs.Common.{ap, ◌∙◌, subst, append_assoc, Option}
+use Rattle.std.specs.Prelude.{IsUtf8}
 use Rattle.std.specs.List.{AllByRecursion, flat_map}
 use Rattle.std.proofs.lemmas.List.{append-nil}
 use Rattle.edf_time.specs.Civil.{window}
@@ -23,11 +23,6 @@ pub record HasPushed (onset : ℕ) (duration : Option ℕ) (texts rest : List �
   pub are_all : AreTexts texts all
   pub are_left : AreTexts rest left
   pub items : old ++ map (note_of onset duration) all ≡ new ++ map (note_of onset duration) left
-
-pub pushed-none : (onset : ℕ) (duration : Option ℕ) (texts : List ℕ) (old : List Annotation) →
-    ((xs : List (List ℕ)) × AreTexts texts xs) → HasPushed onset duration texts texts old old
-pushed-none onset duration texts old (xs, a) =
-    record { all = xs; left = xs; are_all = a; are_left = a; items = refl }
 
 pub record NextText (text more : List ℕ) (left : List (List ℕ)) : Type 0 where
   pub others : List (List ℕ)
@@ -105,14 +100,6 @@ pushed-all onset duration texts rest old new h lacks xs a =
     ∙ sym (ap (λ (w : List (List ℕ)). new ++ map (note_of onset duration) w) none) ∙ sym h.items
     ∙ ap (λ (w : List (List ℕ)). old ++ map (note_of onset duration) w) same
 
--- a duration in the window is exact
-pub duration-exact : (d e : Option ℕ) → TellsDuration d e → IfSome e (λ n. n < window) → d ≡ e
-duration-exact None None t h = refl
-duration-exact (Some n) (Some m) t h =
-    ap (λ (k : ℕ). Some k) (let same : n ≡ m = omega arith in same)
-duration-exact None (Some m) t h = absurd t
-duration-exact (Some n) None t h = absurd t
-
 -- the annotations of the TALs so far
 pub record HasPushedTals (file_start : ℕ) (tals rest : List ℕ) (old new : List Annotation) : Type 0
   where
@@ -122,17 +109,6 @@ pub record HasPushedTals (file_start : ℕ) (tals rest : List ℕ) (old new : Li
     pub are_left : AreSoundTals rest file_start left
     pub items : old ++ flat_map (tal_annotations file_start) all ≡ new
         ++ flat_map (tal_annotations file_start) left
-
-pub tals-none : (s : ℕ) (tals : List ℕ) (old : List Annotation) →
-    ((ts : List Tal) × AreSoundTals tals s ts) → HasPushedTals s tals tals old old
-tals-none s tals old (ts, a) = record {
-  all = ts;
-  left = ts;
-  are_all = a;
-  are_left = a;
-  items =
-      refl;
-}
 
 -- the TAL at the front is the first of them
 pub record NextTal (s : ℕ) (rest texts : List ℕ) (t : Tal) (left : List Tal) : Type 0 where

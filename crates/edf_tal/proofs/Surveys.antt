@@ -1,11 +1,11 @@
 -- One after another, the texts of a TAL, and the TALs of a block.
-use Rattle.std.proofs.Common.{◌≡◌, ℕ, ◌+◌, ◌-◌, ◌≤◌, List, [], ◌∷◌, ◌++◌, length, arith, refl, sym}
+use Rattle.std.proofs.Common.{◌≡◌, ℕ, ◌+◌, ◌-◌, ◌≤◌, List, [], ◌∷◌, ◌++◌, length, arith, sym}
 use Rattle.std.proofs.Common.{ap, ◌∙◌, append_assoc}
 use Rattle.std.specs.Prelude.{IsUtf8}
 use Rattle.std.specs.List.{AllByRecursion}
 use Rattle.std.proofs.lemmas.List.{append-nil, length-append}
 use Rattle.edf_tal.specs.Tal.{ended}
-use Rattle.edf_tal.specs.Inside.Scan.{Lacks, IsBadAmong, AreGoodTexts}
+use Rattle.edf_tal.specs.Inside.Scan.{Lacks}
 
 -- the texts so far
 pub record HasChecked (texts rest : List ℕ) (count : ℕ) : Type 0 where
@@ -13,9 +13,6 @@ pub record HasChecked (texts rest : List ℕ) (count : ℕ) : Type 0 where
   pub parts : texts ≡ ended list ++ rest
   pub good : AllByRecursion (λ x. Lacks 20 x × IsUtf8 x) list
   pub count_is : count ≡ length list
-
-pub checked-none : (texts : List ℕ) → HasChecked texts texts 0
-checked-none texts = record { list = []; parts = refl; good = tt; count_is = refl }
 
 ended-append : (xs : List (List ℕ)) (x : List ℕ) → ended (xs ++ x ∷ []) ≡ ended xs ++ (x ++ 20 ∷ [])
 ended-append [] x = append-nil (x ++ 20 ∷ [])
@@ -40,33 +37,6 @@ checked-more texts rest text more count h lacks e u = record {
   count_is = let c : count ≡ length h.list = h.count_is in
       omega (arith, length-append h.list (text ∷ []));
 }
-
-pub checked-bad : (texts rest text more : List ℕ) (count : ℕ) → HasChecked texts rest count →
-    Lacks 20 text → rest ≡ text ++ 20 ∷ more → ¬ IsUtf8 text
-    → IsBadAmong texts (length texts - length rest)
-checked-bad texts rest text more count h lacks e bad = record {
-  good = h.list;
-  text = text;
-  back = more;
-  parts = h.parts ∙ ap (λ (w : List ℕ). ended h.list ++ w) e;
-  good_texts = h.good;
-  is_text = lacks;
-  bad = bad;
-  at_is = omega (arith, ap length h.parts, length-append (ended h.list) rest);
-}
-
-pub checked-all : (texts rest : List ℕ) (count : ℕ) → HasChecked texts rest count → Lacks 20 rest →
-    AreGoodTexts texts count
-checked-all texts rest count h lacks =
-    record {
-      list = h.list;
-      rest = rest;
-      parts = h.parts;
-      good = h.good;
-      is_rest = lacks;
-      count_is =
-          h.count_is;
-    }
 
 length-ended : (xs : List (List ℕ)) → length xs ≤ length (ended xs)
 length-ended [] = omega arith

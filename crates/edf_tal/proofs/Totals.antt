@@ -1,46 +1,22 @@
 -- One after another, the TALs of a block.
 use Rattle.std.proofs.Common.{◌≡◌, ℕ, ◌+◌, ◌-◌, ◌≤◌, ◌<◌, Bool, true, false, ◌&&◌, List, [], ◌∷◌}
 use Rattle.std.proofs.Common.{◌++◌, length, map, arith, refl, sym, ap, ◌∙◌, subst, append_assoc}
-use Rattle.std.proofs.Common.{pos, neg_ℤ, Option, Some, None}
-use Rattle.std.specs.Prelude.{IsTrue, IsUtf8, sum_by, unsigned_abs, ◌+ℤ◌, IfSome, ◌↔◌}
+use Rattle.std.proofs.Common.{Option, Some, None}
+use Rattle.std.specs.Prelude.{IsTrue, IsUtf8, sum_by, IfSome, ◌↔◌}
 use Rattle.std.specs.List.{AllByRecursion, flat_map}
 use Rattle.std.proofs.lemmas.List.{append-nil, length-append, length-map}
 use Rattle.std.proofs.lemmas.List.Sums.{sum_by-append, sum_by-cons}
-use Rattle.std.proofs.lemmas.Int.{ints}
-use Rattle.edf_time.specs.Civil.{window, IsInWindow}
+use Rattle.edf_time.specs.Civil.{window}
 use Rattle.edf_tal.specs.Tal.{Tal, Annotation, IsText, ended, AreTals, IsTalInWindow, instant}
 use Rattle.edf_tal.specs.Tal.{tal_annotations}
-use Rattle.edf_tal.specs.Block.{IsBadText}
-use Rattle.edf_tal.specs.Inside.Scan.{Lacks, capped, TellsDuration, IsTalAtFront, IsBadAmong}
+use Rattle.edf_tal.specs.Condition.{IsBadText}
+use Rattle.edf_tal.specs.Inside.Scan.{Lacks, TellsDuration, IsTalAtFront, IsBadAmong}
 use Rattle.edf_tal.specs.Inside.Scan.{AreGoodTexts, FollowsTals, IsSurvey}
 use Rattle.edf_tal.proofs.Unique.{same-sides, not-both, Lacks-text}
 use Rattle.edf_tal.proofs.Fronts.{AreTals-more, NoZero-ended}
 use Rattle.edf_tal.proofs.OneBlock.{tal-sides}
 use Rattle.edf_tal.proofs.BadText.{IsBadFront, bad-join, first-text}
 use Rattle.edf_tal.proofs.Surveys.{all-more}
-
--- the instant of an onset
-pub ahead-in : (s m n : ℕ) → s < window → n ≡ capped m → s + n < window →
-    IsInWindow (pos s +ℤ pos m) × (s + n ≡ instant s (pos m))
-ahead-in s m n low e h = (
-  record { from = omega (arith, ints); to = omega (arith, ints) },
-  omega arith,
-)
-
-pub ahead-out : (s m n : ℕ) → n ≡ capped m → window ≤ s + n → ¬ IsInWindow (pos s +ℤ pos m)
-ahead-out s m n e h w = let t = w.to in absurd (omega (arith, ints))
-
-pub back-in : (s m n : ℕ) → s < window → n ≡ capped m → n ≤ s → IsInWindow (pos s +ℤ neg_ℤ (pos m))
-    × (s - n ≡ instant s (neg_ℤ (pos m)))
-back-in s m n low e h =
-    let z : pos s +ℤ neg_ℤ (pos m) ≡ pos (s - n) = omega (arith, ints) in (
-      rw z (record { from = omega (arith, ints); to = omega (arith, ints) }),
-      sym (ap unsigned_abs z),
-    )
-
-pub back-out : (s m n : ℕ) → s < window → n ≡ capped m → s < n →
-    ¬ IsInWindow (pos s +ℤ neg_ℤ (pos m))
-back-out s m n low e h w = let f = w.from in absurd (omega (arith, ints))
 
 -- a duration
 pub duration-tells : (d e : Option ℕ) → TellsDuration d e → IfSome d (λ n. n < window) →
@@ -277,17 +253,12 @@ good-count texts n g =
     let c : n ≡ length g.list = g.count_is in
     omega (arith, ap length g.parts, length-append (ended g.list) g.rest, length-ended-is g.list)
 
-pub bad-place : (texts : List ℕ) (at : ℕ) → IsBadAmong texts at → at ≤ length texts
-bad-place texts at b =
-    let p : at ≡ length (ended b.good) = b.at_is in
-    omega (arith, ap length b.parts, length-append (ended b.good) (b.text ++ 20 ∷ b.back))
-
 -- texts without a byte 0
 Lacks-front : (c : ℕ) (a b : List ℕ) → Lacks c (a ++ b) → Lacks c a
 Lacks-front c [] b p = tt
 Lacks-front c (x ∷ a) b p = (p.0, Lacks-front c a b p.1)
 
-Lacks-back : (c : ℕ) (a b : List ℕ) → Lacks c (a ++ b) → Lacks c b
+pub Lacks-back : (c : ℕ) (a b : List ℕ) → Lacks c (a ++ b) → Lacks c b
 Lacks-back c [] b p = p
 Lacks-back c (x ∷ a) b p = Lacks-back c a b p.1
 

@@ -1,11 +1,10 @@
 -- What the blocks of a data record say of it, and when they are refused.
-use Rattle.std.specs.Prelude.{◌≡◌, ℕ, ◌+◌, ◌^◌, ◌≤◌, ◌<◌, List, [], ◌∷◌, ◌++◌, length, take, drop}
-use Rattle.std.specs.Prelude.{sum_by, ℤ, pos, ◌≤ℤ◌, ◌<ℤ◌, Option, IsUtf8}
+use Rattle.std.specs.Prelude.{◌≡◌, ℕ, ◌+◌, ◌^◌, ◌≤◌, ◌<◌, List, [], ◌∷◌, length, take, drop}
+use Rattle.std.specs.Prelude.{sum_by, ℤ, pos, ◌≤ℤ◌, ◌<ℤ◌, Option, Some, None, codes}
 use Rattle.std.specs.List.{AllByRecursion}
-use Rattle.edf_tal.specs.Tal.{Tal, Annotation, IsOnset, IsDurationPart, IsText, ended, AreTals}
-use Rattle.edf_tal.specs.Tal.{AreTalsAndZeros, AreBlocks, first_tals, all_tals, HaveUtf8Texts}
+use Rattle.edf_tal.specs.Condition.{IsBroken, HasBadText}
+use Rattle.edf_tal.specs.Tal.{Tal, Annotation, AreBlocks, first_tals, all_tals, HaveUtf8Texts}
 use Rattle.edf_tal.specs.Tal.{IsTimed, IsTalInWindow, annotations, record_start}
-use Rattle.edf_tal.specs.Fault.{tal_fault_number}
 use Rattle.edf_tal.specs.declared.limits.TheConstants.{MOST_ANNOTATIONS, MOST_TEXT_BYTES}
 use Rattle.edf_tal.specs.declared.place.Place.{Place}
 use Rattle.edf_tal.specs.declared.place.Place.TheVariants.{First, After}
@@ -44,58 +43,32 @@ pub record AreRead (blocks : List (List ℕ)) (file_start : ℕ) (place : Place)
 abbrev pub IsRead : List ℕ → ℕ → Place → ℕ → List Annotation → Type 0
 IsRead block file_start place start list = AreRead (block ∷ []) file_start place start list
 
--- the longest front that is whole TALs has n bytes
-pub record IsLongestFront (bytes : List ℕ) (n : ℕ) : Type 0 where
-  pub tals : List Tal
-  pub within : n ≤ length bytes
-  pub front : AreTals (take n bytes) tals
-  pub longest : (m : ℕ) (others : List Tal) → m ≤ length bytes → AreTals (take m bytes) others →
-      m ≤ n
+-- the numbers of the faults, by which they are ordered, their names, and the offsets that they name
+abbrev pub tal_fault_number : TalFault → ℕ
+tal_fault_number (NotTals offset) = 22
+tal_fault_number (Text offset) = 23
+tal_fault_number NotTimed = 24
+tal_fault_number FirstOnset = 25
+tal_fault_number Window = 26
+tal_fault_number Order = 27
+tal_fault_number TooMany = 28
+tal_fault_number Memory = 41
 
--- the first text that is not UTF-8 begins at `at`: after whole TALs and texts of its own TAL, all
--- of which are UTF-8
-pub record IsBadText (bytes : List ℕ) (at : ℕ) : Type 0 where
-  pub front : List ℕ
-  pub tals : List Tal
-  pub onset : List ℕ
-  pub duration : List ℕ
-  pub good : List (List ℕ)
-  pub text : List ℕ
-  pub back : List ℕ
-  pub parts : bytes ≡ front ++ onset ++ duration ++ 20 ∷ ended good ++ text ++ 20 ∷ back
-  pub whole : AreTals front tals
-  pub front_good : HaveUtf8Texts tals
-  pub is_onset : (z : ℤ) × IsOnset onset z
-  pub is_duration : (d : Option ℕ) × IsDurationPart duration d
-  pub good_texts : AllByRecursion (λ x. IsText x × IsUtf8 x) good
-  pub is_text : IsText text
-  pub bad : ¬ IsUtf8 text
-  pub at_is : at ≡ length front + length onset + length duration + 1 + length (ended good)
+abbrev pub tal_fault_name : TalFault → List ℕ
+tal_fault_name (NotTals offset) = codes "Tal"
+tal_fault_name (Text offset) = codes "Text"
+tal_fault_name NotTimed = codes "NotTimed"
+tal_fault_name FirstOnset = codes "FirstOnset"
+tal_fault_name Window = codes "Window"
+tal_fault_name Order = codes "Order"
+tal_fault_name TooMany = codes "TooMany"
+tal_fault_name Memory = codes "Memory"
 
--- the first block that is not TALs and zeros: the longest front of whole TALs ends at `offset` in
--- it, and at `at` in the blocks joined
-pub record IsBroken (blocks : List (List ℕ)) (at : ℕ) : Type 0 where
-  pub front : List (List ℕ)
-  pub block : List ℕ
-  pub back : List (List ℕ)
-  pub offset : ℕ
-  pub parts : blocks ≡ front ++ block ∷ back
-  pub whole : (tss : List (List Tal)) × AreBlocks front tss
-  pub broken : (ts : List Tal) → ¬ AreTalsAndZeros block ts
-  pub longest : IsLongestFront block offset
-  pub at_is : at ≡ sum_by length front + offset
-
--- the first text of all blocks that is not UTF-8: it is at `offset` in its block, and at `at` in
--- the blocks joined
-pub record HasBadText (blocks : List (List ℕ)) (at : ℕ) : Type 0 where
-  pub front : List (List ℕ)
-  pub block : List ℕ
-  pub back : List (List ℕ)
-  pub offset : ℕ
-  pub parts : blocks ≡ front ++ block ∷ back
-  pub good : (tss : List (List Tal)) × AreBlocks front tss × HaveUtf8Texts (all_tals tss)
-  pub bad : IsBadText block offset
-  pub at_is : at ≡ sum_by length front + offset
+-- the offset, which counts from 0 over the blocks joined
+abbrev pub tal_fault_offset : TalFault → Option ℕ
+tal_fault_offset (NotTals offset) = Some offset
+tal_fault_offset (Text offset) = Some offset
+tal_fault_offset fault = None
 
 -- the fault is true of the blocks of a data record that is at this place
 abbrev pub BlocksFail : List (List ℕ) → ℕ → Place → TalFault → Type 0

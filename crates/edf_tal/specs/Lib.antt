@@ -1,5 +1,5 @@
 pub mod Tal
-pub mod Fault
+pub mod Condition
 pub mod Block
 pub mod Canonical
 pub mod Inside

@@ -2,7 +2,8 @@ ghost use Rattle.std.specs.Prelude.{◌≡◌, ℕ, ◌^◌, ◌<◌, ◌↔◌,
 ghost use Rattle.std.specs.Prelude.{List, [], ◌∷◌, ◌++◌, length, sum, sum_by};
 ghost use Rattle.std.specs.List.{flat_map};
 ghost use Rattle.edf_tal.specs.Tal.{Tal, all_tals, tal_annotations};
-ghost use Rattle.edf_tal.specs.Block.{IsBroken, IsBlocksFault, cut};
+ghost use Rattle.edf_tal.specs.Block.{IsBlocksFault, cut};
+ghost use Rattle.edf_tal.specs.Condition.{IsBroken};
 ghost use Rattle.edf_tal.specs.Inside.Scan.{AreZeros};
 ghost use Rattle.edf_tal.specs.Inside.Blocks.{AreSurveyed, HasForm, AreSoundLists};
 ghost use Rattle.edf_tal.specs.declared.place.Place.{Place};

@@ -1,4 +1,4 @@
-ghost use Rattle.std.specs.Prelude.{◌≡◌, ℕ, ◌+◌, ◌^◌, ◌≤◌, ◌<◌, ◌↔◌, ℤ, MatchResult, IsTrue};
+ghost use Rattle.std.specs.Prelude.{◌≡◌, ℕ, ◌+◌, ◌≤◌, ◌<◌, ◌↔◌, ℤ, MatchResult, IsTrue};
 ghost use Rattle.std.specs.Prelude.{List, ◌∷◌};
 ghost use Rattle.edf_tal.specs.Block.{IsBlocksFault, cut};
 ghost use Rattle.edf_tal.specs.Inside.Scan.{TellsOnset, KeepsSecond, KeepsOrder};

@@ -1,7 +1,7 @@
-ghost use Rattle.std.specs.Prelude.{◌≡◌, ◌≢◌, ℕ, ◌+◌, ◌^◌, ◌≤◌, ◌<◌, ◌↔◌, ◌∷◌, ◌++◌, ℤ, List};
-ghost use Rattle.std.specs.Prelude.{Option, length, MatchOption, MatchResult, IsTrue, IsUtf8};
+ghost use Rattle.std.specs.Prelude.{◌≡◌, ℕ, ◌+◌, ◌<◌, ◌↔◌, ◌∷◌, ◌++◌, ℤ};
+ghost use Rattle.std.specs.Prelude.{Option, MatchOption, MatchResult, IsTrue, IsUtf8};
 ghost use Rattle.edf_time.specs.Decimal.{IsSeconds};
-ghost use Rattle.edf_tal.specs.Tal.{Tal, IsTal};
+ghost use Rattle.edf_tal.specs.Tal.{Tal};
 ghost use Rattle.edf_tal.specs.Inside.Scan.{Lacks, NoTal, capped, IsTimes, IsHead, TellsOnset};
 ghost use Rattle.edf_tal.specs.Inside.Scan.{TellsDuration, EndsWith20, IsTalAtFront, IsBadAmong};
 ghost use Rattle.edf_tal.specs.Inside.Scan.{AreGoodTexts};

@@ -1,8 +1,8 @@
-ghost use Rattle.std.specs.Prelude.{◌≡◌, ℕ, ◌+◌, ◌^◌, ◌≤◌, ◌<◌, ◌↔◌, ℤ, pos, ◌+ℤ◌, MatchOption};
+ghost use Rattle.std.specs.Prelude.{◌≡◌, ◌+◌, ◌<◌, ◌↔◌, ℤ, pos, ◌+ℤ◌, MatchOption};
 ghost use Rattle.std.specs.Prelude.{MatchResult, IsTrue};
-ghost use Rattle.edf_time.specs.Civil.{window, IsInWindow};
+ghost use Rattle.edf_time.specs.Civil.{IsInWindow};
 ghost use Rattle.edf_tal.specs.Tal.{Tal, IsTalInWindow, instant};
-ghost use Rattle.edf_tal.specs.Block.{IsBadText};
+ghost use Rattle.edf_tal.specs.Condition.{IsBadText};
 ghost use Rattle.edf_tal.specs.Inside.Scan.{NoTal, TellsOnset, TellsDuration, FollowsTals};
 ghost use Rattle.edf_tal.specs.Inside.Scan.{IsSurvey};
 

@@ -1,9 +1,8 @@
-ghost use Rattle.std.specs.Prelude.{◌≡◌, ℕ, ◌+◌, ◌-◌, ◌≤◌, ◌<◌, ◌↔◌, ◌++◌, ℤ, pos, ◌-ℤ◌};
-ghost use Rattle.std.specs.Prelude.{unsigned_abs, List, length, IfOk, IfSome, OnOk, IsTrue};
+ghost use Rattle.std.specs.Prelude.{◌≡◌, ◌+◌, ◌-◌, ◌≤◌, ◌<◌, ◌↔◌, ◌++◌, pos, ◌-ℤ◌};
+ghost use Rattle.std.specs.Prelude.{unsigned_abs, length, IfOk, IfSome, OnOk, IsTrue};
 ghost use Rattle.edf_time.specs.Decimal.{short};
 ghost use Rattle.edf_time.specs.Civil.{window};
 ghost use Rattle.std.specs.List.{AllByRecursion};
-ghost use Rattle.edf_tal.specs.Tal.{Annotation};
 ghost use Rattle.edf_tal.specs.Tal.{IsAnnotation};
 ghost use Rattle.edf_tal.specs.Block.{IsWithinLimits};
 ghost use Rattle.edf_tal.specs.Canonical.{onset_text, duration_text, tal_text, block_text};

@@ -78,7 +78,7 @@ pub(crate) fn recording(alloc: Global, cells: &[Vec<u8>]) -> Option<String> {
         return None;
     };
     let field = eighty(text);
-    let Some((day, rest)) = read_recording(&field) else {
+    let Ok((day, rest)) = read_recording(&field) else {
         return String::from_str(alloc, "none").ok();
     };
     let expected = match second.as_slice() {

@@ -1,6 +1,6 @@
 -- A second reading, and the file that is made in it.
 use Rattle.std.proofs.Common.{◌≡◌, ◌≢◌, ℕ, List, [], ◌∷◌, ◌++◌, Bool}
-use Rattle.std.proofs.Common.{true, false, Option, Some, None, refl, sym, ap, ◌∙◌, subst, inl, inr}
+use Rattle.std.proofs.Common.{true, false, Option, Some, None, refl, ap, ◌∙◌, subst, inl, inr}
 use Rattle.std.specs.Prelude.{Result, Ok, Err, IfOk, IfErr, MatchResult, IfSome, All}
 use Rattle.std.proofs.KnownBytes.{Consumes-whole}
 use Rattle.edf_header.specs.Key.{Key}
@@ -9,10 +9,9 @@ use Rattle.edf_fragment.specs.Fragment.{DataRecord, Spells}
 use Rattle.edf_fragment.specs.declared.fault.FragmentFault.{FragmentFault}
 use Rattle.edf_mend.specs.Answers.{AsksCode, IsTrouble}
 use Rattle.edf_mend.specs.Asked.{IsAsked}
-use Rattle.edf_mend.specs.Counts.{CountsCalls}
 use Rattle.edf_mend.specs.Mended.{Mends, TellsNone, SurveysAs}
 use Rattle.edf_mend.specs.declared.fault.MendFault.{MendFault}
-use Rattle.edf_mend.specs.declared.fault.MendFault.TheVariants.{Refused, Code, Read, Write, Memory}
+use Rattle.edf_mend.specs.declared.fault.MendFault.TheVariants.{Write}
 use Rattle.edf_mend.specs.declared.ledger.Ledger.{Ledger}
 use Rattle.edf_mend.specs.declared.rule.Rule.{Rule}
 use Rattle.edf_mend.proofs.OneToOne.{unchanged}
@@ -60,38 +59,13 @@ module _ (bytes given : Option (List ℕ)) (rules : List Rule) (fault : Option F
     welcome = λ e file. welcome file.0 file.1 file.2 e (is ∙ file.3) file.4;
   }
 
-pub counted-writes : (reads reads' writes writes' : ℕ) (result : Result Ledger MendFault) →
-    CountsCalls reads reads' writes writes' result →
-    MatchResult result (λ _. writes' ≡ writes) (CountsWrite writes writes')
-counted-writes reads reads' writes writes' (Ok ledger) counts = counts.1
-counted-writes reads reads' writes writes' (Err (Refused fault)) counts = counts.1
-counted-writes reads reads' writes writes' (Err Code) counts = counts.1
-counted-writes reads reads' writes writes' (Err Read) counts = counts.1
-counted-writes reads reads' writes writes' (Err Write) counts = counts.1
-counted-writes reads reads' writes writes' (Err Memory) counts = counts.1
-
--- no failed write is the reason
-pub not-write : (failed failed' : ℕ) (why : MendFault) → why ≢ Write → failed' ≡ failed →
-    CountsWrite failed failed' why
-not-write failed failed' (Refused fault) not same = same
-not-write failed failed' Code not same = same
-not-write failed failed' Read not same = same
-not-write failed failed' Memory not same = same
-not-write failed failed' Write not same = absurd (not refl)
-
 -- the writer of a file that is left half written, none of whose writes had failed, was taken back
 pub abandoned : (failed failed' start end : ℕ) (why : MendFault) → start ≡ 0 →
     CountsWrite start end why → failed' ≡ failed_with failed end → CountsWrite failed failed' why
-abandoned failed failed' start end (Refused fault) none counts is =
-    is ∙ ap (failed_with failed) (counts ∙ none)
-abandoned failed failed' start end Code none counts is =
-    is ∙ ap (failed_with failed) (counts ∙ none)
-abandoned failed failed' start end Read none counts is =
-    is ∙ ap (failed_with failed) (counts ∙ none)
-abandoned failed failed' start end Memory none counts is =
-    is ∙ ap (failed_with failed) (counts ∙ none)
 abandoned failed failed' start end Write none counts is =
     is ∙ ap (failed_with failed) (counts ∙ ap one_more none)
+abandoned failed failed' start end why none counts is =
+    is ∙ ap (failed_with failed) (counts ∙ none)
 
 -- ---- both readings
 
@@ -123,22 +97,6 @@ module _ (bytes given : Option (List ℕ)) (rules : List Rule) (fault : Option F
     asked = stops.asked;
     welcome = λ file. stops.welcome (welcome-file bytes fault surveyed file) file;
   }
-
--- where the first reading failed
-pub first-failed : (bytes given : Option (List ℕ)) (why : MendFault) → IsTrouble why →
-    IsNotMended bytes given why
-first-failed bytes given (Refused fault) trouble = absurd trouble
-first-failed bytes given Code trouble = absurd trouble
-first-failed bytes given Read trouble = record { asked = λ e. cc; welcome = λ file. tt }
-first-failed bytes given Write trouble = record { asked = λ e. cc; welcome = λ file. tt }
-first-failed bytes given Memory trouble = record { asked = λ e. cc; welcome = λ file. tt }
-
-pub stops-by : (bytes given : Option (List ℕ)) (rules : List Rule)
-    (fault : Option FragmentFault) (why : MendFault) → IsTrouble why →
-    StopsMending bytes given rules fault why
-stops-by bytes given rules fault why trouble =
-    let not = first-failed bytes given why trouble in
-    record { asked = not.asked; welcome = λ e file. not.welcome file }
 
 module _ (bytes given : Option (List ℕ)) (rules : List Rule) (fault : Option FragmentFault)
     (left before after : Option (List ℕ)) (same : left ≡ bytes)

@@ -52,10 +52,7 @@ fewer before after name status up undone = record {
 
 why-undone : (why : MendFault) → why_status why ≢ Done
 why-undone (fault.Refused met) = either-undone (is_trouble (fragment_fault_number met))
-why-undone fault.Code = λ done. cc
-why-undone fault.Read = λ done. cc
-why-undone fault.Write = λ done. cc
-why-undone fault.Memory = λ done. cc
+why-undone why = λ done. cc
 
 kept-undone : (kept : Option (List ℕ)) (status : Status) → status ≢ Done →
     kept_status kept status ≢ Done

@@ -2,10 +2,12 @@
 use Rattle.std.proofs.Common.{◌≡◌, ℕ, ◌+◌, List, [], ◌∷◌, ◌++◌, ap, sym, ◌∙◌, append_assoc, codes}
 use Rattle.std.proofs.Common.{decimal, Option, Some, None, refl, subst, inl, inr}
 use Rattle.std.specs.Prelude.{option_map}
+use Rattle.std.proofs.lemmas.List.{append-nil}
 use Rattle.edf_mend.specs.declared.fault.MendFault.{MendFault}
 use Rattle.edf_mend.specs.declared.fault.MendFault.TheVariants.{Memory}
-use Rattle.edf_program.specs.Output.{Growth, IsWritten}
+use Rattle.edf_program.specs.Output.{Growth, Gets, GetsFront, IsWritten}
 use Rattle.edf_program.proofs.Parts.{four-parts}
+use Rattle.edf_program.proofs.Puts.{grown, gets-after, front-after}
 use Rattle.edf_program.specs.declared.status.Status.{Status}
 use Rattle.edf_program.specs.declared.status.Status.TheVariants.{Trouble}
 use Rattle.edfmend_command.specs.Lines.{at_fault, why_text, why_status, kept_line}
@@ -62,6 +64,56 @@ clock-text records shift front seconds line f s is =
     (append_assoc (decimal records) (codes " shift=") (seconds ++ (10 ∷ [])))
     ∙ ap (λ (t : List ℕ). codes "clock records=" ++ (decimal records
     ++ (codes " shift=" ++ (t ++ (10 ∷ []))))) s
+
+-- ---- a line, and one more
+
+-- what is there of a text is there of a longer one
+pub front-longer : (w : Growth) (bytes more : List ℕ) → GetsFront w bytes →
+    GetsFront w (bytes ++ more)
+front-longer w bytes more front = (
+  record {
+    front = front.0.front;
+    left = front.0.left ++ more;
+    parts = ap (λ (t : List ℕ). t ++ more) front.0.parts
+        ∙ append_assoc front.0.front front.0.left more;
+    wrote = front.0.wrote;
+  },
+  front.1,
+)
+
+-- the part that is left is named behind a line
+pub kept-cut : (w : Growth) (file why : List ℕ) (kept : Option (List ℕ)) (wanted : Status) →
+    GetsFront w (file ++ why) →
+    IsWritten w (file ++ (why ++ kept_line kept)) (kept_status kept wanted) Trouble
+kept-cut w file why kept wanted front =
+    inr (
+      subst (GetsFront w) (append_assoc file why (kept_line kept))
+          (front-longer w (file ++ why) (kept_line kept) front),
+      refl,
+    )
+
+pub kept-none : (w : Growth) (file why : List ℕ) (kept : Option (List ℕ)) (wanted : Status) →
+    kept ≡ None → Gets w (file ++ why) →
+    IsWritten w (file ++ (why ++ kept_line kept)) (kept_status kept wanted) wanted
+kept-none w file why None wanted is got =
+    inl (subst (λ (t : List ℕ). Gets w (file ++ t)) (sym (append-nil why)) got, refl)
+kept-none w file why (Some name) wanted is got = absurd (let e = is in cc)
+
+-- a line after one that was written
+module _ (a : Option (List ℕ)) (old : ℕ) (b : Option (List ℕ)) (mid : ℕ) (c : Option (List ℕ))
+    (new : ℕ) (done line : List ℕ) (wanted status : Status) where
+  pub written-after : Gets (grown a old b mid) done →
+      IsWritten (grown b mid c new) line wanted status →
+      IsWritten (grown a old c new) (done ++ line) wanted status
+  written-after first (inl whole) = inl (
+    gets-after a old b mid c new done line first whole.0,
+    whole.1,
+  )
+  written-after first (inr cut) = inr (
+    front-after a old b mid c new done line [] (done ++ line)
+        (ap (λ (t : List ℕ). done ++ t) (sym (append-nil line))) first cut.0,
+    cut.1,
+  )
 
 -- ---- a part that is left
 

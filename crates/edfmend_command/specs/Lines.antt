@@ -21,6 +21,8 @@ form_text met = codes " refused " ++ (fragment_fault_text met ++ (10 ∷ []))
 -- why a file is not mended, after its name
 abbrev pub why_text : MendFault → List ℕ
 why_text (fault.Refused met) = form_text met
+why_text fault.Identity = codes " refused E4 Patient\n"
+why_text fault.Mark = codes " refused E5 Recording\n"
 why_text fault.Code = codes " names no code of a patient: give one by --patient CODE\n"
 why_text fault.Read = codes " refused E40 Read\n"
 why_text fault.Memory = codes " refused E41 Memory\n"
@@ -28,6 +30,8 @@ why_text fault.Write = codes " refused E43 Write\n"
 
 abbrev pub why_status : MendFault → Status
 why_status (fault.Refused met) = status_of_number (fragment_fault_number met)
+why_status fault.Identity = Refused
+why_status fault.Mark = Refused
 why_status fault.Code = Refused
 why_status fault.Read = Trouble
 why_status fault.Memory = Trouble

@@ -23,7 +23,7 @@ fn hex_digit(n: u8) -> u8
 }
 
 /// Adds a byte of a text in quotes: one that is not printable as `\x` and two digits.
-fn push_byte(text: &mut Vec<u8>, b: u8) -> Result<(), AllocError>
+fn push_quoted_byte(text: &mut Vec<u8>, b: u8) -> Result<(), AllocError>
     ensures { OnOk result (text.new.items ≡ text.old.items ++ quoted_byte b) }
 {
     if b == b'"' || b == b'\\' {
@@ -41,7 +41,7 @@ fn quoted(alloc: Global, bytes: &[u8]) -> Result<Vec<u8>, AllocError>
 {
     let mut text = Vec::new(alloc);
     for b in bytes {
-        push_byte(&mut text, *b)?;
+        push_quoted_byte(&mut text, *b)?;
     }
     joined(alloc, &[b"\"", text.as_slice(), b"\""])
 }

@@ -28,24 +28,6 @@ fn run_over(
     )
 }
 
-/// Standard output and standard error of a command. The lines of files that `split` made may tell
-/// of annotations outside of their run.
-fn streams_of<'t>(
-    rt: &'t HostRuntime,
-    command: &RunsCommand,
-    terminal: &'t Terminal<'t>,
-) -> Streams<'t> {
-    match command {
-        RunsCommand::Split {
-            file: _,
-            prefix: _,
-            is_by_onset: _,
-            joining: _,
-        } => Streams::of_answers(rt, terminal),
-        _ => Streams::new(rt, terminal),
-    }
-}
-
 /// The program.
 struct Edfruns;
 
@@ -63,7 +45,7 @@ impl Program for Edfruns {
 
     fn run(rt: &HostRuntime, command: &RunsCommand) -> Status {
         let terminal = Terminal::new(rt, "reading", command.readings());
-        let mut streams = streams_of(rt, command, &terminal);
+        let mut streams = Streams::new(rt, &terminal);
         let mut inputs = Files::new(rt, &terminal);
         let mut outputs = PartFiles::new(rt, &terminal, NoneBarred);
         let status = run_over(rt, command, &mut inputs, &mut outputs, &mut streams);

@@ -10,8 +10,7 @@ use Rattle.edf_program.specs.Text.{memory_line}
 use Rattle.edf_program.specs.declared.status.Status.{Status}
 use Rattle.edf_program.specs.declared.status.Status.TheVariants.{Done, Trouble}
 use Rattle.edf_runs.specs.declared.fault.WriteFault.{WriteFault}
-use Rattle.edf_runs.specs.declared.fault.WriteFault.TheVariants.{Undated, Changed, Read, Write}
-use Rattle.edf_runs.specs.declared.fault.WriteFault.TheVariants.{Memory as NoMemory}
+use Rattle.edf_runs.specs.declared.fault.WriteFault.TheVariants.{Undated}
 use Rattle.edf_runs.specs.Written.{CountsFault}
 use Rattle.edf_runs.specs.declared.onset_listing.OnsetFault.{OnsetFault}
 use Rattle.edf_runs.specs.declared.onset_listing.OnsetFault.TheVariants as onset
@@ -95,10 +94,7 @@ opened-then before mid after name status first then = record {
 
 wanted-undone : (why : WriteFault) → run_refused_status why ≢ Done
 wanted-undone Undated done = cc
-wanted-undone Changed done = cc
-wanted-undone Read done = cc
-wanted-undone NoMemory done = cc
-wanted-undone Write done = cc
+wanted-undone why done = cc
 
 pub run-undone : (w : Growth) (bytes : List ℕ) (why : WriteFault) (status : Status) →
     IsWritten w bytes (run_refused_status why) status → status ≢ Done
@@ -109,10 +105,7 @@ run-undone w bytes why status = undone w bytes (run_refused_status why) status (
 pub counts-write : (w : Growth) (old new : ℕ) (why : WriteFault) →
     CountsFault old new w.failed_before w.failed_after why → CountsWrite w why
 counts-write w old new Undated counts = counts.1
-counts-write w old new Changed counts = counts.1
-counts-write w old new Read counts = counts.1
-counts-write w old new NoMemory counts = counts.1
-counts-write w old new Write counts = counts.1
+counts-write w old new why counts = counts.1
 
 -- ---- why nothing is written of a file
 

@@ -36,21 +36,10 @@ worse_code Trouble Trouble = refl
 
 by_code : (a b : Status) → exit_code a ≡ exit_code b → a ≡ b
 by_code Done Done is = refl
-by_code Done Refused is = absurd (omega (arith, is))
-by_code Done Usage is = absurd (omega (arith, is))
-by_code Done Trouble is = absurd (omega (arith, is))
-by_code Refused Done is = absurd (omega (arith, is))
 by_code Refused Refused is = refl
-by_code Refused Usage is = absurd (omega (arith, is))
-by_code Refused Trouble is = absurd (omega (arith, is))
-by_code Usage Done is = absurd (omega (arith, is))
-by_code Usage Refused is = absurd (omega (arith, is))
 by_code Usage Usage is = refl
-by_code Usage Trouble is = absurd (omega (arith, is))
-by_code Trouble Done is = absurd (omega (arith, is))
-by_code Trouble Refused is = absurd (omega (arith, is))
-by_code Trouble Usage is = absurd (omega (arith, is))
 by_code Trouble Trouble is = refl
+by_code a b is = absurd (omega (arith, is))
 
 worse_same : (a b : Status) → worse a b ≡ worse b a
 worse_same a b =

@@ -16,7 +16,8 @@ use Rattle.edfruns_command.specs.Lines.{crowded_line}
 use Rattle.edfruns_command.specs.Listing.{HasFault, RefusesFile, LacksMemory}
 use Rattle.edfruns_command.specs.Planning.{HasPlan, HasCrowded}
 
--- a file is planned of each run; or, where short gaps are joined, of the data records that share one
+-- a file is planned of each run; or, where short gaps are joined, of the data records that share
+-- one
 abbrev pub HasJoinedPlan : Option Joining → Bool → Option (List ℕ) → OnsetListing → Type 0
 HasJoinedPlan None by_onset bytes plan = HasPlan by_onset bytes plan
 HasJoinedPlan (Some j) by_onset bytes plan =

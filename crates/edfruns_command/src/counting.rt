@@ -10,8 +10,9 @@ ghost use Rattle.edfruns_command.specs.Counting.{shifted_text};
 ghost use Rattle.edfruns_command.specs.Lines.{IsSpelling};
 
 use crate::lines::gap_text;
+use crate::refusal::STANDARD_OUTPUT;
 use edf_field::MOST_DURATION;
-use edf_fragment::Output;
+use edf_fragment::{Output, Remark};
 use edf_program::{Status, joined, spelled, tell_parts};
 use edf_runs::{OnsetListing, OnsetRun, Run, Written};
 use edf_time::write_seconds;
@@ -162,5 +163,30 @@ pub(crate) fn tell_counted<F: Output>(err: &mut F, front: &[u8], written: &Writt
         outside.format(written.outside).as_bytes(),
         b"\n",
     ];
-    tell_parts(err, &parts, Status::Done)
+    let told = tell_parts(err, &parts, Status::Done);
+    remark_outside(err, first_outside(None, STANDARD_OUTPUT, written));
+    told
+}
+
+/// The first file that has annotations outside of its run, if one of those before has any, or this
+/// one.
+pub(crate) fn first_outside<'a>(
+    before: Option<&'a str>,
+    name: &'a str,
+    written: &Written,
+) -> Option<&'a str> {
+    match before {
+        None if written.outside != 0 => Some(name),
+        _ => before,
+    }
+}
+
+/// Tells a person of a file that has annotations outside of its run, where there is one.
+pub(crate) fn remark_outside<F: Output>(err: &mut F, name: Option<&str>)
+    ensures contents { F.contents err.new ≡ F.contents err.old }
+    ensures failures { F.failures err.new ≡ F.failures err.old }
+{
+    if let Some(name) = name {
+        err.remark(name, Remark::Outside);
+    }
 }

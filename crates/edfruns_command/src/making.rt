@@ -1,6 +1,6 @@
 //! The files of runs, made in a second reading.
 
-ghost use Rattle.std.specs.Prelude.{◌≡◌, ◌≢◌, ◌≤◌, ◌++◌, ℕ, List, All, MatchResult, length, map};
+ghost use Rattle.std.specs.Prelude.{◌≡◌, ◌≤◌, ◌++◌, ℕ, List, All, MatchResult, length, map};
 ghost use Rattle.std.specs.Prelude.{replicate, string_bytes};
 ghost use Rattle.edf_field.specs.Number.{duration_of};
 ghost use Rattle.edf_header.specs.Key.{MayStart};
@@ -12,7 +12,7 @@ ghost use Rattle.edfruns_command.specs.InsideMaking.{MakesFile, StopsFile, Makes
 ghost use Rattle.edfruns_command.specs.InsideMaking.{RereadsWith, StopsMaking, IsStopOf};
 ghost use Rattle.edfruns_command.specs.InsideMaking.{Ends, StopsAtEnd};
 
-use crate::counting::with_line;
+use crate::counting::{first_outside, with_line};
 use crate::stop::Stop;
 use edf_field::MOST_DURATION;
 use edf_fragment::{FragmentFault, Input, OpenFragment};
@@ -20,6 +20,15 @@ use edf_new_files::NewFiles;
 use edf_program::Inputs;
 use edf_runs::{OnsetListing, OnsetRun, WriteFault, Written, reopen_by_onset, write_by_onset};
 use std::alloc::Global;
+
+/// What is told of files that were made.
+#[derive(Drop)]
+pub(crate) struct MadeLines<'a> {
+    /// Their lines.
+    pub(crate) text: Vec<u8>,
+    /// The first of them that has annotations outside of its run, if one has any.
+    pub(crate) outside: Option<&'a str>,
+}
 
 /// Reads on after the last run, where nothing may follow.
 fn expect_end<R: Input>(fragment: &mut OpenFragment, input: &mut R) -> Result<(), WriteFault>
@@ -93,7 +102,7 @@ fn make_each<'a, R: Input, P: NewFiles>(
     names: &'a [String],
     duration: u64,
     outputs: &mut P,
-) -> Result<Vec<u8>, Stop<'a>>
+) -> Result<MadeLines<'a>, Stop<'a>>
     requires duration { duration ≡ duration_of fragment.old.header.key.duration }
     requires most { duration ≤ MOST_DURATION }
     requires first { fragment.old.progress ≡ at_first }
@@ -102,13 +111,15 @@ fn make_each<'a, R: Input, P: NewFiles>(
         runs.now }
     ensures header { fragment.new.header ≡ fragment.old.header }
     ensures answer { MatchResult result
-        (λ text. MakesFirst (making P.NewFiles outputs.old outputs.new)
+        (λ lines. MakesFirst (making P.NewFiles outputs.old outputs.new)
         (map string_bytes names.now) fragment.old.header fragment.new.progress
-        (R.remaining reader.old) (R.remaining reader.new) runs.now (length runs.now) text.items)
+        (R.remaining reader.old) (R.remaining reader.new) runs.now (length runs.now)
+        lines.text.items)
         (StopsEach (making P.NewFiles outputs.old outputs.new) (map string_bytes names.now)
         fragment.old.header (R.remaining reader.old) (R.remaining reader.new) runs.now) }
 {
     let mut text = Vec::new(alloc);
+    let mut outside = None;
     for (at, run) in runs.iter().enumerate() {
         let name = names[at].as_str();
         let written = make_file(alloc, fragment, reader, run, name, outputs)?;
@@ -116,8 +127,9 @@ fn make_each<'a, R: Input, P: NewFiles>(
             return Err(Stop::Reading(WriteFault::Memory));
         };
         text = longer;
+        outside = first_outside(outside, name, &written);
     }
-    Ok(text)
+    Ok(MadeLines { text, outside })
 }
 
 /// Reads a file again, makes a file of one of the names for each of its runs, and answers their
@@ -129,13 +141,13 @@ pub(crate) fn make_files<'a, I: Inputs, P: NewFiles>(
     names: &'a [String],
     inputs: &mut I,
     outputs: &mut P,
-) -> Result<Vec<u8>, Stop<'a>>
+) -> Result<MadeLines<'a>, Stop<'a>>
     requires names { length names.now ≡ length plan.now.runs.items }
     requires dated { All (λ (run : PlannedRun). MayStart plan.now.identity run.run.first)
         plan.now.runs.items }
     ensures answer { MatchResult result
-        (λ text. RereadsWith (making P.NewFiles outputs.old outputs.new)
-        (I.bytes inputs.old file.now) plan.now (map string_bytes names.now) text.items)
+        (λ lines. RereadsWith (making P.NewFiles outputs.old outputs.new)
+        (I.bytes inputs.old file.now) plan.now (map string_bytes names.now) lines.text.items)
         (StopsMaking (making P.NewFiles outputs.old outputs.new) (I.bytes inputs.old file.now)
         plan.now (map string_bytes names.now)) }
     ensures opened { MatchResult result
@@ -150,7 +162,7 @@ pub(crate) fn make_files<'a, I: Inputs, P: NewFiles>(
         Ok(fragment) => fragment,
         Err(fault) => return Err(Stop::Reading(fault)),
     };
-    let text = make_each(
+    let lines = make_each(
         alloc,
         &mut fragment,
         &mut reader,
@@ -160,7 +172,7 @@ pub(crate) fn make_files<'a, I: Inputs, P: NewFiles>(
         outputs,
     )?;
     match expect_end(&mut fragment, &mut reader) {
-        Ok(()) => Ok(text),
+        Ok(()) => Ok(lines),
         Err(fault) => Err(Stop::Reading(fault)),
     }
 }

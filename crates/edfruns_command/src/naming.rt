@@ -1,7 +1,7 @@
 //! The names of the files of runs.
 
-ghost use Rattle.std.specs.Prelude.{◌≡◌, ◌++◌, ◌-◌, IfOk, OnOk, codes, decimal, length, map};
-ghost use Rattle.std.specs.Prelude.{replicate, string_bytes};
+ghost use Rattle.std.specs.Prelude.{◌≡◌, ◌++◌, ◌-◌, IfOk, OnOk, map};
+ghost use Rattle.std.specs.Prelude.{string_bytes};
 ghost use Rattle.edfruns_command.specs.Naming.{padded, run_name, run_names};
 ghost use Rattle.edfruns_command.specs.Naming.{first_names};
 

@@ -1,7 +1,7 @@
 //! The first reading of a file of which one run or all are written then: as it is, or with each
 //! annotation in the data record that has its onset.
 
-ghost use Rattle.std.specs.Prelude.{◌≡◌, ◌⊎◌, ◌++◌, ℕ, List, MatchResult, replicate, true, false};
+ghost use Rattle.std.specs.Prelude.{◌≡◌, ◌++◌, ℕ, List, MatchResult, replicate, true, false};
 ghost use Rattle.edf_program.specs.Output.{growth};
 ghost use Rattle.edfruns_command.specs.Inside.{OpensUpTo, IsPlanRefused};
 ghost use Rattle.edfruns_command.specs.JoinedPlan.{HasJoinedPlan, HasJoinedFault, part_of};

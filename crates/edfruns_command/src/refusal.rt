@@ -13,9 +13,9 @@ ghost use Rattle.edfruns_command.specs.Lines.{reread_line, unwritten_line};
 ghost use Rattle.edfruns_command.specs.InsideSplit.{stop_line};
 
 use crate::stop::Stop;
-use edf_fragment::{FragmentFault, Output};
+use edf_fragment::{FragmentFault, Output, Remark};
 use edf_program::{
-    Status, fragment_fault_text, status_of_number, tell_memory, tell_parts, tell_refused,
+    Status, fragment_fault_text, status_of_number, tell_line, tell_memory, tell_parts, tell_refused,
 };
 use edf_runs::WriteFault;
 use itoa::Buffer;
@@ -51,7 +51,7 @@ pub(crate) fn refuse<F: Output>(
     match fragment_fault_text(alloc, &fault) {
         Ok(text) => {
             let parts = [file.as_bytes(), b" refused ", text.as_bytes(), b"\n"];
-            tell_parts(err, &parts, status)
+            tell_line(err, &parts, file, Remark::Fault(fault), status)
         }
         Err(_) => tell_memory(err, file),
     }

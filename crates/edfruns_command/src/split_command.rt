@@ -1,11 +1,10 @@
 //! `split`: a file for each run.
 
 ghost use Rattle.std.specs.Prelude.{◌≡◌, ◌-◌, ◌≤◌, ℕ, List, All, IfOk, MatchOption, length, map};
-ghost use Rattle.std.specs.Prelude.{string_bytes, take, drop};
+ghost use Rattle.std.specs.Prelude.{string_bytes, take};
 ghost use Rattle.edf_header.specs.Key.{MayStart};
 ghost use Rattle.edf_program.specs.Output.{growth};
 ghost use Rattle.edf_runs.specs.declared.onset_run.OnsetRun.{OnsetRun as PlannedRun};
-ghost use Rattle.edf_new_files.specs.Made.{names_of};
 ghost use Rattle.edf_new_files.specs.Making.{making};
 ghost use Rattle.edf_new_files.specs.There.{IsFree};
 ghost use Rattle.edfruns_command.specs.InsideSplit.{IsTaken, IsUndated, SplitsListed};
@@ -14,6 +13,7 @@ ghost use Rattle.edfruns_command.specs.Naming.{asked_names};
 ghost use Rattle.edfruns_command.specs.Splitting.{IsSplit};
 
 use crate::arguments::{refuse_stream, required_value, twice_read_file_value, value_in};
+use crate::counting::remark_outside;
 use crate::making::make_files;
 use crate::naming::{push_first_names, run_names};
 use crate::planning::{by_onset_option, is_by_onset, part_of, plan_joined, refuse_plan};
@@ -196,11 +196,12 @@ fn split_listed<I: Inputs, P: NewFiles, O: Output, F: Output>(
     ensures same { (name : List ℕ) → I.bytes inputs.new name ≡ I.bytes inputs.old name }
 {
     let first = outputs.count();
-    let text = match make_files(alloc, file, plan, names, inputs, outputs) {
-        Ok(text) => text,
+    let lines = match make_files(alloc, file, plan, names, inputs, outputs) {
+        Ok(lines) => lines,
         Err(stop) => return give_up(file, stop, names, first, outputs, err),
     };
-    if send(out, text.as_slice()) {
+    if send(out, lines.text.as_slice()) {
+        remark_outside(out, lines.outside);
         return Status::Done;
     }
     let stop = Stop::Output(STANDARD_OUTPUT);

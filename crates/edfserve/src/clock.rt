@@ -4,7 +4,7 @@ ghost use Rattle.std.specs.Prelude.{◌≡◌, ◌*◌, ◌/◌, ◌^◌, None, 
 ghost use Rattle.std.proofs.Props.{props};
 ghost use Rattle.edf_fragment.specs.Failures.{one_more};
 
-use crate::counting::one_more;
+use edf_fragment::one_more;
 use edf_time::Instant;
 use std::time::{SystemTime, UNIX_EPOCH};
 

@@ -4,11 +4,9 @@
 #![tactic(auto)]
 
 mod clock;
-mod counting;
 mod input;
 mod journal;
 mod keeper;
-mod new_files;
 mod opening;
 mod output;
 mod sources;
@@ -18,13 +16,12 @@ use edf_program::{Status, tell_fault, tell_memory};
 use edf_serve::{Console, Folders, Lines, Room};
 use edf_serve_files::serve_opened;
 use edf_session::Cap;
-use edf_system::{Terminal, refuse_words, words};
+use edf_system::{PartFiles, Terminal, refuse_words, words};
 use edfserve_arguments::{ServeWords, parse_words};
 use edfstore_host::Standing;
 use input::WatchedInput;
 use journal::Journal;
-use keeper::Keeper;
-use new_files::ExportedFiles;
+use keeper::{Keeper, NamesBeside};
 use opening::open_store;
 use output::StandardOutput;
 use sources::SystemFiles;
@@ -38,7 +35,7 @@ type SystemLines<'s> = Lines<WatchedInput<'s, Counted<Stdin>>>;
 /// What a session has beside its store and its lines: the system's files and streams.
 type SystemRoom<'rt> = Room<
     SystemFiles<'rt>,
-    ExportedFiles<'rt>,
+    PartFiles<'rt, NamesBeside<'rt>>,
     Console<StandardOutput, Counted<Stderr>>,
     Keeper<'rt>,
 >;
@@ -79,6 +76,15 @@ fn serve_store(
     }
 }
 
+/// What makes the files of `export` and `picture`: none has a name that is the store's.
+fn new_files<'rt>(
+    rt: &'rt HostRuntime,
+    terminal: &'rt Terminal<'rt>,
+    standing: &'rt Standing<'rt>,
+) -> PartFiles<'rt, NamesBeside<'rt>> {
+    PartFiles::new(rt, terminal, NamesBeside::new(standing))
+}
+
 /// Serves the store that the words name by the system's files and streams. Standard input has the
 /// lines, so a file named `-` is opened as every other is.
 fn run_session<'x>(rt: &'x HostRuntime, words: &'x ServeWords) -> Status {
@@ -95,7 +101,7 @@ fn run_session<'x>(rt: &'x HostRuntime, words: &'x ServeWords) -> Status {
     let mut room = Room::new(
         rt.alloc(),
         SystemFiles::new(rt, &terminal, &standing),
-        ExportedFiles::new(rt, &terminal, &standing),
+        new_files(rt, &terminal, &standing),
         Console::new(StandardOutput::new(rt), Counted::new(rt.stderr())),
         Keeper::new(&standing),
     );

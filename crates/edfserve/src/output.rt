@@ -2,8 +2,7 @@
 
 ghost use Rattle.std.specs.Prelude.{None};
 
-use crate::counting::one_more;
-use edf_fragment::Output;
+use edf_fragment::{Output, one_more};
 use edf_serve::Flush;
 use std::io::{self, Stdout, Write};
 

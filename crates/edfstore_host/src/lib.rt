@@ -46,20 +46,10 @@ fn terminal_of<'rt>(rt: &'rt HostRuntime, command: &Order) -> Terminal<'rt> {
     }
 }
 
-/// The streams of a command: lines of `take` on standard output may tell refusals.
-fn streams_of<'t>(rt: &'t HostRuntime, terminal: &'t Terminal<'t>, command: &Order) -> Streams<'t> {
-    match command {
-        Order::Take { .. } => Streams::of_answers(rt, terminal),
-        Order::List { .. } | Order::Export { .. } | Order::Convert { .. } => {
-            Streams::new(rt, terminal)
-        }
-    }
-}
-
 /// What the command asks for, done over the system's files and streams.
 fn run_command(rt: &HostRuntime, command: &Order) -> Status {
     let terminal = terminal_of(rt, command);
-    let Streams { mut out, mut err } = streams_of(rt, &terminal, command);
+    let Streams { mut out, mut err } = Streams::new(rt, &terminal);
     let mut inputs = Files::new(rt, &terminal);
     let (inputs, out, err) = (&mut inputs, &mut out, &mut err);
     let ended = run_over_store(rt, &terminal, Unknown, command, inputs, out, err);

@@ -3,7 +3,8 @@ use Rattle.std.specs.Prelude.{◌≡◌, ℕ, ◌≤◌, List, [], ◌∷◌, le
 use Rattle.std.specs.List.{AllByRecursion, flat_map}
 use Rattle.edf_tal.specs.Tal.{Tal, Annotation, AreTalsAndZeros, AreBlocks, all_tals, HaveUtf8Texts}
 use Rattle.edf_tal.specs.Tal.{IsTalInWindow, tal_annotations}
-use Rattle.edf_tal.specs.Block.{AreRead, HasBadText}
+use Rattle.edf_tal.specs.Block.{AreRead}
+use Rattle.edf_tal.specs.Condition.{HasBadText}
 use Rattle.edf_tal.specs.declared.place.Place.{Place}
 use Rattle.edf_tal.specs.declared.blocks.Sums.{Sums}
 use Rattle.edf_tal.specs.declared.blocks.Form.{Form}

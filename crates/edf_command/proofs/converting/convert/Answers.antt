@@ -5,7 +5,7 @@ use Rattle.edf_command.specs.Lines.{refused_file_line}
 use Rattle.edf_program.specs.Status.{status_of_number}
 use Rattle.edf_program.specs.Output.{growth, IsTold}
 use Rattle.edf_program.specs.declared.status.Status.{Status}
-use Rattle.edf_program.proofs.Puts.{nothing-gets}
+use Rattle.edf_program.proofs.Puts.{nothing-gets, remarked}
 use Rattle.edf_command.proofs.converting.convert.Goals as goal
 
 pub returns-in_default-clause-converted : goal.returns-in_default-clause-converted
@@ -41,13 +41,15 @@ returns-clause-converted g c = inr (inl (record {
   submitted = c.in-Err.ensures.submitted;
   said = λ spell is.
       let text = refused_file_line spell c.args.file.now c.in-Err.refusal in
-      let told = c.tell.ensures.told text
+      let told = c.tell-told.ensures.told text
       (IfOk-weaker c.refused_file_line.result _ _ (λ r line. line spell is)
       c.refused_file_line.ensures) in
       let IsSo : Status → Type 0 = λ wanted.
-      IsTold (growth g.F.Output c.args.err.now c.tell.new.out) text wanted c.tell.result in (
+      IsTold (growth g.F.Output c.args.err.now c.remark.new.self) text wanted c.tell-told.result in (
         nothing-gets (g.O.Output.contents c.args.out.now) (g.O.Output.failures c.args.out.now),
         subst IsSo (c.status_of_number-status.ensures ∙ ap status_of_number c.number.ensures)
-            told,
+            (remarked (g.F.Output) c.args.err.now c.tell-told.new.out c.remark.new.self
+            (λ w. IsTold w text c.status_of_number-status.result c.tell-told.result)
+            c.remark.ensures.contents c.remark.ensures.failures told),
       );
 }))

@@ -5,7 +5,8 @@ use Rattle.sqlite.specs.State.{HasCleanDisk}
 use Rattle.edf_store.specs.Held.{at}
 use Rattle.edf_store.proofs.Readiness.{stays_then}
 use Rattle.edf_export.specs.Inside.Walks.{IsSoundRecording}
-use Rattle.edf_export.proofs.Walks.{clean_before, sound_recording, store_refusal, refusal_why}
+use Rattle.edf_store.proofs.Faults.{is_store_refusal}
+use Rattle.edf_export.proofs.Walks.{clean_before, sound_recording, refusal_why}
 use Rattle.edf_export.proofs.planning.measure.Goals as goal
 
 pub returns-in_err-walk-clause-leaves : goal.returns-in_err-walk-clause-leaves
@@ -18,7 +19,7 @@ returns-in_err-walk-clause-leaves g c =
 pub returns-in_err-walk-clause-walked : goal.returns-in_err-walk-clause-walked
 returns-in_err-walk-clause-walked g c clean h held count =
     let p = err_from_is_err_and c.from_residual.result c.from_residual.ensures.1 in
-    rw (p.1, p.2) (store_refusal _ ⊥ ⊥ c.in_err-walk.field-0.0 c.in_err-walk.ensures.refuses.why
+    rw (p.1, p.2) (is_store_refusal _ ⊥ ⊥ c.in_err-walk.field-0.0 c.in_err-walk.ensures.refuses.why
     (λ no. no) (λ no. no))
 
 pub returns-in_err-walk-clause-why : goal.returns-in_err-walk-clause-why

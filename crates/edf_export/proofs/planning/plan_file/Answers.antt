@@ -3,7 +3,8 @@ use Rattle.std.specs.Prelude.{⊤}
 use Rattle.std.proofs.lemmas.Result.{err_from_is_err_and}
 use Rattle.edf_store.proofs.Readiness.{stays_then}
 use Rattle.edf_export.specs.Inside.Walks.{HoldBlocks}
-use Rattle.edf_export.proofs.Walks.{clean_before, some_first, may_start, store_refusal, refusal_why}
+use Rattle.edf_store.proofs.Faults.{is_store_refusal}
+use Rattle.edf_export.proofs.Walks.{clean_before, some_first, may_start, refusal_why}
 use Rattle.edf_export.proofs.planning.plan_file.Goals.{then-summary-eq0-via-then-summary-eq0}
 use Rattle.edf_export.proofs.planning.plan_file.Goals.{then-summary-eq0-via-else-summary-eq0+then-summary-cap}
 use Rattle.edf_export.proofs.planning.plan_file.Goals as goal
@@ -18,7 +19,7 @@ returns-in_err-summary-clause-leaves g c =
 pub returns-in_err-summary-clause-planned : goal.returns-in_err-summary-clause-planned
 returns-in_err-summary-clause-planned g c clean h held =
     let p = err_from_is_err_and c.from_residual.result c.from_residual.ensures.1 in
-    rw (p.1, p.2) (store_refusal _ _ ⊥ c.in_err-summary.field-0.0
+    rw (p.1, p.2) (is_store_refusal _ _ ⊥ c.in_err-summary.field-0.0
     c.in_err-summary.ensures.refuses.why
     (λ unclean. unclean clean) (λ no. no))
 

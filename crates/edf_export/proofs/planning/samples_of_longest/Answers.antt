@@ -6,7 +6,8 @@ use Rattle.edf_store.proofs.Readiness.{stays_then}
 use Rattle.edf_canonical.specs.File.{samples_of}
 use Rattle.edf_export.specs.Inside.Walks.{HoldBlocks}
 use Rattle.edf_export.proofs.Calls.{leaves_on}
-use Rattle.edf_export.proofs.Walks.{stays_same, clean_before, store_refusal, refusal_why, hold_none}
+use Rattle.edf_store.proofs.Faults.{is_store_refusal}
+use Rattle.edf_export.proofs.Walks.{stays_same, clean_before, refusal_why, hold_none}
 use Rattle.edf_export.proofs.Walks.{hold_more, not_failed}
 use Rattle.edf_export.proofs.planning.samples_of_longest.Goals as goal
 
@@ -75,7 +76,7 @@ pub returns-in_err-data_record-clause-walked : goal.returns-in_err-data_record-c
 returns-in_err-data_record-clause-walked g c clean h k walked count =
     let e = c.in_err-data_record.ensures in
     let p = err_from_is_err_and c.from_residual.result c.from_residual.ensures.1 in
-    rw (p.1, p.2) (store_refusal _ _ _ c.in_err-data_record.field-0.0 e.leaves.why
+    rw (p.1, p.2) (is_store_refusal _ _ _ c.in_err-data_record.field-0.0 e.leaves.why
     (λ unclean. unclean clean) (not_failed _ c.loop.invariant.going))
 
 pub returns-in_err-data_record-clause-why : goal.returns-in_err-data_record-clause-why

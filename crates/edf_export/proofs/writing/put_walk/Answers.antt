@@ -4,7 +4,8 @@ use Rattle.std.proofs.KnownBytes.{Appends-nil}
 use Rattle.edf_store.specs.Held.{at}
 use Rattle.edf_store.proofs.Readiness.{stays_then}
 use Rattle.edf_export.proofs.Calls.{leaves_on}
-use Rattle.edf_export.proofs.Walks.{stays_same, clean_before, store_refusal, refusal_why}
+use Rattle.edf_store.proofs.Faults.{is_store_refusal}
+use Rattle.edf_export.proofs.Walks.{stays_same, clean_before, refusal_why}
 use Rattle.edf_export.proofs.Walks.{idle_after}
 use Rattle.edf_export.proofs.Walks.{not_failed}
 use Rattle.edf_export.proofs.Texts.{fits_here, texts_more, texts_stop, texts_end}
@@ -59,7 +60,7 @@ returns-in_err-data_record-clause-put g c clean h k walked plan =
     let i = c.loop.invariant in
     let p = err_from_is_err_and c.from_residual.result c.from_residual.ensures.1 in rw (p.1, p.2) (
       texts_end c.args.plan c.loop.counter (h k) _ _ (i.wrote was h k walked plan),
-      store_refusal _ _ _ c.in_err-data_record.field-0.0 c.in_err-data_record.ensures.leaves.why
+      is_store_refusal _ _ _ c.in_err-data_record.field-0.0 c.in_err-data_record.ensures.leaves.why
           (λ unclean. unclean clean) (not_failed _ i.going),
     )
 

@@ -3,7 +3,8 @@ use Rattle.std.proofs.lemmas.Result.{err_from_is_err_and, MatchResult-weaker}
 use Rattle.std.proofs.KnownBytes.{Appends-nil}
 use Rattle.edf_store.proofs.Readiness.{stays_then}
 use Rattle.edf_export.proofs.Calls.{counts_weaker}
-use Rattle.edf_export.proofs.Walks.{store_refusal, refusal_why}
+use Rattle.edf_store.proofs.Faults.{is_store_refusal}
+use Rattle.edf_export.proofs.Walks.{refusal_why}
 use Rattle.edf_export.proofs.writing.send_recording.Goals as goal
 
 pub returns-in_err-walk-clause-leaves : goal.returns-in_err-walk-clause-leaves
@@ -16,7 +17,7 @@ returns-in_err-walk-clause-sent g c clean h held plan =
     let p = err_from_is_err_and c.from_residual.result c.from_residual.ensures.1 in
     rw (p.1, p.2) (
       record { front = []; left = _; parts = refl; wrote = Appends-nil _ },
-      store_refusal _ ⊥ ⊥ c.in_err-walk.field-0.0 c.in_err-walk.ensures.refuses.why (λ no. no)
+      is_store_refusal _ ⊥ ⊥ c.in_err-walk.field-0.0 c.in_err-walk.ensures.refuses.why (λ no. no)
           (λ no. no),
     )
 

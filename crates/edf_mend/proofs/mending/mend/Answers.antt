@@ -1,4 +1,5 @@
-use Rattle.std.proofs.Common.{rules, ◌≡◌, ◌<◌, ◌∙◌, ℕ, List, [], refl, sym, subst, arith, option_map}
+use Rattle.std.proofs.Common.{rules, ◌≡◌, ◌<◌, ◌∙◌, ℕ, List, [], refl, sym, subst, arith}
+use Rattle.std.proofs.Common.{option_map}
 use Rattle.std.proofs.Common.{◌≢◌, None}
 use Rattle.std.proofs.lemmas.Result.{err_from_is_err_and}
 use Rattle.edf_mend.specs.Clock.{KeepsClock}
@@ -8,6 +9,7 @@ use Rattle.edf_mend.specs.Retimed.{IsContinuous}
 use Rattle.edf_mend.specs.Says.{SaysMended}
 use Rattle.edf_mend.specs.Patient.{KeepsPatient}
 use Rattle.edf_mend.specs.Counts.{CountsFault}
+use Rattle.edf_mend.specs.declared.fault.MendFault.TheVariants.{Identity}
 use Rattle.edf_mend.specs.Inside.Steps.{IsDrafted, IsOpened, IsSent, IsFitting, EndsInHeader}
 use Rattle.edf_mend.specs.Inside.Whole.{IsWholeHeader}
 use Rattle.edf_header.specs.Fields.{recording_field}
@@ -16,6 +18,7 @@ use Rattle.edf_mend.proofs.Accepted.{refuses-then, refuses-some, asks-none, NoHe
 use Rattle.edf_mend.proofs.Further.{further-then, reads-on}
 use Rattle.edf_mend.proofs.Good.{not-in-header, good-header, good-opened, drafted-none, copies}
 use Rattle.edf_mend.proofs.Parts.{mends}
+use Rattle.edf_mend.proofs.Refusals.{told-quiet}
 use Rattle.edf_mend.proofs.Unchanged.{header-whole}
 use Rattle.edf_mend.proofs.mending.mend.Goals as goal
 
@@ -32,6 +35,13 @@ returns-in_err-fragment-clause-counted g c =
     c.from_residual-in_err-fragment.ensures.1 in
     rw (p.1, p.2, c.in_ok-old.ensures.counted.0) (c.in_err-fragment.ensures.quiet
     (g.R.Input.failures c.args.input.now) (g.W.Output.failures c.args.out.now))
+
+pub returns-then-not-keeps_identity-clause-counted :
+    goal.returns-then-not-keeps_identity-clause-counted
+returns-then-not-keeps_identity-clause-counted g c =
+    rw c.in_ok-old.ensures.counted.0 (told-quiet Identity c.of_file.result c.of_file.ensures
+    (λ reads writes. (refl, refl)) (g.R.Input.failures c.args.input.now)
+    (g.W.Output.failures c.args.out.now))
 
 pub returns-in_err-shape-clause-counted : goal.returns-in_err-shape-clause-counted
 returns-in_err-shape-clause-counted g c =
@@ -65,6 +75,9 @@ returns-clause-unchanged g c none =
 pub returns-clause-only : goal.returns-clause-only
 returns-clause-only g c some = c.counts_records.ensures.asked (search rules) some
 
+pub returns-clause-left_out : goal.returns-clause-left_out
+returns-clause-left_out g c some more = c.may_end.ensures.asked (search rules) some more
+
 pub returns-clause-mended : goal.returns-clause-mended
 returns-clause-mended g c =
     let given = option_map (λ code. code.now) c.args.patient in
@@ -74,9 +87,9 @@ returns-clause-mended g c =
     let o = c.in_ok-fragment.fragment in
     let drafted : IsDrafted old given draft = search rules in
     let opened : IsOpened new o = search rules in
-    let before = c.as_slice-3.result.now in
+    let before = c.as_slice-4.result.now in
     let before_is : before ≡ old = search rules in
-    let after_is : c.as_slice-4.result.now ≡ new = search rules in
+    let after_is : c.as_slice-5.result.now ≡ new = search rules in
     let patient : KeepsPatient given old new =
     subst (λ (x : List ℕ). KeepsPatient given x new) before_is
     (subst (λ (x : List ℕ). KeepsPatient given before x) after_is
@@ -88,13 +101,13 @@ returns-clause-mended g c =
     let continuous : draft.rewriting.clock ≢ None → IsContinuous old × IsContinuous new =
     subst (λ (x : List ℕ). draft.rewriting.clock ≢ None → IsContinuous x × IsContinuous new)
     first_is c.in_ok-draft.ensures.continuous in
-    let steps_is : c.as_slice-5.result.now ≡ draft.steps.items = search rules in
+    let steps_is : c.as_slice-6.result.now ≡ draft.steps.items = search rules in
     let kept : KeepsHeader draft.added draft.steps.items old new =
     subst (λ (x : List RuleEdits). KeepsHeader draft.added x old new) steps_is
-    (subst (λ (x : List ℕ). KeepsHeader draft.added c.as_slice-5.result.now x new) before_is
-    (subst (λ (x : List ℕ). KeepsHeader draft.added c.as_slice-5.result.now before x) after_is
+    (subst (λ (x : List ℕ). KeepsHeader draft.added c.as_slice-6.result.now x new) before_is
+    (subst (λ (x : List ℕ). KeepsHeader draft.added c.as_slice-6.result.now before x) after_is
     (c.keeps_identity.ensures.kept (search rules)))) in
-    let last_is : c.as_slice-7.result.now ≡ new = search rules in
+    let last_is : c.as_slice-8.result.now ≡ new = search rules in
     let counts = c.counts_records.ensures.counts (search rules) in
     let fits : IsFitting o.header c.in_ok-shape.shape = search rules in
     let added : c.in_ok-shape.shape.added ≡ draft.added = search rules in
@@ -147,12 +160,12 @@ returns-in_err-fragment-clause-welcome g c bytes key records none left_is spells
     let old = c.in_ok-old.old.items in
     let draft = c.in_ok-draft.draft in
     let drafted : IsDrafted old given draft = search rules in
-    let slice : c.as_slice-2.result.now ≡ draft.header.items = search rules in
+    let slice : c.as_slice-3.result.now ≡ draft.header.items = search rules in
     let same = slice ∙ drafted-none old given draft drafted (c.in_ok-draft.ensures.kept none).0 in
     let good = good-header (g.R.Input.remaining c.args.input.now)
     (g.R.Input.remaining c.read_header.new.input) bytes key records old left_is spells
     c.in_ok-old.ensures.read c.in_ok-old.ensures.long c.in_ok-old.ensures.whole in
-    rw (p.1, p.2) (refuses-then (NoHeader c.as_slice-2.result.now) ⊥ c.in_err-fragment.field-0.0
+    rw (p.1, p.2) (refuses-then (NoHeader c.as_slice-3.result.now) ⊥ c.in_err-fragment.field-0.0
     (λ no. no good.header (subst (λ (x : List ℕ). IsHeader x good.header []) (sym same)
     good.is_header)) c.in_err-fragment.ensures.refused)
 
@@ -280,12 +293,12 @@ returns-then-not-keeps_identity-clause-welcome g c bytes key records none left_i
     (g.R.Input.remaining c.read_header.new.input) bytes key records old left_is spells
     c.in_ok-old.ensures.read c.in_ok-old.ensures.long c.in_ok-old.ensures.whole in
     let n = good.header.fixed.signal_count in
-    let before = c.as_slice-3.result.now in
+    let before = c.as_slice-4.result.now in
     let before_is : before ≡ old = search rules in
-    let after_is : c.as_slice-4.result.now ≡ draft.header.items = search rules in
+    let after_is : c.as_slice-5.result.now ≡ draft.header.items = search rules in
     let whole : IsWholeHeader before n = subst (λ (x : List ℕ). IsWholeHeader x n) (sym before_is)
     (header-whole old good.header good.is_header) in
-    let steps_is : c.as_slice-5.result.now ≡ draft.steps.items = search rules in
+    let steps_is : c.as_slice-6.result.now ≡ draft.steps.items = search rules in
     let may = c.keeps_identity.ensures.same n whole (after_is ∙ same ∙ sym before_is) kept.1
     (steps_is ∙ kept.0) in
     search (rules, may)

@@ -3,7 +3,7 @@ use Rattle.edf_export.specs.declared.fault.ExportFault.{ExportFault}
 use Rattle.edf_export.specs.Export.{export_fault_number}
 use Rattle.edf_program.specs.Output.{growth}
 use Rattle.edf_program.proofs.Puts.{nothing-gets}
-use Rattle.edf_serve.proofs.Working.{not-done, number-not}
+use Rattle.edf_program.proofs.Undone.{undone, number-undone}
 use Rattle.edf_serve.proofs.exporting.export_key.Goals as goal
 
 pub returns-in-Ok : goal.returns-in-Ok
@@ -25,9 +25,9 @@ returns-in-Ok g c =
 pub returns-in-Err : goal.returns-in-Err
 returns-in-Err g c = record {
   stays = c.export.ensures.leaves.stays;
-  idle = λ done. absurd (not-done (growth g.F.Output c.args.out.now c.tell_refusal.new.out) _ _
-      c.tell_refusal.result (number-not (export_fault_number c.in-Err.fault)) done
-      c.tell_refusal.ensures);
+  idle = λ done. absurd (undone (growth g.F.Output c.args.out.now c.tell_refusal.new.out) _ _
+      c.tell_refusal.result (number-undone (export_fault_number c.in-Err.fault))
+      c.tell_refusal.ensures done);
   told = inr (
     c.in-Err.fault,
     (λ is. c.in-Err.ensures.truly.unfailed (ap (λ (f : ExportFault). Err f) is)),

@@ -1,4 +1,4 @@
-use Rattle.std.proofs.Common.{◌≡◌, ◌<◌, ℕ, List, Some, take}
+use Rattle.std.proofs.Common.{◌≡◌, ◌<◌, Some, take}
 use Rattle.std.specs.Prelude.{slice_get}
 use Rattle.sqlite.specs.State.{HasCleanDisk}
 use Rattle.edf_header.specs.Key.{Key}

@@ -1,4 +1,4 @@
-use Rattle.std.proofs.Common.{Option, Some, subst}
+use Rattle.std.proofs.Common.{Option, subst}
 use Rattle.edf_store.specs.Overview.{IsSummary}
 use Rattle.edf_store.specs.declared.overview.Summary.{Summary}
 use Rattle.edf_serve.proofs.overview.add.Goals as goal

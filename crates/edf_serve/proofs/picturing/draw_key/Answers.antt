@@ -1,10 +1,9 @@
 use Rattle.std.proofs.Common.{ℕ, List, codes, inl, inr, subst, string_bytes}
 use Rattle.edf_program.specs.Output.{growth}
 use Rattle.edf_program.proofs.Puts.{nothing-gets}
+use Rattle.edf_program.proofs.Undone.{trouble-undone}
 use Rattle.edfruns_command.specs.Lines.{unwritten_line}
 use Rattle.edfruns_command.specs.Picturing.{SendsPicture}
-use Rattle.edf_program.specs.declared.status.Status.TheVariants.{Trouble}
-use Rattle.edf_serve.proofs.Working.{not-done, trouble-not}
 use Rattle.edf_serve.proofs.picturing.draw_key.Goals as goal
 
 pub returns-in-Ok : goal.returns-in-Ok
@@ -32,8 +31,8 @@ returns-in-Err g c =
     (g.O.Output.failures c.args.file.now) in
     record {
       stays = c.picture_of.ensures.stays;
-      idle = λ done. absurd (not-done (growth g.F.Output c.args.out.now c.tell_refusal.new.out) _
-          Trouble c.tell_refusal.result trouble-not done c.tell_refusal.ensures);
+      idle = λ done. absurd (trouble-undone (growth g.F.Output c.args.out.now
+          c.tell_refusal.new.out) _ c.tell_refusal.result c.tell_refusal.ensures done);
       told = inr (nothing, (c.in-Err.fault, c.in-Err.ensures.some, c.tell_refusal.ensures));
       drawn = λ clean h held. inr (
         nothing,

@@ -1,8 +1,8 @@
 use Rattle.std.proofs.Common.{◌∙◌, ℕ, List, subst, inl, inr}
+use Rattle.edf_program.proofs.Undone.{trouble-undone}
 use Rattle.edf_program.specs.Output.{growth, IsWritten}
-use Rattle.edf_program.specs.declared.status.Status.TheVariants.{Done, Trouble}
+use Rattle.edf_program.specs.declared.status.Status.TheVariants.{Done}
 use Rattle.edf_store.specs.declared.fault.StoreFault.TheVariants.{Memory}
-use Rattle.edf_serve.proofs.Working.{not-done, trouble-not}
 use Rattle.edf_serve.proofs.running.put_runs.Goals as goal
 
 pub returns-in-Err-clause-listed : goal.returns-in-Err-clause-listed
@@ -23,16 +23,17 @@ returns-in-Ok-runs_text-clause-listed g c clean h held = inl (record {
 
 pub returns-in-Err-clause-idle : goal.returns-in-Err-clause-idle
 returns-in-Err-clause-idle g c done =
-    absurd (not-done (growth g.O.Output c.args.out.now c.tell_refusal.new.out) _ Trouble
-    c.tell_refusal.result trouble-not done c.tell_refusal.ensures)
+    absurd (trouble-undone (growth g.O.Output c.args.out.now c.tell_refusal.new.out) _
+    c.tell_refusal.result c.tell_refusal.ensures done)
 
 pub returns-in-Ok-runs_text-clause-idle : goal.returns-in-Ok-runs_text-clause-idle
 returns-in-Ok-runs_text-clause-idle g c done = c.in-Ok.ensures.idle
 
 pub returns-clause-idle : goal.returns-clause-idle
 returns-clause-idle g c done =
-    absurd (not-done (growth g.O.Output c.args.out.now c.tell_refusal-in-Err-runs_text.new.out) _ Trouble
-    c.tell_refusal-in-Err-runs_text.result trouble-not done c.tell_refusal-in-Err-runs_text.ensures)
+    absurd (trouble-undone
+    (growth g.O.Output c.args.out.now c.tell_refusal-in-Err-runs_text.new.out) _
+    c.tell_refusal-in-Err-runs_text.result c.tell_refusal-in-Err-runs_text.ensures done)
 
 pub returns-clause-listed : goal.returns-clause-listed
 returns-clause-listed g c clean h held = inr (Memory, tt, c.tell_refusal-in-Err-runs_text.ensures)

@@ -5,7 +5,7 @@ use Rattle.edf_tal.specs.Inside.Blocks.{HasForm}
 use Rattle.edf_tal.specs.declared.blocks.Sums.{Sums}
 use Rattle.edf_tal.specs.declared.blocks.Form.{Form}
 use Rattle.edf_tal.specs.declared.blocks.Form.TheVariants.{Good}
-use Rattle.edf_tal.specs.Block.{HasBadText}
+use Rattle.edf_tal.specs.Condition.{HasBadText}
 use Rattle.edf_tal.proofs.Joined.{surveyed-append, surveyed-room, bad-front, bad-back, form-lists}
 use Rattle.edf_tal.proofs.Joined.{lists-both}
 use Rattle.edf_tal.proofs.blocks.joined.Goals as goal

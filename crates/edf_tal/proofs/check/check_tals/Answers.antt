@@ -2,7 +2,8 @@ use Rattle.std.proofs.Common.{◌≡◌, ℕ, Bool, true, false, not, List, ◌�
 use Rattle.std.specs.Prelude.{IsTrue}
 use Rattle.edf_tal.specs.Inside.Scan.{KeepsOrder}
 use Rattle.edf_tal.specs.Inside.Blocks.{AreSurveyed}
-use Rattle.edf_tal.proofs.Judge.{Known, IsEmptyFirst, known, timed, some-count, checked, fault-none}
+use Rattle.edf_tal.proofs.FirstTal.{Known, IsEmptyFirst, known, timed}
+use Rattle.edf_tal.proofs.Judge.{some-count, checked, fault-none}
 use Rattle.edf_tal.proofs.Judge.{fault-untimed, fault-second, fault-window, fault-order, fault-many}
 use Rattle.edf_tal.proofs.check.check_tals.Goals as goal
 use Rattle.edf_tal.proofs.check.check_tals.Goals.{In-Some}

@@ -1,4 +1,4 @@
-use Rattle.edf_tal.proofs.OneAnswer.{blocks-one-read, blocks-read-no-fault, blocks-one-fault}
+use Rattle.edf_tal.proofs.Judge.{blocks-one-read, blocks-read-no-fault, blocks-one-fault}
 use Rattle.edf_tal.proofs.laws.one_answer.Goals as goal
 
 pub returns-clause-one_read : goal.returns-clause-one_read

@@ -1,4 +1,4 @@
-use Rattle.edf_tal.proofs.AtLeast.{blocks-some-answer, blocks-no-memory}
+use Rattle.edf_tal.proofs.Judge.{blocks-some-answer, blocks-no-memory}
 use Rattle.edf_tal.proofs.laws.some_answer.Goals as goal
 
 pub returns-clause-some : goal.returns-clause-some

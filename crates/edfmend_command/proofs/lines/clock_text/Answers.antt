@@ -1,4 +1,4 @@
-use Rattle.std.proofs.Common.{◌++◌, [], ◌∷◌, ℕ, List, ap, ◌∙◌, codes, decimal}
+use Rattle.std.proofs.Common.{◌∙◌}
 use Rattle.std.proofs.lemmas.Result.{IfOk-weaker}
 use Rattle.edfmend_command.proofs.Told.{clock-text}
 use Rattle.edfmend_command.proofs.lines.clock_text.Goals as goal

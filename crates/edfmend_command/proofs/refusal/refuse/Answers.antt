@@ -1,14 +1,21 @@
 use Rattle.std.specs.Prelude.{option_map}
-use Rattle.edf_mend.specs.declared.fault.MendFault.TheVariants.{Code, Read, Write, Memory}
+use Rattle.edf_mend.specs.declared.fault.MendFault.TheVariants.{Identity, Mark, Code, Read}
+use Rattle.edf_mend.specs.declared.fault.MendFault.TheVariants.{Write, Memory}
 use Rattle.edf_program.specs.Output.{growth}
-use Rattle.edfmend_command.proofs.Told.{says, says-memory}
+use Rattle.edfmend_command.proofs.Told.{says}
 use Rattle.edfmend_command.proofs.refusal.refuse.Goals as goal
 
-pub returns-in-Err : goal.returns-in-Err
-returns-in-Err g c = says-memory (growth g.F.Output c.args.err.now c.tell_why-in-Err.new.err)
+pub returns-in-Identity : goal.returns-in-Identity
+returns-in-Identity g c = says (growth g.F.Output c.args.err.now c.tell_why.new.err)
     c.args.old_name.now c.args.new_name.now
-    c.args.fault (option_map (λ name. name.now) c.args.kept)
-    c.tell_why-in-Err.result c.tell_why-in-Err.ensures
+    c.args.fault Identity (option_map (λ name. name.now) c.args.kept)
+    c.tell_why.result c.in-Identity.is c.tell_why.ensures
+
+pub returns-in-Mark : goal.returns-in-Mark
+returns-in-Mark g c = says (growth g.F.Output c.args.err.now c.tell_why-in-Mark.new.err)
+    c.args.old_name.now c.args.new_name.now
+    c.args.fault Mark (option_map (λ name. name.now) c.args.kept)
+    c.tell_why-in-Mark.result c.in-Mark.is c.tell_why-in-Mark.ensures
 
 pub returns-in-Code : goal.returns-in-Code
 returns-in-Code g c = says (growth g.F.Output c.args.err.now c.tell_why-in-Code.new.err)

@@ -31,8 +31,8 @@ returns-in-Err-clause-answer g c =
     (subst (λ (b : Option (List ℕ)). IsNotReopened b rest c.args.plan.now.identity
     c.in-Err.fault) c.in-Ok.ensures.reader c.in-Err.ensures.answer)
 
-pub returns-in_err-text-clause-answer : goal.returns-in_err-text-clause-answer
-returns-in_err-text-clause-answer g c =
+pub returns-in_err-lines-clause-answer : goal.returns-in_err-lines-clause-answer
+returns-in_err-lines-clause-answer g c =
     let p = err_from_is_err_and c.from_residual.result c.from_residual.ensures.1 in
     let m = making g.P.NewFiles c.args.outputs.now c.make_each.new.outputs in
     let bytes = g.I.Inputs.bytes c.args.inputs.now c.args.file.now in
@@ -45,13 +45,13 @@ returns-in_err-text-clause-answer g c =
           c.in-Ok-reopen_by_onset.ensures.answer.0;
       same = c.in-Ok-reopen_by_onset.ensures.answer.2;
     } in
-    let why = c.in_err-text.field-0.0 in
+    let why = c.in_err-lines.field-0.0 in
     rw p.1 (rw p.2 (stops-making m bytes c.args.plan.now names l start again rest why
     (subst (λ (rs : List OnsetRun). StopsEach m names l start rest rs why) c.deref.ensures.value
-    c.in_err-text.ensures.answer)))
+    c.in_err-lines.ensures.answer)))
 
-pub returns-in_err-text-clause-opened : goal.returns-in_err-text-clause-opened
-returns-in_err-text-clause-opened g c =
+pub returns-in_err-lines-clause-opened : goal.returns-in_err-lines-clause-opened
+returns-in_err-lines-clause-opened g c =
     let p = err_from_is_err_and c.from_residual.result c.from_residual.ensures.1 in
     rw p.1 (opened-once _ _ _ c.in-Ok.ensures.names)
 
@@ -71,13 +71,13 @@ returns-in-Ok-expect_end-clause-answer g c =
           c.in-Ok-reopen_by_onset.ensures.answer.0;
       same = c.in-Ok-reopen_by_onset.ensures.answer.2;
     } in
-    let text = c.in_ok-text.text.items in
+    let text = c.in_ok-lines.lines.text.items in
     let fit = length-map c.args.names.now string_bytes ∙ c.requires.names in
     let made = all-made m names l mid start left c.args.plan.now.runs.items text fit
     (subst (λ (rs : List OnsetRun). MakesFirst m names l mid start left rs (length rs) text)
-    c.deref.ensures.value c.in_ok-text.ensures.answer) in
+    c.deref.ensures.value c.in_ok-lines.ensures.answer) in
     rereads-with m bytes c.args.plan.now names l start again mid to left rest fit made.0 text
-    (subst (λ (x : Layout). Ends x mid to left rest) c.in_ok-text.ensures.header
+    (subst (λ (x : Layout). Ends x mid to left rest) c.in_ok-lines.ensures.header
     c.in-Ok-expect_end.ensures) made.1
 
 pub returns-clause-answer : goal.returns-clause-answer
@@ -97,13 +97,13 @@ returns-clause-answer g c =
           c.in-Ok-reopen_by_onset.ensures.answer.0;
       same = c.in-Ok-reopen_by_onset.ensures.answer.2;
     } in
-    let text = c.in_ok-text.text.items in
+    let text = c.in_ok-lines.lines.text.items in
     let fit = length-map c.args.names.now string_bytes ∙ c.requires.names in
     let made = all-made m names l mid start left c.args.plan.now.runs.items text fit
     (subst (λ (rs : List OnsetRun). MakesFirst m names l mid start left rs (length rs) text)
-    c.deref.ensures.value c.in_ok-text.ensures.answer) in
+    c.deref.ensures.value c.in_ok-lines.ensures.answer) in
     stops-after m bytes c.args.plan.now names l start again mid to left rest fit made.0 why
-    (subst (λ (x : Layout). StopsAtEnd x mid to left rest why) c.in_ok-text.ensures.header
+    (subst (λ (x : Layout). StopsAtEnd x mid to left rest why) c.in_ok-lines.ensures.header
     c.in-Err-expect_end.ensures)
 
 pub returns-clause-opened : goal.returns-clause-opened

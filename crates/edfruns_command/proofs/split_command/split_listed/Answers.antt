@@ -1,7 +1,7 @@
 use Rattle.std.proofs.Common.{◌∙◌, inl, inr, refl, subst, map, string_bytes, true, false}
 use Rattle.std.proofs.lemmas.List.{length-map}
 use Rattle.edf_program.specs.Output.{Gets, GetsFront, growth}
-use Rattle.edf_program.proofs.Puts.{nothing-gets, put-sent}
+use Rattle.edf_program.proofs.Puts.{nothing-gets, put-sent, remarked}
 use Rattle.edf_new_files.specs.Making.{making}
 use Rattle.edfruns_command.proofs.GivingUp.{made-of, named, stopped, untold}
 use Rattle.edfruns_command.proofs.split_command.split_listed.Goals as goal
@@ -33,11 +33,14 @@ returns-then-send-clause-split g c =
     let all = c.in-Ok.ensures.answer in
     inl (
       all.0,
-      λ spell is. subst (Gets (growth g.O.Output c.args.out.now c.send.new.out))
+      λ spell is. subst (Gets (growth g.O.Output c.args.out.now c.remark_outside.new.err))
           (c.as_slice.ensures.value ∙ all.1 spell is)
+          (remarked (g.O.Output) c.args.out.now c.send.new.out c.remark_outside.new.err
+          (λ w. Gets w c.as_slice.result.now) c.remark_outside.ensures.contents
+          c.remark_outside.ensures.failures
           (put-sent (g.O.Output.contents c.args.out.now) (g.O.Output.failures c.args.out.now)
           (g.O.Output.contents c.send.new.out) (g.O.Output.failures c.send.new.out)
-          c.as_slice.result.now true c.if-send.ensures),
+          c.as_slice.result.now true c.if-send.ensures)),
       nothing-gets (g.F.Output.contents c.args.err.now) (g.F.Output.failures c.args.err.now),
       refl,
     )

@@ -1,7 +1,7 @@
 use Rattle.std.proofs.Common.{take}
 use Rattle.std.specs.List.{flat_map}
 use Rattle.edf_program.specs.Output.{growth, Gets}
-use Rattle.edf_program.proofs.output.tell_parts.Given as goal
+use Rattle.edf_program.proofs.output.put_parts.Given as goal
 
 abbrev pub invariant-loop-part : goal.invariant-loop-part
 invariant-loop-part g l = Gets (growth g.W.Output l.initial.out l.out)

@@ -5,7 +5,7 @@ use Rattle.edf_runs.specs.Order.{in_order}
 use Rattle.edf_runs.specs.Inside.Assigning.{start_alone}
 use Rattle.edf_runs.specs.Inside.Spaced.{Spaced}
 use Rattle.edf_runs.proofs.Gathering.{by-onset-alone}
-use Rattle.edf_runs.proofs.filing.slots_by_onset.Goals as goal
+use Rattle.edf_runs.proofs.listing_by_onset.slots_by_onset.Goals as goal
 
 pub returns : goal.returns
 returns c d records gathered spaced =

@@ -1,0 +1,39 @@
+-- Why a text is no identification: each fault with its condition, of which one at most is true.
+use Rattle.std.specs.Prelude.{◌≡◌, ◌≢◌, ℕ, ◌<◌, List, [], ◌∷◌, length, take, codes, ℤ, Option}
+use Rattle.edf_field.specs.Text.{subfields, IsSex, IsBirthdate, IsStartdate, FollowsStartdate}
+use Rattle.edf_field.specs.declared.fault.PatientFault.{PatientFault}
+use Rattle.edf_field.specs.declared.fault.PatientFault.TheVariants.{NoSex, NoBirthdate, Few}
+use Rattle.edf_field.specs.declared.fault.RecordingFault.{RecordingFault}
+use Rattle.edf_field.specs.declared.fault.RecordingFault.TheVariants.{NoStartdate, NoDate}
+use Rattle.edf_field.specs.declared.fault.RecordingFault.TheVariants.{Few as FewCodes}
+
+-- sex and birthdate are right, where they are there
+abbrev pub AreRight : List (List ℕ) → Type 0
+AreRight (code ∷ sex ∷ []) = IsSex sex
+AreRight (code ∷ sex ∷ birthdate ∷ more) = IsSex sex × IsBirthdate birthdate
+AreRight parts = Unit {0}
+
+-- the fault is true of subfields
+abbrev pub PartsFail : PatientFault → List (List ℕ) → Type 0
+PartsFail NoSex (code ∷ sex ∷ more) = ¬ IsSex sex
+PartsFail NoSex parts = ⊥
+PartsFail NoBirthdate (code ∷ sex ∷ birthdate ∷ more) = IsSex sex × ¬ IsBirthdate birthdate
+PartsFail NoBirthdate parts = ⊥
+PartsFail Few parts = (length parts < 4) × AreRight parts
+
+-- why a text is no patient identification
+abbrev pub IsPatientFault : List ℕ → PatientFault → Type 0
+IsPatientFault text fault = PartsFail fault (subfields text)
+
+-- why a text has no Startdate subfield
+abbrev pub IsStartdateFault : List ℕ → RecordingFault → Type 0
+IsStartdateFault text NoStartdate = take 10 text ≢ codes "Startdate "
+IsStartdateFault text NoDate = (take 10 text ≡ codes "Startdate ")
+    × ((startdate : Option ℤ) (after : List ℕ) → ¬ IsStartdate text startdate after)
+IsStartdateFault text fault = ⊥
+
+-- why a text is no recording identification
+abbrev pub IsRecordingFault : List ℕ → RecordingFault → Type 0
+IsRecordingFault text FewCodes = (startdate : Option ℤ) × (after : List ℕ)
+    × IsStartdate text startdate after × ¬ FollowsStartdate after
+IsRecordingFault text fault = IsStartdateFault text fault
