@@ -55,6 +55,13 @@ sources_digest() {
     xargs -d '\n' sha256sum) | sha256sum | cut -d ' ' -f 1
 }
 
+# What a package has below its folder of documents: README, the documents and the examples, with
+# `checks/lib`, which the examples' scripts use. Man pages have a place of their own.
+document_files() {
+  git -C "$top" ls-files -- '*.md' docs examples checks/__init__.py checks/lib |
+    grep -v '^docs/.*\.1$'
+}
+
 # Whether the file $1, which was made of the crate $2 for the machine $3, is there and no source of
 # it is newer.
 is_newer() {

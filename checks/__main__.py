@@ -5,7 +5,7 @@
 
 A program that no option names is the one that its script in bin runs, which proves and builds it
 where it is stale. Each check is a module of this folder with a count of its own; --long takes those
-of docs/RELIABILITY.md, and the checks of the release as well. A line says what was tried, how
+of docs/EVIDENCE.md, and the checks of the release as well. A line says what was tried, how
 often, and in how many seconds; the output of a check that fails follows it. A check that needs what
 is not here is left out, and the line says what that is. --only runs the check of that name alone,
 as `kill.run`, and looks for no program but those that it takes. The last line has how many passed
@@ -130,6 +130,10 @@ CHECKS = (
     Check("mend.foreign", "files of other programs, mended", (EDFSTORE, EDFMEND),
           needs=("cc", "save2gdf", "python3-mne", "libedf-dev"), is_for_long=True,
           python=DEBIANS_OWN),
+    Check("told", "faults of form as REFUSALS has them", ()),
+    Check("documents", "files whose links and names stand", (), needs=("git",)),
+    Check("promises", "contracts that PROMISES names", ()),
+    Check("architecture", "crates and files that ARCHITECTURE has", (), needs=("git",)),
     Check("arm64.host", "answers of the C functions for arm64", (), needs=FOR_ARM64,
           is_for_long=True),
     Check("edits.standing", "edits whose lines stand in the sources", ()),
@@ -280,7 +284,7 @@ def taken(named: list) -> list:
 
 def words() -> arguments.Parser:
     parser = arguments.Parser(__doc__, arguments.PROGRAMS, prog="checks/run")
-    parser.add_argument("--long", action="store_true", help="the counts of docs/RELIABILITY.md")
+    parser.add_argument("--long", action="store_true", help="the counts of docs/EVIDENCE.md")
     parser.add_argument("--jobs", type=int, default=os.cpu_count(), metavar="N",
                         help="checks at a time")
     parser.add_argument("--only", action="append", default=[], metavar="NAME", help="this check")

@@ -35,8 +35,8 @@ SERVICES = {"usr/lib/edfstore/receive": ("examples/receiving/receive", 0o755),
             installed.PAGE: ("examples/site/edfoverview.service", 0o644),
             installed.TIMER: ("examples/site/edfoverview.timer", 0o644)}
 EXAMPLES = ("edflib.edf", "one-record.edf")
-DOCUMENTS = ("README.md", "copyright", "changelog.gz", "docs/FORMAT.md", "docs/REFUSALS.md",
-             "docs/RELIABILITY.md", "docs/READERS.md", *(f"examples/{name}" for name in EXAMPLES))
+DOCUMENTS = ("README.md", "copyright", "changelog.gz", "docs/GUIDE.md", "docs/REFUSALS.md",
+             "docs/FORMAT.md", "docs/GLOSSARY.md", *(f"examples/{name}" for name in EXAMPLES))
 PLACE = ("PATH=/usr/sbin:/usr/bin:/sbin:/bin", "DEBIAN_FRONTEND=noninteractive")
 EARLIER = 946_684_800       # a time of files, which must not be seen
 
@@ -239,7 +239,7 @@ def as_shown(checks: Checks, bare: Bare) -> None:
 
 
 def in_sentences(checks: Checks, bare: Bare) -> None:
-    """The commands that README names in its sentences, and those of REFUSALS for a cut file."""
+    """The commands that GUIDE names in its sentences, and those of REFUSALS for a cut file."""
     checks.begin("the documents' other commands")
     place = bare.root / "tmp/other"
     place.mkdir()

@@ -1,5 +1,5 @@
-"""What the program can't notice, or answers by a refusal that stays: the things that README and
-docs/RELIABILITY.md warn of, as they are.
+"""What the program can't notice, or answers by a refusal that stays: the things that docs/GUIDE.md
+warns of, as they are.
 
     python3 -m checks.warned [--program PATH] [COUNT]   100 bits if left out
 

@@ -35,7 +35,7 @@ from checks.lib.serving import Client
 
 SHARED = "usr/share/doc/edfstore"
 NIGHT = night.Night(records=1_440, samples=(256, 128, 64), fragments=12)
-SECONDS = 900       # that another check may take
+SECONDS = 3_600     # that another check may take
 # Each other check, with its programs and counts.
 CHECKS = (
     ("lines.run", ("edfstore",), ()),
