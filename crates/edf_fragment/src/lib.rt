@@ -12,7 +12,7 @@
 //! - [`FragmentReader`]: a header, and then one data record at a time. [`OpenFragment`]: the same,
 //!   where the input stays with the caller. [`Progress`], [`ReaderState`]: how far a reader is.
 //! - [`read_fragment`]: the header and all data records, read into memory.
-//! - [`Record`]: a data record. [`FragmentFault`]: why a fragment is refused, E1 to E29, or can't
+//! - [`Record`]: a data record. [`FragmentFault`]: why a fragment is refused, or can't
 //!   be read, E40 and E41.
 //! - [`Input`], [`Output`]: readers and writers whose contracts also count the calls that failed,
 //!   so that a failed read or write is a refusal only where one failed. [`Counted`]: one of any

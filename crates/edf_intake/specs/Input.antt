@@ -12,7 +12,7 @@ use Rattle.edf_fragment.specs.declared.advance.Progress.{Progress}
 use Rattle.edf_fragment.specs.declared.fault.FragmentFault.{FragmentFault}
 use Rattle.edf_fragment.specs.declared.fault.FragmentFault.TheVariants.{Read, Memory, Failed}
 
--- E1 to E29
+-- of form
 abbrev pub IsOfForm : FragmentFault → Type 0
 IsOfForm Read = ⊥
 IsOfForm Memory = ⊥

@@ -93,7 +93,7 @@ module _ {S : Type 0} (g : Ghosts S) (old new : StoreModel S) where
 
     -- each cause of a refusal, what it says of the input and what is left
     abbrev pub IsRefusedFor : Cause → Type 0
-    IsRefusedFor (OfForm fault) = Refuses (Fault fault) (Form fault)  -- E1 to E29
+    IsRefusedFor (OfForm fault) = Refuses (Fault fault) (Form fault)  -- of form
     IsRefusedFor (OfConflict conflict) = RefusesFragment (Conflicts conflict)  -- from E30 on
     IsRefusedFor OfRead = FailsThere  -- E40
     IsRefusedFor OfMemory = StopsThere (Err refusal.Memory)  -- E41

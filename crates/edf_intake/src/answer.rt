@@ -33,7 +33,7 @@ pub struct Receipt {
 /// Why a fragment is not accepted. What was held before the submission is held after it.
 #[derive(Clone, Copy, Debug, PartialEq, Eq, Drop, Error)]
 pub enum Refusal {
-    /// E1 to E29: the input is no fragment. The fault is neither a failed read nor want of memory.
+    /// The input is no fragment. The fault is neither a failed read nor want of memory.
     #[error("{0}")]
     Form(FragmentFault),
     /// E30: a data record overlaps a stored one that starts at another instant. It is the first of

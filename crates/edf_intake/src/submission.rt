@@ -22,7 +22,7 @@ use std::alloc::{AllocError, Global};
 /// a fault of form is always answered in place of these.
 ///
 /// # Errors
-/// `Form` (E1 to E29): the first fault of the input. Else a conflict with what is held, from
+/// `Form`: the first fault of the input. Else a conflict with what is held, from
 /// `Overlap` (E30) on: a data record that clashes, else that there is no room. `Read` (E40) where a
 /// read failed, in place of what would have been found after it, and of a conflict. `Memory` (E41)
 /// where memory ran out and `Store` (E42, E45) where the store refused a call, in place of any

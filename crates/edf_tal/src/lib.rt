@@ -4,7 +4,7 @@
 //! - [`read_blocks`]: the start and the annotations of a data record, or the first rule that its
 //!   blocks break. [`read_block`]: the same of a data record with one block.
 //! - [`Note`]: an annotation. [`Place`]: where the data record is. [`TalFault`]: why its blocks
-//!   are refused, E22 to E28.
+//!   are refused.
 //! - [`write_block`], [`block_len`]: the one block that a data record of a canonical file has, and
 //!   its length.
 //! - [`same_notes`]: whether two lists have the same annotations.

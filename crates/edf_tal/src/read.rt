@@ -162,7 +162,7 @@ fn list_notes(
 /// other annotations, block after block. All annotations of a TAL share its onset and duration.
 ///
 /// # Errors
-/// The first of E22 to E28 that is true, as `TalFault` describes them: `FirstOnset` only at
+/// The first fault that is true, as `TalFault` describes them: `FirstOnset` only at
 /// `Place::First`, `Order` only at `Place::After`. Offsets count from 0 over `block`, so over the
 /// blocks joined; E22 names the first block that is no list of TALs. `Memory` where an allocation
 /// was refused; the blocks then have no fault.
