@@ -179,10 +179,9 @@ NO_FOLDER = "its folder is not there: mount its disk, or make it"
 IN_MEMORY = "a session keeps its store in a file; './:memory:' is a file of that name"
 LOST = ("its file or its log was removed, replaced or cut while it was open: what was taken may be "
         "lost, so send it again")
-DAMAGED = ("the file is damaged, or it has page sums and sqlite3 wrote or copied it "
-           "(ANALYZE, VACUUM, .backup), or it was copied without its -wal, so copy both; if "
-           "sqlite3 did, 'sqlite3 OLD.db .dump | sqlite3 NEW.db' makes a store that opens, without "
-           "sums")
+DAMAGED = ("the file is damaged, or it was copied without its -wal, so copy both, or it has page "
+           "sums and sqlite3 wrote or copied it (ANALYZE, VACUUM, .backup): take all its files "
+           "into a new store; 'man edfstore' has more")
 NOT_PERMITTED = "no permission to read and write it, or files beside it"
 BUSY = "another program has it open; run this again when that has ended"
 OTHER_TABLES = ("its tables are not a store's, or have an index or a trigger; it was left as it is")

@@ -21,9 +21,9 @@ const OTHER_TABLES: &str =
 const OTHER_ROWS: &str = "its rows are such as no submissions leave; put it aside, as it is";
 
 /// A page sum goes wrong in two ways, and which of them it was can't be seen.
-const DAMAGED: &str = "the file is damaged, or it has page sums and sqlite3 wrote or copied it \
-    (ANALYZE, VACUUM, .backup), or it was copied without its -wal, so copy both; if sqlite3 did, \
-    'sqlite3 OLD.db .dump | sqlite3 NEW.db' makes a store that opens, without sums";
+const DAMAGED: &str = "the file is damaged, or it was copied without its -wal, so copy both, or it \
+    has page sums and sqlite3 wrote or copied it (ANALYZE, VACUUM, .backup): take all its files \
+    into a new store; 'man edfstore' has more";
 
 /// What is said where the path of a store does not stand for the files that are open.
 const LOST: &str = "its file or its log was removed, replaced or cut while it was open: \
