@@ -87,6 +87,7 @@ def status(told: Told) -> None:
             it.send(f"cut {nth:02}.edf", first[1][:-1 - nth])
         (it.inbox / "written.edf.part").write_bytes(b"")
         (it.inbox / ".hidden").write_bytes(b"")
+        (it.inbox / "folder").mkdir()
         (it.inbox / "no rename.edf").write_bytes(first[0])
         told.same("refused, and one waits", it.tells(waiting=1), it.wanted(waiting=1))
         # The recording of the first run that begins last is the other patient's, at place 1.
@@ -113,11 +114,15 @@ def modes(it: Receiver) -> list:
 
 
 def seldom(told: Told) -> None:
-    """At most once in five minutes, also where it is begun again; the last file stays told."""
+    """What comes first is told at once, and then at most once in five minutes, also where it is
+    begun again; the last file stays told."""
     with told.receiver("r02", RECEIVE_TELL="300") as it:
         told.same("at the start", it.tells(), it.wanted())
+        first, then = parts(ONE)[:2]
+        it.send("a.edf", first)
+        told.same("what came first", it.tells(), it.wanted())
         before = it.now.stat().st_mtime_ns
-        it.send("a.edf", parts(ONE)[0])
+        it.send("b.edf", then)
         time.sleep(4)
         told.same("meanwhile", it.now.stat().st_mtime_ns, before)
         it.end()
