@@ -11,8 +11,8 @@ their data records, or several annotations signals. 200 come to a new store in t
 the store is opened with rows. Checked are the line of each file, the status, the lines of `list`,
 and every export byte for byte; that the whole list sent again changes nothing; and that an empty
 store accepts each export and writes it again unchanged. The model (checks/lib/model.py) was written
-from docs/FORMAT.md and docs/REFUSALS.md, apart from the program. The batch that fails first is kept
-in FOLDER.
+from docs/FORMAT.md and docs/REFUSALS.md, apart from the program. Of the batch that fails first the
+fewest files that still fail are looked for, and kept in FOLDER.
 """
 import collections
 import os
@@ -24,6 +24,7 @@ from checks.fuzz import cases
 from checks.lib import arguments, measure, model, printed
 from checks.lib.checks import Lost, compare, end
 from checks.lib.edf import ANNOTATIONS_LABEL
+from checks.lib.fewest import fewest
 
 
 def take(program: measure.Program, names: list, files: list, store: model.Store) -> list:
@@ -60,8 +61,9 @@ def check(program: measure.Program, files: list, is_long: bool) -> list:
         names.append(f"{nth:04}.edf")
         (program.folder / names[-1]).write_bytes(data)
     store, half = model.Store(), len(files) // 2
-    answers = take(program, names[:half], files[:half], store)
-    answers += take(program, names[half:], files[half:], store)
+    answers = []
+    for part in filter(None, (range(half), range(half, len(files)))):
+        answers += take(program, [names[nth] for nth in part], [files[nth] for nth in part], store)
     exports(program, store)
     if is_long:
         held = {key: list(records) for key, (_, records) in store.held.items()}
@@ -87,10 +89,29 @@ def kind(data: bytes) -> str:
                         ["with several annotations signals"] * several)
 
 
+def fault_of(program: measure.Program, files: list, is_long: bool) -> str:
+    """Why these files fail alone; nothing where they don't."""
+    emptied(program.folder)
+    try:
+        if files:
+            check(program, files, is_long)
+    except Lost as wrong:
+        return str(wrong)
+    return ""
+
+
+def tell(program: measure.Program, files: list, is_long: bool, keep: str) -> None:
+    """Tells of the fewest files that fail, and keeps them."""
+    least = fewest(files, lambda some: bool(fault_of(program, some, is_long)))
+    print(f"{len(least)} of its {len(files)} files fail: {fault_of(program, least, is_long)}")
+    if keep:
+        shutil.copytree(program.folder, keep, dirs_exist_ok=True)
+
+
 def words() -> arguments.Parser:
     parser = arguments.Parser(__doc__, count=2_000)
     parser.add_argument("--seed", default="1", help="of the files, 1 if left out")
-    parser.add_argument("--keep", metavar="FOLDER", help="where the batch that fails first goes")
+    parser.add_argument("--keep", metavar="FOLDER", help="where files that fail go")
     return parser
 
 
@@ -116,9 +137,8 @@ def main() -> None:
             try:
                 answers += check(program, files, nth % 4 == 0)
             except Lost as wrong:
-                print(f"batch {nth} of seed {given.seed}: {wrong}")
-                if given.keep:
-                    shutil.copytree(folder, given.keep, dirs_exist_ok=True)
+                print(f"batch {nth} of seed {given.seed}: {wrong}", flush=True)
+                tell(program, files, nth % 4 == 0, given.keep)
                 end(len(answers) + 1, 1)
             kinds.update(map(kind, files))
     print(f"{time.perf_counter() - begun:.0f} s, seed {given.seed}: every line, list and export as "

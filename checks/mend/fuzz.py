@@ -5,7 +5,8 @@
 2,000 files if left out. A file is a fragment of the fuzzer's or a good one of `mend.run`, spoilt
 in up to four places: fields by texts as recorders write them, bytes of the header and of a block,
 its length. The plain model accepts each mended file, its samples are those that were there, and its
-ledger is empty only where nothing changed. The file that fails first is kept in FOLDER.
+ledger is empty only where nothing changed. Of the file that fails first the fewest places that
+still fail are looked for, and it is kept in FOLDER with these alone.
 """
 import collections
 import random
@@ -15,6 +16,7 @@ from pathlib import Path
 from checks.lib import arguments, by_hand, measure, mended
 from checks.lib.checks import Lost, end
 from checks.lib.edf import FIXED_WIDTHS, SIGNAL_WIDTHS, filled
+from checks.lib.fewest import fewest
 from checks.mend.run import CODE, GOOD, PLAIN
 
 BASES = (GOOD, PLAIN, by_hand.K, by_hand.R9, by_hand.U, by_hand.V, by_hand.HALF)
@@ -45,13 +47,17 @@ def spoilt(rng: random.Random, data: bytes) -> bytes:
     return rng.choice((data[:rng.randrange(len(data))], data + rng.randbytes(rng.randrange(1, 9))))
 
 
-def tried(mender: mended.Mender, rng: random.Random) -> str:
-    """Mends one spoilt file: how it went."""
-    data = rng.choice(BASES)
-    for _ in range(rng.randint(1, 4)):
+def case(rng: random.Random) -> tuple:
+    """A file, the seeds of what spoils it, and the words."""
+    return (rng.choice(BASES), [rng.random() for _ in range(rng.randint(1, 4))],
+            CODE if rng.random() < 0.7 else ())
+
+
+def tried(mender: mended.Mender, data: bytes, seeds: list, words: tuple) -> str:
+    """Mends the file that is spoilt so: how it went."""
+    for seed in seeds:
         if data:
-            data = spoilt(rng, data)
-    words = CODE if rng.random() < 0.7 else ()
+            data = spoilt(random.Random(seed), data)
     ran = mender.mend(data, *words)
     made = mender.look(data, ran)
     if not made:
@@ -64,6 +70,15 @@ def tried(mender: mended.Mender, rng: random.Random) -> str:
     return "mended"
 
 
+def fault_of(mender: mended.Mender, data: bytes, seeds: list, words: tuple) -> str:
+    """Why it fails; nothing where it doesn't."""
+    try:
+        tried(mender, data, seeds, words)
+    except (Lost, ValueError) as why:
+        return str(why)
+    return ""
+
+
 def main() -> None:
     parser = arguments.Parser(__doc__, programs=("edfmend",), count=2_000)
     parser.add_argument("--seed", type=int, default=1, help="1 if left out")
@@ -73,10 +88,14 @@ def main() -> None:
     with measure.scratch() as name:
         mender = mended.Mender(given.edfmend, Path(name))
         for nth in range(given.count):
+            data, seeds, words = case(rng)
             try:
-                ways[tried(mender, rng)] += 1
+                ways[tried(mender, data, seeds, words)] += 1
             except (Lost, ValueError) as why:
                 print(f"file {nth + 1}: {why}")
+                least = fewest(seeds, lambda some: bool(fault_of(mender, data, some, words)))
+                print(f"{len(least)} of its {len(seeds)} spoilt places fail: "
+                      f"{fault_of(mender, data, least, words)}")
                 if given.keep:
                     given.keep.mkdir(exist_ok=True)
                     (given.keep / "in.edf").write_bytes(mender.given.read_bytes())
