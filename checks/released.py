@@ -95,7 +95,14 @@ def first_commands(checks: Checks, clones: Clones) -> None:
                        "".join(f"?? {name}\n" for name in made), "", 0)
     change_a_source(clone)
     checks.compare("bin/edfstore where a source is another",
-                   clones.run(clone, "bin/edfstore", "--version"), "", NO_TOOLCHAIN, 3)
+                   clones.run(clone, "bin/edfstore", "--version"), "", others_first(clone), 3)
+
+
+def others_first(clone: Path) -> str:
+    """What is told before a build begins, and that it can't."""
+    archive = next((clone / "release").glob("*-x86_64-linux.tar.xz"))
+    return ("bin/edfstore: the programs in release/ are of other sources than these. To run them "
+            f"all the same, stop this and unpack {archive}\n{NO_TOOLCHAIN}")
 
 
 def change_a_source(clone: Path) -> None:
