@@ -1,8 +1,9 @@
 //! The line of the stages of sleep, by coordinates worked out by hand: from 112 at the recording's
 //! start to 976 at its end, Wake at 12, REM at 30, then N1, N2 and N3 each 18 lower.
 
-use crate::picture::{SECOND, drawn, has_all, stretch};
-use edf_picture::{Sketch, Stretch};
+use crate::picture::{SECOND, drawn, has_all, note, stretch};
+use edf_picture::Stretch;
+use edf_sleep::Note;
 use edf_time::Instant;
 use std::alloc::{AllocError, Global};
 
@@ -13,13 +14,12 @@ const START: i64 = 79_200;
 /// the duration, or 0 where there is none, how many there are, and the stage.
 type Stages = (i64, u64, i64, &'static str);
 
-/// A night: what it is, the first second and the seconds of each of its runs, its stages, the line,
-/// and the name of the lowest stage. Each has 8,640 seconds, ten for a pixel.
+/// A night: what it is, the first second and the seconds of each of its runs, its stages, and the
+/// line. Each has 8,640 seconds, ten for a pixel.
 type Night = (
     &'static str,
     &'static [(i64, u32)],
     &'static [Stages],
-    &'static str,
     &'static str,
 );
 
@@ -39,17 +39,15 @@ const NIGHTS: &[Night] = &[
             (6_960, 0, 56, "W"),
         ],
         "M112 12H172V66H292V30H400M688 30H808V12H976",
-        "N3",
     ),
     (
         "the last seven minutes are Wake",
         WHOLE,
         &[(0, 0, 274, "N2"), (8_220, 0, 14, "W")],
         "M112 66H934V12H976",
-        "N3",
     ),
     (
-        "changes alone are named",
+        "changes alone are named, and the last is told for an epoch",
         WHOLE,
         &[
             (0, 0, 1, "N2"),
@@ -58,7 +56,6 @@ const NIGHTS: &[Night] = &[
             (8_220, 0, 1, "N1"),
         ],
         "M112 66H412V30H612V12H934V48H937",
-        "N3",
     ),
     (
         "stages 3 and 4, with durations",
@@ -76,76 +73,79 @@ const NIGHTS: &[Night] = &[
             (6_640, 2_000, 1, "W"),
         ],
         "M112 12H172V48H202V66H322V84H472M478 84H508M612 30H712M776 12H976",
-        "N3 (3, 4)",
     ),
     (
-        "stages outside of their data records",
+        "stages that begin or end where nothing was recorded",
         WITH_A_GAP,
         &[
             (-100, 400, 1, "N3"),
-            (2_700, 600, 1, "N2"),
+            (2_700, 300, 1, "N2"),
             (3_000, 600, 1, "R"),
             (5_700, 300, 1, "N1"),
             (8_600, 600, 1, "W"),
-            (9_000, 30, 1, "N3"),
+            (9_200, 30, 1, "N3"),
         ],
         "M112 84H142M382 66H400M688 48H712M972 12H976",
-        "N3",
     ),
     (
-        "a stage that begins in a gap, until the next one",
+        "one that begins in a gap an epoch before its end is over behind it",
         WITH_A_GAP,
-        &[(4_000, 0, 1, "N2"), (6_760, 0, 1, "W")],
-        "M688 66H788V12H791",
-        "N3",
+        &[(5_730, 0, 1, "N2"), (6_760, 0, 1, "W")],
+        "M788 12H791",
     ),
     (
-        "every name, and others that name none",
+        "one that begins there later goes on",
+        WITH_A_GAP,
+        &[(5_740, 0, 1, "N2"), (6_760, 0, 1, "W")],
+        "M688 66H788V12H791",
+    ),
+    (
+        "names of all rules; what names no stage ends the one before it",
         WHOLE,
         &[
             (0, 0, 1, "W"),
             (600, 0, 1, "REM"),
-            (1_200, 0, 1, "M"),
-            (1_800, 0, 1, "R"),
-            (2_100, 0, 1, "r"),
-            (2_200, 0, 1, "N4"),
-            (2_300, 0, 1, "W "),
+            (1_200, 0, 1, "MT"),
+            (1_800, 0, 1, "rem"),
+            (2_100, 0, 1, "N4"),
             (2_400, 0, 1, "?"),
-            (3_000, 0, 1, "N1"),
-            (3_600, 0, 1, "N2"),
-            (4_200, 0, 1, "N3"),
+            (3_000, 0, 1, "nrem1"),
+            (3_600, 0, 1, "S2"),
+            (4_200, 0, 1, "n3"),
+            (4_800, 0, 1, "N"),
+            (5_400, 0, 1, "?"),
         ],
-        "M112 12H172V30H232M292 30H352M412 48H472V66H532V84H592",
-        "N3",
+        "M112 12H172V30H232M292 30H322M412 48H472V66H532V84H592V102H652",
     ),
     (
-        "half a minute each, as those before, and not until the next one",
+        "half a minute each, and not until the next one",
         WHOLE,
         &[(0, 0, 3, "N2"), (3_000, 0, 3, "R"), (6_000, 0, 1, "W")],
         "M112 66H121M412 30H421M712 12H715",
-        "N3",
     ),
     (
-        "a later stage ends the one before it",
+        "of two scorings there is no line",
         WHOLE,
         &[(0, 8_640, 1, "W"), (3_000, 600, 1, "2")],
-        "M112 12H412V66H472",
-        "3",
+        "",
     ),
     (
-        "in another order, between others and in place of one",
+        "movement in a stage takes nothing from it",
+        WHOLE,
+        &[(0, 8_640, 1, "N2"), (3_000, 600, 1, "M")],
+        "M112 66H976",
+    ),
+    (
+        "in another order",
         WHOLE,
         &[
             (30, 0, 1, "N1"),
-            (0, 0, 6, "W"),
-            (30, 0, 1, "N2"),
+            (0, 0, 1, "W"),
             (120, 0, 1, "N2"),
             (-30, 0, 1, "N2"),
-            (0, 0, 1, "N3"),
             (90, 0, 1, "W"),
         ],
-        "M112 84H115V66H118V12H124V66H127V12H130",
-        "N3",
+        "M112 12H115V48H121V12H124V66H127",
     ),
     (
         "gaps narrower than half a pixel, between the middles of two columns and over one",
@@ -156,21 +156,18 @@ const NIGHTS: &[Night] = &[
             (2_004, 996, 1, "W"),
         ],
         "M112 12H212V66H312.5V12H412",
-        "N3",
     ),
     (
-        "a gap narrower than half a pixel ends no stage",
+        "a gap narrower than half a pixel is none in the line",
         &[(0, 2_855), (2_856, 5_784)],
         &[(0, 0, 144, "N2"), (4_320, 30, 144, "W")],
         "M112 66H544V12H976",
-        "N3",
     ),
     (
-        "a gap of half a pixel ends a stage",
+        "a gap of half a pixel is one",
         &[(0, 2_855), (2_860, 5_780)],
         &[(0, 30, 288, "N2")],
-        "M112 66H397.5M400 66H976",
-        "N3",
+        "M112 66H397.5M398 66H976",
     ),
 ];
 
@@ -180,7 +177,7 @@ fn instant(second: i64) -> Option<Instant> {
     Instant::at(second.saturating_mul(SECOND))
 }
 
-fn add_stages(alloc: Global, sketch: &mut Sketch, stages: Stages) -> Result<(), AllocError> {
+fn add_stages(alloc: Global, notes: &mut Vec<Note>, stages: Stages) -> Result<(), AllocError> {
     let (first, seconds, count, stage) = stages;
     let text = format!(in alloc; "Sleep stage {stage}")?;
     let duration = if seconds > 0 {
@@ -190,7 +187,7 @@ fn add_stages(alloc: Global, sketch: &mut Sketch, stages: Stages) -> Result<(), 
     };
     for nth in 0..count {
         if let Some(onset) = instant(first.saturating_add(nth.saturating_mul(30))) {
-            sketch.add_annotation(onset, duration, text.as_str())?;
+            notes.push(note(alloc, onset, duration, text.as_str())?)?;
         }
     }
     Ok(())
@@ -208,17 +205,16 @@ fn stretches(alloc: Global, runs: &[(i64, u32)]) -> Result<Vec<Stretch>, AllocEr
     Ok(list)
 }
 
-/// Whether a night has its line, and the name of its lowest stage.
+/// Whether a night has its line.
 fn is_so(alloc: Global, night: &Night) -> Option<bool> {
-    let (_, runs, stages, line, lowest) = *night;
-    let mut sketch = Sketch::new(alloc);
+    let (_, runs, stages, line) = *night;
+    let mut notes = Vec::new(alloc);
     for equal in stages.iter().copied() {
-        add_stages(alloc, &mut sketch, equal).ok()?;
+        add_stages(alloc, &mut notes, equal).ok()?;
     }
-    let svg = drawn(alloc, &sketch, b"P7", &stretches(alloc, runs).ok()?).ok()?;
+    let svg = drawn(alloc, &notes, b"P7", &stretches(alloc, runs).ok()?).ok()?;
     let path = format!(in alloc; "<path class='s' d='{line}'>").ok()?;
-    let label = format!(in alloc; " y='88'>{lowest}</text>").ok()?;
-    Some(has_all(Some(svg), &[path.as_str(), label.as_str()]))
+    Some(has_all(Some(svg), &[path.as_str()]))
 }
 
 /// How many milliseconds are missing before each half minute. Half a pixel has 5 s or more.
@@ -226,7 +222,7 @@ const DRIFTS: &[u64] = &[1, 4_999];
 
 /// A stage for each half minute of a recording, before each of which so much is missing.
 fn drifting(alloc: Global, missing: u64) -> Option<String> {
-    let mut sketch = Sketch::new(alloc);
+    let mut notes = Vec::new(alloc);
     let mut runs = Vec::new(alloc);
     let mut start = 79_200u64.saturating_mul(SECOND);
     let step = missing
@@ -234,45 +230,12 @@ fn drifting(alloc: Global, missing: u64) -> Option<String> {
         .saturating_add(30 * SECOND);
     for _ in 0..288 {
         let run = stretch(start, 30)?;
-        sketch
-            .add_annotation(run.first, Some(30 * SECOND), "Sleep stage N2")
-            .ok()?;
+        let stage = note(alloc, run.first, Some(30 * SECOND), "Sleep stage N2").ok()?;
+        notes.push(stage).ok()?;
         runs.push(run).ok()?;
         start = start.saturating_add(step);
     }
-    drawn(alloc, &sketch, b"P7", &runs).ok()
-}
-
-/// Adds a stage at every second of so many, N2 at the odd ones and else Wake.
-fn add_changes(sketch: &mut Sketch, count: i64, backwards: bool) -> Result<(), AllocError> {
-    for nth in 0..count {
-        let second = if backwards {
-            count.saturating_sub(nth).saturating_sub(1)
-        } else {
-            nth
-        };
-        let text = if second % 2 == 1 {
-            "Sleep stage N2"
-        } else {
-            "Sleep stage W"
-        };
-        if let Some(onset) = instant(second) {
-            sketch.add_annotation(onset, None, text)?;
-        }
-    }
-    Ok(())
-}
-
-/// How many changes there are, in which order, and whether some are left out. A day has 50 seconds
-/// for half a pixel, whose middle is an odd one.
-const CHANGES: &[(i64, bool, bool)] = &[(32_768, false, false), (32_769, true, true)];
-
-/// A day with so many changes.
-fn changing(alloc: Global, count: i64, backwards: bool) -> Option<String> {
-    let mut sketch = Sketch::new(alloc);
-    add_changes(&mut sketch, count, backwards).ok()?;
-    let day = stretches(alloc, &[(0, 86_400)]).ok()?;
-    drawn(alloc, &sketch, b"P7", &day).ok()
+    drawn(alloc, &notes, b"P7", &runs).ok()
 }
 
 #[test]
@@ -288,12 +251,5 @@ fn a_stage_is_drawn_where_it_was_recorded(rt: HostRuntime) {
             &["<path class='s' d='M112 66H976'>"],
         );
         assert!(rt; is_whole, "{missing}");
-    }
-    for (count, backwards, lacks_some) in CHANGES.iter().copied() {
-        let svg = changing(alloc, count, backwards);
-        let is_drawn = has_all(svg, &["<path class='s' d='M112 66H439.5'>"]);
-        let svg = changing(alloc, count, backwards);
-        let is_said = has_all(svg, &["(the first ones are drawn)"]);
-        assert_eq!(rt; (is_drawn, is_said), (true, lacks_some), "{count}");
     }
 }

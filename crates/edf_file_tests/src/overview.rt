@@ -1,8 +1,9 @@
 //! What pictures show over the whole recording, by coordinates worked out by hand: from 112 at the
 //! recording's start to 976 at its end, ten seconds for a pixel.
 
-use crate::picture::{SECOND, drawn, has_all, stretch};
-use edf_picture::{Recorded, Signal, Sketch, Stretch, Title};
+use crate::picture::{SECOND, account_of, drawn, has_all, note, stretch};
+use edf_picture::{Joined, Recorded, Signal, Stretch, Title, draw};
+use edf_sleep::Note;
 use edf_time::Instant;
 use std::alloc::Global;
 
@@ -25,17 +26,19 @@ const CASES: &[Case] = &[
         ],
         &[
             "y='13'>Apnea</text>",
-            "y='13'>3, 1.3 per recorded hour</text>\
+            "y='13'>3, 1.3 per recorded hour</text><path class='y' d=''/>\
             <path class='x' d='M122 23h2M212 23h1M975 23h1'/>",
             "y='45'>Schl\u{e4}ft \u{2013} &lt;rechts&gt;</text>",
-            "y='45'>1, 0.4 per recorded hour</text><path class='x' d='M117 55h1'/>",
+            "y='45'>1, 0.4 per recorded hour</text><path class='y' d=''/>\
+            <path class='x' d='M117 55h1'/>",
             "annotation, as long as it lasts",
         ],
     ),
     (
         &[(100, 20, "Apnea"), (110, 30, "Apnea"), (9_000, 10, "Apnea")],
         &[
-            ">3, 1.3 per recorded hour</text><path class='x' d='M122 23h4'/>",
+            ">3, 0.8 per recorded hour</text><path class='y' d=''/>\
+            <path class='x' d='M122 23h4'/>",
             "1 outside the recording's time, not drawn",
         ],
     ),
@@ -51,9 +54,11 @@ const CASES: &[Case] = &[
         &[(8_640, 0, "The end"), (0, 0, "")],
         &[
             ">(no text)</text>",
-            ">1, 0.4 per recorded hour</text><path class='x' d='M112 23h1'/>",
+            ">1, 0.4 per recorded hour</text><path class='y' d=''/>\
+            <path class='x' d='M112 23h1'/>",
             ">The end</text>",
-            ">1, 0.4 per recorded hour</text><path class='x' d='M975 55h1'/>",
+            ">1, 0.0 per recorded hour</text><path class='y' d='M975 55h1'/>\
+            <path class='x' d=''/>",
         ],
     ),
     (
@@ -61,24 +66,25 @@ const CASES: &[Case] = &[
             (300, 0, "Lights off"),
             (0, 600, "Sleep stage W"),
             (600, 1_200, "Sleep stage N2"),
-            (1_800, 0, "Lights on"),
-            (2_000, 0, "lights off"),
+            (1_800, 0, "lights ON"),
+            (700, 0, "Arousal"),
         ],
         &[
             "<path class='o' d='M142 0V128'/><path class='o' d='M292 0V128'/>",
-            ">Minutes: W 10.0, R 0.0, N1 0.0, N2 20.0, N3 0.0</text>",
-            ">Total sleep time 20.0 min; sleep efficiency 80.0 % of the 25.0 min from lights off \
-                to lights on</text>",
+            ">Minutes from lights off to lights on: W 5.0, R 0.0, N1 0.0, N2 20.0, N3 0.0</text>",
+            ">Total sleep time 20.0 min; sleep efficiency 80.0 % of 25.0 min</text>",
+            ">Sleep onset 22:10; sleep latency 5.0 min; WASO (W) 0.0 min; no R</text>",
             ">Lights off</text>",
             ">lights off or on</text>",
-            "y='13'>lights off</text>",
+            "y='13'>1, 3.0 per hour of sleep</text>",
         ],
     ),
     (
         &[(0, 30, "Sleep stage 3"), (30, 30, "Sleep stage R")],
         &[
-            ">Minutes: W 0.0, R 0.5, 1 0.0, 2 0.0, N3 (3, 4) 0.5</text>",
-            ">Total sleep time 1.0 min</text>",
+            ">Minutes: W 0.0, R 0.5, N1 0.0, N2 0.0, N3 0.5, not scored 143.0</text>",
+            ">Total sleep time at least 1.0 min; no sleep efficiency: 143.0 of 144.0 min not \
+                known</text>",
         ],
     ),
 ];
@@ -89,32 +95,35 @@ fn instant(second: u64) -> Option<Instant> {
 }
 
 /// Adds an annotation.
-fn add_event(sketch: &mut Sketch, event: Event<'_>) -> Option<()> {
+fn add_event(alloc: Global, notes: &mut Vec<Note>, event: Event<'_>) -> Option<()> {
     let (second, seconds, text) = event;
     let duration = if seconds > 0 {
         Some(seconds.saturating_mul(SECOND))
     } else {
         None
     };
-    sketch.add_annotation(instant(second)?, duration, text).ok()
+    notes
+        .push(note(alloc, instant(second)?, duration, text).ok()?)
+        .ok()?;
+    Some(())
 }
 
 /// The whole recording with these events.
 fn of_events(alloc: Global, events: &[Event<'_>]) -> Option<String> {
-    let mut sketch = Sketch::new(alloc);
+    let mut notes = Vec::new(alloc);
     for event in events.iter().copied() {
-        add_event(&mut sketch, event)?;
+        add_event(alloc, &mut notes, event)?;
     }
-    drawn(alloc, &sketch, b"P7", &[stretch(START * SECOND, 8_640)?]).ok()
+    drawn(alloc, &notes, b"P7", &[stretch(START * SECOND, 8_640)?]).ok()
 }
 
 /// Adds an annotation of each of so many texts, numbered from 0, and one more of those below 20.
-fn add_texts(alloc: Global, sketch: &mut Sketch, count: u64) -> Option<()> {
+fn add_texts(alloc: Global, notes: &mut Vec<Note>, count: u64) -> Option<()> {
     for number in 0..count {
         let text = format!(in alloc; "Event {number:04}").ok()?;
-        add_event(sketch, (number, 0, text.as_str()))?;
+        add_event(alloc, notes, (number, 0, text.as_str()))?;
         if number < 20 {
-            add_event(sketch, (number, 0, text.as_str()))?;
+            add_event(alloc, notes, (number, 0, text.as_str()))?;
         }
     }
     Some(())
@@ -122,20 +131,16 @@ fn add_texts(alloc: Global, sketch: &mut Sketch, count: u64) -> Option<()> {
 
 /// The whole recording with so many texts.
 fn of_texts(alloc: Global, count: u64) -> Option<String> {
-    let mut sketch = Sketch::new(alloc);
-    add_texts(alloc, &mut sketch, count)?;
-    drawn(alloc, &sketch, b"P7", &[stretch(START * SECOND, 8_640)?]).ok()
+    let mut notes = Vec::new(alloc);
+    add_texts(alloc, &mut notes, count)?;
+    drawn(alloc, &notes, b"P7", &[stretch(START * SECOND, 8_640)?]).ok()
 }
 
-/// How many texts there are, what the lane of the others says, and its rate.
+/// How many texts there are, and what the lane of the others says.
 const TEXTS: &[(u64, &str, &str)] = &[
-    (9, "others, of 1 text", "2, 0.8 per recorded hour"),
-    (20, "others, of 12 texts", "24, 10.0 per recorded hour"),
-    (
-        4_097,
-        "others, of more than 4,088 texts",
-        "4,101, 1,708.8 per recorded hour",
-    ),
+    (9, "others, of 1 text", "2"),
+    (20, "others, of 12 texts", "24"),
+    (1_009, "others, of 1,001 texts", "1,013"),
 ];
 
 /// Whether the eight most frequent of so many texts have lanes, and the others one.
@@ -146,12 +151,12 @@ fn have_lanes(alloc: Global, count: u64, others: &str, rate: &str) -> Option<boo
     Some(is_last && has_all(Some(svg), &[">Event 0007</text>", lane.as_str()]))
 }
 
-/// The picture of stretches, with these signals and this tolerance.
+/// The picture of stretches, with these signals, and gaps that were joined.
 fn viewed(
     alloc: Global,
     stretches: &[Stretch],
     signals: &[Signal<'_>],
-    tolerance: u64,
+    joined: Option<Joined>,
 ) -> Option<String> {
     let title = Title {
         patient: b"P7",
@@ -161,44 +166,50 @@ fn viewed(
         duration: SECOND,
         stretches,
         signals,
-        tolerance,
+        joined,
     };
-    Sketch::new(alloc).draw(alloc, &title, &recorded, &[]).ok()
+    let account = account_of(alloc, &[], &[]).ok()?;
+    draw(alloc, &title, &recorded, &account, &[]).ok()
 }
 
-/// A tolerance, and what the heading says of two gaps, of half a second and of ten seconds.
-const TOLERANCES: &[(u64, &str)] = &[
+/// The longest gap that is joined, how many are, how long together, the longest of them, and what
+/// the heading says.
+const JOINED: &[(u64, u64, u64, u64, &str)] = &[
+    (1, 0, 0, 0, ">No gap of at most 0.000000001 s to join<"),
     (
-        0,
-        ">180 records of 1 s, 3 runs, 94.4 % of 3 min 10 s; missing 10.5 s in 2 gaps, \
-            longest 10 s<",
-    ),
-    (1, ">No gap of at most 0.000000001 s to join<"),
-    (
+        SECOND / 2,
+        1,
+        SECOND / 2,
         SECOND / 2,
         ">Joined for this view, gaps of at most 0.5 s: 0.5 s in 1 gap, longest 0.5 s<",
     ),
     (
-        SECOND / 2,
-        ">180 records of 1 s, 2 runs, 94.4 % of 3 min 10 s; missing 10 s in 1 gap, longest 10 s<",
-    ),
-    (
+        10 * SECOND,
+        2,
+        10 * SECOND + SECOND / 2,
         10 * SECOND,
         ">Joined for this view, gaps of at most 10 s: 10.5 s in 2 gaps, longest 10 s<",
     ),
-    (
-        10 * SECOND,
-        ">180 records of 1 s, 1 run, no gap, 94.4 % of 3 min 10 s<",
-    ),
 ];
 
-/// Three minutes with gaps of half a second and of ten seconds, with this tolerance.
-fn with_tolerance(alloc: Global, tolerance: u64) -> Option<String> {
+/// A minute, before which gaps were joined.
+fn with_joined(alloc: Global, joined: Joined) -> Option<String> {
+    viewed(alloc, &[stretch(START * SECOND, 60)?], &[], Some(joined))
+}
+
+/// Three minutes with gaps of half a second and of ten seconds.
+fn with_gaps(alloc: Global) -> Option<String> {
     let first = stretch(START * SECOND, 60)?;
     let second = stretch(START * SECOND + 60 * SECOND + SECOND / 2, 60)?;
     let third = stretch(START * SECOND + 130 * SECOND + SECOND / 2, 60)?;
-    viewed(alloc, &[first, second, third], &[], tolerance)
+    viewed(alloc, &[first, second, third], &[], None)
 }
+
+/// What the heading says of them.
+const GAPS: &[&str] = &[
+    ">180 records of 1 s, 3 runs, 94.4 % of 3 min 10 s; missing 10.5 s in 2 gaps, \
+        longest 10 s<",
+];
 
 /// A minute with 640 signals, of 1 Hz, 2 Hz and so on.
 fn with_signals(alloc: Global) -> Option<String> {
@@ -212,7 +223,7 @@ fn with_signals(alloc: Global) -> Option<String> {
             })
             .ok()?;
     }
-    viewed(alloc, &[stretch(START * SECOND, 60)?], &signals, 0)
+    viewed(alloc, &[stretch(START * SECOND, 60)?], &signals, None)
 }
 
 /// What it says of them.
@@ -237,12 +248,16 @@ fn a_picture_has_lanes_joined_gaps_and_signals(rt: HostRuntime) {
             "{count}"
         );
     }
-    for (tolerance, line) in TOLERANCES.iter().copied() {
-        assert!(rt;
-            has_all(with_tolerance(alloc, tolerance), &[line]),
-            "{line}"
-        );
+    for (tolerance, gaps, sum, longest, line) in JOINED.iter().copied() {
+        let joined = Joined {
+            tolerance,
+            gaps,
+            sum,
+            longest,
+        };
+        assert!(rt; has_all(with_joined(alloc, joined), &[line]), "{line}");
     }
+    assert!(rt; has_all(with_gaps(alloc), GAPS));
     assert!(rt; has_all(with_signals(alloc), SIGNALS));
     assert!(rt; !has_all(with_signals(alloc), &[">25 Hz</text>"]));
 }

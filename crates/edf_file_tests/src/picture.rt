@@ -1,6 +1,10 @@
 //! Pictures, by what their texts say.
 
-use edf_picture::{Recorded, Sketch, Stretch, Title};
+ghost use Rattle.std.specs.Prelude.{IfOk};
+ghost use Rattle.edf_sleep.specs.Account.{IsAccount};
+
+use edf_picture::{Recorded, Stretch, Title, draw};
+use edf_sleep::{Account, Extent, Note, are_sound};
 use edf_time::Instant;
 use std::alloc::{AllocError, Global};
 
@@ -22,10 +26,51 @@ pub(crate) fn stretch(first: u64, records: u32) -> Option<Stretch> {
     })
 }
 
-/// The picture of stretches under a patient's code, with the annotations of a sketch.
+/// An annotation.
+pub(crate) fn note(
+    alloc: Global,
+    onset: Instant,
+    duration: Option<u64>,
+    text: &str,
+) -> Result<Note, AllocError> {
+    Ok(Note {
+        onset: onset.nanos(),
+        duration,
+        text: String::from_str(alloc, text)?,
+    })
+}
+
+/// The times of stretches of data records of a second.
+pub(crate) fn times_of(alloc: Global, stretches: &[Stretch]) -> Result<Vec<Extent>, AllocError> {
+    let mut times = Vec::new(alloc);
+    for stretch in stretches {
+        times.push(Extent {
+            from: stretch.first.nanos(),
+            to: stretch.last.nanos().saturating_add(SECOND),
+        })?;
+    }
+    Ok(times)
+}
+
+/// What annotations and times of runs tell.
+pub(crate) fn account_of<'a>(
+    alloc: Global,
+    notes: &'a [Note],
+    times: &'a [Extent],
+) -> Result<Account<'a>, AllocError>
+    ensures { IfOk result (λ a. IsAccount a) }
+{
+    if are_sound(notes, times) {
+        Account::of(alloc, notes, times)
+    } else {
+        Account::of(alloc, &[], &[])
+    }
+}
+
+/// The picture of stretches under a patient's code, with these annotations.
 pub(crate) fn drawn(
     alloc: Global,
-    sketch: &Sketch,
+    notes: &[Note],
     patient: &[u8],
     stretches: &[Stretch],
 ) -> Result<String, AllocError> {
@@ -37,9 +82,11 @@ pub(crate) fn drawn(
         duration: SECOND,
         stretches,
         signals: &[],
-        tolerance: 0,
+        joined: None,
     };
-    sketch.draw(alloc, &title, &recorded, b"1 & <2>\n")
+    let times = times_of(alloc, stretches)?;
+    let account = account_of(alloc, notes, &times)?;
+    draw(alloc, &title, &recorded, &account, b"1 & <2>\n")
 }
 
 /// Whether there is a picture, and it has all parts.
@@ -58,19 +105,18 @@ pub(crate) fn has_all(svg: Option<String>, parts: &[&str]) -> bool {
 /// Two runs with a gap of 45 seconds, under a patient's code that XML spells otherwise, with three
 /// annotations: two of sleep, of which one is after the recording's end.
 fn night(alloc: Global) -> Option<String> {
-    let mut sketch = Sketch::new(alloc);
     let onset = Instant::at(22 * HOUR + 30 * SECOND)?;
-    sketch.add_annotation(onset, None, "Lights off").ok()?;
-    sketch
-        .add_annotation(onset, Some(30 * SECOND), "Sleep stage N1")
-        .ok()?;
     let late = Instant::at(11 * DAY)?;
-    sketch.add_annotation(late, None, "Sleep stage ?").ok()?;
+    let notes = [
+        note(alloc, onset, None, "Lights off").ok()?,
+        note(alloc, onset, Some(30 * SECOND), "Sleep stage N1").ok()?,
+        note(alloc, late, None, "Sleep stage ?").ok()?,
+    ];
     let stretches = [
         stretch(22 * HOUR, 14_400)?,
         stretch(26 * HOUR + 45 * SECOND, 14_355)?,
     ];
-    drawn(alloc, &sketch, b"P<7&\"'>", &stretches).ok()
+    drawn(alloc, &notes, b"P<7&\"'>", &stretches).ok()
 }
 
 /// What it says.
@@ -84,7 +130,9 @@ const NIGHT: &[&str] = &[
     "<title>14,400 records, 1985-01-01 22:00:00 to 1985-01-02 02:00:00</title>",
     ">45 s</text>",
     ">N1</text>",
-    "<metadata>1 &amp; &lt;2&gt;\n</metadata>\n</svg>\n",
+    ">Minutes: W 0.0, R 0.0, N1 0.5, N2 0.0, N3 0.0, not scored 478.7, missing 0.7</text>",
+    ">Sleep onset not known: before it 0.5 of 0.5 min not known</text>\
+        <metadata>1 &amp; &lt;2&gt;\n</metadata>\n</svg>\n",
 ];
 
 /// What the picture of two stretches of a minute says of the gap between them, and of all.
@@ -110,13 +158,13 @@ const GAPS: &[(u64, &str, &str)] = &[
 fn with_gap(alloc: Global, gap: u64) -> Option<String> {
     let first = stretch(22 * HOUR, 60)?;
     let last = stretch((22 * HOUR + MINUTE).saturating_add(gap), 60)?;
-    drawn(alloc, &Sketch::new(alloc), b"P7", &[first, last]).ok()
+    drawn(alloc, &[], b"P7", &[first, last]).ok()
 }
 
 /// Ten minutes without a gap.
 fn ten_minutes(alloc: Global) -> Option<String> {
     let recorded = stretch(22 * HOUR + 3 * MINUTE, 600)?;
-    drawn(alloc, &Sketch::new(alloc), b"P7", &[recorded]).ok()
+    drawn(alloc, &[], b"P7", &[recorded]).ok()
 }
 
 /// What it says: they fill the width.

@@ -1,10 +1,10 @@
-use crate::bins::Bins;
 use crate::extent::Extent;
 use crate::labels::{FONT, Label, Labels};
 use crate::legend::Shown;
-use crate::lights::Light;
+use crate::lights::Line;
 use crate::marks::{Mark, Marks, list_marks};
 use crate::numbers::counted;
+use crate::onsets::Onsets;
 use crate::pixels::{LEFT, Pixels, RIGHT, text_width};
 use crate::recording::Recording;
 use crate::rows::Folded;
@@ -17,23 +17,23 @@ use std::alloc::{AllocError, Global};
 /// it shows.
 pub(crate) fn write_data_row(
     svg: &mut String,
+    alloc: Global,
     recording: &Recording<'_>,
-    bins: &Bins,
-    lights: &[(u64, Light)],
+    onsets: &Onsets,
+    lights: &[Line],
     row: Extent,
 ) -> Result<Shown, AllocError> {
-    let alloc = bins.alloc();
     write!(svg, "<path class='l' d='M{LEFT} 22H{RIGHT}'/>")?;
     let marks = list_marks(alloc, recording, row)?;
-    write_narrow(svg, &marks.marks, row, true)?;
-    write_narrow(svg, &marks.marks, row, false)?;
     for mark in &marks.marks {
         if !mark.is_narrow(row) {
             write_mark(svg, alloc, mark, row)?;
         }
     }
+    write_narrow(svg, &marks.marks, row, true)?;
+    write_narrow(svg, &marks.marks, row, false)?;
     write_thin(svg, alloc, &marks)?;
-    let ticks = write_ticks(svg, bins, row, recording)?;
+    let ticks = write_ticks(svg, alloc, onsets, row, recording)?;
     write_lights(svg, alloc, lights, row)?;
     write_labels(svg, alloc, &marks.marks, lights, row)?;
     Ok(Shown {
@@ -128,25 +128,16 @@ fn mark_text(alloc: Global, mark: &Mark) -> Result<String, AllocError> {
 fn write_lights(
     svg: &mut String,
     alloc: Global,
-    lights: &[(u64, Light)],
+    lights: &[Line],
     row: Extent,
 ) -> Result<(), AllocError> {
-    for (at, light) in lights {
-        write_light(svg, alloc, Pixels::at(*at, row), *at, *light)?;
+    for line in lights {
+        let x = Pixels::at(line.at, row);
+        write!(svg, "<path class='o' d='M{x} 0V32'>")?;
+        let (label, instant) = (line.light.label(), instant_label(alloc, line.at)?);
+        write!(svg, "<title>{label}, {instant}</title></path>")?;
     }
     Ok(())
-}
-
-fn write_light(
-    svg: &mut String,
-    alloc: Global,
-    x: Pixels,
-    at: u64,
-    light: Light,
-) -> Result<(), AllocError> {
-    write!(svg, "<path class='o' d='M{x} 0V32'>")?;
-    let (label, instant) = (light.label(), instant_label(alloc, at)?);
-    write!(svg, "<title>{label}, {instant}</title></path>")
 }
 
 /// Writes the names of the lights, and the lengths of the gaps, below them, where they fit: of the
@@ -155,7 +146,7 @@ fn write_labels(
     svg: &mut String,
     alloc: Global,
     marks: &[Mark],
-    lights: &[(u64, Light)],
+    lights: &[Line],
     row: Extent,
 ) -> Result<(), AllocError> {
     let mut found = Vec::new(alloc);
@@ -188,12 +179,12 @@ fn push_gaps(
 fn push_lights(
     found: &mut Vec<Label>,
     alloc: Global,
-    lights: &[(u64, Light)],
+    lights: &[Line],
     row: Extent,
 ) -> Result<(), AllocError> {
-    for (at, light) in lights {
-        let text = String::from_str(alloc, light.label())?;
-        found.push(Label::new(Pixels::at(*at, row), text, u64::MAX))?;
+    for line in lights {
+        let text = String::from_str(alloc, line.light.label())?;
+        found.push(Label::new(Pixels::at(line.at, row), text, u64::MAX))?;
     }
     Ok(())
 }
@@ -221,12 +212,13 @@ pub(crate) fn write_row_start(
 /// Writes rows without data records as one thin row.
 pub(crate) fn write_folded_row(
     svg: &mut String,
-    bins: &Bins,
+    alloc: Global,
+    onsets: &Onsets,
     folded: Folded,
 ) -> Result<(), AllocError> {
-    let text = folded_text(bins, folded)?;
+    let text = folded_text(alloc, onsets, folded)?;
     write_folded_text(svg, text.as_str())?;
-    let times = times_text(bins.alloc(), folded.gap)?;
+    let times = times_text(alloc, folded.gap)?;
     write!(svg, "<title>gap, {times}</title></g>")
 }
 
@@ -248,10 +240,9 @@ fn write_folded_text(svg: &mut String, text: &str) -> Result<(), AllocError> {
 }
 
 /// `no data for 213 days`, and the annotations in it where there are some.
-fn folded_text(bins: &Bins, folded: Folded) -> Result<String, AllocError> {
-    let alloc = bins.alloc();
+fn folded_text(alloc: Global, onsets: &Onsets, folded: Folded) -> Result<String, AllocError> {
     let span = span_text(alloc, folded.gap.length())?;
-    match bins.within(folded.rows) {
+    match onsets.within(folded.rows) {
         0 => format!(in alloc; "no data for {span}"),
         number => {
             let annotations = counted(alloc, number, "annotation")?;

@@ -1,24 +1,22 @@
-ghost use Rattle.std.specs.Prelude.{IfOk, string_bytes};
-ghost use Rattle.edf_picture.specs.Picture.{IsPicture};
+ghost use Rattle.std.specs.Prelude.{◌≡◌, ℕ, List, IfOk, map, string_bytes};
+ghost use Rattle.edf_picture.specs.Picture.{IsPicture, drawn_words};
+ghost use Rattle.edf_sleep.specs.Account.{IsAccount, night_of};
 
 use crate::bars::{write_data_row, write_folded_row, write_row_start};
-use crate::bins::Bins;
 use crate::extent::{Extent, Stretch};
-use crate::heading::{Counts, Heading, Title};
-use crate::joining::Joined;
-use crate::kinds::Kinds;
+use crate::heading::{Counts, Heading, Joined, Title};
 use crate::legend::{Legend, Shown};
-use crate::lights::Lights;
+use crate::lights::{Line, lights_within, list_lights};
 use crate::metadata::with_metadata;
-use crate::overview::Overview;
+use crate::onsets::Onsets;
+use crate::overview::{Overview, has_stages};
 use crate::pixels::{LEFT, Pixels};
 use crate::recording::Recording;
 use crate::rows::{Row, list_rows, total_height};
 use crate::scale::Scale;
 use crate::signals::{Signal, Table};
-use crate::stages::Stages;
-use crate::times::DAY;
-use edf_time::Instant;
+use crate::times::{DAY, clock_label};
+use edf_sleep::{Account, Note, stage_of_text};
 use std::alloc::{AllocError, Global};
 
 /// The data records that a picture shows, and their signals.
@@ -26,153 +24,171 @@ use std::alloc::{AllocError, Global};
 pub struct Recorded<'a> {
     /// The nanoseconds of a data record.
     pub duration: u64,
-    /// The stretches without a gap, in the order of their starts.
+    /// The stretches in the order of their starts, as they are to be drawn.
     pub stretches: &'a [Stretch],
     /// The ordinary signals, in the order of the header.
     pub signals: &'a [Signal<'a>],
-    /// The longest gap that is joined for the view, in nanoseconds; 0 joins none.
-    pub tolerance: u64,
+    /// The gaps between them that are drawn as if nothing were missing, if that was asked for.
+    pub joined: Option<Joined>,
 }
 
-/// Gathers what a picture shows, annotation by annotation, in bounded memory.
+/// What is drawn of a recording's annotations.
 #[derive(Drop)]
-pub struct Sketch {
-    /// The annotations that are no stages of sleep.
-    events: Bins,
-    /// Those of them that are not drawn as lines.
-    kinds: Kinds,
-    lights: Lights,
-    stages: Stages,
-    stage_onsets: Bins,
+struct Drawing<'a> {
+    notes: &'a [Note],
+    recording: Recording<'a>,
+    /// When annotations are that are no stages of sleep.
+    onsets: Onsets,
+    lights: Vec<Line>,
 }
 
-impl Sketch {
-    /// A sketch without annotations.
-    pub fn new(alloc: Global) -> Sketch {
-        Sketch {
-            events: Bins::new(alloc),
-            kinds: Kinds::new(alloc),
-            lights: Lights::new(alloc),
-            stages: Stages::new(alloc),
-            stage_onsets: Bins::new(alloc),
+/// Sleep onset as a picture has it, where it is told.
+fn onset_text(alloc: Global, account: &Account<'_>) -> Result<String, AllocError>
+    requires { IsAccount account.now }
+{
+    match account.sleep_onset() {
+        Ok(at) => clock_label(alloc, at),
+        Err(_) => Ok(String::new(alloc)),
+    }
+}
+
+/// The lines of figures that stand below the hypnogram, where annotations name stages.
+fn list_words(alloc: Global, account: &Account<'_>, onset: &str) -> Result<Vec<String>, AllocError>
+    requires { IsAccount account.now }
+    ensures { IfOk result (λ v. map string_bytes v.items
+        ≡ drawn_words onset.now (night_of account.now).notes (night_of account.now).runs) }
+{
+    if !account.has_run() || !has_stages(account.notes()) {
+        return Ok(Vec::new(alloc));
+    }
+    account.words(alloc, onset)
+}
+
+/// The picture of a recording, as one SVG, which has these lines of text as its metadata. Of the
+/// lines, bytes that are neither printable ASCII nor the end of a line are left out.
+///
+/// # Errors
+/// Where memory runs out.
+pub fn draw(
+    alloc: Global,
+    title: &Title<'_>,
+    recorded: &Recorded<'_>,
+    account: &Account<'_>,
+    lines: &[u8],
+) -> Result<String, AllocError>
+    requires { IsAccount account.now }
+    ensures { IfOk result (λ picture. (onset : List ℕ)
+        × IsPicture (drawn_words onset (night_of account.now).notes (night_of account.now).runs)
+        lines.now (string_bytes picture)) }
+{
+    let onset = onset_text(alloc, account)?;
+    let words = list_words(alloc, account, onset.as_str())?;
+    let mut svg = String::new(alloc);
+    let top = write_drawn(&mut svg, alloc, title, recorded, account, words.len())?;
+    with_metadata(alloc, svg.as_str(), words.as_slice(), top, lines)
+}
+
+/// Writes the picture without the lines of figures and the metadata, and answers at which height
+/// the former begin.
+fn write_drawn(
+    svg: &mut String,
+    alloc: Global,
+    title: &Title<'_>,
+    recorded: &Recorded<'_>,
+    account: &Account<'_>,
+    lines: usize,
+) -> Result<u64, AllocError>
+    requires { IsAccount account.now }
+{
+    let drawing = Drawing::of(alloc, recorded, account.notes())?;
+    let counts = drawing.counts();
+    let heading = Heading::new(alloc, title, &drawing.recording, recorded.joined, counts)?;
+    let mut drawn = Drawn::new(alloc);
+    let lines = u64::try_from(lines).unwrap_or(0);
+    let words_top = drawing.draw_overview(alloc, account, lines, &mut drawn)?;
+    drawing.draw_rows(alloc, &mut drawn)?;
+    drawn.draw_table(
+        alloc,
+        Table {
+            signals: recorded.signals,
+            duration: recorded.duration,
+        },
+    )?;
+    let top = drawn.write_below(svg, alloc, &heading)?;
+    Ok(top.saturating_add(words_top))
+}
+
+/// When annotations are that are no stages of sleep.
+fn list_onsets(alloc: Global, notes: &[Note]) -> Result<Onsets, AllocError> {
+    let mut onsets = Vec::new(alloc);
+    for note in notes {
+        if stage_of_text(note.text.as_str()).is_none() {
+            onsets.push(note.onset)?;
         }
     }
+    Onsets::of(onsets)
+}
 
-    /// Takes an annotation: its onset, its duration in nanoseconds if it has one, and its text.
-    ///
-    /// # Errors
-    /// Where memory runs out.
-    pub fn add_annotation(
-        &mut self,
-        onset: Instant,
-        duration: Option<u64>,
-        text: &str,
-    ) -> Result<(), AllocError> {
-        let from = onset.nanos();
-        if self.stages.add(from, duration, text)? {
-            return self.stage_onsets.add(from);
+impl<'a> Drawing<'a> {
+    fn of(
+        alloc: Global,
+        recorded: &Recorded<'a>,
+        notes: &'a [Note],
+    ) -> Result<Drawing<'a>, AllocError> {
+        Ok(Drawing {
+            notes,
+            recording: Recording::new(recorded.stretches, recorded.duration),
+            onsets: list_onsets(alloc, notes)?,
+            lights: list_lights(alloc, notes)?,
+        })
+    }
+
+    fn counts(&self) -> Counts {
+        let (mut all, mut stages, mut outside) = (0u64, 0u64, 0u64);
+        for note in self.notes {
+            let is_stage = stage_of_text(note.text.as_str()).is_some();
+            let is_inside = self.recording.annotated().has(note.onset);
+            all = all.saturating_add(1);
+            stages = stages.saturating_add(u64::from(is_stage));
+            outside = outside.saturating_add(u64::from(!is_inside));
         }
-        if !self.lights.add(from, text)? {
-            let to = from.saturating_add(duration.unwrap_or(0));
-            self.kinds.add(Extent { from, to }, text)?;
-        }
-        self.events.add(from)
-    }
-
-    /// The picture, as one SVG, which has these lines of text as its metadata. Of the lines, bytes
-    /// that are neither printable ASCII nor the end of a line are left out.
-    ///
-    /// # Errors
-    /// Where memory runs out.
-    pub fn draw(
-        &self,
-        alloc: Global,
-        title: &Title<'_>,
-        recorded: &Recorded<'_>,
-        lines: &[u8],
-    ) -> Result<String, AllocError>
-        ensures { IfOk result (λ picture. IsPicture lines.now (string_bytes picture)) }
-    {
-        let mut svg = String::new(alloc);
-        self.write(&mut svg, alloc, title, recorded)?;
-        with_metadata(alloc, svg.as_str(), lines)
-    }
-
-    /// Writes the picture without its metadata.
-    fn write(
-        &self,
-        svg: &mut String,
-        alloc: Global,
-        title: &Title<'_>,
-        recorded: &Recorded<'_>,
-    ) -> Result<(), AllocError> {
-        let duration = recorded.duration;
-        let joined = Joined::of(alloc, recorded.stretches, duration, recorded.tolerance)?;
-        let recording = Recording::new(&joined.stretches, duration);
-        let heading = Heading::new(alloc, title, &recording, &joined, self.counts(&recording))?;
-        let mut drawn = Drawn::new(alloc);
-        self.draw_parts(alloc, &recording, recorded.signals, &mut drawn)?;
-        drawn.write_below(svg, alloc, &heading)
-    }
-
-    /// Draws what stands below the heading, part by part.
-    fn draw_parts(
-        &self,
-        alloc: Global,
-        recording: &Recording<'_>,
-        signals: &[Signal<'_>],
-        drawn: &mut Drawn,
-    ) -> Result<(), AllocError> {
-        self.draw_overview(alloc, recording, drawn)?;
-        self.draw_rows(alloc, recording, drawn)?;
-        let table = Table {
-            signals,
-            duration: recording.duration,
-        };
-        drawn.draw_table(alloc, table)
-    }
-
-    fn counts(&self, recording: &Recording<'_>) -> Counts {
-        let stages = self.stage_onsets.total();
-        let all = stages.saturating_add(self.events.total());
-        let inside = self.stage_onsets.within(recording.annotated());
-        let inside = inside.saturating_add(self.events.within(recording.annotated()));
         Counts {
             all,
             stages,
-            outside: all.saturating_sub(inside),
-            lacks_stages: self.stages.lacks_some(),
+            outside,
         }
     }
 
-    /// Draws what goes over the whole recording, if there is something.
+    /// Draws what goes over the whole recording, if there is something, and answers where its lines
+    /// of figures begin.
     fn draw_overview(
         &self,
         alloc: Global,
-        recording: &Recording<'_>,
+        account: &Account<'_>,
+        lines: u64,
         drawn: &mut Drawn,
-    ) -> Result<(), AllocError> {
-        if recording.stretches.is_empty() {
-            return Ok(());
+    ) -> Result<u64, AllocError>
+        requires { IsAccount account.now }
+    {
+        if self.recording.stretches.is_empty() {
+            return Ok(0);
         }
-        let overview = Overview::of(alloc, recording, &self.stages, &self.kinds, &self.lights)?;
+        let (recording, lights) = (&self.recording, self.lights.as_slice());
+        let overview = Overview::of(alloc, recording, account, lights, lines)?;
         if overview.is_empty() {
-            return Ok(());
+            return Ok(0);
         }
         drawn.shown.events = overview.has_lanes();
         drawn.shown.lights = overview.has_lights();
         drawn.open_group()?;
         overview.write(&mut drawn.svg)?;
-        drawn.close_group(overview.height())
+        drawn.close_group(overview.height())?;
+        Ok(overview.words_top())
     }
 
     /// Draws the scale and the rows.
-    fn draw_rows(
-        &self,
-        alloc: Global,
-        recording: &Recording<'_>,
-        drawn: &mut Drawn,
-    ) -> Result<(), AllocError> {
+    fn draw_rows(&self, alloc: Global, drawn: &mut Drawn) -> Result<(), AllocError> {
+        let recording = &self.recording;
         let scale = Scale::suiting(recording.all, recording.stretches, recording.duration);
         let rows = list_rows(alloc, recording, scale)?;
         if rows.is_empty() {
@@ -184,7 +200,7 @@ impl Sketch {
         let mut day = None;
         for row in &rows {
             drawn.open_group()?;
-            day = self.draw_row(recording, scale, row, day, drawn)?;
+            day = self.draw_row(alloc, scale, row, day, drawn)?;
             drawn.close_group(row.height())?;
         }
         Ok(())
@@ -194,7 +210,7 @@ impl Sketch {
     /// row with data before it.
     fn draw_row(
         &self,
-        recording: &Recording<'_>,
+        alloc: Global,
         scale: Scale,
         row: &Row,
         day: Option<u64>,
@@ -204,15 +220,15 @@ impl Sketch {
         match row {
             Row::Data(extent) => {
                 let today = Some(extent.from / DAY);
-                let alloc = self.events.alloc();
                 write_row_start(svg, alloc, extent.from, scale, day != today)?;
-                let lights = self.lights.list_within(alloc, *extent)?;
-                let shown = write_data_row(svg, recording, &self.events, &lights, *extent)?;
+                let lights = lights_within(alloc, &self.lights, *extent)?;
+                let (recording, onsets) = (&self.recording, &self.onsets);
+                let shown = write_data_row(svg, alloc, recording, onsets, &lights, *extent)?;
                 drawn.shown = drawn.shown.and(shown);
                 Ok(today)
             }
             Row::Folded(folded) => {
-                write_folded_row(svg, &self.events, *folded)?;
+                write_folded_row(svg, alloc, &self.onsets, *folded)?;
                 drawn.shown.gaps = true;
                 Ok(day)
             }
@@ -242,19 +258,20 @@ impl Drawn {
         }
     }
 
-    /// Writes the heading, the legend, and what is drawn below them.
+    /// Writes the heading, the legend, and what is drawn below them, and answers where that begins.
     fn write_below(
         &self,
         svg: &mut String,
         alloc: Global,
         heading: &Heading,
-    ) -> Result<(), AllocError> {
+    ) -> Result<u64, AllocError> {
         let legend = Legend::of(alloc, self.shown)?;
         let top = heading.height().saturating_add(legend.height());
         heading.write_start(svg, top.saturating_add(self.foot).saturating_add(16))?;
         heading.write(svg)?;
         legend.write(svg, heading.height())?;
-        self.write(svg, top)
+        self.write(svg, top)?;
+        Ok(top)
     }
 
     /// Writes it below so many pixels.

@@ -1,8 +1,8 @@
-use crate::joining::Joined;
+use crate::missing::Missing;
 use crate::numbers::{counted, thousands};
 use crate::pixels::LEFT;
 use crate::recording::Recording;
-use crate::times::times_text;
+use crate::times::{seconds_text, times_text};
 use edf_markup::escaped;
 use std::alloc::{AllocError, Global};
 
@@ -23,8 +23,19 @@ pub(crate) struct Counts {
     pub(crate) stages: u64,
     /// Those that begin outside the recording's time.
     pub(crate) outside: u64,
-    /// Whether there are too many stages to draw them all.
-    pub(crate) lacks_stages: bool,
+}
+
+/// The gaps that are joined for the view.
+#[derive(Clone, Copy)]
+pub struct Joined {
+    /// The longest that is, in nanoseconds.
+    pub tolerance: u64,
+    /// How many are.
+    pub gaps: u64,
+    /// How long they are together, in nanoseconds.
+    pub sum: u64,
+    /// The longest of them.
+    pub longest: u64,
 }
 
 /// The texts above the picture.
@@ -62,7 +73,8 @@ text{font-family:'DejaVu Sans',Verdana,Arial,Helvetica,sans-serif;font-size:12px
 .t{stroke-width:1.2}.s{stroke-width:1.5}.x{stroke:#56B4E9;stroke-width:10;fill:none}\
 .o{stroke:#000;stroke-dasharray:3 2;fill:none}\
 .v{paint-order:stroke;stroke:#fff;stroke-width:3px}\
-.q{stroke:#009E73;stroke-width:6;fill:none}.l{stroke:#ccc;fill:none}</style>\
+.q{stroke:#009E73;stroke-width:6;fill:none}.l{stroke:#ccc;fill:none}\
+.y{stroke:#D55E00;stroke-width:10;fill:none}</style>\
 <defs><pattern id='edf-gap' width='6' height='6' patternUnits='userSpaceOnUse' \
 patternTransform='rotate(45)'><rect width='6' height='6' fill='#fff'/>\
 <rect width='2.5' height='6' fill='#D55E00'/></pattern></defs>";
@@ -72,7 +84,7 @@ impl Heading {
         alloc: Global,
         title: &Title<'_>,
         recording: &Recording<'_>,
-        joined: &Joined,
+        joined: Option<Joined>,
         counts: Counts,
     ) -> Result<Heading, AllocError> {
         Ok(Heading {
@@ -80,7 +92,10 @@ impl Heading {
             name: title.line(alloc, ALL)?,
             time: time_line(alloc, recording)?,
             summary: recording.summary(alloc)?,
-            joined: joined.line(alloc)?,
+            joined: match joined {
+                Some(joined) => Some(joined.line(alloc)?),
+                None => None,
+            },
             annotations: counts.line(alloc)?,
         })
     }
@@ -181,6 +196,23 @@ fn time_line(alloc: Global, recording: &Recording<'_>) -> Result<String, AllocEr
     times_text(alloc, recording.all)
 }
 
+impl Joined {
+    /// `Joined for this view, gaps of at most 1 s: 10.494 s in 95 gaps, longest 0.198 s`.
+    fn line(self, alloc: Global) -> Result<String, AllocError> {
+        let most = seconds_text(alloc, self.tolerance)?;
+        if self.gaps == 0 {
+            return format!(in alloc; "No gap of at most {most} to join");
+        }
+        let missing = Missing {
+            gaps: self.gaps,
+            sum: self.sum,
+            longest: self.longest,
+        };
+        let missing = missing.text(alloc)?;
+        format!(in alloc; "Joined for this view, gaps of at most {most}: {missing}")
+    }
+}
+
 impl Counts {
     /// `2,963 annotations, 960 of them sleep stages; 3 outside the recording's time, not drawn`.
     fn line(self, alloc: Global) -> Result<String, AllocError> {
@@ -194,9 +226,6 @@ impl Counts {
         if self.stages > 0 {
             let stages = thousands(alloc, self.stages)?;
             write!(line, ", {stages} of them sleep stages")?;
-        }
-        if self.lacks_stages {
-            line.push_str(" (the first ones are drawn)")?;
         }
         if self.outside > 0 {
             let outside = thousands(alloc, self.outside)?;

@@ -1,103 +1,89 @@
 use crate::pixels::{LEFT, Pixels, RIGHT};
-use crate::stages::{Stage, Stages};
+use edf_sleep::Kind;
 use std::alloc::AllocError;
-
-/// The stages over the whole recording, as steps.
-#[derive(Clone, Copy)]
-pub(crate) struct Hypnogram {
-    has_new_names: bool,
-    has_deep_number: bool,
-}
 
 /// The pixels between two stages.
 const STEP: u64 = 18;
 
-/// The stage of Wake, in pixels below the top.
+/// The stage of wake, in pixels below the top.
 const TOP: u64 = 12;
 
-/// The lowest stage.
+/// The lowest stage of those that are always there.
 const FLOOR: u64 = TOP + 4 * STEP;
 
-/// Its height, in pixels.
-pub(crate) const HEIGHT: u64 = FLOOR + 6;
+/// The stages over the whole recording, as steps.
+#[derive(Drop)]
+pub(crate) struct Hypnogram {
+    /// What each column shows.
+    columns: Vec<Option<Kind>>,
+    /// Whether there is sleep whose depth is not told.
+    has_nrem: bool,
+}
 
 impl Hypnogram {
-    /// A hypnogram, if an annotation names a stage.
-    pub(crate) fn of(stages: &Stages) -> Option<Hypnogram> {
-        if stages.is_empty() {
-            return None;
-        }
-        Some(Hypnogram {
-            has_new_names: stages.has_new_names,
-            has_deep_number: stages.has_deep_number,
-        })
+    pub(crate) fn of(columns: Vec<Option<Kind>>) -> Hypnogram {
+        let has_nrem = columns.iter().any(|told| *told == Some(Kind::Nrem));
+        Hypnogram { columns, has_nrem }
     }
 
-    /// The names of the stages from above. Stages 3 and 4 are both N3.
-    pub(crate) fn names(self) -> [&'static str; 5] {
-        let deep = match (self.has_deep_number, self.has_new_names) {
-            (true, _) => "N3 (3, 4)",
-            (false, true) => "N3",
-            (false, false) => "3",
-        };
-        if self.has_new_names {
-            ["W", "R", "N1", "N2", deep]
+    /// Its height, in pixels.
+    pub(crate) fn height(&self) -> u64 {
+        if self.has_nrem {
+            FLOOR + STEP + 6
         } else {
-            ["W", "R", "1", "2", deep]
+            FLOOR + 6
         }
     }
 
     /// Writes it: a line for each stage, and the stages of the columns.
-    pub(crate) fn write(
-        self,
-        svg: &mut String,
-        columns: &[Option<Stage>],
-    ) -> Result<(), AllocError> {
-        self.write_levels(svg)?;
-        svg.push_str("<path class='q' d='")?;
-        write_steps(svg, columns, Some(Stage::Rem))?;
-        svg.push_str("'/><path class='s' d='")?;
-        write_steps(svg, columns, None)?;
-        svg.push_str("'><title>Stages of sleep over the whole recording</title></path>")
-    }
-
-    fn write_levels(self, svg: &mut String) -> Result<(), AllocError> {
-        let x = LEFT.saturating_sub(8);
+    pub(crate) fn write(&self, svg: &mut String) -> Result<(), AllocError> {
         let mut y = TOP;
-        for name in self.names() {
-            let foot = y.saturating_add(4);
-            write!(svg, "<path class='l' d='M{LEFT} {y}H{RIGHT}'/>")?;
-            write!(svg, "<text class='e' x='{x}' y='{foot}'>{name}</text>")?;
+        for name in ["W", "R", "N1", "N2", "N3"] {
+            write_level(svg, name, y)?;
             y = y.saturating_add(STEP);
         }
-        Ok(())
+        if self.has_nrem {
+            write_level(svg, "N", y)?;
+        }
+        svg.push_str("<path class='q' d='")?;
+        write_steps(svg, &self.columns, true)?;
+        svg.push_str("'/><path class='s' d='")?;
+        write_steps(svg, &self.columns, false)?;
+        svg.push_str("'><title>Stages of sleep over the whole recording</title></path>")
     }
 }
 
-/// The height of a stage, in pixels below the top.
-fn level(stage: Stage) -> u64 {
-    match stage {
-        Stage::Wake | Stage::Untold => TOP,
-        Stage::Rem => TOP + STEP,
-        Stage::One => TOP + 2 * STEP,
-        Stage::Two => TOP + 3 * STEP,
-        Stage::Three => FLOOR,
+fn write_level(svg: &mut String, name: &str, y: u64) -> Result<(), AllocError> {
+    let (x, foot) = (LEFT.saturating_sub(8), y.saturating_add(4));
+    write!(svg, "<path class='l' d='M{LEFT} {y}H{RIGHT}'/>")?;
+    write!(svg, "<text class='e' x='{x}' y='{foot}'>{name}</text>")
+}
+
+/// The height of a stage, in pixels below the top; what is no stage has none.
+fn level(told: Kind) -> Option<u64> {
+    match told {
+        Kind::Wake => Some(TOP),
+        Kind::Rem => Some(TOP + STEP),
+        Kind::One => Some(TOP + 2 * STEP),
+        Kind::Two => Some(TOP + 3 * STEP),
+        Kind::Three => Some(FLOOR),
+        Kind::Nrem => Some(FLOOR + STEP),
+        Kind::Missing | Kind::NotScored | Kind::NotUnderstood | Kind::Movement => None,
     }
 }
 
-/// Writes the stages of the columns as a line of steps, or one stage alone.
+/// Writes the stages of the columns as a line of steps, or R alone.
 fn write_steps(
     svg: &mut String,
-    columns: &[Option<Stage>],
-    only: Option<Stage>,
+    columns: &[Option<Kind>],
+    rem_alone: bool,
 ) -> Result<(), AllocError> {
     let mut before = None;
     let mut column = 0u64;
-    for stage in columns {
-        let shown = if only.is_none() || only == *stage {
-            *stage
-        } else {
-            None
+    for told in columns {
+        let shown = match told {
+            Some(kind) if !rem_alone || kind.is(Kind::Rem) => level(*kind),
+            _ => None,
         };
         write_step(svg, column, before, shown)?;
         before = shown;
@@ -106,18 +92,18 @@ fn write_steps(
     write_step(svg, column, before, None)
 }
 
-/// Writes how the line goes on at a column.
+/// Writes how the line goes on at a column, from one height to another.
 fn write_step(
     svg: &mut String,
     column: u64,
-    before: Option<Stage>,
-    now: Option<Stage>,
+    before: Option<u64>,
+    now: Option<u64>,
 ) -> Result<(), AllocError> {
     if before == now {
         return Ok(());
     }
     let x = Pixels::whole(LEFT).plus(Pixels::whole(column).half());
-    match (before, now.map(level)) {
+    match (before, now) {
         (None, Some(y)) => write!(svg, "M{x} {y}"),
         (Some(_), Some(y)) => write!(svg, "H{x}V{y}"),
         (Some(_), None) => write!(svg, "H{x}"),

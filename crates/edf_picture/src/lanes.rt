@@ -1,26 +1,22 @@
+ghost use Rattle.edf_sleep.specs.Account.{IsAccount};
+
+use crate::events::{Event, Group, list_events, list_groups};
 use crate::extent::Extent;
-use crate::kinds::{Kind, Kinds};
 use crate::numbers::{tenths, thousands};
 use crate::pixels::{LEFT, Pixels, RIGHT};
 use crate::recording::Recording;
-use crate::times::MILLISECOND;
 use edf_markup::readable;
+use edf_sleep::{Account, Rate};
 use std::alloc::{AllocError, Global};
 
 /// The annotations of one text, or of all that have no lane of their own.
 #[derive(Drop)]
 struct Lane {
     label: String,
-    count: u64,
+    /// How many they are, and how many in an hour.
+    rate: String,
     /// When they are, in the order of their onsets.
     spans: Vec<Extent>,
-}
-
-/// A text and its annotations.
-#[derive(Clone, Copy)]
-struct Ranked<'a> {
-    text: &'a str,
-    kind: &'a Kind,
 }
 
 /// How many texts have lanes of their own: the most frequent ones.
@@ -28,6 +24,9 @@ const LANES: usize = 8;
 
 /// The height of a lane, in pixels.
 const HEIGHT: u64 = 32;
+
+/// Ten hours, in nanoseconds.
+const TEN_HOURS: u128 = 36_000_000_000_000;
 
 /// How many characters of a text are shown.
 const SHOWN: usize = 44;
@@ -41,10 +40,20 @@ pub(crate) struct Lanes {
 impl Lanes {
     /// The most frequent texts first; of those with one count the one that comes first by its
     /// bytes. The last lane is for all others.
-    pub(crate) fn of(alloc: Global, kinds: &Kinds) -> Result<Lanes, AllocError> {
-        let ranked = rank(alloc, kinds)?;
+    pub(crate) fn of(alloc: Global, account: &Account<'_>) -> Result<Lanes, AllocError>
+        requires { IsAccount account.now }
+    {
+        let events = list_events(alloc, account.notes())?;
+        let mut groups = list_groups(alloc, &events)?;
+        groups.sort_by_key(|group| usize::MAX.saturating_sub(group.count))?;
         let mut lanes = Vec::new(alloc);
-        push_lanes(&mut lanes, alloc, &ranked, kinds.untold())?;
+        for group in groups.iter().take(LANES) {
+            lanes.push(lane_of(alloc, *group, &events, account)?)?;
+        }
+        let (_, rest) = groups.split_at(LANES.min(groups.len()));
+        if !rest.is_empty() {
+            lanes.push(others(alloc, rest, &events)?)?;
+        }
         Ok(Lanes { lanes })
     }
 
@@ -62,154 +71,107 @@ impl Lanes {
     pub(crate) fn write(
         &self,
         svg: &mut String,
-        alloc: Global,
         recording: &Recording<'_>,
     ) -> Result<(), AllocError> {
         let mut top = 0u64;
         for lane in &self.lanes {
-            lane.write(svg, alloc, recording, top)?;
+            lane.write(svg, recording, top)?;
             top = top.saturating_add(HEIGHT);
         }
         Ok(())
     }
 }
 
-/// All texts, in the order of their lanes.
-fn rank(alloc: Global, kinds: &Kinds) -> Result<Vec<Ranked<'_>>, AllocError> {
-    let mut ranked = Vec::new(alloc);
-    for (text, kind) in kinds.kinds() {
-        ranked.push(Ranked {
-            text: text.as_str(),
-            kind,
-        })?;
-    }
-    ranked.sort_by_key(|one| u64::MAX.saturating_sub(one.kind.count()))?;
-    Ok(ranked)
-}
-
-fn push_lanes(
-    lanes: &mut Vec<Lane>,
+/// The lane of a text.
+fn lane_of(
     alloc: Global,
-    ranked: &[Ranked<'_>],
-    untold: &Kind,
+    group: Group<'_>,
+    events: &[Event<'_>],
+    account: &Account<'_>,
+) -> Result<Lane, AllocError>
+    requires { IsAccount account.now }
+{
+    let label = if group.text.is_empty() {
+        String::from_str(alloc, "(no text)")?
+    } else {
+        readable(alloc, group.text, SHOWN)?
+    };
+    let mut spans = Vec::new(alloc);
+    push_spans(&mut spans, group, events)?;
+    Ok(Lane {
+        label,
+        rate: rate_text(alloc, account.rate(group.text))?,
+        spans,
+    })
+}
+
+fn push_spans(
+    spans: &mut Vec<Extent>,
+    group: Group<'_>,
+    events: &[Event<'_>],
 ) -> Result<(), AllocError> {
-    for one in ranked.iter().take(LANES) {
-        lanes.push(one.lane(alloc)?)?;
-    }
-    let (_, rest) = ranked.split_at(LANES.min(ranked.len()));
-    if !rest.is_empty() || untold.count() > 0 {
-        lanes.push(others(alloc, rest, untold)?)?;
-    }
-    Ok(())
-}
-
-impl Ranked<'_> {
-    fn lane(self, alloc: Global) -> Result<Lane, AllocError> {
-        let mut spans = Vec::new(alloc);
-        push_spans(&mut spans, self.kind)?;
-        let label = if self.text.is_empty() {
-            String::from_str(alloc, "(no text)")?
-        } else {
-            readable(alloc, self.text, SHOWN)?
-        };
-        Ok(Lane {
-            label,
-            count: self.kind.count(),
-            spans,
-        })
-    }
-}
-
-fn push_spans(spans: &mut Vec<Extent>, kind: &Kind) -> Result<(), AllocError> {
-    for span in kind.spans().values() {
-        spans.push(*span)?;
+    for event in events.iter().skip(group.first).take(group.count) {
+        spans.push(event.time)?;
     }
     Ok(())
 }
 
 /// The lane of all that have none of their own.
-fn others(alloc: Global, rest: &[Ranked<'_>], untold: &Kind) -> Result<Lane, AllocError> {
-    let mut count = untold.count();
-    for one in rest {
-        count = count.saturating_add(one.kind.count());
-    }
+fn others(alloc: Global, rest: &[Group<'_>], events: &[Event<'_>]) -> Result<Lane, AllocError> {
     let mut spans = Vec::new(alloc);
-    push_others(&mut spans, rest, untold)?;
+    for group in rest {
+        push_spans(&mut spans, *group, events)?;
+    }
+    spans.sort_by_key(|span| span.from)?;
+    let texts = thousands(alloc, u64::try_from(rest.len()).unwrap_or(u64::MAX))?;
+    let several = if rest.len() == 1 { "" } else { "s" };
     Ok(Lane {
-        label: others_text(alloc, rest.len(), untold.count() > 0)?,
-        count,
+        label: format!(in alloc; "others, of {texts} text{several}")?,
+        rate: thousands(alloc, u64::try_from(spans.len()).unwrap_or(u64::MAX))?,
         spans,
     })
 }
 
-fn push_others(
-    spans: &mut Vec<Extent>,
-    rest: &[Ranked<'_>],
-    untold: &Kind,
-) -> Result<(), AllocError> {
-    push_spans(spans, untold)?;
-    for one in rest {
-        push_spans(spans, one.kind)?;
-    }
-    spans.sort_by_key(|span| span.from)
-}
-
-/// `others, of 4 texts`; `of more than 4 texts` where some are not told apart.
-fn others_text(alloc: Global, texts: usize, are_more: bool) -> Result<String, AllocError> {
-    let number = thousands(alloc, u64::try_from(texts).unwrap_or(u64::MAX))?;
-    if are_more {
-        format!(in alloc; "others, of more than {number} texts")
-    } else if texts == 1 {
-        String::from_str(alloc, "others, of 1 text")
+/// `212, 26.5 per hour of sleep`: how many there are, and how many in an hour.
+fn rate_text(alloc: Global, rate: Rate) -> Result<String, AllocError> {
+    let number = thousands(alloc, rate.count)?;
+    let Ok(share) = rate.share else {
+        return Ok(number);
+    };
+    let time = u128::from(share.time);
+    let hourly = u128::from(share.counted) * TEN_HOURS;
+    let Some(rounded) = (hourly + time / 2).checked_div(time) else {
+        return Ok(number);
+    };
+    let rounded = u64::try_from(rounded).unwrap_or(u64::MAX);
+    let hourly = tenths(alloc, rounded)?;
+    let hour = if share.in_sleep {
+        "hour of sleep"
     } else {
-        format!(in alloc; "others, of {number} texts")
-    }
+        "recorded hour"
+    };
+    format!(in alloc; "{number}, {hourly} per {hour}")
 }
 
 impl Lane {
-    /// Writes its label, its count, and a bar for each time.
+    /// Writes its label, its count, and a bar for each time: in the colour of a gap where the
+    /// onset was not recorded.
     fn write(
         &self,
         svg: &mut String,
-        alloc: Global,
         recording: &Recording<'_>,
         top: u64,
     ) -> Result<(), AllocError> {
         let (y, middle) = (top.saturating_add(13), top.saturating_add(23));
         write!(svg, "<path class='l' d='M{LEFT} {middle}H{RIGHT}'/>")?;
-        self.write_texts(svg, alloc, recording, y)?;
-        svg.push_str("<path class='x' d='")?;
-        write_bars(svg, &self.spans, recording, middle)?;
-        svg.push_str("'/>")
-    }
-
-    fn write_texts(
-        &self,
-        svg: &mut String,
-        alloc: Global,
-        recording: &Recording<'_>,
-        y: u64,
-    ) -> Result<(), AllocError> {
-        let label = self.label.as_str();
+        let (label, rate) = (self.label.as_str(), self.rate.as_str());
         write!(svg, "<text class='v' x='{LEFT}' y='{y}'>{label}</text>")?;
-        let rate = rate_text(alloc, self.count, recording)?;
-        write!(svg, "<text class='v e' x='{RIGHT}' y='{y}'>{rate}</text>")
-    }
-}
-
-/// `212, 26.5 per recorded hour`: how many, and how many in an hour that was recorded.
-fn rate_text(alloc: Global, count: u64, recording: &Recording<'_>) -> Result<String, AllocError> {
-    let number = thousands(alloc, count)?;
-    let recorded = recording.recorded() / MILLISECOND;
-    let rounded = count
-        .saturating_mul(36_000_000)
-        .saturating_add(recorded / 2);
-    match rounded.checked_div(recorded) {
-        Some(rate) => {
-            let rate = tenths(alloc, rate)?;
-            format!(in alloc; "{number}, {rate} per recorded hour")
-        }
-        None => Ok(number),
+        write!(svg, "<text class='v e' x='{RIGHT}' y='{y}'>{rate}</text>")?;
+        svg.push_str("<path class='y' d='")?;
+        write_bars(svg, &self.spans, recording, middle, false)?;
+        svg.push_str("'/><path class='x' d='")?;
+        write_bars(svg, &self.spans, recording, middle, true)?;
+        svg.push_str("'/>")
     }
 }
 
@@ -224,10 +186,12 @@ struct Bar {
 const LEAST: Pixels = Pixels { hundredths: 100 };
 
 impl Bar {
-    /// The bar of a time, if it begins within the recording's.
-    fn of(span: Extent, recording: &Recording<'_>) -> Option<Bar> {
+    /// The bar of a time, if it begins within the recording's, where something was recorded or
+    /// where nothing was.
+    fn of(span: Extent, recording: &Recording<'_>, was_recorded: bool) -> Option<Bar> {
         let all = recording.all;
-        if !recording.annotated().has(span.from) {
+        let is_inside = recording.annotated().has(span.from);
+        if !is_inside || recording.has(span.from) != was_recorded {
             return None;
         }
         let left = Pixels::at(span.from, all);
@@ -251,10 +215,11 @@ fn write_bars(
     spans: &[Extent],
     recording: &Recording<'_>,
     middle: u64,
+    was_recorded: bool,
 ) -> Result<(), AllocError> {
     let mut open: Option<Bar> = None;
     for span in spans {
-        if let Some(bar) = Bar::of(*span, recording) {
+        if let Some(bar) = Bar::of(*span, recording, was_recorded) {
             open = Some(next_bar(svg, open, bar, middle)?);
         }
     }

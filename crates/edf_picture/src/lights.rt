@@ -1,24 +1,26 @@
 use crate::extent::Extent;
 use crate::labels::{Label, Labels};
 use crate::pixels::Pixels;
+use edf_sleep::{Note, is_lights_off, is_lights_on};
 use std::alloc::{AllocError, Global};
-use std::collections::BTreeMap;
 
-/// What an annotation says of the lights (EDF+, standard texts).
+/// What annotations of an instant say of the lights.
 #[derive(Clone, Copy, PartialEq, Eq)]
 pub(crate) enum Light {
     Off,
     On,
-    /// Both at one instant.
+    /// Both.
     OffAndOn,
 }
 
 impl Light {
     fn named(text: &str) -> Option<Light> {
-        match text {
-            "Lights off" => Some(Light::Off),
-            "Lights on" => Some(Light::On),
-            _ => None,
+        if is_lights_off(text) {
+            Some(Light::Off)
+        } else if is_lights_on(text) {
+            Some(Light::On)
+        } else {
+            None
         }
     }
 
@@ -35,87 +37,71 @@ impl Light {
     }
 }
 
-/// How many are drawn as lines. More are annotations like others.
-const LINES: usize = 64;
-
-/// When lights went off and on.
-#[derive(Drop)]
-pub(crate) struct Lights {
-    lines: BTreeMap<u64, Light>,
-    /// Whether there are more than are lines.
-    are_left_out: bool,
+/// When lights went off or on.
+#[derive(Clone, Copy)]
+pub(crate) struct Line {
+    pub(crate) at: u64,
+    pub(crate) light: Light,
 }
 
-impl Lights {
-    pub(crate) fn new(alloc: Global) -> Lights {
-        Lights {
-            lines: BTreeMap::new(alloc),
-            are_left_out: false,
+/// The lights of annotations in the order of time, those of an instant as one.
+pub(crate) fn list_lights(alloc: Global, notes: &[Note]) -> Result<Vec<Line>, AllocError> {
+    let mut all = Vec::new(alloc);
+    for note in notes {
+        if let Some(light) = Light::named(note.text.as_str()) {
+            all.push(Line {
+                at: note.onset,
+                light,
+            })?;
         }
     }
-
-    /// Takes an annotation, and answers whether it is drawn as a line.
-    pub(crate) fn add(&mut self, onset: u64, text: &str) -> Result<bool, AllocError> {
-        let Some(light) = Light::named(text) else {
-            return Ok(false);
-        };
-        if let Some(before) = self.lines.get_mut(&onset) {
-            *before = before.and(light);
-            return Ok(true);
-        }
-        if self.lines.len() >= LINES {
-            self.are_left_out = true;
-            return Ok(false);
-        }
-        self.lines.insert(onset, light)?;
-        Ok(true)
-    }
-
-    /// The lines within the extent, in the order of time.
-    pub(crate) fn list_within(
-        &self,
-        alloc: Global,
-        extent: Extent,
-    ) -> Result<Vec<(u64, Light)>, AllocError> {
-        let mut found = Vec::new(alloc);
-        for (at, light) in &self.lines {
-            if extent.has(*at) {
-                found.push((*at, *light))?;
-            }
-        }
-        Ok(found)
-    }
-
-    /// The times from lights off to the next lights on, or none where some lights are no lines.
-    pub(crate) fn list_beds(&self, alloc: Global) -> Result<Vec<Extent>, AllocError> {
-        let mut beds = Vec::new(alloc);
-        if self.are_left_out {
-            return Ok(beds);
-        }
-        let mut off = None;
-        for (at, light) in &self.lines {
-            if *light != Light::Off {
-                if let Some(from) = off.take() {
-                    beds.push(Extent { from, to: *at })?;
+    all.sort_by_key(|line| line.at)?;
+    let mut lines: Vec<Line> = Vec::new(alloc);
+    let mut open: Option<Line> = None;
+    for line in all {
+        open = Some(match open {
+            Some(before) if before.at == line.at => Line {
+                at: line.at,
+                light: before.light.and(line.light),
+            },
+            before => {
+                if let Some(last) = before {
+                    lines.push(last)?;
                 }
+                line
             }
-            if *light != Light::On && off.is_none() {
-                off = Some(*at);
-            }
-        }
-        Ok(beds)
+        });
     }
+    if let Some(last) = open {
+        lines.push(last)?;
+    }
+    Ok(lines)
+}
+
+/// Those within the extent.
+pub(crate) fn lights_within(
+    alloc: Global,
+    lines: &[Line],
+    extent: Extent,
+) -> Result<Vec<Line>, AllocError> {
+    let mut found = Vec::new(alloc);
+    for line in lines {
+        if extent.has(line.at) {
+            found.push(*line)?;
+        }
+    }
+    Ok(found)
 }
 
 /// Writes lines down to this height.
 pub(crate) fn write_lines(
     svg: &mut String,
-    lines: &[(u64, Light)],
+    lines: &[Line],
     scale: Extent,
     height: u64,
 ) -> Result<(), AllocError> {
-    for (at, _) in lines {
-        let x = Pixels::at(*at, scale);
+    for line in lines {
+        let x = Pixels::at(line.at, scale);
         write!(svg, "<path class='o' d='M{x} 0V{height}'/>")?;
     }
     Ok(())
@@ -125,7 +111,7 @@ pub(crate) fn write_lines(
 /// one and those of lights on in another below it.
 pub(crate) fn list_labels(
     alloc: Global,
-    lines: &[(u64, Light)],
+    lines: &[Line],
     scale: Extent,
 ) -> Result<Vec<Labels>, AllocError> {
     let mut rows = Vec::new(alloc);
@@ -142,15 +128,15 @@ pub(crate) fn list_labels(
 /// A row of labels, without those of one kind.
 fn labels_without(
     alloc: Global,
-    lines: &[(u64, Light)],
+    lines: &[Line],
     scale: Extent,
     left_out: Option<Light>,
 ) -> Result<Labels, AllocError> {
     let mut labels = Labels::new(alloc);
-    for (at, light) in lines {
-        if left_out != Some(*light) {
-            let text = String::from_str(alloc, light.label())?;
-            labels.offer(Label::new(Pixels::at(*at, scale), text, 0))?;
+    for line in lines {
+        if left_out != Some(line.light) {
+            let text = String::from_str(alloc, line.light.label())?;
+            labels.offer(Label::new(Pixels::at(line.at, scale), text, 0))?;
         }
     }
     Ok(labels)

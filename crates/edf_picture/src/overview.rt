@@ -1,15 +1,18 @@
-use crate::columns::{Staged, list_columns};
+ghost use Rattle.std.specs.Prelude.{◌≡◌};
+ghost use Rattle.edf_picture.specs.Picture.{has_stages};
+ghost use Rattle.edf_sleep.specs.Account.{IsAccount};
+
+use crate::columns::list_columns;
 use crate::extent::Extent;
-use crate::hypnogram::{self, Hypnogram};
-use crate::kinds::Kinds;
+use crate::hypnogram::Hypnogram;
 use crate::labels::{Label, Labels};
 use crate::lanes::Lanes;
-use crate::lights::{Light, Lights, list_labels, write_lines};
+use crate::lights::{Line, lights_within, list_labels, write_lines};
 use crate::marks::{Mark, list_marks};
-use crate::pixels::{LEFT, Pixels};
+use crate::pixels::Pixels;
 use crate::recording::Recording;
-use crate::stages::Stages;
 use crate::times::{DAY, HOUR, MINUTE, SECOND, clock_label, date_label};
+use edf_sleep::{Account, Note, stage_of_text};
 use std::alloc::{AllocError, Global};
 
 /// What is drawn over the whole recording, on one scale: its stages of sleep, its annotations by
@@ -18,12 +21,12 @@ use std::alloc::{AllocError, Global};
 pub(crate) struct Overview<'a> {
     alloc: Global,
     recording: Recording<'a>,
+    /// The stages, where annotations name some.
     hypnogram: Option<Hypnogram>,
-    staged: Staged,
-    /// Whether later stages are left out.
-    lacks_stages: bool,
+    /// How many lines of figures stand below it.
+    lines: u64,
     lanes: Lanes,
-    lights: Vec<(u64, Light)>,
+    lights: Vec<Line>,
     /// The rows of their labels.
     labels: Vec<Labels>,
 }
@@ -35,29 +38,46 @@ const LABELS: u64 = 18;
 const SCALE: u64 = 30;
 
 /// The height of a line of text, in pixels.
-const LINE: u64 = 18;
+pub(crate) const LINE: u64 = 18;
 
 /// The room below it, in pixels.
 const ROOM: u64 = 16;
 
+/// Whether an annotation names a stage of sleep.
+pub(crate) fn has_stages(notes: &[Note]) -> bool
+    ensures { result ≡ has_stages notes.now }
+{
+    notes
+        .iter()
+        .any(|note| stage_of_text(note.text.as_str()).is_some())
+}
+
 impl<'a> Overview<'a> {
+    /// What goes over a recording, with so many lines of figures.
     pub(crate) fn of(
         alloc: Global,
         recording: &Recording<'a>,
-        stages: &Stages,
-        kinds: &Kinds,
-        lights: &Lights,
-    ) -> Result<Overview<'a>, AllocError> {
-        let lines = lights.list_within(alloc, recording.annotated())?;
+        account: &Account<'_>,
+        lights: &[Line],
+        lines: u64,
+    ) -> Result<Overview<'a>, AllocError>
+        requires { IsAccount account.now }
+    {
+        let lights = lights_within(alloc, lights, recording.annotated())?;
+        let hypnogram = if has_stages(account.notes()) {
+            let pieces = account.pieces(alloc)?;
+            Some(Hypnogram::of(list_columns(alloc, recording, &pieces)?))
+        } else {
+            None
+        };
         Ok(Overview {
             alloc,
             recording: *recording,
-            hypnogram: Hypnogram::of(stages),
-            staged: list_columns(alloc, recording, stages, lights.list_beds(alloc)?)?,
-            lacks_stages: stages.lacks_some(),
-            lanes: Lanes::of(alloc, kinds)?,
-            labels: list_labels(alloc, &lines, recording.all)?,
-            lights: lines,
+            hypnogram,
+            lines,
+            lanes: Lanes::of(alloc, account)?,
+            labels: list_labels(alloc, &lights, recording.all)?,
+            lights,
         })
     }
 
@@ -84,10 +104,9 @@ impl<'a> Overview<'a> {
     }
 
     fn stages_height(&self) -> u64 {
-        if self.hypnogram.is_some() {
-            hypnogram::HEIGHT.saturating_add(6)
-        } else {
-            0
+        match &self.hypnogram {
+            Some(hypnogram) => hypnogram.height().saturating_add(6),
+            None => 0,
         }
     }
 
@@ -96,35 +115,36 @@ impl<'a> Overview<'a> {
         self.stages_height().saturating_add(self.lanes.height())
     }
 
+    /// Where the lines of figures begin, in pixels below its top.
+    pub(crate) fn words_top(&self) -> u64 {
+        self.labels_height()
+            .saturating_add(self.panel_height())
+            .saturating_add(SCALE + 12)
+    }
+
     /// Its height in pixels.
     pub(crate) fn height(&self) -> u64 {
-        let lines = if self.hypnogram.is_some() {
-            2 * LINE
-        } else {
-            0
-        };
         self.labels_height()
             .saturating_add(self.panel_height())
             .saturating_add(SCALE + ROOM)
-            .saturating_add(lines)
+            .saturating_add(self.lines.saturating_mul(LINE))
     }
 
-    /// Writes it.
+    /// Writes it without the lines of figures.
     pub(crate) fn write(&self, svg: &mut String) -> Result<(), AllocError> {
         self.write_labels(svg)?;
         let top = self.labels_height();
         write!(svg, "<g transform='translate(0 {top})'>")?;
         self.write_gaps(svg)?;
         write_lines(svg, &self.lights, self.recording.all, self.panel_height())?;
-        if let Some(hypnogram) = self.hypnogram {
-            hypnogram.write(svg, &self.staged.columns)?;
+        if let Some(hypnogram) = &self.hypnogram {
+            hypnogram.write(svg)?;
         }
         let top = self.stages_height();
         write!(svg, "<g transform='translate(0 {top})'>")?;
-        self.lanes.write(svg, self.alloc, &self.recording)?;
+        self.lanes.write(svg, &self.recording)?;
         svg.push_str("</g>")?;
         write_scale(svg, self.alloc, self.recording.all, self.panel_height())?;
-        self.write_sleep(svg)?;
         svg.push_str("</g>")
     }
 
@@ -146,25 +166,6 @@ impl<'a> Overview<'a> {
             write_gap(svg, mark, all, height)?;
         }
         svg.push_str("'/>")
-    }
-
-    /// Writes how long each stage lasted, and the sleep.
-    fn write_sleep(&self, svg: &mut String) -> Result<(), AllocError> {
-        let Some(hypnogram) = self.hypnogram else {
-            return Ok(());
-        };
-        let slept = self.staged.slept;
-        let first = if self.lacks_stages {
-            " (of the first stages alone)"
-        } else {
-            ""
-        };
-        let stages = slept.stages_line(self.alloc, hypnogram)?;
-        let sleep = slept.sleep_line(self.alloc)?;
-        let y = self.panel_height().saturating_add(SCALE + 12);
-        let below = y.saturating_add(LINE);
-        write!(svg, "<text x='{LEFT}' y='{y}'>{stages}{first}</text>")?;
-        write!(svg, "<text x='{LEFT}' y='{below}'>{sleep}</text>")
     }
 }
 

@@ -36,29 +36,15 @@ impl<'a> Recording<'a> {
         Extent::of(stretch, self.duration)
     }
 
-    /// The first instant from this one on that was recorded.
-    pub(crate) fn next_recorded(&self, at: u64) -> Option<u64> {
-        let next = self
+    /// Whether an instant was recorded.
+    pub(crate) fn has(&self, at: u64) -> bool {
+        let over = self
             .stretches
             .partition_point(|stretch| self.extent_of(stretch).to <= at);
-        let run = self.extent_of(self.stretches.get(next)?);
-        Some(run.from.max(at))
-    }
-
-    /// How much of an extent was recorded, in nanoseconds.
-    pub(crate) fn recorded_within(&self, extent: Extent) -> u64 {
-        let first = self
-            .stretches
-            .partition_point(|stretch| self.extent_of(stretch).to <= extent.from);
-        let (_, later) = self.stretches.split_at(first.min(self.stretches.len()));
-        let mut recorded = 0u64;
-        for stretch in later {
-            let Some(part) = self.extent_of(stretch).within(extent) else {
-                break;
-            };
-            recorded = recorded.saturating_add(part.length());
+        match self.stretches.get(over) {
+            Some(stretch) => self.extent_of(stretch).has(at),
+            None => false,
         }
-        recorded
     }
 
     pub(crate) fn runs(&self) -> u64 {

@@ -1,9 +1,9 @@
-use crate::bins::{Bin, Bins};
 use crate::extent::Extent;
 use crate::numbers::{counted, scaled};
+use crate::onsets::Onsets;
 use crate::pixels::{ACROSS, LEFT};
 use crate::recording::Recording;
-use std::alloc::AllocError;
+use std::alloc::{AllocError, Global};
 
 /// The annotations in one place of a row.
 #[derive(Clone, Copy)]
@@ -19,11 +19,11 @@ const PLACES: u64 = ACROSS / 2;
 const FOOT: u64 = 10;
 
 impl Tick {
-    fn of(bin: &Bin, row: Extent) -> Tick {
-        let part = bin.first.saturating_sub(row.from);
+    fn of(onset: u64, row: Extent) -> Tick {
+        let part = onset.saturating_sub(row.from);
         Tick {
             place: scaled(part, row.length(), PLACES),
-            count: u64::from(bin.count),
+            count: 1,
         }
     }
 
@@ -49,7 +49,8 @@ impl Tick {
 /// answers whether there are any.
 pub(crate) fn write_ticks(
     svg: &mut String,
-    bins: &Bins,
+    alloc: Global,
+    onsets: &Onsets,
     row: Extent,
     recording: &Recording<'_>,
 ) -> Result<bool, AllocError> {
@@ -62,21 +63,21 @@ pub(crate) fn write_ticks(
         from: shown.from,
         to,
     };
-    let found = bins.list_within(extent)?;
+    let found = onsets.list_within(extent);
     if found.is_empty() {
         return Ok(false);
     }
     svg.push_str("<path class='t' d='")?;
-    write_places(svg, &found, row)?;
-    let count = counted(bins.alloc(), bins.within(extent), "annotation")?;
+    write_places(svg, found, row)?;
+    let count = counted(alloc, onsets.within(extent), "annotation")?;
     write!(svg, "'><title>{count}</title></path>")?;
     Ok(true)
 }
 
-fn write_places(svg: &mut String, found: &[Bin], row: Extent) -> Result<(), AllocError> {
+fn write_places(svg: &mut String, found: &[u64], row: Extent) -> Result<(), AllocError> {
     let mut open: Option<Tick> = None;
-    for bin in found {
-        let tick = Tick::of(bin, row);
+    for onset in found {
+        let tick = Tick::of(*onset, row);
         open = Some(next_tick(svg, open, tick)?);
     }
     match open {

@@ -10,26 +10,31 @@ use Rattle.edf_store.specs.Fault.{MayRefuse}
 use Rattle.edf_store.specs.Held.{StoreModel, at, Holds, Stays}
 use Rattle.edf_store.specs.declared.fault.StoreFault.{StoreFault}
 use Rattle.edf_store.specs.declared.fault.StoreFault.TheVariants.{Failed}
+use Rattle.edf_runs.specs.ByOnset.{annotations_of}
 use Rattle.edf_runs.specs.Runs.{AreListed}
 use Rattle.edf_runs.specs.declared.run.Run.{Run}
 use Rattle.edfruns_command.specs.Lines.{unwritten_line}
-use Rattle.edfruns_command.specs.Picturing.{IsPictureOf, SendsPicture}
+use Rattle.edfruns_command.specs.Picturing.{AreNoted, IsPictureOf, SendsPicture}
+use Rattle.edf_sleep.specs.declared.note.Note.{Note}
 use Rattle.edf_program.specs.Output.{Growth, Gets}
 use Rattle.edf_program.specs.declared.status.Status.{Status}
 use Rattle.edf_program.specs.declared.status.Status.TheVariants.{Done}
 use Rattle.edf_serve.specs.Client.{IsIdle}
 use Rattle.edf_serve.specs.Finding.{IsRefused}
 
--- it has the lines of the runs of just what the recording holds as text
+-- it has the lines of the runs and the figures of just what the recording holds
 pub record ShowsRecording (h : Holdings) (key : Key) (picture : List ℕ) : Type 0 where
   pub runs : List Run
   pub listed : AreListed (duration_of key.duration) (h key) runs
-  pub shows : IsPictureOf (duration_of key.duration) runs picture
+  pub notes : List Note
+  pub noted : AreNoted (annotations_of (h key)) notes
+  pub shows : IsPictureOf (duration_of key.duration) runs notes picture
 
--- it has the lines of some runs as text
+-- it has the lines of some runs and the figures of some annotations
 pub record ShowsRuns (key : Key) (picture : List ℕ) : Type 0 where
   pub runs : List Run
-  pub shows : IsPictureOf (duration_of key.duration) runs picture
+  pub notes : List Note
+  pub shows : IsPictureOf (duration_of key.duration) runs notes picture
 
 module _ (file out : Growth) (status : Status) where
   -- such a picture went to the file whole; or a front of one did, and a line says that a write

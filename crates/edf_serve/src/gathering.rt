@@ -1,7 +1,7 @@
 //! Data records that are gathered one by one, straight from the store: into their runs, or into
 //! what a picture shows of them.
 
-ghost use Rattle.std.specs.Prelude.{◌≡◌, ◌≢◌, ◌≤◌, ◌<◌, ◌++◌, ◌∷◌, [], List, false, length};
+ghost use Rattle.std.specs.Prelude.{◌≡◌, ◌≢◌, ◌≤◌, ◌<◌, ◌++◌, ◌∷◌, [], ℕ, List, false, length};
 ghost use Rattle.std.specs.Prelude.{OnOk, IfErr, MatchResult};
 ghost use Rattle.sqlite.specs.State.{HasCleanDisk};
 ghost use Rattle.edf_field.specs.Number.{duration_of};
@@ -12,9 +12,10 @@ ghost use Rattle.edf_store.specs.Call.{IsBusy};
 ghost use Rattle.edf_store.specs.Fault.{HasCause, MayRefuse};
 ghost use Rattle.edf_store.specs.Held.{at, Holds, Stays};
 ghost use Rattle.edf_store.specs.Walk.{HasGiven, IsWalking};
+ghost use Rattle.edf_runs.specs.ByOnset.{annotations_of};
 ghost use Rattle.edf_runs.specs.Runs.{AreListed};
-ghost use Rattle.edf_runs.specs.declared.run.Run.{Run};
 ghost use Rattle.edf_serve.specs.Client.{IsIdle};
+ghost use Rattle.edfruns_command.specs.Picturing.{AreNoted};
 
 use edf_field::MOST_DURATION;
 use edf_fragment::Record;
@@ -30,8 +31,8 @@ const MOST_STEPS: u32 = MOST_RECORDS + 1;
 
 /// What data records are gathered into.
 pub(crate) trait Gathers: Drop {
-    // The runs of those that were gathered.
-    ghost runs: { Self → List Run };
+    // These data records were gathered, which last so many nanoseconds each.
+    ghost has: { Self → ℕ → List DataRecord → Type 0 };
 
     /// Gathers the one that comes next, which lasts so many nanoseconds as each of them.
     ///
@@ -40,12 +41,12 @@ pub(crate) trait Gathers: Drop {
     fn gather(&mut self, data_record: &Record, duration: u64) -> Result<(), AllocError>
         requires { duration ≤ MOST_DURATION }
         ensures { OnOk result ((records : List DataRecord) → length records < MOST_RECORDS →
-            AreListed duration records (runs self.old) →
-            AreListed duration (records ++ data_record.now ∷ []) (runs self.new)) };
+            has self.old duration records →
+            has self.new duration (records ++ data_record.now ∷ [])) };
 }
 
 impl Gathers for Vec<Run> {
-    ghost runs = { λ all. all.items };
+    ghost has = { λ all duration records. AreListed duration records all.items };
 
     fn gather(&mut self, data_record: &Record, duration: u64) -> Result<(), AllocError> {
         add_record(self, data_record, duration)
@@ -53,7 +54,8 @@ impl Gathers for Vec<Run> {
 }
 
 impl Gathers for Sight {
-    ghost runs = { λ sight. sight.runs.items };
+    ghost has = { λ sight duration records. AreListed duration records sight.runs.items
+        × AreNoted (annotations_of records) sight.notes.items };
 
     fn gather(&mut self, data_record: &Record, duration: u64) -> Result<(), AllocError> {
         self.add(data_record, duration)
@@ -68,8 +70,8 @@ fn gather_next<G: Gathers>(
 ) -> Result<(), StoreFault>
     requires { duration ≤ MOST_DURATION }
     ensures gathered { OnOk result ((records : List DataRecord) → length records < MOST_RECORDS →
-        AreListed duration records (G.runs gathered.old) →
-        AreListed duration (records ++ data_record.now ∷ []) (G.runs gathered.new)) }
+        G.has gathered.old duration records →
+        G.has gathered.new duration (records ++ data_record.now ∷ [])) }
     ensures memory { IfErr result (λ fault. fault ≡ StoreFault.Memory) }
 {
     match gathered.gather(data_record, duration) {
@@ -87,12 +89,12 @@ fn gather_all<S: Alter, G: Gathers>(
     requires ready { (walk.old.failed ≡ false) × IsWalking S.Store walk.old }
     requires duration { duration ≤ MOST_DURATION }
     requires cap { walk.old.store.now.cap ≤ MOST_RECORDS }
-    requires none { G.runs gathered ≡ [] }
+    requires none { G.has gathered duration [] }
     ensures same_reference { walk.new.store.ghost_name ≡ walk.old.store.ghost_name }
     ensures stays { Stays S.Store walk.old.store.now walk.new.store.now }
     ensures runs { HasCleanDisk (at S.Store walk.new.store.now) → (h : Holdings) (k : Key) →
         HasGiven S.Store walk.old h k 0 →
-        MatchResult result (λ all. AreListed duration (h k) (G.runs all)) HasCause }
+        MatchResult result (λ all. G.has all duration (h k)) HasCause }
     ensures idle { OnOk result (IsIdle S.Store walk.new.store.now) }
     ensures unfailed { IfErr result (λ fault. fault ≢ StoreFault.Failed) }
 {
@@ -117,11 +119,11 @@ pub(crate) fn gather_of<S: Alter, G: Gathers>(
     identity: &Identity,
     none: G,
 ) -> Result<G, StoreFault>
-    requires none { G.runs none ≡ [] }
+    requires none { G.has none (duration_of identity.now.duration) [] }
     ensures stays { Stays S.Store store.old store.new }
     ensures runs { HasCleanDisk (at S.Store store.new) → (h : Holdings) →
         Holds S.Store store.old h → MatchResult result
-        (λ all. AreListed (duration_of identity.now.duration) (h identity.now) (G.runs all))
+        (λ all. G.has all (duration_of identity.now.duration) (h identity.now))
         (MayRefuse (IsBusy S.Store store.old) ⊥ ⊥) }
     ensures idle { OnOk result (IsIdle S.Store store.new) }
     ensures unfailed { IfErr result (λ fault. fault ≢ StoreFault.Failed) }

@@ -16,3 +16,5 @@ mod Splits
 mod Finished
 mod Outside
 mod EachLine
+mod Spans
+pub mod Noting

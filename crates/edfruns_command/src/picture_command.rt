@@ -6,12 +6,14 @@ ghost use Rattle.edf_fragment.specs.Reading.{at_first};
 ghost use Rattle.edf_fragment.specs.Whole.{FailsAfterRecords, IsFragmentFault};
 ghost use Rattle.edf_fragment.specs.Inside.Steps.{ReadsRecords};
 ghost use Rattle.edf_program.specs.Output.{growth};
+ghost use Rattle.edf_runs.specs.ByOnset.{annotations_of};
 ghost use Rattle.edf_runs.specs.Read.{ReadsRuns};
 ghost use Rattle.edf_runs.specs.Runs.{AreListed};
 ghost use Rattle.edfruns_command.specs.Inside.{OpensUpTo};
 ghost use Rattle.edfruns_command.specs.Lines.{unwritten_line, standard_output};
 ghost use Rattle.edfruns_command.specs.Listing.{HasRuns, HasFault, OpensAgain};
-ghost use Rattle.edfruns_command.specs.Picturing.{IsPictured, SendsPicture};
+ghost use Rattle.edfruns_command.specs.Picturing.{AreNoted, HasNotes, IsPictured, ReadsNotes};
+ghost use Rattle.edfruns_command.specs.Picturing.{SendsPicture};
 
 use crate::arguments::{file_value, value_in};
 use crate::refusal::{refuse, refuse_run};
@@ -32,7 +34,8 @@ const PICTURE_MORE: &str = "\
 Writes a picture of a file to standard output, as one SVG that a browser opens:
 the runs as bars with their gaps between them, hour by hour or day by day, the
 annotations above them; over the whole recording a hypnogram where annotations
-name sleep stages, and a lane for each text of the others; and the signals.
+name sleep stages, with the figures of sleep, and a lane for each text of the
+others; and the signals.
 A file that is refused leaves standard output empty.
 
 With --tolerance, gaps of at most S seconds are drawn as if nothing were missing.
@@ -90,7 +93,8 @@ fn see_records<R: Input>(
     ensures answer { MatchResult result
         (λ sight. (records : List DataRecord) × ReadsRecords fragment.old.header
         (R.remaining input.old) (R.remaining input.new) records
-        × AreListed duration records sight.runs.items)
+        × AreListed duration records sight.runs.items
+        × AreNoted (annotations_of records) sight.notes.items)
         (FailsAfterRecords fragment.old.header (R.remaining input.old) (R.remaining input.new)) }
 {
     header_is_layout(fragment.header());
@@ -113,7 +117,7 @@ fn see_file<R: Input>(alloc: Global, input: &mut R) -> Result<SeenFile, Fragment
         (λ seen. ReadsRuns (R.remaining input.old) (R.remaining input.new) (record {
           identity = seen.identity;
           runs = seen.sight.runs;
-        }))
+        }) × ReadsNotes (R.remaining input.old) (R.remaining input.new) seen.sight.notes.items)
         (IsFragmentFault (R.remaining input.old) (R.remaining input.new)) }
 {
     let mut fragment = OpenFragment::read(alloc, input)?;
@@ -135,7 +139,7 @@ fn seen_file<I: Inputs>(
         (λ seen. HasRuns (I.bytes inputs.old file.now) (record {
           identity = seen.identity;
           runs = seen.sight.runs;
-        }))
+        }) × HasNotes (I.bytes inputs.old file.now) seen.sight.notes.items)
         (λ fault. HasFault (I.bytes inputs.old file.now) fault
         ⊎ (fault ≡ FragmentFault.Memory)) }
     ensures opened { MatchResult result

@@ -1,37 +1,50 @@
 //! What a picture shows of a recording, data record by data record.
 
-ghost use Rattle.std.specs.Prelude.{◌≡◌, ◌++◌, ◌∷◌, [], ◌≤◌, ◌<◌, List, IfOk, OnOk, length, string_bytes};
+ghost use Rattle.std.specs.Prelude.{◌≡◌, ◌++◌, ◌∷◌, [], ◌≤◌, ◌<◌, ℕ, List, IfOk, OnOk, length};
+ghost use Rattle.std.specs.Prelude.{map, string_bytes};
 ghost use Rattle.edf_field.specs.Number.{duration_of};
 ghost use Rattle.edf_header.specs.declared.limits.TheConstants.{MOST_RECORDS};
 ghost use Rattle.edf_fragment.specs.Fragment.{DataRecord};
 ghost use Rattle.edf_runs.specs.Runs.{AreListed};
-ghost use Rattle.edfruns_command.specs.Picturing.{IsPictureOf};
+ghost use Rattle.edf_tal.specs.Tal.{Annotation};
+ghost use Rattle.edf_program.specs.Text.{IsSpelling};
+ghost use Rattle.edf_sleep.specs.Account.{IsAccount, night_of};
+ghost use Rattle.edf_sleep.specs.FigureLines.{HasFigures};
+ghost use Rattle.edf_sleep.specs.Night.{Night, IsSound, span_of};
+ghost use Rattle.edfruns_command.specs.Picturing.{AreNoted, IsNoted, IsPictureOf};
+ghost use Rattle.edfruns_command.specs.Picturing.{run_time};
 
 use crate::joining::each_text;
 use crate::signals::signals_in;
 use edf_field::MOST_DURATION;
 use edf_fragment::Record;
 use edf_header::Identity;
-use edf_picture::{Recorded, Sketch, Stretch, Title};
+use edf_picture::{Joined, Recorded, Stretch, Title, draw};
+use edf_program::{joined, spelled};
 use edf_runs::{Listing, Run, add_record};
+use edf_sleep::{Account, Extent, Note, are_sound};
+use edf_time::Instant;
 use std::alloc::{AllocError, Global};
 
 /// What a picture shows of the data records of a recording that were seen so far: their runs, and
 /// their annotations.
 #[derive(Drop)]
 pub struct Sight {
+    alloc: Global,
     pub(crate) runs: Vec<Run>,
-    sketch: Sketch,
+    pub(crate) notes: Vec<Note>,
 }
 
 impl Sight {
     /// Before the first data record.
     pub fn new(alloc: Global) -> Sight
-        ensures { result.runs.items ≡ [] }
+        ensures runs { result.runs.items ≡ [] }
+        ensures notes { result.notes.items ≡ [] }
     {
         Sight {
+            alloc,
             runs: Vec::new(alloc),
-            sketch: Sketch::new(alloc),
+            notes: Vec::new(alloc),
         }
     }
 
@@ -41,16 +54,20 @@ impl Sight {
     /// Where memory runs out. It then has a part of the data record, and is to be let go.
     pub fn add(&mut self, data_record: &Record, duration: u64) -> Result<(), AllocError>
         requires { duration ≤ MOST_DURATION }
-        ensures { OnOk result ((records : List DataRecord) → length records < MOST_RECORDS →
+        ensures runs { OnOk result ((records : List DataRecord) → length records < MOST_RECORDS →
             AreListed duration records self.old.runs.items →
             AreListed duration (records ++ data_record.now ∷ []) self.new.runs.items) }
+        ensures notes { OnOk result ((before : List Annotation) →
+            AreNoted before self.old.notes.items →
+            AreNoted (before ++ data_record.now.annotations) self.new.notes.items) }
     {
         add_record(&mut self.runs, data_record, duration)?;
-        sketch_record(&mut self.sketch, data_record)
+        add_notes(&mut self.notes, self.alloc, data_record)
     }
 
-    /// The picture of the recording of this identity, as one SVG, with the lines of its runs as
-    /// text. Gaps of at most so many nanoseconds are drawn as if nothing were missing.
+    /// The picture of the recording of this identity, as one SVG, with the lines of its runs and
+    /// those of its figures as text. Gaps of at most so many nanoseconds are drawn as if nothing
+    /// were missing.
     ///
     /// # Errors
     /// Where memory runs out.
@@ -61,61 +78,191 @@ impl Sight {
         tolerance: u64,
     ) -> Result<String, AllocError>
         ensures { IfOk result (λ picture. IsPictureOf (duration_of identity.duration)
-            self.runs.items (string_bytes picture)) }
+            self.runs.items self.notes.items (string_bytes picture)) }
     {
         let listing = Listing {
             identity,
             runs: self.runs,
         };
-        draw_listing(alloc, &listing, &self.sketch, tolerance)
+        draw_listing(alloc, &listing, &self.notes, tolerance)
     }
 }
 
-/// Adds the annotations of a data record to the sketch.
-fn sketch_record(sketch: &mut Sketch, data_record: &Record) -> Result<(), AllocError> {
+/// What an annotation has.
+fn noted(alloc: Global, note: &edf_tal::Note) -> Result<Note, AllocError>
+    ensures { IfOk result (λ n. IsNoted note.now n) }
+{
+    let text = String::from_str(alloc, note.text())?;
+    Ok(Note {
+        onset: note.onset().nanos(),
+        duration: note.duration(),
+        text,
+    })
+}
+
+/// Adds the annotations of a data record.
+fn add_notes(notes: &mut Vec<Note>, alloc: Global, data_record: &Record) -> Result<(), AllocError>
+    ensures { OnOk result ((before : List Annotation) → AreNoted before notes.old.items →
+        AreNoted (before ++ data_record.now.annotations) notes.new.items) }
+{
     for note in data_record.notes() {
-        sketch.add_annotation(note.onset(), note.duration(), note.text())?;
+        let copy = noted(alloc, note)?;
+        notes.push(copy)?;
     }
     Ok(())
 }
 
-/// The stretches of the runs.
-fn stretches_of(alloc: Global, runs: &[Run]) -> Result<Vec<Stretch>, AllocError> {
-    let mut stretches = Vec::new(alloc);
+/// The times of runs whose data records last so many nanoseconds.
+fn times_of(alloc: Global, duration: u64, runs: &[Run]) -> Result<Vec<Extent>, AllocError>
+    requires { duration ≤ MOST_DURATION }
+    ensures { IfOk result (λ v. v.items ≡ map (run_time duration) runs.now) }
+{
+    let mut times = Vec::new(alloc);
     for run in runs {
-        stretches.push(Stretch {
-            first: run.first(),
-            last: run.last(),
-            records: run.records(),
+        times.push(Extent {
+            from: run.first().nanos(),
+            to: run.last().nanos() + duration,
         })?;
     }
-    Ok(stretches)
+    Ok(times)
 }
 
-/// The picture of runs and annotations, with the lines of the runs as text.
+/// The stretches that a picture draws, and what was joined for it.
+#[derive(Drop)]
+struct View {
+    stretches: Vec<Stretch>,
+    joined: Joined,
+}
+
+impl View {
+    /// The runs, those as one between which no more is missing than a tolerance above 0.
+    fn of(alloc: Global, runs: &[Run], duration: u64, tolerance: u64) -> Result<View, AllocError> {
+        let mut view = View {
+            stretches: Vec::new(alloc),
+            joined: Joined {
+                tolerance,
+                gaps: 0,
+                sum: 0,
+                longest: 0,
+            },
+        };
+        let mut open: Option<Stretch> = None;
+        for run in runs {
+            let stretch = Stretch {
+                first: run.first(),
+                last: run.last(),
+                records: run.records(),
+            };
+            open = Some(view.next(open, stretch, duration)?);
+        }
+        if let Some(last) = open {
+            view.stretches.push(last)?;
+        }
+        Ok(view)
+    }
+
+    /// The two as one where the gap between them is joined; else the first is whole.
+    fn next(
+        &mut self,
+        open: Option<Stretch>,
+        stretch: Stretch,
+        duration: u64,
+    ) -> Result<Stretch, AllocError> {
+        let Some(before) = open else {
+            return Ok(stretch);
+        };
+        let end = before.last.nanos().saturating_add(duration);
+        let gap = stretch.first.nanos().saturating_sub(end);
+        let joined = &mut self.joined;
+        if gap > joined.tolerance || joined.tolerance == 0 {
+            self.stretches.push(before)?;
+            return Ok(stretch);
+        }
+        if gap > 0 {
+            joined.gaps = joined.gaps.saturating_add(1);
+            joined.sum = joined.sum.saturating_add(gap);
+            joined.longest = joined.longest.max(gap);
+        }
+        Ok(Stretch {
+            first: before.first,
+            last: stretch.last,
+            records: before.records.saturating_add(stretch.records),
+        })
+    }
+}
+
+/// What notes and the times of runs tell; nothing where they are not as a file has them.
+fn account_of<'a>(
+    alloc: Global,
+    notes: &'a [Note],
+    times: &'a [Extent],
+) -> Result<Account<'a>, AllocError>
+    ensures account { IfOk result (λ a. IsAccount a) }
+    ensures told { let night : Night = record { notes = notes.now; runs = times.now } in
+        IfOk result (λ a. IsSound notes.now times.now → night_of a ≡ night) }
+{
+    if are_sound(notes, times) {
+        Account::of(alloc, notes, times)
+    } else {
+        Account::of(alloc, &[], &[])
+    }
+}
+
+/// The first instant of the time that the figures are of, as it is spelled.
+fn first_text(alloc: Global, account: &Account<'_>) -> Result<Vec<u8>, AllocError>
+    requires { IsAccount account.now }
+    ensures { IfOk result (λ r. (spell : ℕ → List ℕ) → IsSpelling spell →
+        r.items ≡ spell (span_of (night_of account.now)).from) }
+{
+    match Instant::at(account.span().from) {
+        Some(first) => spelled(alloc, first),
+        None => Ok(Vec::new(alloc)),
+    }
+}
+
+/// The lines of the figures.
+fn figures_of(alloc: Global, account: &Account<'_>) -> Result<Vec<u8>, AllocError>
+    requires { IsAccount account.now }
+    ensures { IfOk result (λ r. (spell : ℕ → List ℕ) → IsSpelling spell →
+        HasFigures spell (night_of account.now).notes (night_of account.now).runs r.items) }
+{
+    let first = first_text(alloc, account)?;
+    account.lines(alloc, first.as_slice())
+}
+
+/// The picture of runs and annotations, with the lines of the runs and of the figures as text.
 fn draw_listing(
     alloc: Global,
     listing: &Listing,
-    sketch: &Sketch,
+    notes: &[Note],
     tolerance: u64,
 ) -> Result<String, AllocError>
     ensures { IfOk result (λ picture. IsPictureOf (duration_of listing.now.identity.duration)
-        listing.now.runs.items (string_bytes picture)) }
+        listing.now.runs.items notes.now (string_bytes picture)) }
 {
     let identity = &listing.identity;
     let title = Title {
         patient: identity.patient_code(),
         investigation: identity.investigation_code(),
     };
+    let duration = identity.duration();
     let bytes = identity.to_bytes(alloc)?;
     let signals = signals_in(alloc, &bytes)?;
-    let stretches = stretches_of(alloc, &listing.runs)?;
+    let view = View::of(alloc, &listing.runs, duration, tolerance)?;
     let recorded = Recorded {
-        duration: identity.duration(),
-        stretches: &stretches,
+        duration,
+        stretches: &view.stretches,
         signals: &signals,
-        tolerance,
+        joined: if tolerance > 0 {
+            Some(view.joined)
+        } else {
+            None
+        },
     };
-    let lines = each_text(alloc, listing)?;
-    sketch.draw(alloc, &title, &recorded, lines.as_slice())
+    let times = times_of(alloc, duration, &listing.runs)?;
+    let account = account_of(alloc, notes, &times)?;
+    let runs = each_text(alloc, listing)?;
+    let figures = figures_of(alloc, &account)?;
+    let lines = joined(alloc, &[runs.as_slice(), figures.as_slice()])?;
+    draw(alloc, &title, &recorded, &account, lines.as_slice())
 }

@@ -5,9 +5,6 @@ use Rattle.std.proofs.lemmas.Option.{get_or_from_slice_get, slice_get_within}
 use Rattle.std.proofs.lemmas.Result.{err_from_is_err_and}
 use Rattle.edf_header.specs.declared.limits.TheConstants.{MOST_RECORDS}
 use Rattle.edf_fragment.specs.Fragment.{DataRecord}
-use Rattle.edf_runs.specs.Runs.{AreListed}
-use Rattle.edf_runs.specs.declared.run.Run.{Run}
-use Rattle.edf_runs.proofs.Growing.{nothing_listed}
 use Rattle.edf_store.proofs.Readiness.{stays_then}
 use Rattle.edf_export.proofs.Walks.{stays_same, clean_before, not_failed}
 use Rattle.edf_serve.proofs.Runs.{why-then, too-many, too-long}
@@ -20,8 +17,7 @@ loop-step-init g c = record {
   same_reference = refl;
   stays = stays_same g.S.Store c.args.walk.now.store.now;
   moved = λ h k walked. walked;
-  listed = λ clean h k walked. subst (λ (l : List Run). AreListed c.args.duration [] l)
-      (sym c.requires.none) (nothing_listed c.args.duration);
+  listed = λ clean h k walked. c.requires.none;
 }
 
 pub loop-step-preserved : goal.loop-step-preserved
@@ -34,8 +30,8 @@ loop-step-preserved g c =
     let step = rw c.in-Some.is at c.in_ok-data_record.ensures.step in
     let few : n < MOST_RECORDS = omega arith in
     let grows : (rs : List DataRecord) → length rs < MOST_RECORDS →
-    AreListed d rs (g.G.Gathers.runs c.loop-step.gathered)
-    → AreListed d (rs ++ r ∷ []) (g.G.Gathers.runs c.gather_next.new.gathered) =
+    g.G.Gathers.has c.loop-step.gathered d rs
+    → g.G.Gathers.has c.gather_next.new.gathered d (rs ++ r ∷ []) =
     c.in_ok-gather_next.ensures.gathered in
     record {
       going = c.in_ok-data_record.ensures.leaves.going;
@@ -53,7 +49,7 @@ loop-step-preserved g c =
           take_more (h k) n r within ∙ ap (λ (x : DataRecord). take n (h k) ++ x ∷ [])
           (get_or_from_slice_get (h k) n r r gives) in
           subst (λ (rs : List DataRecord).
-          AreListed d rs (g.G.Gathers.runs c.gather_next.new.gathered))
+          g.G.Gathers.has c.gather_next.new.gathered d rs)
           (sym one_more) (grows (take n (h k))
           (omega (arith, length-take n (h k), few)) (i.listed was h k walked));
     }
@@ -72,8 +68,7 @@ returns-in_default-clause-runs g c clean h k walked =
     step clean h k c.loop-step.step (i.moved h k walked) in
     let was = clean_before g.S.Store c.loop-step.walk.store.now c.next.new.self.store.now
     c.next.ensures.leaves.stays clean in
-    subst (λ (rs : List DataRecord). AreListed c.args.duration rs
-    (g.G.Gathers.runs c.loop-step.gathered))
+    subst (λ (rs : List DataRecord). g.G.Gathers.has c.loop-step.gathered c.args.duration rs)
     (take_all c.loop-step.step (h k) (omega (arith, all))) (i.listed was h k walked)
 
 pub returns-in_err-data_record-clause-runs : goal.returns-in_err-data_record-clause-runs

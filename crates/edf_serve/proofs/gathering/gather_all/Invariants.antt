@@ -4,7 +4,6 @@ use Rattle.edf_header.specs.Key.{Key}
 use Rattle.edf_holdings.specs.Holdings.{Holdings}
 use Rattle.edf_store.specs.Held.{at, Stays}
 use Rattle.edf_store.specs.Walk.{HasGiven, IsWalking}
-use Rattle.edf_runs.specs.Runs.{AreListed}
 use Rattle.edf_serve.proofs.gathering.gather_all.Given as goal
 
 abbrev pub invariant-loop-step : goal.invariant-loop-step
@@ -17,5 +16,5 @@ invariant-loop-step g l = record {
       HasGiven g.S.Store l.initial.walk h k 0 → HasGiven g.S.Store l.walk h k l.step;
   listed : HasCleanDisk (at g.S.Store l.walk.store.now) → (h : Holdings) (k : Key) →
       HasGiven g.S.Store l.initial.walk h k 0 →
-      AreListed l.duration (take l.step (h k)) (g.G.Gathers.runs l.gathered);
+      g.G.Gathers.has l.gathered l.duration (take l.step (h k));
 }

@@ -1,11 +1,15 @@
-use Rattle.std.proofs.Common.{◌≡◌, ◌∙◌, ℕ, sym, subst, rules}
+use Rattle.std.proofs.Common.{◌≡◌, ◌∙◌, ℕ, [], sym, subst, rules}
 use Rattle.std.proofs.lemmas.Result.{err_from_is_err_and, MatchResult-weaker}
 use Rattle.sqlite.specs.State.{HasCleanDisk}
-use Rattle.edf_runs.specs.Runs.{AreListed}
 use Rattle.edf_store.specs.Held.{at}
 use Rattle.edf_store.proofs.Readiness.{stays_then}
 use Rattle.edf_serve.proofs.Runs.{why-then}
 use Rattle.edf_serve.proofs.gathering.gather_of.Goals as goal
+
+pub gather_all-requires-clause-none : goal.gather_all-requires-clause-none
+gather_all-requires-clause-none g c =
+    subst (λ (d : ℕ). g.G.Gathers.has c.args.none d []) (sym c.duration-duration.ensures.value)
+    c.requires.none
 
 pub returns-in_err-walk-clause-runs : goal.returns-in_err-walk-clause-runs
 returns-in_err-walk-clause-runs g c clean h held =
@@ -33,6 +37,6 @@ returns-clause-runs g c clean h held =
     let k = c.args.identity.now in
     MatchResult-weaker c.gather_all.result
     (c.gather_all.ensures.runs is_clean h k (c.in_ok-walk.ensures.begun.at_first h held))
-    (λ all listed. subst (λ (d : ℕ). AreListed d (h k) (g.G.Gathers.runs all))
+    (λ all listed. subst (λ (d : ℕ). g.G.Gathers.has all d (h k))
     c.duration-duration.ensures.value listed)
     (λ fault why. why-then ⊥ ⊥ ⊥ _ fault why (λ no. absurd no) (λ no. no) (λ no. no))

@@ -1,9 +1,21 @@
-use Rattle.std.proofs.Common.{◌∙◌, ℕ, List, subst, inl, inr}
+use Rattle.std.proofs.Common.{◌≡◌, ◌∙◌, ℕ, List, [], subst, sym, inl, inr, rules}
+use Rattle.edf_field.specs.Number.{duration_of}
 use Rattle.edf_program.proofs.Undone.{trouble-undone}
 use Rattle.edf_program.specs.Output.{growth, IsWritten}
 use Rattle.edf_program.specs.declared.status.Status.TheVariants.{Done}
+use Rattle.edf_runs.proofs.Growing.{nothing_listed}
+use Rattle.edf_runs.specs.Runs.{AreListed}
+use Rattle.edf_runs.specs.declared.run.Run.{Run}
 use Rattle.edf_store.specs.declared.fault.StoreFault.TheVariants.{Memory}
 use Rattle.edf_serve.proofs.running.put_runs.Goals as goal
+
+pub gather_of-requires : goal.gather_of-requires
+gather_of-requires g c =
+    let d = duration_of c.args.identity.duration in
+    let empty : c.new-none.result.items ≡ [] = search rules in
+    record {
+      none = subst (λ (runs : List Run). AreListed d [] runs) (sym empty) (nothing_listed d);
+    }
 
 pub returns-in-Err-clause-listed : goal.returns-in-Err-clause-listed
 returns-in-Err-clause-listed g c clean h held =

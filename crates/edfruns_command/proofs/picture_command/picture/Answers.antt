@@ -21,7 +21,9 @@ returns-in-Ok-draw-clause-pictured g c = inl (record {
     identity = c.in-Ok.seen.identity;
     runs = c.in-Ok.seen.sight.runs;
   };
-  has = c.in-Ok.ensures.answer;
+  has = c.in-Ok.ensures.answer.0;
+  notes = c.in-Ok.seen.sight.notes.items;
+  noted = c.in-Ok.ensures.answer.1;
   picture = string_bytes c.in-Ok-draw.picture;
   is_picture = c.in-Ok-draw.ensures;
   sent = subst (λ (bytes : List ℕ). SendsPicture

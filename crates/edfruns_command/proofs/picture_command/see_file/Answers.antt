@@ -26,11 +26,19 @@ returns g c =
     let key : c.identity.result.now ≡ l.key = c.identity.ensures
     ∙ ap (λ (x : Layout). x.key) c.header.ensures in
     let duration : c.duration-duration.result ≡ duration_of l.key.duration =
-    c.duration-duration.ensures.value ∙ ap (λ (k : Key). duration_of k.duration) key in
-    record {
-      layout = l;
-      records = answer.0;
-      read = fragment_read _ _ _ l _ c.in_ok-fragment.ensures.step.0 answer.1;
-      identity = c.into_identity.ensures ∙ ap (λ (x : Layout). x.key) header;
-      listed = subst (λ (d : ℕ). AreListed d answer.0 c.in_ok-sight.sight.runs.items) duration answer.2;
-    }
+    c.duration-duration.ensures.value ∙ ap (λ (k : Key). duration_of k.duration) key in (
+      record {
+        layout = l;
+        records = answer.0;
+        read = fragment_read _ _ _ l _ c.in_ok-fragment.ensures.step.0 answer.1;
+        identity = c.into_identity.ensures ∙ ap (λ (x : Layout). x.key) header;
+        listed = subst (λ (d : ℕ). AreListed d answer.0 c.in_ok-sight.sight.runs.items) duration
+            answer.2;
+      },
+      record {
+        layout = l;
+        records = answer.0;
+        read = fragment_read _ _ _ l _ c.in_ok-fragment.ensures.step.0 answer.1;
+        noted = answer.3;
+      },
+    )

@@ -10,9 +10,14 @@ use Rattle.edf_fragment.specs.Whole.{HasRead}
 use Rattle.edf_fragment.specs.declared.advance.Progress.{Progress}
 use Rattle.edf_fragment.proofs.Fragments.{reads_none}
 use Rattle.edf_fragment.proofs.Runs.{next_of, reads_more}
+use Rattle.edf_runs.specs.ByOnset.{annotations_of}
 use Rattle.edf_runs.specs.Runs.{AreListed}
 use Rattle.edf_runs.specs.declared.run.Run.{Run}
 use Rattle.edf_runs.proofs.Growing.{nothing_listed}
+use Rattle.edf_sleep.specs.declared.note.Note.{Note}
+use Rattle.edf_tal.specs.Tal.{Annotation}
+use Rattle.edfruns_command.specs.Picturing.{AreNoted}
+use Rattle.edfruns_command.proofs.Noting.{annotations-push}
 use Rattle.edfruns_command.proofs.picture_command.see_records.Goals as goal
 
 -- what is told of an answer without an error
@@ -30,8 +35,9 @@ records-init g c =
         [],
         subst (λ (p : Progress). HasRead c.args.fragment.now.header left left [] p)
             (sym c.requires.first) (reads_none c.args.fragment.now.header left),
-        subst (λ (l : List Run). AreListed c.args.duration [] l) (sym c.new-sight.ensures)
+        subst (λ (l : List Run). AreListed c.args.duration [] l) (sym c.new-sight.ensures.runs)
             (nothing_listed c.args.duration),
+        subst (λ (l : List Note). AreNoted [] l) (sym c.new-sight.ensures.notes) tt,
       );
     }
 
@@ -60,10 +66,21 @@ records-preserved g c =
     let grows : (rs : List DataRecord) → length rs < MOST_RECORDS →
     AreListed c.args.duration rs c.records.sight.runs.items
     → AreListed c.args.duration (rs ++ r ∷ []) c.add.new.self.runs.items =
-    on-ok c.add.result _ c.add.ensures
+    on-ok c.add.result _ c.add.ensures.runs
+    (sym c.is_err.ensures.value ∙ c.if-is_err.false) in
+    let noted : (all : List Annotation) → AreNoted all c.records.sight.notes.items →
+    AreNoted (all ++ r.annotations) c.add.new.self.notes.items =
+    on-ok c.add.result _ c.add.ensures.notes
     (sym c.is_err.ensures.value ∙ c.if-is_err.false) in
     record {
       header = c.in_ok-record.ensures.header ∙ before.header;
       state = ap (λ (x : Progress). x.state) to_is;
-      so_far = (records ++ r ∷ [], read, grows records few before.so_far.2);
+      so_far = (
+        records ++ r ∷ [],
+        read,
+        grows records few before.so_far.2,
+        subst (λ (all : List Annotation). AreNoted all c.add.new.self.notes.items)
+            (sym (annotations-push records r))
+            (noted (annotations_of records) before.so_far.3),
+      );
     }

@@ -3,7 +3,9 @@ use Rattle.edf_header.specs.Header.{most_records}
 use Rattle.edf_fragment.specs.Fragment.{DataRecord}
 use Rattle.edf_fragment.specs.declared.advance.ReaderState.TheVariants.{Reading}
 use Rattle.edf_fragment.specs.Whole.{HasRead}
+use Rattle.edf_runs.specs.ByOnset.{annotations_of}
 use Rattle.edf_runs.specs.Runs.{AreListed}
+use Rattle.edfruns_command.specs.Picturing.{AreNoted}
 use Rattle.edfruns_command.proofs.picture_command.see_records.Given as goal
 
 abbrev pub invariant-records : goal.invariant-records
@@ -13,7 +15,8 @@ invariant-records g l = record {
   so_far : (records : List DataRecord)
       × HasRead l.initial.fragment.header (g.R.Input.remaining l.initial.input)
       (g.R.Input.remaining l.input) records l.fragment.progress
-      × AreListed l.fn.duration records l.sight.runs.items;
+      × AreListed l.fn.duration records l.sight.runs.items
+      × AreNoted (annotations_of records) l.sight.notes.items;
 }
 
 abbrev pub decreases-records : goal.decreases-records

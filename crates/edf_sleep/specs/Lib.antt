@@ -1,0 +1,16 @@
+pub mod Stages
+pub mod Ends
+pub mod Told
+pub mod Night
+pub mod Figures
+pub mod Ending
+pub mod Moments
+pub mod Telling
+pub mod Changes
+pub mod Pieces
+pub mod Account
+pub mod Rates
+pub mod Words
+pub mod FigureLines
+pub mod FigureLaws
+pub mod Drawn
