@@ -101,6 +101,7 @@ CHECKS = (
     Check("mend.fuzz", "files spoilt at random, mended", (EDFMEND,), counts=(2_000, 100_000)),
     Check("mend.foreign", "files of other programs, mended", (EDFSTORE, EDFMEND),
           needs=("cc", "save2gdf", "python3-mne", "libedf-dev"), is_for_long=True),
+    Check("sleep", "figures of sleep worked out by hand", (), counts=(100, 300)),
     Check("told", "faults of form as REFUSALS has them", ()),
     Check("documents", "files whose links and names stand", (), needs=("git",)),
     Check("promises", "contracts that PROMISES names", ()),

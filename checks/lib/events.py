@@ -1,58 +1,15 @@
-"""Annotations that are no stages of sleep, and a plain model of what a picture shows of them: lanes
-with counts, rates and bars, lines of lights, times in bed; and what a tolerance joins."""
+"""Plain models of what a picture shows of annotations that are no stages of sleep: lanes with
+counts, rates and bars, lines of lights; and what a tolerance joins."""
 import html
-import random
 import re
 from collections import Counter
-from dataclasses import dataclass
 
 from .gapped import SECOND, decimal
+from .sleep import Night, is_event, is_recorded
 
 LEFT, RIGHT = 11_200, 97_600        # the scale's ends, in hundredths of a pixel
 MINUTE = 60 * SECOND
 LIGHTS = ("Lights off", "Lights on")
-TEXTS = ("Obstructive apnea", "Hypopnea", "Arousal", "Desaturation", "Limb movement", "Snoring",
-         "Atemaussetzer \u2013 R\u00fcckenlage", "\u7121\u547c\u5438", "Spindle", "K-complex",
-         "lights off",
-         "Desaturation < 4 % & \"deep\", from a hypopnea that ends in an arousal")
-NAMES = TEXTS + LIGHTS
-
-
-@dataclass(frozen=True)
-class Event:
-    onset: int          # nanoseconds after the night's start
-    duration: int       # 0 where it has none
-    name: str
-
-
-def random_events(chance: random.Random, end: int) -> list:
-    """Events in the order in which the file has them."""
-    names = chance.sample(TEXTS, chance.randint(0, len(TEXTS)))
-    events = []
-    for name in names:
-        for _ in range(chance.choice((1, 2, 5, 30))):
-            onset = chance.randrange(-end // 20, end + end // 20) // 1_000_000 * 1_000_000
-            duration = chance.choice((0, 0, SECOND // 2, 20 * SECOND, 300 * SECOND))
-            events.append(Event(onset, duration, name))
-    if chance.random() < 0.5:
-        events += [Event(chance.randrange(end) // SECOND * SECOND, 0, chance.choice(LIGHTS))
-                   for _ in range(chance.randint(1, 4))]
-    chance.shuffle(events)
-    return events
-
-
-def clock(nanoseconds: int) -> str:
-    """Minutes with one decimal, cut."""
-    whole, tenth = divmod(nanoseconds // (MINUTE // 10), 10)
-    return f"{whole:,}.{tenth}"
-
-
-def share(part: int, whole: int) -> str:
-    """A share as a picture tells it: cut, and 100 % only where all is there."""
-    if part >= whole:
-        return "100 %"
-    tenths = part * 1_000 // whole
-    return f"{tenths // 10}.{tenths % 10} %" if tenths else "under 0.1 %"
 
 
 def within(events: list, end: int) -> list:
@@ -63,19 +20,6 @@ def within(events: list, end: int) -> list:
 
 def place(at: int, end: int) -> int:
     return LEFT + min(at * (RIGHT - LEFT) // end, RIGHT - LEFT)
-
-
-def beds(lights: list) -> list:
-    """The times from lights off to the next lights on."""
-    found, off = [], None
-    for at in sorted({light.onset for light in lights}):
-        names = {light.name for light in lights if light.onset == at}
-        if "Lights on" in names and off is not None:
-            found.append((off, at))
-            off = None
-        if "Lights off" in names and off is None:
-            off = at
-    return found
 
 
 def joined(runs: list, tolerance: int) -> tuple:
@@ -118,21 +62,34 @@ def bars(events: list, end: int) -> list:
     return found
 
 
-def lanes(events: list, end: int, recorded: int) -> list:
-    """The label, the count and the bars of each lane."""
-    counts = Counter(event.name for event in events)
-    order = sorted(counts, key=lambda name: (-counts[name], name.encode()))
+def rate_of(night: Night, text: str) -> str:
+    """How many events have the text, and how many in an hour, where that is told."""
+    count, rate = f"{night.count(text):,}", night.rates()[text]
+    if isinstance(rate, str):
+        return count
+    tenths = (rate.counted * 36_000 * SECOND + rate.time // 2) // rate.time
+    hour = "hour of sleep" if rate.in_sleep else "recorded hour"
+    return f"{count}, {tenths // 10:,}.{tenths % 10} per {hour}"
+
+
+def lanes(night: Night, view: list) -> list:
+    """The label, the count and the bars of each lane: first those whose onset is in no run that is
+    drawn."""
+    happened, end = [note for note in night.notes if is_event(note.text)], view[-1][1]
+    counts = Counter(note.text for note in happened)
+    order = sorted(counts, key=lambda text: (-counts[text], text.encode()))
     rest = set(order[8:])
-    groups = [(shown(name), {name}) for name in order[:8]]
+    groups = [(shown(text) or "(no text)", rate_of(night, text), {text}) for text in order[:8]]
     if rest:
-        groups.append((f"others, of {len(rest)} text{'s' if len(rest) > 1 else ''}", rest))
+        several = "s" if len(rest) > 1 else ""
+        groups.append((f"others, of {len(rest):,} text{several}",
+                       f"{sum(counts[text] for text in rest):,}", rest))
     found = []
-    for label, names in groups:
-        chosen = [event for event in events if event.name in names]
-        milliseconds = recorded // 1_000_000
-        rate = (len(chosen) * 36_000_000 + milliseconds // 2) // milliseconds
-        found.append((label, f"{len(chosen)}, {rate // 10:,}.{rate % 10} per recorded hour",
-                      bars(chosen, end)))
+    for label, rate, texts in groups:
+        chosen = [note for note in happened if note.text in texts]
+        seen = [note for note in chosen if is_recorded(view, note.onset)]
+        others = [note for note in chosen if not is_recorded(view, note.onset)]
+        found.append((label, rate, bars(others, end), bars(seen, end)))
     return found
 
 
@@ -141,7 +98,8 @@ def shown(text: str) -> str:
 
 
 LANE = re.compile(r"<text class='v' x='112' y='\d+'>([^<]*)</text>"
-                  r"<text class='v e' x='976' y='\d+'>([^<]*)</text><path class='x' d='([^']*)'/>")
+                  r"<text class='v e' x='976' y='\d+'>([^<]*)</text><path class='y' d='([^']*)'/>"
+                  r"<path class='x' d='([^']*)'/>")
 
 
 def hundredths(number: str) -> int:
@@ -151,11 +109,15 @@ def hundredths(number: str) -> int:
 def lanes_of(picture: str) -> list:
     """The lanes, as they are drawn."""
     found = []
-    for label, told, path in LANE.findall(picture):
-        marks = re.findall(r"M([\d.]+) \d+h([\d.]+)", path)
-        found.append((html.unescape(label), told,
-                      [(hundredths(x), hundredths(x) + hundredths(width)) for x, width in marks]))
+    for label, told, *paths in LANE.findall(picture):
+        found.append((html.unescape(label), told, *map(marks_of, paths)))
     return found
+
+
+def marks_of(path: str) -> list:
+    """Where the bars of a path begin and end."""
+    marks = re.findall(r"M([\d.]+) \d+h([\d.]+)", path)
+    return [(hundredths(x), hundredths(x) + hundredths(width)) for x, width in marks]
 
 
 def lines_of(picture: str) -> list:

@@ -7,7 +7,7 @@ import re
 from datetime import timedelta
 from pathlib import Path
 
-from . import disks, faults, gapped, measure, model, printed, runs, serving
+from . import disks, faults, gapped, measure, model, printed, runs, scorings, serving
 from .arguments import TOP
 from .by_name import EVENING, matching, named, of, take
 from .checks import Checks
@@ -27,7 +27,8 @@ def nights(folder: Path) -> list:
 
 
 def of_places(checks: Checks, given) -> None:
-    """Each recording by its place, while more come; its picture has the lines of `runs`."""
+    """Each recording by its place, while more come; its picture has the lines of `runs` and those
+    of the figures."""
     checks.begin("pictures by place")
     client, held = Client(given.edfserve, checks.folder), model.Store()
     for number, (name, data) in enumerate(nights(checks.folder)):
@@ -39,8 +40,10 @@ def of_places(checks: Checks, given) -> None:
                         serving.drawn(svg, picture) + status(0))
             checks.same("its bytes", checks.content(svg), picture)
             lines = html.unescape(METADATA.search(picture.decode())[1])
-            checks.same("its lines", lines, runs.lines(runs.read_runs(exported)))
-            checks.same("those of runs", client.ask(f"runs {place}"), lines + status(0))
+            listed = runs.lines(runs.read_runs(exported))
+            figures = "".join(f"{line}\n" for line in scorings.figures_of(exported))
+            checks.same("its lines", lines, listed + figures)
+            checks.same("those of runs", client.ask(f"runs {place}"), listed + status(0))
     checks.same("no part of a file is left", list(checks.folder.glob("*.part")), [])
     checks.same("the end", client.end(), (0, "", ""))
 
