@@ -42,8 +42,8 @@ class Parser(argparse.ArgumentParser):
     """Takes --program, which names edfstore, or --edfruns, or both, by the programs that the script
     runs; and a count, where the script has one. Its help is the text at the script's head."""
 
-    def __init__(self, text: str, programs: tuple = ("edfstore",), count: int = 0, prog: str = ""):
-        super().__init__(prog=prog or f"python3 -m {sys.modules['__main__'].__spec__.name}",
+    def __init__(self, text: str, programs: tuple = ("edfstore",), count: int = 0):
+        super().__init__(prog=f"python3 -m {sys.modules['__main__'].__spec__.name}",
                          description=text, allow_abbrev=False,
                          formatter_class=argparse.RawDescriptionHelpFormatter)
         self.programs = programs

@@ -18,7 +18,7 @@ from typing import NamedTuple
 
 from .gapped import SECOND, decimal
 
-MINUTE, HOUR = 60 * SECOND, 3_600 * SECOND
+MINUTE = 60 * SECOND
 EPOCH = 30 * SECOND
 MISSING, NOT_SCORED, NOT_UNDERSTOOD = "missing", "not-scored", "not-understood"
 SLEEP = ("R", "N1", "N2", "N3", "N")
@@ -73,9 +73,6 @@ class Rate(NamedTuple):
     counted: int
     time: int
     in_sleep: bool
-
-    def in_an_hour(self) -> Fraction:
-        return Fraction(self.counted * HOUR, self.time)
 
     def words(self) -> str:
         word = "asleep" if self.in_sleep else "recorded"
