@@ -70,6 +70,8 @@ CHECKS = (
           needs=("cc",)),
     Check("full", "nights onto small disks", (EDFSTORE, EDFSERVE), counts=(38, 186),
           needs=("tmpfs",)),
+    Check("room", "what the system says of memory, less and less of it", (EDFSTORE,),
+          needs=("tmpfs", "unshare", "prlimit")),
     Check("fuzz.run", "random files against the model", counts=(20_000, 100_000)),
     Check("fuzz.sizes", "files of the greatest headers and records", needs=("time",)),
     Check("odd", "files that are no stores, foreign rows", needs=("time",)),

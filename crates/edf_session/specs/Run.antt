@@ -31,6 +31,11 @@ use Rattle.edf_program.specs.declared.status.Status.{Status}
 use Rattle.edf_program.specs.declared.status.Status.TheVariants.{Trouble}
 use Rattle.edf_session.specs.Turns.{given_in}
 
+-- a file can't be opened, or memory ran out, or another program has it
+abbrev pub IsOfNoFiles : Error → Type 0
+IsOfNoFiles error = (error ≡ SqliteFailure code.CannotOpen)
+    ⊎ ((error ≡ SqliteFailure code.OutOfMemory) ⊎ (error ≡ SqliteFailure code.DatabaseBusy))
+
 module _ {D : Type 0} {g : Ghosts D} (start : Image) where
   -- This is left, for this error, of files that held these bytes as they were opened, of which a
   -- crash then left just them. On a disk that gave back what was written, files that were only read
@@ -43,14 +48,11 @@ module _ {D : Type 0} {g : Ghosts D} (start : Image) where
     pub leaves : IsCleanLeft rest → FailsToOpenFiles files rest error × LeavesFiles files rest
 
   -- A connection is open, as new, over files that were read as `start`; or this is left of them, or
-  -- nothing: then a file can't be opened, or memory ran out, or another program has it, and what
-  -- was done to the files before is not said.
+  -- nothing, and what was done to the files before is not said.
   abbrev pub IsOpening : Result (Held (FileStore D g)) (Error × Option (Leftover D g)) → Type 0
   IsOpening (Ok c) = ((file_state c).in_transaction ≡ false)
       × (HasCleanDisk (file_state c) → IsOpened c × FindsIn start (file_state c))
-  IsOpening (Err e) = IfSome e.1 (IsLeftOf e.0) × (e.1 ≡ None →
-      (e.0 ≡ SqliteFailure code.CannotOpen) ⊎ ((e.0 ≡ SqliteFailure code.OutOfMemory)
-      ⊎ (e.0 ≡ SqliteFailure code.DatabaseBusy)))
+  IsOpening (Err e) = IfSome e.1 (IsLeftOf e.0) × (e.1 ≡ None → IsOfNoFiles e.0)
 
 -- What is told of an opening: the store is open, and the output has this, where that is known; or
 -- the store was refused, for this fault, and whether its file has our tables.

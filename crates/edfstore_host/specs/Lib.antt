@@ -1,3 +1,4 @@
+pub mod Cache
 pub mod Ended
 pub mod OnFile
 pub mod InMemory

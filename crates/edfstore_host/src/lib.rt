@@ -10,11 +10,13 @@
 //!   closed, for a person.
 #![tactic(auto)]
 
+mod cache;
 mod cause;
 mod ended;
 mod memory;
 mod opening;
 mod path;
+mod room;
 mod running;
 mod standing;
 mod waiting;

@@ -1,16 +1,18 @@
 //! How the files of a store are opened: they are waited for where another program has them.
 
 ghost use Rattle.std.specs.Prelude.{◌≡◌, true, MatchOption};
+ghost use Rattle.sqlite_wal.specs.Recovery.{Image};
 ghost use Rattle.sqlite_wal.specs.Files.{image_at};
 ghost use Rattle.edfstore_arguments.specs.Arguments.{meaning};
 ghost use Rattle.edf_session.specs.Run.{IsOpening};
 ghost use Rattle.edfstore_host.specs.OnFile.{OnlyReads};
 
+use crate::room::pages_at;
 use crate::standing::Standing;
 use crate::waiting::{TRIES, is_held, pause};
 use edf_command::Order;
 use edf_session::open_path;
-use sqlite::{Connection, Error, FileFrom, FileStore, Leftover, Start, Unknown};
+use sqlite::{Connection, Error, ErrorCode, FileFrom, FileStore, Leftover, Start, Unknown};
 
 /// What stands for what files hold, and can do so again at the next try.
 pub trait Again {
@@ -24,10 +26,41 @@ impl Again for Unknown {
     }
 }
 
+/// Whether memory ran out.
+fn lacks_memory(error: &Error) -> bool {
+    matches!(error, Error::SqliteFailure(ErrorCode::OutOfMemory))
+}
+
+/// Opens the files of the store at a path with all of their pages in memory, where there is room
+/// and they do not stay open; and once more, as SQLite's port does by itself, where memory ran out
+/// then. What an opening that failed leaves of files keeps what they kept (`edf_session::laws`), and
+/// is let go before.
+fn open_with_room<S: Start + Again>(
+    rt: &HostRuntime,
+    path: &str,
+    stay_open: bool,
+    start: &S,
+) -> Result<Connection<FileStore<FileFrom<S>>>, (Error, Option<Leftover<FileFrom<S>>>)>
+    ensures { IsOpening (image_at S.Start) result }
+{
+    let pages = if stay_open { None } else { pages_at(rt, path) };
+    match open_path(rt, path, pages, start.again()) {
+        Ok(conn) => Ok(conn),
+        Err((error, left)) => {
+            if pages.is_some() && lacks_memory(&error) {
+                drop(left);
+                return open_path(rt, path, None, start.again());
+            }
+            Err((error, left))
+        }
+    }
+}
+
 /// Opens the files of the store at a path, which are made where there are none. Each page of a new
 /// one ends in SQLite's page sum, and where a file has sums each is compared as it is read. Where
 /// another program has them, this is tried again for two seconds; every other refusal comes at
-/// once.
+/// once, but where memory ran out for all pages of the file: these are kept in memory where there
+/// is room, and the files do not stay open.
 ///
 /// `start` stands for what the files hold, whatever that is. Of the path that is opened, and of
 /// what is done to it before and after, no clause speaks.
@@ -37,17 +70,18 @@ impl Again for Unknown {
 pub fn open_when_free<S: Start + Again>(
     rt: &HostRuntime,
     path: &str,
+    stay_open: bool,
     start: S,
 ) -> Result<Connection<FileStore<FileFrom<S>>>, (Error, Option<Leftover<FileFrom<S>>>)>
     ensures { IsOpening (image_at S.Start) result }
 {
     for _ in 0..TRIES {
-        match open_path(rt, path, start.again()) {
+        match open_with_room(rt, path, stay_open, &start) {
             Err((error, None)) if is_held(&error) => pause(rt),
             opened => return opened,
         }
     }
-    open_path(rt, path, start)
+    open_with_room(rt, path, stay_open, &start)
 }
 
 /// The same for a program that keeps them open: what the path stands for is kept then.
@@ -61,13 +95,15 @@ pub fn open_standing<S: Start + Again>(
 ) -> Result<Connection<FileStore<FileFrom<S>>>, (Error, Option<Leftover<FileFrom<S>>>)>
     ensures { IsOpening (image_at S.Start) result }
 {
+    let rt = standing.rt();
     let before = standing.db();
-    match open_when_free(standing.rt(), standing.path(), start) {
-        Ok(conn) => match standing.keep(before) {
-            Ok(()) => Ok(conn),
-            Err(error) => Err((error, None)),
-        },
-        Err(refused) => Err(refused),
+    let conn = match open_when_free(rt, standing.path(), true, start) {
+        Ok(conn) => conn,
+        Err(refused) => return Err(refused),
+    };
+    match standing.keep(before) {
+        Ok(()) => Ok(conn),
+        Err(error) => Err((error, None)),
     }
 }
 
@@ -95,6 +131,6 @@ pub(crate) fn find<S: Start + Again>(
     if is_new && only_reads(command) {
         None
     } else {
-        Some(open_when_free(rt, path, start))
+        Some(open_when_free(rt, path, false, start))
     }
 }

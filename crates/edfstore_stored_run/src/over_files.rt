@@ -37,7 +37,7 @@ fn run_at<O: Output, F: Output>(
     let (Some(path), Some(cap)) = (store_path(command), Cap::of(cap)) else {
         return Status::Usage;
     };
-    let opened = open_path(rt, path, Unknown);
+    let opened = open_path(rt, path, None, Unknown);
     let watch = &mut Unwatched;
     match run_opened(
         rt.alloc(),

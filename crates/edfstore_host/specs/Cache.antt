@@ -1,0 +1,7 @@
+-- How many pages of a store are kept in memory while it is open.
+use Rattle.std.specs.Prelude.{◌<◌, ◌≤◌, ◌*◌, ℕ}
+
+-- so many pages are more than the port of SQLite keeps by itself, 512 MiB at most, and a quarter of
+-- the room at most
+abbrev pub MayBeKept : ℕ → ℕ → Type 0
+MayBeKept pages room = (2000 < pages) × (pages ≤ 131072) × (pages * 16384 ≤ room)

@@ -1,0 +1,87 @@
+//! How much memory the system says may be taken, for a store that is about to be opened.
+
+use crate::cache::{Group, free_bytes, group_of, has_own_pages, pages_kept};
+use std::fs;
+use std::io::{ErrorKind, Read};
+
+/// What separates the parts of a path.
+const SLASH: u8 = b'/';
+
+/// The number in a file of the system, and the greatest where it has the word for no limit, or is
+/// not there.
+fn number_in(rt: &HostRuntime, path: &str) -> Option<u64> {
+    match fs::read_to_string(rt, path) {
+        Ok(text) => match text.trim() {
+            "max" => Some(u64::MAX),
+            number => number.parse::<u64>().ok(),
+        },
+        Err(error) if error.kind() == ErrorKind::NotFound => Some(u64::MAX),
+        Err(_) => None,
+    }
+}
+
+/// How many bytes one group leaves of its limit: that of a front of the path.
+fn left_at(rt: &HostRuntime, group: Group<'_>, front: &str) -> Option<u64> {
+    let folder = group.folder;
+    let limit = format!(in rt.alloc(); "{folder}{front}/{}", group.limit).ok()?;
+    let most = number_in(rt, limit.as_str())?;
+    if most == u64::MAX {
+        return Some(most);
+    }
+    let used = format!(in rt.alloc(); "{folder}{front}/{}", group.used).ok()?;
+    Some(most.saturating_sub(number_in(rt, used.as_str())?))
+}
+
+/// How many bytes a group and all those that it is in leave of their limits.
+fn left_in(rt: &HostRuntime, group: Group<'_>) -> Option<u64> {
+    let mut least = left_at(rt, group, group.path)?;
+    for (at, byte) in group.path.as_bytes().iter().enumerate() {
+        if *byte == SLASH
+            && let Some(front) = group.path.get(..at)
+        {
+            least = least.min(left_at(rt, group, front)?);
+        }
+    }
+    Some(least)
+}
+
+/// How many bytes the limits of this process leave.
+fn left_of_limits(rt: &HostRuntime) -> Option<u64> {
+    match fs::read_to_string(rt, "/proc/self/cgroup") {
+        Ok(text) => match group_of(text.as_str()) {
+            Some(group) => left_in(rt, group),
+            None => Some(u64::MAX),
+        },
+        Err(error) if error.kind() == ErrorKind::NotFound => Some(u64::MAX),
+        Err(_) => None,
+    }
+}
+
+/// How many bytes the system says may be taken; nothing where it does not say.
+fn room(rt: &HostRuntime) -> Option<u64> {
+    let text = fs::read_to_string(rt, "/proc/meminfo").ok()?;
+    let free = free_bytes(text.as_str())?;
+    Some(free.min(left_of_limits(rt)?))
+}
+
+/// Whether the file at a path has pages as stores have that are made here.
+fn begins_as_ours(rt: &HostRuntime, path: &str) -> bool {
+    let Ok(mut file) = fs::open(rt, path) else {
+        return false;
+    };
+    let mut head = [0; 18];
+    file.read_exact(&mut head).is_ok() && has_own_pages(&head)
+}
+
+/// How many pages of the store at a path are kept in memory while it is open, where that is not the
+/// port's own number: as many as its file has now, by its size, where there is room for them.
+///
+/// The file is read before it is opened, and closed: this process has no lock on it yet.
+pub(crate) fn pages_at(rt: &HostRuntime, path: &str) -> Option<usize> {
+    let found = fs::metadata(rt, path).ok()?;
+    let bytes = found.len();
+    if !found.is_file() || pages_kept(bytes, u64::MAX).is_none() || !begins_as_ours(rt, path) {
+        return None;
+    }
+    pages_kept(bytes, room(rt)?)
+}
