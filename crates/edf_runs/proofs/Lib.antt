@@ -31,6 +31,7 @@ pub mod WhereItLies
 pub mod ToldAlike
 pub mod Taken
 pub mod PlannedByOnset
+pub mod LoadedFiles
 pub mod LastStarts
 pub mod Sharing
 pub mod Shifting

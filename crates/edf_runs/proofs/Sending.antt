@@ -1,8 +1,7 @@
 -- A run's file, put out after its header.
 use Rattle.std.proofs.Common.{◌≡◌, ◌≢◌, ℕ, inl, inr, ◌+◌, ◌*◌, ◌≤◌, List, [], ◌∷◌, ◌++◌}
 use Rattle.std.proofs.Common.{length, refl, sym, ap, ◌∙◌, subst, arith}
-use Rattle.std.proofs.Common.{All, Option, Result, Ok, Err}
-use Rattle.std.specs.Prelude.{IfOk, IfErr}
+use Rattle.std.proofs.Common.{All, Option, Result, Err}
 use Rattle.std.specs.List.{AllByRecursion}
 use Rattle.std.proofs.KnownBytes.{Keeps-refl}
 use Rattle.std.proofs.lemmas.List.Elements.{All-nil, All-cons}
@@ -26,13 +25,11 @@ use Rattle.edf_canonical.proofs.Files.{canonical}
 use Rattle.edf_canonical.proofs.Written.{laid-out, file-length}
 use Rattle.edf_runs.specs.Runs.{StartFrom, IsListed}
 use Rattle.edf_runs.specs.File.{marked_continuous, IsRunFile}
-use Rattle.edf_runs.specs.Again.{CountsRereadFault, RereadsRun}
+use Rattle.edf_runs.specs.Again.{CountsRereadFault}
 use Rattle.edf_runs.specs.WrittenByOnset.{annotated, RereadsByOnset, IsWrittenByOnset}
 use Rattle.edf_runs.specs.WrittenByOnset.{StopsByOnset, IsNotWrittenByOnset}
 use Rattle.edf_runs.specs.Written.{CountsFault, run_text, IsRunHeader}
-use Rattle.edf_runs.specs.Written.{StopsInRun, IsNotWritten}
 use Rattle.edf_runs.specs.Inside.Steps.{fault_out, IsSent, StopsSending}
-use Rattle.edf_runs.specs.Counted.{IsCountedRun}
 use Rattle.edf_runs.specs.declared.tally.Tally.{Tally}
 use Rattle.edf_runs.specs.declared.written.Written.{Written}
 use Rattle.edf_runs.specs.declared.run.Run.{Run}
@@ -40,7 +37,7 @@ use Rattle.edf_runs.specs.declared.fault.WriteFault.{WriteFault}
 use Rattle.edf_runs.specs.declared.fault.WriteFault.TheVariants.{Undated, Changed, Read, Memory}
 use Rattle.edf_runs.specs.declared.fault.WriteFault.TheVariants.{Write}
 use Rattle.edf_runs.proofs.Growing.{touching_from}
-use Rattle.edf_runs.proofs.Next.{handed_on, comes_plain}
+use Rattle.edf_runs.proofs.Next.{handed_on}
 use Rattle.edf_runs.proofs.PutRecords.{none_hold}
 use Rattle.edf_runs.proofs.SecondReading.{none_read}
 use Rattle.edf_runs.proofs.StartsAs.{starts-as-none}
@@ -92,15 +89,6 @@ module _ {A : Type 0} (old new : OpenFragment) (left : Option (List ℕ)) (run :
     unchanged = λ n same. inner.unchanged n (ap (λ (x : WriteFault). Err x)
         (handed_on result told fault is by same));
   }
-
--- where nothing is kept
-pub reread_plain : {A : Type 0} (old new : OpenFragment) (left : Option (List ℕ)) (run : Run)
-    (result : Result A WriteFault) → RereadsByOnset old new left run [] [] result →
-    RereadsRun old new left run result
-reread_plain old new left run result reread = record {
-  header = reread.header;
-  unchanged = λ n. reread.unchanged (comes_plain old.header old.progress left run n);
-}
 
 -- ---- the file
 
@@ -220,64 +208,6 @@ went_out l from to left rest before after header run starts kept written tally k
         out = out ∙ sent.tallied.counted.out;
       };
     }
-
--- where nothing is kept
-pub written_plain : (l : Layout) (from to : Progress) (left rest before after : Option (List ℕ))
-    (run : Run) (written : Written)
-    → IsWrittenByOnset l from to left rest before after run [] [] written →
-    IsCountedRun l from to left rest before after run written
-written_plain l from to left rest before after run written w = record {
-  went_out = record {
-    records = w.records;
-    read = w.read;
-    listed = w.listed;
-    file = w.file;
-    is_file = w.is_file;
-    only = w.only;
-    wrote = w.wrote;
-    len_is = w.len_is;
-  };
-  counted = w.counted;
-}
-
-stops_plain : (l : Layout) (from to : Progress) (left rest before after : Option (List ℕ))
-    (run : Run) → StopsByOnset l from to left rest before after run [] [] →
-    StopsInRun l from to left rest before after run
-stops_plain l from to left rest before after run s = record {
-  records = s.records;
-  mid = s.mid;
-  middle = s.middle;
-  read = s.read;
-  starts = s.start;
-  within = s.within;
-  holds = s.holds;
-  front = s.front;
-  more = s.more;
-}
-
-pub not_written_plain : (l : Layout) (from to : Progress)
-    (left rest before after : Option (List ℕ)) (run : Run) (fault : WriteFault)
-    → IsNotWrittenByOnset l from to left rest before after run [] [] fault →
-    IsNotWritten l from to left rest before after run fault
-not_written_plain l from to left rest before after run Undated s = s
-not_written_plain l from to left rest before after run fault s =
-    stops_plain l from to left rest before after run s
-
-pub ok_plain : (l : Layout) (from to : Progress) (left rest before after : Option (List ℕ))
-    (run : Run) (result : Result Written WriteFault)
-    → IfOk result (IsWrittenByOnset l from to left rest before after run [] []) →
-    IfOk result (IsCountedRun l from to left rest before after run)
-ok_plain l from to left rest before after run (Ok written) w =
-    written_plain l from to left rest before after run written w
-ok_plain l from to left rest before after run (Err fault) w = w
-
-pub err_plain : (l : Layout) (from to : Progress) (left rest before after : Option (List ℕ))
-    (run : Run) (result : Result Written WriteFault)
-    → IfErr result (IsNotWrittenByOnset l from to left rest before after run [] []) →
-    IfErr result (IsNotWritten l from to left rest before after run)
-err_plain l from to left rest before after run (Ok written) s = s
-err_plain l from to left rest before after run (Err fault) s =
-    not_written_plain l from to left rest before after run fault s
 
 -- nothing was read or written
 pub not_begun : (l : Layout) (from : Progress) (left before : Option (List ℕ)) (run : Run)

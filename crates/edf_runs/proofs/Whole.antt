@@ -186,7 +186,7 @@ module _ (bytes : List ℕ) (k : Key) (spelled : List DataRecord) (whole : Measu
 
 -- ---- the text
 
-text_more : (m : Measure) (rs : List DataRecord) (r : DataRecord) → records_text m rs
+pub text_more : (m : Measure) (rs : List DataRecord) (r : DataRecord) → records_text m rs
     ++ record_text (second_of m.first) (2 * m.block_samples) r ≡ records_text m (rs ++ r ∷ [])
 text_more m rs r = ap (λ x. records_text m rs ++ x)
     (sym (append-nil (record_text (second_of m.first) (2 * m.block_samples) r)))
@@ -226,7 +226,7 @@ all_first records m is = may_come records m m is
 
 -- ---- the file
 
-file_of : (k : Key) (rs : List DataRecord) (m : Measure) (header : List ℕ) → IsKey k →
+pub file_of : (k : Key) (rs : List DataRecord) (m : Measure) (header : List ℕ) → IsKey k →
     AreSound k 0 rs → IsMeasured rs m → MayStart k m.first →
     IsCanonicalHeader header k m.first m.records m.block_samples →
     IsCanonicalFile (planned_text header m rs) k rs

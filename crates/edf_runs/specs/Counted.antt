@@ -1,16 +1,11 @@
 -- How many annotations the file of a run has, and how many of those lie outside of the run.
-use Rattle.std.specs.Prelude.{◌≡◌, ℕ, ◌+◌, List, length, Option, Bool, ◌||◌, nat_le, nat_lt}
+use Rattle.std.specs.Prelude.{◌≡◌, ℕ, ◌+◌, List, length, Bool, ◌||◌, nat_le, nat_lt}
 use Rattle.std.specs.Prelude.{count_by, true, ◌↔◌}
-use Rattle.edf_field.specs.Number.{duration_of}
-use Rattle.edf_header.specs.Header.{Layout}
 use Rattle.edf_tal.specs.Tal.{Annotation}
 use Rattle.edf_fragment.specs.Fragment.{DataRecord}
-use Rattle.edf_fragment.specs.declared.advance.Progress.{Progress}
 use Rattle.edf_runs.specs.Runs.{IsListed}
 use Rattle.edf_runs.specs.ByOnset.{annotations_of, Covers}
-use Rattle.edf_runs.specs.Written.{IsRunWritten}
 use Rattle.edf_runs.specs.declared.run.Run.{Run}
-use Rattle.edf_runs.specs.declared.written.Written.{Written}
 
 -- the onset lies before an instant, or at or after another
 abbrev pub is_outside : ℕ → ℕ → Annotation → Bool
@@ -26,14 +21,6 @@ pub record AreCounted (d : ℕ) (run : Run) (records : List DataRecord) (annotat
     Type 0 where
   pub all : annotations ≡ length (annotations_of records)
   pub out : outside ≡ count_by (is_outside run.first (run_end d run)) (annotations_of records)
-
--- the data records that came next were read and are those of the run; their file went out, and this
--- is its length, and what is counted of the annotations of just these data records
-pub record IsCountedRun (l : Layout) (from to : Progress) (left rest before after : Option (List ℕ))
-    (run : Run) (written : Written) : Type 0 where
-  pub went_out : IsRunWritten l from to left rest before after run written.bytes
-  pub counted : AreCounted (duration_of l.key.duration) run went_out.records written.annotations
-      written.outside
 
 -- of the data records of a run, an annotation is counted as outside just where they don't cover its
 -- onset

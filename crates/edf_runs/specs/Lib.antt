@@ -16,6 +16,7 @@ pub mod Order
 pub mod OneByOnset
 pub mod Taken
 pub mod PlanByOnset
+pub mod Loaded
 pub mod InRecording
 pub mod Groups
 pub mod Moved

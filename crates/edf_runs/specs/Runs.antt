@@ -1,6 +1,6 @@
 -- The runs of a recording: its longest stretches of data records without a gap.
-use Rattle.std.specs.Prelude.{◌≡◌, ◌≢◌, ℕ, zero, suc, ◌+◌, ◌-◌, ◌*◌, ◌≤◌, List, [], ◌∷◌, ◌++◌}
-use Rattle.std.specs.Prelude.{length, slice_get, Option, None, All}
+use Rattle.std.specs.Prelude.{◌≡◌, ◌≢◌, ℕ, ◌+◌, ◌-◌, ◌*◌, ◌≤◌, List, [], ◌∷◌, ◌++◌}
+use Rattle.std.specs.Prelude.{length, All}
 use Rattle.std.specs.List.{flat_map, AllZip}
 use Rattle.edf_fragment.specs.Fragment.{DataRecord}
 use Rattle.edf_canonical.specs.File.{second_of, BlocksFit}
@@ -48,8 +48,3 @@ pub record AreListed (d : ℕ) (records : List DataRecord) (listed : List Run) :
   pub runs : List (List DataRecord)
   pub are_runs : IsRuns d records runs
   pub each : AllZip (IsListed d) runs listed
-
--- the entry of this number, counted from 1
-abbrev pub numbered : ℕ → List Run → Option Run
-numbered zero listed = None
-numbered (suc n) listed = slice_get listed n

@@ -46,7 +46,7 @@ pub(crate) struct Gathered {
 }
 
 /// Gathers one more data record.
-fn gather_one(
+pub(crate) fn gather_one(
     alloc: Global,
     gathered: &mut Gathered,
     data_record: &Record,
@@ -107,7 +107,7 @@ pub(crate) fn slots_by_onset(gathered: Gathered) -> Result<Vec<Slot>, AllocError
 }
 
 /// The runs of the data records that were gathered, with each annotation where its onset is.
-fn runs_by_onset(
+pub(crate) fn runs_by_onset(
     alloc: Global,
     gathered: Gathered,
     duration: u64,

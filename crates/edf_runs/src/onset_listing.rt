@@ -35,8 +35,7 @@ impl OnsetListing {
     }
 
     /// The runs of a listing, of whose annotations nothing is kept:
-    /// [`write_by_onset`](crate::write_by_onset) writes their data records as they are read, which
-    /// is what [`write_counted`](crate::write_counted) does.
+    /// [`write_by_onset`](crate::write_by_onset) writes their data records as they are read.
     ///
     /// # Errors
     /// Where memory ran out.

@@ -1,10 +1,11 @@
 //! What is known of a canonical file by onset before its first byte is written.
 
-ghost use Rattle.std.specs.Prelude.{◌≡◌, ◌+◌, ◌≤◌, IfOk, MatchResult, length, sum_by};
+ghost use Rattle.std.specs.Prelude.{◌≡◌, ◌+◌, ◌≤◌, ℕ, List, Option, IfOk, MatchResult, length};
+ghost use Rattle.std.specs.Prelude.{sum_by};
 ghost use Rattle.std.specs.List.{flat_map};
 ghost use Rattle.edf_header.specs.declared.limits.TheConstants.{MOST_RECORDS};
 ghost use Rattle.edf_tal.specs.declared.limits.TheConstants.{MOST_ANNOTATIONS};
-ghost use Rattle.edf_runs.specs.OnsetRead.{IsOnsetFault, CountsOnset, kept_of};
+ghost use Rattle.edf_runs.specs.OnsetRead.{ReadsByOnset, IsOnsetFault, CountsOnset, kept_of};
 ghost use Rattle.edf_runs.specs.PlanByOnset.{ReadsPlanByOnset};
 ghost use Rattle.edf_runs.specs.Inside.Measuring.{IsMeasuredSoFar, outside_here};
 
@@ -34,12 +35,12 @@ fn kept_of_all(alloc: Global, runs: Vec<OnsetRun>) -> Result<Vec<Record>, AllocE
 }
 
 /// What is measured of data records.
-fn measure_kept(kept: &[Record]) -> Option<Measure>
-    requires { length kept.now ≤ MOST_RECORDS }
-    ensures { IsMeasuredSoFar kept.now result }
+pub(crate) fn measure_all(data_records: &[Record]) -> Option<Measure>
+    requires { length data_records.now ≤ MOST_RECORDS }
+    ensures { IsMeasuredSoFar data_records.now result }
 {
     let mut measure: Option<Measure> = None;
-    for data_record in kept {
+    for data_record in data_records {
         measure = Some(Measure::after(measure, data_record));
     }
     measure
@@ -68,6 +69,26 @@ fn outside_in(kept: &[Record], duration: u64) -> u64
     outside
 }
 
+/// What the canonical file of a file needs whose runs were listed by onset.
+pub(crate) fn plan_listed(alloc: Global, listing: OnsetListing) -> Result<CanonicalPlan, AllocError>
+    requires { (left : Option (List ℕ)) × (rest : Option (List ℕ)) × ReadsByOnset left rest listing }
+    ensures { IfOk result (λ plan. (left rest : Option (List ℕ)) → ReadsByOnset left rest listing →
+        ReadsPlanByOnset left rest plan) }
+{
+    let OnsetListing { identity, runs } = listing;
+    let kept = kept_of_all(alloc, runs)?;
+    let outside = outside_in(kept.as_slice(), identity.duration());
+    match measure_all(kept.as_slice()) {
+        Some(measure) => Ok(CanonicalPlan {
+            identity,
+            measure,
+            kept,
+            outside,
+        }),
+        None => unreachable!(),
+    }
+}
+
 /// Reads a whole file of EDF+C or EDF+D and plans its canonical file by onset: each annotation is
 /// in the last data record that starts at or before its onset, or, where none does, in the first.
 /// The annotations of the whole recording are in memory, and one data record's samples at a time.
@@ -81,18 +102,8 @@ pub fn plan_by_onset<R: Input>(alloc: Global, input: &mut R) -> Result<Canonical
     ensures counted { CountsOnset (R.failures input.old) (R.failures input.new) result }
 {
     let listing = list_by_onset(alloc, input)?;
-    let OnsetListing { identity, runs } = listing;
-    let Ok(kept) = kept_of_all(alloc, runs) else {
-        return Err(OnsetFault::Memory);
-    };
-    let outside = outside_in(kept.as_slice(), identity.duration());
-    match measure_kept(kept.as_slice()) {
-        Some(measure) => Ok(CanonicalPlan {
-            identity,
-            measure,
-            kept,
-            outside,
-        }),
-        None => unreachable!(),
+    match plan_listed(alloc, listing) {
+        Ok(plan) => Ok(plan),
+        Err(_) => Err(OnsetFault::Memory),
     }
 }

@@ -58,24 +58,6 @@ pub(crate) fn open_again<R: Input>(
 /// # Errors
 /// `Changed` where the header is refused now, or names another recording; `Read` where a read
 /// failed, `Memory` where memory ran out.
-pub fn reopen<R: Input>(
-    alloc: Global,
-    input: &mut R,
-    listing: &Listing,
-) -> Result<OpenFragment, WriteFault>
-    ensures answer { MatchResult result
-        (λ fragment. ReadsHeader (R.remaining input.old) (R.remaining input.new) fragment.header
-        × (fragment.progress ≡ at_first) × (fragment.header.key ≡ listing.now.identity))
-        (IsNotReopened (R.remaining input.old) (R.remaining input.new) listing.now.identity) }
-    ensures counted { CountsRereads (R.failures input.old) (R.failures input.new) result }
-{
-    open_again(alloc, input, &listing.identity)
-}
-
-/// Reads again the header of a file whose runs were listed by onset.
-///
-/// # Errors
-/// As [`reopen`].
 pub fn reopen_by_onset<R: Input>(
     alloc: Global,
     input: &mut R,

@@ -23,18 +23,6 @@ pub struct Listing {
     pub runs: Vec<Run>,
 }
 
-impl Listing {
-    ghost use Rattle.std.specs.Prelude.{◌≡◌, option_map};
-    ghost use Rattle.edf_runs.specs.Runs.{numbered};
-
-    /// The run of this number, counted from 1; `None` where there are fewer.
-    pub fn run(&self, number: u32) -> Option<&Run>
-        ensures { option_map (λ run. run.now) result ≡ numbered number self.now.runs.items }
-    {
-        self.runs.get((number as usize).checked_sub(1)?)
-    }
-}
-
 /// The runs of the data records that follow a header that was just read.
 fn list_records<R: Input>(
     alloc: Global,

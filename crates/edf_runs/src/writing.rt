@@ -6,9 +6,7 @@ ghost use Rattle.edf_header.specs.Key.{MayStart};
 ghost use Rattle.edf_canonical.specs.File.{second_of, samples_of, block_of, record_text};
 ghost use Rattle.edf_canonical.specs.Output.{buffered, IsPutThrough};
 ghost use Rattle.edf_runs.specs.File.{marked_continuous};
-ghost use Rattle.edf_runs.specs.Written.{IsRunWritten, IsRunHeader, IsNotWritten};
-ghost use Rattle.edf_runs.specs.Again.{RereadsRun};
-ghost use Rattle.edf_runs.specs.Counted.{IsCountedRun};
+ghost use Rattle.edf_runs.specs.Written.{IsRunHeader};
 ghost use Rattle.edf_runs.specs.Written.{CountsCalls};
 ghost use Rattle.edf_runs.specs.Inside.Steps.{IsPutAll, StopsPutting, IsSent, StopsSending};
 ghost use Rattle.edf_runs.specs.Inside.Steps.{CountsSending, annotated_one, due};
@@ -319,79 +317,19 @@ fn write_annotated<R: Input, W: Output>(
 /// their canonical file, but EDF+C in place of EDF+D. It tells the length in bytes, how many
 /// annotations the file has, and how many of these have an onset outside of the run.
 ///
-/// One data record is in memory at a time, beside a buffer of 64 KiB. The writer is not flushed.
-///
-/// # Errors
-/// `Undated` where no header can name the run's start; then nothing was read or written. `Changed`
-/// where other data records come than were listed; `Read` (E40) where a read failed, `Memory` (E41)
-/// where memory ran out, `Write` (E43) where a write failed or took none of some bytes. Then a
-/// front of the file may have been written.
-pub fn write_counted<R: Input, W: Output>(
-    alloc: Global,
-    fragment: &mut OpenFragment,
-    input: &mut R,
-    run: &Run,
-    out: &mut W,
-) -> Result<Written, WriteFault>
-    ensures reread { RereadsRun fragment.old fragment.new (R.remaining input.old) run.now result }
-    ensures written { IfOk result
-        (IsCountedRun fragment.old.header fragment.old.progress fragment.new.progress
-        (R.remaining input.old) (R.remaining input.new) (W.contents out.old) (W.contents out.new)
-        run.now) }
-    ensures refused { IfErr result
-        (IsNotWritten fragment.old.header fragment.old.progress fragment.new.progress
-        (R.remaining input.old) (R.remaining input.new) (W.contents out.old) (W.contents out.new)
-        run.now) }
-    ensures dated { (result ≢ Err WriteFault.Undated)
-        ↔ MayStart fragment.old.header.key run.now.first }
-    ensures counted { CountsCalls (R.failures input.old) (R.failures input.new)
-        (W.failures out.old) (W.failures out.new) result }
-{
-    write_annotated(alloc, fragment, input, run, &[], &[], out)
-}
-
-/// The same, but it tells the length in bytes alone.
-///
-/// # Errors
-/// As [`write_counted`].
-pub fn write_run<R: Input, W: Output>(
-    alloc: Global,
-    fragment: &mut OpenFragment,
-    input: &mut R,
-    run: &Run,
-    out: &mut W,
-) -> Result<u64, WriteFault>
-    ensures reread { RereadsRun fragment.old fragment.new (R.remaining input.old) run.now result }
-    ensures written { IfOk result
-        (IsRunWritten fragment.old.header fragment.old.progress fragment.new.progress
-        (R.remaining input.old) (R.remaining input.new) (W.contents out.old) (W.contents out.new)
-        run.now) }
-    ensures refused { IfErr result
-        (IsNotWritten fragment.old.header fragment.old.progress fragment.new.progress
-        (R.remaining input.old) (R.remaining input.new) (W.contents out.old) (W.contents out.new)
-        run.now) }
-    ensures dated { (result ≢ Err WriteFault.Undated)
-        ↔ MayStart fragment.old.header.key run.now.first }
-    ensures counted { CountsCalls (R.failures input.old) (R.failures input.new)
-        (W.failures out.old) (W.failures out.new) result }
-{
-    match write_counted(alloc, fragment, input, run, out) {
-        Ok(written) => Ok(written.bytes),
-        Err(fault) => Err(fault),
-    }
-}
-
-/// Reads the data records of a run again, which come next in its file, and writes the run's file as
-/// it was listed: its EDF+C file, as [`write_counted`] does, with the annotations that they have by
-/// their onsets; or, over short gaps, moved so that each data record starts where the one before
-/// ends. In both cases the annotations are those of the first reading. What the second reading has
-/// of annotations doesn't matter, and a change of them is not told.
+/// Where something was kept of the run, its data records go out as they were listed: with the
+/// annotations that they have by their onsets; or, over short gaps, moved so that each starts where
+/// the one before ends. In both cases the annotations are those of the first reading. What the
+/// second reading has of annotations doesn't matter, and a change of them is not told.
 ///
 /// One data record is in memory at a time beside those annotations and a buffer of 64 KiB. The
 /// writer is not flushed.
 ///
 /// # Errors
-/// As [`write_counted`]; `Changed` where data records come that start at other instants, or fewer.
+/// `Undated` where no header can name the run's start; then nothing was read or written. `Changed`
+/// where data records come that start at other instants than were listed, or fewer, or with other
+/// blocks; `Read` (E40) where a read failed, `Memory` (E41) where memory ran out, `Write` (E43)
+/// where a write failed or took none of some bytes. Then a front of the file may have been written.
 pub fn write_by_onset<R: Input, W: Output>(
     alloc: Global,
     fragment: &mut OpenFragment,

@@ -5,8 +5,10 @@ use Rattle.edf_program.specs.declared.status.Status.{Status}
 use Rattle.edf_program.specs.declared.status.Status.TheVariants.{Done}
 use Rattle.edf_runs.specs.Canonical.{ReadsPlan, IsCanonicalWritten, IsNotCanonical}
 use Rattle.edf_runs.specs.Canonical.{IsToldUnchanged}
+use Rattle.edf_runs.specs.Loaded.{IsLoaded}
 use Rattle.edf_runs.specs.PlanByOnset.{ReadsPlanByOnset}
 use Rattle.edf_runs.specs.declared.canonical_plan.CanonicalPlan.{CanonicalPlan}
+use Rattle.edf_runs.specs.declared.loaded.LoadedRecording.{LoadedRecording}
 use Rattle.edf_runs.specs.declared.fault.WriteFault.{WriteFault}
 use Rattle.edf_runs.specs.declared.fault.WriteFault.TheVariants as fault
 use Rattle.edfruns_command.specs.Lines.{run_refused_line, run_refused_status, outside_line}
@@ -18,6 +20,11 @@ use Rattle.edfruns_command.specs.Writing.{CountsWrite}
 abbrev pub HasPlan : Bool → Option (List ℕ) → CanonicalPlan → Type 0
 HasPlan false bytes plan = (rest : Option (List ℕ)) × ReadsPlan bytes rest plan
 HasPlan true bytes plan = (rest : Option (List ℕ)) × ReadsPlanByOnset bytes rest plan
+
+-- so it is planned, and its data records are in memory
+abbrev pub Loads : Bool → Option (List ℕ) → LoadedRecording → Type 0
+Loads by_onset bytes loaded =
+    HasPlan by_onset bytes loaded.plan × ((rest : Option (List ℕ)) × IsLoaded bytes rest loaded)
 
 module _ (out : Growth) (bytes : Option (List ℕ)) (plan : CanonicalPlan) where
   -- it was read again and has what was planned, and the canonical file of that went out, the only

@@ -1,5 +1,5 @@
 -- What a command does: what it writes, the status that it answers, and which files it opens.
-use Rattle.std.specs.Prelude.{ℕ, Bool, List, Option, length, map, string_bytes}
+use Rattle.std.specs.Prelude.{ℕ, Bool, List, Option, codes, length, map, string_bytes}
 use Rattle.edf_program.specs.Output.{Growth}
 use Rattle.edf_program.specs.declared.status.Status.{Status}
 use Rattle.edf_runs.specs.declared.joining.Joining.{Joining}
@@ -20,6 +20,7 @@ pub data Asked : Type 0 where
   list : List (List ℕ) → Option ℕ → Asked
   write : List ℕ → ℕ → Bool → Asked
   canonical : List ℕ → Bool → Asked
+  canonical_of_stream : Bool → Asked
   split : List ℕ → List ℕ → Bool → Option Joining → Asked
   picture : List ℕ → Asked
 
@@ -28,9 +29,14 @@ abbrev pub meaning : RunsCommand → Asked
 meaning (parsed.List files tolerance) = list (map string_bytes files.items) tolerance
 meaning (parsed.Write file number by_onset) = write (string_bytes file) number by_onset
 meaning (parsed.Canonical file by_onset) = canonical (string_bytes file) by_onset
+meaning (parsed.CanonicalOfStream by_onset) = canonical_of_stream by_onset
 meaning (parsed.Split file prefix by_onset joining) =
     split (string_bytes file) (string_bytes prefix) by_onset joining
 meaning (parsed.Picture file tolerance) = picture (string_bytes file)
+
+-- the name of standard input
+abbrev pub stream : List ℕ
+stream = codes "-"
 
 -- by the bytes that names stand for, what makes files and the two writers
 abbrev pub IsDone : (List ℕ → Option (List ℕ)) → Making → Growth → Growth → Asked → Status → Type 0
@@ -40,6 +46,8 @@ IsDone bytes made out err (write file number by_onset) status =
     IsRunOut out err (bytes file) file number by_onset status
 IsDone bytes made out err (canonical file by_onset) status =
     IsCanonicalOut out err (bytes file) file by_onset status
+IsDone bytes made out err (canonical_of_stream by_onset) status =
+    IsCanonicalOut out err (bytes stream) stream by_onset status
 IsDone bytes made out err (split file prefix by_onset joining) status =
     IsSplit made out err (bytes file) file prefix by_onset joining status
 IsDone bytes made out err (picture file) status = IsPictured out err (bytes file) file status
@@ -54,15 +62,18 @@ abbrev pub readings_of : Asked → ℕ
 readings_of (list files tolerance) = length files
 readings_of (write file number by_onset) = 2
 readings_of (canonical file by_onset) = 2
+readings_of (canonical_of_stream by_onset) = 1
 readings_of (split file prefix by_onset joining) = 2
 readings_of (picture file) = 1
 
--- `list` reads each of its files once, `picture` its file once, and `write`, `canonical` and
--- `split` theirs twice, where they are done
+-- `list` reads each of its files once, `picture` its file and `canonical` standard input once, and
+-- `write`, `canonical` and `split` a file twice, where they are done
 abbrev pub HasOpened : List (List ℕ) → List (List ℕ) → Asked → Status → Type 0
 HasOpened before after (list files tolerance) status = OpensEach before after files status
 HasOpened before after (write file number by_onset) status = OpensAgain before after file 2 status
 HasOpened before after (canonical file by_onset) status = OpensAgain before after file 2 status
+HasOpened before after (canonical_of_stream by_onset) status =
+    OpensAgain before after stream 1 status
 HasOpened before after (split file prefix by_onset joining) status =
     OpensAgain before after file 2 status
 HasOpened before after (picture file) status = OpensAgain before after file 1 status

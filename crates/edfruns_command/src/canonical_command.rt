@@ -7,10 +7,11 @@ ghost use Rattle.edfruns_command.specs.Inside.{OpensUpTo};
 ghost use Rattle.edfruns_command.specs.Listing.{OpensAgain};
 ghost use Rattle.edfruns_command.specs.Planning.{HasPlanFault};
 
-use crate::arguments::{refuse_stream, twice_read_file_value, value_in};
+use crate::arguments::{file_value, value_in};
 use crate::planning::{by_onset_option, is_by_onset, refuse_plan};
 use crate::refusal::{RUN, refuse_run, tell_outside};
 use crate::runs_command::RunsCommand;
+use crate::stream_command::STREAM;
 use clap::{ArgMatches, Command};
 use edf_fragment::{Input, Output};
 use edf_program::{CommandFault, Inputs, Status};
@@ -26,7 +27,8 @@ does. Files with the same data records, annotations and identity have one canoni
 file, whatever their headers leave open.
 
 FILE is read twice, first for the size of its longest annotations and then for its
-data records, so it can't be standard input. One data record is in memory at a time.
+data records, one of which is in memory at a time. Where FILE is -, standard input is
+read once, and all its data records are in memory before the first byte goes out.
 
 With --by-onset each annotation is in the data record in which its onset lies. It is
 for files of EDFlib, which puts the n-th annotation into the n-th data record: then a
@@ -40,6 +42,7 @@ The annotations are those of the first reading, which are all in memory.";
 const CANONICAL_EXAMPLE: &str = "\
 Example:
   edfruns canonical card.edf > night.edf
+  zcat card.edf.gz | edfruns canonical - > night.edf
   edfruns canonical --by-onset card.edf > upload.edf";
 
 /// The word and its values, as `clap` gets them.
@@ -49,7 +52,7 @@ pub(crate) fn canonical_words<'a>(alloc: Global) -> Result<Command<'a>, AllocErr
         .long_about(CANONICAL_MORE)
         .after_help(CANONICAL_EXAMPLE)
         .arg(by_onset_option(alloc))?
-        .arg(twice_read_file_value(alloc))
+        .arg(file_value(alloc))
 }
 
 /// What its values ask for.
@@ -58,15 +61,12 @@ pub(crate) fn read_canonical(
     values: &ArgMatches<'_>,
 ) -> Result<RunsCommand, CommandFault> {
     let file = value_in(values, "FILE");
-    if file == "-" {
-        let words = canonical_words(alloc);
-        return Err(refuse_stream(alloc, words, "edfruns canonical")?);
+    let is_by_onset = is_by_onset(values);
+    if file == STREAM {
+        return Ok(RunsCommand::CanonicalOfStream { is_by_onset });
     }
     let file = String::from_str(alloc, file)?;
-    Ok(RunsCommand::Canonical {
-        file,
-        is_by_onset: is_by_onset(values),
-    })
+    Ok(RunsCommand::Canonical { file, is_by_onset })
 }
 
 /// What the canonical file of what is read needs before its first byte.

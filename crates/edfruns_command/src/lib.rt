@@ -29,6 +29,7 @@ mod sight;
 mod signals;
 mod split_command;
 mod stop;
+mod stream_command;
 mod tolerance;
 mod write_command;
 

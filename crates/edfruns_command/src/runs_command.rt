@@ -8,6 +8,7 @@ use crate::canonical_command::canonical;
 use crate::list_command::list;
 use crate::picture_command::picture;
 use crate::split_command::split;
+use crate::stream_command::{STREAM, canonical_of_stream};
 use crate::write_command::write;
 use edf_fragment::Output;
 use edf_new_files::NewFiles;
@@ -39,6 +40,11 @@ pub enum RunsCommand {
     Canonical {
         /// The file. It is not `-`.
         file: String,
+        /// Whether each annotation is in the data record that has its onset.
+        is_by_onset: bool,
+    },
+    /// Write that of standard input, whose data records are all in memory before the first byte.
+    CanonicalOfStream {
         /// Whether each annotation is in the data record that has its onset.
         is_by_onset: bool,
     },
@@ -84,6 +90,7 @@ impl RunsCommand {
                 file: _,
                 is_by_onset: _,
             } => 2,
+            RunsCommand::CanonicalOfStream { is_by_onset: _ } => 1,
             RunsCommand::Split {
                 file: _,
                 prefix: _,
@@ -140,6 +147,9 @@ pub fn run_runs<I: Inputs, P: NewFiles, O: Output, F: Output>(
         ),
         RunsCommand::Canonical { file, is_by_onset } => {
             canonical(alloc, file.as_str(), *is_by_onset, inputs, out, err)
+        }
+        RunsCommand::CanonicalOfStream { is_by_onset } => {
+            canonical_of_stream(alloc, STREAM, *is_by_onset, inputs, out, err)
         }
         RunsCommand::Split {
             file,

@@ -57,6 +57,16 @@ returns-in-Canonical-clause-done g c =
     subst Does (sym c.in-Canonical.is) (subst Writes c.as_str-in-Canonical.ensures.value
     c.canonical.ensures.written)
 
+pub returns-in-CanonicalOfStream-clause-done : goal.returns-in-CanonicalOfStream-clause-done
+returns-in-CanonicalOfStream-clause-done g c =
+    let out = growth g.O.Output c.args.out.now c.canonical_of_stream.new.out in
+    let err = growth g.F.Output c.args.err.now c.canonical_of_stream.new.err in
+    let bytes = g.I.Inputs.bytes c.args.inputs.now in
+    let made = making g.P.NewFiles c.args.outputs.now c.args.outputs.now in
+    let Does : RunsCommand → Type 0 = λ command.
+    IsDone bytes made out err (meaning command) c.canonical_of_stream.result in
+    subst Does (sym c.in-CanonicalOfStream.is) c.canonical_of_stream.ensures.written
+
 pub returns-in-Split-clause-done : goal.returns-in-Split-clause-done
 returns-in-Split-clause-done g c =
     let out = growth g.O.Output c.args.out.now c.split.new.out in

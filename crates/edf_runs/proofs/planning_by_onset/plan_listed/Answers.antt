@@ -9,66 +9,65 @@ use Rattle.edf_runs.specs.Canonical.{IsMeasured}
 use Rattle.edf_runs.specs.Inside.Measuring.{IsMeasuredSoFar, outside_here}
 use Rattle.edf_runs.specs.OnsetRead.{kept_of}
 use Rattle.edf_runs.proofs.PlannedByOnset.{kept-bare, kept-few, kept-some, kept-starts, planned}
-use Rattle.edf_runs.proofs.planning_by_onset.plan_by_onset.Goals as goal
+use Rattle.edf_runs.proofs.planning_by_onset.plan_listed.Goals as goal
 
 pub outside_in-outside-requires-clause-few : goal.outside_in-outside-requires-clause-few
-outside_in-outside-requires-clause-few g c =
-    let listing = c.in_ok-listing.listing in
+outside_in-outside-requires-clause-few c =
+    let listing = c.args.listing in
     let kept : c.as_slice.result.now ≡ flat_map kept_of listing.runs.items =
-    c.as_slice.ensures.value ∙ c.in-Ok.ensures in
+    c.as_slice.ensures.value ∙ c.in_ok-kept.ensures in
     subst (λ (l : List DataRecord). length l ≤ MOST_RECORDS) (sym kept)
-    (kept-few _ _ listing c.in_ok-listing.ensures.answer)
+    (kept-few _ _ listing c.requires.2)
 
-pub measure_kept-requires : goal.measure_kept-requires
-measure_kept-requires g c =
-    let listing = c.in_ok-listing.listing in
+pub measure_all-requires : goal.measure_all-requires
+measure_all-requires c =
+    let listing = c.args.listing in
     let kept : c.as_slice-2.result.now ≡ flat_map kept_of listing.runs.items =
-    c.as_slice-2.ensures.value ∙ c.in-Ok.ensures in
+    c.as_slice-2.ensures.value ∙ c.in_ok-kept.ensures in
     subst (λ (l : List DataRecord). length l ≤ MOST_RECORDS) (sym kept)
-    (kept-few _ _ listing c.in_ok-listing.ensures.answer)
+    (kept-few _ _ listing c.requires.2)
 
 pub unreachable-requires : goal.unreachable-requires
-unreachable-requires g c =
-    let listing = c.in_ok-listing.listing in
+unreachable-requires c =
+    let listing = c.args.listing in
     let kept : c.as_slice-2.result.now ≡ flat_map kept_of listing.runs.items =
-    c.as_slice-2.ensures.value ∙ c.in-Ok.ensures in
+    c.as_slice-2.ensures.value ∙ c.in_ok-kept.ensures in
     let none : c.as_slice-2.result.now ≡ [] =
-    subst (IsMeasuredSoFar c.as_slice-2.result.now) c.in-None.is c.measure_kept.ensures in
+    subst (IsMeasuredSoFar c.as_slice-2.result.now) c.in-None.is c.measure_all.ensures in
     omega (
       arith,
-      kept-some _ _ listing c.in_ok-listing.ensures.answer,
+      kept-some _ _ listing c.requires.2,
       ap (λ (l : List DataRecord). length l) (sym kept ∙ none),
     )
 
 pub invariant_of-result : goal.invariant_of-result
-invariant_of-result g c =
-    let listing = c.in_ok-listing.listing in
-    let read = c.in_ok-listing.ensures.answer in
+invariant_of-result c =
+    let listing = c.args.listing in
+    let read = c.requires.2 in
     let m = c.in-Some.measure in
     let kept : c.as_slice-2.result.now ≡ flat_map kept_of listing.runs.items =
-    c.as_slice-2.ensures.value ∙ c.in-Ok.ensures in
+    c.as_slice-2.ensures.value ∙ c.in_ok-kept.ensures in
     let is : IsMeasured (flat_map kept_of listing.runs.items) m = subst (λ l. IsMeasured l m) kept
-    (subst (IsMeasuredSoFar c.as_slice-2.result.now) c.in-Some.is c.measure_kept.ensures) in
+    (subst (IsMeasuredSoFar c.as_slice-2.result.now) c.in-Some.is c.measure_all.ensures) in
     record {
       may_start = kept-starts _ _ listing read m is;
-      bare = subst (All (λ (r : DataRecord). r.samples ≡ [])) (sym c.in-Ok.ensures)
+      bare = subst (All (λ (r : DataRecord). r.samples ≡ [])) (sym c.in_ok-kept.ensures)
           (kept-bare _ _ listing read);
     }
 
-pub returns-clause-answer : goal.returns-clause-answer
-returns-clause-answer g c =
-    let listing = c.in_ok-listing.listing in
-    let read = c.in_ok-listing.ensures.answer in
+pub returns : goal.returns
+returns c = λ left rest read.
+    let listing = c.args.listing in
     let m = c.in-Some.measure in
     let kept : c.as_slice-2.result.now ≡ flat_map kept_of listing.runs.items =
-    c.as_slice-2.ensures.value ∙ c.in-Ok.ensures in
+    c.as_slice-2.ensures.value ∙ c.in_ok-kept.ensures in
     let first : c.as_slice.result.now ≡ flat_map kept_of listing.runs.items =
-    c.as_slice.ensures.value ∙ c.in-Ok.ensures in
+    c.as_slice.ensures.value ∙ c.in_ok-kept.ensures in
     let is : IsMeasured (flat_map kept_of listing.runs.items) m = subst (λ l. IsMeasured l m) kept
-    (subst (IsMeasuredSoFar c.as_slice-2.result.now) c.in-Some.is c.measure_kept.ensures) in
+    (subst (IsMeasuredSoFar c.as_slice-2.result.now) c.in-Some.is c.measure_all.ensures) in
     let duration : c.duration.result ≡ duration_of read.layout.key.duration =
     c.duration.ensures.value ∙ ap (λ (k : Key). duration_of k.duration) read.identity in
-    planned _ _ listing read _ refl c.in-Ok.ensures is
+    planned left rest listing read _ refl c.in_ok-kept.ensures is
     (c.outside_in-outside.ensures
     ∙ ap (λ n. sum_by (outside_here n) c.as_slice.result.now) duration
     ∙ ap (sum_by (outside_here (duration_of read.layout.key.duration))) first)
