@@ -1,5 +1,5 @@
--- Changes of bytes, each told with its place.
-use Rattle.std.specs.Prelude.{◌≡◌, ◌≢◌, ℕ, ◌+◌, List, [], ◌∷◌, ◌++◌, length}
+-- Changes of bytes, each told with its place; and what a step is.
+use Rattle.std.specs.Prelude.{◌≡◌, ◌≢◌, ℕ, ◌+◌, List, [], ◌∷◌, ◌++◌, length, Bool}
 use Rattle.edf_mend.specs.declared.rule.Rule.{Rule}
 
 -- at this offset of the bytes before, from 0, `old` became `new`
@@ -17,15 +17,10 @@ AreEdited from before (e ∷ es) after =
     × (after ≡ gap ++ (e.new ++ later)) × (e.at ≡ from + length gap) × (e.old ≢ e.new)
     × AreEdited (e.at + length e.old) back es later
 
--- what one rule changed
+-- what one rule changed; what had no room in the patient's or the recording's field and was cut
+-- off; and whether a code came in the place of another
 pub record RuleEdits : Type 0 where
   pub rule : Rule
   pub edits : List Edit
-
--- the bytes before became `after` by the edits of one rule after another, each of which changed
--- something
-abbrev pub AreMendedBy : List ℕ → List RuleEdits → List ℕ → Type 0
-AreMendedBy before [] after = after ≡ before
-AreMendedBy before (step ∷ steps) after =
-    (mid : List ℕ) × AreEdited 0 before step.edits mid × (step.edits ≢ [])
-    × AreMendedBy mid steps after
+  pub cut : List ℕ
+  pub recoded : Bool

@@ -1,4 +1,23 @@
-pub mod Timed
-pub mod Steps
-pub mod Faults
-pub mod Whole
+-- Words of private contracts: no promise cites one.
+pub mod Head
+pub mod Refused
+pub mod Refusing
+pub mod Patients
+pub mod Recordings
+pub mod Started
+pub mod Asking
+pub mod Spelled
+pub mod Tallied
+pub mod Followed
+pub mod Retimings
+pub mod Accepted
+pub mod Surveyed
+pub mod Loose
+pub mod Limits
+pub mod Telling
+pub mod Proposed
+pub mod Proposals
+pub mod GoodSignal
+pub mod Grown
+pub mod Carrying
+pub mod Stopping

@@ -1,53 +1,124 @@
--- A patient's code is never made up.
-use Rattle.std.specs.Prelude.{◌≡◌, ◌≢◌, ◌≤◌, ◌⊎◌, List, [], slice_index_or, Option, Some, ℕ}
-use Rattle.std.specs.Prelude.{All, length, codes}
-use Rattle.edf_field.specs.Text.{subfields, IsPatient, IsPrintable}
-use Rattle.edf_header.specs.Fields.{patient_field}
-use Rattle.edf_mend.specs.Edits.{Edit, RuleEdits}
-use Rattle.edf_mend.specs.Signals.{KeepsText}
-use Rattle.edf_mend.specs.declared.rule.Rule.TheVariants.{Ascii, Patient}
+-- Whose a file is: nobody is ever guessed.
+use Rattle.std.specs.Prelude.{◌≡◌, ◌≢◌, ◌⊎◌, ℕ, List, [], ◌∷◌, take, drop}
+use Rattle.std.specs.Prelude.{All, codes}
+use Rattle.std.specs.List.{join_with_byte}
+use Rattle.std.specs.Str.{str_to_ascii_uppercase}
+use Rattle.edf_field.specs.Text.{subfields, IsPatient, IsPrintable, IsSex, IsBirthdate}
+use Rattle.edf_mend.specs.Code.{IsNoCode}
+use Rattle.edf_mend.specs.Header.{spaced, fitted}
+use Rattle.edf_mend.specs.Letters.{spelling, HasNoOtherBlank}
+use Rattle.edf_mend.specs.declared.wanted.Who.{Who}
+use Rattle.edf_mend.specs.declared.wanted.Who.TheVariants.{AsNamed, Given, Replaced, Hidden}
 
--- the code of a patient field: its first subfield
-abbrev pub code_of : List ℕ → List ℕ
-code_of field = slice_index_or (subfields field) 0 []
+-- ---- what a field says
 
--- the whole patient field changes, which was no patient identification; its code stays, or becomes
--- the one that was given
-pub record KeepsCode (given : Option (List ℕ)) (e : Edit) : Type 0 where
-  pub at : e.at ≡ 8
-  pub old : length e.old ≡ 80
-  pub new : length e.new ≡ 80
-  pub wrong : IsPatient e.old → ⊥
-  pub code : (code_of e.new ≡ code_of e.old) ⊎ (given ≡ Some (code_of e.new))
+-- it is a patient identification as it stands, but for zeros that fill it
+pub record IsPlain (field : List ℕ) : Type 0 where
+  pub printable : All IsPrintable (spaced field)
+  pub patient : IsPatient (spaced field)
 
--- nothing up to the end of the patient field changes
-abbrev pub IsBehindPatient : Edit → Type 0
-IsBehindPatient e = 88 ≤ e.at
+-- its subfields are a code, a sex, a birthdate and a name, and maybe more: the first is printable
+-- as it stands; sex and birthdate are, in capitals; what follows them may have letters beyond
+-- ASCII; and nothing parts subfields but spaces
+pub record NamesPatient (field : List ℕ) : Type 0 where
+  pub code : List ℕ
+  pub sex : List ℕ
+  pub birthdate : List ℕ
+  pub name : List ℕ
+  pub more : List (List ℕ)
+  pub blanks : HasNoOtherBlank (spaced field)
+  pub as_it_is : take 3 (subfields (spaced field)) ≡ code ∷ sex ∷ birthdate ∷ []
+  pub parts : subfields (spelling (spaced field)) ≡ code ∷ sex ∷ birthdate ∷ name ∷ more
+  pub is_sex : IsSex (str_to_ascii_uppercase sex)
+  pub is_birthdate : IsBirthdate (str_to_ascii_uppercase birthdate)
 
--- the rule for the patient field makes no code up, and no other rule changes that field, but for
--- the one that transliterates
-pub record IsHonest (given : Option (List ℕ)) (step : RuleEdits) : Type 0 where
-  pub code : step.rule ≡ Patient → All (KeepsCode given) step.edits
-  pub others : step.rule ≢ Patient → step.rule ≢ Ascii → All IsBehindPatient step.edits
+-- any other names nobody
+abbrev pub NamesNobody : List ℕ → Type 0
+NamesNobody field = NamesPatient field → ⊥
 
--- a code that stands for none
-abbrev pub IsNoCode : List ℕ → Type 0
-IsNoCode code = (code ≡ codes "X") ⊎ (code ≡ codes "x")
+-- it names this code, which is one
+abbrev pub NamesCode : List ℕ → List ℕ → Type 0
+NamesCode field code = (named : NamesPatient field) × (named.code ≡ code) × ¬ IsNoCode code
 
--- a code is the one that was given, for a field that was no patient identification, or whose code
--- stood for none, or had a byte that is not printable
-abbrev pub IsGiven : Option (List ℕ) → List ℕ → List ℕ → Type 0
-IsGiven given field code = (given ≡ Some code)
-    × ((IsPatient field → ⊥) ⊎ (IsNoCode (code_of field)
-    ⊎ (All IsPrintable (code_of field) → ⊥)))
+-- it has its four subfields, and X in the place of the code
+abbrev pub LacksCode : List ℕ → Type 0
+LacksCode field = (named : NamesPatient field) × IsNoCode named.code
 
--- a code that had a byte which is not printable stays up to that byte
-abbrev pub IsSpelledOut : List ℕ → List ℕ → Type 0
-IsSpelledOut old new = (All IsPrintable old → ⊥) × KeepsText old new
+-- ---- what becomes of it
 
--- from one header to another the code stays, or it is the one that was given, where one was wanted;
--- or it is transliterated
-pub record KeepsPatient (given : Option (List ℕ)) (before after : List ℕ) : Type 0 where
-  pub code : (code_of (patient_field after) ≡ code_of (patient_field before))
-      ⊎ (IsGiven given (patient_field before) (code_of (patient_field after))
-      ⊎ IsSpelledOut (code_of (patient_field before)) (code_of (patient_field after)))
+-- subfields with a space between them
+abbrev pub with_spaces : List (List ℕ) → List ℕ
+with_spaces parts = join_with_byte 32 parts
+
+-- this code, and sex, birthdate, name and more of the field
+abbrev pub named_text : {field : List ℕ} → NamesPatient field → List ℕ → List ℕ
+named_text named code = with_spaces (code ∷ str_to_ascii_uppercase named.sex
+    ∷ str_to_ascii_uppercase named.birthdate ∷ named.name ∷ named.more)
+
+-- a field that names nobody, as one subfield: an underscore for each run of blanks; X where it
+-- is empty
+abbrev pub one_text : List (List ℕ) → List ℕ
+one_text [] = codes "X"
+one_text (part ∷ parts) = join_with_byte 95 (part ∷ parts)
+
+-- this code, and all the field as its name
+abbrev pub unnamed_text : List ℕ → List ℕ → List ℕ
+unnamed_text field code =
+    with_spaces (code ∷ codes "X" ∷ codes "X" ∷ one_text (subfields (spelling field)) ∷ [])
+
+-- a field of 80 bytes that has this text; where it has no room for the end, that is told
+pub record Holds (text new cut : List ℕ) : Type 0 where
+  pub field : new ≡ fitted 80 text
+  pub rest : cut ≡ drop 80 text
+
+-- its own code stays: as it stands, or in the letters of EDF+
+abbrev pub StaysNamed : List ℕ → List ℕ → List ℕ → Type 0
+StaysNamed old new cut = (IsPlain old × (new ≡ spaced old) × (cut ≡ []))
+    ⊎ ((IsPlain old → ⊥) × ((code : List ℕ) × (names : NamesCode old code)
+    × Holds (named_text names.0 code) new cut))
+
+-- another code comes in its place
+abbrev pub IsRecoded : List ℕ → List ℕ → List ℕ → List ℕ → Type 0
+IsRecoded code old new cut = (named : NamesPatient old) × Holds (named_text named code) new cut
+
+-- a code comes before a field that names nobody
+abbrev pub IsCoded : List ℕ → List ℕ → List ℕ → List ℕ → Type 0
+IsCoded code old new cut = NamesNobody old × Holds (unnamed_text old code) new cut
+
+-- where the rule is listed, a field that names a code keeps it; where it is not, the field stays
+abbrev pub KeepsCode : Type 0 → List ℕ → List ℕ → List ℕ → Type 0
+KeepsCode listed old new cut =
+    (listed × StaysNamed old new cut) ⊎ ((listed → ⊥) × (new ≡ old) × (cut ≡ []))
+
+-- what the rule `patient` makes of a field; `listed` says whether it would be asked for without a
+-- code. Where a code is given: it comes before a field that names nobody, or in the place of X, or,
+-- only where it is to replace one, of another; a code that the field names already asks for
+-- nothing. Where none is given the field's own code stays
+abbrev pub IsPatientText : Type 0 → Who → List ℕ → List ℕ → List ℕ → Type 0
+IsPatientText listed AsNamed old new cut = StaysNamed old new cut
+IsPatientText listed (Given code) old new cut = IsCoded code old new cut
+    ⊎ ((LacksCode old × IsRecoded code old new cut)
+    ⊎ (NamesCode old code × KeepsCode listed old new cut))
+IsPatientText listed (Replaced code) old new cut = IsCoded code old new cut
+    ⊎ ((¬ NamesCode old code × IsRecoded code old new cut)
+    ⊎ (NamesCode old code × KeepsCode listed old new cut))
+IsPatientText listed (Hidden code) old new cut = ⊥
+
+-- ---- when a code is wanted, and when it is refused
+
+-- a code is wanted for this field: it names nobody; or its code is none, and a letter of it would
+-- change
+abbrev pub WantsCode : List ℕ → Type 0
+WantsCode field = (IsPlain field → ⊥) × ((code : List ℕ) → ¬ NamesCode field code)
+
+-- a code was given to be used where none is named, and the field names another, this one
+abbrev pub IsUnused : Who → List ℕ → List ℕ → Type 0
+IsUnused (Given given) field code = NamesCode field code × (given ≢ code)
+IsUnused who field code = ⊥
+
+-- ---- a file for others
+
+-- the patient field has this code alone
+abbrev pub hidden_patient : List ℕ → List ℕ
+hidden_patient code =
+    fitted 80 (with_spaces (code ∷ codes "X" ∷ codes "X" ∷ codes "X" ∷ []))

@@ -1,5 +1,5 @@
 -- Data records whose annotations blocks are rewritten.
-use Rattle.std.specs.Prelude.{◌≡◌, ◌≢◌, ◌⊎◌, ℕ, ◌+◌, List, [], ◌∷◌, ◌++◌, length}
+use Rattle.std.specs.Prelude.{◌≡◌, ◌≢◌, ℕ, ◌+◌, List, [], ◌∷◌, ◌++◌, length}
 use Rattle.edf_header.specs.Header.{Layout}
 use Rattle.edf_fragment.specs.Fragment.{ordinary_bytes}
 use Rattle.edf_mend.specs.Edits.{Edit, AreEdited}
@@ -27,12 +27,3 @@ AreRewritten Is from before (told ∷ more) after =
     × (later : List (List ℕ)) × (before ≡ gap ++ old ∷ back) × (after ≡ gap ++ new ∷ later)
     × (told.nth ≡ from + length gap) × Is told.edits old new
     × AreRewritten Is (told.nth + 1) back more later
-
--- a data record is as it was, and nothing is told; or it was rewritten in this way, and that is
--- told
-abbrev pub IsTold : (List Edit → List ℕ → List ℕ → Type 0) → ℕ → List ℕ → List RecordEdits →
-    List RecordEdits → List ℕ → Type 0
-IsTold Is nth old before after new =
-    ((new ≡ old) × (after ≡ before))
-    ⊎ ((edits : List Edit) × Is edits old new
-    × (after ≡ before ++ record { nth = nth; edits = edits } ∷ []))

@@ -1,62 +1,101 @@
--- Which fields of a header a rule may change.
-use Rattle.std.specs.Prelude.{◌≡◌, ◌⊎◌, ℕ, ◌+◌, ◌*◌, ◌≤◌, List, [], ◌∷◌, ◌++◌, length, All, codes}
-use Rattle.std.specs.Prelude.{ℤ, Option}
-use Rattle.edf_field.specs.Text.{subfields, IsPrintable, IsRecording}
-use Rattle.edf_mend.specs.Edits.{Edit, RuleEdits}
+-- The rules in one table, in the order in which they are applied: how each is called, the numbers
+-- of the refusals that it mends, and the fields that it may change.
+use Rattle.std.specs.Prelude.{◌≡◌, ℕ, List, [], ◌∷◌, codes, Bool, true}
+use Rattle.std.specs.Prelude.{false, Contains, map, take, Option, Some, None, if◌then◌else◌, ◌&&◌}
+use Rattle.std.specs.Str.{bytes_eq}
 use Rattle.edf_mend.specs.declared.rule.Rule.{Rule}
-use Rattle.edf_mend.specs.declared.rule.Rule.TheVariants.{Ascii, Patient, Recording, Physical}
-use Rattle.edf_mend.specs.declared.rule.Rule.TheVariants.{Digital, Annotations, Plain, Count}
-use Rattle.edf_mend.specs.declared.rule.Rule.TheVariants.{Texts, Clock, Mended}
+use Rattle.edf_mend.specs.declared.rule.Rule.TheVariants as rule
+use Rattle.edf_mend.specs.declared.field.Field.{Field}
+use Rattle.edf_mend.specs.declared.field.Field.TheVariants as at
 
--- the whole field changes that is there, and no other
-abbrev pub IsField : ℕ → ℕ → Edit → Type 0
-IsField at width e = (e.at ≡ at) × (length e.old ≡ width) × (length e.new ≡ width)
+-- the name of a rule, as it is asked for and told
+abbrev pub rule_name : Rule → List ℕ
+rule_name rule.Ascii = codes "ascii"
+rule_name rule.Header = codes "header"
+rule_name rule.Separators = codes "separators"
+rule_name rule.Startdate = codes "startdate"
+rule_name rule.Starttime = codes "starttime"
+rule_name rule.Patient = codes "patient"
+rule_name rule.Recording = codes "recording"
+rule_name rule.Physical = codes "physical"
+rule_name rule.Digital = codes "digital"
+rule_name rule.Annotations = codes "annotations"
+rule_name rule.Plain = codes "plain"
+rule_name rule.Count = codes "count"
+rule_name rule.Texts = codes "texts"
+rule_name rule.Clock = codes "clock"
+rule_name rule.Deidentify = codes "deidentify"
+rule_name rule.Mended = codes "mended"
 
--- eight bytes change in the columns of n signals from one place in a row to another
-abbrev pub IsInColumns : ℕ → ℕ → ℕ → Edit → Type 0
-IsInColumns n from to e = (256 + from * n ≤ e.at) × (e.at + 8 ≤ 256 + to * n)
-    × (length e.old ≡ 8) × (length e.new ≡ 8)
+-- `by_name` is whether words can name it; the others come with what asks for them
+pub record TableRow : Type 0 where
+  pub rule : Rule
+  pub name : List ℕ
+  pub by_name : Bool
+  pub numbers : List ℕ
+  pub fields : List Field
 
--- a signal is added: its fields, the length of the header, and the number of signals
-abbrev pub AddsSignal : Edit → Type 0
-AddsSignal e = (e.old ≡ []) ⊎ (IsField 184 8 e ⊎ IsField 252 4 e)
+-- the limits of a signal
+abbrev pub physical_limits : List Field
+physical_limits = at.PhysicalMinimum ∷ at.PhysicalMaximum ∷ []
 
--- a text of at most a field's length changes that has a byte which is not printable
-pub record IsTransliterated (e : Edit) : Type 0 where
-  pub unprintable : All IsPrintable e.old → ⊥
-  pub short : length e.old ≤ 80
-  pub same_len : length e.new ≡ length e.old
+abbrev pub limits : List Field
+limits = at.PhysicalMinimum ∷ at.PhysicalMaximum ∷ at.DigitalMinimum ∷ at.DigitalMaximum ∷ []
 
--- the recording field changes, which was no recording identification
-pub record MendsRecording (e : Edit) : Type 0 where
-  pub field : IsField 88 80 e
-  pub wrong : (startdate : Option ℤ) (after : List ℕ) → ¬ IsRecording e.old startdate after
+-- a row of the table
+abbrev pub row : Rule → Bool → List ℕ → List Field → TableRow
+row r by_name numbers fields = record {
+  rule = r;
+  name = rule_name r;
+  by_name = by_name;
+  numbers = numbers;
+  fields = fields;
+}
 
--- `mended` comes after all subfields that a text had
-abbrev pub SaysMendedToo : List ℕ → List ℕ → Type 0
-SaysMendedToo old new = subfields new ≡ subfields old ++ codes "mended" ∷ []
+-- `recording` mends E8 only where it is named, and `count` E29. Two rules mend more than they are
+-- called for: `physical` E15 of a dimension that it empties, and `deidentify` E5 of a field in which
+-- spaces alone are wrong
+abbrev pub rules : List TableRow
+rules = row rule.Ascii true (2 ∷ 15 ∷ []) (at.Version ∷ at.HeaderBytes
+    ∷ at.Reserved ∷ at.Count ∷ at.Duration ∷ at.Signals ∷ at.Label ∷ at.Transducer
+    ∷ at.Dimension ∷ at.PhysicalMinimum ∷ at.PhysicalMaximum ∷ at.DigitalMinimum
+    ∷ at.DigitalMaximum ∷ at.Prefiltering ∷ at.Samples ∷ at.SignalReserved ∷ [])
+    ∷ row rule.Header true (13 ∷ []) (at.HeaderBytes ∷ [])
+    ∷ row rule.Separators true (6 ∷ 7 ∷ [])
+    (at.Startdate ∷ at.Starttime ∷ [])
+    ∷ row rule.Startdate false (6 ∷ []) (at.Startdate ∷ [])
+    ∷ row rule.Starttime false (7 ∷ []) (at.Starttime ∷ [])
+    ∷ row rule.Patient true (2 ∷ 4 ∷ []) (at.Patient ∷ [])
+    ∷ row rule.Recording true (2 ∷ 5 ∷ 8 ∷ []) (at.Recording ∷ [])
+    ∷ row rule.Physical true (17 ∷ []) (at.Dimension ∷ physical_limits)
+    ∷ row rule.Digital true (18 ∷ []) limits
+    ∷ row rule.Annotations true (12 ∷ 16 ∷ [])
+    (at.HeaderBytes ∷ at.Signals ∷ limits)
+    ∷ row rule.Plain true (9 ∷ 12 ∷ 16 ∷ [])
+    (at.HeaderBytes ∷ at.Reserved ∷ at.Signals ∷ [])
+    ∷ row rule.Count true (10 ∷ 21 ∷ 29 ∷ []) (at.Count ∷ [])
+    ∷ row rule.Texts true (22 ∷ 23 ∷ []) (at.Blocks ∷ [])
+    ∷ row rule.Clock true (27 ∷ []) (at.Blocks ∷ [])
+    ∷ row rule.Deidentify false (2 ∷ 4 ∷ []) (at.Patient ∷ at.Recording ∷ [])
+    ∷ row rule.Mended false [] (at.Recording ∷ []) ∷ []
 
--- so does the recording field
-pub record MarksRecording (e : Edit) : Type 0 where
-  pub field : IsField 88 80 e
-  pub says : SaysMendedToo e.old e.new
+-- their order; the last is the mark that a file was mended
+abbrev pub order : List Rule
+order = map (λ r. r.rule) rules
 
--- what a rule may change in a header of n signals: the field that it is for; `physical` dimensions
--- and physical limits; `digital` both pairs of limits; `annotations` these too, and it may add a
--- signal; `plain` the reserved field, and it may add a signal
-abbrev pub MayChange : Rule → ℕ → Edit → Type 0
-MayChange Ascii n e = IsTransliterated e
-MayChange Patient n e = IsField 8 80 e
-MayChange Recording n e = MendsRecording e
-MayChange Physical n e = IsInColumns n 96 120 e
-MayChange Digital n e = IsInColumns n 104 136 e
-MayChange Annotations n e = IsInColumns n 104 136 e ⊎ AddsSignal e
-MayChange Plain n e = IsField 192 44 e ⊎ AddsSignal e
-MayChange Count n e = IsField 236 8 e
-MayChange Texts n e = ⊥
-MayChange Clock n e = ⊥
-MayChange Mended n e = MarksRecording e
+abbrev pub before_mark : List Rule
+before_mark = take 15 order
 
--- a rule changes nothing else
-abbrev pub IsOfRule : ℕ → RuleEdits → Type 0
-IsOfRule n step = All (MayChange step.rule n) step.edits
+-- the rule that words name so
+abbrev pub named_in : List TableRow → List ℕ → Option Rule
+named_in [] name = None
+named_in (r ∷ rs) name =
+    if r.by_name && bytes_eq r.name name then Some r.rule else named_in rs name
+
+-- a rule's row
+abbrev pub IsRow : Rule → TableRow → Type 0
+IsRow r found = Contains rules found × (found.rule ≡ r)
+
+-- a rule may change a field
+abbrev pub MayChange : Rule → Field → Type 0
+MayChange r f = (found : TableRow) × IsRow r found × Contains found.fields f

@@ -1,26 +1,66 @@
--- What the rule `texts` changes in annotations blocks.
-use Rattle.std.specs.Prelude.{◌≡◌, ◌≢◌, ◌⊎◌, ℕ, ◌+◌, ◌-◌, ◌≤◌, List, [], ◌∷◌, ◌++◌, length, All}
-use Rattle.std.specs.Prelude.{Contains, slice_index, IsUtf8, encode_utf8_all}
+-- What the rule `texts` makes of annotations blocks: the same list of annotations.
+use Rattle.std.specs.Prelude.{◌≡◌, ◌⊎◌, ℕ, ◌+◌, ◌^◌, ◌≤◌, ◌<◌, List, [], ◌∷◌, ◌++◌}
+use Rattle.std.specs.Prelude.{length, replicate, All, Option, Some, None, IsUtf8}
+use Rattle.std.specs.Prelude.{encode_utf8_all}
+use Rattle.std.specs.List.{AllByRecursion, AllZip, flat_map}
 use Rattle.edf_field.specs.Number.{field}
+use Rattle.edf_time.specs.Decimal.{IsDecimal, IsSeconds, IsDecimalFault, short}
+use Rattle.edf_time.specs.declared.decimal.DecimalFault.TheVariants.{TooFine}
+use Rattle.edf_tal.specs.Tal.{IsText, ended}
 use Rattle.edf_header.specs.Header.{Layout}
 use Rattle.edf_header.specs.declared.header.Block.{Block}
-use Rattle.edf_time.specs.Decimal.{IsSeconds, IsDecimalFault, short}
-use Rattle.edf_time.specs.declared.decimal.DecimalFault.TheVariants.{TooFine}
+use Rattle.edf_fragment.specs.Fragment.{blocks, ordinary_bytes}
 use Rattle.edf_mend.specs.Edits.{Edit}
 use Rattle.edf_mend.specs.Rewritten.{IsRewritten}
+use Rattle.edf_mend.specs.Told.{FieldPair, pair, edits_from}
+use Rattle.edf_mend.specs.declared.field.Field.TheVariants as at
 
--- bytes that are no UTF-8, each of which is the character of that number, became UTF-8
-pub record IsLatin (old new : List ℕ) : Type 0 where
-  pub bad : ¬ IsUtf8 old
-  pub new_is : new ≡ encode_utf8_all old
+-- ---- a list as it is written
+
+-- a TAL whose times may be finer than a nanosecond, and whose texts may be any bytes: the sign of
+-- the onset and its decimal, a duration's decimal or none, and the texts
+pub record WrittenTal : Type 0 where
+  pub sign : ℕ
+  pub onset : List ℕ
+  pub duration : Option (List ℕ)
+  pub texts : List (List ℕ)
+
+abbrev pub duration_part : Option (List ℕ) → List ℕ
+duration_part None = []
+duration_part (Some text) = 21 ∷ text
+
+abbrev pub tal_bytes : WrittenTal → List ℕ
+tal_bytes t = t.sign ∷ (t.onset ++ (duration_part t.duration ++ (20 ∷ (ended t.texts ++ 0 ∷ []))))
+
+-- digits, and a dot and digits or none
+abbrev pub IsTime : List ℕ → Type 0
+IsTime text = (whole : List ℕ) × (fraction : List ℕ) × IsDecimal text whole fraction
+
+abbrev pub IsTimeOrNone : Option (List ℕ) → Type 0
+IsTimeOrNone None = Unit {0}
+IsTimeOrNone (Some text) = IsTime text
+
+pub record IsWritten (t : WrittenTal) : Type 0 where
+  pub sign : (t.sign ≡ 43) ⊎ (t.sign ≡ 45)
+  pub onset : IsTime t.onset
+  pub duration : IsTimeOrNone t.duration
+  pub texts : AllByRecursion IsText t.texts
+
+-- a block is such TALs, each right after the one before, and then zeros and spaces that fill it
+pub record IsBlockOf (tals : List WrittenTal) (fill block : List ℕ) : Type 0 where
+  pub parts : block ≡ flat_map tal_bytes tals ++ fill
+  pub are : AllByRecursion IsWritten tals
+  pub blank : All (λ b. (b ≡ 0) ⊎ (b ≡ 32)) fill
+
+-- ---- the same list, as EDF+ spells it
 
 -- a digit from 5 on comes first
 abbrev pub IsHalf : List ℕ → Type 0
 IsHalf [] = ⊥
 IsHalf (d ∷ ds) = 53 ≤ d
 
--- a decimal that has a digit past the ninth after the dot which is not 0 became the shortest one of
--- the nearest nanosecond
+-- a decimal that has a digit past the ninth behind the dot which is not 0 becomes the shortest one
+-- of the nearest nanosecond; of two that are as near, the one that is further from 0
 pub record IsRounded (old new : List ℕ) : Type 0 where
   pub too_fine : IsDecimalFault old TooFine
   pub whole : List ℕ
@@ -30,58 +70,82 @@ pub record IsRounded (old new : List ℕ) : Type 0 where
   pub old_is : old ≡ whole ++ 46 ∷ (nine ++ finer)
   pub len : length nine ≡ 9
   pub value : IsSeconds (whole ++ 46 ∷ nine) nanos
-  pub new_is : ((IsHalf finer × (new ≡ short (nanos + 1)))
-      ⊎ ((¬ IsHalf finer) × (new ≡ short nanos)))
+  pub small : nanos + 1 < 2 ^ 63
+  pub new_is : (IsHalf finer × (new ≡ short (nanos + 1)))
+      ⊎ ((IsHalf finer → ⊥) × (new ≡ short nanos))
 
--- an edit of a data record `old` lies in one of its annotations blocks, where `front` is before it
--- and `back` behind it
-pub record IsInBlock (l : Layout) (old : List ℕ) (e : Edit) (front back : List ℕ) : Type 0 where
-  pub block : Block
-  pub is_block : Contains l.blocks block
-  pub parts : field old block.at block.bytes ≡ front ++ (e.old ++ back)
-  pub at : e.at ≡ block.at + length front
+-- any other time stays as it is written
+abbrev pub IsTimeSpelled : List ℕ → List ℕ → Type 0
+IsTimeSpelled old new = IsRounded old new
+    ⊎ (((text : List ℕ) → ¬ IsRounded old text) × (new ≡ old))
 
--- the first of some bytes, and the last; 0 where there is none
-abbrev pub first_byte : List ℕ → ℕ
-first_byte bytes = slice_index bytes 0
+abbrev pub IsDurationSpelled : Option (List ℕ) → Option (List ℕ) → Type 0
+IsDurationSpelled None new = new ≡ None
+IsDurationSpelled (Some old) new = (text : List ℕ) × IsTimeSpelled old text × (new ≡ Some text)
 
-abbrev pub last_byte : List ℕ → ℕ
-last_byte bytes = slice_index bytes (length bytes - 1)
+-- a text of UTF-8 stays; any other is one of Latin-1, each byte of which is the character of that
+-- number
+abbrev pub IsTextSpelled : List ℕ → List ℕ → Type 0
+IsTextSpelled old new = (IsUtf8 old × (new ≡ old)) ⊎ ((¬ IsUtf8 old) × (new ≡ encode_utf8_all old))
 
--- a whole text is spelled in UTF-8: it has none of the bytes 0 and 20, and 20 is right before it
--- and right behind it
-pub record IsTextEdit (front : List ℕ) (e : Edit) (back : List ℕ) : Type 0 where
-  pub before : last_byte front ≡ 20
-  pub text : All (λ b. (b ≢ 0) × (b ≢ 20)) e.old
-  pub behind : first_byte back ≡ 20
-  pub latin : IsLatin e.old e.new
+-- **the same annotation**: its onset to the nanosecond, its duration, its texts in UTF-8
+pub record IsTalSpelled (old new : WrittenTal) : Type 0 where
+  pub sign : new.sign ≡ old.sign
+  pub onset : IsTimeSpelled old.onset new.onset
+  pub duration : IsDurationSpelled old.duration new.duration
+  pub texts : AllZip IsTextSpelled old.texts new.texts
 
--- a whole time is rounded: an onset, which follows `+` or `-`, or a duration, which follows the
--- byte 21; and 20 or 21 is right behind it
-pub record IsTimeEdit (front : List ℕ) (e : Edit) (back : List ℕ) : Type 0 where
-  pub before : ((last_byte front ≡ 43) ⊎ ((last_byte front ≡ 45) ⊎ (last_byte front ≡ 21)))
-  pub behind : ((first_byte back ≡ 20) ⊎ (first_byte back ≡ 21))
-  pub rounded : IsRounded e.old e.new
+-- ---- blocks
 
--- zeros become the fill of a block: from here to its end there was no byte 20, and so no text
-pub record IsFillEdit (e : Edit) (back : List ℕ) : Type 0 where
-  pub zeros : All (λ b. b ≡ 0) e.new
-  pub no_text : All (λ b. b ≢ 20) e.old
-  pub none_behind : All (λ b. b ≢ 20) back
+-- a block becomes the same list, each TAL in its place, and zeros to its end
+pub record IsBlockSpelled (old new : List ℕ) : Type 0 where
+  pub olds : List WrittenTal
+  pub news : List WrittenTal
+  pub fill : List ℕ
+  pub zeros : ℕ
+  pub old_is : IsBlockOf olds fill old
+  pub same : AllZip IsTalSpelled olds news
+  pub new_is : new ≡ flat_map tal_bytes news ++ replicate zeros 0
+  pub len : length new ≡ length old
 
--- one of these, by what is before it in its block and behind it
-abbrev pub IsEditBetween : List ℕ → Edit → List ℕ → Type 0
-IsEditBetween front e back =
-    IsTextEdit front e back ⊎ (IsTimeEdit front e back ⊎ IsFillEdit e back)
+-- one that is no such list, or has no room for it, stays as it is
+abbrev pub IsBlockMade : List ℕ → List ℕ → Type 0
+IsBlockMade old new = IsBlockSpelled old new
+    ⊎ (((block : List ℕ) → ¬ IsBlockSpelled old block) × (new ≡ old))
 
--- and it lies in one block of a data record
-pub record IsBlockEdit (l : Layout) (old : List ℕ) (e : Edit) : Type 0 where
-  pub front : List ℕ
-  pub back : List ℕ
-  pub lies : IsInBlock l old e front back
-  pub is_one : IsEditBetween front e back
+-- ---- data records
 
--- a data record became another by such edits
-pub record IsRespelled (l : Layout) (edits : List Edit) (old new : List ℕ) : Type 0 where
+-- each of a data record's blocks is made so, and nothing else of it changes
+pub record IsRespelled (l : Layout) (old new : List ℕ) : Type 0 where
+  pub len : length new ≡ length old
+  pub samples : ordinary_bytes l new ≡ ordinary_bytes l old
+  pub each : AllZip IsBlockMade (blocks l old) (blocks l new)
+
+-- ---- what is told of it: each list that differs, whole, and the fill
+
+abbrev pub tal_pairs : List WrittenTal → List WrittenTal → List FieldPair
+tal_pairs [] news = []
+tal_pairs (old ∷ olds) [] = []
+tal_pairs (old ∷ olds) (new ∷ news) =
+    pair at.Blocks (tal_bytes old) (tal_bytes new) ∷ tal_pairs olds news
+
+abbrev pub block_pairs : {old new : List ℕ} → IsBlockSpelled old new → List FieldPair
+block_pairs s = tal_pairs s.olds s.news ++ pair at.Blocks s.fill (replicate s.zeros 0) ∷ []
+
+-- of a block that is at this offset of its data record
+abbrev pub IsBlockTold : ℕ → List ℕ → List ℕ → List Edit → Type 0
+IsBlockTold from old new edits =
+    ((s : IsBlockSpelled old new) × (edits ≡ edits_from from (block_pairs s)))
+    ⊎ (((block : List ℕ) → ¬ IsBlockSpelled old block) × (edits ≡ []))
+
+-- of blocks in turn
+abbrev pub AreBlocksTold : List Block → List ℕ → List ℕ → List Edit → Type 0
+AreBlocksTold [] old new edits = edits ≡ []
+AreBlocksTold (b ∷ bs) old new edits = (here : List Edit) × (later : List Edit)
+    × (edits ≡ here ++ later)
+    × IsBlockTold b.at (field old b.at b.bytes) (field new b.at b.bytes) here
+    × AreBlocksTold bs old new later
+
+pub record IsToldRespelled (l : Layout) (edits : List Edit) (old new : List ℕ) : Type 0 where
   pub rewritten : IsRewritten l edits old new
-  pub each : All (IsBlockEdit l old) edits
+  pub told : AreBlocksTold l.blocks old new edits

@@ -1,7 +1,6 @@
 //! What was changed of a file.
 
 use crate::change::Change;
-use crate::rewriting::RecordChanges;
 use crate::rule::Rule;
 use std::marker::Model;
 
@@ -10,6 +9,8 @@ use std::marker::Model;
 pub struct Step {
     rule: Rule,
     changes: Vec<Change>,
+    cut: Vec<u8>,
+    recoded: bool,
 }
 
 impl Model for Step {
@@ -17,17 +18,32 @@ impl Model for Step {
 
     ghost Value = { RuleEdits };
 
-    ghost view = { λ s. record { rule = s.rule; edits = s.changes.items } };
+    ghost view = { λ s. record {
+      rule = s.rule;
+      edits = s.changes.items;
+      cut = s.cut.items;
+      recoded = s.recoded;
+    } };
 }
 
 impl Step {
     ghost use Rattle.std.specs.Prelude.{◌≡◌};
 
-    /// The changes of a rule.
-    pub(crate) fn of(rule: Rule, changes: Vec<Change>) -> Step
-        ensures { result ≡ record { rule = rule; edits = changes.items } }
+    /// A step of a rule.
+    pub(crate) fn of(rule: Rule, changes: Vec<Change>, cut: Vec<u8>, recoded: bool) -> Step
+        ensures { result ≡ record {
+          rule = rule;
+          edits = changes.items;
+          cut = cut.items;
+          recoded = recoded;
+        } }
     {
-        Step { rule, changes }
+        Step {
+            rule,
+            changes,
+            cut,
+            recoded,
+        }
     }
 
     /// The rule.
@@ -37,8 +53,62 @@ impl Step {
         self.rule
     }
 
-    /// Its changes, in the order of the file. Each offset is that in the header as the rules before
-    /// left it.
+    /// Each field that differs, in the order of the file. Those of a new signal have nothing
+    /// before.
+    pub fn changes(&self) -> &[Change]
+        ensures { result.now ≡ self.now.edits }
+    {
+        self.changes.as_slice()
+    }
+
+    /// What had no room in its field.
+    pub fn cut(&self) -> &[u8]
+        ensures { result.now ≡ self.now.cut }
+    {
+        self.cut.as_slice()
+    }
+
+    /// Whether a code of a patient gave way to another.
+    pub fn is_recoded(&self) -> bool
+        ensures { result ≡ self.now.recoded }
+    {
+        self.recoded
+    }
+}
+
+/// What was changed in one data record.
+#[derive(Drop)]
+pub struct RecordChanges {
+    nth: u32,
+    changes: Vec<Change>,
+}
+
+impl Model for RecordChanges {
+    ghost use Rattle.edf_mend.specs.Rewritten.{RecordEdits};
+
+    ghost Value = { RecordEdits };
+
+    ghost view = { λ r. record { nth = r.nth; edits = r.changes.items } };
+}
+
+impl RecordChanges {
+    ghost use Rattle.std.specs.Prelude.{◌≡◌};
+
+    /// The changes of a data record, counted from 0.
+    pub(crate) fn of(nth: u32, changes: Vec<Change>) -> RecordChanges
+        ensures { result ≡ record { nth = nth; edits = changes.items } }
+    {
+        RecordChanges { nth, changes }
+    }
+
+    /// The data record, counted from 0.
+    pub fn nth(&self) -> u32
+        ensures { result ≡ self.now.nth }
+    {
+        self.nth
+    }
+
+    /// Its changes, in order. Each offset is that in the data record.
     pub fn changes(&self) -> &[Change]
         ensures { result.now ≡ self.now.edits }
     {
@@ -63,4 +133,7 @@ pub struct Ledger {
     pub records: u32,
     /// How many bytes after the last whole data record were left out.
     pub left_out: usize,
+    /// Of a file that is for others, how many texts of annotations there are, at which nobody
+    /// looked.
+    pub unread_texts: Option<u64>,
 }

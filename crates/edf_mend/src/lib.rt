@@ -1,46 +1,49 @@
-//! Files that real recorders write, made EDF+ in the open.
+//! Files that are almost EDF+, and plain EDF, made EDF+.
+//!
+//! [`survey_file`] reads a file once, [`mend`] a second time, and writes what the rules leave of
+//! it. Each rule is a row of [`RULES`]: its proposals pass one gate, and each change is told in a
+//! [`Ledger`]. Nobody is ever guessed, and no sample means anything else.
+
 #![tactic(auto)]
 
 mod accepting;
-mod annotations;
-mod ascii;
-mod asked;
+mod ascii_rule;
+mod carrying;
 mod change;
-mod checking;
-mod clock;
-mod code;
-mod count;
-mod digital;
-mod drafting;
+mod counted;
+mod dates;
 mod fault;
-mod fields;
+mod field;
 mod header;
-mod keeping;
+mod identity;
 pub mod laws;
 mod ledger;
-mod limits;
+mod letters;
+mod limit;
+mod loose;
+mod mark;
 mod mending;
-mod of_file;
+mod objections;
 mod patient;
-mod physical;
 mod piece;
-mod plain;
 mod recording;
 mod records;
 mod retiming;
-mod rewriting;
 mod rule;
-mod rules;
-mod saying;
-mod signals;
+mod starts;
+mod steps;
 mod surveying;
+mod tally;
+mod telling;
 mod texts;
-mod words;
+mod values;
+mod wanted;
 
 pub use change::Change;
 pub use fault::MendFault;
-pub use ledger::{Ledger, Step};
+pub use field::Field;
+pub use ledger::{Ledger, RecordChanges, Step};
 pub use mending::mend;
-pub use rewriting::RecordChanges;
-pub use rule::Rule;
+pub use rule::{RULES, Rule, RuleRow};
 pub use surveying::{Survey, survey_file};
+pub use wanted::{Code, Wanted, Who};

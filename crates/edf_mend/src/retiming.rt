@@ -1,24 +1,25 @@
 //! The rule `clock`: data records of EDF+C whose starts were rounded so that they overlap.
 
-ghost use Rattle.std.specs.Prelude.{◌≡◌, ◌≢◌, ◌+◌, ◌*◌, ◌++◌, ◌∷◌, ⊤, List, None, All, length};
-ghost use Rattle.std.specs.Prelude.{IfOk, IfErr, IfSome, IsTrue, MatchResult};
+ghost use Rattle.std.specs.Prelude.{◌≡◌, ◌≢◌, ◌≤◌, ◌<◌, ◌+◌, ◌-◌, ◌*◌, ◌++◌, ◌∷◌, ◌↔◌, [], ℕ, List};
+ghost use Rattle.std.specs.Prelude.{All, IsTrue, IfOk, MatchOption, length, replicate, sum};
+ghost use Rattle.edf_time.specs.Civil.{window};
+ghost use Rattle.edf_time.specs.Decimal.{short};
 ghost use Rattle.edf_field.specs.Number.{duration_of};
-ghost use Rattle.edf_header.specs.Signal.{rows_of};
+ghost use Rattle.edf_header.specs.Header.{Layout, IsLayout};
+ghost use Rattle.edf_header.specs.Signal.{rows_of, HasSamples};
 ghost use Rattle.edf_header.specs.declared.header.Block.{Block};
-ghost use Rattle.edf_tal.specs.Block.{IsRead};
+ghost use Rattle.edf_tal.specs.Block.{IsRead, AreRead, cut};
+ghost use Rattle.edf_tal.specs.Tal.{Annotation};
 ghost use Rattle.edf_tal.specs.declared.place.Place.TheVariants.{Any};
-ghost use Rattle.edf_mend.specs.Answers.{RefusesFor};
-ghost use Rattle.edf_mend.specs.Retimed.{IsBelowHalf, IsBelowHalfSample, IsMovedBy, IsRetimed};
-ghost use Rattle.edf_mend.specs.Inside.Faults.{IsQuiet};
-ghost use Rattle.edf_mend.specs.Inside.Timed.{IsMoved, KeepsStep};
+ghost use Rattle.edf_mend.specs.Retimed.{apart, IsBelowHalf, IsBelowHalfSample, StartsAt};
+ghost use Rattle.edf_mend.specs.Inside.Followed.{TellsStart, IsMovedTo, MayNotMove};
+ghost use Rattle.edf_mend.specs.Inside.Retimings.{HasOnset, IsCutAt, GetsOnset, ReadsBoth};
 
 use crate::change::Change;
-use crate::fault::MendFault;
-use crate::rewriting::{Made, RecordChanges, Telling, find_changes, keep, nothing_made, replace};
+use crate::telling::add_change;
 use edf_field::read_whole;
-use edf_fragment::{FragmentFault, Record};
 use edf_header::{Block, Header};
-use edf_tal::{Note, Place, TalFault, read_block, same_notes};
+use edf_tal::{Note, Place, TalFault, read_block, read_blocks, same_notes};
 use edf_time::{Instant, write_seconds};
 use std::alloc::{AllocError, Global};
 
@@ -27,7 +28,8 @@ const SIGNALS_AT: usize = 158;
 
 /// The start of a data record of a file without gaps, counted from 0, by that of the first one.
 pub(crate) fn start_after(header: &Header, first: Instant, nth: u32) -> Option<Instant>
-    ensures { IfSome result
+    ensures { MatchOption result
+        (window ≤ first + nth * duration_of header.now.key.duration)
         (λ start. start ≡ first + nth * duration_of header.now.key.duration) }
 {
     let passed = u64::from(nth).checked_mul(header.identity().duration())?;
@@ -36,24 +38,20 @@ pub(crate) fn start_after(header: &Header, first: Instant, nth: u32) -> Option<I
 
 /// Whether so many nanoseconds are less than half a sample of a signal, by its row of a header.
 fn is_below_half(row: &[u8], duration: u64, by: u64) -> bool
-    requires { length row.now ≡ 256 }
-    ensures { IsTrue result → IsBelowHalf duration by row.now }
+    requires len { length row.now ≡ 256 }
+    requires samples { HasSamples row.now }
+    ensures { IsTrue result ↔ IsBelowHalf duration by row.now }
 {
-    let Some(samples) = read_whole(&row[216..224]) else {
-        return false;
-    };
-    let Some(twice) = by.checked_mul(2) else {
-        return false;
-    };
-    match twice.checked_mul(u64::from(samples)) {
-        Some(all) => all < duration,
+    match read_whole(&row[216..224]) {
+        Some(samples) => by.saturating_mul(2).saturating_mul(u64::from(samples)) < duration,
         None => false,
     }
 }
 
 /// The same of signals, each a row of 256 bytes.
 fn are_below_half(rows: &[u8], duration: u64, by: u64) -> bool
-    ensures { IsTrue result → All (IsBelowHalf duration by) (rows_of rows.now) }
+    requires { All HasSamples (rows_of rows.now) }
+    ensures { IsTrue result ↔ All (IsBelowHalf duration by) (rows_of rows.now) }
 {
     for i in 0..rows.len() / 256 {
         if !is_below_half(&rows[256 * i..256 * i + 256], duration, by) {
@@ -65,7 +63,7 @@ fn are_below_half(rows: &[u8], duration: u64, by: u64) -> bool
 
 /// Whether so many nanoseconds are less than half a sample of each ordinary signal.
 fn is_below_half_sample(alloc: Global, header: &Header, by: u64) -> Result<bool, AllocError>
-    ensures { IfOk result (λ is. IsTrue is → IsBelowHalfSample header.now by) }
+    ensures { IfOk result (λ is. IsTrue is ↔ IsBelowHalfSample header.now by) }
 {
     let identity = header.identity().to_bytes(alloc)?;
     let bytes = identity.as_slice();
@@ -76,7 +74,9 @@ fn is_below_half_sample(alloc: Global, header: &Header, by: u64) -> Result<bool,
 }
 
 /// An onset that counts from a file's start, for an instant that is not before it.
-fn onset_of(alloc: Global, file_start: Instant, start: Instant) -> Result<Vec<u8>, AllocError> {
+fn onset_of(alloc: Global, file_start: Instant, start: Instant) -> Result<Vec<u8>, AllocError>
+    ensures { IfOk result (λ v. v.items ≡ 43 ∷ short (start - file_start)) }
+{
     let passed = start.nanos().saturating_sub(file_start.nanos());
     let seconds = write_seconds(alloc, passed)?;
     let mut onset = Vec::from_slice(alloc, b"+".as_slice())?;
@@ -85,34 +85,17 @@ fn onset_of(alloc: Global, file_start: Instant, start: Instant) -> Result<Vec<u8
 }
 
 /// How many bytes the first onset of a block has.
-fn onset_len(block: &[u8]) -> usize {
+fn onset_len(block: &[u8]) -> usize
+    ensures within { result ≤ length block.now }
+    ensures at_mark { (onset rest : List ℕ) → HasOnset block.now onset rest →
+        result ≡ length onset }
+{
     for (i, b) in block.iter().enumerate() {
         if *b == 20 || *b == 21 {
             return i;
         }
     }
     0
-}
-
-/// Goes on with a block whose first onset is another. Where that is longer, zeros at the end make
-/// room; where there are too few, the block gets too long.
-fn push_retimed(
-    alloc: Global,
-    made: &mut Made,
-    block: &[u8],
-    onset: &[u8],
-) -> Result<(), AllocError> {
-    let (old, rest) = block.split_at(onset_len(block).min(block.len()));
-    replace(made, old.len(), onset)?;
-    let less = old.len().saturating_sub(onset.len());
-    let more = onset.len().saturating_sub(old.len());
-    let (middle, end) = rest.split_at(rest.len().saturating_sub(more));
-    keep(made, middle)?;
-    if middle.ends_with(b"\x00".as_slice()) && end.iter().all(|b| *b == 0) {
-        let zeros = vec![in alloc; 0u8; less]?;
-        return replace(made, end.len(), zeros.as_slice());
-    }
-    keep(made, end)
 }
 
 /// A data record cut where its first annotations block begins and ends.
@@ -125,8 +108,9 @@ struct Parts<'a> {
 
 /// The first annotations block of a data record.
 fn first_block(header: &Header) -> Option<Block>
-    ensures { IfSome result
+    ensures first { MatchOption result (header.now.blocks ≡ [])
         (λ first. (others : List Block) × (header.now.blocks ≡ first ∷ others)) }
+    ensures layout { IsLayout header.now }
 {
     match header.blocks() {
         [first, ..] => Some(*first),
@@ -136,9 +120,8 @@ fn first_block(header: &Header) -> Option<Block>
 
 /// A data record, cut at a block.
 fn parts_of(bytes: &[u8], block: Block) -> Option<Parts<'_>>
-    ensures { IfSome result (λ parts.
-        (bytes.now ≡ parts.front.now ++ (parts.block.now ++ parts.back.now))
-        × (length parts.front.now ≡ block.at) × (length parts.block.now ≡ block.bytes)) }
+    ensures { MatchOption result (length bytes.now < block.at + block.bytes)
+        (λ parts. IsCutAt block bytes.now parts.front.now parts.block.now parts.back.now) }
 {
     if block.at > bytes.len() || block.bytes > bytes.len() - block.at {
         return None;
@@ -148,19 +131,11 @@ fn parts_of(bytes: &[u8], block: Block) -> Option<Parts<'_>>
     Some(Parts { front, block, back })
 }
 
-/// A data record whose first block has another first onset.
-fn with_start(
-    alloc: Global,
-    header: &Header,
-    parts: Parts<'_>,
-    start: Instant,
-) -> Result<Made, AllocError> {
-    let mut made = nothing_made(alloc);
-    keep(&mut made, parts.front)?;
-    let onset = onset_of(alloc, header.start(), start)?;
-    push_retimed(alloc, &mut made, parts.block, onset.as_slice())?;
-    keep(&mut made, parts.back)?;
-    Ok(made)
+/// Whether it was only for want of memory that blocks were not read.
+fn is_memory(fault: TalFault) -> bool
+    ensures { IsTrue result ↔ (fault ≡ TalFault.Memory) }
+{
+    matches!(fault, TalFault::Memory)
 }
 
 /// The start and the annotations of a block, wherever its data record is; none where it has a
@@ -170,73 +145,148 @@ fn read_anywhere(
     header: &Header,
     block: &[u8],
 ) -> Result<Option<(Instant, Vec<Note>)>, AllocError>
-    ensures { IfOk result (λ found. IfSome found
+    ensures { IfOk result (λ found. MatchOption found
+        ((start : ℕ) (list : List Annotation) →
+        IsRead block.now header.now.start Any start list → ⊥)
         (λ read. IsRead block.now header.now.start Any read.0 read.1.items)) }
 {
     match read_block(alloc, block, header.start(), Place::Any) {
         Ok(read) => Ok(Some(read)),
-        Err(TalFault::Memory) => Err(AllocError),
-        Err(_) => Ok(None),
+        Err(fault) => if is_memory(fault) {
+            Err(AllocError)
+        } else {
+            Ok(None)
+        },
     }
 }
 
-/// By how many nanoseconds the start moved between two data records that differ in nothing else;
-/// none where they differ otherwise.
+/// The start that blocks of these sizes give their data record, wherever it is; none where they are
+/// not read.
+fn start_in(
+    alloc: Global,
+    header: &Header,
+    all: &[u8],
+    sizes: &[usize],
+) -> Result<Option<Instant>, AllocError>
+    requires some { 1 ≤ length sizes.now }
+    requires sizes { sum sizes.now ≡ length all.now }
+    ensures { IfOk result (λ found. MatchOption found
+        ((start : ℕ) (list : List Annotation) →
+        AreRead (cut sizes.now all.now) header.now.start Any start list → ⊥)
+        (λ start. (list : List Annotation)
+        × AreRead (cut sizes.now all.now) header.now.start Any start list)) }
+{
+    match read_blocks(alloc, all, sizes, header.start(), Place::Any) {
+        Ok(read) => Ok(Some(read.0)),
+        Err(fault) => if is_memory(fault) {
+            Err(AllocError)
+        } else {
+            Ok(None)
+        },
+    }
+}
+
+/// The start that a data record's blocks give it, wherever it is; none where they are not read.
+pub(crate) fn start_of(
+    alloc: Global,
+    header: &Header,
+    bytes: &[u8],
+) -> Result<Option<Instant>, AllocError>
+    requires { length bytes.now ≡ header.now.record_bytes }
+    ensures told { IfOk result (TellsStart header.now bytes.now) }
+    ensures layout { IsLayout header.now }
+{
+    let mut all = Vec::new(alloc);
+    let mut sizes = Vec::new(alloc);
+    for block in header.blocks() {
+        let Some(parts) = parts_of(bytes, *block) else {
+            return Ok(None);
+        };
+        all.extend_from_slice(parts.block)?;
+        sizes.push(block.bytes)?;
+    }
+    start_in(alloc, header, all.as_slice(), sizes.as_slice())
+}
+
+/// What comes before the zeros at the end.
+fn without_zeros(bytes: &[u8]) -> &[u8]
+    ensures parts { bytes.now ≡ result.now ++ replicate (length bytes.now - length result.now) 0 }
+    ensures last { (front : List ℕ) → result.now ≢ front ++ 0 ∷ [] }
+{
+    let mut end = bytes.len();
+    while end > 0 && bytes[end - 1] == 0 {
+        end -= 1;
+    }
+    &bytes[..end]
+}
+
+/// A block whose first onset is another, with as many zeros at its end as it has room for; none
+/// where it has no room.
+fn moved_block(alloc: Global, block: &[u8], onset: &[u8]) -> Result<Option<Vec<u8>>, AllocError>
+    requires { (first : List ℕ) × (rest : List ℕ) × HasOnset block.now first rest }
+    ensures { IfOk result (λ found. MatchOption found
+        ((new : List ℕ) → GetsOnset block.now onset.now new → ⊥)
+        (λ new. GetsOnset block.now onset.now new.items)) }
+{
+    let (_, behind) = block.split_at(onset_len(block));
+    let kept = without_zeros(behind);
+    let mut new = Vec::from_slice(alloc, onset)?;
+    new.extend_from_slice(kept)?;
+    if new.len() >= block.len() {
+        return Ok(None);
+    }
+    let zeros = vec![in alloc; 0u8; block.len() - new.len()]?;
+    new.extend_from_slice(zeros.as_slice())?;
+    Ok(Some(new))
+}
+
+/// By how many nanoseconds the start moved between two blocks that have the same annotations, the
+/// second of which starts there; none where they don't, and where one is not read.
 fn moved_by(
     alloc: Global,
     header: &Header,
     old: &[u8],
     new: &[u8],
+    start: Instant,
 ) -> Result<Option<u64>, AllocError>
-    ensures { IfOk result (λ found. IfSome found
-        (λ by. IsMovedBy header.now by old.now new.now)) }
+    ensures { IfOk result (λ found. MatchOption found
+        ((was : ℕ) (list : List Annotation) →
+        ReadsBoth header.now.start old.now new.now was start list → ⊥)
+        (λ by. (was : ℕ) × (list : List Annotation)
+        × ReadsBoth header.now.start old.now new.now was start list × (by ≡ apart was start))) }
 {
-    let Some(first) = first_block(header) else {
+    let Some(before) = read_anywhere(alloc, header, old)? else {
         return Ok(None);
     };
-    let Some(a) = parts_of(old, first) else {
+    let Some(after) = read_anywhere(alloc, header, new)? else {
         return Ok(None);
     };
-    let Some(b) = parts_of(new, first) else {
-        return Ok(None);
-    };
-    if a.front != b.front || a.back != b.back {
+    if after.0 != start || !same_notes(before.1.as_slice(), after.1.as_slice()) {
         return Ok(None);
     }
-    let Some((was, old_notes)) = read_anywhere(alloc, header, a.block)? else {
-        return Ok(None);
-    };
-    let Some((is, new_notes)) = read_anywhere(alloc, header, b.block)? else {
-        return Ok(None);
-    };
-    if !same_notes(old_notes.as_slice(), new_notes.as_slice()) {
-        return Ok(None);
-    }
-    Ok(Some(was.nanos().abs_diff(is.nanos())))
+    Ok(Some(before.0.nanos().abs_diff(after.0.nanos())))
 }
 
 /// A data record that starts at another time.
 #[derive(Drop)]
-struct Moved {
-    bytes: Vec<u8>,
-    changes: Vec<Change>,
-    by: u64,
+pub(crate) struct Moved {
+    pub(crate) bytes: Vec<u8>,
+    pub(crate) changes: Vec<Change>,
+    pub(crate) by: u64,
 }
 
-/// A data record, counted from 0, so that it starts there; none where it does, where its block has
-/// no room for the onset, where an annotation would move too, and where it is half a sample away
-/// or more.
-fn retimed(
+/// A data record so that it starts there; none where its block has no room for the onset, where an
+/// annotation would move too, and where it is half a sample away or more.
+pub(crate) fn retimed(
     alloc: Global,
     header: &Header,
     old: &[u8],
     start: Instant,
-    nth: u32,
-) -> Result<Option<Moved>, MendFault>
-    ensures retimed { IfOk result (λ found. IfSome found
-        (λ r. IsRetimed header.now r.by r.changes.items old.now r.bytes.items)) }
-    ensures refused { IfErr result (RefusesFor ⊤) }
-    ensures quiet { IfErr result IsQuiet }
+) -> Result<Option<Moved>, AllocError>
+    requires len { length old.now ≡ header.now.record_bytes }
+    requires read { (was : ℕ) × StartsAt header.now old.now was }
+    ensures { IfOk result (λ found. MatchOption found (MayNotMove header.now start old.now)
+        (λ m. IsMovedTo header.now start m.by m.changes.items old.now m.bytes.items)) }
 {
     let Some(first) = first_block(header) else {
         return Ok(None);
@@ -244,97 +294,20 @@ fn retimed(
     let Some(parts) = parts_of(old, first) else {
         return Ok(None);
     };
-    let made = with_start(alloc, header, parts, start)?;
-    let Some(by) = moved_by(alloc, header, old, made.bytes.as_slice())? else {
+    let onset = onset_of(alloc, header.start(), start)?;
+    let Some(block) = moved_block(alloc, parts.block, onset.as_slice())? else {
+        return Ok(None);
+    };
+    let Some(by) = moved_by(alloc, header, parts.block, block.as_slice(), start)? else {
         return Ok(None);
     };
     if by == 0 || !is_below_half_sample(alloc, header, by)? {
         return Ok(None);
     }
-    let changes = find_changes(alloc, header, old, &made, nth)?;
-    if changes.is_empty() {
-        return Ok(None);
-    }
-    Ok(Some(Moved {
-        bytes: made.bytes,
-        changes,
-        by,
-    }))
-}
-
-/// A data record, counted from 0, that starts so many durations after the first one, where that was
-/// asked for. It is as it was where it can't be moved there, and the first one always, since the
-/// others are counted from it.
-pub(crate) fn mend_clock(
-    alloc: Global,
-    header: &Header,
-    clock: Option<FragmentFault>,
-    old: Vec<u8>,
-    nth: u32,
-    telling: &mut Telling,
-) -> Result<Vec<u8>, MendFault>
-    ensures moved { IfOk result (λ new. IsMoved header.now nth old.items
-        telling.old telling.new new.items) }
-    ensures kept { clock ≡ None → MatchResult result (λ new. new.items ≡ old.items) (λ _. ⊥) }
-    ensures texts { telling.new.texts.items ≡ telling.old.texts.items }
-    ensures first { telling.new.first ≡ telling.old.first }
-    ensures unmoved { clock ≡ None → (telling.new.retimed.items ≡ telling.old.retimed.items)
-        × (telling.new.shift ≡ telling.old.shift) }
-    ensures refused { IfErr result (RefusesFor ⊤) }
-    ensures quiet { IfErr result IsQuiet }
-{
-    if clock.is_none() {
-        return Ok(old);
-    }
-    let Some(first) = telling.first else {
-        return Ok(old);
-    };
-    if nth == 0 {
-        return Ok(old);
-    }
-    let Some(start) = start_after(header, first, nth) else {
-        return Ok(old);
-    };
-    let Some(found) = retimed(alloc, header, old.as_slice(), start, nth)? else {
-        return Ok(old);
-    };
-    if telling
-        .retimed
-        .push(RecordChanges::of(nth, found.changes))
-        .is_err()
-    {
-        return Err(MendFault::Memory);
-    }
-    telling.shift = telling.shift.max(found.by);
-    Ok(found.bytes)
-}
-
-/// Finds that a data record, counted from 0, starts so many durations after the first one, where
-/// the starts are told anew; else the fault is told that the file had.
-pub(crate) fn keep_step(
-    header: &Header,
-    data_record: &Record,
-    clock: Option<FragmentFault>,
-    nth: u32,
-    telling: &mut Telling,
-) -> Result<(), MendFault>
-    ensures step { IfOk result (λ _. clock ≢ None → KeepsStep header.now nth telling.old.first
-        telling.new.first data_record.now.start) }
-    ensures texts { telling.new.texts.items ≡ telling.old.texts.items }
-    ensures retimed { telling.new.retimed.items ≡ telling.old.retimed.items }
-    ensures shift { telling.new.shift ≡ telling.old.shift }
-    ensures refused { IfErr result (RefusesFor (clock ≢ None)) }
-    ensures quiet { IfErr result IsQuiet }
-{
-    let Some(fault) = clock else {
-        return Ok(());
-    };
-    let Some(first) = telling.first else {
-        telling.first = Some(data_record.start());
-        return Ok(());
-    };
-    match start_after(header, first, nth) {
-        Some(start) if data_record.start() == start => Ok(()),
-        _ => Err(MendFault::Refused(fault)),
-    }
+    let mut changes = Vec::new(alloc);
+    add_change(alloc, &mut changes, first.at, parts.block, block.as_slice())?;
+    let mut bytes = Vec::from_slice(alloc, parts.front)?;
+    bytes.extend_from_slice(block.as_slice())?;
+    bytes.extend_from_slice(parts.back)?;
+    Ok(Some(Moved { bytes, changes, by }))
 }

@@ -1,20 +1,28 @@
 //! The rule `texts`: annotations blocks that are spelled otherwise (EDF+, time-stamped annotations
 //! lists).
 
-ghost use Rattle.std.specs.Prelude.{◌≡◌, ◌++◌, ◌∷◌, ◌↔◌, ⊤, false, length, IfOk, IfErr, IfSome};
-ghost use Rattle.std.specs.Prelude.{MatchResult, IsTrue, IsUtf8, encode_utf8_all, string_bytes};
+ghost use Rattle.std.specs.Prelude.{◌≡◌, ◌+◌, ◌^◌, ◌<◌, ◌⊎◌, ◌↔◌, ℕ, List, Option, ◌∷◌, ◌++◌};
+ghost use Rattle.std.specs.Prelude.{length, IfOk, IfErr, OnOk, MatchOption, IsTrue, All};
+ghost use Rattle.std.specs.Prelude.{string_bytes, encode_utf8_all};
+ghost use Rattle.std.specs.List.{AllByRecursion};
+ghost use Rattle.edf_header.specs.Header.{IsLayout};
+ghost use Rattle.edf_tal.specs.Tal.{IsText, ended};
+ghost use Rattle.edf_tal.specs.Inside.Scan.{Lacks, EndsWith20};
+ghost use Rattle.edf_mend.specs.Edits.{Edit};
+ghost use Rattle.edf_mend.specs.Texts.{WrittenTal, tal_bytes, IsTime, IsHalf, IsRounded};
+ghost use Rattle.edf_mend.specs.Texts.{IsTimeSpelled, IsTextSpelled, IsTalSpelled};
+ghost use Rattle.edf_mend.specs.Texts.{IsBlockSpelled, IsRespelled, IsToldRespelled};
+ghost use Rattle.edf_mend.specs.Texts.{IsBlockMade, IsBlockTold, AreBlocksTold, block_pairs};
 ghost use Rattle.edf_time.specs.Decimal.{IsDecimalFault};
-ghost use Rattle.edf_mend.specs.Answers.{RefusesFor};
-ghost use Rattle.edf_mend.specs.Rewritten.{IsTold};
-ghost use Rattle.edf_mend.specs.Texts.{IsHalf, IsRounded, IsRespelled};
-ghost use Rattle.edf_mend.specs.Inside.Faults.{IsQuiet};
+ghost use Rattle.edf_mend.specs.Told.{edits_from};
+ghost use Rattle.edf_mend.specs.Inside.Spelled.{duration_text, AreTimes, IsWrittenHead};
+ghost use Rattle.edf_mend.specs.Inside.Spelled.{IsWrittenFront, NoWrittenTal, IsSpelledTo};
+ghost use Rattle.edf_mend.specs.Inside.Spelled.{PutsTexts, IsToldOf};
 
-use crate::checking::are_text_changes;
+use crate::change::Change;
 use crate::fault::MendFault;
-use crate::fields::part;
-use crate::rewriting::{
-    Made, RecordChanges, find_changes, keep, not_rewritten, nothing_made, replace,
-};
+use crate::ledger::RecordChanges;
+use crate::telling::add_change;
 use edf_header::Header;
 use edf_time::{DecimalFault, read_seconds, write_seconds};
 use std::alloc::{AllocError, Global};
@@ -29,12 +37,13 @@ pub(crate) const DURATION_MARK: u8 = 21;
 /// The byte after a TAL.
 pub(crate) const TAL_END: u8 = 0;
 
-/// The TAL at the front of some bytes, whose times may be too fine, and whose texts any bytes.
+/// The list at the front of some bytes, whose times may be too fine, and whose texts any bytes.
 #[derive(Clone, Copy)]
 struct Front<'a> {
-    sign: &'a [u8],
+    sign: u8,
     onset: &'a [u8],
-    duration: Option<&'a [u8]>,
+    /// Nothing where it has none.
+    duration: &'a [u8],
     /// Its texts, each with the byte that ends it.
     texts: &'a [u8],
     /// What follows it.
@@ -43,7 +52,8 @@ struct Front<'a> {
 
 /// What comes before the first such byte, and what follows it.
 fn split_at_byte(bytes: &[u8], byte: u8) -> Option<(&[u8], &[u8])>
-    ensures { IfSome result (λ sides. bytes.now ≡ sides.0.now ++ byte ∷ sides.1.now) }
+    ensures { MatchOption result (Lacks byte bytes.now)
+        (λ sides. Lacks byte sides.0.now × (bytes.now ≡ sides.0.now ++ byte ∷ sides.1.now)) }
 {
     for (i, b) in bytes.iter().enumerate() {
         if *b == byte {
@@ -54,24 +64,81 @@ fn split_at_byte(bytes: &[u8], byte: u8) -> Option<(&[u8], &[u8])>
 }
 
 /// Whether a text is a decimal, however fine.
-fn is_decimal(text: &[u8]) -> bool {
-    !matches!(read_seconds(text), Err(DecimalFault::Syntax))
+fn is_decimal(text: &[u8]) -> bool
+    ensures { IsTrue result ↔ IsTime text.now }
+{
+    match read_seconds(text) {
+        Ok(_) => true,
+        Err(DecimalFault::Syntax) => false,
+        Err(DecimalFault::TooFine) => true,
+        Err(DecimalFault::TooLarge) => true,
+    }
 }
 
-/// The TAL at the front.
-fn first_tal(bytes: &[u8]) -> Option<Front<'_>> {
+/// An onset without its sign, and a duration, or nothing where there is none.
+fn times_in(bytes: &[u8]) -> Option<(&[u8], &[u8])>
+    ensures { MatchOption result
+        ((onset : List ℕ) (duration : Option (List ℕ)) → AreTimes bytes.now onset duration → ⊥)
+        (λ times. (duration : Option (List ℕ)) × AreTimes bytes.now times.0.now duration
+        × (times.1.now ≡ duration_text duration)) }
+{
+    match split_at_byte(bytes, DURATION_MARK) {
+        None => if is_decimal(bytes) {
+            Some((bytes, b"".as_slice()))
+        } else {
+            None
+        },
+        Some((onset, duration)) => {
+            if is_decimal(onset) && is_decimal(duration) {
+                Some((onset, duration))
+            } else {
+                None
+            }
+        }
+    }
+}
+
+/// A sign, an onset, and a duration or nothing: what a list has before its first byte 20.
+fn head_in(head: &[u8]) -> Option<(u8, &[u8], &[u8])>
+    ensures { MatchOption result
+        ((sign : ℕ) (onset : List ℕ) (duration : Option (List ℕ)) →
+        IsWrittenHead head.now sign onset duration → ⊥)
+        (λ parts. (duration : Option (List ℕ))
+        × IsWrittenHead head.now parts.0 parts.1.now duration
+        × (parts.2.now ≡ duration_text duration)) }
+{
+    match head {
+        [] => None,
+        [sign, times @ ..] => {
+            let (onset, duration) = times_in(times)?;
+            if *sign == b'+' || *sign == b'-' {
+                Some((*sign, onset, duration))
+            } else {
+                None
+            }
+        }
+    }
+}
+
+/// Whether the last byte, if there is one, ends a text.
+fn is_ended(texts: &[u8]) -> bool
+    ensures { IsTrue result ↔ EndsWith20 texts.now }
+{
+    texts.is_empty() || texts[texts.len() - 1] == TEXT_END
+}
+
+/// The list at the front.
+fn first_tal(bytes: &[u8]) -> Option<Front<'_>>
+    ensures { MatchOption result (NoWrittenTal bytes.now)
+        (λ f. (t : WrittenTal) × IsWrittenFront bytes.now f.sign f.onset.now f.duration.now
+        f.texts.now f.rest.now t) }
+{
     let (body, rest) = split_at_byte(bytes, TAL_END)?;
     let (head, texts) = split_at_byte(body, TEXT_END)?;
-    let (sign, times) = head.split_at(head.len().min(1));
-    let (onset, duration) = match split_at_byte(times, DURATION_MARK) {
-        Some((onset, duration)) => (onset, Some(duration)),
-        None => (times, None),
-    };
-    let is_signed = sign == b"+".as_slice() || sign == b"-".as_slice();
-    let is_ended = texts.is_empty() || texts.ends_with(b"\x14".as_slice());
-    if !is_signed || !is_ended || !is_decimal(onset) || !is_decimal(duration.unwrap_or(onset)) {
+    if !is_ended(texts) {
         return None;
     }
+    let (sign, onset, duration) = head_in(head)?;
     Some(Front {
         sign,
         onset,
@@ -91,65 +158,88 @@ fn is_half(digits: &[u8]) -> bool
     }
 }
 
-/// A decimal of nine digits after the dot, and further ones, rounded to the nanosecond; none where
-/// it is too large.
+/// The decimal of a whole part and nine digits behind the dot, rounded by the finer ones; nothing
+/// where it is too large.
 fn nearest(
     alloc: Global,
     whole: &[u8],
     nine: &[u8],
     finer: &[u8],
 ) -> Result<Option<Vec<u8>>, AllocError>
+    requires dot { Lacks 46 whole.now }
     requires nine { length nine.now ≡ 9 }
     requires too_fine { IsDecimalFault (whole.now ++ 46 ∷ (nine.now ++ finer.now))
         DecimalFault.TooFine }
-    ensures { IfOk result (λ found. IfSome found
+    ensures { IfOk result (λ found. MatchOption found
+        ((new : List ℕ) → IsRounded (whole.now ++ 46 ∷ (nine.now ++ finer.now)) new → ⊥)
         (λ new. IsRounded (whole.now ++ 46 ∷ (nine.now ++ finer.now)) new.items)) }
 {
     let mut front = Vec::from_slice(alloc, whole)?;
     front.push(b'.')?;
     front.extend_from_slice(nine)?;
-    let Ok(nanos) = read_seconds(front.as_slice()) else {
-        return Ok(None);
-    };
-    let up = if is_half(finer) { nanos + 1 } else { nanos };
-    Ok(Some(write_seconds(alloc, up)?))
+    match read_seconds(front.as_slice()) {
+        Err(_) => Ok(None),
+        Ok(nanos) => {
+            if nanos + 1 >= 1 << 63 {
+                return Ok(None);
+            }
+            let up = if is_half(finer) { nanos + 1 } else { nanos };
+            Ok(Some(write_seconds(alloc, up)?))
+        }
+    }
 }
 
-/// A decimal that is finer than a nanosecond, rounded to it.
+/// A decimal that is finer than a nanosecond, rounded to it; nothing where it is too large.
 fn round_off(alloc: Global, text: &[u8]) -> Result<Option<Vec<u8>>, AllocError>
     requires { IsDecimalFault text.now DecimalFault.TooFine }
-    ensures { IfOk result (λ found. IfSome found (λ new. IsRounded text.now new.items)) }
+    ensures { IfOk result (λ found. MatchOption found
+        ((new : List ℕ) → IsRounded text.now new → ⊥) (λ new. IsRounded text.now new.items)) }
 {
-    let Some((whole, fraction)) = split_at_byte(text, b'.') else {
-        return Ok(None);
-    };
-    if fraction.len() < 9 {
-        return Ok(None);
+    match split_at_byte(text, b'.') {
+        None => Ok(None),
+        Some((whole, fraction)) => {
+            if fraction.len() < 9 {
+                return Ok(None);
+            }
+            let (nine, finer) = fraction.split_at(9);
+            nearest(alloc, whole, nine, finer)
+        }
     }
-    let (nine, finer) = fraction.split_at(9);
-    nearest(alloc, whole, nine, finer)
 }
 
-/// A decimal that is finer than a nanosecond, rounded to the nanosecond; none for any other text.
-pub(crate) fn rounded(alloc: Global, text: &[u8]) -> Result<Option<Vec<u8>>, AllocError>
-    ensures { IfOk result (λ found. IfSome found (λ new. IsRounded text.now new.items)) }
+/// A decimal that is finer than a nanosecond, rounded to the nearest one; none for any other text,
+/// and where it is too large.
+fn rounded(alloc: Global, text: &[u8]) -> Result<Option<Vec<u8>>, AllocError>
+    ensures { IfOk result (λ found. MatchOption found
+        ((new : List ℕ) → IsRounded text.now new → ⊥) (λ new. IsRounded text.now new.items)) }
 {
     match read_seconds(text) {
+        Ok(_) => Ok(None),
+        Err(DecimalFault::Syntax) => Ok(None),
         Err(DecimalFault::TooFine) => round_off(alloc, text),
-        _ => Ok(None),
+        Err(DecimalFault::TooLarge) => Ok(None),
     }
 }
 
-/// Goes on with a time of a TAL.
-fn mend_time(alloc: Global, made: &mut Made, text: &[u8]) -> Result<(), AllocError> {
+/// Adds a time of a list.
+fn push_time(alloc: Global, new: &mut Vec<u8>, text: &[u8]) -> Result<(), AllocError>
+    ensures { OnOk result ((time : List ℕ) × IsTimeSpelled text.now time
+        × (new.new.items ≡ new.old.items ++ time)) }
+{
     match rounded(alloc, text)? {
-        Some(new) => replace(made, text.len(), new.as_slice()),
-        None => keep(made, text),
+        Some(time) => {
+            new.extend_from_slice(time.as_slice())?;
+            Ok(())
+        }
+        None => {
+            new.extend_from_slice(text)?;
+            Ok(())
+        }
     }
 }
 
 /// A text of Latin-1 as UTF-8 has it.
-pub(crate) fn latin_as_utf8(alloc: Global, text: &[u8]) -> Result<String, AllocError>
+fn latin_as_utf8(alloc: Global, text: &[u8]) -> Result<String, AllocError>
     ensures { IfOk result (λ new. string_bytes new ≡ encode_utf8_all text.now) }
 {
     let mut new = String::new(alloc);
@@ -159,152 +249,169 @@ pub(crate) fn latin_as_utf8(alloc: Global, text: &[u8]) -> Result<String, AllocE
     Ok(new)
 }
 
-/// Whether a text is no UTF-8.
-pub(crate) fn is_no_utf8(text: &[u8]) -> bool
-    ensures { IsTrue result → ¬ IsUtf8 text.now }
+/// Adds a text of a list: one of UTF-8 as it is, any other as one of Latin-1.
+fn push_text(alloc: Global, new: &mut Vec<u8>, text: &[u8]) -> Result<(), AllocError>
+    ensures { OnOk result ((made : List ℕ) × IsTextSpelled text.now made
+        × (new.new.items ≡ new.old.items ++ made)) }
 {
-    str::from_utf8(text).is_err()
-}
-
-/// Goes on with a text of a TAL.
-fn mend_text(alloc: Global, made: &mut Made, text: &[u8]) -> Result<(), AllocError> {
-    if !is_no_utf8(text) {
-        return keep(made, text);
+    if str::from_utf8(text).is_ok() {
+        return new.extend_from_slice(text);
     }
-    let new = latin_as_utf8(alloc, text)?;
-    replace(made, text.len(), new.as_bytes())
+    let made = latin_as_utf8(alloc, text)?;
+    new.extend_from_slice(made.as_bytes())
 }
 
-/// Goes on with texts, each of which has a byte that ends it.
-fn mend_all(alloc: Global, made: &mut Made, texts: &[u8]) -> Result<(), AllocError> {
+/// Adds texts, each of which has a byte that ends it.
+fn push_texts(alloc: Global, new: &mut Vec<u8>, texts: &[u8]) -> Result<(), AllocError>
+    ensures { (olds : List (List ℕ)) → texts.now ≡ ended olds → AllByRecursion IsText olds →
+        OnOk result (PutsTexts olds new.old.items new.new.items) }
+{
     let mut rest = texts;
-    for _ in 0..texts.len() {
-        let Some((text, more)) = split_at_byte(rest, TEXT_END) else {
-            return Ok(());
-        };
-        mend_text(alloc, made, text)?;
-        keep(made, b"\x14".as_slice())?;
+    while let Some((text, more)) = split_at_byte(rest, TEXT_END) {
+        push_text(alloc, new, text)?;
+        new.push(TEXT_END)?;
         rest = more;
     }
     Ok(())
 }
 
-/// Goes on with a TAL.
-fn mend_tal(alloc: Global, made: &mut Made, tal: &Front<'_>) -> Result<(), AllocError> {
-    keep(made, tal.sign)?;
-    mend_time(alloc, made, tal.onset)?;
-    if let Some(duration) = tal.duration {
-        keep(made, b"\x15".as_slice())?;
-        mend_time(alloc, made, duration)?;
+/// A list as EDF+ spells it.
+fn spelled_tal(alloc: Global, tal: &Front<'_>) -> Result<Vec<u8>, AllocError>
+    ensures { (bytes : List ℕ) (old : WrittenTal) → IsWrittenFront bytes tal.now.sign
+        tal.now.onset.now tal.now.duration.now tal.now.texts.now tal.now.rest.now old →
+        IfOk result (λ v. (new : WrittenTal) × IsTalSpelled old new
+        × (v.items ≡ tal_bytes new)) }
+{
+    let mut new = Vec::from_slice(alloc, &[tal.sign])?;
+    push_time(alloc, &mut new, tal.onset)?;
+    if !tal.duration.is_empty() {
+        new.push(DURATION_MARK)?;
+        push_time(alloc, &mut new, tal.duration)?;
     }
-    keep(made, b"\x14".as_slice())?;
-    mend_all(alloc, made, tal.texts)?;
-    keep(made, b"\x00".as_slice())
+    new.push(TEXT_END)?;
+    push_texts(alloc, &mut new, tal.texts)?;
+    new.push(TAL_END)?;
+    Ok(new)
 }
 
-/// Goes on with what fills a block after its TALs: so many zeros. What could be a TAL is no fill,
-/// and is kept.
-fn mend_fill(alloc: Global, made: &mut Made, fill: &[u8], room: usize) -> Result<(), AllocError> {
-    if fill.iter().any(|b| *b == TEXT_END) {
-        return keep(made, fill);
+/// A block that is spelled again, and what changed of it.
+#[derive(Drop)]
+struct SpelledBlock {
+    bytes: Vec<u8>,
+    changes: Vec<Change>,
+}
+
+/// The lists at the front of a block, spelled again, and what follows them. The block begins at this
+/// offset of its data record.
+fn spelled_tals(alloc: Global, block: &[u8], at: usize) -> Result<(SpelledBlock, &[u8]), AllocError>
+    requires { at + length block.now < 2 ^ 63 }
+    ensures spelled { IfOk result (λ r. IsSpelledTo at block.now r.1.now r.0.bytes.items
+        r.0.changes.items) }
+    ensures last { IfOk result (λ r. NoWrittenTal r.1.now) }
+{
+    let mut bytes = Vec::new(alloc);
+    let mut changes = Vec::new(alloc);
+    let mut rest = block;
+    while let Some(tal) = first_tal(rest) {
+        let passed = at + (block.len() - rest.len());
+        let (old, _) = rest.split_at(rest.len() - tal.rest.len());
+        let new = spelled_tal(alloc, &tal)?;
+        add_change(alloc, &mut changes, passed, old, new.as_slice())?;
+        bytes.extend_from_slice(new.as_slice())?;
+        rest = tal.rest;
     }
-    if fill.iter().any(|b| *b != 0) {
-        let zeros = vec![in alloc; 0u8; room]?;
-        return replace(made, fill.len(), zeros.as_slice());
+    Ok((SpelledBlock { bytes, changes }, rest))
+}
+
+/// Whether bytes are zeros and spaces.
+fn is_fill(bytes: &[u8]) -> bool
+    ensures { IsTrue result ↔ All (λ b. (b ≡ 0) ⊎ (b ≡ 32)) bytes.now }
+{
+    bytes.iter().all(|b| *b == 0 || *b == b' ')
+}
+
+/// A block with its lists spelled again and zeros to its end; nothing where it is no lists and a
+/// fill of zeros and spaces, or has no room. It begins at this offset of its data record.
+fn spelled_block(alloc: Global, block: &[u8], at: usize) -> Result<Option<SpelledBlock>, AllocError>
+    requires { at + length block.now < 2 ^ 63 }
+    ensures { IfOk result (λ found. MatchOption found
+        ((new : List ℕ) → IsBlockSpelled block.now new → ⊥)
+        (λ made. (s : IsBlockSpelled block.now made.bytes.items)
+        × (made.changes.items ≡ edits_from at (block_pairs s)))) }
+{
+    let (
+        SpelledBlock {
+            mut bytes,
+            mut changes,
+        },
+        rest,
+    ) = spelled_tals(alloc, block, at)?;
+    if bytes.len() > block.len() || !is_fill(rest) {
+        return Ok(None);
     }
-    let (more, rest) = fill.split_at(fill.len().saturating_sub(room));
-    if !more.is_empty() {
-        replace(made, more.len(), b"".as_slice())?;
-    }
-    keep(made, rest)?;
-    if room > fill.len() {
-        let zeros = vec![in alloc; 0u8; room - fill.len()]?;
-        replace(made, 0, zeros.as_slice())?;
+    let zeros = vec![in alloc; 0u8; block.len() - bytes.len()]?;
+    let passed = at + (block.len() - rest.len());
+    add_change(alloc, &mut changes, passed, rest, zeros.as_slice())?;
+    bytes.extend_from_slice(zeros.as_slice())?;
+    Ok(Some(SpelledBlock { bytes, changes }))
+}
+
+/// Spells a block of a data record again, where it can be, and tells what changed. It begins at this
+/// offset.
+fn spell_block(
+    alloc: Global,
+    block: &mut [u8],
+    at: usize,
+    changes: &mut Vec<Change>,
+) -> Result<(), AllocError>
+    requires { at + length block.old < 2 ^ 63 }
+    ensures made { OnOk result (IsBlockMade block.old block.new) }
+    ensures told { OnOk result ((here : List Edit) × IsBlockTold at block.old block.new here
+        × (changes.new.items ≡ changes.old.items ++ here)) }
+{
+    if let Some(mut made) = spelled_block(alloc, block, at)? {
+        block.copy_from_slice(made.bytes.as_slice());
+        changes.append(&mut made.changes)?;
     }
     Ok(())
 }
 
-/// Goes on with an annotations block.
-fn mend_block(alloc: Global, made: &mut Made, block: &[u8]) -> Result<(), AllocError> {
-    let before = made.bytes.len();
-    let mut rest = block;
-    for _ in 0..block.len() {
-        let Some(tal) = first_tal(rest) else {
-            break;
-        };
-        mend_tal(alloc, made, &tal)?;
-        rest = tal.rest;
-    }
-    let used = made.bytes.len().saturating_sub(before);
-    let room = block.len().saturating_sub(used);
-    mend_fill(alloc, made, rest, room)
-}
-
-/// A data record with its blocks mended.
-fn mend_blocks(alloc: Global, header: &Header, old: &[u8]) -> Result<Made, AllocError> {
-    let mut made = nothing_made(alloc);
-    let mut from = 0usize;
+/// Spells the blocks of a data record again, each where it can be; what changed.
+fn spell_blocks(alloc: Global, header: &Header, bytes: &mut [u8]) -> Result<Vec<Change>, AllocError>
+    requires { length bytes.old ≡ header.now.record_bytes }
+    ensures respelled { OnOk result (IsRespelled header.now bytes.old bytes.new) }
+    ensures told { IfOk result
+        (λ changes. AreBlocksTold header.now.blocks bytes.old bytes.new changes.items) }
+    ensures layout { IsLayout header.now }
+{
+    let mut changes = Vec::new(alloc);
     for block in header.blocks() {
-        keep(&mut made, part(old, from, block.at.saturating_sub(from)))?;
-        mend_block(alloc, &mut made, part(old, block.at, block.bytes))?;
-        from = block.at.saturating_add(block.bytes);
+        let end = block.at + block.bytes;
+        spell_block(alloc, &mut bytes[block.at..end], block.at, &mut changes)?;
     }
-    keep(&mut made, part(old, from, old.len().saturating_sub(from)))?;
-    Ok(made)
+    Ok(changes)
 }
 
-/// Mends a data record, counted from 0, and tells it where it is another then.
-fn respell(
+/// A data record, counted from 0, as the rule `texts` leaves it, told where it is another then.
+pub(crate) fn mend_texts(
     alloc: Global,
     header: &Header,
-    old: Vec<u8>,
+    bytes: &mut [u8],
     nth: u32,
     told: &mut Vec<RecordChanges>,
-) -> Result<Vec<u8>, MendFault>
-    ensures told { IfOk result (λ new. IsTold (IsRespelled header.now) nth old.items
-        told.old.items told.new.items new.items) }
-    ensures refused { IfErr result (RefusesFor ⊤) }
-    ensures quiet { IfErr result IsQuiet }
+) -> Result<(), MendFault>
+    requires { length bytes.old ≡ header.now.record_bytes }
+    ensures respelled { OnOk result (IsRespelled header.now bytes.old bytes.new) }
+    ensures told { OnOk result (IsToldOf (IsToldRespelled header.now) nth bytes.old
+        told.old.items told.new.items bytes.new) }
+    ensures memory { IfErr result (λ why. why ≡ MendFault.Memory) }
 {
-    let made = mend_blocks(alloc, header, old.as_slice())?;
-    if made.bytes.len() != old.len() {
-        return Ok(old);
-    }
-    let changes = find_changes(alloc, header, old.as_slice(), &made, nth)?;
+    let changes = spell_blocks(alloc, header, bytes)?;
     if changes.is_empty() {
-        return Ok(old);
-    }
-    if !are_text_changes(alloc, header, old.as_slice(), changes.as_slice())? {
-        return Err(not_rewritten(nth));
+        return Ok(());
     }
     if told.push(RecordChanges::of(nth, changes)).is_err() {
         return Err(MendFault::Memory);
     }
-    Ok(made.bytes)
-}
-
-/// A data record, counted from 0, whose texts of Latin-1 became UTF-8, whose times are rounded to
-/// the nanosecond, and whose blocks are filled with zeros, where that was asked for. It is as it
-/// was where there is no room for it.
-pub(crate) fn mend_texts(
-    alloc: Global,
-    header: &Header,
-    is_wanted: bool,
-    old: Vec<u8>,
-    nth: u32,
-    told: &mut Vec<RecordChanges>,
-) -> Result<Vec<u8>, MendFault>
-    ensures told { IfOk result
-        (λ new. IsTold (IsRespelled header.now) nth old.items told.old.items told.new.items
-        new.items) }
-    ensures kept { is_wanted ≡ false →
-        MatchResult result (λ new. new.items ≡ old.items) (λ _. ⊥) }
-    ensures untold { is_wanted ≡ false → told.new.items ≡ told.old.items }
-    ensures refused { IfErr result (RefusesFor ⊤) }
-    ensures quiet { IfErr result IsQuiet }
-{
-    if !is_wanted {
-        return Ok(old);
-    }
-    respell(alloc, header, old, nth, told)
+    Ok(())
 }

@@ -47,12 +47,21 @@ fn on_header(fault: &HeaderFault) -> Row {
         ),
         HeaderFault::Recording(_) => Field(
             ": edfmend makes it that of EDF+, where it has room",
-            ": the field has no room for what EDF+ wants there and the word mended, or the \
-            startdate is no date, so correct that in a copy",
+            ": its date is none that is known, or its codes have no room, or the startdate is no \
+            date, so correct that in a copy",
         ),
-        HeaderFault::Startdate => Never(": look at its spelling, and at the recorder's clock"),
-        HeaderFault::Starttime => Never(": look at its spelling, and at the recorder's clock"),
-        HeaderFault::DatesDiffer => Never(": one was edited, so find out which is right"),
+        HeaderFault::Startdate => Behind(
+            ": look at its spelling, and at the recorder's clock",
+            ": give it by --startdate, where the file has none",
+        ),
+        HeaderFault::Starttime => Behind(
+            ": look at its spelling, and at the recorder's clock",
+            ": give it by --starttime, where the file has none",
+        ),
+        HeaderFault::DatesDiffer => Behind(
+            ": one was edited, so find out which is right",
+            ": one was edited; where the startdate is right, name recording in --as",
+        ),
         HeaderFault::NotPlus => Instead(
             ": edfstore and edfruns take EDF+ alone; edfmend makes EDF+ of it",
             "edfmend has no rule for this: see man edfmend",
@@ -67,7 +76,10 @@ fn on_header(fault: &HeaderFault) -> Row {
             ": annotations alone are no recording, and edfmend adds a signal of them only to plain \
             EDF and EDF+C",
         ),
-        HeaderFault::HeaderBytes => Never(": have its producer write it again"),
+        HeaderFault::HeaderBytes => Behind(
+            ": have its producer write it again",
+            ", for its signals and its end don't agree: have its producer write it again",
+        ),
         HeaderFault::CutSignals => Never(", so it was cut: send it again"),
         HeaderFault::UnprintableSignals { .. } => Instead(
             ", often a micro or degree sign: edfmend spells them in ASCII",
@@ -111,9 +123,8 @@ fn on_blocks(fault: &TalFault) -> Row {
         TalFault::Window => Never(": look at the clock"),
         TalFault::Order => Instead(
             ": a clock was set back, or starts are rounded, which edfmend mends in EDF+C",
-            "the rule clock is for EDF+C, and runs by itself only where this is the first fault: \
-            name the rules, as by --as ascii,clock; starts that are half a sample or more from \
-            their places are not mended",
+            "the rule clock is for EDF+C, and moves all starts that were rounded or none: one is \
+            half a sample or more from its place, or its block has no room",
         ),
         TalFault::TooMany => Never(": its producer is to spread them"),
         TalFault::Memory => Never(""),
@@ -132,8 +143,8 @@ pub(crate) fn row_of(fault: &FragmentFault) -> Row {
         FragmentFault::Tal { fault, .. } => on_blocks(fault),
         FragmentFault::Trailing => Instead(
             ": files were joined, or its count is wrong, which edfmend mends",
-            "only zeros follow the counted data records, as many as one has, or more: cut them off \
-            in a copy",
+            "bytes follow its counted data records: where they are its own, name count in --as; \
+            zeros, cut them off in a copy",
         ),
         FragmentFault::Read | FragmentFault::Memory | FragmentFault::Failed => Never(""),
     }

@@ -29,16 +29,9 @@ fn explain_form(terminal: &Terminal<'_>, name: &str, fault: &FragmentFault) {
     }
 }
 
-/// Explains what is no fault of form, and E4 and E5 of `edfmend` where the file's own fields are
-/// right.
+/// Explains what is no fault of form.
 fn explain_number(terminal: &Terminal<'_>, name: &str, number: u8) {
     let words = match number {
-        4 | 5 if terminal.mending() == ByNamed => BY_NAMED,
-        4 => "its patient field can't be made that of EDF+: correct it in a copy",
-        5 => {
-            "its recording field has no room for the word mended at its end: shorten it to 73 \
-            characters in a copy"
-        }
         30 => {
             "it overlaps what is stored, which stays, as where a clock was set back: keep the \
             file; a store of its own takes it"

@@ -22,7 +22,7 @@ fn told_of_good(command: &MendCommand) -> &'static str {
 
 /// By which rules a command mends.
 fn mending_of(command: &MendCommand) -> Mending {
-    if command.rules.is_empty() {
+    if command.wanted.rules.is_empty() {
         Mending::ByAll
     } else {
         Mending::ByNamed

@@ -1,3 +1,6 @@
 mod Mending
 mod Opened
 mod Told
+mod Named
+mod Starts
+mod TwoWords

@@ -1,63 +1,93 @@
 -- A second reading, and the file that is made in it.
 use Rattle.std.proofs.Common.{◌≡◌, ◌≢◌, ℕ, List, [], ◌∷◌, ◌++◌, Bool}
-use Rattle.std.proofs.Common.{true, false, Option, Some, None, refl, ap, ◌∙◌, subst, inl, inr}
-use Rattle.std.specs.Prelude.{Result, Ok, Err, IfOk, IfErr, MatchResult, IfSome, All}
+use Rattle.std.proofs.Common.{true, false, Option, Some, None, refl, ap, sym, ◌∙◌, subst, inl, inr}
+use Rattle.std.specs.Prelude.{Result, Ok, Err, IfOk, IfErr, MatchResult, IfSome, ◌⊎◌}
 use Rattle.std.proofs.KnownBytes.{Consumes-whole}
-use Rattle.edf_header.specs.Key.{Key}
 use Rattle.edf_fragment.specs.Failures.{one_more}
-use Rattle.edf_fragment.specs.Fragment.{DataRecord, Spells}
-use Rattle.edf_fragment.specs.declared.fault.FragmentFault.{FragmentFault}
-use Rattle.edf_mend.specs.Answers.{AsksCode, IsTrouble}
-use Rattle.edf_mend.specs.Asked.{IsAsked}
-use Rattle.edf_mend.specs.Mended.{Mends, TellsNone, SurveysAs}
+use Rattle.edf_mend.specs.Answers.{IsRefusal}
+use Rattle.edf_mend.specs.Mended.{Mends}
+use Rattle.edf_mend.specs.Survey.{IsSurveyOf}
 use Rattle.edf_mend.specs.declared.fault.MendFault.{MendFault}
-use Rattle.edf_mend.specs.declared.fault.MendFault.TheVariants.{Write}
+use Rattle.edf_mend.specs.declared.fault.MendFault.TheVariants.{Write, Read, Memory, Changed}
 use Rattle.edf_mend.specs.declared.ledger.Ledger.{Ledger}
-use Rattle.edf_mend.specs.declared.rule.Rule.{Rule}
-use Rattle.edf_mend.proofs.OneToOne.{unchanged}
-use Rattle.edf_mend.proofs.Surveyed.{no-fault}
+use Rattle.edf_mend.specs.declared.surveying.Survey.{Survey}
+use Rattle.edf_mend.specs.declared.wanted.Wanted.{Wanted}
 use Rattle.edf_new_files.specs.Made.{MadeFile, finished, removed, kept, failed_with}
 use Rattle.edf_new_files.specs.Making.{Making}
 use Rattle.edf_new_files.specs.There.{There}
-use Rattle.edfmend_command.specs.Run.{IsFragmentFile, IsMendedFile, IsNotMended, CountsWrite}
+use Rattle.edfmend_command.specs.Run.{IsMendedFile, IsNotMended, CountsWrite}
 use Rattle.edfmend_command.specs.Run.{LeavesPart}
-use Rattle.edfmend_command.specs.Inside.{MendsAs, StopsMending, MakesFile, StopsMaking}
+use Rattle.edfmend_command.specs.Inside.{Surveys, MendsAs, MakesFile, StopsMaking}
 use Rattle.edfmend_command.specs.declared.mend_command.Stop.{Stop}
 
 -- ---- a second reading
 
-module _ (bytes given : Option (List ℕ)) (rules : List Rule) (fault : Option FragmentFault)
-    (left rest before after : Option (List ℕ)) (is : left ≡ bytes) where
-  mends-as : (ledger : Ledger) → Mends left rest before after given ledger →
-      (fault ≡ None → TellsNone ledger) →
-      (rules ≢ [] → All (IsAsked rules) ledger.steps.items) →
-      MendsAs bytes given rules fault before after ledger
-  mends-as ledger m none only = record {
-    old = m.old;
-    new = m.new;
-    old_is = subst (λ (b : Option (List ℕ)). IfSome b (λ known. known ≡ m.old)) is
-        (Consumes-whole left rest m.old (λ known. known ≡ m.old) m.read m.end refl);
-    wrote = m.wrote;
-    mended = m.mended;
-    kept = λ e. (unchanged m.old m.new given ledger m.mended (none e), none e);
-    only = only;
-    says = m.says;
-  }
+module _ (w : Wanted) (survey : Survey) where
+  not-mended : (bytes : Option (List ℕ)) (why : MendFault) →
+      IfSome bytes (λ file. IsRefusal w file why) →
+      ((file : List ℕ) → bytes ≡ Some file → IsSurveyOf w file survey → why ≢ Changed) →
+      Surveys bytes w survey → IsNotMended bytes w why
+  not-mended None why refused unchanged surveyed = tt
+  not-mended (Some file) why refused unchanged surveyed =
+      (refused, unchanged file refl surveyed)
 
-  pub answered : (result : Result Ledger MendFault) →
-      IfOk result (λ ledger. Mends left rest before after given ledger) →
-      (fault ≡ None → IfOk result TellsNone) →
-      IfOk result (λ ledger. rules ≢ [] → All (IsAsked rules) ledger.steps.items) →
-      ((known : List ℕ) (key : Key) (records : List DataRecord) → fault ≡ None →
-      left ≡ Some known → Spells known key records → IfErr result IsTrouble) →
-      IfErr result (AsksCode given) →
-      MatchResult result (MendsAs bytes given rules fault before after)
-      (StopsMending bytes given rules fault)
-  answered (Ok ledger) mends none only welcome asked = mends-as ledger mends none only
-  answered (Err why) mends none only welcome asked = record {
-    asked = asked;
-    welcome = λ e file. welcome file.0 file.1 file.2 e (is ∙ file.3) file.4;
-  }
+  module _ (bytes left rest before after : Option (List ℕ)) (is : left ≡ bytes) where
+    pub answered : (result : Result Ledger MendFault) →
+        IfOk result (λ ledger. Mends w left rest before after ledger) →
+        IfErr result (λ why. IfSome left (λ file. IsRefusal w file why)) →
+        ((file : List ℕ) → left ≡ Some file → IsSurveyOf w file survey →
+        IfErr result (λ why. why ≢ Changed)) →
+        Surveys bytes w survey →
+        MatchResult result (MendsAs bytes w before after) (IsNotMended bytes w)
+    answered (Ok ledger) m refused unchanged surveyed = record {
+      new = m.new;
+      is_mended = record {
+        old = m.old;
+        old_is = subst (λ (b : Option (List ℕ)). IfSome b (λ known. known ≡ m.old)) is
+            (Consumes-whole left rest m.old (λ known. known ≡ m.old) m.read m.end refl);
+        mended = m.mended;
+        unread = m.unread;
+      };
+      wrote = m.wrote;
+    }
+    answered (Err why) m refused unchanged surveyed = not-mended bytes why
+        (subst (λ (b : Option (List ℕ)). IfSome b (λ file. IsRefusal w file why)) is refused)
+        (λ file known. unchanged file (is ∙ known)) surveyed
+
+  module _ (bytes left before after : Option (List ℕ)) (is : left ≡ bytes) where
+    mended-of : (result : Result Ledger MendFault) →
+        MatchResult result (MendsAs bytes w before after) (IsNotMended bytes w) →
+        MatchResult result (λ ledger. (new : List ℕ) × IsMendedFile bytes w ledger new)
+        (IsNotMended bytes w)
+    mended-of (Ok ledger) m = (m.new, m.is_mended)
+    mended-of (Err why) m = m
+
+    pub both-read : (result : Result Ledger MendFault) → Surveys bytes w survey →
+        (Surveys left w survey →
+        MatchResult result (MendsAs left w before after) (IsNotMended left w)) →
+        MatchResult result (λ ledger. (new : List ℕ) × IsMendedFile bytes w ledger new)
+        (IsNotMended bytes w)
+    both-read result surveyed answer = mended-of result (subst (λ (b : Option (List ℕ)).
+        Surveys b w survey → MatchResult result (MendsAs b w before after) (IsNotMended b w)) is
+        answer surveyed)
+
+-- a failed read and want of memory say nothing of the bytes
+pub not-read : (bytes : Option (List ℕ)) (w : Wanted) → IsNotMended bytes w Read
+not-read None w = tt
+not-read (Some file) w = (tt, λ e. cc)
+
+pub no-memory : (bytes : Option (List ℕ)) (w : Wanted) → IsNotMended bytes w Memory
+no-memory None w = tt
+no-memory (Some file) w = (tt, λ e. cc)
+
+pub not-written : (bytes : Option (List ℕ)) (w : Wanted) → IsNotMended bytes w Write
+not-written None w = tt
+not-written (Some file) w = (tt, λ e. cc)
+
+pub unread : (bytes : Option (List ℕ)) (w : Wanted) (why : MendFault) →
+    (why ≡ Read) ⊎ (why ≡ Memory) → IsNotMended bytes w why
+unread bytes w why (inl is) = subst (IsNotMended bytes w) (sym is) (not-read bytes w)
+unread bytes w why (inr is) = subst (IsNotMended bytes w) (sym is) (no-memory bytes w)
 
 -- the writer of a file that is left half written, none of whose writes had failed, was taken back
 pub abandoned : (failed failed' start end : ℕ) (why : MendFault) → start ≡ 0 →
@@ -66,52 +96,6 @@ abandoned failed failed' start end Write none counts is =
     is ∙ ap (failed_with failed) (counts ∙ ap one_more none)
 abandoned failed failed' start end why none counts is =
     is ∙ ap (failed_with failed) (counts ∙ none)
-
--- ---- both readings
-
-welcome-file : (bytes : Option (List ℕ)) (fault : Option FragmentFault) → SurveysAs bytes fault →
-    IsFragmentFile bytes → fault ≡ None
-welcome-file bytes fault surveyed file = no-fault file.0 file.1 file.2 fault file.4
-    (subst (λ (b : Option (List ℕ)). SurveysAs b fault) file.3 surveyed)
-
-module _ (bytes given : Option (List ℕ)) (rules : List Rule) (fault : Option FragmentFault)
-    (surveyed : SurveysAs bytes fault) where
-  pub is-mended : (before after : Option (List ℕ)) (ledger : Ledger) →
-      (m : MendsAs bytes given rules fault before after ledger) →
-      IsMendedFile bytes given rules ledger m.new
-  is-mended before after ledger m = record {
-    fault = fault;
-    surveyed = surveyed;
-    old = m.old;
-    old_is = m.old_is;
-    mended = m.mended;
-    kept = m.kept;
-    welcome = welcome-file bytes fault surveyed;
-    only = m.only;
-    says = m.says;
-  }
-
-  pub is-not-mended : (why : MendFault) → StopsMending bytes given rules fault why →
-      IsNotMended bytes given why
-  is-not-mended why stops = record {
-    asked = stops.asked;
-    welcome = λ file. stops.welcome (welcome-file bytes fault surveyed file) file;
-  }
-
-module _ (bytes given : Option (List ℕ)) (rules : List Rule) (fault : Option FragmentFault)
-    (left before after : Option (List ℕ)) (same : left ≡ bytes)
-    (surveyed : SurveysAs bytes fault) where
-  pub both-read : (result : Result Ledger MendFault) →
-      MatchResult result (MendsAs left given rules fault before after)
-      (StopsMending left given rules fault) →
-      MatchResult result (λ ledger. (new : List ℕ) × IsMendedFile bytes given rules ledger new)
-      (IsNotMended bytes given)
-  both-read (Ok ledger) answer =
-      let m = subst (λ (b : Option (List ℕ)). MendsAs b given rules fault before after ledger) same
-      answer in
-      (m.new, is-mended bytes given rules fault surveyed before after ledger m)
-  both-read (Err why) answer = is-not-mended bytes given rules fault surveyed why
-      (subst (λ (b : Option (List ℕ)). StopsMending b given rules fault why) same answer)
 
 -- ---- after it was asked whether there is something of a name
 
@@ -145,29 +129,30 @@ module _ (known known' : Bool) (there there' : There)
     left ∙ ap (λ (l : List MadeFile). l ++ (removed part ∷ [])) b,
   )
 
-  module _ (bytes left given : Option (List ℕ)) (rules : List Rule) (fault : Option FragmentFault)
-      (same : left ≡ bytes) where
+  module _ (bytes left : Option (List ℕ)) (w : Wanted) (same : left ≡ bytes) where
     pub asked-makes : (ledger : Ledger) →
-        MakesFile left given rules fault (made-by known' there' before' failed' after end) name
-        ledger →
-        MakesFile bytes given rules fault (made-by known there before failed after end) name ledger
+        MakesFile left w (made-by known' there' before' failed' after end) name ledger →
+        MakesFile bytes w (made-by known there before failed after end) name ledger
     asked-makes ledger x = record {
       start = x.start;
       empty = λ e. x.empty (k ∙ e);
       held = x.held;
-      mends = subst (λ (l : Option (List ℕ)).
-          MendsAs l given rules fault x.start x.held ledger) same x.mends;
+      mends = subst (λ (l : Option (List ℕ)). MendsAs l w x.start x.held ledger) same x.mends;
       made = x.made ∙ ap (λ (l : List MadeFile). l ++ (finished name x.held ∷ [])) b;
       unfailed = x.unfailed ∙ f;
     }
 
     pub asked-stops : (stop : Stop) →
-        StopsMaking left given rules fault (made-by known' there' before' failed' after end) name
-        stop →
-        StopsMaking bytes given rules fault (made-by known there before failed after end) name stop
+        StopsMaking left w (made-by known' there' before' failed' after end) name stop →
+        StopsMaking bytes w (made-by known there before failed after end) name stop
     asked-stops stop x = record {
-      stops = subst (λ (l : Option (List ℕ)). StopsMending l given rules fault stop.fault) same
-          x.stops;
+      stops = subst (λ (l : Option (List ℕ)). IsNotMended l w stop.fault) same x.stops;
       leaves = leaves-part stop.is_left x.leaves;
       counted = subst (λ (n : ℕ). CountsWrite n end stop.fault) f x.counted;
     }
+
+-- what was found is found of the same bytes
+pub asked-surveys : (bytes left : Option (List ℕ)) (w : Wanted) (survey : Survey) →
+    left ≡ bytes → Surveys bytes w survey → Surveys left w survey
+asked-surveys bytes left w survey same surveyed =
+    subst (λ (b : Option (List ℕ)). Surveys b w survey) (sym same) surveyed

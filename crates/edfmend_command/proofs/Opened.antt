@@ -10,10 +10,16 @@ use Rattle.edf_fragment.specs.Fault.{fragment_fault_number}
 use Rattle.edf_program.specs.Status.{is_trouble}
 use Rattle.edf_mend.specs.declared.fault.MendFault.{MendFault}
 use Rattle.edf_mend.specs.declared.fault.MendFault.TheVariants as fault
-use Rattle.edfmend_command.specs.Lines.{at_fault, why_text, why_status, kept_line, kept_status}
+use Rattle.edfmend_command.specs.Lines.{why_line, memory_line, why_status, kept_line, kept_status}
 use Rattle.edfmend_command.specs.Run.{OpensTwice, SaysWhy}
 use Rattle.edf_program.specs.Opened.{OpensUpTo}
 use Rattle.edf_program.proofs.Undone.{undone, either-undone}
+
+pub once : {T E : Type 0} (r : Result T E) (before after : List (List ℕ)) (name : List ℕ) →
+    after ≡ before ++ (name ∷ []) → MatchResult r (λ _. after ≡ before ++ replicate 1 name)
+    (λ _. OpensUpTo before after name 1)
+once (Ok x) before after name is = is
+once (Err e) before after name is = record { times = 1; few = omega arith; opened = is }
 
 pub then-up : (before mid after : List (List ℕ)) (name : List ℕ) → mid ≡ before ++ (name ∷ []) →
     OpensUpTo mid after name 1 → OpensUpTo before after name 2
@@ -63,11 +69,10 @@ pub says-undone : (err : Growth) (old_name new_name : List ℕ) (why : MendFault
     (kept : Option (List ℕ)) (status : Status) →
     SaysWhy err old_name new_name why kept status → status ≢ Done
 says-undone err old_name new_name why kept status (inl said) = undone err
-    (at_fault old_name new_name why ++ (why_text why ++ kept_line kept))
-    (kept_status kept (why_status why)) status
+    (why_line old_name new_name why ++ kept_line kept) (kept_status kept (why_status why)) status
     (kept-undone kept (why_status why) (why-undone why)) said
 says-undone err old_name new_name why kept status (inr said) = undone err
-    (old_name ++ (why_text fault.Memory ++ kept_line kept)) Trouble status (λ done. cc) said
+    (memory_line old_name ++ kept_line kept) Trouble status (λ done. cc) said
 
 pub then-twice : (before mid after : List (List ℕ)) (name : List ℕ) (status : Status) →
     mid ≡ before ++ (name ∷ []) → after ≡ mid ++ (name ∷ []) →

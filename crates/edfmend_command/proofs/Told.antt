@@ -4,40 +4,44 @@ use Rattle.std.proofs.Common.{decimal, Option, Some, None, refl, subst, inl, inr
 use Rattle.std.specs.Prelude.{option_map}
 use Rattle.std.proofs.lemmas.List.{append-nil}
 use Rattle.edf_mend.specs.declared.fault.MendFault.{MendFault}
-use Rattle.edf_mend.specs.declared.fault.MendFault.TheVariants.{Memory}
 use Rattle.edf_program.specs.Output.{Growth, Gets, GetsFront, IsWritten}
 use Rattle.edf_program.proofs.Parts.{four-parts}
 use Rattle.edf_program.proofs.Puts.{grown, gets-after, front-after}
 use Rattle.edf_program.specs.declared.status.Status.{Status}
 use Rattle.edf_program.specs.declared.status.Status.TheVariants.{Trouble}
-use Rattle.edfmend_command.specs.Lines.{at_fault, why_text, why_status, kept_line}
-use Rattle.edfmend_command.specs.Lines.{kept_status}
+use Rattle.edfmend_command.specs.Lines.{why_line, memory_line, why_status, kept_line, kept_status}
 use Rattle.edfmend_command.specs.Run.{SaysWhy}
-use Rattle.edf_mend.specs.Edits.{Edit}
+use Rattle.edf_mend.specs.Edits.{Edit, RuleEdits}
+use Rattle.edf_mend.specs.Header.{trimmed}
 use Rattle.edf_mend.specs.declared.rule.Rule.{Rule}
-use Rattle.edfmend_command.specs.Ledger.{quoted, unfilled, change_line, bytes_text, record_line}
+use Rattle.edfmend_command.specs.Ledger.{quoted, step_end, change_line, bytes_text, record_line}
 use Rattle.edfmend_command.specs.Ledger.{clock_text}
 use Rattle.edf_time.specs.Decimal.{short}
-use Rattle.edf_mend.specs.Names.{rule_name}
+use Rattle.edf_mend.specs.Rules.{rule_name}
 
 five : (a b c d e x : List ℕ) →
     (a ++ (b ++ (c ++ (d ++ e)))) ++ x ≡ a ++ (b ++ (c ++ (d ++ (e ++ x))))
 five a b c d e x = append_assoc a (b ++ (c ++ (d ++ e))) x
     ∙ ap (λ (t : List ℕ). a ++ t) (four-parts b c d e x)
 
-module _ (rule : Rule) (e : Edit) (front old new line : List ℕ) where
-  pub change-line : front ≡ rule_name rule ++ (codes " at=" ++ (decimal e.at ++ codes " old=")) →
-      old ≡ quoted (unfilled e.old) → new ≡ quoted (unfilled e.new) →
-      line ≡ front ++ (old ++ (codes " new=" ++ (new ++ (10 ∷ [])))) → line ≡ change_line rule e
-  change-line f o n is =
-      is ∙ ap (λ (t : List ℕ). t ++ (old ++ (codes " new=" ++ (new ++ (10 ∷ []))))) f
-      ∙ four-parts (rule_name rule) (codes " at=") (decimal e.at) (codes " old=")
-      (old ++ (codes " new=" ++ (new ++ (10 ∷ []))))
-      ∙ ap (λ (t : List ℕ). rule_name rule ++ (codes " at=" ++ (decimal e.at ++ (codes " old="
-      ++ (t ++ (codes " new=" ++ (new ++ (10 ∷ [])))))))) o
-      ∙ ap (λ (t : List ℕ). rule_name rule ++ (codes " at=" ++ (decimal e.at ++ (codes " old="
-      ++ (quoted (unfilled e.old) ++ (codes " new=" ++ (t ++ (10 ∷ [])))))))) n
+pub change-line : (s : RuleEdits) (e : Edit) (front old new end line : List ℕ) →
+    front ≡ rule_name s.rule ++ (codes " at=" ++ (decimal e.at ++ codes " old=")) →
+    old ≡ quoted (trimmed e.old) → new ≡ quoted (trimmed e.new) → end ≡ step_end s →
+    line ≡ front ++ (old ++ (codes " new=" ++ (new ++ (end ++ (10 ∷ []))))) →
+    line ≡ change_line s e
+change-line s e front old new end line f o n g is =
+    is ∙ ap (λ (t : List ℕ). t ++ (old ++ (codes " new=" ++ (new ++ (end ++ (10 ∷ [])))))) f
+    ∙ four-parts (rule_name s.rule) (codes " at=") (decimal e.at) (codes " old=")
+    (old ++ (codes " new=" ++ (new ++ (end ++ (10 ∷ [])))))
+    ∙ ap (λ (t : List ℕ). rule_name s.rule ++ (codes " at=" ++ (decimal e.at ++ (codes " old="
+    ++ (t ++ (codes " new=" ++ (new ++ (end ++ (10 ∷ []))))))))) o
+    ∙ ap (λ (t : List ℕ). rule_name s.rule ++ (codes " at=" ++ (decimal e.at ++ (codes " old="
+    ++ (quoted (trimmed e.old) ++ (codes " new=" ++ (t ++ (end ++ (10 ∷ []))))))))) n
+    ∙ ap (λ (t : List ℕ). rule_name s.rule ++ (codes " at=" ++ (decimal e.at ++ (codes " old="
+    ++ (quoted (trimmed e.old) ++ (codes " new=" ++ (quoted (trimmed e.new)
+    ++ (t ++ (10 ∷ []))))))))) g
 
+module _ (rule : Rule) (e : Edit) (front old new line : List ℕ) where
   pub record-line : (nth : ℕ) → front ≡ rule_name rule ++ (codes " record=" ++ (decimal (nth + 1)
       ++ (codes " at=" ++ decimal e.at))) →
       old ≡ bytes_text (codes "old") e.old → new ≡ bytes_text (codes "new") e.new →
@@ -82,22 +86,15 @@ front-longer w bytes more front = (
 )
 
 -- the part that is left is named behind a line
-pub kept-cut : (w : Growth) (file why : List ℕ) (kept : Option (List ℕ)) (wanted : Status) →
-    GetsFront w (file ++ why) →
-    IsWritten w (file ++ (why ++ kept_line kept)) (kept_status kept wanted) Trouble
-kept-cut w file why kept wanted front =
-    inr (
-      subst (GetsFront w) (append_assoc file why (kept_line kept))
-          (front-longer w (file ++ why) (kept_line kept) front),
-      refl,
-    )
+pub kept-cut : (w : Growth) (line : List ℕ) (kept : Option (List ℕ)) (wanted : Status) →
+    GetsFront w line → IsWritten w (line ++ kept_line kept) (kept_status kept wanted) Trouble
+kept-cut w line kept wanted front = inr (front-longer w line (kept_line kept) front, refl)
 
-pub kept-none : (w : Growth) (file why : List ℕ) (kept : Option (List ℕ)) (wanted : Status) →
-    kept ≡ None → Gets w (file ++ why) →
-    IsWritten w (file ++ (why ++ kept_line kept)) (kept_status kept wanted) wanted
-kept-none w file why None wanted is got =
-    inl (subst (λ (t : List ℕ). Gets w (file ++ t)) (sym (append-nil why)) got, refl)
-kept-none w file why (Some name) wanted is got = absurd (let e = is in cc)
+pub kept-none : (w : Growth) (line : List ℕ) (kept : Option (List ℕ)) (wanted : Status) →
+    kept ≡ None → Gets w line →
+    IsWritten w (line ++ kept_line kept) (kept_status kept wanted) wanted
+kept-none w line None wanted is got = inl (subst (Gets w) (sym (append-nil line)) got, refl)
+kept-none w line (Some name) wanted is got = absurd (let e = is in cc)
 
 -- a line after one that was written
 module _ (a : Option (List ℕ)) (old : ℕ) (b : Option (List ℕ)) (mid : ℕ) (c : Option (List ℕ))
@@ -126,16 +123,32 @@ kept-trouble None = refl
 kept-trouble (Some name) = refl
 
 pub says-memory : (err : Growth) (old_name new_name : List ℕ) (why : MendFault)
-    (kept : Option (List ℕ)) (status : Status) →
-    IsWritten err (old_name ++ (why_text Memory ++ kept_line kept)) (kept_status kept Trouble)
-    status → SaysWhy err old_name new_name why kept status
-says-memory err old_name new_name why kept status said =
-    inr (subst (λ (s : Status). IsWritten err (old_name ++ (why_text Memory ++ kept_line kept)) s
-    status) (kept-trouble kept) said)
+    (kept : Option (List ℕ)) (status : Status) (line : List ℕ) → line ≡ memory_line old_name →
+    IsWritten err (line ++ kept_line kept) (kept_status kept Trouble) status →
+    SaysWhy err old_name new_name why kept status
+says-memory err old_name new_name why kept status line is said =
+    inr (subst (λ (s : Status). IsWritten err (memory_line old_name ++ kept_line kept) s status)
+    (kept-trouble kept)
+    (subst (λ (t : List ℕ). IsWritten err (t ++ kept_line kept) (kept_status kept Trouble) status)
+    is said))
 
 pub says : (err : Growth) (old_name new_name : List ℕ) (why is : MendFault)
-    (kept : Option (List ℕ)) (status : Status) → why ≡ is →
-    IsWritten err (at_fault old_name new_name is ++ (why_text is ++ kept_line kept))
-    (kept_status kept (why_status is)) status → SaysWhy err old_name new_name why kept status
-says err old_name new_name why is kept status same said =
-    subst (λ (w : MendFault). SaysWhy err old_name new_name w kept status) (sym same) (inl said)
+    (kept : Option (List ℕ)) (status : Status) (line : List ℕ) → why ≡ is →
+    line ≡ why_line old_name new_name is →
+    IsWritten err (line ++ kept_line kept) (kept_status kept (why_status is)) status →
+    SaysWhy err old_name new_name why kept status
+says err old_name new_name why is kept status line same line_is said =
+    subst (λ (f : MendFault). SaysWhy err old_name new_name f kept status) (sym same)
+    (inl (subst (λ (t : List ℕ). IsWritten err (t ++ kept_line kept)
+    (kept_status kept (why_status is)) status) line_is said))
+
+-- by another word for the status
+pub says-by : (err : Growth) (old_name new_name : List ℕ) (why : MendFault)
+    (kept : Option (List ℕ)) (status by : Status) (line : List ℕ) → by ≡ why_status why →
+    line ≡ why_line old_name new_name why →
+    IsWritten err (line ++ kept_line kept) (kept_status kept by) status →
+    SaysWhy err old_name new_name why kept status
+says-by err old_name new_name why kept status by line by_is line_is said =
+    says err old_name new_name why why kept status line refl line_is
+    (subst (λ (s : Status). IsWritten err (line ++ kept_line kept) (kept_status kept s) status)
+    by_is said)

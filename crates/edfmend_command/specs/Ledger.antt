@@ -1,14 +1,16 @@
 -- The lines of a ledger, byte for byte. Numbers are decimal; a line ends with byte 10.
-use Rattle.std.specs.Prelude.{ℕ, ◌+◌, ◌-◌, ◌/◌, ◌%◌, ◌==◌, ◌&&◌, ◌||◌, not, nat_le, List, [], ◌∷◌}
-use Rattle.std.specs.Prelude.{◌++◌, length, take, Bool, if◌then◌else◌, codes, decimal}
-use Rattle.std.specs.List.{flat_map, suffix_len, list_any, list_all}
+use Rattle.std.specs.Prelude.{ℕ, ◌+◌, ◌/◌, ◌%◌, ◌==◌, ◌&&◌, ◌||◌, not, nat_le, List, [], ◌∷◌}
+use Rattle.std.specs.Prelude.{◌++◌, length, Bool, if◌then◌else◌, codes, decimal, Option}
+use Rattle.std.specs.Prelude.{Some, None}
+use Rattle.std.specs.List.{flat_map, list_any, list_all}
 use Rattle.edf_time.specs.Decimal.{short}
 use Rattle.edf_mend.specs.Edits.{Edit, RuleEdits}
+use Rattle.edf_mend.specs.Header.{trimmed}
 use Rattle.edf_mend.specs.Rewritten.{RecordEdits}
 use Rattle.edf_mend.specs.declared.ledger.Ledger.{Ledger}
 use Rattle.edf_mend.specs.declared.rule.Rule.{Rule}
 use Rattle.edf_mend.specs.declared.rule.Rule.TheVariants.{Texts}
-use Rattle.edf_mend.specs.Names.{rule_name}
+use Rattle.edf_mend.specs.Rules.{rule_name}
 
 -- ---- bytes in quotes
 
@@ -27,24 +29,29 @@ quoted_byte b =
 abbrev pub quoted : List ℕ → List ℕ
 quoted bytes = 34 ∷ (flat_map quoted_byte bytes ++ (34 ∷ []))
 
--- a field without the spaces at its end, which fill it
-abbrev pub unfilled : List ℕ → List ℕ
-unfilled field = take (length field - suffix_len (λ b. b == 32) field) field
-
 -- ---- the header
 
--- `RULE at=OFFSET old=".." new=".."`
-abbrev pub change_line : Rule → Edit → List ℕ
-change_line rule e = rule_name rule ++ (codes " at=" ++ (decimal e.at
-    ++ (codes " old=" ++ (quoted (unfilled e.old)
-    ++ (codes " new=" ++ (quoted (unfilled e.new) ++ (10 ∷ [])))))))
+-- what comes last in the lines of a step: what had no room in its field; and, where a code came in
+-- the place of another, that nothing else did
+abbrev pub cut_text : List ℕ → List ℕ
+cut_text cut = if length cut == 0 then [] else codes " cut=" ++ quoted cut
+
+abbrev pub step_end : RuleEdits → List ℕ
+step_end step = if step.recoded then cut_text step.cut ++ codes " sex, birthdate and name stay"
+    else cut_text step.cut
+
+-- `RULE at=OFFSET old=".." new=".."`, and its end
+abbrev pub change_line : RuleEdits → Edit → List ℕ
+change_line step e = rule_name step.rule ++ (codes " at=" ++ (decimal e.at
+    ++ (codes " old=" ++ (quoted (trimmed e.old)
+    ++ (codes " new=" ++ (quoted (trimmed e.new) ++ (step_end step ++ (10 ∷ []))))))))
 
 -- a field that is new belongs to the new annotations signal, which has a line of its own
 abbrev pub is_new : Edit → Bool
 is_new e = length e.old == 0
 
-abbrev pub changed_line : Rule → Edit → List ℕ
-changed_line rule e = if is_new e then [] else change_line rule e
+abbrev pub changed_line : RuleEdits → Edit → List ℕ
+changed_line step e = if is_new e then [] else change_line step e
 
 -- `RULE records=K block=N`: how many data records got a block, and of how many bytes
 abbrev pub added_line : Rule → ℕ → ℕ → List ℕ
@@ -58,7 +65,7 @@ signal_line records bytes step =
 -- of one rule: the new annotations signal, if it added one, and then a line a changed field
 abbrev pub step_lines : ℕ → ℕ → RuleEdits → List ℕ
 step_lines records bytes step =
-    signal_line records bytes step ++ flat_map (changed_line step.rule) step.edits
+    signal_line records bytes step ++ flat_map (changed_line step) step.edits
 
 -- ---- data records
 
@@ -92,10 +99,17 @@ abbrev pub left_out_line : ℕ → List ℕ
 left_out_line bytes =
     if bytes == 0 then [] else codes "count left_out=" ++ (decimal bytes ++ (10 ∷ []))
 
+-- `deidentify texts=N and other fields not looked at`: a name may stand in texts of annotations, and
+-- in fields of the header but patient and recording
+abbrev pub unread_line : Option ℕ → List ℕ
+unread_line None = []
+unread_line (Some texts) =
+    codes "deidentify texts=" ++ (decimal texts ++ codes " and other fields not looked at\n")
+
 -- ---- all
 
 abbrev pub ledger_lines : Ledger → List ℕ
 ledger_lines ledger = flat_map (step_lines ledger.records ledger.added) ledger.steps.items
     ++ (flat_map (record_lines Texts) ledger.texts.items
     ++ (clock_line (length ledger.retimed.items) ledger.shift
-    ++ left_out_line ledger.left_out))
+    ++ (left_out_line ledger.left_out ++ unread_line ledger.unread_texts)))

@@ -1,4 +1,6 @@
 pub mod Lines
 pub mod Ledger
 pub mod Run
+pub mod Words
 pub mod Inside
+pub mod InsideWords

@@ -1,37 +1,39 @@
 //! The command line, read by `clap`. Lines of help are broken where they stand, since nothing else
 //! breaks them.
 
+ghost use Rattle.std.specs.Prelude.{◌≡◌, ◌↔◌, ◌∷◌, ◌<◌, [], ℕ, List, length, map, IsTrue, IfOk};
+ghost use Rattle.std.specs.Prelude.{IfSome, MatchOption, MatchResult, option_map, string_bytes};
+ghost use Rattle.std.specs.Bool.{MatchBool};
+ghost use Rattle.std.specs.List.{AllZip, slice_split};
+ghost use Rattle.edf_mend.specs.Code.{IsCode};
+ghost use Rattle.edf_mend.specs.Starts.{HasStarttime};
+ghost use Rattle.edf_program.specs.Output.{growth, Gets};
+ghost use Rattle.edf_program.specs.Words.{IsFaultTold};
+ghost use Rattle.edfmend_command.specs.InsideWords.{IsUsage};
+ghost use Rattle.edfmend_command.specs.Run.{meaning};
+ghost use Rattle.edfmend_command.specs.Words.{Values, NamesRule, is_comma, AreRules, AreCodes};
+ghost use Rattle.edfmend_command.specs.Words.{IsDateWord, AreNames, Mean, MeanNothing};
+ghost use Rattle.edfmend_command.specs.Words.{HasNoStroke, MeansTwo};
+
 use crate::mend_command::MendCommand;
 use clap::{Arg, ArgAction, ArgMatches, Command};
 use edf_fragment::Output;
-use edf_mend::Rule;
+use edf_mend::{Code, RULES, Rule, Wanted, Who};
 use edf_program::{CommandFault, Status, VERSION, fault_by, refuse_value, tell_fault};
+use edf_time::start_of;
 use std::alloc::{AllocError, Global};
+use std::marker::Model;
 
 /// What `edfmend` is.
 const EDFMEND: &str = "\
 Makes an EDF+ file of one that is almost EDF+, or plain EDF, changes only what it
 tells, and leaves every sample as it is.";
 
-/// The rules, and what the statuses mean.
-const EDFMEND_MORE: &str = "\
-Rules, in the order in which they are applied:
-  ascii        letters beyond ASCII are transliterated
-  patient      the patient field becomes that of EDF+; --patient gives the code
-               where the file names none
-  recording    the recording field becomes that of EDF+
-  physical     physical limits are spelled as EDF has them; equal ones become the
-               digital ones
-  digital      digital limits that fall are swapped, and the physical ones too
-  annotations  the limits of an annotations signal become those of EDF+; EDF+C
-               without one gets it
-  plain        plain EDF becomes EDF+C, with an annotations signal
-  count        the number of data records becomes that of the whole ones
-  texts        annotations of Latin-1 become UTF-8, times are rounded to the nanosecond,
-               and what fills an annotations block becomes zeros
-  clock        starts of EDF+C that were rounded, so that data records overlap by less
-               than half a sample, become so many durations after the first
+/// What stands before the rules in the help.
+const RULES_ARE: &str = "Rules, in the order in which they are applied:\n";
 
+/// What stands behind them.
+const MORE: &str = "
 A line is printed for each change. A file that needs none is copied as it is.
 IN is never written, and no file that is there is written over.
 
@@ -40,9 +42,22 @@ Example:
 
 Status:
   0  done
-  1  the file can't be mended, a code is wanted, or OUT is there
+  1  the file can't be mended, a code is wanted or unused, or OUT is there
   2  the words ask for nothing that can be done
   3  trouble with a file, standard output or memory";
+
+/// The rules that words can name, each with what it does, and what the statuses mean.
+fn more_help(alloc: Global) -> Result<String, AllocError> {
+    let mut text = String::from_str(alloc, RULES_ARE)?;
+    for row in &RULES {
+        if row.by_name {
+            let (name, help) = (row.rule.name(), row.help);
+            write!(text, "  {name:<13}{help}\n")?;
+        }
+    }
+    text.push_str(MORE)?;
+    Ok(text)
+}
 
 /// Why `-` is refused where a file is read twice.
 const READ_TWICE: &str = "\
@@ -61,138 +76,334 @@ const NO_RULE: &str = "--as has names of rules, with commas between them";
 const NO_CODE: &str = "\
 CODE is 1 to 60 printable characters of ASCII without a space, and not X";
 
-/// The program with its words.
-fn edfmend_words<'a>(alloc: Global) -> Result<Command<'a>, AllocError> {
+/// Why a second code is refused.
+const TWO_CODES: &str = "one of --patient, --set-patient and --deidentify can be given";
+
+/// Why a startdate is refused.
+const NO_DATE: &str = "--startdate is a day, as 24.12.26";
+
+/// Why a starttime is refused.
+const NO_TIME: &str = "--starttime is a time of day, as 22.30.00";
+
+/// An option with a value.
+fn option<'a>(alloc: Global, name: &'a str, value: &'a str, help: &'a str) -> Arg<'a> {
+    Arg::new(alloc, name)
+        .long(name)
+        .value_name(value)
+        .help(help)
+}
+
+/// The options that say whose a file is, and when it starts.
+fn with_options<'a>(alloc: Global, command: Command<'a>) -> Result<Command<'a>, AllocError> {
+    let patient = "The code of the patient, where the file names none";
+    let set_patient = "The code of the patient, in the place of another too";
+    let deidentify = "This code alone, for others: no patient, no technician";
+    let startdate = "The startdate of a file that has none";
+    let starttime = "The starttime of a file that has none";
+    command
+        .arg(option(alloc, "patient", "CODE", patient))?
+        .arg(option(alloc, "set-patient", "CODE", set_patient))?
+        .arg(option(alloc, "deidentify", "CODE", deidentify))?
+        .arg(option(alloc, "startdate", "DD.MM.YY", startdate))?
+        .arg(option(alloc, "starttime", "HH.MM.SS", starttime))?
+        .arg(option(alloc, "as", "RULE,..", "Apply these rules alone"))
+}
+
+/// The program with its words, and with this behind its help.
+fn edfmend_words<'a>(alloc: Global, more: &'a str) -> Result<Command<'a>, AllocError> {
     let command = Command::new(alloc, "edfmend")
         .bin_name("edfmend")?
         .version(VERSION)
         .about(EDFMEND)
-        .after_help(EDFMEND_MORE)
-        .no_binary_name(true);
-    command
+        .after_help(more)
+        .no_binary_name(true)
         .arg(
             Arg::new(alloc, "IN")
                 .help("The file to mend")
                 .required(true),
         )?
-        .arg(Arg::new(alloc, "OUT").help("The new file"))?
-        .arg(
-            Arg::new(alloc, "patient")
-                .long("patient")
-                .value_name("CODE")
-                .help("The code of the patient, where the file names none"),
-        )?
-        .arg(
-            Arg::new(alloc, "as")
-                .long("as")
-                .value_name("RULE,..")
-                .help("Apply these rules alone"),
-        )?
-        .arg(
-            Arg::new(alloc, "dry-run")
-                .long("dry-run")
-                .action(ArgAction::SetTrue)
-                .help("Tell the changes, and write nothing"),
-        )
+        .arg(Arg::new(alloc, "OUT").help("The new file"))?;
+    with_options(alloc, command)?.arg(
+        Arg::new(alloc, "dry-run")
+            .long("dry-run")
+            .action(ArgAction::SetTrue)
+            .help("Tell the changes, and write nothing"),
+    )
 }
 
 /// Why words are refused that `clap` takes.
 fn refuse(alloc: Global, why: &str) -> Result<CommandFault, AllocError> {
-    refuse_value(alloc, edfmend_words(alloc)?, "edfmend", why)
+    refuse_value(alloc, edfmend_words(alloc, "")?, "edfmend", why)
 }
 
-/// The rule of that name.
-fn rule_named(name: &str) -> Option<Rule> {
-    match name {
-        "ascii" => Some(Rule::Ascii),
-        "patient" => Some(Rule::Patient),
-        "recording" => Some(Rule::Recording),
-        "physical" => Some(Rule::Physical),
-        "digital" => Some(Rule::Digital),
-        "annotations" => Some(Rule::Annotations),
-        "plain" => Some(Rule::Plain),
-        "count" => Some(Rule::Count),
-        "texts" => Some(Rule::Texts),
-        "clock" => Some(Rule::Clock),
-        _ => None,
+/// What was found of the words: each value once at most.
+#[derive(Drop)]
+struct Found<'a> {
+    input: &'a str,
+    output: Option<&'a str>,
+    dry: bool,
+    patient: Option<&'a str>,
+    set_patient: Option<&'a str>,
+    deidentify: Option<&'a str>,
+    startdate: Option<&'a str>,
+    starttime: Option<&'a str>,
+    only: Option<&'a str>,
+}
+
+impl<'a> Model for Found<'a> {
+    ghost use Rattle.std.specs.Prelude.{option_map};
+    ghost use Rattle.edfmend_command.specs.Words.{Values};
+
+    ghost Value = { Values };
+
+    ghost view = { λ f. record {
+      input = f.input.now;
+      output = option_map (λ s. s.now) f.output;
+      dry = f.dry;
+      patient = option_map (λ s. s.now) f.patient;
+      set_patient = option_map (λ s. s.now) f.set_patient;
+      deidentify = option_map (λ s. s.now) f.deidentify;
+      startdate = option_map (λ s. s.now) f.startdate;
+      starttime = option_map (λ s. s.now) f.starttime;
+      only = option_map (λ s. s.now) f.only;
+    } };
+}
+
+fn found_in<'a>(values: &ArgMatches<'a>) -> Found<'a> {
+    Found {
+        input: values.get_str("IN").unwrap_or(""),
+        output: values.get_str("OUT"),
+        dry: values.get_flag("dry-run"),
+        patient: values.get_str("patient"),
+        set_patient: values.get_str("set-patient"),
+        deidentify: values.get_str("deidentify"),
+        startdate: values.get_str("startdate"),
+        starttime: values.get_str("starttime"),
+        only: values.get_str("as"),
     }
 }
 
-/// The rules whose names a text has, with commas between them.
-fn rules_in(alloc: Global, text: Option<&str>) -> Result<Vec<Rule>, CommandFault> {
-    let mut rules = Vec::new(alloc);
-    let Some(text) = text else {
-        return Ok(rules);
-    };
-    for name in text.split(',') {
-        match rule_named(name) {
-            Some(rule) => {
-                if rules.push(rule).is_err() {
-                    return Err(CommandFault::Memory);
-                }
-            }
-            None => return Err(refuse(alloc, NO_RULE)?),
+/// The name at the front of names with commas between them, and what follows its comma.
+fn split_name(names: &[u8]) -> (&[u8], Option<&[u8]>)
+    ensures parts { MatchOption result.1 (slice_split is_comma names.now ≡ result.0.now ∷ [])
+        (λ rest. slice_split is_comma names.now ≡ result.0.now ∷ slice_split is_comma rest.now) }
+    ensures less { IfSome result.1 (λ rest. length rest.now < length names.now) }
+{
+    for (i, b) in names.iter().enumerate() {
+        if *b == b',' {
+            return (&names[..i], Some(&names[i + 1..]));
         }
+    }
+    (names, None)
+}
+
+/// The rules of these names.
+fn rules_named(alloc: Global, names: &[u8]) -> Result<Vec<Rule>, CommandFault>
+    ensures rules { IfOk result (λ r. AllZip NamesRule (slice_split is_comma names.now) r.items) }
+    ensures nothing { IsUsage result → (found : List Rule) →
+        ¬ AllZip NamesRule (slice_split is_comma names.now) found }
+{
+    let mut rules = Vec::new(alloc);
+    let mut left = Some(names);
+    while let Some(names) = left {
+        let (name, rest) = split_name(names);
+        let Some(rule) = Rule::named(name) else {
+            return Err(refuse(alloc, NO_RULE)?);
+        };
+        if rules.push(rule).is_err() {
+            return Err(CommandFault::Memory);
+        }
+        left = rest;
     }
     Ok(rules)
 }
 
-/// Whether a text can be a patient's code.
-fn is_code(text: &str) -> bool {
-    let bytes = text.as_bytes();
-    !bytes.is_empty()
-        && bytes.len() <= 60
-        && bytes != b"X".as_slice()
-        && bytes.iter().all(|b| (33..=126).contains(b))
+/// The rules whose names a text has, with commas between them.
+fn rules_in(alloc: Global, text: Option<&str>) -> Result<Vec<Rule>, CommandFault>
+    ensures rules { IfOk result (λ r. AreRules (option_map (λ s. s.now) text.entry) r.items) }
+    ensures nothing { IsUsage result → (found : List Rule) →
+        ¬ AreRules (option_map (λ s. s.now) text.entry) found }
+{
+    match text {
+        Some(text) => rules_named(alloc, text.as_bytes()),
+        None => Ok(Vec::new(alloc)),
+    }
 }
 
-/// The code that was given, if one was.
-fn code_in(alloc: Global, text: Option<&str>) -> Result<Option<String>, CommandFault> {
-    match text {
-        None => Ok(None),
-        Some(text) => {
-            if !is_code(text) {
-                return Err(refuse(alloc, NO_CODE)?);
-            }
-            Ok(Some(String::from_str(alloc, text)?))
+/// The code that a text is.
+fn code_in(alloc: Global, text: &str) -> Result<Code, CommandFault>
+    ensures code { IfOk result (λ code. code ≡ text.now) }
+    ensures nothing { IsUsage result → ¬ IsCode text.now }
+{
+    match Code::new(alloc, text.as_bytes())? {
+        Some(code) => Ok(code),
+        None => Err(refuse(alloc, NO_CODE)?),
+    }
+}
+
+/// Whose the file is.
+fn who_in(alloc: Global, found: &Found<'_>) -> Result<Who, CommandFault>
+    ensures who { IfOk result
+        (AreCodes found.now.patient found.now.set_patient found.now.deidentify) }
+    ensures nothing { IsUsage result → (who : Who) →
+        ¬ AreCodes found.now.patient found.now.set_patient found.now.deidentify who }
+{
+    match (found.patient, found.set_patient, found.deidentify) {
+        (None, None, None) => Ok(Who::AsNamed),
+        (Some(code), None, None) => Ok(Who::Given(code_in(alloc, code)?)),
+        (None, Some(code), None) => Ok(Who::Replaced(code_in(alloc, code)?)),
+        (None, None, Some(code)) => Ok(Who::Hidden(code_in(alloc, code)?)),
+        _ => Err(refuse(alloc, TWO_CODES)?),
+    }
+}
+
+/// Whether a text is a startdate, or a starttime.
+fn is_start(text: &[u8; 8], is_date: bool) -> bool
+    ensures { MatchBool is_date (IsTrue result ↔ IsDateWord text.now)
+        (IsTrue result ↔ HasStarttime text.now) }
+{
+    if is_date {
+        start_of(text, b"00.00.00", None).is_ok()
+    } else {
+        start_of(b"01.01.85", text, None).is_ok()
+    }
+}
+
+/// A start that was given, where it is one in its place.
+fn start_in(
+    alloc: Global,
+    text: Option<&str>,
+    is_date: bool,
+) -> Result<Option<[u8; 8]>, CommandFault>
+    ensures start { IfOk result (λ found. (found ≡ option_map (λ s. s.now) text.entry)
+        × MatchBool is_date (IfSome (option_map (λ s. s.now) text.entry) IsDateWord)
+        (IfSome (option_map (λ s. s.now) text.entry) HasStarttime)) }
+    ensures nothing { IsUsage result →
+        MatchBool is_date (¬ IfSome (option_map (λ s. s.now) text.entry) IsDateWord)
+        (¬ IfSome (option_map (λ s. s.now) text.entry) HasStarttime) }
+{
+    let Some(text) = text else {
+        return Ok(None);
+    };
+    if text.len() == 8 {
+        let mut eight = [0u8; 8];
+        eight.copy_from_slice(text.as_bytes());
+        if is_start(&eight, is_date) {
+            return Ok(Some(eight));
         }
     }
+    let why = if is_date { NO_DATE } else { NO_TIME };
+    Err(refuse(alloc, why)?)
 }
 
-/// What `clap` found, as the command.
-fn command_in(alloc: Global, values: &ArgMatches<'_>) -> Result<MendCommand, CommandFault> {
-    let input = values.get_str("IN").unwrap_or("");
-    let is_dry = values.get_flag("dry-run");
-    if input == "-" {
+/// The new file, if one is to be written. IN is read twice, so it is not `-`.
+fn output_in(alloc: Global, found: &Found<'_>) -> Result<Option<String>, CommandFault>
+    ensures output { IfOk result
+        (λ r. AreNames found.now × (option_map string_bytes r ≡ found.now.output)) }
+    ensures nothing { IsUsage result → ¬ AreNames found.now }
+{
+    if found.input == "-" {
         return Err(refuse(alloc, READ_TWICE)?);
     }
-    let output = match values.get_str("OUT") {
-        Some(_) if is_dry => return Err(refuse(alloc, DRY_OUT)?),
-        None if !is_dry => return Err(refuse(alloc, NO_OUT)?),
-        Some(name) => Some(String::from_str(alloc, name)?),
-        None => None,
-    };
-    let patient = code_in(alloc, values.get_str("patient"))?;
-    let rules = rules_in(alloc, values.get_str("as"))?;
-    let input = String::from_str(alloc, input)?;
+    match found.output {
+        Some(_) if found.dry => Err(refuse(alloc, DRY_OUT)?),
+        None if !found.dry => Err(refuse(alloc, NO_OUT)?),
+        Some(name) => Ok(Some(String::from_str(alloc, name)?)),
+        None => Ok(None),
+    }
+}
+
+/// What the values ask for.
+fn command_in(alloc: Global, found: &Found<'_>) -> Result<MendCommand, CommandFault>
+    ensures mean { IfOk result (λ command. Mean found.now (meaning command)) }
+    ensures nothing { IsUsage result → MeanNothing found.now }
+{
+    let output = output_in(alloc, found)?;
+    let who = who_in(alloc, found)?;
+    let startdate = start_in(alloc, found.startdate, true)?;
+    let starttime = start_in(alloc, found.starttime, false)?;
+    let rules = rules_in(alloc, found.only)?;
+    let input = String::from_str(alloc, found.input)?;
     Ok(MendCommand {
         input,
         output,
-        patient,
-        rules,
+        wanted: Wanted {
+            rules,
+            who,
+            startdate,
+            starttime,
+        },
     })
 }
 
-/// What the words after the program's name ask for: `IN OUT` or `IN --dry-run`, with
-/// `--patient CODE` and `--as RULE,..`. IN is read twice, so it is not `-`.
+/// Whether a word begins with another byte than a stroke.
+fn has_no_stroke(word: &str) -> bool
+    ensures { IsTrue result ↔ HasNoStroke word.now }
+{
+    match word.as_bytes() {
+        [first, ..] => *first != b'-',
+        [] => false,
+    }
+}
+
+/// IN and OUT, where these are the words, and none begins with a stroke.
+fn plain_words(words: &[String]) -> Option<(&str, &str)>
+    ensures { MatchOption result ((input output : List ℕ) →
+        map string_bytes words.now ≡ input ∷ output ∷ [] → HasNoStroke input →
+        ¬ HasNoStroke output)
+        (λ two. (map string_bytes words.now ≡ two.0.now ∷ two.1.now ∷ [])
+        × HasNoStroke two.0.now) }
+{
+    let [input, output] = words else {
+        return None;
+    };
+    let (input, output) = (input.as_str(), output.as_str());
+    if has_no_stroke(input) && has_no_stroke(output) {
+        Some((input, output))
+    } else {
+        None
+    }
+}
+
+/// IN and OUT ask for nothing more.
+fn two_words(alloc: Global, input: &str, output: &str) -> Result<MendCommand, CommandFault>
+    ensures { MatchResult result
+        (λ command. MeansTwo input.now output.now (meaning command))
+        (λ why. why ≡ CommandFault.Memory) }
+{
+    Ok(MendCommand {
+        input: String::from_str(alloc, input)?,
+        output: Some(String::from_str(alloc, output)?),
+        wanted: Wanted {
+            rules: Vec::new(alloc),
+            who: Who::AsNamed,
+            startdate: None,
+            starttime: None,
+        },
+    })
+}
+
+/// What the words after the program's name ask for: `IN OUT` or `IN --dry-run`, with one of
+/// `--patient CODE`, `--set-patient CODE` and `--deidentify CODE`, with `--startdate DD.MM.YY`,
+/// `--starttime HH.MM.SS` and `--as RULE,..`. IN is read twice, so it is not `-`.
 ///
 /// # Errors
 /// `Help` where help or the version was asked for, `Usage` where the words ask for nothing that can
 /// be done, `Memory` where memory ran out.
-pub fn parse(alloc: Global, words: &[String]) -> Result<MendCommand, CommandFault> {
-    let mut command = edfmend_words(alloc)?;
+pub fn parse(alloc: Global, words: &[String]) -> Result<MendCommand, CommandFault>
+    ensures mean { IfOk result (λ command. (values : Values) × Mean values (meaning command)) }
+    ensures two { (input output : List ℕ) →
+        map string_bytes words.now ≡ input ∷ output ∷ [] → HasNoStroke input →
+        HasNoStroke output → MatchResult result (λ command. MeansTwo input output (meaning command))
+        (λ why. why ≡ CommandFault.Memory) }
+{
+    if let Some((input, output)) = plain_words(words) {
+        return two_words(alloc, input, output);
+    }
+    let more = more_help(alloc)?;
+    let mut command = edfmend_words(alloc, more.as_str())?;
     match command.try_get_matches_from_mut(words) {
-        Ok(matches) => command_in(alloc, &matches),
+        Ok(matches) => command_in(alloc, &found_in(&matches)),
         Err(error) => Err(fault_by(alloc, &error)),
     }
 }
@@ -207,7 +418,12 @@ pub fn read_command<O: Output, F: Output>(
     words: &[String],
     out: &mut O,
     err: &mut F,
-) -> Result<MendCommand, Status> {
+) -> Result<MendCommand, Status>
+    ensures { let o = growth O.Output out.old out.new in let e = growth F.Output err.old err.new in
+        MatchResult result
+        (λ command. (values : Values) × Mean values (meaning command) × Gets o [] × Gets e [])
+        (λ status. (why : CommandFault) × IsFaultTold o e why status) }
+{
     match parse(alloc, words) {
         Ok(command) => Ok(command),
         Err(fault) => Err(tell_fault(&fault, out, err)),

@@ -2,15 +2,18 @@
 
 ghost use Rattle.std.specs.Prelude.{◌≡◌, ◌++◌, ◌+◌, ◌==◌, ◌<◌, not, ◌&&◌, length, IfOk, OnOk};
 ghost use Rattle.std.specs.List.{flat_map, list_any, list_all};
-ghost use Rattle.edf_program.specs.Output.{growth, IsTold};
-ghost use Rattle.edfmend_command.specs.Ledger.{hex_digit, quoted_byte, quoted, unfilled, is_new};
-ghost use Rattle.edfmend_command.specs.Ledger.{change_line, changed_line, added_line, signal_line};
-ghost use Rattle.edfmend_command.specs.Ledger.{step_lines, bytes_text, record_line, record_lines};
+ghost use Rattle.edf_program.specs.Output.{growth, IsPut};
+ghost use Rattle.edfmend_command.specs.Ledger.{hex_digit, quoted_byte, quoted, cut_text, step_end};
+ghost use Rattle.edfmend_command.specs.Ledger.{is_new, change_line, changed_line, added_line};
+ghost use Rattle.edfmend_command.specs.Ledger.{signal_line, step_lines, bytes_text, record_line};
+ghost use Rattle.edfmend_command.specs.Ledger.{record_lines, unread_line};
+ghost use Rattle.edfmend_command.specs.Run.{TellsLedger};
+ghost use Rattle.edf_mend.specs.Header.{trimmed};
 ghost use Rattle.edfmend_command.specs.Ledger.{clock_text, clock_line, left_out_line, ledger_lines};
 
 use edf_fragment::Output;
 use edf_mend::{Change, Ledger, RecordChanges, Rule, Step};
-use edf_program::{Status, joined, tell};
+use edf_program::{Status, joined, put_parts, tell_parts};
 use edf_time::write_seconds;
 use std::alloc::{AllocError, Global};
 
@@ -47,8 +50,8 @@ fn quoted(alloc: Global, bytes: &[u8]) -> Result<Vec<u8>, AllocError>
 }
 
 /// A field without the spaces at its end.
-fn unfilled(field: &[u8]) -> &[u8]
-    ensures { result.now ≡ unfilled field.now }
+fn trimmed(field: &[u8]) -> &[u8]
+    ensures { result.now ≡ trimmed field.now }
 {
     let mut end = field.len();
     while end > 0 && field[end - 1] == b' ' {
@@ -57,19 +60,43 @@ fn unfilled(field: &[u8]) -> &[u8]
     &field[..end]
 }
 
-/// The line of a change: its rule, its offset in the header, and what was and is there.
-fn change_line(alloc: Global, rule: Rule, change: &Change) -> Result<Vec<u8>, AllocError>
-    ensures { IfOk result (λ r. r.items ≡ change_line rule change.now) }
+/// What had no room in its field, where anything had none.
+fn cut_text(alloc: Global, cut: &[u8]) -> Result<Vec<u8>, AllocError>
+    ensures { IfOk result (λ r. r.items ≡ cut_text cut.now) }
 {
-    let (name, at) = (rule.name(), change.at());
+    if cut.is_empty() {
+        return Ok(Vec::new(alloc));
+    }
+    let text = quoted(alloc, cut)?;
+    joined(alloc, &[b" cut=", text.as_slice()])
+}
+
+/// What comes last in the lines of a step.
+fn step_end(alloc: Global, step: &Step) -> Result<Vec<u8>, AllocError>
+    ensures { IfOk result (λ r. r.items ≡ step_end step.now) }
+{
+    let cut = cut_text(alloc, step.cut())?;
+    if step.is_recoded() {
+        return joined(alloc, &[cut.as_slice(), b" sex, birthdate and name stay"]);
+    }
+    Ok(cut)
+}
+
+/// The line of a change: its rule, its offset in the header, what was and is there, and the end.
+fn change_line(alloc: Global, step: &Step, change: &Change) -> Result<Vec<u8>, AllocError>
+    ensures { IfOk result (λ r. r.items ≡ change_line step.now change.now) }
+{
+    let (name, at) = (step.rule().name(), change.at());
     let front = format!(in alloc; "{name} at={at} old=")?;
-    let old = quoted(alloc, unfilled(change.old()))?;
-    let new = quoted(alloc, unfilled(change.new()))?;
+    let old = quoted(alloc, trimmed(change.old()))?;
+    let new = quoted(alloc, trimmed(change.new()))?;
+    let end = step_end(alloc, step)?;
     let parts = [
         front.as_bytes(),
         old.as_slice(),
         b" new=",
         new.as_slice(),
+        end.as_slice(),
         b"\n",
     ];
     joined(alloc, &parts)
@@ -125,25 +152,25 @@ fn push_signal(
 fn push_change(
     alloc: Global,
     text: &mut Vec<u8>,
-    rule: Rule,
+    step: &Step,
     change: &Change,
 ) -> Result<(), AllocError>
-    ensures { OnOk result (text.new.items ≡ text.old.items ++ changed_line rule change.now) }
+    ensures { OnOk result (text.new.items ≡ text.old.items ++ changed_line step.now change.now) }
 {
     if is_new(change) {
         return Ok(());
     }
-    let line = change_line(alloc, rule, change)?;
+    let line = change_line(alloc, step, change)?;
     text.extend_from_slice(line.as_slice())
 }
 
 /// The lines of changes of the header.
-fn changes_text(alloc: Global, rule: Rule, changes: &[Change]) -> Result<Vec<u8>, AllocError>
-    ensures { IfOk result (λ r. r.items ≡ flat_map (changed_line rule) changes.now) }
+fn changes_text(alloc: Global, step: &Step) -> Result<Vec<u8>, AllocError>
+    ensures { IfOk result (λ r. r.items ≡ flat_map (changed_line step.now) step.now.edits) }
 {
     let mut text = Vec::new(alloc);
-    for change in changes {
-        push_change(alloc, &mut text, rule, change)?;
+    for change in step.changes() {
+        push_change(alloc, &mut text, step, change)?;
     }
     Ok(text)
 }
@@ -161,7 +188,7 @@ fn push_step(
         (text.new.items ≡ text.old.items ++ step_lines records bytes step.now) }
 {
     push_signal(alloc, text, records, bytes, step)?;
-    let lines = changes_text(alloc, step.rule(), step.changes())?;
+    let lines = changes_text(alloc, step)?;
     text.extend_from_slice(lines.as_slice())
 }
 
@@ -312,6 +339,22 @@ fn left_out_line(alloc: Global, bytes: usize) -> Result<Vec<u8>, AllocError>
     Ok(line.into_bytes())
 }
 
+/// How many texts of annotations nobody looked at, nor at other fields of the header, of a file that
+/// is for others.
+fn unread_line(alloc: Global, unread: Option<u64>) -> Result<Vec<u8>, AllocError>
+    ensures { IfOk result (λ r. r.items ≡ unread_line unread) }
+{
+    match unread {
+        Some(texts) => {
+            let line = format!(in alloc;
+                "deidentify texts={texts} and other fields not looked at\n"
+            )?;
+            Ok(line.into_bytes())
+        }
+        None => Ok(Vec::new(alloc)),
+    }
+}
+
 /// A line for each change that a ledger tells.
 fn ledger_text(alloc: Global, ledger: &Ledger) -> Result<Vec<u8>, AllocError>
     ensures { IfOk result (λ r. r.items ≡ ledger_lines ledger.now) }
@@ -320,20 +363,50 @@ fn ledger_text(alloc: Global, ledger: &Ledger) -> Result<Vec<u8>, AllocError>
     let texts = records_text(alloc, Rule::Texts, ledger.texts.as_slice())?;
     let clock = clock_line(alloc, ledger.retimed.as_slice(), ledger.shift)?;
     let left_out = left_out_line(alloc, ledger.left_out)?;
+    let unread = unread_line(alloc, ledger.unread_texts)?;
     let parts = [
         steps.as_slice(),
         texts.as_slice(),
         clock.as_slice(),
         left_out.as_slice(),
+        unread.as_slice(),
     ];
     joined(alloc, &parts)
 }
 
-/// Writes a line for each change that a ledger tells. All lines are in memory before the first is
-/// written.
-pub(crate) fn tell_ledger<O: Output>(alloc: Global, ledger: &Ledger, out: &mut O) -> Status
-    ensures { IsTold (growth O.Output out.old out.new) (ledger_lines ledger.now) Status.Done
-        result }
+/// Writes a text, and answers whether it was written whole.
+fn put_text<O: Output>(out: &mut O, text: &[u8]) -> bool
+    ensures { IsPut (growth O.Output out.old out.new) text.now result }
 {
-    tell(out, ledger_text(alloc, ledger), Status::Done)
+    put_parts(out, &[text])
+}
+
+/// Writes a line for each change that a ledger tells; where these can't be written, a line that
+/// says so goes to `err`. All lines are in memory before the first is written.
+pub(crate) fn tell_ledger<O: Output, F: Output>(
+    alloc: Global,
+    ledger: &Ledger,
+    out: &mut O,
+    err: &mut F,
+) -> Status
+    ensures { TellsLedger (growth O.Output out.old out.new) (growth F.Output err.old err.new)
+        (ledger_lines ledger.now) result }
+{
+    match ledger_text(alloc, ledger) {
+        Ok(text) => {
+            if put_text(out, text.as_slice()) {
+                return Status::Done;
+            }
+            tell_parts(
+                err,
+                &[b"standard output refused E43 Write\n"],
+                Status::Trouble,
+            )
+        }
+        Err(_) => tell_parts(
+            err,
+            &[b"standard output refused E41 Memory\n"],
+            Status::Trouble,
+        ),
+    }
 }

@@ -1,13 +1,11 @@
 //! The command: a file is read twice, and the mended one is made.
 
-ghost use Rattle.std.specs.Prelude.{◌≡◌, ◌≢◌, ◌⊎◌, ◌++◌, ℕ, List, IfOk, IfErr, MatchResult};
-ghost use Rattle.std.specs.Prelude.{option_map, replicate, string_bytes};
+ghost use Rattle.std.specs.Prelude.{◌≡◌, ◌≢◌, ◌⊎◌, ◌++◌, ℕ, List, IfOk, IfErr, IfSome};
+ghost use Rattle.std.specs.Prelude.{MatchResult, option_map, replicate, string_bytes};
 ghost use Rattle.edf_program.specs.Opened.{OpensUpTo};
 ghost use Rattle.edf_program.specs.Output.{growth};
-ghost use Rattle.edf_mend.specs.Answers.{IsTrouble};
-ghost use Rattle.edf_mend.specs.Mended.{SurveysAs};
 ghost use Rattle.edf_new_files.specs.Making.{making};
-ghost use Rattle.edfmend_command.specs.Inside.{MendsAs, StopsMending, WritesFile, StopsWriting};
+ghost use Rattle.edfmend_command.specs.Inside.{Surveys, MendsAs, WritesFile, StopsWriting};
 ghost use Rattle.edfmend_command.specs.Inside.{MakesFile, StopsMaking};
 ghost use Rattle.edfmend_command.specs.Run.{IsMendedFile, IsNotMended, CountsWrite, left_name};
 ghost use Rattle.edfmend_command.specs.Run.{TellsChanges, LacksChanges, FindsName, MakesMended};
@@ -15,8 +13,8 @@ ghost use Rattle.edfmend_command.specs.Run.{LacksMended, IsMendDone, OpensTwice,
 
 use crate::lines::tell_ledger;
 use crate::refusal::refuse;
-use edf_fragment::{Counted, Input, Output};
-use edf_mend::{Ledger, MendFault, Rule, Survey, mend, survey_file};
+use edf_fragment::{Counted, Output};
+use edf_mend::{Ledger, MendFault, Survey, Wanted, mend, survey_file};
 use edf_new_files::NewFiles;
 use edf_program::{Inputs, Status, tell_there};
 use std::alloc::Global;
@@ -29,53 +27,34 @@ pub struct MendCommand {
     pub input: String,
     /// The new file, or none where only the changes are told.
     pub output: Option<String>,
-    /// The code of the patient, where one was given.
-    pub patient: Option<String>,
-    /// The rules that are applied, or all where there is none.
-    pub rules: Vec<Rule>,
+    /// What it is asked for.
+    pub wanted: Wanted,
 }
 
 /// Why no file was made, and whether a part of it is left, which could not be removed.
-#[derive(Clone, Copy, Drop)]
+#[derive(Drop)]
 struct Stop {
     fault: MendFault,
     is_left: bool,
 }
 
-/// The code that was given, if one was.
-fn given_code(command: &MendCommand) -> Option<&[u8]>
-    ensures { option_map (λ code. code.now) result ≡ option_map string_bytes command.now.patient }
-{
-    match &command.patient {
-        Some(code) => Some(code.as_bytes()),
-        None => None,
-    }
-}
-
-/// What a first reading finds, which writes nothing.
-fn survey<R: Input + Drop>(alloc: Global, reader: R) -> Result<Survey, MendFault>
-    ensures surveyed { IfOk result (λ survey. SurveysAs (R.remaining reader) survey.fault) }
-    ensures trouble { IfErr result (λ fault. IsTrouble fault × (fault ≢ MendFault.Write)) }
-{
-    match survey_file(alloc, reader) {
-        Ok(survey) => Ok(survey),
-        Err(MendFault::Read) => Err(MendFault::Read),
-        Err(_) => Err(MendFault::Memory),
-    }
-}
-
 /// The first reading.
-fn survey_of<I: Inputs>(alloc: Global, file: &str, inputs: &mut I) -> Result<Survey, MendFault>
+fn survey_of<I: Inputs>(
+    alloc: Global,
+    file: &str,
+    wanted: &Wanted,
+    inputs: &mut I,
+) -> Result<Survey, MendFault>
     ensures surveyed { IfOk result
-        (λ survey. SurveysAs (I.bytes inputs.old file.now) survey.fault) }
-    ensures trouble { IfErr result (λ fault. IsTrouble fault × (fault ≢ MendFault.Write)) }
+        (λ survey. Surveys (I.bytes inputs.old file.now) wanted.now survey) }
+    ensures trouble { IfErr result (λ fault. (fault ≡ MendFault.Read) ⊎ (fault ≡ MendFault.Memory)) }
     ensures opened { MatchResult result
         (λ _. I.opened inputs.new ≡ I.opened inputs.old ++ replicate 1 file.now)
         (λ _. OpensUpTo (I.opened inputs.old) (I.opened inputs.new) file.now 1) }
     ensures same { (name : List ℕ) → I.bytes inputs.new name ≡ I.bytes inputs.old name }
 {
     match inputs.open(alloc, file) {
-        Ok(reader) => survey(alloc, reader),
+        Ok(mut reader) => survey_file(alloc, &mut reader, wanted),
         Err(_) => Err(MendFault::Memory),
     }
 }
@@ -84,17 +63,15 @@ fn survey_of<I: Inputs>(alloc: Global, file: &str, inputs: &mut I) -> Result<Sur
 fn mend_again<I: Inputs, W: Output>(
     alloc: Global,
     file: &str,
-    patient: Option<&[u8]>,
-    rules: &[Rule],
+    wanted: &Wanted,
     survey: &Survey,
     inputs: &mut I,
     out: &mut W,
 ) -> Result<Ledger, MendFault>
-    ensures answer { MatchResult result
-        (MendsAs (I.bytes inputs.old file.now) (option_map (λ code. code.now) patient.entry)
-        rules.now survey.now.fault (W.contents out.old) (W.contents out.new))
-        (StopsMending (I.bytes inputs.old file.now) (option_map (λ code. code.now) patient.entry)
-        rules.now survey.now.fault) }
+    ensures answer { Surveys (I.bytes inputs.old file.now) wanted.now survey.now →
+        MatchResult result
+        (MendsAs (I.bytes inputs.old file.now) wanted.now (W.contents out.old) (W.contents out.new))
+        (IsNotMended (I.bytes inputs.old file.now) wanted.now) }
     ensures counted { MatchResult result
         (λ _. W.failures out.new ≡ W.failures out.old)
         (CountsWrite (W.failures out.old) (W.failures out.new)) }
@@ -103,7 +80,7 @@ fn mend_again<I: Inputs, W: Output>(
         (λ _. OpensUpTo (I.opened inputs.old) (I.opened inputs.new) file.now 1) }
 {
     match inputs.open(alloc, file) {
-        Ok(mut reader) => mend(alloc, &mut reader, out, survey, rules, patient),
+        Ok(mut reader) => mend(alloc, &mut reader, out, survey, wanted),
         Err(_) => Err(MendFault::Memory),
     }
 }
@@ -112,44 +89,39 @@ fn mend_again<I: Inputs, W: Output>(
 fn mend_nowhere<I: Inputs>(
     alloc: Global,
     file: &str,
-    patient: Option<&[u8]>,
-    rules: &[Rule],
+    wanted: &Wanted,
     inputs: &mut I,
 ) -> Result<Ledger, MendFault>
     ensures answer { MatchResult result
-        (λ ledger. (new : List ℕ) × IsMendedFile (I.bytes inputs.old file.now)
-        (option_map (λ code. code.now) patient.entry) rules.now ledger new)
-        (IsNotMended (I.bytes inputs.old file.now)
-        (option_map (λ code. code.now) patient.entry)) }
+        (λ ledger. (new : List ℕ) × IsMendedFile (I.bytes inputs.old file.now) wanted.now ledger new)
+        (IsNotMended (I.bytes inputs.old file.now) wanted.now) }
     ensures opened { MatchResult result
         (λ _. I.opened inputs.new ≡ I.opened inputs.old ++ replicate 2 file.now)
         (λ _. OpensUpTo (I.opened inputs.old) (I.opened inputs.new) file.now 2) }
 {
-    let survey = survey_of(alloc, file, inputs)?;
+    let survey = survey_of(alloc, file, wanted, inputs)?;
     let mut nowhere = Counted::new(io::sink());
-    mend_again(alloc, file, patient, rules, &survey, inputs, &mut nowhere)
+    mend_again(alloc, file, wanted, &survey, inputs, &mut nowhere)
 }
 
 /// Tells the changes of a file, or why there are none.
 fn tell_changes<I: Inputs, O: Output, F: Output>(
     alloc: Global,
     file: &str,
-    patient: Option<&[u8]>,
-    rules: &[Rule],
+    wanted: &Wanted,
     inputs: &mut I,
     out: &mut O,
     err: &mut F,
 ) -> Status
-    ensures told { let given = option_map (λ code. code.now) patient.entry in
-        TellsChanges (growth O.Output out.old out.new) (growth F.Output err.old err.new)
-        (I.bytes inputs.old file.now) given rules.now file.now result
+    ensures told { TellsChanges (growth O.Output out.old out.new) (growth F.Output err.old err.new)
+        (I.bytes inputs.old file.now) wanted.now file.now result
         ⊎ LacksChanges (growth O.Output out.old out.new) (growth F.Output err.old err.new)
-        (I.bytes inputs.old file.now) given rules.now file.now result }
+        (I.bytes inputs.old file.now) wanted.now file.now result }
     ensures opened { OpensTwice (I.opened inputs.old) (I.opened inputs.new) file.now result }
 {
-    match mend_nowhere(alloc, file, patient, rules, inputs) {
-        Ok(ledger) => tell_ledger(alloc, &ledger, out),
-        Err(fault) => refuse(alloc, file, file, fault, None, err),
+    match mend_nowhere(alloc, file, wanted, inputs) {
+        Ok(ledger) => tell_ledger(alloc, &ledger, out, err),
+        Err(fault) => refuse(alloc, file, file, &fault, None, err),
     }
 }
 
@@ -157,26 +129,24 @@ fn tell_changes<I: Inputs, O: Output, F: Output>(
 fn write_file<I: Inputs, M: NewFiles>(
     alloc: Global,
     file: &str,
-    patient: Option<&[u8]>,
-    rules: &[Rule],
+    wanted: &Wanted,
     survey: &Survey,
     inputs: &mut I,
     maker: &mut M,
     mut writer: M::Writer,
 ) -> Result<Ledger, MendFault>
     requires { M.Writer.failures writer ≡ 0 }
-    ensures answer { MatchResult result
-        (WritesFile (I.bytes inputs.old file.now) (option_map (λ code. code.now) patient.entry)
-        rules.now survey.now.fault (M.made maker.old) (M.made maker.new) (M.failed maker.old)
-        (M.failed maker.new) (M.Writer.contents writer))
-        (StopsWriting (I.bytes inputs.old file.now) (option_map (λ code. code.now) patient.entry)
-        rules.now survey.now.fault (M.made maker.old) (M.made maker.new) (M.failed maker.old)
-        (M.failed maker.new)) }
+    ensures answer { Surveys (I.bytes inputs.old file.now) wanted.now survey.now →
+        MatchResult result
+        (WritesFile (I.bytes inputs.old file.now) wanted.now (M.made maker.old) (M.made maker.new)
+        (M.failed maker.old) (M.failed maker.new) (M.Writer.contents writer))
+        (StopsWriting (I.bytes inputs.old file.now) wanted.now (M.made maker.old)
+        (M.made maker.new) (M.failed maker.old) (M.failed maker.new)) }
     ensures opened { MatchResult result
         (λ _. I.opened inputs.new ≡ I.opened inputs.old ++ replicate 1 file.now)
         (λ _. OpensUpTo (I.opened inputs.old) (I.opened inputs.new) file.now 1) }
 {
-    match mend_again(alloc, file, patient, rules, survey, inputs, &mut writer) {
+    match mend_again(alloc, file, wanted, survey, inputs, &mut writer) {
         Ok(ledger) => match maker.finish(writer) {
             Ok(_) => Ok(ledger),
             Err(_) => Err(MendFault::Write),
@@ -192,18 +162,18 @@ fn write_file<I: Inputs, M: NewFiles>(
 fn make_file<I: Inputs, M: NewFiles>(
     alloc: Global,
     file: &str,
-    patient: Option<&[u8]>,
-    rules: &[Rule],
+    wanted: &Wanted,
     survey: &Survey,
     name: &str,
     inputs: &mut I,
     maker: &mut M,
 ) -> Result<Ledger, Stop>
-    ensures answer { MatchResult result
-        (MakesFile (I.bytes inputs.old file.now) (option_map (λ code. code.now) patient.entry)
-        rules.now survey.now.fault (making M.NewFiles maker.old maker.new) name.now)
-        (StopsMaking (I.bytes inputs.old file.now) (option_map (λ code. code.now) patient.entry)
-        rules.now survey.now.fault (making M.NewFiles maker.old maker.new) name.now) }
+    ensures answer { Surveys (I.bytes inputs.old file.now) wanted.now survey.now →
+        MatchResult result
+        (MakesFile (I.bytes inputs.old file.now) wanted.now
+        (making M.NewFiles maker.old maker.new) name.now)
+        (StopsMaking (I.bytes inputs.old file.now) wanted.now
+        (making M.NewFiles maker.old maker.new) name.now) }
     ensures opened { MatchResult result
         (λ _. I.opened inputs.new ≡ I.opened inputs.old ++ replicate 1 file.now)
         (λ _. OpensUpTo (I.opened inputs.old) (I.opened inputs.new) file.now 1) }
@@ -215,7 +185,7 @@ fn make_file<I: Inputs, M: NewFiles>(
             is_left: false,
         });
     };
-    match write_file(alloc, file, patient, rules, survey, inputs, maker, writer) {
+    match write_file(alloc, file, wanted, survey, inputs, maker, writer) {
         Ok(ledger) => Ok(ledger),
         Err(fault) => {
             let is_gone = maker.remove(place);
@@ -239,36 +209,34 @@ fn left_name(name: &str, is_left: bool) -> Option<&str>
 fn mend_to<I: Inputs, M: NewFiles, O: Output, F: Output>(
     alloc: Global,
     file: &str,
-    patient: Option<&[u8]>,
-    rules: &[Rule],
+    wanted: &Wanted,
     name: &str,
     inputs: &mut I,
     maker: &mut M,
     out: &mut O,
     err: &mut F,
 ) -> Status
-    ensures done { let given = option_map (λ code. code.now) patient.entry in
-        let m = making M.NewFiles maker.old maker.new in
+    ensures done { let m = making M.NewFiles maker.old maker.new in
         FindsName (growth O.Output out.old out.new) (growth F.Output err.old err.new)
-        (I.bytes inputs.old file.now) given rules.now file.now result m name.now
+        (I.bytes inputs.old file.now) wanted.now file.now result m name.now
         ⊎ (MakesMended (growth O.Output out.old out.new) (growth F.Output err.old err.new)
-        (I.bytes inputs.old file.now) given rules.now file.now result m name.now
+        (I.bytes inputs.old file.now) wanted.now file.now result m name.now
         ⊎ LacksMended (growth O.Output out.old out.new) (growth F.Output err.old err.new)
-        (I.bytes inputs.old file.now) given rules.now file.now result m name.now) }
+        (I.bytes inputs.old file.now) wanted.now file.now result m name.now) }
     ensures opened { OpensTwice (I.opened inputs.old) (I.opened inputs.new) file.now result }
 {
     if maker.is_there(name) {
         return tell_there(err, name);
     }
-    let survey = match survey_of(alloc, file, inputs) {
+    let survey = match survey_of(alloc, file, wanted, inputs) {
         Ok(survey) => survey,
-        Err(fault) => return refuse(alloc, file, name, fault, None, err),
+        Err(fault) => return refuse(alloc, file, name, &fault, None, err),
     };
-    match make_file(alloc, file, patient, rules, &survey, name, inputs, maker) {
-        Ok(ledger) => tell_ledger(alloc, &ledger, out),
+    match make_file(alloc, file, wanted, &survey, name, inputs, maker) {
+        Ok(ledger) => tell_ledger(alloc, &ledger, out, err),
         Err(stop) => {
             let left = left_name(name, stop.is_left);
-            refuse(alloc, file, name, stop.fault, left, err)
+            refuse(alloc, file, name, &stop.fault, left, err)
         }
     }
 }
@@ -278,7 +246,7 @@ fn mend_to<I: Inputs, M: NewFiles, O: Output, F: Output>(
 ///
 /// The new file has its name once it is whole; where there is something of that name, nothing is
 /// made. Then the ledger goes to `out`, a line a change. Where that can't be written whole the
-/// answer is `Trouble`, the new file stays, and no more is told. Why it is not made goes to `err`;
+/// answer is `Trouble`, the new file stays, and a line of `err` says so. Why it is not made goes to `err`;
 /// then no part of it is left, or one more line names the part that could not be removed.
 pub fn run_mend<I: Inputs, M: NewFiles, O: Output, F: Output>(
     alloc: Global,
@@ -295,13 +263,11 @@ pub fn run_mend<I: Inputs, M: NewFiles, O: Output, F: Output>(
         (string_bytes command.now.input) result }
 {
     let file = command.input.as_str();
-    let patient = given_code(command);
-    let rules = command.rules.as_slice();
     match &command.output {
         Some(name) => {
             let name = name.as_str();
-            mend_to(alloc, file, patient, rules, name, inputs, maker, out, err)
+            mend_to(alloc, file, &command.wanted, name, inputs, maker, out, err)
         }
-        None => tell_changes(alloc, file, patient, rules, inputs, out, err),
+        None => tell_changes(alloc, file, &command.wanted, inputs, out, err),
     }
 }

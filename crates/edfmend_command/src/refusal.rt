@@ -1,6 +1,7 @@
 //! The lines why a file is not mended.
 
 ghost use Rattle.std.specs.Prelude.{◌≡◌, ◌++◌, IfOk, option_map};
+ghost use Rattle.std.specs.List.{flat_map};
 ghost use Rattle.edf_program.specs.Output.{growth, IsPut, IsWritten};
 ghost use Rattle.edfmend_command.specs.Lines.{form_text, kept_line};
 ghost use Rattle.edfmend_command.specs.Lines.{kept_status};
@@ -9,6 +10,7 @@ ghost use Rattle.edfmend_command.specs.Run.{SaysWhy};
 use edf_fragment::{FragmentFault, Output, Remark};
 use edf_mend::MendFault;
 use edf_program::{Status, fragment_fault_text, joined, put_parts, status_of_number, tell_parts};
+use itoa::Buffer;
 use std::alloc::{AllocError, Global};
 
 /// Why a file is not mended, where memory ran out, or a read or a write failed.
@@ -18,10 +20,16 @@ const READ: &[u8; 18] = b" refused E40 Read\n";
 
 const WRITE: &[u8; 19] = b" refused E43 Write\n";
 
-/// What is told of a file that is refused as E4 or E5, though its own fields are right.
-const IDENTITY: &[u8; 20] = b" refused E4 Patient\n";
+/// What is told of a file that is asked something.
+const NO_CODE: &[u8; 56] = b" names no code of a patient: give one by --patient CODE\n";
 
-const MARK: &[u8; 22] = b" refused E5 Recording\n";
+const NO_COUNT: &[u8; 85] =
+    b" ends in zeros or in a piece of a data record: name count in --as, beside the others\n";
+
+const NO_ROOM: &[u8; 76] =
+    b" has no room for the word mended in its recording field: 7 bytes are wanted\n";
+
+const CHANGED: &[u8; 30] = b" changed between its readings\n";
 
 /// Tells a person more, where there is more to tell.
 fn remark_on<F: Output>(err: &mut F, name: &str, remark: Option<Remark>)
@@ -33,11 +41,13 @@ fn remark_on<F: Output>(err: &mut F, name: &str, remark: Option<Remark>)
     }
 }
 
-/// Prints a line about a file, and tells a person more. Whether the line was printed whole.
-fn is_why_told<F: Output>(err: &mut F, file: &str, why: &[u8], remark: Option<Remark>) -> bool
-    ensures { IsPut (growth F.Output err.old err.new) (file.now ++ why.now) result }
+/// Prints the parts of a line about a file, and tells a person more. Whether the line was printed
+/// whole.
+fn is_why_told<F: Output>(err: &mut F, file: &str, parts: &[&[u8]], remark: Option<Remark>) -> bool
+    ensures { IsPut (growth F.Output err.old err.new) (flat_map (λ part. part.now) parts.now)
+        result }
 {
-    if !put_parts(err, &[file.as_bytes(), why]) {
+    if !put_parts(err, parts) {
         return false;
     }
     remark_on(err, file, remark);
@@ -49,16 +59,17 @@ fn is_why_told<F: Output>(err: &mut F, file: &str, why: &[u8], remark: Option<Re
 fn tell_why<F: Output>(
     err: &mut F,
     file: &str,
-    why: &[u8],
+    parts: &[&[u8]],
     remark: Option<Remark>,
     kept: Option<&str>,
     status: Status,
 ) -> Status
     ensures { let left = option_map (λ name. name.now) kept.entry in
-        IsWritten (growth F.Output err.old err.new) (file.now ++ (why.now ++ kept_line left))
+        IsWritten (growth F.Output err.old err.new)
+        (flat_map (λ part. part.now) parts.now ++ kept_line left)
         (kept_status left status) result }
 {
-    if !is_why_told(err, file, why, remark) {
+    if !is_why_told(err, file, parts, remark) {
         return Status::Trouble;
     }
     match kept {
@@ -70,7 +81,7 @@ fn tell_why<F: Output>(
     }
 }
 
-/// The first fault that a file still has, as the line has it.
+/// The text that a file is refused for its form.
 fn form_text(alloc: Global, fault: &FragmentFault) -> Result<Vec<u8>, AllocError>
     ensures { IfOk result (λ r. r.items ≡ form_text fault.now) }
 {
@@ -93,11 +104,13 @@ fn refuse_form<F: Output>(
         Ok(text) => {
             let status = status_of_number(met.number());
             let remark = Some(Remark::Fault(met));
-            tell_why(err, file, text.as_slice(), remark, kept, status)
+            let parts = [file.as_bytes(), text.as_slice()];
+            tell_why(err, file, &parts, remark, kept, status)
         }
         Err(_) => {
             let remark = Some(Remark::Fault(FragmentFault::Memory));
-            tell_why(err, file, MEMORY, remark, kept, Status::Trouble)
+            let parts = [file.as_bytes(), MEMORY];
+            tell_why(err, file, &parts, remark, kept, Status::Trouble)
         }
     }
 }
@@ -112,27 +125,72 @@ pub(crate) fn refuse<F: Output>(
     alloc: Global,
     old_name: &str,
     new_name: &str,
-    fault: MendFault,
+    fault: &MendFault,
     kept: Option<&str>,
     err: &mut F,
 ) -> Status
-    ensures { SaysWhy (growth F.Output err.old err.new) old_name.now new_name.now fault
+    ensures { SaysWhy (growth F.Output err.old err.new) old_name.now new_name.now fault.now
         (option_map (λ name. name.now) kept.entry) result }
 {
+    let old = old_name.as_bytes();
     match fault {
-        MendFault::Refused(met) => refuse_form(alloc, old_name, met, kept, err),
-        MendFault::Identity => {
-            tell_why(err, old_name, IDENTITY, numbered(4), kept, Status::Refused)
+        MendFault::Refused(met) => refuse_form(alloc, old_name, *met, kept, err),
+        MendFault::Code => { tell_why(err, old_name, &[old, NO_CODE], None, kept, Status::Refused) }
+        MendFault::Unused(code) => {
+            let parts: [&[u8]; 5] = [b"patient unused: ", old, b" names ", code.as_slice(), b"\n"];
+            tell_why(err, old_name, &parts, None, kept, Status::Refused)
         }
-        MendFault::Mark => tell_why(err, old_name, MARK, numbered(5), kept, Status::Refused),
-        MendFault::Code => {
-            let code = b" names no code of a patient: give one by --patient CODE\n";
-            tell_why(err, old_name, code, None, kept, Status::Refused)
+        MendFault::Startdate(own) => {
+            let parts: [&[u8]; 5] = [b"startdate unused: ", old, b" has ", own, b"\n"];
+            tell_why(err, old_name, &parts, None, kept, Status::Refused)
         }
-        MendFault::Read => { tell_why(err, old_name, READ, numbered(40), kept, Status::Trouble) }
+        MendFault::Starttime(own) => {
+            let parts: [&[u8]; 5] = [b"starttime unused: ", old, b" has ", own, b"\n"];
+            tell_why(err, old_name, &parts, None, kept, Status::Refused)
+        }
+        MendFault::SecondHeader(at) => {
+            let mut buffer = Buffer::new();
+            let digits = buffer.format(*at);
+            let parts = [
+                old,
+                b" has a second header at offset=",
+                digits.as_bytes(),
+                b": split it there\n",
+            ];
+            tell_why(err, old_name, &parts, None, kept, Status::Refused)
+        }
+        MendFault::Count => {
+            tell_why(err, old_name, &[old, NO_COUNT], None, kept, Status::Refused)
+        }
+        MendFault::NoRoom => {
+            tell_why(err, old_name, &[old, NO_ROOM], None, kept, Status::Refused)
+        }
+        MendFault::Changed => {
+            tell_why(err, old_name, &[old, CHANGED], None, kept, Status::Trouble)
+        }
+        MendFault::Read => {
+            tell_why(
+                err,
+                old_name,
+                &[old, READ],
+                numbered(40),
+                kept,
+                Status::Trouble,
+            )
+        }
         MendFault::Memory => {
-            tell_why(err, old_name, MEMORY, numbered(41), kept, Status::Trouble)
+            tell_why(
+                err,
+                old_name,
+                &[old, MEMORY],
+                numbered(41),
+                kept,
+                Status::Trouble,
+            )
         }
-        MendFault::Write => { tell_why(err, new_name, WRITE, numbered(43), kept, Status::Trouble) }
+        MendFault::Write => {
+            let parts = [new_name.as_bytes(), WRITE];
+            tell_why(err, new_name, &parts, numbered(43), kept, Status::Trouble)
+        }
     }
 }

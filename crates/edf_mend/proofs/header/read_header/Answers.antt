@@ -1,118 +1,180 @@
-use Rattle.std.proofs.Common.{rules, ◌≡◌, ◌*◌, ◌++◌, ◌∙◌, List, ℕ, length, take, refl, ap}
-use Rattle.std.proofs.Common.{subst, arith, length-append, length-take-le, take_at, drop}
+use Rattle.std.proofs.Common.{rules, ◌≡◌, ◌∙◌, ◌++◌, ◌*◌, sym, subst, refl, take}
+use Rattle.std.proofs.Common.{length, List, ℕ}
 use Rattle.std.proofs.KnownBytes.{Consumes-trans}
-use Rattle.edf_field.specs.Number.{IsNumber}
-use Rattle.edf_header.specs.Fields.{signals_field}
-use Rattle.edf_fragment.proofs.HeaderParts.{field_front}
-use Rattle.edf_mend.proofs.Further.{read-whole}
+use Rattle.edf_mend.specs.Counts.{CountsFault}
+use Rattle.edf_mend.specs.Header.{texts_of, header_bytes}
+use Rattle.edf_mend.specs.Inside.Head.{IsHeaderRead}
+use Rattle.edf_mend.specs.Inside.Refused.{IsHeaderRefusal}
+use Rattle.edf_mend.specs.Inside.Tallied.{IsTally}
+use Rattle.edf_mend.specs.declared.fault.MendFault.{MendFault}
+use Rattle.edf_mend.proofs.ReadHeaders.{cut-front, tallies-front, cut-signals, tallies-signals}
+use Rattle.edf_mend.proofs.CutHeaders.{ends-front, ends-signals}
+use Rattle.edf_mend.proofs.ReadHeaders.{header-read, header-tallied}
 use Rattle.edf_mend.proofs.header.read_header.Goals as goal
 
-pub returns-in-Cut-clause-refused : goal.returns-in-Cut-clause-refused
-returns-in-Cut-clause-refused g c bytes is n named few =
-    let cut = c.in-Cut.ensures.cut c.in-Cut.at refl in
-    let all = read-whole (g.R.Input.remaining c.args.input.now) (g.R.Input.remaining c.fill.new.input)
-    (take c.in-Cut.at c.fill.new.buf) bytes is cut.1 cut.2 in
-    let size : length c.fill.new.buf ≡ 256 = search rules in
-    let some : length (take c.in-Cut.at c.fill.new.buf) ≡ c.in-Cut.at =
-    length-take-le c.in-Cut.at c.fill.new.buf (omega (arith, cut.0)) in
-    omega (arith, ap (λ (x : List ℕ). length x) all, some, cut.0, size)
+pub returns-then-n-lt-FIXED-clause-refused : goal.returns-then-n-lt-FIXED-clause-refused
+returns-then-n-lt-FIXED-clause-refused g c = λ file is.
+    let front = c.fill_counted.new.buf in
+    let len : length front ≡ 256 = search rules in
+    subst (λ (x : MendFault). IsHeaderRefusal file x) (sym c.refused_header.ensures)
+    (cut-front (g.R.Input.remaining c.args.input.now)
+    (g.R.Input.remaining c.fill_counted.new.input) file front c.in_ok-n.n is
+    c.in_ok-n.ensures.given len c.if-n-lt-FIXED.true)
 
-pub returns-in-Cut-clause-further : goal.returns-in-Cut-clause-further
-returns-in-Cut-clause-further g c =
-    (take c.in-Cut.at c.fill.new.buf, (c.in-Cut.ensures.cut c.in-Cut.at refl).1)
+pub returns-then-n-lt-FIXED-clause-ended : goal.returns-then-n-lt-FIXED-clause-ended
+returns-then-n-lt-FIXED-clause-ended g c = λ first body fault is e.
+    let front = c.fill_counted.new.buf in
+    let len : length front ≡ 256 = search rules in
+    tallies-front (g.R.Input.remaining c.args.input.now)
+    (g.R.Input.remaining c.fill_counted.new.input) front first body c.in_ok-n.n
+    c.fill_counted.new.tally c.in_ok-n.ensures.given len c.if-n-lt-FIXED.true
+    (c.in_ok-n.ensures.tallied first body is)
 
-pub returns-in-Cut-fill-clause-refused : goal.returns-in-Cut-fill-clause-refused
-returns-in-Cut-fill-clause-refused g c bytes is n named few =
-    let left = g.R.Input.remaining c.args.input.now in
-    let mid = g.R.Input.remaining c.fill.new.input in
-    let rest = g.R.Input.remaining c.fill-2.new.input in
-    let fixed = c.fill.new.buf in
-    let piece = take c.in-Cut-fill.at c.fill-2.new.buf in
-    let cut = c.in-Cut-fill.ensures.cut c.in-Cut-fill.at refl in
-    let read = Consumes-trans left mid rest fixed piece (c.in-Full.ensures.full refl) cut.1 in
-    let all = read-whole left rest (fixed ++ piece) bytes is read cut.2 in
-    let size : length fixed ≡ 256 = search rules in
-    let some : length piece ≡ c.in-Cut-fill.at =
-    length-take-le c.in-Cut-fill.at c.fill-2.new.buf (omega (arith, cut.0)) in
-    let same : signals_field bytes ≡ signals_field fixed =
-    ap (λ (x : List ℕ). signals_field x) all ∙ field_front fixed piece 252 4 (omega (arith, size)) in
-    let count : c.signals_named.result ≡ n = c.signals_named.ensures.named (omega (arith, size)) n
-    (subst (λ (x : List ℕ). IsNumber x n) same named) few in
-    let second : length c.fill-2.new.buf ≡ 256 * c.signals_named.result = search rules in
-    omega (
-      arith,
-      ap (λ (x : List ℕ). length x) all,
-      length-append fixed piece,
-      some,
-      cut.0,
-      second,
-      count,
-      size,
+pub returns-then-n-lt-FIXED-clause-ends : goal.returns-then-n-lt-FIXED-clause-ends
+returns-then-n-lt-FIXED-clause-ends g c = λ file fault is e.
+    let front = c.fill_counted.new.buf in
+    let len : length front ≡ 256 = search rules in
+    ends-front (g.R.Input.remaining c.args.input.now)
+    (g.R.Input.remaining c.fill_counted.new.input) file front c.in_ok-n.n is
+    c.in_ok-n.ensures.given len c.if-n-lt-FIXED.true
+
+pub returns-in_err-m-clause-further : goal.returns-in_err-m-clause-further
+returns-in_err-m-clause-further g c =
+    let a = c.fill_counted.ensures.further in
+    let b = c.fill_counted-2.ensures.further in (
+      a.0 ++ b.0,
+      Consumes-trans (g.R.Input.remaining c.args.input.now)
+          (g.R.Input.remaining c.fill_counted.new.input)
+          (g.R.Input.remaining c.fill_counted-2.new.input) a.0 b.0 a.1 b.1,
     )
 
-pub returns-in-Cut-fill-clause-further : goal.returns-in-Cut-fill-clause-further
-returns-in-Cut-fill-clause-further g c = (
-  c.fill.new.buf ++ take c.in-Cut-fill.at c.fill-2.new.buf,
-  Consumes-trans (g.R.Input.remaining c.args.input.now) (g.R.Input.remaining c.fill.new.input)
-      (g.R.Input.remaining c.fill-2.new.input) c.fill.new.buf
-      (take c.in-Cut-fill.at c.fill-2.new.buf) (c.in-Full.ensures.full refl)
-      (c.in-Cut-fill.ensures.cut c.in-Cut-fill.at refl).1,
-)
+pub returns-in_err-cut_header-clause-further : goal.returns-in_err-cut_header-clause-further
+returns-in_err-cut_header-clause-further g c =
+    let a = c.fill_counted.ensures.further in
+    let b = c.fill_counted-2.ensures.further in (
+      a.0 ++ b.0,
+      Consumes-trans (g.R.Input.remaining c.args.input.now)
+          (g.R.Input.remaining c.fill_counted.new.input)
+          (g.R.Input.remaining c.fill_counted-2.new.input) a.0 b.0 a.1 b.1,
+    )
 
-pub returns-in-Failed-fill-clause-further : goal.returns-in-Failed-fill-clause-further
-returns-in-Failed-fill-clause-further g c = let stopped = c.in-Failed-fill.ensures.stopped refl in (
-  c.fill.new.buf ++ stopped.bytes,
-  Consumes-trans (g.R.Input.remaining c.args.input.now) (g.R.Input.remaining c.fill.new.input)
-      (g.R.Input.remaining c.fill-2.new.input) c.fill.new.buf stopped.bytes
-      (c.in-Full.ensures.full refl) stopped.read,
-)
+pub returns-then-m-signals-clause-refused : goal.returns-then-m-signals-clause-refused
+returns-then-m-signals-clause-refused g c = λ file is.
+    let front = c.fill_counted.new.buf in
+    let len : length front ≡ 256 = search rules in
+    let size : length c.fill_counted-2.new.buf ≡ 256 * c.signals_named-signals.result = search rules in
+    cut-signals (g.R.Input.remaining c.args.input.now)
+    (g.R.Input.remaining c.fill_counted.new.input)
+    (g.R.Input.remaining c.fill_counted-2.new.input) front c.fill_counted-2.new.buf c.in_ok-n.n
+    c.in_ok-m.m c.signals_named-signals.result c.in_ok-n.ensures.given len c.if-n-lt-FIXED.false
+    c.in_ok-m.ensures.given size file c.in_ok-cut_header.field-0 is c.if-m-signals.true
+    c.signals_named-signals.ensures.named c.in_ok-cut_header.ensures.refusal
 
-pub returns-in_err-header-clause-further : goal.returns-in_err-header-clause-further
-returns-in_err-header-clause-further g c = (
-  c.fill.new.buf ++ c.fill-2.new.buf,
-  Consumes-trans (g.R.Input.remaining c.args.input.now) (g.R.Input.remaining c.fill.new.input)
-      (g.R.Input.remaining c.fill-2.new.input) c.fill.new.buf c.fill-2.new.buf
-      (c.in-Full.ensures.full refl) (c.in-Full-fill.ensures.full refl),
-)
+pub returns-then-m-signals-clause-ends : goal.returns-then-m-signals-clause-ends
+returns-then-m-signals-clause-ends g c = λ file fault is e.
+    let front = c.fill_counted.new.buf in
+    let len : length front ≡ 256 = search rules in
+    let size : length c.fill_counted-2.new.buf ≡ 256 * c.signals_named-signals.result = search rules in
+    ends-signals (g.R.Input.remaining c.args.input.now)
+    (g.R.Input.remaining c.fill_counted.new.input)
+    (g.R.Input.remaining c.fill_counted-2.new.input) front c.fill_counted-2.new.buf c.in_ok-n.n
+    c.in_ok-m.m c.signals_named-signals.result c.in_ok-n.ensures.given len c.if-n-lt-FIXED.false
+    c.in_ok-m.ensures.given size file is c.if-m-signals.true
+    c.signals_named-signals.ensures.named
+
+pub returns-then-m-signals-clause-ended : goal.returns-then-m-signals-clause-ended
+returns-then-m-signals-clause-ended g c = λ first body fault is e.
+    let front = c.fill_counted.new.buf in
+    let len : length front ≡ 256 = search rules in
+    let size : length c.fill_counted-2.new.buf ≡ 256 * c.signals_named-signals.result = search rules in
+    tallies-signals (g.R.Input.remaining c.args.input.now)
+    (g.R.Input.remaining c.fill_counted.new.input)
+    (g.R.Input.remaining c.fill_counted-2.new.input) front c.fill_counted-2.new.buf c.in_ok-n.n
+    c.in_ok-m.m c.signals_named-signals.result c.in_ok-n.ensures.given len c.if-n-lt-FIXED.false
+    c.in_ok-m.ensures.given size first body c.fill_counted-2.new.tally c.if-m-signals.true
+    (c.in_ok-m.ensures.tallied first (body ++ take c.in_ok-n.n front)
+    (c.in_ok-n.ensures.tallied first body is))
+
+pub returns-then-m-signals-clause-further : goal.returns-then-m-signals-clause-further
+returns-then-m-signals-clause-further g c =
+    let a = c.fill_counted.ensures.further in
+    let b = c.fill_counted-2.ensures.further in (
+      a.0 ++ b.0,
+      Consumes-trans (g.R.Input.remaining c.args.input.now)
+          (g.R.Input.remaining c.fill_counted.new.input)
+          (g.R.Input.remaining c.fill_counted-2.new.input) a.0 b.0 a.1 b.1,
+    )
+
+pub returns-then-m-signals-clause-counted : goal.returns-then-m-signals-clause-counted
+returns-then-m-signals-clause-counted g c =
+    let first = c.in_ok-n.ensures.counted in
+    let second = c.in_ok-m.ensures.counted in
+    let told = c.in_ok-cut_header.ensures.told in
+    subst (λ (why : MendFault). CountsFault (g.R.Input.failures c.args.input.now)
+    (g.R.Input.failures c.fill_counted-2.new.input) 0 0 why) (sym told.1)
+    (second.0 ∙ first.0, refl)
+
+pub returns-in_err-bytes-clause-further : goal.returns-in_err-bytes-clause-further
+returns-in_err-bytes-clause-further g c =
+    let a = c.fill_counted.ensures.further in
+    let b = c.fill_counted-2.ensures.further in (
+      a.0 ++ b.0,
+      Consumes-trans (g.R.Input.remaining c.args.input.now)
+          (g.R.Input.remaining c.fill_counted.new.input)
+          (g.R.Input.remaining c.fill_counted-2.new.input) a.0 b.0 a.1 b.1,
+    )
 
 pub returns-in_err-extend_from_slice-clause-further :
     goal.returns-in_err-extend_from_slice-clause-further
-returns-in_err-extend_from_slice-clause-further g c = (
-  c.fill.new.buf ++ c.fill-2.new.buf,
-  Consumes-trans (g.R.Input.remaining c.args.input.now) (g.R.Input.remaining c.fill.new.input)
-      (g.R.Input.remaining c.fill-2.new.input) c.fill.new.buf c.fill-2.new.buf
-      (c.in-Full.ensures.full refl) (c.in-Full-fill.ensures.full refl),
-)
+returns-in_err-extend_from_slice-clause-further g c =
+    let a = c.fill_counted.ensures.further in
+    let b = c.fill_counted-2.ensures.further in (
+      a.0 ++ b.0,
+      Consumes-trans (g.R.Input.remaining c.args.input.now)
+          (g.R.Input.remaining c.fill_counted.new.input)
+          (g.R.Input.remaining c.fill_counted-2.new.input) a.0 b.0 a.1 b.1,
+    )
 
-pub returns-clause-whole : goal.returns-clause-whole
-returns-clause-whole g c n named few =
-    let all = c.extend_from_slice.new.self.items in
-    let fixed = c.fill.new.buf in
-    let signals = c.fill-2.new.buf in
-    let first : c.in_ok-header.header.items ≡ fixed = search rules in
-    let room = c.in_ok-signals.signals in
-    let len : length signals ≡ room.len = search rules in
-    let taken : take room.len (signals ++ drop (length signals) room.items) ≡ signals =
-    take_at signals (drop (length signals) room.items) room.len len in
-    let last : c.as_slice-2.result.now ≡ signals =
-    search (rules, c.as_mut_slice.ensures.writes_back, c.as_slice-2.ensures.value, taken) in
-    let parts : all ≡ c.in_ok-header.header.items ++ c.as_slice-2.result.now =
-    search (rules, c.in_ok-extend_from_slice.ensures.items) in
-    let items : all ≡ fixed ++ signals = parts
-    ∙ ap (λ (x : List ℕ). x ++ c.as_slice-2.result.now) first
-    ∙ ap (λ (x : List ℕ). fixed ++ x) last in
-    let size : length fixed ≡ 256 = search rules in
-    let second : length signals ≡ 256 * c.signals_named.result = search rules in
-    let same : signals_field all ≡ signals_field fixed =
-    ap (λ (x : List ℕ). signals_field x) items ∙ field_front fixed signals 252 4 (omega (arith, size))
-    in
-    let count : c.signals_named.result ≡ n = c.signals_named.ensures.named (omega (arith, size)) n
-    (subst (λ (x : List ℕ). IsNumber x n) same named) few in
-    omega (
-      arith,
-      ap (λ (x : List ℕ). length x) items,
-      length-append fixed signals,
-      size,
-      second,
-      count,
+pub returns-clause-read : goal.returns-clause-read
+returns-clause-read g c =
+    let front = c.fill_counted.new.buf in
+    let rest = c.fill_counted-2.new.buf in
+    let n = c.signals_named-signals.result in
+    let len : length front ≡ 256 = search rules in
+    let size : length rest ≡ 256 * n = search rules in
+    let items : c.extend_from_slice.new.self.items ≡ front ++ rest = search rules in
+    subst (λ (x : List ℕ). IsHeaderRead (g.R.Input.remaining c.args.input.now)
+    (g.R.Input.remaining c.fill_counted-2.new.input) (texts_of x n)) (sym items)
+    (header-read (g.R.Input.remaining c.args.input.now)
+    (g.R.Input.remaining c.fill_counted.new.input)
+    (g.R.Input.remaining c.fill_counted-2.new.input) front rest c.in_ok-n.n c.in_ok-m.m n
+    c.in_ok-n.ensures.given len c.if-n-lt-FIXED.false c.in_ok-m.ensures.given size
+    c.if-m-signals.false c.signals_named-signals.ensures.named)
+
+pub returns-clause-tallied : goal.returns-clause-tallied
+returns-clause-tallied g c = λ first body is.
+    let front = c.fill_counted.new.buf in
+    let rest = c.fill_counted-2.new.buf in
+    let n = c.signals_named-signals.result in
+    let len : length front ≡ 256 = search rules in
+    let size : length rest ≡ 256 * n = search rules in
+    let items : c.extend_from_slice.new.self.items ≡ front ++ rest = search rules in
+    subst (λ (x : List ℕ). IsTally first (body ++ header_bytes (texts_of x n))
+    c.fill_counted-2.new.tally) (sym items)
+    (header-tallied (g.R.Input.remaining c.args.input.now)
+    (g.R.Input.remaining c.fill_counted.new.input)
+    (g.R.Input.remaining c.fill_counted-2.new.input) front rest c.in_ok-n.n c.in_ok-m.m n
+    c.in_ok-n.ensures.given len c.if-n-lt-FIXED.false c.in_ok-m.ensures.given size
+    c.if-m-signals.false first body c.fill_counted-2.new.tally
+    (c.in_ok-m.ensures.tallied first (body ++ take c.in_ok-n.n front)
+    (c.in_ok-n.ensures.tallied first body is)))
+
+pub returns-clause-further : goal.returns-clause-further
+returns-clause-further g c =
+    let a = c.fill_counted.ensures.further in
+    let b = c.fill_counted-2.ensures.further in (
+      a.0 ++ b.0,
+      Consumes-trans (g.R.Input.remaining c.args.input.now)
+          (g.R.Input.remaining c.fill_counted.new.input)
+          (g.R.Input.remaining c.fill_counted-2.new.input) a.0 b.0 a.1 b.1,
     )

@@ -1,304 +1,227 @@
-use Rattle.std.proofs.Common.{rules, ◌≡◌, ◌<◌, ◌∙◌, ℕ, List, [], refl, sym, subst, arith}
-use Rattle.std.proofs.Common.{option_map}
-use Rattle.std.proofs.Common.{◌≢◌, None}
-use Rattle.std.proofs.lemmas.Result.{err_from_is_err_and}
-use Rattle.edf_mend.specs.Clock.{KeepsClock}
-use Rattle.edf_mend.specs.Edits.{RuleEdits}
-use Rattle.edf_mend.specs.Kept.{KeepsHeader}
-use Rattle.edf_mend.specs.Retimed.{IsContinuous}
-use Rattle.edf_mend.specs.Says.{SaysMended}
-use Rattle.edf_mend.specs.Patient.{KeepsPatient}
-use Rattle.edf_mend.specs.Counts.{CountsFault}
-use Rattle.edf_mend.specs.declared.fault.MendFault.TheVariants.{Identity}
-use Rattle.edf_mend.specs.Inside.Steps.{IsDrafted, IsOpened, IsSent, IsFitting, EndsInHeader}
-use Rattle.edf_mend.specs.Inside.Whole.{IsWholeHeader}
-use Rattle.edf_header.specs.Fields.{recording_field}
-use Rattle.edf_header.specs.Header.{IsHeader}
-use Rattle.edf_mend.proofs.Accepted.{refuses-then, refuses-some, asks-none, NoHeader}
-use Rattle.edf_mend.proofs.Further.{further-then, reads-on}
-use Rattle.edf_mend.proofs.Good.{not-in-header, good-header, good-opened, drafted-none, copies}
-use Rattle.edf_mend.proofs.Parts.{mends}
-use Rattle.edf_mend.proofs.Refusals.{told-quiet}
-use Rattle.edf_mend.proofs.Unchanged.{header-whole}
+use Rattle.std.proofs.Common.{rules, arith, ◌≡◌, ◌≤◌, ◌++◌, ◌∙◌, sym, ap, subst, List, ℕ, []}
+use Rattle.std.proofs.Common.{length}
+use Rattle.std.proofs.Common.{Option, Some}
+use Rattle.std.specs.Prelude.{MatchOption}
+use Rattle.edf_fragment.specs.Fault.{IsFirstFault}
+use Rattle.edf_fragment.specs.declared.fault.FragmentFault.{FragmentFault}
+use Rattle.edf_mend.specs.Answers.{IsEdf, IsRefusal, IsTrouble}
+use Rattle.edf_mend.specs.Header.{header_bytes}
+use Rattle.edf_mend.specs.Objections.{IsObjection}
+use Rattle.edf_mend.specs.Inside.Asking.{HasNoneBelow}
+use Rattle.edf_mend.specs.Inside.Carrying.{AsksNoneYet}
+use Rattle.edf_mend.specs.Inside.Tallied.{IsTally}
+use Rattle.edf_mend.specs.declared.fault.MendFault.{MendFault}
+use Rattle.edf_mend.specs.declared.fault.MendFault.TheVariants.{Refused}
+use Rattle.edf_mend.proofs.AnswersOf.{reads-more, writes-none}
+use Rattle.edf_mend.proofs.FrontFile.{front-last}
+use Rattle.edf_mend.proofs.MendingSteps.{err-gives, err-is, err-answers, memory-counts}
+use Rattle.edf_mend.proofs.MendingSteps.{quiet-counts}
+use Rattle.edf_mend.proofs.MendingSteps.{objection-quiet, calls-read, read-then}
+use Rattle.edf_mend.proofs.MendingWhole.{refused-so, total-so, copied-so, header-refuses, few-read}
+use Rattle.edf_mend.proofs.MendingWhole.{IsOther, other-refuses, other-same, other-counts}
+use Rattle.edf_mend.proofs.MendingWhole.{asked-refuses, asked-same, memory-so, memory-same}
+use Rattle.edf_mend.proofs.MendingWhole.{memory-trouble}
+use Rattle.edf_mend.proofs.MendingWhole.{mended-last, refused-last, same-last, total-last}
+use Rattle.edf_mend.proofs.MendingWhole.{copied-last}
 use Rattle.edf_mend.proofs.mending.mend.Goals as goal
 
-pub returns-in_err-draft-clause-counted : goal.returns-in_err-draft-clause-counted
-returns-in_err-draft-clause-counted g c =
-    let p = err_from_is_err_and c.from_residual-in_err-draft.result
-    c.from_residual-in_err-draft.ensures.1 in
-    rw (p.1, p.2, c.in_ok-old.ensures.counted.0) (c.in_err-draft.ensures.quiet
-    (g.R.Input.failures c.args.input.now) (g.W.Output.failures c.args.out.now))
+-- ---- no header was read
 
-pub returns-in_err-fragment-clause-counted : goal.returns-in_err-fragment-clause-counted
-returns-in_err-fragment-clause-counted g c =
-    let p = err_from_is_err_and c.from_residual-in_err-fragment.result
-    c.from_residual-in_err-fragment.ensures.1 in
-    rw (p.1, p.2, c.in_ok-old.ensures.counted.0) (c.in_err-fragment.ensures.quiet
-    (g.R.Input.failures c.args.input.now) (g.W.Output.failures c.args.out.now))
+pub returns-in_err-first-clause-total : goal.returns-in_err-first-clause-total
+returns-in_err-first-clause-total g c = λ file is surveyed m.
+    err-is _ IsTrouble _ c.from_residual.ensures.1
+    (total-so _ c.wanted_is.ensures _ c.in_err-first.field-0.0
+    (λ f i. header-refuses _ f _ (c.in_err-first.ensures.refused f i)) file is m)
 
-pub returns-then-not-keeps_identity-clause-counted :
-    goal.returns-then-not-keeps_identity-clause-counted
-returns-then-not-keeps_identity-clause-counted g c =
-    rw c.in_ok-old.ensures.counted.0 (told-quiet Identity c.of_file.result c.of_file.ensures
-    (λ reads writes. (refl, refl)) (g.R.Input.failures c.args.input.now)
-    (g.W.Output.failures c.args.out.now))
+pub returns-in_err-first-clause-copied : goal.returns-in_err-first-clause-copied
+returns-in_err-first-clause-copied g c = λ file key records texts body is has spells asks.
+    err-answers _ _ _ IsTrouble c.from_residual.ensures.1 (λ why same. subst IsTrouble (sym same)
+    (copied-so c.args.wanted.now c.wanted_is.ensures _ c.in_err-first.field-0.0
+    (λ f i. header-refuses _ f _ (c.in_err-first.ensures.refused f i)) file key records texts body
+    is has spells asks))
 
-pub returns-in_err-shape-clause-counted : goal.returns-in_err-shape-clause-counted
-returns-in_err-shape-clause-counted g c =
-    let p = err_from_is_err_and c.from_residual-in_err-shape.result
-    c.from_residual-in_err-shape.ensures.1 in
-    rw (p.1, p.2, c.in_ok-old.ensures.counted.0) (c.in_err-shape.ensures.quiet
-    (g.R.Input.failures c.args.input.now) (g.W.Output.failures c.args.out.now))
+pub returns-in_err-first-clause-front : goal.returns-in_err-first-clause-front
+returns-in_err-first-clause-front g c = λ file is surveyed.
+    err-gives _ _ _ c.from_residual.ensures.1 (λ why same. writes-none _ file _)
 
-pub returns-in_err-records-clause-counted : goal.returns-in_err-records-clause-counted
-returns-in_err-records-clause-counted g c =
-    let p = err_from_is_err_and c.from_residual-in_err-records.result
-    c.from_residual-in_err-records.ensures.1 in
-    let last = g.R.Input.failures c.send.new.input in
-    let before = g.W.Output.failures c.args.out.now in
-    let after = g.W.Output.failures c.send.new.out in
-    rw (p.1, p.2) (subst (λ (n : ℕ). CountsFault n last before after c.in_err-records.field-0.0)
-    c.in_ok-old.ensures.counted.0 c.in_err-records.ensures.counted)
+-- ---- memory ran out
 
-pub returns-clause-unchanged : goal.returns-clause-unchanged
-returns-clause-unchanged g c none =
-    let kept = c.in_ok-draft.ensures.kept none in
+pub returns-in_err-refusal_of-clause-refused : goal.returns-in_err-refusal_of-clause-refused
+returns-in_err-refusal_of-clause-refused g c =
+    err-gives _ _ _ c.from_residual-in_err-refusal_of.ensures.1
+    (λ why is. refused-so _ c.wanted_is.ensures _ why (memory-so _ _ why is))
+
+pub returns-in_err-refusal_of-clause-unchanged : goal.returns-in_err-refusal_of-clause-unchanged
+returns-in_err-refusal_of-clause-unchanged g c = λ file is surveyed.
+    err-gives _ _ _ c.from_residual-in_err-refusal_of.ensures.1 memory-same
+
+pub returns-in_err-refusal_of-clause-total : goal.returns-in_err-refusal_of-clause-total
+returns-in_err-refusal_of-clause-total g c = λ file is surveyed m.
+    err-gives _ _ _ c.from_residual-in_err-refusal_of.ensures.1 memory-trouble
+
+pub returns-in_err-refusal_of-clause-copied : goal.returns-in_err-refusal_of-clause-copied
+returns-in_err-refusal_of-clause-copied g c = λ file key records texts body is has spells asks.
+    err-answers _ _ _ _ c.from_residual-in_err-refusal_of.ensures.1 memory-trouble
+
+pub returns-in_err-refusal_of-clause-front : goal.returns-in_err-refusal_of-clause-front
+returns-in_err-refusal_of-clause-front g c = λ file is surveyed.
+    err-gives _ _ _ c.from_residual-in_err-refusal_of.ensures.1 (λ why same. writes-none _ file _)
+
+pub returns-in_err-refusal_of-clause-further : goal.returns-in_err-refusal_of-clause-further
+returns-in_err-refusal_of-clause-further g c =
+    reads-more _ _ _ c.read_header.ensures.further.0 c.read_header.ensures.further.1
+
+pub returns-in_err-refusal_of-clause-counted : goal.returns-in_err-refusal_of-clause-counted
+returns-in_err-refusal_of-clause-counted g c =
+    err-answers _ _ _ _ c.from_residual-in_err-refusal_of.ensures.1
+    (λ why is. memory-counts _ _ _ why is c.in_ok-first.ensures.counted.0)
+
+pub returns-in_err-objection-clause-refused : goal.returns-in_err-objection-clause-refused
+returns-in_err-objection-clause-refused g c =
+    err-gives _ _ _ c.from_residual-in_err-objection.ensures.1
+    (λ why is. refused-so _ c.wanted_is.ensures _ why (memory-so _ _ why is))
+
+pub returns-in_err-objection-clause-unchanged : goal.returns-in_err-objection-clause-unchanged
+returns-in_err-objection-clause-unchanged g c = λ file is surveyed.
+    err-gives _ _ _ c.from_residual-in_err-objection.ensures.1 memory-same
+
+pub returns-in_err-objection-clause-total : goal.returns-in_err-objection-clause-total
+returns-in_err-objection-clause-total g c = λ file is surveyed m.
+    err-gives _ _ _ c.from_residual-in_err-objection.ensures.1 memory-trouble
+
+pub returns-in_err-objection-clause-copied : goal.returns-in_err-objection-clause-copied
+returns-in_err-objection-clause-copied g c = λ file key records texts body is has spells asks.
+    err-answers _ _ _ _ c.from_residual-in_err-objection.ensures.1 memory-trouble
+
+pub returns-in_err-objection-clause-front : goal.returns-in_err-objection-clause-front
+returns-in_err-objection-clause-front g c = λ file is surveyed.
+    err-gives _ _ _ c.from_residual-in_err-objection.ensures.1 (λ why same. writes-none _ file _)
+
+pub returns-in_err-objection-clause-further : goal.returns-in_err-objection-clause-further
+returns-in_err-objection-clause-further g c =
+    reads-more _ _ _ c.read_header.ensures.further.0 c.read_header.ensures.further.1
+
+-- ---- it is no EDF
+
+pub returns-then-not-is_edf : goal.returns-then-not-is_edf
+returns-then-not-is_edf g c =
+    let why = c.in_ok-refusal_of.field-0 in
+    let w = c.args.wanted.now in
+    let first = c.in_ok-first.first in
+    let mid = g.R.Input.remaining c.read_header.new.input in
+    let left = g.R.Input.remaining c.args.input.now in
+    let before = g.W.Output.contents c.args.out.now in
+    let len : 256 ≤ length (header_bytes first) = omega (
+      arith,
+      c.bytes.ensures.len,
+      ap (λ (x : List ℕ). length x) c.bytes.ensures.bytes,
+    ) in
+    let never : IsEdf (header_bytes first) → ⊥ =
+    λ edf. let so = c.is_edf.ensures.1 (subst IsEdf (sym c.bytes.ensures.bytes) edf) in search rules
+    in
+    let other : IsOther first why =
+    subst (λ (x : List ℕ). (IsEdf x → ⊥) → (more : List ℕ) → (f : FragmentFault)
+    × (why ≡ Refused f) × IsFirstFault (x ++ more) f) c.bytes-then-not-is_edf.ensures.bytes
+    c.in_ok-refusal_of.ensures never in
+    let refuses : (f : List ℕ) → left ≡ Some f → IsRefusal w f why =
+    λ f i. other-refuses w f left mid first why i c.in_ok-first.ensures.read len never other in
     record {
-      header = kept.0;
-      added = kept.1;
-      texts = c.send.ensures.untold kept.2;
-      retimed = (c.send.ensures.unmoved kept.3).0;
-      shift = (c.send.ensures.unmoved kept.3).1;
-      left_out = search rules;
+      mended = tt;
+      refused = refused-so w c.wanted_is.ensures left why refuses;
+      unchanged = λ file is surveyed. other-same first why other;
+      total = λ file is surveyed m. total-so w c.wanted_is.ensures left why refuses file is m;
+      copied = copied-so w c.wanted_is.ensures left why refuses;
+      front = λ file is surveyed. writes-none w file before;
+      further = reads-more left mid before c.read_header.ensures.further.0
+          c.read_header.ensures.further.1;
+      counted = other-counts first _ _ _ why other c.in_ok-first.ensures.counted.0;
     }
 
-pub returns-clause-only : goal.returns-clause-only
-returns-clause-only g c some = c.counts_records.ensures.asked (search rules) some
+-- ---- something is asked by the header
 
-pub returns-clause-left_out : goal.returns-clause-left_out
-returns-clause-left_out g c some more = c.may_end.ensures.asked (search rules) some more
+pub returns-in-Some : goal.returns-in-Some
+returns-in-Some g c =
+    let met = c.in-Some.objection in
+    let w = c.args.wanted.now in
+    let first = c.in_ok-first.first in
+    let mid = g.R.Input.remaining c.read_header.new.input in
+    let left = g.R.Input.remaining c.args.input.now in
+    let before = g.W.Output.contents c.args.out.now in
+    let len : 256 ≤ length (header_bytes first) = omega (
+      arith,
+      c.bytes.ensures.len,
+      ap (λ (x : List ℕ). length x) c.bytes.ensures.bytes,
+    ) in
+    let edf : IsEdf (header_bytes first) =
+    subst IsEdf c.bytes.ensures.bytes (c.is_edf.ensures.0 (search rules)) in
+    let asks : (body : List ℕ) → IsObjection w first body met =
+    λ body. subst (λ (o : Option MendFault). MatchOption o (HasNoneBelow 5 w first body)
+    (IsObjection w first body)) c.in-Some.is (c.in_ok-objection.ensures body) in
+    let refuses : (f : List ℕ) → left ≡ Some f → IsRefusal w f met =
+    λ f i. asked-refuses w f left mid first met i c.in_ok-first.ensures.read len edf asks in
+    record {
+      mended = tt;
+      refused = refused-so w c.wanted_is.ensures left met refuses;
+      unchanged = λ file is surveyed. asked-same w first met (asks []);
+      total = λ file is surveyed m. total-so w c.wanted_is.ensures left met refuses file is m;
+      copied = copied-so w c.wanted_is.ensures left met refuses;
+      front = λ file is surveyed. writes-none w file before;
+      further = reads-more left mid before c.read_header.ensures.further.0
+          c.read_header.ensures.further.1;
+      counted = quiet-counts _ _ _ met (objection-quiet w first [] met (asks []))
+          c.in_ok-first.ensures.counted.0;
+    }
 
-pub returns-clause-mended : goal.returns-clause-mended
-returns-clause-mended g c =
-    let given = option_map (λ code. code.now) c.args.patient in
-    let draft = c.in_ok-draft.draft in
-    let old = c.in_ok-old.old.items in
-    let new = draft.header.items in
-    let o = c.in_ok-fragment.fragment in
-    let drafted : IsDrafted old given draft = search rules in
-    let opened : IsOpened new o = search rules in
-    let before = c.as_slice-4.result.now in
-    let before_is : before ≡ old = search rules in
-    let after_is : c.as_slice-5.result.now ≡ new = search rules in
-    let patient : KeepsPatient given old new =
-    subst (λ (x : List ℕ). KeepsPatient given x new) before_is
-    (subst (λ (x : List ℕ). KeepsPatient given before x) after_is
-    (c.keeps_identity.ensures.patient (search rules))) in
-    let clock : KeepsClock old new = subst (λ (x : List ℕ). KeepsClock x new) before_is
-    (subst (λ (x : List ℕ). KeepsClock before x) after_is
-    (c.keeps_identity.ensures.clock (search rules))) in
-    let first_is : c.as_slice.result.now ≡ old = search rules in
-    let continuous : draft.rewriting.clock ≢ None → IsContinuous old × IsContinuous new =
-    subst (λ (x : List ℕ). draft.rewriting.clock ≢ None → IsContinuous x × IsContinuous new)
-    first_is c.in_ok-draft.ensures.continuous in
-    let steps_is : c.as_slice-6.result.now ≡ draft.steps.items = search rules in
-    let kept : KeepsHeader draft.added draft.steps.items old new =
-    subst (λ (x : List RuleEdits). KeepsHeader draft.added x old new) steps_is
-    (subst (λ (x : List ℕ). KeepsHeader draft.added c.as_slice-6.result.now x new) before_is
-    (subst (λ (x : List ℕ). KeepsHeader draft.added c.as_slice-6.result.now before x) after_is
-    (c.keeps_identity.ensures.kept (search rules)))) in
-    let last_is : c.as_slice-8.result.now ≡ new = search rules in
-    let counts = c.counts_records.ensures.counts (search rules) in
-    let fits : IsFitting o.header c.in_ok-shape.shape = search rules in
-    let added : c.in_ok-shape.shape.added ≡ draft.added = search rules in
-    let sent : IsSent o.header (g.R.Input.remaining c.read_header.new.input)
-    (g.R.Input.remaining c.send.new.input) (g.W.Output.contents c.args.out.now)
-    (g.W.Output.contents c.send.new.out) new c.in_ok-shape.shape.size c.in_ok-shape.shape.added
-    c.in_ok-records.records c.in_ok-records.left_out draft.rewriting.clock c.send.new.telling =
-    search rules in
-    mends (g.R.Input.remaining c.args.input.now) (g.R.Input.remaining c.read_header.new.input)
-    (g.R.Input.remaining c.send.new.input) (g.W.Output.contents c.args.out.now)
-    (g.W.Output.contents c.send.new.out) given _ old new draft o c.in_ok-shape.shape
-    draft.rewriting.clock c.send.new.telling refl c.in_ok-old.ensures.read drafted opened clock
-    patient kept fits added counts sent (λ off. (c.send.ensures.unmoved off).0) continuous refl refl
-    refl refl refl (λ told. subst (λ (x : List ℕ). SaysMended (recording_field x)) last_is
-    (c.may_end.ensures.says (search rules) (λ none. told (returns-clause-unchanged g c none))))
+-- ---- behind the header
 
-pub returns-clause-copied : goal.returns-clause-copied
-returns-clause-copied g c none =
-    let kept = c.in_ok-draft.ensures.kept none in
-    copies (g.R.Input.remaining c.args.input.now) (g.R.Input.remaining c.send.new.input)
-    (g.W.Output.contents c.args.out.now) (g.W.Output.contents c.send.new.out)
-    (option_map (λ code. code.now) c.args.patient) _ (returns-clause-mended g c)
-    (record {
-      header = kept.0;
-      added = kept.1;
-      texts = c.send.ensures.untold kept.2;
-      retimed = (c.send.ensures.unmoved kept.3).0;
-      shift = (c.send.ensures.unmoved kept.3).1;
-      left_out = search rules;
-    })
+pub mend_behind-requires : goal.mend_behind-requires
+mend_behind-requires g c = few-read _ _ _ c.in_ok-first.ensures.read
+    (ap (λ (x : List ℕ). length x) (sym c.bytes.ensures.bytes) ∙ c.bytes.ensures.len)
 
-pub returns-in_err-old-clause-welcome : goal.returns-in_err-old-clause-welcome
-returns-in_err-old-clause-welcome g c bytes key records none left_is spells =
-    let p = err_from_is_err_and c.from_residual.result c.from_residual.ensures.1 in
-    rw (p.1, p.2) (refuses-then (EndsInHeader (g.R.Input.remaining c.args.input.now)) ⊥
-    c.in_err-old.field-0.0 (not-in-header bytes spells.rest spells.header
-    (g.R.Input.remaining c.args.input.now) left_is spells.is_header) c.in_err-old.ensures.refused)
-
-pub returns-in_err-draft-clause-welcome : goal.returns-in_err-draft-clause-welcome
-returns-in_err-draft-clause-welcome g c bytes key records none left_is spells =
-    let p = err_from_is_err_and c.from_residual-in_err-draft.result
-    c.from_residual-in_err-draft.ensures.1 in
-    rw (p.1, p.2) (c.in_err-draft.ensures.kept none)
-
-pub returns-in_err-fragment-clause-welcome : goal.returns-in_err-fragment-clause-welcome
-returns-in_err-fragment-clause-welcome g c bytes key records none left_is spells =
-    let p = err_from_is_err_and c.from_residual-in_err-fragment.result
-    c.from_residual-in_err-fragment.ensures.1 in
-    let given = option_map (λ code. code.now) c.args.patient in
-    let old = c.in_ok-old.old.items in
-    let draft = c.in_ok-draft.draft in
-    let drafted : IsDrafted old given draft = search rules in
-    let slice : c.as_slice-3.result.now ≡ draft.header.items = search rules in
-    let same = slice ∙ drafted-none old given draft drafted (c.in_ok-draft.ensures.kept none).0 in
-    let good = good-header (g.R.Input.remaining c.args.input.now)
-    (g.R.Input.remaining c.read_header.new.input) bytes key records old left_is spells
-    c.in_ok-old.ensures.read c.in_ok-old.ensures.long c.in_ok-old.ensures.whole in
-    rw (p.1, p.2) (refuses-then (NoHeader c.as_slice-3.result.now) ⊥ c.in_err-fragment.field-0.0
-    (λ no. no good.header (subst (λ (x : List ℕ). IsHeader x good.header []) (sym same)
-    good.is_header)) c.in_err-fragment.ensures.refused)
-
-pub returns-in_err-shape-clause-welcome : goal.returns-in_err-shape-clause-welcome
-returns-in_err-shape-clause-welcome g c bytes key records none left_is spells =
-    let p = err_from_is_err_and c.from_residual-in_err-shape.result
-    c.from_residual-in_err-shape.ensures.1 in
-    rw (p.1, p.2) (refuses-then (0 < c.in_ok-draft.draft.added) ⊥ c.in_err-shape.field-0.0
-    (λ some. omega (arith, some, (c.in_ok-draft.ensures.kept none).1)) c.in_err-shape.ensures.refused)
-
-pub returns-in_err-records-clause-welcome : goal.returns-in_err-records-clause-welcome
-returns-in_err-records-clause-welcome g c bytes key records none left_is spells =
-    let p = err_from_is_err_and c.from_residual-in_err-records.result
-    c.from_residual-in_err-records.ensures.1 in
-    let given = option_map (λ code. code.now) c.args.patient in
-    let old = c.in_ok-old.old.items in
-    let draft = c.in_ok-draft.draft in
-    let drafted : IsDrafted old given draft = search rules in
-    let same = drafted-none old given draft drafted (c.in_ok-draft.ensures.kept none).0 in
-    let good = good-header (g.R.Input.remaining c.args.input.now)
-    (g.R.Input.remaining c.read_header.new.input) bytes key records old left_is spells
-    c.in_ok-old.ensures.read c.in_ok-old.ensures.long c.in_ok-old.ensures.whole in
-    let opened : IsOpened draft.header.items c.in_ok-fragment.fragment = search rules in
-    let holds = good-opened old (g.R.Input.remaining c.read_header.new.input)
-    c.in_ok-fragment.fragment good
-    (subst (λ (x : List ℕ). IsOpened x c.in_ok-fragment.fragment) same opened) in
-    rw (p.1, p.2) (c.in_err-records.ensures.welcome (c.in_ok-shape.ensures.added
-    ∙ (c.in_ok-draft.ensures.kept none).1) (c.in_ok-draft.ensures.kept none).2
-    (c.in_ok-draft.ensures.kept none).3 holds)
-
-pub returns-in_err-records-clause-further : goal.returns-in_err-records-clause-further
-returns-in_err-records-clause-further g c =
-    further-then (g.R.Input.remaining c.args.input.now)
-    (g.R.Input.remaining c.read_header.new.input) (g.R.Input.remaining c.send.new.input)
-    (g.W.Output.contents c.args.out.now) (g.W.Output.contents c.args.out.now)
-    (g.W.Output.contents c.send.new.out) (reads-on (g.R.Input.remaining c.args.input.now)
-    (g.R.Input.remaining c.read_header.new.input) (g.W.Output.contents c.args.out.now)
-    c.in_ok-old.old.items c.in_ok-old.ensures.read) c.in_err-records.ensures.further
-
-pub returns-then-not-keeps_identity-clause-further :
-    goal.returns-then-not-keeps_identity-clause-further
-returns-then-not-keeps_identity-clause-further g c =
-    reads-on (g.R.Input.remaining c.args.input.now) (g.R.Input.remaining c.read_header.new.input)
-    (g.W.Output.contents c.args.out.now) c.in_ok-old.old.items c.in_ok-old.ensures.read
-
-pub returns-then-not-counts_records-clause-further :
-    goal.returns-then-not-counts_records-clause-further
-returns-then-not-counts_records-clause-further g c =
-    reads-on (g.R.Input.remaining c.args.input.now) (g.R.Input.remaining c.read_header.new.input)
-    (g.W.Output.contents c.args.out.now) c.in_ok-old.old.items c.in_ok-old.ensures.read
-
-pub returns-in_err-fragment-clause-further : goal.returns-in_err-fragment-clause-further
-returns-in_err-fragment-clause-further g c =
-    reads-on (g.R.Input.remaining c.args.input.now) (g.R.Input.remaining c.read_header.new.input)
-    (g.W.Output.contents c.args.out.now) c.in_ok-old.old.items c.in_ok-old.ensures.read
-
-pub returns-in_err-shape-clause-further : goal.returns-in_err-shape-clause-further
-returns-in_err-shape-clause-further g c =
-    reads-on (g.R.Input.remaining c.args.input.now) (g.R.Input.remaining c.read_header.new.input)
-    (g.W.Output.contents c.args.out.now) c.in_ok-old.old.items c.in_ok-old.ensures.read
-
-pub returns-then-not-may_end-clause-further : goal.returns-then-not-may_end-clause-further
-returns-then-not-may_end-clause-further g c =
-    further-then (g.R.Input.remaining c.args.input.now)
-    (g.R.Input.remaining c.read_header.new.input) (g.R.Input.remaining c.send.new.input)
-    (g.W.Output.contents c.args.out.now) (g.W.Output.contents c.args.out.now)
-    (g.W.Output.contents c.send.new.out) (reads-on (g.R.Input.remaining c.args.input.now)
-    (g.R.Input.remaining c.read_header.new.input) (g.W.Output.contents c.args.out.now)
-    c.in_ok-old.old.items c.in_ok-old.ensures.read) c.in_ok-records.ensures.further
-
-pub returns-clause-further : goal.returns-clause-further
-returns-clause-further g c =
-    further-then (g.R.Input.remaining c.args.input.now)
-    (g.R.Input.remaining c.read_header.new.input) (g.R.Input.remaining c.send.new.input)
-    (g.W.Output.contents c.args.out.now) (g.W.Output.contents c.args.out.now)
-    (g.W.Output.contents c.send.new.out) (reads-on (g.R.Input.remaining c.args.input.now)
-    (g.R.Input.remaining c.read_header.new.input) (g.W.Output.contents c.args.out.now)
-    c.in_ok-old.old.items c.in_ok-old.ensures.read) c.in_ok-records.ensures.further
-
-pub returns-in_err-shape-clause-asked : goal.returns-in_err-shape-clause-asked
-returns-in_err-shape-clause-asked g c =
-    let p = err_from_is_err_and c.from_residual-in_err-shape.result
-    c.from_residual-in_err-shape.ensures.1 in
-    rw (p.1, p.2) (asks-none (option_map (λ code. code.now) c.args.patient)
-    c.in_err-shape.field-0.0 (refuses-some (0 < c.in_ok-draft.draft.added)
-    c.in_err-shape.field-0.0 c.in_err-shape.ensures.refused))
-
-pub returns-in_err-records-clause-asked : goal.returns-in_err-records-clause-asked
-returns-in_err-records-clause-asked g c =
-    let p = err_from_is_err_and c.from_residual-in_err-records.result
-    c.from_residual-in_err-records.ensures.1 in
-    rw (p.1, p.2) (asks-none (option_map (λ code. code.now) c.args.patient)
-    c.in_err-records.field-0.0 c.in_err-records.ensures.asked)
-
-pub returns-then-not-may_end-clause-welcome : goal.returns-then-not-may_end-clause-welcome
-returns-then-not-may_end-clause-welcome g c bytes key records none left_is spells =
-    let given = option_map (λ code. code.now) c.args.patient in
-    let old = c.in_ok-old.old.items in
-    let draft = c.in_ok-draft.draft in
-    let drafted : IsDrafted old given draft = search rules in
-    let same = drafted-none old given draft drafted (c.in_ok-draft.ensures.kept none).0 in
-    let good = good-header (g.R.Input.remaining c.args.input.now)
-    (g.R.Input.remaining c.read_header.new.input) bytes key records old left_is spells
-    c.in_ok-old.ensures.read c.in_ok-old.ensures.long c.in_ok-old.ensures.whole in
-    let opened : IsOpened draft.header.items c.in_ok-fragment.fragment = search rules in
-    let holds = good-opened old (g.R.Input.remaining c.read_header.new.input)
-    c.in_ok-fragment.fragment good
-    (subst (λ (x : List ℕ). IsOpened x c.in_ok-fragment.fragment) same opened) in
-    let all = c.in_ok-records.ensures.welcome (c.in_ok-shape.ensures.added
-    ∙ (c.in_ok-draft.ensures.kept none).1) (c.in_ok-draft.ensures.kept none).2
-    (c.in_ok-draft.ensures.kept none).3 holds in
-    let may = c.may_end.ensures.same none all in
-    search (rules, may)
-
-pub returns-then-not-keeps_identity-clause-welcome :
-    goal.returns-then-not-keeps_identity-clause-welcome
-returns-then-not-keeps_identity-clause-welcome g c bytes key records none left_is spells =
-    let given = option_map (λ code. code.now) c.args.patient in
-    let old = c.in_ok-old.old.items in
-    let draft = c.in_ok-draft.draft in
-    let kept = c.in_ok-draft.ensures.kept none in
-    let drafted : IsDrafted old given draft = search rules in
-    let same = drafted-none old given draft drafted kept.0 in
-    let good = good-header (g.R.Input.remaining c.args.input.now)
-    (g.R.Input.remaining c.read_header.new.input) bytes key records old left_is spells
-    c.in_ok-old.ensures.read c.in_ok-old.ensures.long c.in_ok-old.ensures.whole in
-    let n = good.header.fixed.signal_count in
-    let before = c.as_slice-4.result.now in
-    let before_is : before ≡ old = search rules in
-    let after_is : c.as_slice-5.result.now ≡ draft.header.items = search rules in
-    let whole : IsWholeHeader before n = subst (λ (x : List ℕ). IsWholeHeader x n) (sym before_is)
-    (header-whole old good.header good.is_header) in
-    let steps_is : c.as_slice-6.result.now ≡ draft.steps.items = search rules in
-    let may = c.keeps_identity.ensures.same n whole (after_is ∙ same ∙ sym before_is) kept.1
-    (steps_is ∙ kept.0) in
-    search (rules, may)
+pub returns : goal.returns
+returns g c =
+    let w = c.args.wanted.now in
+    let first = c.in_ok-first.first in
+    let mid = g.R.Input.remaining c.read_header.new.input in
+    let left = g.R.Input.remaining c.args.input.now in
+    let before = g.W.Output.contents c.args.out.now in
+    let len : 256 ≤ length (header_bytes first) = omega (
+      arith,
+      c.bytes.ensures.len,
+      ap (λ (x : List ℕ). length x) c.bytes.ensures.bytes,
+    ) in
+    let after = g.W.Output.contents c.mend_behind.new.out in
+    let rest = g.R.Input.remaining c.mend_behind.new.input in
+    let survey = c.args.survey.now in
+    let read = c.in_ok-first.ensures.read in
+    let edf : IsEdf (header_bytes first) =
+    subst IsEdf c.bytes.ensures.bytes (c.is_edf.ensures.0 (search rules)) in
+    let tally : IsTally (header_bytes first) [] c.begin_body.new.self =
+    c.begin_body.ensures [] (header_bytes first)
+    (c.in_ok-first.ensures.tallied [] [] c.new-tally.ensures) in
+    let none : AsksNoneYet w first =
+    λ body. subst (λ (o : Option MendFault). MatchOption o (HasNoneBelow 5 w first body)
+    (IsObjection w first body)) c.in_default.is (c.in_ok-objection.ensures body) in
+    let mends = c.mend_behind.ensures.mended tally none in
+    let refuses = c.mend_behind.ensures.refused tally none in
+    record {
+      mended = mended-last w c.wanted_is.ensures left mid rest before after first
+          survey read edf len c.mend_behind.result mends refuses;
+      refused = refused-last w c.wanted_is.ensures left mid rest before after first
+          survey read edf len c.mend_behind.result mends refuses;
+      unchanged = same-last w c.wanted_is.ensures left mid rest before after first
+          survey read edf len c.mend_behind.result mends refuses;
+      total = λ file is surveyed m. total-last w c.wanted_is.ensures left mid rest before after
+          first
+          survey read edf len c.mend_behind.result mends refuses file is m;
+      copied = copied-last w c.wanted_is.ensures left mid rest before after first
+          survey read edf len c.mend_behind.result mends refuses;
+      front = λ file is surveyed. front-last w c.wanted_is.ensures left mid before after first
+          survey
+          read edf len file is surveyed c.mend_behind.result
+          (c.mend_behind.ensures.stops tally none);
+      further = read-then left mid rest before after c.read_header.ensures.further
+          c.mend_behind.ensures.further;
+      counted = calls-read _ _ _ _ _ c.mend_behind.result c.in_ok-first.ensures.counted.0
+          (c.mend_behind.ensures.counted tally none);
+    }

@@ -8,8 +8,8 @@ head-tail : (xs : List Block) (d : Block) → 1 ≤ length xs →
 head-tail [] d some = absurd (omega (arith, some))
 head-tail (x ∷ xs) d some = refl
 
-pub returns-in-len1-up : goal.returns-in-len1-up
-returns-in-len1-up c =
+pub returns-in-len1-up-clause-first : goal.returns-in-len1-up-clause-first
+returns-in-len1-up-clause-first c =
     let xs = c.blocks-2.result.now in (
       drop 1 xs,
       sym c.blocks-2.ensures.value

@@ -1,45 +1,68 @@
-use Rattle.std.proofs.Common.{rules, ◌≡◌, ◌++◌, ◌∙◌, ℕ, List, ap, subst}
+use Rattle.std.proofs.Common.{arith, refl, ◌≡◌, ap, sym, ◌∙◌, subst, List, ℕ, Bool, true}
+use Rattle.std.proofs.Common.{false}
+use Rattle.std.proofs.Common.{not, eqb, eq-eqb}
+use Rattle.std.proofs.lemmas.Bool.{eqb-true}
 use Rattle.edf_tal.specs.Block.{IsRead}
 use Rattle.edf_tal.specs.Tal.{Annotation}
 use Rattle.edf_tal.specs.declared.place.Place.TheVariants.{Any}
-use Rattle.edf_mend.specs.Retimed.{apart}
+use Rattle.edf_mend.proofs.Moving.{read-alike}
 use Rattle.edf_mend.proofs.retiming.moved_by.Goals as goal
+use Rattle.edf_mend.proofs.retiming.moved_by.Goals.{then-ne-via-then-ne}
+use Rattle.edf_mend.proofs.retiming.moved_by.Goals.{then-ne-via-else-ne+then-not-same_notes}
+
+not-false : (b : Bool) → not b ≡ false → b ≡ true
+not-false true e = refl
+not-false false e = let z : true ≡ false = e in cc
+
+pub returns-in_default : goal.returns-in_default
+returns-in_default c was list r =
+    let none = rw c.in_default.is at c.in_ok-before.ensures in none was list r.old_read
+
+pub returns-in_default-2 : goal.returns-in_default-2
+returns-in_default-2 c was list r =
+    let none = rw c.in_default-2.is at c.in_ok-after.ensures in none c.args.start list r.new_read
+
+pub returns-then-ne : goal.returns-then-ne
+returns-then-ne c was list r =
+    let b = c.in-Some.before in
+    let a = c.in-Some-2.after in
+    let start = c.args.start in
+    let p = rw c.in-Some.is at c.in_ok-before.ensures in
+    let q = rw c.in-Some-2.is at c.in_ok-after.ensures in
+    let alike = read-alike c.args.header.now.start c.args.old.now c.args.new.now b.0 a.0 was start
+    b.1.items a.1.items list p q r in
+    elim c.then-ne.branch [
+      | then-ne-via-then-ne w ↦
+          let t : eqb a.0 start ≡ true = eq-eqb a.0 start alike.there in
+          let z : true ≡ false = sym w.if-ne.true ∙ c.ne.ensures ∙ ap not t in
+          cc
+      | then-ne-via-else-ne+then-not-same_notes w ↦
+          let t = w.same_notes.ensures.1 (w.as_slice.ensures.value ∙ alike.lists
+          ∙ sym w.as_slice-else-ne.ensures.value) in
+          let z : false ≡ true = sym w.if-not-same_notes.true ∙ t in
+          cc
+    ]
 
 pub returns : goal.returns
 returns c =
-    let l = c.args.header.now in
-    let first = c.in-Some.ensures in
-    let a = c.in-Some-parts_of.a in
-    let b = c.in-Some-parts_of-2.b in
-    let old = c.in-Some-parts_of.ensures in
-    let new = c.in-Some-parts_of-2.ensures in
-    let fronts : b.front.now ≡ a.front.now = search rules in
-    let backs : b.back.now ≡ a.back.now = search rules in
-    let was : IsRead a.block.now l.start Any c.in-Some-2.was c.in-Some-2.old_notes.items =
-    search rules in
-    let notes : c.in-Some-3.new_notes.items ≡ c.in-Some-2.old_notes.items = search rules in
-    let is : IsRead b.block.now l.start Any c.in-Some-3.is' c.in-Some-3.new_notes.items =
-    search rules in
-    let by : c.abs_diff.result ≡ apart c.in-Some-2.was c.in-Some-3.is' = search rules in
-    record {
-      first = c.in-Some.first;
-      others = first.0;
-      blocks_are = first.1;
-      front = a.front.now;
-      block = a.block.now;
-      block' = b.block.now;
-      back = a.back.now;
-      old_is = old.0;
-      new_is = new.0 ∙ ap (λ (x : List ℕ). x ++ (b.block.now ++ b.back.now)) fronts
-          ∙ ap (λ (x : List ℕ). a.front.now ++ (b.block.now ++ x)) backs;
-      at_is = old.1;
-      bytes_are = old.2;
-      bytes_are' = new.2;
-      start = c.in-Some-2.was;
-      start' = c.in-Some-3.is';
-      list = c.in-Some-2.old_notes.items;
-      was = was;
-      is = subst (λ (x : List Annotation). IsRead b.block.now l.start Any c.in-Some-3.is' x)
-          notes is;
-      by_is = by;
-    }
+    let b = c.in-Some.before in
+    let a = c.in-Some-2.after in
+    let start = c.args.start in
+    let new = c.args.new.now in
+    let from = c.args.header.now.start in
+    let p = rw c.in-Some.is at c.in_ok-before.ensures in
+    let q = rw c.in-Some-2.is at c.in_ok-after.ensures in
+    let there : a.0 ≡ start =
+    eqb-true a.0 start (not-false (eqb a.0 start) (sym c.ne.ensures ∙ c.if-ne.false)) in
+    let lists : a.1.items ≡ b.1.items =
+    sym (sym c.as_slice.ensures.value ∙ c.same_notes.ensures.0 c.if-not-same_notes.false
+    ∙ c.as_slice-else-ne.ensures.value) in (
+      b.0,
+      b.1.items,
+      record {
+        old_read = p;
+        new_read = subst (λ (x : List Annotation). IsRead new from Any start x) lists
+            (subst (λ (n : ℕ). IsRead new from Any n a.1.items) there q);
+      },
+      omega (arith, c.abs_diff.ensures, there),
+    )

@@ -5,4 +5,4 @@ use Rattle.edfmend_command.proofs.lines.changes_text.Given as goal
 
 abbrev pub invariant-loop-change : goal.invariant-loop-change
 invariant-loop-change l =
-    l.text.items ≡ flat_map (changed_line l.rule) (take l.change-index l.changes)
+    l.text.items ≡ flat_map (changed_line l.step) (take l.change-index l.step.edits)

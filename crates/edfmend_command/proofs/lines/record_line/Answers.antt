@@ -1,7 +1,7 @@
 use Rattle.std.proofs.Common.{◌++◌, ◌+◌, ℕ, List, ap, ◌∙◌, codes, decimal}
 use Rattle.std.proofs.lemmas.Result.{IfOk-weaker}
 use Rattle.edfmend_command.specs.Ledger.{bytes_text}
-use Rattle.edf_mend.specs.Names.{rule_name}
+use Rattle.edf_mend.specs.Rules.{rule_name}
 use Rattle.edfmend_command.proofs.Told.{record-line}
 use Rattle.edfmend_command.proofs.lines.record_line.Goals as goal
 

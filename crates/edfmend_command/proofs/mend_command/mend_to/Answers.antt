@@ -1,19 +1,27 @@
-use Rattle.std.proofs.Common.{ℕ, List, Option, subst, inl, inr}
+use Rattle.std.proofs.Common.{◌≡◌, ◌⊎◌, ℕ, List, Option, subst, sym, inl, inr, false, refl}
+use Rattle.edf_mend.specs.declared.fault.MendFault.{MendFault}
+use Rattle.edf_mend.specs.declared.fault.MendFault.TheVariants.{Read, Memory}
 use Rattle.std.specs.Prelude.{option_map}
 use Rattle.edf_program.specs.Output.{growth}
 use Rattle.edf_program.proofs.Puts.{nothing-gets}
-use Rattle.edfmend_command.specs.Run.{SaysWhy}
+use Rattle.edfmend_command.specs.Run.{SaysWhy, CountsWrite}
 use Rattle.edf_new_files.proofs.Filled.{filled}
-use Rattle.edfmend_command.proofs.Mending.{is-mended, is-not-mended}
-use Rattle.edfmend_command.proofs.Mending.{asked-makes, asked-stops}
+use Rattle.edfmend_command.proofs.Mending.{asked-makes, asked-stops, asked-surveys, unread}
 use Rattle.edfmend_command.proofs.Opened.{fewer, then-up, then-twice, says-undone}
 use Rattle.edfmend_command.proofs.mend_command.mend_to.Goals as goal
 
+-- no write failed in a first reading
+counts-none : (before after : ℕ) (why : MendFault) → after ≡ before →
+    (why ≡ Read) ⊎ (why ≡ Memory) → CountsWrite before after why
+counts-none before after why same (inl is) =
+    subst (λ (x : MendFault). CountsWrite before after x) (sym is) same
+counts-none before after why same (inr is) =
+    subst (λ (x : MendFault). CountsWrite before after x) (sym is) same
+
 pub returns-in-Ok-make_file-clause-done : goal.returns-in-Ok-make_file-clause-done
 returns-in-Ok-make_file-clause-done g c =
-    let given = option_map (λ code. code.now) c.args.patient in
+    let w = c.args.wanted.now in
     let bytes = g.I.Inputs.bytes c.args.inputs.now c.args.file.now in
-    let fault = c.in-Ok.survey.fault in
     let old = c.args.maker.now in
     let mid = c.is_there.new.self in
     let new = c.make_file.new.maker in
@@ -21,14 +29,15 @@ returns-in-Ok-make_file-clause-done g c =
     (g.M.NewFiles.there mid) (g.M.NewFiles.made old) (g.M.NewFiles.made mid) (g.M.NewFiles.made new)
     (g.M.NewFiles.failed old) (g.M.NewFiles.failed mid) (g.M.NewFiles.failed new)
     c.is_there.ensures.known c.is_there.ensures.made c.is_there.ensures.failed c.args.name.now bytes
-    (g.I.Inputs.bytes c.survey_of.new.inputs c.args.file.now) given c.args.rules.now fault
+    (g.I.Inputs.bytes c.survey_of.new.inputs c.args.file.now) w
     (c.in-Ok.ensures.same c.args.file.now) c.in-Ok-make_file.ledger
-    c.in-Ok-make_file.ensures.answer in
+    (c.in-Ok-make_file.ensures.answer (asked-surveys bytes
+    (g.I.Inputs.bytes c.survey_of.new.inputs c.args.file.now) w c.in-Ok.survey
+    (c.in-Ok.ensures.same c.args.file.now) c.in-Ok.ensures.surveyed)) in
     inr (inl (record {
       new = makes.mends.new;
       ledger = c.in-Ok-make_file.ledger;
-      is_mended = is-mended bytes given c.args.rules.now fault c.in-Ok.ensures.surveyed
-          makes.start makes.held c.in-Ok-make_file.ledger makes.mends;
+      is_mended = makes.mends.is_mended;
       free = c.if-is_there.ensures.answer;
       held = makes.held;
       made = makes.made;
@@ -36,8 +45,6 @@ returns-in-Ok-make_file-clause-done g c =
           makes.mends.wrote;
       unfailed = makes.unfailed;
       told = c.tell_ledger.ensures;
-      silent = nothing-gets (g.F.Output.contents c.args.err.now)
-          (g.F.Output.failures c.args.err.now);
     }))
 
 pub returns-in-Ok-make_file-clause-opened : goal.returns-in-Ok-make_file-clause-opened
@@ -48,9 +55,8 @@ returns-in-Ok-make_file-clause-opened g c =
 
 pub returns-in-Err-make_file-clause-done : goal.returns-in-Err-make_file-clause-done
 returns-in-Err-make_file-clause-done g c =
-    let given = option_map (λ code. code.now) c.args.patient in
+    let w = c.args.wanted.now in
     let bytes = g.I.Inputs.bytes c.args.inputs.now c.args.file.now in
-    let fault = c.in-Ok.survey.fault in
     let old = c.args.maker.now in
     let mid = c.is_there.new.self in
     let new = c.make_file.new.maker in
@@ -59,12 +65,14 @@ returns-in-Err-make_file-clause-done g c =
     (g.M.NewFiles.there mid) (g.M.NewFiles.made old) (g.M.NewFiles.made mid) (g.M.NewFiles.made new)
     (g.M.NewFiles.failed old) (g.M.NewFiles.failed mid) (g.M.NewFiles.failed new)
     c.is_there.ensures.known c.is_there.ensures.made c.is_there.ensures.failed c.args.name.now bytes
-    (g.I.Inputs.bytes c.survey_of.new.inputs c.args.file.now) given c.args.rules.now fault
-    (c.in-Ok.ensures.same c.args.file.now) stop c.in-Err-make_file.ensures.answer in
+    (g.I.Inputs.bytes c.survey_of.new.inputs c.args.file.now) w
+    (c.in-Ok.ensures.same c.args.file.now) stop
+    (c.in-Err-make_file.ensures.answer (asked-surveys bytes
+    (g.I.Inputs.bytes c.survey_of.new.inputs c.args.file.now) w c.in-Ok.survey
+    (c.in-Ok.ensures.same c.args.file.now) c.in-Ok.ensures.surveyed)) in
     inr (inr (record {
       why = stop.fault;
-      is_why = is-not-mended bytes given c.args.rules.now fault c.in-Ok.ensures.surveyed stop.fault
-          stops.stops;
+      is_why = stops.stops;
       free = c.if-is_there.ensures.answer;
       is_left = stop.is_left;
       leaves = stops.leaves;
@@ -88,3 +96,18 @@ returns-in-Err-make_file-clause-opened g c =
     c.args.file.now c.args.name.now c.in-Err-make_file.stop.fault
     (option_map (λ name. name.now) c.left_name-left.result)
     c.refuse-in-Err-make_file.result c.refuse-in-Err-make_file.ensures)
+
+pub returns-in-Err-clause-done : goal.returns-in-Err-clause-done
+returns-in-Err-clause-done g c = inr (inr (record {
+  why = c.in-Err.fault;
+  is_why = unread (g.I.Inputs.bytes c.args.inputs.now c.args.file.now) c.args.wanted.now
+      c.in-Err.fault c.in-Err.ensures.trouble;
+  free = c.if-is_there.ensures.answer;
+  is_left = false;
+  leaves = inl (c.is_there.ensures.made, refl);
+  counted = counts-none (g.M.NewFiles.failed c.args.maker.now)
+      (g.M.NewFiles.failed c.is_there.new.self) c.in-Err.fault c.is_there.ensures.failed
+      c.in-Err.ensures.trouble;
+  unsaid = nothing-gets (g.O.Output.contents c.args.out.now) (g.O.Output.failures c.args.out.now);
+  said = c.refuse.ensures;
+}))

@@ -11,8 +11,6 @@ returns-in-Ok-clause-told g c = inl (record {
   ledger = c.in-Ok.ledger;
   is_mended = c.in-Ok.ensures.answer.1;
   told = c.tell_ledger.ensures;
-  silent = nothing-gets (g.F.Output.contents c.args.err.now)
-      (g.F.Output.failures c.args.err.now);
 })
 
 pub returns-in-Err-clause-told : goal.returns-in-Err-clause-told

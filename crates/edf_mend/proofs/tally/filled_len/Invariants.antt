@@ -1,0 +1,10 @@
+use Rattle.std.proofs.Common.{◌≡◌, ◌+◌, ◌≤◌, ◌==◌, length, take}
+use Rattle.std.specs.List.{suffix_len}
+use Rattle.edf_mend.proofs.tally.filled_len.Given as goal
+
+abbrev pub invariant-loop-len : goal.invariant-loop-len
+invariant-loop-len l = (l.len ≤ length l.bytes) × (l.len + suffix_len (λ b. b == 0) l.bytes
+    ≡ length l.bytes + suffix_len (λ b. b == 0) (take l.len l.bytes))
+
+abbrev pub decreases-loop-len : goal.decreases-loop-len
+decreases-loop-len l = l.len
