@@ -3,11 +3,10 @@
 use crate::files::{
     file_named, first_strays, second_run, second_strays, strays, third_run, two_gaps,
 };
-use edf_fragment::{Counted, FragmentFault, Input, OpenFragment};
-use edf_header::HeaderFault;
-use edf_mend::{Ledger, MendFault, Rule, Step, Survey, mend, survey_file};
+use edf_fragment::{Counted, Input, OpenFragment};
+use edf_mend::{Ledger, MendFault, Rule, Step, Survey, Wanted, Who, mend, survey_file};
 use edf_runs::{
-    Listing, Run, Written, add_record, list_runs, reopen, skip_run, write_counted, write_run,
+    OnsetListing, Run, Written, add_record, list_runs, reopen_by_onset, skip_run, write_by_onset,
 };
 use edf_sample::{Sink, Source};
 use std::alloc::Global;
@@ -44,34 +43,35 @@ fn gathered(alloc: Global) -> Option<Vec<(u32, u32)>> {
 fn past<R: Input>(
     alloc: Global,
     input: &mut R,
-    listing: &Listing,
+    plan: &OnsetListing,
     number: u32,
 ) -> Option<OpenFragment> {
-    let mut fragment = reopen(alloc, input, listing).ok()?;
+    let mut fragment = reopen_by_onset(alloc, input, plan).ok()?;
     for before in 1..number {
-        skip_run(&mut fragment, input, listing.run(before)?).ok()?;
+        skip_run(&mut fragment, input, plan.run(before)?.run()).ok()?;
     }
     Some(fragment)
 }
 
-/// What is told of the file of a run that is written, where it is this one, counted or not.
+/// What is told of the file of a run that is written, where it is this one.
 fn written(alloc: Global, bytes: &[u8], number: u32, file: &[u8]) -> Option<Written> {
     let mut first_reading = Counted::new(Source::whole(bytes, 100));
     let listing = list_runs(alloc, &mut first_reading).ok()?;
-    let run = listing.run(number)?;
+    let plan = OnsetListing::as_read(alloc, listing).ok()?;
     let mut got = Vec::new(alloc);
     let mut input = Counted::new(Source::whole(bytes, 7));
-    let mut fragment = past(alloc, &mut input, &listing, number)?;
+    let mut fragment = past(alloc, &mut input, &plan, number)?;
     let mut out = Counted::new(Sink::whole(&mut got, 100));
-    let told = write_counted(alloc, &mut fragment, &mut input, run, &mut out).ok()?;
+    let told = write_by_onset(
+        alloc,
+        &mut fragment,
+        &mut input,
+        plan.run(number)?,
+        &mut out,
+    )
+    .ok()?;
     drop(out);
-    let mut again = Vec::new(alloc);
-    let mut input = Counted::new(Source::whole(bytes, 9));
-    let mut fragment = past(alloc, &mut input, &listing, number)?;
-    let mut out = Counted::new(Sink::whole(&mut again, 90));
-    let len = write_run(alloc, &mut fragment, &mut input, run, &mut out).ok()?;
-    drop(out);
-    if got == again && got.as_slice() == file && len == told.bytes {
+    if got.as_slice() == file {
         Some(told)
     } else {
         None
@@ -118,12 +118,24 @@ fn mended(
     alloc: Global,
     bytes: &[u8],
     survey: &Survey,
-    only: &[Rule],
+    wanted: &Wanted,
     got: &mut Vec<u8>,
 ) -> Result<Ledger, MendFault> {
     let mut input = Counted::new(Source::whole(bytes, 9));
     let mut out = Counted::new(Sink::whole(got, 11));
-    mend(alloc, &mut input, &mut out, survey, only, None)
+    mend(alloc, &mut input, &mut out, survey, wanted)
+}
+
+/// What is asked for where only limits that fall are to be mended.
+fn by_digital(alloc: Global) -> Option<Wanted> {
+    let mut rules = Vec::new(alloc);
+    rules.push(Rule::Digital).ok()?;
+    Some(Wanted {
+        rules,
+        who: Who::AsNamed,
+        startdate: None,
+        starttime: None,
+    })
 }
 
 /// Whether the first change of a step is that of the physical minimum to 510.
@@ -139,27 +151,22 @@ fn is_first_of_falling(step: &Step) -> bool {
     }
 }
 
-/// What a first reading finds of a file whose digital limits fall, how many bytes and data records
-/// are mended, how many are added and left out, and whether the first change is told.
-fn fallen(alloc: Global) -> Option<(Option<FragmentFault>, u64, usize, u32, bool)> {
+/// How many bytes a first reading finds of a file whose digital limits fall, how many bytes and
+/// data records are mended, how many are added and left out, and whether the first change is told.
+fn fallen(alloc: Global) -> Option<(u64, usize, u32, bool)> {
     let bytes = file_named(alloc, "falling.edf")?;
-    let survey = survey_file(alloc, Counted::new(Source::whole(&bytes, 7))).ok()?;
+    let wanted = by_digital(alloc)?;
+    let mut input = Counted::new(Source::whole(&bytes, 7));
+    let survey = survey_file(alloc, &mut input, &wanted).ok()?;
     let mut got = Vec::new(alloc);
-    let ledger = mended(alloc, &bytes, &survey, &[Rule::Digital], &mut got).ok()?;
+    let ledger = mended(alloc, &bytes, &survey, &wanted, &mut got).ok()?;
     let is_told = ledger.added == 0
         && ledger.left_out == 0
         && is_first_of_falling(ledger.steps.first()?);
-    Some((
-        survey.fault,
-        survey.bytes,
-        got.len(),
-        ledger.records,
-        is_told,
-    ))
+    Some((survey.bytes, got.len(), ledger.records, is_told))
 }
 
 #[test]
 fn a_file_is_surveyed_and_mended(rt: HostRuntime) {
-    let fault = FragmentFault::Header(HeaderFault::Digital { signal: 1 });
-    assert_eq!(rt; fallen(rt.alloc()), Some((Some(fault), 778, 778, 1, true)));
+    assert_eq!(rt; fallen(rt.alloc()), Some((778, 778, 1, true)));
 }

@@ -44,22 +44,29 @@ enum Served {
 /// What `canonical` by onset tells of two gaps, in one of which an annotation lies.
 const OUTSIDE: &[u8] = b"two.edf outside=1\n";
 
+/// The same of standard input.
+const STREAM_OUTSIDE: &[u8] = b"- outside=1\n";
+
+/// Whether these are the lines of a command that was done.
+fn are_lines_of_done(err: &[u8]) -> bool {
+    err.is_empty() || err == OUTSIDE || err == STREAM_OUTSIDE
+}
+
+/// Whether these are the lines of a command without memory.
+fn are_lines_of_short(err: &[u8]) -> bool {
+    err.is_empty()
+        || err == b"two.edf refused E41 Memory\n".as_slice()
+        || err == b"- refused E41 Memory\n".as_slice()
+        || err.starts_with(b"night-") && err.ends_with(b".edf refused E43 Write\n")
+}
+
 /// How the budget served under which a command ended so, wrote so and left so many files; `None`
 /// where it may not. For want of memory a file may also count as one that can't be written.
 fn how_served(status: Status, out: &[u8], err: &[u8], files: usize) -> Option<Served> {
     match status {
-        Status::Done if !out.is_empty() && (err.is_empty() || err == OUTSIDE) => {
-            Some(Served::Whole)
-        }
-        Status::Trouble if files == 0 && out.is_empty() => {
-            let is_printed = err.is_empty()
-                || err == b"two.edf refused E41 Memory\n".as_slice()
-                || err.starts_with(b"night-") && err.ends_with(b".edf refused E43 Write\n");
-            if is_printed {
-                Some(Served::Short)
-            } else {
-                None
-            }
+        Status::Done if !out.is_empty() && are_lines_of_done(err) => Some(Served::Whole),
+        Status::Trouble if files == 0 && out.is_empty() && are_lines_of_short(err) => {
+            Some(Served::Short)
         }
         _ => None,
     }
@@ -128,9 +135,14 @@ fn first_gap() -> Option<Joining> {
     })
 }
 
-/// The commands to list two gaps, to write its canonical file by onset, and to split it, as it is,
-/// by onset and over its first gap.
-fn commands(alloc: Global) -> Option<[RunsCommand; 5]> {
+/// The command to write the canonical file of standard input.
+fn canonical_of_stream(is_by_onset: bool) -> RunsCommand {
+    RunsCommand::CanonicalOfStream { is_by_onset }
+}
+
+/// The commands to list two gaps, to write its canonical file by onset, and that of standard input,
+/// and to split it, as it is, by onset and over its first gap.
+fn commands(alloc: Global) -> Option<[RunsCommand; 7]> {
     let mut files = Vec::new(alloc);
     files.push(String::from_str(alloc, "two.edf").ok()?).ok()?;
     let list = RunsCommand::List {
@@ -144,6 +156,8 @@ fn commands(alloc: Global) -> Option<[RunsCommand; 5]> {
     Some([
         list,
         canonical,
+        canonical_of_stream(false),
+        canonical_of_stream(true),
         split(alloc, false, None)?,
         split(alloc, true, None)?,
         split(alloc, false, first_gap())?,
