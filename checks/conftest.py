@@ -51,13 +51,23 @@ def chosen(config) -> list:
 
 def pytest_configure(config):
     """Finds the programs, once for all workers: where one is stale it is proved and built first."""
-    if is_worker(config) or config.option.help or config.option.collectonly:
+    if is_worker(config):
+        vars(config.option).update(config.workerinput["programs"])
+        return
+    if config.option.help or config.option.collectonly:
         return
     options = {option for check in chosen(config) for option in check.programs}
     for name, option in arguments.OPTIONS.items():
         if option in options or not config.option.only:
             path = getattr(config.option, option) or arguments.chosen(name)
             setattr(config.option, option, str(Path(path).resolve()))
+
+
+@pytest.hookimpl(optionalhook=True)
+def pytest_configure_node(node):
+    """Tells a worker which programs were found: of the options it gets the words alone."""
+    node.workerinput["programs"] = {option: getattr(node.config.option, option)
+                                    for option in arguments.OPTIONS.values()}
 
 
 def pytest_report_header(config):

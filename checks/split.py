@@ -158,6 +158,7 @@ def files_of_each(programs: Programs, name: str, data: bytes, listed: str) -> No
     checks.same("the files", checks.names(), sorted(["a.edf", *names]))
     converted = programs.converted("a.edf")
     checks.run("canonical", "a.edf", out=converted)
+    checks.run("canonical", "-", given=data, out=converted)
     programs.takes("in order", names, converted)
     programs.takes("backwards, and again", names[::-1] + names, converted)
     for part, run in zip(names, made):      # a run's file has one run, itself
@@ -241,7 +242,8 @@ def refused_files(programs: Programs) -> None:
         for words in (("list", "a.edf"), ("write", "a.edf", "1"), ("write", "a.edf", "9"),
                       ("canonical", "a.edf"), ("split", "a.edf", "part"), ("picture", "a.edf")):
             checks.run(*words, err=line, status=1)
-        checks.run("list", "-", given=data, err=printed.fault("-", fault), status=1)
+        for words in (("list", "-"), ("canonical", "-"), ("canonical", "--by-onset", "-")):
+            checks.run(*words, given=data, err=printed.fault("-", fault), status=1)
         checks.same("the files", checks.names(), ["a.edf"])
 
 
@@ -250,7 +252,7 @@ def words_that_ask_for_nothing(programs: Programs) -> None:
     checks.begin("words that ask for nothing")
     checks.file("a.edf", FILES["R9"])
     for words in ((), ("write", "-", "1"), ("split", "-", "part"), ("list",), ("write", "a.edf"),
-                  ("canonical",), ("canonical", "-"), ("canonical", "a.edf", "more"),
+                  ("canonical",), ("canonical", "a.edf", "more"), ("canonical", "-", "-"),
                   ("split", "a.edf"), ("frob", "a.edf"), ("list", "--tolerance", "one", "a.edf"),
                   ("write", "a.edf", "1", "more"), ("list", "-x"), ("list", "--by-onset", "a.edf"),
                   ("split", "--by-onset=yes", "a.edf", "part"), ("split", "--by-onset", "a.edf"),
@@ -277,11 +279,39 @@ def trouble(programs: Programs) -> None:
                err=printed.line("none.edf", printed.UNREAD), status=3)
     for names in ("a.edf", "a.edf none.edf"):       # the second is not read
         checks.shell(f"edfruns list {names} > /dev/full", err=printed.UNWRITTEN_OUTPUT, status=3)
-    for words in ("write a.edf 1", "canonical a.edf", "split a.edf part"):
+    for words in ("write a.edf 1", "canonical a.edf", "canonical - < a.edf", "split a.edf part"):
         checks.shell(f"edfruns {words} > /dev/full", err=printed.UNWRITTEN_OUTPUT, status=3)
+    for words in ("canonical -", "canonical --by-onset -"):     # standard input is a folder
+        checks.shell(f"edfruns {words} < .", err=printed.line("-", printed.UNREAD), status=3)
     checks.shell("edfruns split a.edf none/part",
                  err=printed.line("none/part-1.edf", printed.UNWRITTEN), status=3)
     checks.same("the files", checks.names(), ["a.edf"])
+
+
+def pipes(programs: Programs) -> None:
+    """`canonical -` of a pipe that comes in pieces writes what the model has, and refuses one that
+    ends after any number of bytes, or goes on after the end, as the model does. Nothing goes out
+    then, nor while the end is awaited."""
+    checks = programs.checks
+    whole = small("+0", "+1", "+5", "+9.5")
+    key, records = model.read(whole)
+    for name, data in (("a pipe", whole), ("a pipe of an unknown count", unknown(whole))):
+        checks.begin(name)
+        checks.file("a.edf", data)
+        checks.shell("(head -c 300 a.edf; sleep 0.1; tail -c +301 a.edf) | edfruns canonical -",
+                     out=model.canonical(key, records))
+        checks.shell("(cat a.edf; sleep 0.5; test ! -s out && echo nothing > seen) "
+                     "| edfruns canonical - > out")
+        checks.same("what went out", (checks.content("out"), checks.content("seen")),
+                    (model.canonical(key, records), b"nothing\n"))
+        for cut in (*range(0, len(data), 37), *range(len(data) - 60, len(data) + 2)):
+            given = (data + b"x")[:cut]
+            fault = model.refusal(given)
+            for words in (("canonical", "-"), ("canonical", "--by-onset", "-")):
+                if fault:
+                    checks.run(*words, given=given, err=printed.fault("-", fault), status=1)
+                else:
+                    checks.run(*words, given=given, out=model.canonical(*model.read(given)))
 
 
 def files_that_are_there(programs: Programs) -> None:
@@ -425,6 +455,7 @@ def a_night_with_three_gaps(programs: Programs) -> None:
         checks.run("list", name, out=listed)
         checks.run("list", "-", given=given, out=listed)
         checks.run("canonical", name, out=converted)
+        checks.run("canonical", "-", given=given, out=converted)
         checks.run("split", name, f"{name}-run", out=runs.split_lines(f"{name}-run", made))
         for run, part in zip(made, runs.split_names(f"{name}-run", made)):
             checks.run("write", name, str(run.number), out=run.to_bytes(), err=run.told())
@@ -445,7 +476,7 @@ def main() -> None:
         checks = Checks(given.edfruns, Path(name), "edfruns")
         programs = Programs(checks, measure.Program(given.program, checks.folder))
         for case in (each_case, where_annotations_happened, too_many_in_a_data_record,
-                     refused_files, words_that_ask_for_nothing, trouble, files_that_are_there,
+                     refused_files, words_that_ask_for_nothing, trouble, pipes, files_that_are_there,
                      a_file_that_changes, a_run_that_no_header_can_date, digits_of_the_names,
                      a_thousand_runs, a_night_with_three_gaps):
             case(programs)

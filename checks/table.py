@@ -100,6 +100,8 @@ CHECKS = (
           needs=("inotifywait", "chromium"), is_on_disk=True, is_for_long=True),
     Check("forget", "what is gone of patients, and what stays", (EDFSTORE, EDFRUNS, EDFSERVE)),
     Check("mend.run", "files spoilt by hand, mended", (EDFSTORE, EDFMEND)),
+    Check("mend.table", "files where something could be guessed", (EDFMEND,)),
+    Check("mend.people", "pairs of patients, mended", (EDFMEND,), counts=(300, 3_000)),
     Check("mend.fuzz", "files spoilt at random, mended", (EDFMEND,), counts=(2_000, 100_000)),
     Check("mend.foreign", "files of other programs, mended", (EDFSTORE, EDFMEND),
           needs=("cc", "save2gdf", "python3-mne", "libedf-dev"), is_for_long=True),

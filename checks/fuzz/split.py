@@ -1,12 +1,12 @@
-"""Gives random files to `edfruns list`, `write` and `split` and checks each line, file and status
-against a plain model.
+"""Gives random files to `edfruns list`, `write`, `canonical` and `split` and checks each line, file
+and status against a plain model.
 
     python3 -m checks.fuzz.split [--edfruns PATH] [--seed SEED] [COUNT]    1,000 files if left out
 
-The files are those of fuzz/run.py (cases.py), about half of them broken. Of each, `list` from
-standard input is what the model has, with a tolerance too; of a file with runs, `write` writes the
-first, the last and one between as the model has them, and every eighth is split too, and again with
-`--by-onset`. Then the model's store takes the runs' files in any order, some twice, and must accept
+The files are those of fuzz/run.py (cases.py), about half of them broken. Of each, `list` and
+`canonical` from standard input are what the model has, `list` with a tolerance too; of a file with
+runs, `write` writes the first, the last and one between as the model has them, and every eighth is
+split too, and again with `--by-onset`. Then the model's store takes the runs' files in any order, some twice, and must accept
 each and export the canonical file of the whole. The first that fails is left in the folder that is
 named.
 """
@@ -71,14 +71,17 @@ def checked(program: measure.Program, data: bytes, chance: random.Random) -> str
         made = runs.read_runs(data)
     except model.Refused as fault:
         answer = printed.refused(str(fault))
-        compare("list", program.ran("list", "-", given=data).outcome(),
-                (b"", printed.line("-", answer).encode(), 1))
+        for word in ("list", "canonical"):
+            compare(word, program.ran(word, "-", given=data).outcome(),
+                    (b"", printed.line("-", answer).encode(), 1))
         compare("write", program.ran("write", "a.edf", "1").outcome(),
                 (b"", printed.line("a.edf", answer).encode(), 1))
         return "refused"
     compare("list", program.ran("list", "-", given=data).outcome(),
             (runs.lines(made).encode(), b"", 0))
     listed_joined(program, data, made, chance)
+    compare("canonical", program.ran("canonical", "-", given=data).outcome(),
+            (model.canonical(*model.read(data)), b"", 0))
     written(program, made, chance)
     if not any(map(is_undated, made)):
         taken_back(data, made, chance)

@@ -1,7 +1,8 @@
-"""What `edfmend` made of a file, looked at without it: by the plain model, and sample by sample."""
+"""What `edfmend` made of a file, looked at without it: by the plain model, sample by sample, and by
+what signals and annotations mean."""
 from pathlib import Path
 
-from . import measure, model
+from . import meaning, measure, model
 from .checks import Lost
 from .edf import ANNOTATIONS_LABEL, SIGNAL_WIDTHS
 
@@ -75,4 +76,5 @@ class Mender:
         if bool(ran.out) != (made != data):
             raise Lost(f"the ledger is {ran.out!r}, and what was made "
                        f"{'differs' if made != data else 'is the same'}")
+        meaning.look(data, made, {line.split(b" ")[0].decode() for line in ran.out.splitlines()})
         return made

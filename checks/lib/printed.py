@@ -227,9 +227,8 @@ NO_DATE = "after Startdate its recording field has no date (dd-MMM-yyyy, in capi
 FEW_OF_RECORDING = ("its recording field has fewer than the three subfields investigation, "
                     "technician and equipment after its date")
 BY_EDFMEND = "edfmend makes it that of EDF+, where it has room"
-NO_ROOM = "the field has no room for what EDF+ wants there, so shorten it in a copy"
-NO_ROOM_OR_DATE = ("the field has no room for what EDF+ wants there and the word mended, or the "
-                   "startdate is no date, so correct that in a copy")
+NO_DATE_OR_ROOM = ("its date is none that is known, or its codes have no room, or the startdate is "
+                   "no date, so correct that in a copy")
 
 
 def of_field(wrong: str, to_do: str = BY_EDFMEND) -> str:
@@ -242,8 +241,8 @@ BY_NAMED = ("the rules that --as names do not mend it, so name others too, or le
             "where clock is named, a start may be too far from its place")
 KEPT_TIMES = ("a byte of its startdate, starttime or duration is no printable ASCII, and edfmend "
               "leaves these as they are: correct it in a copy")
-NO_MARK = ("its recording field has no room for the word mended at its end: shorten it to 73 "
-           "characters in a copy")
+NO_TIME_GIVEN = ("its starttime is no second as hh.mm.ss: give it by --starttime, where the file "
+                 "has none")
 NONE_COUNTED = ("its number of data records is no number above 0, and by its header no whole one "
                 "is there: send it again")
 NONE_ADDED = ("its number of signals is not from 2 to 640: annotations alone are no recording, and "
@@ -260,11 +259,10 @@ NOT_SPELLED = ("annotations of this data record are spelled as no rule mends, or
                "it: have its producer write them as EDF+ has it")
 NO_ROOM_FOR_TEXT = ("an annotation of this data record is no UTF-8, and its block has no room for "
                     "its letters in UTF-8: shorten it in a copy")
-NAME_THE_RULES = ("the rule clock is for EDF+C, and runs by itself only where this is the first "
-                  "fault: name the rules, as by --as ascii,clock; starts that are half a sample or "
-                  "more from their places are not mended")
-ZEROS = ("only zeros follow the counted data records, as many as one has, or more: cut them off in "
-         "a copy")
+ALL_OR_NONE = ("the rule clock is for EDF+C, and moves all starts that were rounded or none: one "
+               "is half a sample or more from its place, or its block has no room")
+UNCOUNTED = ("bytes follow its counted data records: where they are its own, name count in --as; "
+             "zeros, cut them off in a copy")
 NO_FAULT = "it has no fault: there is nothing to mend"
 COPIED = "it has no fault, and was copied as it is"
 

@@ -395,7 +395,6 @@ def misspelled(script: RunScript) -> None:
     script.title("words that ask for nothing")
     twice = ("FILE is read twice, which standard input can't be: write it to a file first")
     script.misspelled("write - 1", twice, "write [OPTIONS] <FILE> <N>")
-    script.misspelled("canonical -", twice, "canonical [OPTIONS] <FILE>")
     script.misspelled("split - night", twice, "split [OPTIONS] <FILE> <PREFIX>")
     script.misspelled("split --shift 1 two.edf night",
                       "--shift is for --tolerance: no data record is moved where no gap is joined",

@@ -81,17 +81,6 @@ def exported() -> bytes:
     return edf.fragment(edf.Header((edf.Signal(), edf.annotations_signal(16)), count="6"), records)
 
 
-def two_gaps() -> bytes:
-    """Six data records of a second, 0.25, 1.25, 2.25, 10.75, 11.75 and 3610 seconds after Q's
-    start."""
-    blocks = [edf.keeping("+0.25"), edf.keeping("+1.25") + edf.tal("+1.5", "Snore"),
-              edf.keeping("+2.25"), edf.keeping("+10.75"), edf.keeping("+11.75"),
-              edf.keeping("+3610") + edf.tal("+3610.5", "Turn", duration="0.5")]
-    header = edf.Header((edf.Signal(), edf.annotations_signal(14)), count=str(len(blocks)))
-    return edf.fragment(
-        header, [(bytes([n, 0, 0xff - n, 0xff]), block) for n, block in enumerate(blocks, 1)])
-
-
 HELD = (P5, K, U, Q, nap(), R9)
 LISTED = (printed.recording(1, 2, "2002-03-04T13:00:00.25", "P12", "N4") +
           printed.recording(2, 6, "2002-03-02T23:59:50", "P7", "N1") +
@@ -99,9 +88,6 @@ LISTED = (printed.recording(1, 2, "2002-03-04T13:00:00.25", "P12", "N4") +
 TAKEN = printed.lines(("a.edf", printed.NEW), ("missing.edf", printed.UNREAD),
                       ("b.edf", printed.refused(OVERLAPS)), ("-", printed.accepted(600)),
                       ("card.edf", printed.accepted(0, 601))).encode()
-RUNS = (printed.run(1, 3, "2002-03-02T23:59:50.25", "3", "7.5") +
-        printed.run(2, 2, "2002-03-03T00:00:00.75", "2", "3597.25") +
-        printed.run(3, 1, "2002-03-03T01:00:00", "1")).encode()
 
 
 def store(program: Path, folder: Path) -> bytes:
@@ -139,8 +125,8 @@ def files_of(held: bytes, script: stories.Script) -> dict:
                            "orders": orders}
     return {f"{STORED}/data/{name}": content for name, content in data.items()} | {
         "edfstore/stdin": Q, "edfstore/stdout": Q, f"{STORED}/stdin": long_spelling(),
-        f"{STORED}/stdout": TAKEN + written, "edfruns/stdin": b"",
-        "edfruns/data/two_gaps.edf": two_gaps(), "edfruns/stdout": RUNS}
+        f"{STORED}/stdout": TAKEN + written, "edfruns/stdin": data["loose.edf"],
+        "edfruns/stdout": data["canonical_loose.edf"]}
 
 
 def by_model() -> None:

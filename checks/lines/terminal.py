@@ -18,7 +18,7 @@ from checks.lib.by_hand import (COUNT, PATIENT, RECORDING, RESERVED, STARTDATE, 
 from checks.lib.checks import Checks
 from checks.lib.printed import (FOREIGN, KNOWN, NEW, NO_STORE, UNREAD, UNWRITTEN, WIPED, cause,
                                 of_field, step)
-from checks.mend.run import ALMOST, FULL, GOOD, LONG, PLAIN, identified, in_block
+from checks.mend.run import ALMOST, GOOD, PLAIN, in_block
 
 Q, R9 = (edf.small_files()[name] for name in ("Q", "R9"))
 
@@ -257,19 +257,14 @@ def read_again(checks: Checks) -> None:
 
 
 BOTH_READ = "".join(step(nth, 2, 0, 1, "reading") + WIPED for nth in (1, 2))
-ROUNDED = in_block(1, b"+1\x14", b"+0.9\x14")(GOOD)
 ONE_SIGNAL = edf.fragment(edf.Header((edf.Signal(),)), [(by_hand.SAMPLES, [])])
 # Files that edfmend does not mend by all its rules
 UNMENDED = (
     ("bdf", field(GOOD, VERSION, b"\xffBIOSEMI"), faults.unprintable(0), printed.IS_BDF),
     ("time", field(GOOD, STARTTIME, b"23.59.5\xb0"), faults.unprintable(183), printed.KEPT_TIMES),
-    ("hour", field(GOOD, STARTTIME, "24.00.00"), faults.starttime(), printed.NO_TIME),
-    ("birthdate", identified(f"P7 F 03.03.1961 {LONG}abcde", FULL), faults.patient(),
-     of_field(printed.NO_BIRTHDATE, printed.NO_ROOM)),
+    ("hour", field(GOOD, STARTTIME, "24.00.00"), faults.starttime(), printed.NO_TIME_GIVEN),
     ("startdate", field(field(GOOD, RECORDING, "Night 1"), STARTDATE, "32.13.02"),
-     faults.recording(), of_field(printed.NO_STARTDATE, printed.NO_ROOM_OR_DATE)),
-    ("mark", field(identified("P7 F 02-MAY-1951 X", f"{FULL}b"), COUNT, "7"), faults.recording(),
-     printed.NO_MARK),
+     faults.recording(), of_field(printed.NO_STARTDATE, printed.NO_DATE_OR_ROOM)),
     ("count", field(GOOD, COUNT, "0")[:1024], faults.count(), printed.NONE_COUNTED),
     ("one", ONE_SIGNAL, faults.signals(), printed.NONE_ADDED),
     ("label", ALMOST, faults.annotations(), printed.NO_LABEL),
@@ -280,18 +275,17 @@ UNMENDED = (
     ("list", in_block(0, b"Snore\x14", b"Snore")(GOOD), faults.tal(1, 5), printed.NOT_SPELLED),
     ("text", in_block(0, b"Snore", b"\xf6" * 20)(GOOD), faults.text(1, 10),
      printed.NO_ROOM_FOR_TEXT),
-    ("order", column(ROUNDED, by_hand.DIMENSION, 1, b"\xb5V"), faults.order(2),
-     printed.NAME_THE_RULES),
-    ("zeros", GOOD.ljust(4096, b"\0"), faults.trailing(), printed.ZEROS),
+    ("order", in_block(1, b"+1\x14", b"+0.5\x14")(GOOD), faults.order(2), printed.ALL_OR_NONE),
+    ("zeros", GOOD.ljust(4096, b"\0"), faults.trailing(), printed.UNCOUNTED),
 )
 # Files that it does not mend by these rules
 UNMENDED_BY = (
     ("sex", "ascii", field(GOOD, PATIENT, "P7 W 02-MAY-1951 X"), faults.patient(),
      of_field(printed.NO_SEX, printed.BY_NAMED)),
     ("plain", "patient,count", PLAIN, faults.not_plus(), printed.BY_NAMED),
-    ("hour", "ascii", field(GOOD, STARTTIME, "24.00.00"), faults.starttime(), printed.NO_TIME),
+    ("hour", "ascii", field(GOOD, STARTTIME, "24.00.00"), faults.starttime(), printed.BY_NAMED),
     ("far", "ascii,clock", column(in_block(1, b"+1\x14", b"+1.5\x14")(GOOD), by_hand.DIMENSION, 1,
-                                  b"\xb5V"), faults.unprintable_signals(544), printed.BY_NAMED),
+                                  b"\xb5V"), faults.order(3), printed.BY_NAMED),
 )
 
 

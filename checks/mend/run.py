@@ -12,7 +12,7 @@ import itertools
 import tempfile
 from pathlib import Path
 
-from checks.lib import arguments, by_hand, faults, measure, mended, printed
+from checks.lib import arguments, by_hand, faults, measure, mended, mending, printed
 from checks.lib.checks import Checks, Lost
 from checks.lib.edf import Header, Signal, annotations_signal, fragment, keeping, tal
 
@@ -99,72 +99,57 @@ def counted(count: int, *more) -> bytes:
     """PLAIN as it is mended, with so many data records; `more` are the samples of those behind its
     own."""
     header = Header((*SIGNALS, annotations_signal(16)), count=str(count), reserved="EDF+C",
-                    recording="Startdate 02-MAR-2002 N1 T3 REC5 mended")
+                    recording="Startdate 02-MAR-2002 N1 T3 REC5")
     samples = [of for of, _ in RECORDS] + list(more)
     return fragment(header, [(of, keeping(f"+{nth}")) for nth, of in enumerate(samples)])
 
 
-LONG = "Huber_" + "a" * 52               # 58 bytes, so that the patient field has 78
+NIGHT = "Startdate 24-DEC-2026 N1 T3 REC5"
 # A recording field of 73 bytes, behind which is just room for the mark
-FULL = f"Startdate 24-DEC-2026 N1 T3 REC5 {'a' * 20} {'b' * 19}"
+FULL = f"{NIGHT} {'a' * 20} {'b' * 19}"
 # A code and a sex of letters that ASCII does not have
 CYRILLIC = "Иван F 02-MAY-1951 Müller".encode()
+BY_COUNT = ("--as", "plain,count")
 # A name, a file, the words, and the mended file
 BY_HAND = (
-    ("a birthdate of another form",
-     identified("P-4711 F 03.03.1961 Huber_Anna", "Startdate 24-DEC-2026 N1 T3 REC5"), (),
-     identified("P-4711 F X Huber_Anna 03.03.1961", "Startdate 24-DEC-2026 N1 T3 REC5 mended")),
+    ("a birthdate of another form", identified("P-4711 F 03.03.1961 Huber_Anna", NIGHT), CODE,
+     identified("S-0118 X X P-4711_F_03.03.1961_Huber_Anna", f"{NIGHT} mended")),
     ("a sex of another form, and one subfield more",
-     identified("P-4711 w 03-mar-1961 Huber_Anna Ward_3", "Startdate 24-DEC-2026 N1 T3 REC5"), (),
-     identified("P-4711 X 03-MAR-1961 Huber_Anna Ward_3 w",
-                "Startdate 24-DEC-2026 N1 T3 REC5 mended")),
-    ("neither can be read, after the code that is given",
-     identified("P-4711 w 03.03.1961 Huber_Anna", "Startdate 24-DEC-2026 N1 T3 REC5"),
-     ("--patient", "P-4711"),
-     identified("P-4711 X X Huber_Anna w 03.03.1961", "Startdate 24-DEC-2026 N1 T3 REC5 mended")),
-    ("neither can be read, after X",
-     identified("X w 03.03.1961 Huber_Anna", "Startdate 24-DEC-2026 N1 T3 REC5"), CODE,
-     identified("S-0118 X X Huber_Anna w 03.03.1961", "Startdate 24-DEC-2026 N1 T3 REC5 mended")),
-    ("a name of four words",
-     identified("Haagse Harry de Vries", "Startdate 24-DEC-2026 N1 T3 REC5"), CODE,
-     identified("S-0118 X X Haagse Harry de Vries", "Startdate 24-DEC-2026 N1 T3 REC5 mended")),
-    ("a patient field that gets full",
-     identified(f"P-4711 F 03.03.1961 {LONG}", "Startdate 24-DEC-2026 N1 T3 REC5"), (),
-     identified(f"P-4711 F X {LONG} 03.03.1961", "Startdate 24-DEC-2026 N1 T3 REC5 mended")),
+     identified("P-4711 w 03-mar-1961 Huber_Anna Ward_3", NIGHT), ("--patient", "P-4711"),
+     identified("P-4711 X X P-4711_w_03-mar-1961_Huber_Anna_Ward_3", f"{NIGHT} mended")),
+    ("neither can be read, after X", identified("X w 03.03.1961 Huber_Anna", NIGHT), CODE,
+     identified("S-0118 X X X_w_03.03.1961_Huber_Anna", f"{NIGHT} mended")),
     ("a month in German",
      identified("P7 F 02-MAY-1951 X", "Startdate 24-DEZ-2026 PSG-1 T7 Nox"), (),
      identified("P7 F 02-MAY-1951 X", "Startdate 24-DEC-2026 PSG-1 T7 Nox mended")),
     ("a month in German and small letters, and one subfield more",
      identified("P7 F 02-MAY-1951 X", "Startdate 24-dez-2026 PSG-1 T7 Nox Room_2"), (),
      identified("P7 F 02-MAY-1951 X", "Startdate 24-DEC-2026 PSG-1 T7 Nox Room_2 mended")),
-    ("a recording field with just room for the mark",
-     identified("P7 F 02-may-1951 X", FULL), (),
+    ("a recording field with just room for the mark", identified("P7 F 02-may-1951 X", FULL), (),
      identified("P7 F 02-MAY-1951 X", f"{FULL} mended")),
     ("a code of letters that ASCII does not have", identified(CYRILLIC, FULL), CODE,
-     identified("S-0118 F 02-MAY-1951 Mueller", f"{FULL} mended")),
-    ("a code with one such letter", identified("Ж-7 F X X".encode(), FULL), CODE,
-     identified("S-0118 F X X", f"{FULL} mended")),
+     identified("S-0118 X X ????_F_02-MAY-1951_Mueller", f"{FULL} mended")),
     ("a code that ASCII can spell", identified("Bär-7 F X X".encode(), FULL), CODE,
-     identified("Baer-7 F X X", f"{FULL} mended")),
-    ("a byte after zeros", PLAIN + bytes(11) + b"\x07", (),
+     identified("S-0118 X X Baer-7_F_X_X", f"{FULL} mended")),
+    ("a byte after zeros", PLAIN + bytes(11) + b"\x07", BY_COUNT,
      counted(5, bytes(6), bytes(5) + b"\x07")),
     ("zeros that are less than a data record", PLAIN + bytes(5), (), counted(3)),
     ("zeros before the count", by_hand.field(PLAIN + bytes(12), by_hand.COUNT, "5"), (),
      counted(5, bytes(6), bytes(6))),
 )
 ALMOST = by_hand.column(GOOD, by_hand.LABEL, 3, "EDF annotations")
+NO_ROOM = "has no room for the word mended in its recording field: 7 bytes are wanted"
 # A name, a file, and what is printed where it could only be guessed
 GUESSES = (
-    ("a patient field with no room",
-     identified(f"P-4711 F 03.03.1961 {LONG}a", "Startdate 24-DEC-2026 N1 T3 REC5"),
-     "refused E4 Patient"),
+    ("a birthdate of another form, and no code",
+     identified("P-4711 F 03.03.1961 Huber_Anna", NIGHT),
+     "names no code of a patient: give one by --patient CODE"),
     ("a name of four words, and no code", by_hand.field(GOOD, by_hand.PATIENT,
                                                         "Haagse Harry de Vries"),
      "names no code of a patient: give one by --patient CODE"),
     ("a recording field without room for the mark",
-     identified("P7 F 02-may-1951 X", f"{FULL}b"), "refused E5 Recording"),
-    ("a full recording field", identified("P7 F 02-may-1951 X", f"{FULL} bed-A"),
-     "refused E5 Recording"),
+     identified("P7 F 02-may-1951 X", f"{FULL}b"), NO_ROOM),
+    ("a full recording field", identified("P7 F 02-may-1951 X", f"{FULL} bed-A"), NO_ROOM),
     ("a code of letters that ASCII does not have, and none given", identified(CYRILLIC, FULL),
      "names no code of a patient: give one by --patient CODE"),
     ("another day", identified("P7 F 02-MAY-1951 X", "Startdate 25-dec-2026 PSG-1 T7 Nox"),
@@ -255,7 +240,8 @@ def by_bytes(checks: Checks, mender: mended.Mender) -> list:
     checks.begin("mended by hand")
     made = []
     for what, data, words, expected in BY_HAND:
-        made.append(mend(checks, mender, what, data, words, ["mended"]))
+        rule = "mended" if b" mended" in expected[88:168] else "plain"
+        made.append(mend(checks, mender, what, data, words, [rule]))
         checks.same(f"{what}: the bytes are those by hand", made[-1] == expected, True)
     return made
 
@@ -272,7 +258,8 @@ def guesses(checks: Checks, mender: mended.Mender) -> None:
 def untouched(checks: Checks, mender: mended.Mender) -> None:
     checks.begin("what is left as it was")
     for name, data in (("good", GOOD), *by_hand.FILES.items()):
-        for words in ((), CODE):
+        code = mending.code_of(data[8:88]).decode()
+        for words in ((), ("--patient", code) if code else ()):
             ran = mender.mend(data, *words)
             checks.same(f"{name}: a good file", (ran.outcome(), mender.made.read_bytes() == data),
                         ((b"", b"", 0), True))
