@@ -296,7 +296,45 @@ def unmarked(records: list, reserved: str = "") -> bytes:
                            reserved=reserved, recording=NIGHT), records)
 
 
+def spoilt_mark(text: bytes, records: list, mark_made: str) -> Row:
+    """What stands in the mark's place is none: the one that is written goes by the gaps alone."""
+    return Row(f"{text!r} for a mark, and {mark_made}",
+               by_hand.field(unmarked(records), by_hand.RESERVED, text), "", 0,
+               change("plain", 192, text, mark_made), mark=mark_made,
+               whole=unmarked(records, mark_made))
+
+
+def behind_mark(text: bytes, spelled_so: str) -> Row:
+    """Letters behind a mark are spelled, and the mark stays, though a gap is there."""
+    return Row(f"{text!r} in the reserved field",
+               by_hand.field(unmarked(GAP), by_hand.RESERVED, text), "", 0,
+               change("ascii", 192, text, spelled_so), mark=spelled_so[:5],
+               whole=unmarked(GAP, spelled_so))
+
+
+# A letter that the table would make that of a mark; in Latin-1 and UTF-8, at the end and before it
+SPOILT = b"EDF+\xc7", "EDF+Ç".encode(), b"\xc9DF+C", "ÈDF+D".encode(), b"EDF+\xc7 \xc4"
+LETTERS = "Gerät 7".encode()
 MARKS = [
+    *(spoilt_mark(text, records, made) for text in SPOILT
+      for records, made in ((GAP, "EDF+D"), (RECORDS, "EDF+C"))),
+    behind_mark("EDF+C Ä".encode(), "EDF+C Ae"), behind_mark(b"EDF+C \xc4", "EDF+C Ae"),
+    behind_mark("EDF+DÄ 7".encode(), "EDF+DAe 7"), behind_mark(b"EDF+C\0\0\0\xc7", "EDF+C   C"),
+    *(refused(f"{text!r} for a mark, and `ascii` alone",
+              by_hand.field(unmarked(records), by_hand.RESERVED, text),
+              "IN refused E2 Unprintable offset=196\n", " --as ascii")
+      for text in SPOILT[:2] for records in (GAP, RECORDS)),
+    Row("zeros behind what stands in the mark's place",
+        by_hand.field(unmarked(GAP), by_hand.RESERVED, SPOILT[0].ljust(44, b"\0")), "", 0,
+        change("ascii", 192, SPOILT[0].ljust(44, b"\0"), SPOILT[0]) +
+        change("plain", 192, SPOILT[0], "EDF+D"), mark="EDF+D", whole=unmarked(GAP, "EDF+D")),
+    refused("a reserved field of zeros, and `ascii` alone",
+            by_hand.field(unmarked(GAP), by_hand.RESERVED, bytes(44)), "IN refused E9 NotPlus\n",
+            " --as ascii"),
+    Row("letters in the reserved field of plain EDF",
+        by_hand.field(PLAIN, by_hand.RESERVED, LETTERS), "", 0,
+        made_plain(3).replace('192 old=""', f'192 old="{quoted(LETTERS)}"'), mark="EDF+C",
+        whole=timed(SAMPLES)),
     Row("no mark, starts with a gap", unmarked(GAP), "", 0, change("plain", 192, "", "EDF+D"),
         mark="EDF+D", whole=unmarked(GAP, "EDF+D")),
     Row("no mark, starts without a gap", unmarked(RECORDS), "", 0,

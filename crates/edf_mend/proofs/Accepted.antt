@@ -19,8 +19,8 @@ use Rattle.edf_fragment.specs.declared.fault.FragmentFault.TheVariants as fragme
 use Rattle.edf_fragment.proofs.Fragments.{open_refused}
 use Rattle.edf_fragment.proofs.Layouts.{record-some}
 use Rattle.edf_fragment.proofs.Runs.{IsHeader-more}
-use Rattle.edf_mend.specs.Inside.Accepted.{IsOpened, RefusesHeader}
-use Rattle.edf_mend.specs.Inside.Accepted.{IsAccepted, RefusesNext}
+use Rattle.edf_mend.specs.Inside.Accepted.{IsHeaderOpen, RefusesHeader}
+use Rattle.edf_mend.specs.Inside.Accepted.{IsNextRead, RefusesNext}
 use Rattle.edf_mend.specs.declared.fault.MendFault.{MendFault}
 use Rattle.edf_mend.specs.declared.fault.MendFault.TheVariants.{Refused, Memory}
 
@@ -64,7 +64,7 @@ opens-known left rest result answer is step =
 
 pub opened-all : (bytes left piece : List ℕ) (result : Result OpenFragment FragmentFault)
     (o : OpenFragment) → piece ≡ bytes → Opens (Some piece) (Some left) result →
-    result ≡ Ok o → left ≡ [] → IsOpened bytes o
+    result ≡ Ok o → left ≡ [] → IsHeaderOpen bytes o
 opened-all bytes left piece result o same step is none =
     let known = opens-known (Some piece) (Some left) result (Ok o) is step in
     let reads = known.0 in
@@ -151,7 +151,7 @@ module _ (l : Layout) (p q : Progress) (bytes piece left : List ℕ)
       subst (λ (x : List ℕ). EndsThere l p (Some x) (Some left)) same
       (going l p q (Some piece) (Some left) result (Ok None) on is told).1
 
-  pub accepted : (r : DataRecord) → result ≡ Ok (Some r) → left ≡ [] → IsAccepted l p q bytes r
+  pub accepted : (r : DataRecord) → result ≡ Ok (Some r) → left ≡ [] → IsNextRead l p q bytes r
   accepted r is none = record {
     gives = subst (λ (x : List ℕ). GivesRecord l p (Some bytes) (Some x) r) none (gives r is);
     to_is = (going l p q (Some piece) (Some left) result (Ok (Some r)) on is told).0;

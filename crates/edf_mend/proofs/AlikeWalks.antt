@@ -31,16 +31,6 @@ pub record AreAlike (a b : HeaderTexts) : Type 0 where
   pub reserved : (a.fixed.reserved ≡ b.fixed.reserved)
       ⊎ (IsMark a.fixed.reserved × IsMark b.fixed.reserved)
 
-pub alike-back : (a b : HeaderTexts) → AreAlike a b → AreAlike b a
-alike-back a b x = record { others = sym x.others; reserved = by x.reserved }
-  where
-    by : (a.fixed.reserved ≡ b.fixed.reserved)
-        ⊎ (IsMark a.fixed.reserved × IsMark b.fixed.reserved) →
-        (b.fixed.reserved ≡ a.fixed.reserved)
-        ⊎ (IsMark b.fixed.reserved × IsMark a.fixed.reserved)
-    by (inl e) = inl (sym e)
-    by (inr m) = inr (m.1, m.0)
-
 -- ---- before the mark
 
 abbrev IsBefore : Rule → Type 0

@@ -7,7 +7,6 @@ use Rattle.std.specs.Prelude.{Contains, if◌then◌else◌}
 use Rattle.std.specs.List.{AllZip}
 use Rattle.edf_mend.specs.Header.{HeaderTexts, fitted, spaced}
 use Rattle.edf_mend.specs.Letters.{ascii}
-use Rattle.edf_mend.specs.Steps.{is_near}
 use Rattle.edf_mend.specs.Inside.Head.{text_of, times_of, HasWidths}
 use Rattle.edf_mend.specs.Inside.Proposed.{ProposedText, proposed, AreOfRow, has_letters}
 use Rattle.edf_mend.specs.Inside.Proposed.{ascii_in, by_letters, IsAsciiText, AreAscii, places_below, places_of}
@@ -18,21 +17,6 @@ use Rattle.edf_mend.specs.declared.steps.Proposals.{Proposals}
 use Rattle.edf_mend.proofs.ProposedSignals.{proposes-none, proposes-more}
 use Rattle.edf_mend.proofs.FilledTexts.{unfilled, fitted-unfilled}
 use Rattle.edf_mend.proofs.TableRows.{ascii_row}
-
--- ---- whether letters are replaced
-
--- of a label by what it names, of any other by the field
-pub of-label : (near r : Bool) (text : List ℕ) → near ≡ is_near text → r ≡ (if near then false else true) →
-    ascii_in at.Label text ≡ by_letters r text
-of-label true r text e is = ap (λ (b : Bool). if b then spaced text else ascii text) (sym e)
-    ∙ ap (λ (b : Bool). by_letters b text) (sym is)
-of-label false r text e is = ap (λ (b : Bool). if b then spaced text else ascii text) (sym e)
-    ∙ ap (λ (b : Bool). by_letters b text) (sym is)
-
-pub of-other : (f : Field) (text : List ℕ) → ¬ (f ≡ at.Label) →
-    ascii_in f text ≡ by_letters (has_letters f) text
-of-other at.Label text other = absurd (other refl)
-of-other f text other = refl
 
 -- a text whose letters stay
 pub kept-ascii : (t : HeaderTexts) (f : Field) (i : ℕ) (old text : List ℕ) (is : Bool) →
@@ -54,9 +38,6 @@ one-ascii t f i text old new w e p = record {
   proposes = p;
   are = (record { widths = w; field_is = refl; nth_is = refl; fills = e }, tt);
 }
-
-pub no-ascii : (t : HeaderTexts) (p : Proposals) → ProposesEach (AreAscii t []) p p
-no-ascii t p = record { added = []; proposes = proposes-none p; are = tt }
 
 zip-join : {A B : Type 0} (R : A → B → Type 0) (xs us : List A) (ys vs : List B) →
     AllZip R xs ys → AllZip R us vs → AllZip R (xs ++ us) (ys ++ vs)
@@ -108,13 +89,6 @@ field-ascii t fs i d a b c lt x y =
     subst (λ (k : ℕ). ProposesEach (AreAscii t (places_of t (take k fs))) a c) next
     (subst (λ (ps : List (Field × ℕ)). ProposesEach (AreAscii t ps) a c) (sym one)
     (more-ascii t (places_of t (take i fs)) (places_below f (times_of t f)) a b c x y))
-
-pub fields-ascii : (t : HeaderTexts) (fs : List Field) (i : ℕ) (a b : Proposals) →
-    length fs ≤ i → ProposesEach (AreAscii t (places_of t (take i fs))) a b →
-    ProposesEach (AreAscii t (places_of t fs)) a b
-fields-ascii t fs i a b le x =
-    subst (λ (gs : List Field). ProposesEach (AreAscii t (places_of t gs)) a b)
-    (take_all i fs le) x
 
 -- ---- texts in two parts
 

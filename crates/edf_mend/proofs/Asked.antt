@@ -87,14 +87,6 @@ module _ (w : Wanted) (t : HeaderTexts) where
   dots-same a b p q = if-one (IsAsked w rule.Separators) (IsStartdateMade t.fixed.recording)
       (startdate-one t.fixed.recording) t.fixed.startdate a b p q
 
-  pub after-none : (mid : List ℕ) → w.startdate ≡ None → Dotted mid → StartdateAfter w t mid
-  after-none mid e dots = (
-    mid,
-    dots,
-    subst (λ (o : Option (List ℕ)).
-        IsGivenStart (HasStartdate t.fixed.recording) o mid mid) (sym e) refl,
-  )
-
   pub after-given : (mid day : List ℕ) → w.startdate ≡ Some day → Dotted mid →
       ¬ HasStartdate t.fixed.recording mid → StartdateAfter w t day
   after-given mid day e dots none = (
@@ -177,23 +169,6 @@ module _ (w : Wanted) (t : HeaderTexts) where
     has = elim has [ inl there ↦ inl (mid, dots, there) | inr other ↦ inr other ];
   }
 
-  pub no-other-date : (body day mid : List ℕ) → w.startdate ≡ Some day → Dotted mid →
-      ¬ HasStartdate t.fixed.recording mid → ¬ IsOtherwise t.fixed.startdate day →
-      ¬ HasAnotherDate w t body t.fixed.startdate
-  no-other-date body day mid e dots none other is =
-      let f : Some is.day ≡ Some day = sym is.given ∙ e in
-      let d : is.day ≡ day = cc in
-      elim is.has [
-        | inl there ↦ none (subst (λ (l : List ℕ). HasStartdate t.fixed.recording l)
-            (dots-same there.0 mid there.1 dots) there.2)
-        | inr here ↦ other (subst (λ (l : List ℕ). IsOtherwise t.fixed.startdate l) d here)
-      ]
-
-  pub no-date-given : (body : List ℕ) → w.startdate ≡ None →
-      ¬ HasAnotherDate w t body t.fixed.startdate
-  no-date-given body e is =
-      let f : None ≡ Some is.day = sym e ∙ is.given in cc
-
   abbrev pub DottedTime : List ℕ → Type 0
   DottedTime mid = HasDots w IsStarttimeMade t.fixed.starttime mid
 
@@ -205,17 +180,6 @@ module _ (w : Wanted) (t : HeaderTexts) where
     own_is = refl;
     has = (mid, dots, has);
   }
-
-  pub no-other-time : (body mid : List ℕ) → DottedTime mid → ¬ HasStarttime mid →
-      ¬ HasAnotherTime w t body t.fixed.starttime
-  no-other-time body mid dots none is = none (subst HasStarttime
-      (if-one (IsAsked w rule.Separators) IsStarttimeMade starttime-one t.fixed.starttime is.has.0
-      mid is.has.1 dots) is.has.2)
-
-  pub no-time-given : (body : List ℕ) → w.starttime ≡ None →
-      ¬ HasAnotherTime w t body t.fixed.starttime
-  no-time-given body e is =
-      let f : None ≡ Some is.time = sym e ∙ is.given in cc
 
   -- ---- the questions in their order
 

@@ -417,34 +417,3 @@ module _ (l : Layout) (shape : Shape) (moves : Bool) (left : Option (List ℕ)) 
         steps = kept.0 ∙ ap (λ (x : Ledger). x.steps) one.remade.others ∙ so.steps;
         added = kept.1 ∙ ap (λ (x : Ledger). x.added) one.remade.others ∙ so.added;
       }
-
-  -- what a reader is, so far
-  pub reads-on : (t : Tally) (s : Starts) (p : Progress) (mid : Option (List ℕ)) (b : Buffered)
-      (told : Told) → CarriesSoFar l shape moves left mid front t s p a b before told →
-      told.fault ≡ None → p ≡ at_place p.given p.place
-  reads-on t s p mid b told so none =
-      let g = goes-none l (length so.put.records) so.put.last so.put.later p told.fault none
-      so.put.goes in
-      g.1 ∙ ap (λ (x : Progress). at_place x.given x.place) (sym g.1)
-
--- a reader that met no fault goes on
-pub reading-after : (l : Layout) (shape : Shape) (moves : Bool) (old : List ℕ) (s s' : Starts)
-    (p q : Progress) (b c : Buffered) (told tells : Told) → (told.fault ≡ None → p.state ≡ Reading) →
-    CarriesOne l shape moves old s s' p q b c told tells → tells.fault ≡ None →
-    q.state ≡ Reading
-reading-after l shape moves old s s' p q b c told tells was one none = by one.then
-  where
-    by : (((told.fault ≢ None) × (tells ≡ record told { ledger = one.ledger }) × (q ≡ p) × (c ≡ b))
-        ⊎ ((told.fault ≡ None)
-        × PutsRecord l p q b c one.new (record told { ledger = one.ledger }) tells)) →
-        q.state ≡ Reading
-    by (inl x) = absurd (x.0 (ap (λ (y : Told). y.fault) (sym x.1) ∙ none))
-    by (inr x) = on x.1
-      where
-        on : PutsRecord l p q b c one.new (record told { ledger = one.ledger }) tells →
-            q.state ≡ Reading
-        on (inl y) = ap (λ (z : Progress). z.state) y.accepted.to_is
-        on (inr y) = absurd (not-some y.why (ap (λ (z : Told). z.fault) (sym y.told) ∙ none))
-          where
-            not-some : (why : MendFault) → Some why ≡ None → ⊥
-            not-some why e = absurd (cc)

@@ -121,37 +121,6 @@ module _ (l : Layout) (shape : Shape) (moves : Bool) (nth : ℕ) (old spelled : 
 
 -- ---- troubles
 
-pub out-trouble : (why : MendFault) → IsOutTrouble why → IsTrouble why
-out-trouble why (inl e) = subst (λ (x : MendFault). IsTrouble x) (sym e) tt
-out-trouble why (inr e) = subst (λ (x : MendFault). IsTrouble x) (sym e) tt
-
-pub read-trouble : (why : MendFault) → (why ≡ Read) ⊎ (why ≡ Memory) → IsTrouble why
-read-trouble why (inl e) = subst (λ (x : MendFault). IsTrouble x) (sym e) tt
-read-trouble why (inr e) = subst (λ (x : MendFault). IsTrouble x) (sym e) tt
-
--- a call failed after others that did not
-pub counts-read : (first reads reads' writes writes' : ℕ) (why : MendFault) →
-    (why ≡ Read) ⊎ (why ≡ Memory) → reads ≡ first → writes' ≡ writes →
-    CountsFault reads reads' 0 0 why → CountsFault first reads' writes writes' why
-counts-read first reads reads' writes writes' why (inl e) same kept counted =
-    subst (λ (x : MendFault). CountsFault first reads' writes writes' x) (sym e)
-    (subst (λ (n : ℕ). CountsFault n reads' writes writes' Read) same
-    ((subst (λ (x : MendFault). CountsFault reads reads' 0 0 x) e counted).0, kept))
-counts-read first reads reads' writes writes' why (inr e) same kept counted =
-    subst (λ (x : MendFault). CountsFault first reads' writes writes' x) (sym e)
-    ((subst (λ (x : MendFault). CountsFault reads reads' 0 0 x) e counted).0 ∙ same, kept)
-
-pub counts-write : (first writes writes' reads reads' : ℕ) (why : MendFault) → IsOutTrouble why →
-    writes ≡ first → reads' ≡ reads → CountsFault 0 0 writes writes' why →
-    CountsFault reads reads' first writes' why
-counts-write first writes writes' reads reads' why (inl e) same kept counted =
-    subst (λ (x : MendFault). CountsFault reads reads' first writes' x) (sym e)
-    (subst (λ (n : ℕ). CountsFault reads reads' n writes' Write) same
-    (kept, (subst (λ (x : MendFault). CountsFault 0 0 writes writes' x) e counted).1))
-counts-write first writes writes' reads reads' why (inr e) same kept counted =
-    subst (λ (x : MendFault). CountsFault reads reads' first writes' x) (sym e)
-    (kept, (subst (λ (x : MendFault). CountsFault 0 0 writes writes' x) e counted).1 ∙ same)
-
 -- ---- as the calls tell it
 
 pub follows-in : (l : Layout) (now bytes : List ℕ) (from to : Starts) → now ≡ bytes →

@@ -21,10 +21,6 @@ none-open count n minus is =
     let some : 0 < digits_len (codes "-1      ") = w.0 in
     omega (arith, some)
 
-pub not-iff : (b : Bool) (P : Type 0) → (IsTrue b ↔ P) → (IsTrue (not b) ↔ ¬ P)
-not-iff true P iff = (λ e. absurd (true≢false (sym e)), λ never. absurd (never (iff.0 refl)))
-not-iff false P iff = (λ e. λ is. true≢false (sym (iff.1 is)), λ never. refl)
-
 -- the number of whole data records, where there is one that a header may have
 pub record Known (size whole : ℕ) (bytes : List ℕ) : Type 0 where
   pub some : 0 < size

@@ -111,9 +111,6 @@ pairs-edited from (p ∷ ps) =
 
 -- ---- blocks
 
-fill-parts : (p : FieldPair) → (p.old ++ [] ≡ p.old) × (p.new ++ [] ≡ p.new)
-fill-parts p = (append-nil p.old, append-nil p.new)
-
 pairs-olds : (olds news : List WrittenTal) (p : FieldPair) → AllZip IsTalSpelled olds news →
     olds_of (tal_pairs olds news ++ p ∷ []) ≡ flat_map tal_bytes olds ++ p.old
 pairs-olds [] [] p same = append-nil p.old

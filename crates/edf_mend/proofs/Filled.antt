@@ -151,12 +151,3 @@ put-fitted text new blank len e made is =
     ap (λ (l : List ℕ). l ++ drop len blank) made
     ∙ ap (λ (l : List ℕ). take len text ++ drop len l) is
     ∙ put-by text len e
-
-pub put-eight : (field new blank : List ℕ) (n : ℕ) → length field ≡ 8 →
-    n ≡ min (length field) 8 → new ≡ take n field → length blank ≡ 8 →
-    new ++ drop n blank ≡ field
-put-eight field new blank n len e made is =
-    ap (λ (l : List ℕ). l ++ drop n blank) made
-    ∙ ap (λ (l : List ℕ). take n field ++ l) (drop_all n blank (omega (arith, e)))
-    ∙ append-nil (take n field)
-    ∙ take_all n field (omega (arith, e))

@@ -57,22 +57,6 @@ filled-more a b some =
 pub filled-most : (a : List ℕ) → filled_len a ≤ length a
 filled-most a = omega arith
 
--- what is counted of more bytes
-pub filled-after : (front body bytes : List ℕ) (filled total new len : ℕ) →
-    filled ≡ filled_len (front ++ body) → total ≡ length (front ++ body) →
-    len ≡ filled_len bytes → (len ≡ 0 → new ≡ filled) → (0 < len → new ≡ total + len) →
-    new ≡ filled_len (front ++ (body ++ bytes))
-filled-after front body bytes filled total new len filled_is total_is len_is none some =
-    elim (cases_lt 0 len) [
-      | inl lt ↦ some lt ∙ omega (arith, total_is, len_is)
-          ∙ sym (filled-more (front ++ body) bytes (omega arith)) ∙ whole
-      | inr le ↦ none (omega arith) ∙ filled_is
-          ∙ sym (filled-zeros (front ++ body) bytes (omega arith)) ∙ whole
-    ]
-  where
-    whole : filled_len ((front ++ body) ++ bytes) ≡ filled_len (front ++ (body ++ bytes))
-    whole = ap (λ (x : List ℕ). filled_len x) (append_assoc front body bytes)
-
 pub counted-after : (front body bytes : List ℕ) (total new : ℕ) →
     total ≡ length (front ++ body) → new ≡ total + length bytes →
     new ≡ length (front ++ (body ++ bytes))

@@ -5,11 +5,12 @@ use Rattle.std.proofs.Common.{length-append, decimal, eqb, ◌||◌, reverse}
 use Rattle.std.specs.Prelude.{All}
 use Rattle.std.specs.List.{prefix_len}
 use Rattle.std.specs.Str.Parse.{AllDigits}
-use Rattle.std.proofs.lemmas.Bool.{cases_lt, eqb-true}
+use Rattle.std.proofs.lemmas.Bool.{cases_lt, eqb-true, false≢true}
 use Rattle.std.proofs.lemmas.Fmt.{decimal_is_IsNumeral, length-decimal-le}
 use Rattle.std.proofs.lemmas.List.{length-take, length-replicate, length-reverse, get_or-reverse}
 use Rattle.std.proofs.lemmas.List.{get_or-take, get_or-append_right, get_or_append_left}
 use Rattle.std.proofs.lemmas.List.{get_or-replicate, ext_get_or, take_at, take-replicate}
+use Rattle.std.proofs.lemmas.List.{take-append-le, take-take}
 use Rattle.std.proofs.lemmas.List.Elements.{All-nil, All-cons, All-append, All-replicate}
 use Rattle.std.proofs.Math.Seq.{take-append-add}
 use Rattle.edf_time.proofs.Cited.{digit_only}
@@ -124,6 +125,48 @@ spaced-printable text all = spaced-whole text (λ k d lt e. zero-printable (all 
   where
     zero-printable : {b : ℕ} → IsPrintable b → b ≡ 0 → ⊥
     zero-printable is e = omega (arith, is.from, e)
+
+-- what stands before the fill
+front-same : (text : List ℕ) (n : ℕ) → n ≤ front_len text → take n (spaced text) ≡ take n text
+front-same text n le =
+    take-append-le n (take (front_len text) text) (spaces (fill_len text))
+    (omega (arith, front-size text)) ∙ take-take n (front_len text) text le
+
+-- a text begins with bytes that fill nothing only where it did so before its zeros became spaces
+pub spaced-begins : (text mark : List ℕ) → All (λ b. b ≡ 32 → ⊥) mark →
+    take (length mark) (spaced text) ≡ mark → take (length mark) text ≡ mark
+spaced-begins text mark some e =
+    let n = length mark in
+    let inside : n ≤ length text = omega (
+      arith,
+      ap (λ (x : List ℕ). length x) e,
+      length-take n (spaced text),
+      length-filled text,
+    ) in
+    let le : n ≤ front_len text = elim (cases_lt (front_len text) n) [
+      | inl short ↦ absurd (some (front_len text) 0 short
+          (sym (ap (λ (x : List ℕ). get_or x (front_len text) 0) e)
+          ∙ get_or-take n (spaced text) (front_len text) 0 short
+          ∙ spaced-back text (front_len text) (omega arith) (omega arith)))
+      | inr long ↦ long
+    ] in
+    sym (front-same text n le) ∙ e
+
+-- and stays what it began with
+pub spaced-keeps : (text mark : List ℕ) → All (λ b. is_fill b ≡ false) mark →
+    take (length mark) text ≡ mark → take (length mark) (spaced text) ≡ mark
+spaced-keeps text mark some e =
+    let n = length mark in
+    let inside : n ≤ length text =
+    omega (arith, ap (λ (x : List ℕ). length x) e, length-take n text) in
+    let le : n ≤ front_len text = elim (cases_lt (front_len text) n) [
+      | inl short ↦ absurd (false≢true (sym (some (front_len text) 0 short)
+          ∙ ap is_fill (sym (ap (λ (x : List ℕ). get_or x (front_len text) 0) e)
+          ∙ get_or-take n text (front_len text) 0 short)
+          ∙ fill-passes text (front_len text) (omega arith) (omega arith)))
+      | inr long ↦ long
+    ] in
+    front-same text n le ∙ e
 
 -- ---- numbers that are written
 

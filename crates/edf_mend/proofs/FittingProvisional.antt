@@ -8,7 +8,7 @@ use Rattle.edf_mend.specs.Header.{HeaderTexts, header_bytes}
 use Rattle.edf_mend.specs.Rules.{order}
 use Rattle.edf_mend.specs.Steps.{Follow}
 use Rattle.edf_mend.specs.Inside.Proposals.{AsksFew, HasRoom}
-use Rattle.edf_mend.specs.Inside.Accepted.{IsOpened}
+use Rattle.edf_mend.specs.Inside.Accepted.{IsHeaderOpen}
 use Rattle.edf_mend.specs.Inside.Grown.{IsGrown}
 use Rattle.edf_mend.specs.Inside.Head.{HasWidths}
 use Rattle.edf_mend.specs.Inside.Surveyed.{IsShape, IsFitting, IsProvisional, OpensProvisional}
@@ -19,7 +19,7 @@ use Rattle.edf_mend.proofs.FittingShapes.{fits-under}
 use Rattle.edf_mend.proofs.Placed.{length-header}
 
 pub few-signals : (t : HeaderTexts) (o : OpenFragment) → HasWidths t →
-    IsOpened (header_bytes t) o → length t.signals ≤ 640
+    IsHeaderOpen (header_bytes t) o → length t.signals ≤ 640
 few-signals t o widths opened =
     let i = opened.is_header in
     omega (
@@ -35,7 +35,7 @@ few-signals t o widths opened =
 
 pub opens : (w : Wanted) (first t u : HeaderTexts) (added : ℕ) (o : OpenFragment)
     (shape : Shape) → u ≡ uncounted t → IsProvisional w first t added →
-    IsOpened (header_bytes u) o → IsShape w first u added shape →
+    IsHeaderOpen (header_bytes u) o → IsShape w first u added shape →
     OpensProvisional w first o shape
 opens w first t u added o shape same is opened shaped =
     let s = subst (λ (x : HeaderTexts). IsShape w first x added shape) same shaped in
@@ -43,7 +43,7 @@ opens w first t u added o shape same is opened shaped =
       t = t;
       added = added;
       is = is;
-      opened = subst (λ (x : HeaderTexts). IsOpened (header_bytes x) o) same opened;
+      opened = subst (λ (x : HeaderTexts). IsHeaderOpen (header_bytes x) o) same opened;
       shaped = record {
         size = s.size;
         added_is = s.added_is;
@@ -54,7 +54,7 @@ opens w first t u added o shape same is opened shaped =
 
 pub fits-so : (w : Wanted) (first t u : HeaderTexts) (added : ℕ) (o : OpenFragment)
     (shape : Shape) → u ≡ uncounted t → HasWidths u → IsGrown (length first.signals) t added →
-    IsOpened (header_bytes u) o → IsShape w first u added shape → IsFitting o.header shape
+    IsHeaderOpen (header_bytes u) o → IsShape w first u added shape → IsFitting o.header shape
 fits-so w first t u added o shape same widths grown opened shaped =
     let signals : u.signals ≡ t.signals = ap (λ (x : HeaderTexts). x.signals) same in
     let s = subst (λ (x : HeaderTexts). IsShape w first x added shape) same shaped in

@@ -18,7 +18,7 @@ use Rattle.edf_mend.specs.Counted.{record_size}
 use Rattle.edf_mend.specs.Header.{SignalTexts, HeaderTexts, HasHeader, HasSignals, header_bytes}
 use Rattle.edf_mend.specs.Header.{row_of, spaced}
 use Rattle.edf_mend.specs.Steps.{own_signals}
-use Rattle.edf_mend.specs.Inside.Accepted.{IsOpened}
+use Rattle.edf_mend.specs.Inside.Accepted.{IsHeaderOpen}
 use Rattle.edf_mend.specs.Inside.Grown.{IsNew, IsGrown}
 use Rattle.edf_mend.specs.Inside.Head.{HasWidths, HasSignalWidths}
 use Rattle.edf_mend.specs.Inside.Surveyed.{IsShape, IsFitting}
@@ -116,7 +116,7 @@ own-some (suc n) t h widths i news le =
 
 pub fits-under : (w : Wanted) (first t u : HeaderTexts) (added : ℕ) (shape : Shape) (o : OpenFragment) →
     HasWidths u → u.signals ≡ t.signals → IsGrown (length first.signals) t added →
-    IsShape w first t added shape → IsOpened (header_bytes u) o → IsFitting o.header shape
+    IsShape w first t added shape → IsHeaderOpen (header_bytes u) o → IsFitting o.header shape
 fits-under w first t u added shape o widths same grown shaped opened =
     let n = length first.signals in
     let news : All IsNew (drop n u.signals) = subst (λ (ss : List SignalTexts). All IsNew (drop n ss))
@@ -141,6 +141,6 @@ fits-under w first t u added shape o widths same grown shaped opened =
 
 pub fits : (w : Wanted) (first t : HeaderTexts) (added : ℕ) (shape : Shape) (o : OpenFragment) →
     HasWidths t → IsGrown (length first.signals) t added → IsShape w first t added shape →
-    IsOpened (header_bytes t) o → IsFitting o.header shape
+    IsHeaderOpen (header_bytes t) o → IsFitting o.header shape
 fits w first t added shape o widths grown shaped opened =
     fits-under w first t t added shape o widths refl grown shaped opened

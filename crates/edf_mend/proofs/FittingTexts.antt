@@ -8,50 +8,6 @@ use Rattle.std.proofs.lemmas.List.Elements.{Contains-append_left, Contains-appen
 use Rattle.std.specs.Prelude.{Contains, slice_index}
 use Rattle.edf_mend.specs.Values.{FitsLimit, zeros}
 
-pub fits-whole : (text : List ℕ) → length text ≤ 8 → FitsLimit text text
-fits-whole text room = record {
-  gone = 0;
-  parts = sym (append-nil text);
-  room = room;
-  few = inl refl;
-}
-
-short-part : (text found : List ℕ) → FitsLimit text found → 8 < length text →
-    (length found ≡ 8) × Contains found 46
-short-part text found is long = elim is.few [
-  | inl none ↦
-      let all : length text ≡ length found = omega (
-        arith,
-        ap (λ (x : List ℕ). length x) is.parts,
-        length-append found (zeros is.gone),
-        length-replicate {A = ℕ} is.gone 48,
-        none,
-      ) in
-      absurd (omega (arith, all, is.room))
-  | inr some ↦ some
-]
-
-pub fits-none : (text found : List ℕ) → 8 < length text → ¬ Contains text 46 →
-    ¬ FitsLimit text found
-fits-none text found long never is = never (subst (λ (x : List ℕ). Contains x 46) (sym is.parts)
-    (Contains-append_left found (zeros is.gone) 46 (short-part text found is long).1))
-
--- a digit stands behind the eighth byte
-pub fits-not : (text found : List ℕ) (end : ℕ) → 8 < end → end ≤ length text →
-    slice_index text (end - 1) ≢ 48 → ¬ FitsLimit text found
-fits-not text found end far within other is =
-    let part = short-part text found is (omega arith) in
-    let len : length text ≡ length found + is.gone = omega (
-      arith,
-      ap (λ (x : List ℕ). length x) is.parts,
-      length-append found (zeros is.gone),
-      length-replicate {A = ℕ} is.gone 48,
-    ) in
-    other (ap (λ (x : List ℕ). get_or x (end - 1) 0) is.parts
-    ∙ get_or-append_right found (zeros is.gone) (length found) (end - 1) 0 refl
-    (omega (arith, part.0))
-    ∙ get_or-replicate is.gone (end - 1 - length found) 48 0 (omega (arith, part.0, len)))
-
 -- only zeros do
 pub fits-eight : (text : List ℕ) → 8 < length text → Contains text 46 →
     ((k : ℕ) → 8 ≤ k → k < length text → slice_index text k ≡ 48) → FitsLimit text (take 8 text)

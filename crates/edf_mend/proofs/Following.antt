@@ -25,10 +25,6 @@ pub record Last {X : Type 0} (olds : List X) (r : X) (gap : List X) (old : X) (b
     pub gap_is : olds ≡ gap
     pub old_is : r ≡ old
 
-pub snoc-some : {X : Type 0} (xs : List X) (r : X) → xs ++ r ∷ [] ≢ []
-snoc-some [] r e = cc
-snoc-some (x ∷ xs) r e = cc
-
 pub cons-some : {X : Type 0} (xs : List X) (x : X) (ys : List X) → [] ≢ xs ++ x ∷ ys
 cons-some [] x ys e = cc
 cons-some (y ∷ xs) x ys e = cc

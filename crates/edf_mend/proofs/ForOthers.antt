@@ -35,7 +35,7 @@ parts-again (p ∷ q ∷ qs) all =
     first-part p (with_spaces (q ∷ qs)) one.clean one.some
     ∙ ap (λ (l : List (List ℕ)). p ∷ l) (parts-again (q ∷ qs) (All-tail IsPart p (q ∷ qs) all))
 
-fitted-again : (ps : List (List ℕ)) → All IsPart ps → length (with_spaces ps) ≤ 80 →
+pub fitted-again : (ps : List (List ℕ)) → All IsPart ps → length (with_spaces ps) ≤ 80 →
     subfields (fitted 80 (with_spaces ps)) ≡ ps
 fitted-again ps all room =
     let text = with_spaces ps in
@@ -82,7 +82,7 @@ hidden-parts K old new len m =
       length-append m.first (32 ∷ (x ++ 32 ∷ m.third)),
     ))
 
-marked-parts : (old new : List ℕ) → GetsMark old new → subfields new ≡ subfields old ++ mark ∷ []
+pub marked-parts : (old new : List ℕ) → GetsMark old new → subfields new ≡ subfields old ++ mark ∷ []
 marked-parts old new m =
     let front = trimmed old in
     let text = front ++ (32 ∷ mark) in

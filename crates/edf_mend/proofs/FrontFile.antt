@@ -30,7 +30,7 @@ use Rattle.edf_mend.specs.Retimed.{HasGap}
 use Rattle.edf_mend.specs.Rules.{order}
 use Rattle.edf_mend.specs.Steps.{Follow}
 use Rattle.edf_mend.specs.Survey.{IsSurveyOf, SaysWhether, OfRecords, AreRetold}
-use Rattle.edf_mend.specs.Inside.Accepted.{IsOpened}
+use Rattle.edf_mend.specs.Inside.Accepted.{IsHeaderOpen}
 use Rattle.edf_mend.specs.Inside.Head.{IsHeaderRead}
 use Rattle.edf_mend.specs.Inside.Stopping.{StopsRecords, StopsMended, StopsTexts, StopsBehind}
 use Rattle.edf_mend.specs.declared.fault.MendFault.{MendFault}
@@ -68,7 +68,7 @@ module _ (w : Wanted) (wanted : IsWanted w) (first : HeaderTexts) (body : List �
 
   module _ (t : HeaderTexts) (steps : List RuleEdits) (added : ℕ) (o : OpenFragment)
       (follows : Follow w (IsTrue survey.has_gaps) first body order first steps t added)
-      (opened : IsOpened (header_bytes t) o) where
+      (opened : IsHeaderOpen (header_bytes t) o) where
     sound-of : (G : Type 0) (told : List RuleEdits) (after : HeaderTexts) (n : ℕ) →
         Follow w G first body order first told after n → IsSound after
     sound-of G told after n f =

@@ -12,7 +12,7 @@ use Rattle.edf_mend.specs.Inside.Grown.{IsNew, IsGrown}
 use Rattle.edf_mend.specs.Inside.Head.{of_signal, set_fixed, set_signal, set_text, signal_at, no_signal}
 use Rattle.edf_mend.specs.Inside.Head.{add_signal}
 use Rattle.edf_mend.specs.Inside.Proposed.{ProposedText, put_all, AreOfRow, IsTableRow}
-use Rattle.edf_mend.specs.Inside.Proposals.{KeepsOthers, KeepsSignals, new_of, accepted}
+use Rattle.edf_mend.specs.Inside.Proposals.{KeepsOtherFields, KeepsSignals, new_of, accepted}
 use Rattle.edf_mend.specs.declared.field.Field.{Field}
 use Rattle.edf_mend.specs.declared.field.Field.TheVariants as at
 use Rattle.edf_mend.specs.declared.rule.Rule.{Rule}
@@ -24,7 +24,7 @@ use Rattle.edf_mend.proofs.TableRows.{row_fields, table-fields}
 -- ---- signals in their places
 
 abbrev Kept : List Field → List SignalTexts → List SignalTexts → Type 0
-Kept fields xs ys = AllZip (KeepsOthers fields) xs ys
+Kept fields xs ys = AllZip (KeepsOtherFields fields) xs ys
 
 kept-same : (fields : List Field) (ss : List SignalTexts) → Kept fields ss ss
 kept-same fields [] = tt
@@ -32,15 +32,15 @@ kept-same fields (s ∷ ss) =
     (record { label = λ no. refl; samples = λ no. refl }, kept-same fields ss)
 
 set-keeps : (fields : List Field) (s : SignalTexts) (f : Field) (text : List ℕ) →
-    Contains fields f → KeepsOthers fields s (set_signal s f text)
+    Contains fields f → KeepsOtherFields fields s (set_signal s f text)
 set-keeps fields s at.Label text has =
     record { label = λ no. absurd (no has); samples = λ no. refl }
 set-keeps fields s at.Samples text has =
     record { label = λ no. refl; samples = λ no. absurd (no has) }
 set-keeps fields s f text has = record { label = λ no. refl; samples = λ no. refl }
 
-keeps-more : (fields : List Field) (a b c : SignalTexts) → KeepsOthers fields a b →
-    KeepsOthers fields b c → KeepsOthers fields a c
+keeps-more : (fields : List Field) (a b c : SignalTexts) → KeepsOtherFields fields a b →
+    KeepsOtherFields fields b c → KeepsOtherFields fields a c
 keeps-more fields a b c x y = record {
   label = λ no. y.label no ∙ x.label no;
   samples = λ no. y.samples no ∙ x.samples no;
@@ -154,13 +154,6 @@ pub record Passes (fields : List Field) (t new : HeaderTexts) (texts : List Prop
     (adds : Bool) : Type 0 where
   pub gate : AreOfRow fields texts → new ≡ accepted t texts adds
   pub kept : KeepsSignals fields adds t new
-
-pub gated-all : (fields : List Field) (t new : HeaderTexts) (all : List ProposedText) (i : ℕ) →
-    length all ≤ i → IsGated fields t all (take i all) new → Passes fields t new all false
-gated-all fields t new all i le g = record {
-  gate = λ row. g.so row ∙ ap (λ (ps : List ProposedText). put_all t ps) (take_all i all le);
-  kept = record { front = new.signals; kept = g.kept; parts = sym (append-nil new.signals) };
-}
 
 pub gated-more : (fields : List Field) (t mid new : HeaderTexts) (all : List ProposedText) (i : ℕ)
     (s : SignalTexts) → length all ≤ i → IsGated fields t all (take i all) mid →

@@ -86,10 +86,10 @@ four-good a b c rest pa pb pc sex birthdate s few printable =
 
 -- ---- sex and birthdate
 
-record IsWord (text : List ℕ) (most : ℕ) : Type 0 where
-  part : IsPart text
-  printable : All IsPrintable text
-  few : length text ≤ most
+pub record IsWord (text : List ℕ) (most : ℕ) : Type 0 where
+  pub part : IsPart text
+  pub printable : All IsPrintable text
+  pub few : length text ≤ most
 
 one-word : (b : ℕ) (most : ℕ) → is_space b ≡ false → IsPrintable b → 1 ≤ most →
     IsWord (b ∷ []) most
@@ -105,7 +105,7 @@ one-word b most clean is le = record {
 printed : (b : ℕ) → 32 ≤ b → b ≤ 126 → IsPrintable b
 printed b low high = record { from = low; to = high }
 
-sex-word : (text : List ℕ) → IsSex text → IsWord text 1
+pub sex-word : (text : List ℕ) → IsSex text → IsWord text 1
 sex-word text (inl e) = subst (λ (x : List ℕ). IsWord x 1) (sym e)
     (one-word 70 1 refl (printed 70 (omega arith) (omega arith)) (omega arith))
 sex-word text (inr (inl e)) = subst (λ (x : List ℕ). IsWord x 1) (sym e)
@@ -120,7 +120,7 @@ all-of P (x ∷ xs) all = All-cons P x xs all.0 (all-of P xs all.1)
 pub visible-prints : (b : ℕ) → IsVisible b → IsPrintable b
 visible-prints b is = record { from = omega (arith, is.0); to = omega (arith, is.1) }
 
-birthdate-word : (text : List ℕ) → IsBirthdate text → IsWord text 11
+pub birthdate-word : (text : List ℕ) → IsBirthdate text → IsWord text 11
 birthdate-word text (inl e) = subst (λ (x : List ℕ). IsWord x 11) (sym e)
     (one-word 88 11 refl (printed 88 (omega arith) (omega arith)) (omega arith))
 birthdate-word text (inr d) =
@@ -266,7 +266,7 @@ recoded-good field code n is =
 x-prints : All IsPrintable (codes "X")
 x-prints = printable-by (codes "X") refl
 
-one-starts : (ps : List (List ℕ)) → All IsPart ps → StartsWell (one_text ps)
+pub one-starts : (ps : List (List ℕ)) → All IsPart ps → StartsWell (one_text ps)
 one-starts [] all = part-starts (codes "X") x-part
 one-starts (p ∷ ps) all = join-starts 95 p ps (All-head IsPart p ps all)
 

@@ -126,26 +126,8 @@ column-text t i k d lt =
 -- ---- its limits
 
 module _ (s : SignalTexts) where
-  pub no-minimum : ReadsSigned s.digital_minimum None → HasDigitalLimits s → ⊥
-  no-minimum none h = none h.minimum
-
-  pub no-maximum : ReadsSigned s.digital_maximum None → HasDigitalLimits s → ⊥
-  no-maximum none h = none h.maximum
-
   module _ (low high : ℤ) (a : ReadsSigned s.digital_minimum (Some low))
       (b : ReadsSigned s.digital_maximum (Some high)) where
-    pub limits-labelled : (r : Type 0) → IsLabelled (row_of s) →
-        (r ↔ (low ≡ neg_ℤ (pos 32_768)) × (high ≡ pos 32_767)) → (r ↔ HasDigitalLimits s)
-    limits-labelled r is iff = (
-      λ yes. let w = iff.0 yes in record {
-        minimum = a.0;
-        maximum = b.0;
-        labelled = λ _. (sym a.1 ∙ w.0, sym b.1 ∙ w.1);
-        ordinary = λ never. absurd (never is);
-      },
-      λ h. let w = h.labelled is in iff.1 (a.1 ∙ w.0, b.1 ∙ w.1),
-    )
-
     pub limits-ordinary : (r : Type 0) → ¬ IsLabelled (row_of s) →
         (r ↔ RisesWithin low high) → (r ↔ HasDigitalLimits s)
     limits-ordinary r never iff = (

@@ -23,7 +23,7 @@ use Rattle.edf_mend.specs.Header.{SignalTexts, HeaderTexts, spaced, row_of}
 use Rattle.edf_mend.specs.Inside.Head.{HasWidths}
 use Rattle.edf_mend.specs.Letters.{ascii}
 use Rattle.edf_mend.specs.Mark.{GetsSignalIf, IsMarkMade, IsMarkedPlus, IsContinuous, AlmostNames}
-use Rattle.edf_mend.specs.Mark.{MayGetSignal}
+use Rattle.edf_mend.specs.Mark.{MayGetSignal, has_mark}
 use Rattle.edf_mend.specs.Mended.{AsksNothing}
 use Rattle.edf_mend.specs.Patient.{IsPatientText, IsPlain, StaysNamed, KeepsCode, NamesCode}
 use Rattle.edf_mend.specs.Starts.{IsStartdateMade, IsStarttimeMade}
@@ -31,6 +31,7 @@ use Rattle.edf_mend.specs.Steps.{Makes, OfSignals, ascii_texts, ascii_signal, as
 use Rattle.edf_mend.specs.Steps.{with_size, with_starts, with_patient, with_recording, with_reserved}
 use Rattle.edf_mend.specs.Steps.{with_count, KeepsIdentity, WantsMark, StaysOrdinary, StaysText}
 use Rattle.edf_mend.specs.Steps.{IsMarkedIf, texts_of_signal, own_signals, GotSignal}
+use Rattle.edf_mend.specs.Steps.{ascii_reserved}
 use Rattle.edf_mend.specs.Counted.{IsSizeMade, CountStays, IsCountMade, record_size}
 use Rattle.edf_mend.specs.Values.{IsPhysicalMade, IsDigitalMade, IsAnnotationsMade}
 use Rattle.edf_mend.specs.Values.{IsBlockLimit, AreBlockValues, HasLimits}
@@ -56,6 +57,10 @@ choice false x y z p q = q
 label-same : (label : List ℕ) → All IsPrintable label → ascii_label label ≡ label
 label-same label all = choice (is_near label) (spaced label) (ascii label) label
     (spaced-printable label all) (ascii-printable label all)
+
+reserved-same : (text : List ℕ) → All IsPrintable text → ascii_reserved text ≡ text
+reserved-same text all = choice (has_mark text) (ascii text) (spaced text) text
+    (ascii-printable text all) (spaced-printable text all)
 
 signal-same : (s : SignalTexts) → ArePrintable s → ascii_signal s ≡ s
 signal-same s p = λ i. record {
@@ -85,7 +90,7 @@ ascii-same t g = λ i. record {
     startdate = t.fixed.startdate;
     starttime = t.fixed.starttime;
     header_bytes = spaced-printable t.fixed.header_bytes g.header_bytes i;
-    reserved = ascii-printable t.fixed.reserved g.reserved i;
+    reserved = reserved-same t.fixed.reserved g.reserved i;
     count = spaced-printable t.fixed.count g.count i;
     duration = spaced-printable t.fixed.duration g.duration i;
     signals = spaced-printable t.fixed.signals g.signals i;

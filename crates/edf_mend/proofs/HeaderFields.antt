@@ -35,16 +35,6 @@ field-here front new rest a l len width =
 abbrev pub put : List ℕ → ℕ → ℕ → List ℕ → List ℕ
 put b at w new = take at b ++ (new ++ drop (at + w) b)
 
-pub length-put : (b new : List ℕ) (at w : ℕ) → length new ≡ w → at + w ≤ length b →
-    length (put b at w new) ≡ length b
-length-put b new at w width fits = omega (
-  arith,
-  length-append (take at b) (new ++ drop (at + w) b),
-  length-append new (drop (at + w) b),
-  length-take at b,
-  length-drop (at + w) b,
-)
-
 pub put-before : (b new : List ℕ) (at w a l : ℕ) → at + w ≤ length b → a + l ≤ at →
     field (put b at w new) a l ≡ field b a l
 put-before b new at w a l fits low =

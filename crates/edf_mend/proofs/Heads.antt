@@ -269,17 +269,6 @@ set-signal-is at.Duration b text n i is lt len = absurd (true≢false (sym is))
 set-signal-is at.Signals b text n i is lt len = absurd (true≢false (sym is))
 set-signal-is at.Blocks b text n i is lt len = absurd (true≢false (sym is))
 
--- nothing changes where the field is not there
-set-past : {X : Type 0} (xs : List X) (i : ℕ) (x : X) → length xs ≤ i → set xs i x ≡ xs
-set-past [] i x le = refl
-set-past (y ∷ ys) zero x le = absurd (omega arith)
-set-past (y ∷ ys) (suc i) x le = ap (λ zs. y ∷ zs) (set-past ys i x (omega arith))
-
-pub set-none : (f : Field) (t : HeaderTexts) (text : List ℕ) (i : ℕ) → of_signal f ≡ true →
-    length t.signals ≤ i → set_text t f i text ≡ t
-set-none f t text i is le = rw is (ap (λ (ss : List SignalTexts). record t { signals = ss })
-    (set-past t.signals i (set_signal (signal_at t i) f text) le))
-
 -- ---- what is read
 
 pub text-none : (f : Field) (t : HeaderTexts) (i : ℕ) → of_signal f ≡ true →

@@ -84,17 +84,6 @@ abbrev pub Texts : HeaderTexts → HeaderTexts → ℕ → ℕ → Type 0
 Texts first t n i = AllZip StaysText (take i (texts_of_signal (signal_at first n)))
     (take i (texts_of_signal (signal_at t n)))
 
-pub texts-more : (first t : HeaderTexts) (n i : ℕ) (d : Field) → i < 10 → Texts first t n i →
-    StaysText (text_of first (get_or signal_fields i d) n) (text_of t (get_or signal_fields i d) n) →
-    Texts first t n (i + 1)
-texts-more first t n i d lt all one =
-    let a = texts_of_signal (signal_at first n) in
-    let b = texts_of_signal (signal_at t n) in
-    zip-more StaysText a b i [] lt lt all
-    (subst (λ (x : List ℕ). StaysText x (get_or b i [])) (nth-text first n i d lt)
-    (subst (λ (y : List ℕ). StaysText (text_of first (get_or signal_fields i d) n) y)
-    (nth-text t n i d lt) one))
-
 pub texts-not : (first t : HeaderTexts) (n i : ℕ) (d : Field) → i < 10 →
     ¬ StaysText (text_of first (get_or signal_fields i d) n)
     (text_of t (get_or signal_fields i d) n) →
@@ -107,14 +96,6 @@ texts-not first t n i d lt other all =
     other (subst (λ (x : List ℕ). StaysText x (text_of t (get_or signal_fields i d) n))
     (sym (nth-text first n i d lt))
     (subst (λ (y : List ℕ). StaysText (get_or a i []) y) (sym (nth-text t n i d lt)) one))
-
-pub texts-all : (first t : HeaderTexts) (n i : ℕ) → 10 ≤ i → Texts first t n i →
-    AllZip StaysText (texts_of_signal (signal_at first n)) (texts_of_signal (signal_at t n))
-texts-all first t n i le all =
-    let a = texts_of_signal (signal_at first n) in
-    let b = texts_of_signal (signal_at t n) in
-    subst (λ (x : List (List ℕ)). AllZip StaysText x b) (take_all i a le)
-    (subst (λ (y : List (List ℕ)). AllZip StaysText (take i a) y) (take_all i b le) all)
 
 -- ---- one signal after another
 
@@ -136,11 +117,3 @@ ordinary-not first t i lt le other all =
     no_signal no_signal all lt in
     other (subst (λ (s : SignalTexts). StaysOrdinary (signal_at first i) s)
     (get_or-take (length first.signals) t.signals i no_signal lt) one)
-
-pub ordinary-all : (first t : HeaderTexts) (i : ℕ) → i ≡ length first.signals →
-    Ordinary first t i →
-    AllZip StaysOrdinary first.signals (take (length first.signals) t.signals)
-ordinary-all first t i e all =
-    subst (λ (xs : List SignalTexts). AllZip StaysOrdinary xs (take (length first.signals) t.signals))
-    (take_all (length first.signals) first.signals (omega arith))
-    (subst (λ (k : ℕ). Ordinary first t k) e all)

@@ -10,7 +10,7 @@ use Rattle.edf_mend.specs.Objections.{Objects, HasNone}
 use Rattle.edf_mend.specs.Rules.{order}
 use Rattle.edf_mend.specs.Steps.{Follow}
 use Rattle.edf_fragment.specs.declared.open_fragment.OpenFragment.{OpenFragment}
-use Rattle.edf_mend.specs.Inside.Accepted.{NoHeader, IsOpened}
+use Rattle.edf_mend.specs.Inside.Accepted.{NoHeader, IsHeaderOpen}
 use Rattle.edf_mend.proofs.ToldRecords.{true-not-false}
 use Rattle.edf_mend.specs.Inside.Proposals.{HasRoom}
 use Rattle.edf_mend.specs.Inside.Surveyed.{IsLeftOver}
@@ -61,7 +61,7 @@ pub left-by : (w : Wanted) (G : Type 0) (first : HeaderTexts) (body : List ℕ)
     (steps : List RuleEdits) (t : HeaderTexts) (added : ℕ) (bytes : List ℕ)
     (found : Option OpenFragment) (r : Bool) → HasNone w first body →
     Follow w G first body order first steps t added → bytes ≡ header_bytes t →
-    MatchOption found (NoHeader bytes) (IsOpened bytes) → (IsTrue r ↔ IsSome found) →
+    MatchOption found (NoHeader bytes) (IsHeaderOpen bytes) → (IsTrue r ↔ IsSome found) →
     (IsTrue r ↔ IsLeftOver w G first body)
 left-by w G first body steps t added bytes None r unasked follows same m is = (
   λ yes. absurd (false≢true (is.0 yes)),

@@ -7,6 +7,7 @@ pub mod AsciiPut
 pub mod AsciiTexts
 mod Asked
 pub mod AskedRecords
+pub mod BeforeMark
 pub mod ByCalls
 pub mod ByRules
 pub mod ByteLaws
@@ -63,6 +64,7 @@ pub mod HeaderFronts
 pub mod Heads
 pub mod Identities
 pub mod InOrder
+pub mod KeptMarks
 pub mod KnownBodies
 pub mod LedgerLaws
 pub mod LackingLabels
@@ -73,6 +75,7 @@ pub mod LimitsMade
 pub mod LooseReadings
 pub mod LooseTexts
 pub mod LooseValues
+pub mod MarkLaws
 pub mod MarkWanted
 mod Marked
 pub mod Measuring
@@ -112,6 +115,7 @@ pub mod OtherBodies
 pub mod OtherCounts
 pub mod OtherMark
 pub mod OtherVersions
+pub mod PartLaws
 pub mod Path
 pub mod PathSteps
 pub mod Pieces
@@ -181,6 +185,7 @@ pub mod TotalAnswers
 pub mod Tracks
 pub mod UnchangedFile
 pub mod Undone
+pub mod UndoneFields
 pub mod Versions
 pub mod WholeFile
 pub mod Widths

@@ -30,28 +30,6 @@ use Rattle.edf_mend.proofs.SpelledNumbers.{fits-same}
 
 -- ---- exponents
 
-pub exponent-empty : (text : List ℕ) → length text ≡ 0 → IsExponent text 0 0
-exponent-empty text e = inl (nil_from_length text e, refl, refl)
-
-no-exponent : (text : List ℕ) → length text ≢ 0 → ((up down : ℕ) → ¬ HasExponent text up down) →
-    (up down : ℕ) → ¬ IsExponent text up down
-no-exponent text some never up down is = elim (exponent-has text up down is) [
-  | inl none ↦ some (ap (λ (x : List ℕ). length x) none.0)
-  | inr has ↦ never up down has
-]
-
-pub exponent-unmarked : (text mark : List ℕ) → length text ≢ 0 → mark ≡ front_one 101 69 text →
-    length mark ≡ 0 → (up down : ℕ) → ¬ IsExponent text up down
-exponent-unmarked text mark some is none = no-exponent text some (λ up down has.
-    omega (arith, has.mark, none, ap (λ (x : List ℕ). length x) is))
-
-pub exponent-numberless : (text behind number : List ℕ) → length text ≢ 0 →
-    behind ≡ behind_one 101 69 text → number ≡ behind_one 43 45 behind → ¬ IsNumeral 10 number →
-    (up down : ℕ) → ¬ IsExponent text up down
-exponent-numberless text behind number some is number-is none =
-    no-exponent text some (λ up down has. none (subst (λ (x : List ℕ). IsNumeral 10 x)
-    (ap (behind_one 43 45) (sym is) ∙ sym number-is) has.number))
-
 -- what it says, by its parts
 pub record IsCutExponent (text mark behind sign number : List ℕ) : Type 0 where
   pub mark_is : mark ≡ front_one 101 69 text

@@ -40,9 +40,6 @@ pub are-of : (ds : List ℕ) → AllDigits 10 ds → AreDigits ds
 are-of [] all = inl refl
 are-of (d ∷ ds) all = inr (omega arith, all)
 
-pub numeral-of : (ds : List ℕ) → AllDigits 10 ds → 0 < length ds → IsNumeral 10 ds
-numeral-of ds all some = (some, all)
-
 -- what follows digits is no digit
 abbrev IsOff : List ℕ → Type 0
 IsOff text = is_ascii_digit (get_or text 0 0) ≡ false
@@ -139,11 +136,6 @@ mark-split text rest e (inl k) p =
 mark-split text rest e (inr k) p =
     let q : text ≡ 101 ∷ rest = p ∙ ap (λ (x : ℕ). x ∷ rest) k in
     (ap (front_one 101 69) q ∙ ap (λ (x : ℕ). x ∷ []) (sym k), ap (behind_one 101 69) q)
-
-exponent-sign : (sign : List ℕ) → (((sign ≡ codes "-") ⊎ (IsSign sign × (sign ≢ codes "-")))) →
-    IsSign sign
-exponent-sign sign (inl e) = inr (inr e)
-exponent-sign sign (inr p) = p.0
 
 pub exponent-has : (text : List ℕ) (up down : ℕ) → IsExponent text up down →
     ((text ≡ []) × (up ≡ 0) × (down ≡ 0)) ⊎ HasExponent text up down

@@ -217,15 +217,6 @@ same-value x y s t m n u v d e a b =
 
 -- ---- a value as it is made
 
-pub none-value : (l : Loose) → mantissa_of l ≡ 0 → IsValue l false 0 0 0
-none-value l e = record {
-  none = λ i. (refl, refl, refl, refl);
-  sign = λ some. absurd (some e);
-  last = λ some. absurd (some e);
-  one = inl refl;
-  same = zeroed (mantissa_of l) (l.up + 0) e ∙ sym (zeroed 0 (0 + places_of l) refl);
-}
-
 pub some-value : (l : Loose) (negative : Bool) (number mantissa up k least : ℕ) →
     number ≡ mantissa_of l → number ≢ 0 → (IsTrue negative ↔ IsBelow l) → mantissa % 10 ≢ 0 →
     up ≡ l.up + k → number ≡ mantissa * 10 ^ k → least ≡ min up (places_of l) →

@@ -12,15 +12,6 @@ use Rattle.std.proofs.lemmas.List.Elements.{filter-append}
 use Rattle.std.proofs.lemmas.Slice.Eq.{slice_eq-Decides}
 use Rattle.edf_mend.specs.Mark.{AlmostNames, Begins, capitals}
 
--- a field begins with a mark
-pub mark-told : (s reserved p : List ℕ) (r : Bool) → s ≡ reserved → r ≡ starts_with eqb s p →
-    IsTrue r ↔ (take (length p) reserved ≡ p)
-mark-told s reserved p r same e =
-    let d = slice_eq-Decides Decides-eqb p (take (length p) s) r e in (
-      λ t. ap (λ (l : List ℕ). take (length p) l) (sym same) ∙ sym (d.0 t),
-      λ q. d.1 (sym q ∙ ap (λ (l : List ℕ). take (length p) l) (sym same)),
-    )
-
 -- ---- labels
 
 abbrev pub letters : List ℕ → List ℕ

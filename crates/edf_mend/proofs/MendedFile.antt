@@ -16,7 +16,7 @@ use Rattle.edf_mend.specs.Retimed.{HasGap}
 use Rattle.edf_mend.specs.Rules.{order}
 use Rattle.edf_mend.specs.Steps.{Follow}
 use Rattle.edf_mend.specs.Wanted.{Hides, If}
-use Rattle.edf_mend.specs.Inside.Accepted.{IsOpened}
+use Rattle.edf_mend.specs.Inside.Accepted.{IsHeaderOpen}
 use Rattle.edf_mend.specs.Inside.Asking.{IsKnown}
 use Rattle.edf_mend.specs.Inside.Carrying.{WritesMended, CarriesUnder}
 use Rattle.edf_mend.specs.Inside.Carrying.{unread_of}
@@ -68,7 +68,7 @@ unread-told w ledger fresh records (inr x) is = inr (
 
 module _ (w : Wanted) (left mid rest before after : Option (List ℕ)) (first t : HeaderTexts)
     (steps : List RuleEdits) (added : ℕ) (o : OpenFragment) (known : Body) (survey : Survey)
-    (ledger : Ledger) (r : IsHeaderRead left mid first) (opened : IsOpened (header_bytes t) o)
+    (ledger : Ledger) (r : IsHeaderRead left mid first) (opened : IsHeaderOpen (header_bytes t) o)
     (m : WritesMended w first t steps added o.header known survey mid rest before after ledger)
   where
     abbrev u : CarriesUnder w first t steps added o.header known survey.is_retold mid rest m.told m.s

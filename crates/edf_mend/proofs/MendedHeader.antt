@@ -62,17 +62,18 @@ record IsGoodMark (mark : List ℕ) : Type 0 where
   plus : IsMarkedPlus mark
   printable : All IsPrintable mark
 
-mark-left : (w : Wanted) (G : Type 0) (old mark : List ℕ) → All IsPrintable old →
+mark-left : (w : Wanted) (G : Type 0) (old mark : List ℕ) →
+    (IsMarkedPlus old → All IsPrintable old) →
     By w rule.Plain (IsMarkedPlus old) (Unit {0}) →
     If (IsAsked w rule.Plain) (IsMarkMade G old mark) (mark ≡ old) → IsGoodMark mark
 mark-left w G old mark p by_w (inl (asked, inl m)) =
-    subst IsGoodMark (sym m.1) (record { plus = m.0; printable = p })
+    subst IsGoodMark (sym m.1) (record { plus = m.0; printable = p m.0 })
 mark-left w G old mark p by_w (inl (asked, inr (never, inl m))) = subst IsGoodMark (sym m.1)
     (record { plus = inr refl; printable = printable-by (fitted 44 (codes "EDF+D")) refl })
 mark-left w G old mark p by_w (inl (asked, inr (never, inr m))) = subst IsGoodMark (sym m.1)
     (record { plus = inl refl; printable = printable-by (fitted 44 (codes "EDF+C")) refl })
 mark-left w G old mark p (inl plus) (inr m) =
-    subst IsGoodMark (sym m.1) (record { plus = plus; printable = p })
+    subst IsGoodMark (sym m.1) (record { plus = plus; printable = p plus })
 mark-left w G old mark p (inr asked) (inr m) = absurd (m.0 asked.0)
 
 at-least : (n : ℕ) (A : HeaderTexts → Type 0) (t : HeaderTexts) → (A t → 1 ≤ n) →

@@ -20,7 +20,7 @@ use Rattle.edf_mend.specs.Mended.{joined}
 use Rattle.edf_mend.specs.Objections.{IsObjection, HasNone}
 use Rattle.edf_mend.specs.Rules.{order}
 use Rattle.edf_mend.specs.Steps.{Follow}
-use Rattle.edf_mend.specs.Inside.Accepted.{IsOpened, RefusesHeader, RefusesNext}
+use Rattle.edf_mend.specs.Inside.Accepted.{IsHeaderOpen, RefusesHeader, RefusesNext}
 use Rattle.edf_mend.specs.Inside.Asking.{HasNoneBelow, IsKnown}
 use Rattle.edf_mend.specs.Inside.Carrying.{GoesBy, AsksNoneYet, LeavesTexts}
 use Rattle.edf_mend.specs.Inside.Carrying.{IsCallTrouble, IsQuiet, CarriesFile}
@@ -262,7 +262,7 @@ after-counts w first survey reads reads' writes met why (inr x) quiet =
 module _ (w : Wanted) (first t : HeaderTexts) (steps : List RuleEdits) (added : ℕ)
     (o : OpenFragment) (known : Body) (shape : Shape) (leaves_out : Bool) (fresh : Told)
     (widths : HasWidths t) (grown : IsGrown (length first.signals) t added)
-    (opened : IsOpened (header_bytes t) o)
+    (opened : IsHeaderOpen (header_bytes t) o)
     (shaped : length t.signals ≤ 1000 → IsShape w first t added shape) where
   pub shape-is : IsShape w first t added shape
   shape-is = shaped (omega (arith, few-left t opened.header widths opened.is_header))

@@ -375,23 +375,6 @@ module _ (l : Layout) (first : Block) (others : List Block) (to : ℕ)
   gets-some old new front block back start by edits p m =
       let h = how-moved old new front block back start by edits p m in (h.block', h.gets)
 
-  pub room-there : (old new : List ℕ) (start by : ℕ) (edits : List Edit) →
-      IsMovedTo l start by edits old new → first.at + first.bytes ≤ length old
-  room-there old new start by edits m =
-      let v = m.moved.moved in
-      let firsts : v.first ≡ first =
-      (let e : v.first ∷ v.others ≡ first ∷ others = sym v.blocks_are ∙ are in cc) in
-      omega (
-        arith,
-        ap (λ (b : Block). b.at) firsts,
-        ap (λ (b : Block). b.bytes) firsts,
-        ap (λ (x : List ℕ). length x) v.old_is,
-        length-append v.front (v.block ++ v.back),
-        length-append v.block v.back,
-        v.at_is,
-        v.bytes_are,
-      )
-
   -- what can be moved is read as it is
   pub moved-reads : (old new : List ℕ) (start by : ℕ) (edits : List Edit) →
       IsMovedTo l start by edits old new → (was : ℕ) × StartsAt l old was

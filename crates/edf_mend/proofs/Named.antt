@@ -11,7 +11,7 @@ use Rattle.edf_mend.specs.Header.{spaced, fitted}
 use Rattle.edf_mend.specs.Letters.{spelling, HasNoOtherBlank, characters}
 use Rattle.edf_mend.specs.Patient.{IsPlain, NamesPatient, NamesNobody, NamesCode, LacksCode}
 use Rattle.edf_mend.specs.Patient.{WantsCode, StaysNamed, KeepsCode}
-use Rattle.edf_mend.specs.Patient.{IsPatientText, named_text, unnamed_text, with_spaces, Holds}
+use Rattle.edf_mend.specs.Patient.{IsPatientText, named_text, unnamed_text, with_spaces, IsFitted}
 use Rattle.edf_mend.specs.Inside.Patients.{unfilled, IsNamed, text_of, IsOwnText}
 use Rattle.edf_mend.specs.Inside.Patients.{IsGivenText, AsksNoCode, IsRecodedFrom}
 use Rattle.edf_mend.specs.declared.patient.Named.{Named}
@@ -185,17 +185,10 @@ pub lacks-code : (field : List ℕ) (n : Named) → IsNamed field n → IsNoCode
     LacksCode field
 lacks-code field n is none = (is.names, subst IsNoCode is.code none)
 
-pub lacks-not : (field : List ℕ) (n : Named) → IsNamed field n → ¬ IsNoCode n.code.items →
-    ¬ LacksCode field
-lacks-not field n is one lacks = one (subst IsNoCode (code-same field n is lacks.0) lacks.1)
-
 pub no-code : (field : List ℕ) (n : Named) → IsNamed field n → IsNoCode n.code.items →
     (code : List ℕ) → ¬ NamesCode field code
 no-code field n is none code names =
     names.2 (subst IsNoCode (sym (code-same field n is names.0) ∙ names.1) none)
-
-pub nobody-code : (field : List ℕ) → NamesNobody field → (code : List ℕ) → ¬ NamesCode field code
-nobody-code field nobody code names = nobody names.0
 
 wants-by : (field : List ℕ) (n : Named) (r : Bool) → IsNamed field n →
     (IsTrue r ↔ IsNoCode n.code.items) → WantsCode field → IsTrue r
@@ -235,14 +228,6 @@ own-named field text n is other one e = inr (inl (
   other,
   (n.code.items, named-code field n is one, e ∙ text-named field n is n.code.items),
 ))
-
-pub own-plain : (field text : List ℕ) → IsPlain field → text ≡ unfilled field →
-    IsOwnText field text
-own-plain field text plain e = inl (plain, e)
-
-pub own-wanted : (field text : List ℕ) → WantsCode field → text ≡ unfilled field →
-    IsOwnText field text
-own-wanted field text wants e = inr (inr (wants, e))
 
 pub given-named : (field code text : List ℕ) (listed : Type 0) (n : Named) (recoded : Bool) →
     IsNamed field n → (n.code.items ≡ code → ⊥) → text ≡ text_of n code →
@@ -304,7 +289,7 @@ keeps-code listed field code text len names (inr all) = inr (
   ap (λ (l : List ℕ). drop 80 l) all.1 ∙ drop-same 80 field len,
 )
 
-holds : (text made : List ℕ) → text ≡ made → Holds made (fitted 80 text) (drop 80 text)
+holds : (text made : List ℕ) → text ≡ made → IsFitted made (fitted 80 text) (drop 80 text)
 holds text made e = record {
   field = ap (λ (l : List ℕ). fitted 80 l) e;
   rest = ap (λ (l : List ℕ). drop 80 l) e;
@@ -368,14 +353,8 @@ as-replaced listed code field text recoded len (inr (inr own)) =
 other-who : (code given : List ℕ) → Given code ≡ Replaced given → ⊥
 other-who code given e = cc
 
-nobody-who : (given : List ℕ) → AsNamed ≡ Replaced given → ⊥
-nobody-who given e = cc
-
 same-who : (code given : List ℕ) → Replaced code ≡ Replaced given → code ≡ given
 same-who code given e = cc
-
-pub recoded-named : (field : List ℕ) → IsRecodedFrom AsNamed field false
-recoded-named field code given e names = absurd (nobody-who given e)
 
 pub recoded-given : (listed : Type 0) (code field text : List ℕ) (recoded : Bool) →
     AsksNoCode (Given code) field → IsGivenText code listed field text recoded →

@@ -36,7 +36,7 @@ use Rattle.edf_mend.specs.Retimed.{HasGap, IsClockMade, AreRetimed, IsRetimed, I
 use Rattle.edf_mend.specs.Retimed.{apart}
 use Rattle.edf_mend.specs.Rewritten.{RecordEdits, AreRewritten}
 use Rattle.edf_mend.specs.Rules.{order}
-use Rattle.edf_mend.specs.Steps.{own_signals}
+use Rattle.edf_mend.specs.Steps.{own_signals, Follow}
 use Rattle.edf_mend.specs.Texts.{WrittenTal, IsBlockMade, IsRespelled, IsToldRespelled}
 use Rattle.edf_mend.specs.Times.{StartsAsWritten}
 use Rattle.edf_mend.specs.Wanted.{IsAsked, If}
@@ -236,6 +236,8 @@ pub record FoundRecords (w : Wanted) (first : HeaderTexts) (ledger : Ledger) (fi
   pub clock : IsClockMade (IsAsked w rule.Clock × IsContinuous first.fixed.reserved) (layout_of h)
       spelled ledger.retimed.items ledger.shift retimed
   pub reads : AllZip (Reads (layout_of h)) retimed records
+  pub follows : Follow w (HasGap (layout_of h) spelled) first body order first ledger.steps.items
+      after ledger.added
 
 pub found-records : (w : Wanted) (a c : List ℕ) (l : Ledger) (first : HeaderTexts)
     (body : List ℕ) → IsWanted w → (x : IsMended w a l c) → HasHeader a first body →
@@ -291,6 +293,8 @@ found-records w a c l first body wanted x has =
           clock = leaves.clock;
           reads = subst (λ (y : List (List ℕ)). AllZip (Reads lay) y x.records) (sym retimed)
               (all-read lay fronts.fronts x.records fronts.are);
+          follows = subst (λ (z : HeaderRecord). Follow w (HasGap (layout_of z) v.records) first
+              body order first l.steps.items v.after l.added) header v.follows;
         }
     by (inr v) =
         let sound = all-sound w ⊥ first body wanted.startdate wanted.starttime order first

@@ -19,7 +19,7 @@ use Rattle.edf_fragment.specs.declared.fault.FragmentFault.TheVariants as fragme
 use Rattle.edf_mend.specs.Answers.{IsEdf, IsCutHeader, IsPlaceBefore, IsToldAs, IsLeft, IsRefusal}
 use Rattle.edf_mend.specs.Answers.{IsTrouble}
 use Rattle.edf_mend.specs.Counted.{IsSecondHeader}
-use Rattle.edf_mend.specs.Header.{HeaderTexts, HasHeader, HasSignals, Names, spaced}
+use Rattle.edf_mend.specs.Header.{HeaderTexts, HasHeader, HasSignals, NamesSignals, spaced}
 use Rattle.edf_mend.specs.Laws.{IsWanted, IsSameAnswer, OneIsLeft, OneRefusal}
 use Rattle.edf_mend.specs.Mended.{IsMended}
 use Rattle.edf_mend.specs.Objections.{Objects, rank, IsObjection, HasSecond, HasNone}
@@ -36,7 +36,7 @@ use Rattle.edf_mend.proofs.Versions.{leaves-version}
 
 -- ---- a file that ends in its header
 
-names-one : (a b : List ℕ) (n m : ℕ) → signals_field a ≡ signals_field b → Names a n →
+names-one : (a b : List ℕ) (n m : ℕ) → signals_field a ≡ signals_field b → NamesSignals a n →
     HasSignals b m → n ≡ m
 names-one a b n m e x (inl y) = number-one (spaced (signals_field b)) n m
     (subst (λ (t : List ℕ). IsNumber (spaced t) n) e x.0) y.0

@@ -11,7 +11,7 @@ use Rattle.edf_mend.specs.Patient.{with_spaces, hidden_patient}
 use Rattle.edf_mend.specs.Recording.{HasThreeCodes}
 use Rattle.edf_mend.specs.Recording.{HidesTechnician}
 use Rattle.edf_mend.specs.Starts.{IsGivenStart, HasStartdate, HasStarttime}
-use Rattle.edf_mend.specs.Steps.{Makes, Follow, Tells, TellsStep, IsRecodedBy, IsPlainMade}
+use Rattle.edf_mend.specs.Steps.{Makes, Follow, TellsRule, TellsStep, IsRecodedBy, IsPlainMade}
 use Rattle.edf_mend.specs.Steps.{IsNotedMade, IsHiddenMade, IsMarkedIf, with_size, with_starts}
 use Rattle.edf_mend.specs.Steps.{with_patient, with_recording, with_count, with_reserved}
 use Rattle.edf_mend.specs.Steps.{GotSignal, own_signals}
@@ -299,7 +299,7 @@ module _ (w : Wanted) (G : Type 0) (first : HeaderTexts) (body : List ℕ) where
   recoded-one r old x y p q = p ∙ sym q
 
   step-one : (r : Rule) (old new : HeaderTexts) (cut : List ℕ) (s t : RuleEdits) →
-      Tells w G first body r old new cut s → Tells w G first body r old new cut t → s ≡ t
+      TellsRule w G first body r old new cut s → TellsRule w G first body r old new cut t → s ≡ t
   step-one r old new cut s t p q =
       let a : s.rule ≡ t.rule = p.rule_is ∙ sym q.rule_is in
       let b : s.edits ≡ t.edits = p.edits_are ∙ sym q.edits_are in

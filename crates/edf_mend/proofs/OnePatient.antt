@@ -6,7 +6,7 @@ use Rattle.edf_mend.specs.Code.{IsNoCode}
 use Rattle.edf_mend.specs.Header.{fitted}
 use Rattle.edf_mend.specs.Patient.{NamesPatient, NamesCode, LacksCode}
 use Rattle.edf_mend.specs.Patient.{StaysNamed, IsRecoded, IsCoded, KeepsCode, IsPatientText}
-use Rattle.edf_mend.specs.Patient.{named_text, unnamed_text, with_spaces, Holds}
+use Rattle.edf_mend.specs.Patient.{named_text, unnamed_text, with_spaces, IsFitted}
 use Rattle.edf_mend.specs.declared.wanted.Who.{Who}
 use Rattle.edf_mend.specs.declared.wanted.Who.TheVariants.{AsNamed, Given, Replaced, Hidden}
 use Rattle.edf_mend.proofs.Stays.{code-one, names-one}
@@ -43,7 +43,8 @@ text-one field code p q =
     ∙ ap (λ (l : List (List ℕ)). with_spaces (code ∷ str_to_ascii_uppercase q.sex
     ∷ str_to_ascii_uppercase q.birthdate ∷ q.name ∷ l)) (same-more field p q)
 
-holds-one : (s t a ca b cb : List ℕ) → s ≡ t → Holds s a ca → Holds t b cb → (a ≡ b) × (ca ≡ cb)
+holds-one : (s t a ca b cb : List ℕ) → s ≡ t → IsFitted s a ca → IsFitted t b cb → (a ≡ b) × (ca ≡
+    cb)
 holds-one s t a ca b cb e p q = (
   p.field ∙ ap (λ (l : List ℕ). fitted 80 l) e ∙ sym q.field,
   p.rest ∙ ap (λ (l : List ℕ). drop 80 l) e ∙ sym q.rest,

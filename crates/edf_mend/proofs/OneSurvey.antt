@@ -82,22 +82,3 @@ found-is w first body has_gaps is_retold found s has finds is gaps retold =
       has_gaps = g i;
       is_retold = r i;
     }
-
--- and what was found is one
-pub finds-one : (w : Wanted) (first : HeaderTexts) (body : List ℕ) (has_gaps is_retold : Bool)
-    (a b : Survey) → Finds w first body has_gaps is_retold a →
-    Finds w first body has_gaps is_retold b → a ≡ b
-finds-one w first body has_gaps is_retold a b x y =
-    let bytes : a.bytes ≡ b.bytes = x.bytes ∙ sym y.bytes in
-    let filled : a.filled ≡ b.filled = x.filled ∙ sym y.filled in
-    let second : a.second ≡ b.second =
-    finds-second-one w first body a.second b.second x.second y.second in
-    let g : a.has_gaps ≡ b.has_gaps = x.gaps ∙ sym y.gaps in
-    let r : a.is_retold ≡ b.is_retold = x.retold ∙ sym y.retold in
-    λ i. record {
-      bytes = bytes i;
-      filled = filled i;
-      second = second i;
-      has_gaps = g i;
-      is_retold = r i;
-    }

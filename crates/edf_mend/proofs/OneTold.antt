@@ -20,7 +20,7 @@ use Rattle.edf_mend.specs.Rewritten.{RecordEdits, AreRewritten}
 use Rattle.edf_mend.specs.Texts.{WrittenTal, tal_bytes, IsTime, IsTimeOrNone, IsWritten}
 use Rattle.edf_mend.specs.Texts.{IsTimeSpelled, IsDurationSpelled, IsTextSpelled, IsTalSpelled}
 use Rattle.edf_mend.specs.Texts.{IsBlockSpelled, tal_pairs, block_pairs, IsBlockTold}
-use Rattle.edf_mend.specs.Texts.{AreBlocksTold, IsToldRespelled, IsHalf}
+use Rattle.edf_mend.specs.Texts.{AreBlocksTold, IsToldRespelled, RoundsUp}
 use Rattle.edf_mend.specs.Told.{FieldPair, pair, edits_from}
 use Rattle.edf_mend.specs.declared.field.Field.TheVariants as at
 use Rattle.edf_mend.specs.Inside.Spelled.{NoWrittenTal}
@@ -72,7 +72,7 @@ short-written : (n : ℕ) → n < 10 ^ 73 → IsTime (short n)
 short-written n lt = let s = IsSeconds-short n lt in (s.whole, s.fraction, s.parts)
 
 half-written : (finer new : List ℕ) (nanos : ℕ) → nanos + 1 < 2 ^ 63 →
-    ((IsHalf finer × (new ≡ short (nanos + 1))) ⊎ ((IsHalf finer → ⊥) × (new ≡ short nanos))) →
+    ((RoundsUp finer × (new ≡ short (nanos + 1))) ⊎ ((RoundsUp finer → ⊥) × (new ≡ short nanos))) →
     IsTime new
 half-written finer new nanos small (inl m) =
     subst IsTime (sym m.1) (short-written (nanos + 1) (omega (arith, small)))

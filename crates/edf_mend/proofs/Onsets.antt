@@ -143,45 +143,6 @@ zeros-none bytes len is =
     sym (take_all len bytes (omega (arith, is))) ∙ sym (append-nil (take len bytes))
     ∙ ap (λ (n : ℕ). take len bytes ++ replicate n 0) (sym none)
 
-pub zeros-more : (bytes : List ℕ) (end less : ℕ) → 0 < end → less ≡ end - 1 → end ≤ length bytes →
-    get_or bytes less 0 ≡ 0 → bytes ≡ take end bytes ++ replicate (length bytes - end) 0 →
-    bytes ≡ take less bytes ++ replicate (length bytes - less) 0
-zeros-more bytes end less some less_is within is e =
-    let up : end ≡ less + 1 = omega arith in
-    let count : suc (length bytes - end) ≡ length bytes - less = omega arith in
-    e ∙ ap (λ (n : ℕ). take n bytes ++ replicate (length bytes - end) 0) up
-    ∙ ap (λ (x : List ℕ). x ++ replicate (length bytes - end) 0)
-    (take_more bytes less 0 (omega arith))
-    ∙ append_assoc (take less bytes) (get_or bytes less 0 ∷ []) (replicate (length bytes - end) 0)
-    ∙ ap (λ (b : ℕ). take less bytes ++ b ∷ replicate (length bytes - end) 0) is
-    ∙ ap (λ (n : ℕ). take less bytes ++ replicate n 0) count
-
-pub zeros-parts : (bytes kept : List ℕ) (end : ℕ) → end ≤ length bytes → kept ≡ take end bytes →
-    bytes ≡ take end bytes ++ replicate (length bytes - end) 0 →
-    bytes ≡ kept ++ replicate (length bytes - length kept) 0
-zeros-parts bytes kept end within kept_is e =
-    let len : length kept ≡ end =
-    ap (λ (x : List ℕ). length x) kept_is ∙ length-take-le end bytes within in
-    e ∙ ap (λ (x : List ℕ). x ++ replicate (length bytes - end) 0) (sym kept_is)
-    ∙ ap (λ (n : ℕ). kept ++ replicate (length bytes - n) 0) (sym len)
-
-pub ends-well : (bytes kept : List ℕ) (end : ℕ) → end ≤ length bytes → kept ≡ take end bytes →
-    (0 < end → get_or bytes (end - 1) 0 ≢ 0) → EndsWell kept
-ends-well bytes kept end within kept_is last front e =
-    let len : length front + 1 ≡ end =
-    omega (
-      arith,
-      ap (λ (x : List ℕ). length x) e,
-      ap (λ (x : List ℕ). length x) kept_is,
-      length-take-le end bytes within,
-      length-append front (0 ∷ []),
-    ) in
-    let at : length front ≡ end - 1 = omega arith in
-    last (omega arith) (ap (λ (k : ℕ). get_or bytes k 0) (sym at)
-    ∙ sym (get_or-take end bytes (length front) 0 (omega arith))
-    ∙ ap (λ (x : List ℕ). get_or x (length front) 0) (sym kept_is ∙ e)
-    ∙ get_or_push front 0 0 (length front) refl)
-
 -- ---- another onset
 
 pub gets-onset : (block first rest behind kept onset new : List ℕ) (n k z : ℕ) →

@@ -16,7 +16,7 @@ use Rattle.edf_fragment.specs.declared.fault.FragmentFault.TheVariants as fragme
 use Rattle.edf_fragment.specs.declared.open_fragment.OpenFragment.{OpenFragment}
 use Rattle.edf_mend.specs.Answers.{IsEdf}
 use Rattle.edf_mend.specs.Header.{spaced}
-use Rattle.edf_mend.specs.Inside.Accepted.{IsOpened, IsLonger, RefusesHeader}
+use Rattle.edf_mend.specs.Inside.Accepted.{IsHeaderOpen, IsLonger, RefusesHeader}
 use Rattle.edf_mend.specs.declared.fault.MendFault.{MendFault}
 use Rattle.edf_mend.specs.declared.fault.MendFault.TheVariants.{Refused, Code, Unused, Startdate}
 use Rattle.edf_mend.specs.declared.fault.MendFault.TheVariants.{Starttime, SecondHeader, Count}
@@ -92,5 +92,5 @@ refused-more front more Changed len never is some = absurd is
 refused-more front more Read len never is some = absurd is
 refused-more front more Write len never is some = absurd is
 
-pub opened-edf : (bytes : List ℕ) (o : OpenFragment) → IsOpened bytes o → IsEdf bytes
+pub opened-edf : (bytes : List ℕ) (o : OpenFragment) → IsHeaderOpen bytes o → IsEdf bytes
 opened-edf bytes o is = header-edf bytes is.header _ is.is_header

@@ -132,9 +132,6 @@ decided-identity first t =
       ]
     ]
 
-EndsMarked : List (List ℕ) → Type 0
-EndsMarked ps = (front : List (List ℕ)) × (ps ≡ front ++ mark ∷ [])
-
 decided-end : (ps : List (List ℕ)) → Decided ((front : List (List ℕ)) × (ps ≡ front ++ mark ∷ []))
 decided-end [] = inr (λ e. none e.0 e.1)
   where
@@ -316,10 +313,6 @@ others-keep w G first body seen rs all old steps new added f =
     (λ r o n cut more q asked makes e.
     recording-same w G first body seen r o n cut more q asked makes ∙ e)
     rs all old steps new added f refl
-
--- a field that is plain stays, where its rule was not named
-KeepsRecording : List ℕ → List ℕ → Type 0
-KeepsRecording old new = (new ≡ old) ⊎ (new ≡ spaced old)
 
 plain-stays : (named : Type 0) (startdate old new cut : List ℕ) (date : Option ℤ) →
     IsPlainRecording old date → ¬ named → IsRecordingText named startdate old new cut →

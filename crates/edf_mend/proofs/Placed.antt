@@ -462,13 +462,6 @@ texts-again t h =
     lt)) in
     λ i. record { fixed = f i; signals = sym s i }
 
-signals-text : (t : HeaderTexts) (back : List ℕ) → HasWidths t →
-    signals_field (header_bytes t ++ back) ≡ t.fixed.signals
-signals-text t back h =
-    field-front (header_bytes t) back 252 4 (omega (arith, length-header t h))
-    ∙ ap (λ (f : FixedTexts). f.signals)
-    (fixed-again t.fixed (columns_bytes t.signals) h.fixed)
-
 -- ---- one header
 
 pub number-one : (text : List ℕ) (a b : ℕ) → IsNumber text a → IsNumber text b → a ≡ b

@@ -11,14 +11,6 @@ use Rattle.edf_mend.specs.declared.field.Field.TheVariants as at
 use Rattle.edf_mend.specs.declared.steps.Proposals.{Proposals}
 use Rattle.edf_mend.proofs.ProposedSignals.{proposes-none, proposes-more}
 
-pub unless-good : (Good : Type 0) (f : Field) (i : ℕ) (text : List ℕ) (p : Proposals) → Good →
-    ProposesUnless Good f i text p p
-unless-good Good f i text p good = inl (good, proposes-none p)
-
-pub unless-bad : (Good : Type 0) (f : Field) (i : ℕ) (text : List ℕ) (old new : Proposals) →
-    ¬ Good → Proposes old new (proposed f i text ∷ []) → ProposesUnless Good f i text old new
-unless-bad Good f i text old new bad p = inr (bad, p)
-
 pub none-values : (s : SignalTexts) (i : ℕ) (p : Proposals) → HasLimits s →
     ProposesValues s i p p
 none-values s i p has = inl (has, proposes-none p)

@@ -7,15 +7,6 @@ use Rattle.std.specs.Io.KnownBytes.{Consumes, IsAtEnd}
 use Rattle.edf_mend.specs.Inside.Tallied.{Gives, IsTally, TalliesAll}
 use Rattle.edf_mend.specs.declared.tally.Tally.{Tally}
 
-pub gives-full : (left rest : Option (List ℕ)) (buffer : List ℕ) (n : ℕ) → n ≡ length buffer →
-    Consumes left rest buffer → Gives left rest buffer n
-gives-full left rest buffer n len read = record {
-  within = omega arith;
-  read = subst (λ (x : List ℕ). Consumes left rest x)
-      (sym (take_all n buffer (omega arith))) read;
-  end = λ lt. absurd (omega arith);
-}
-
 pub gives-cut : (left rest : Option (List ℕ)) (buffer : List ℕ) (n : ℕ) →
     (n < length buffer) × Consumes left rest (take n buffer) × IsAtEnd rest →
     Gives left rest buffer n

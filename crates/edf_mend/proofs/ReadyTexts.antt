@@ -5,11 +5,13 @@ use Rattle.std.specs.Prelude.{All, if◌then◌else◌}
 use Rattle.std.proofs.lemmas.List.Elements.{All-nil, All-cons, All-head, All-tail, All-same}
 use Rattle.edf_field.specs.Text.{IsPrintable}
 use Rattle.edf_mend.proofs.Fills.{spaced-printable}
+use Rattle.edf_mend.proofs.KeptMarks.{reserved-so}
 use Rattle.edf_mend.proofs.NumberBytes.{fitted-printable}
 use Rattle.edf_mend.proofs.SpelledPrints.{spelling-prints}
 use Rattle.edf_mend.proofs.Stays.{ascii-printable}
 use Rattle.edf_mend.specs.Header.{FixedTexts, SignalTexts, HeaderTexts, spaced, fitted}
 use Rattle.edf_mend.specs.Letters.{ascii, spelling, has_room}
+use Rattle.edf_mend.specs.Mark.{IsMarkedPlus}
 use Rattle.edf_mend.specs.Mendable.{HasTexts, IsText, IsFilled, IsLabel}
 use Rattle.edf_mend.specs.Objections.{IsReady}
 use Rattle.edf_mend.specs.Steps.{ascii_fixed, ascii_signal, ascii_label, is_near}
@@ -132,12 +134,13 @@ module _ (w : Wanted) (t : HeaderTexts) (body : List ℕ) where
 
 -- ---- the header as the other rules find it
 
--- fields of the fixed part that the rule changes
+-- fields of the fixed part that the rule changes; where the reserved field has no mark, another
+-- rule writes over it
 pub record FixedPrints (f : FixedTexts) : Type 0 where
   pub version : All IsPrintable f.version
   pub duration : All IsPrintable f.duration
   pub signals : All IsPrintable f.signals
-  pub reserved : All IsPrintable f.reserved
+  pub reserved : IsMarkedPlus f.reserved → All IsPrintable f.reserved
 
 module _ (w : Wanted) (first : HeaderTexts) (body : List ℕ) where
   abbrev AreFilled : FixedTexts → Type 0
@@ -152,26 +155,27 @@ module _ (w : Wanted) (first : HeaderTexts) (body : List ℕ) where
       (All-tail (IsFilled w first body) f.duration (f.signals ∷ [])
       (All-tail (IsFilled w first body) f.version (f.duration ∷ f.signals ∷ []) n))
 
-  fixed-ascii : (f : FixedTexts) → AreFilled f → IsText w first body f.reserved →
-      FixedPrints (ascii_fixed f)
+  fixed-ascii : (f : FixedTexts) → AreFilled f → (IsMarkedPlus f.reserved →
+      IsText w first body f.reserved) → FixedPrints (ascii_fixed f)
   fixed-ascii f n r =
       let one = All-head (IsFilled w first body) f.version (f.duration ∷ f.signals ∷ []) n in
       record {
         version = filled-prints w first body f.version one;
         duration = filled-prints w first body f.duration (second f n);
         signals = filled-prints w first body f.signals (third f n);
-        reserved = ascii-prints w first body f.reserved r;
+        reserved = reserved-so (λ x. All IsPrintable x) f.reserved
+            (λ plus. ascii-prints w first body f.reserved (r plus));
       }
 
   fixed-own : (f : FixedTexts) → (IsAsked w rule.Ascii → ⊥) → AreFilled f →
-      IsText w first body f.reserved → FixedPrints f
+      (IsMarkedPlus f.reserved → IsText w first body f.reserved) → FixedPrints f
   fixed-own f never n r =
       let one = All-head (IsFilled w first body) f.version (f.duration ∷ f.signals ∷ []) n in
       record {
         version = number-prints w first body f.version never one;
         duration = number-prints w first body f.duration never (second f n);
         signals = number-prints w first body f.signals never (third f n);
-        reserved = plain-prints w first body f.reserved never r;
+        reserved = λ plus. plain-prints w first body f.reserved never (r plus);
       }
 
   pub record AreReady (t : HeaderTexts) : Type 0 where
@@ -180,7 +184,8 @@ module _ (w : Wanted) (first : HeaderTexts) (body : List ℕ) where
 
   -- **the texts behind `ascii` are printable**, but patient, recording and starts
   pub ready-prints : (t : HeaderTexts) → IsReady w first t →
-      All (HasTexts w first body) first.signals → AreFilled first.fixed → IsText w first body first.fixed.reserved → AreReady t
+      All (HasTexts w first body) first.signals → AreFilled first.fixed →
+      (IsMarkedPlus first.fixed.reserved → IsText w first body first.fixed.reserved) → AreReady t
   ready-prints t (inl m) signals numbers reserved =
       subst (λ (x : HeaderTexts). AreReady x) (sym m.1) (record {
         fixed = fixed-ascii first.fixed numbers reserved;

@@ -222,10 +222,6 @@ plain-is field text e (date, is) = (
   subst (λ (l : List ℕ). IsRecording l date is.after) (sym e) is.recording,
 )
 
-pub plain-printable : (field : List ℕ) → ((date : Option ℤ) × IsPlainRecording field date) →
-    All IsPrintable (unfilled field)
-plain-printable field (date, is) = unfilled-printable field is.printable
-
 pub no-recording : (text : List ℕ) (fault : RecordingFault) → IsRecordingFault text fault →
     ¬ ((date : Option ℤ) × (after : List ℕ) × IsRecording text date after)
 no-recording text fault fails (date, after, is) =

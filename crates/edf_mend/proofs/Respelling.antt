@@ -41,16 +41,6 @@ pub record RespelledSoFar (all left : List Block) (to : ℕ) (old now : List ℕ
       length new ≡ length old → Respells from left old new more →
       Respells 0 all old new (edits ++ more)
 
-pub respelled-none : (bs : List Block) (to : ℕ) (old : List ℕ) → AreApart 0 bs to →
-    RespelledSoFar bs bs to old old []
-respelled-none bs to old a = record {
-  from = 0;
-  apart = a;
-  behind = refl;
-  len = refl;
-  whole = λ new more same len rest. rest;
-}
-
 pub respelled-all : (all : List Block) (to : ℕ) (old now : List ℕ) (edits : List Edit) →
     RespelledSoFar all [] to old now edits → Respells 0 all old now edits
 respelled-all all to old now edits s =

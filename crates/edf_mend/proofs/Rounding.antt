@@ -12,7 +12,7 @@ use Rattle.edf_time.specs.declared.decimal.DecimalFault.TheVariants.{TooFine}
 use Rattle.edf_time.proofs.Cited.{digit_only, one-value, no-fault, one-fault}
 use Rattle.edf_tal.specs.Inside.Scan.{Lacks}
 use Rattle.edf_tal.proofs.Unique.{SameSides, same-sides, not-both}
-use Rattle.edf_mend.specs.Texts.{IsHalf, IsRounded, IsTimeSpelled}
+use Rattle.edf_mend.specs.Texts.{RoundsUp, IsRounded, IsTimeSpelled}
 
 digits-lack : (c : ℕ) (ds : List ℕ) → c < 48 → AllDigits 10 ds → Lacks c ds
 digits-lack c [] low p = tt
@@ -140,8 +140,9 @@ fine-long text whole fraction (w, f, d, coarse) lacks e few =
 -- ---- in one way
 
 half-one : (finer a b : List ℕ) (nanos : ℕ) →
-    ((IsHalf finer × (a ≡ short (nanos + 1))) ⊎ ((IsHalf finer → ⊥) × (a ≡ short nanos))) →
-    ((IsHalf finer × (b ≡ short (nanos + 1))) ⊎ ((IsHalf finer → ⊥) × (b ≡ short nanos))) → a ≡ b
+    ((RoundsUp finer × (a ≡ short (nanos + 1))) ⊎ ((RoundsUp finer → ⊥) × (a ≡ short nanos))) →
+    ((RoundsUp finer × (b ≡ short (nanos + 1))) ⊎ ((RoundsUp finer → ⊥) × (b ≡ short nanos))) → a ≡
+    b
 half-one finer a b nanos (inl (p, x)) (inl (q, y)) = x ∙ sym y
 half-one finer a b nanos (inl (p, x)) (inr (q, y)) = absurd (q p)
 half-one finer a b nanos (inr (p, x)) (inl (q, y)) = absurd (p q)
@@ -153,10 +154,10 @@ one-rounded old a b r s =
     let same : r.nanos ≡ s.nanos =
     one-value (r.whole ++ 46 ∷ r.nine) r.nanos s.nanos r.value p.value in
     half-one r.finer a b r.nanos r.new_is
-    (subst (λ (n : ℕ). (IsHalf r.finer × (b ≡ short (n + 1)))
-    ⊎ ((IsHalf r.finer → ⊥) × (b ≡ short n))) (sym same)
-    (subst (λ (x : List ℕ). (IsHalf x × (b ≡ short (s.nanos + 1)))
-    ⊎ ((IsHalf x → ⊥) × (b ≡ short s.nanos))) (sym p.finer_is) s.new_is))
+    (subst (λ (n : ℕ). (RoundsUp r.finer × (b ≡ short (n + 1)))
+    ⊎ ((RoundsUp r.finer → ⊥) × (b ≡ short n))) (sym same)
+    (subst (λ (x : List ℕ). (RoundsUp x × (b ≡ short (s.nanos + 1)))
+    ⊎ ((RoundsUp x → ⊥) × (b ≡ short s.nanos))) (sym p.finer_is) s.new_is))
 
 pub one-spelled : (old a b : List ℕ) → IsTimeSpelled old a → IsTimeSpelled old b → a ≡ b
 one-spelled old a b (inl r) (inl s) = one-rounded old a b r s

@@ -162,10 +162,6 @@ other-on : (d e p q : ℤ) → IsOn d e p q e q
 other-on d e p q = *ℤ_comm (q -ℤ p) (e -ℤ d)
 
 module _ (old new : SignalTexts) where
-  -- so far each limit has its places
-  abbrev pub far_of : {a b : List ℕ} → ℕ → IsLoose a → IsLoose b → ℕ
-  far_of more x y = more + (places x + places y)
-
   pub same-line : Moves old.physical_minimum new.physical_minimum →
       Moves old.physical_maximum new.physical_maximum →
       (IsSigned old.digital_minimum → new.digital_minimum ≡ old.digital_minimum) →

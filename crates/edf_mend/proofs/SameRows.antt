@@ -14,15 +14,6 @@ use Rattle.edf_mend.specs.Values.{HasLimits}
 pub labelled-like : (a b : List ℕ) → field a 0 16 ≡ field b 0 16 → IsLabelled a → IsLabelled b
 labelled-like a b e is = sym e ∙ is
 
-pub physical-like : (a b : List ℕ) → field a 104 8 ≡ field b 104 8 → field a 112 8 ≡ field b 112 8 →
-    HasPhysical a → HasPhysical b
-physical-like a b e f p = record {
-  minimum = subst IsPhysical e p.minimum;
-  maximum = subst IsPhysical f p.maximum;
-  differ = subst (λ (x : List ℕ). Differ x (field b 112 8)) e
-      (subst (λ (x : List ℕ). Differ (field a 104 8) x) f p.differ);
-}
-
 -- the two change their places
 pub physical-turned : (a b : List ℕ) → field a 104 8 ≡ field b 112 8 → field a 112 8 ≡ field b 104 8 →
     HasPhysical a → HasPhysical b

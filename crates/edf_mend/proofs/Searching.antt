@@ -158,11 +158,6 @@ seeks-more p x held gone s =
       none = λ at less f. s.none at less (header-less p x at (enough p held gone at less len s.room) f);
     }
 
--- bytes pass that are held
-pub sought-more : (p x held : List ℕ) (gone : ℕ) → HasSought p held gone None →
-    HasSought (p ++ x) (held ++ x) gone None
-sought-more p x held gone s = seeks-more p x held gone s
-
 -- ---- the bytes that are held are looked through
 
 less-or : (a b : ℕ) → (a < b) ⊎ (b ≤ a)
@@ -295,12 +290,6 @@ look-kept p held kept gone cut new found s e none cut_is kept_is same =
 pub look-gone : (p held : List ℕ) (gone : ℕ) (found : Option ℕ) →
     HasSought p held gone found → found ≡ None → gone + length held ≡ length p
 look-gone p held gone found s e = gone-less p held gone (known-none p held gone found s e)
-
-pub pass-found : (p x held : List ℕ) (gone at : ℕ) (found : Option ℕ) →
-    HasSought p held gone found → found ≡ Some at → HasSought (p ++ x) held gone found
-pass-found p x held gone at found s e =
-    subst (HasSought (p ++ x) held gone) (sym e)
-    (second-more p x at (subst (HasSought p held gone) e s))
 
 pub pass-held : (p x held held' : List ℕ) (gone : ℕ) (found found' : Option ℕ) →
     HasSought p held gone found → found ≡ None → held' ≡ held ++ x → found' ≡ None →

@@ -6,17 +6,6 @@ use Rattle.edf_header.specs.declared.limits.TheConstants.{MOST_SIGNALS}
 use Rattle.edf_mend.specs.Header.{spaced, HasSignals}
 use Rattle.edf_mend.specs.Inside.Head.{ReadsWhole}
 
-pub named-some : (header : List ℕ) (n : ℕ) → ReadsWhole (spaced (signals_field header)) (Some n) →
-    n ≤ MOST_SIGNALS → HasSignals header n
-named-some header n is few = inl (is.0, few)
-
-pub named-many : (header : List ℕ) (n : ℕ) → ReadsWhole (spaced (signals_field header)) (Some n) →
-    MOST_SIGNALS < n → HasSignals header 0
-named-many header n is many = inr (
-  λ k names. let same : k ≡ n = names.0.value ∙ sym is.0.value in omega (arith, same, names.1),
-  refl,
-)
-
 pub named-none : (header : List ℕ) → ReadsWhole (spaced (signals_field header)) None →
     length (spaced (signals_field header)) ≤ 8 → HasSignals header 0
 named-none header never len = inr (λ k names. never len names.0.whole, refl)

@@ -29,9 +29,6 @@ never-by r P is e p = clash (sym e ∙ is.1 p)
 pub some-length : (r : Bool) (n : ℕ) → r ≡ (n == 0) → r ≡ false → n ≢ 0
 some-length r n is none = grind (arith, nat_tests)
 
-pub no-length : (r : Bool) (n : ℕ) → r ≡ (n == 0) → r ≡ true → n ≡ 0
-no-length r n is none = grind (arith, nat_tests)
-
 pub not-printable : (r : Bool) (text : List ℕ) → (IsTrue r ↔ All IsPrintable text) → r ≡ false →
     ¬ IsLoose text
 not-printable true text is never l = cc

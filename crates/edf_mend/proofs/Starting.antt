@@ -34,31 +34,6 @@ pub record JoinsTo (bs : List Block) (i : ℕ) (bytes all : List ℕ) (sizes : L
   pub all_is : all ≡ joined (among (take i bs) bytes)
   pub sizes_are : sizes ≡ map length (among (take i bs) bytes)
 
-pub joins-none : (bs : List Block) (bytes : List ℕ) → JoinsTo bs 0 bytes [] []
-joins-none bs bytes = record { all_is = refl; sizes_are = refl }
-
-pub joins-more : (bs : List Block) (i : ℕ) (bytes all all' block : List ℕ) (sizes sizes' : List ℕ)
-    (b : Block) → i < length bs → b ≡ get_or bs i b → block ≡ field bytes b.at b.bytes →
-    length block ≡ b.bytes → JoinsTo bs i bytes all sizes → all' ≡ all ++ block →
-    sizes' ≡ sizes ++ b.bytes ∷ [] → JoinsTo bs (i + 1) bytes all' sizes'
-joins-more bs i bytes all all' block sizes sizes' b within is block_is len j more size =
-    let next : take (i + 1) bs ≡ take i bs ++ b ∷ [] =
-    take_more bs i b within ∙ ap (λ (x : Block). take i bs ++ x ∷ []) (sym is) in
-    let pieces : among (take (i + 1) bs) bytes ≡ among (take i bs) bytes ++ block ∷ [] =
-    ap (λ (x : List Block). among x bytes) next
-    ∙ map-append (λ (k : Block). field bytes k.at k.bytes) (take i bs) (b ∷ [])
-    ∙ ap (λ (x : List ℕ). among (take i bs) bytes ++ x ∷ []) (sym block_is) in
-    record {
-      all_is = more ∙ ap (λ (x : List ℕ). x ++ block) j.all_is
-          ∙ ap (λ (x : List ℕ). joined (among (take i bs) bytes) ++ x) (sym (append-nil block))
-          ∙ sym (flat_map-append (λ (piece : List ℕ). piece) (among (take i bs) bytes) (block ∷ []))
-          ∙ ap joined (sym pieces);
-      sizes_are = size ∙ ap (λ (x : List ℕ). x ++ b.bytes ∷ []) j.sizes_are
-          ∙ ap (λ (n : ℕ). map length (among (take i bs) bytes) ++ n ∷ []) (sym len)
-          ∙ sym (map-append length (among (take i bs) bytes) (block ∷ []))
-          ∙ ap (map length) (sym pieces);
-    }
-
 sum-joined : (xs : List (List ℕ)) → sum (map length xs) ≡ length (joined xs)
 sum-joined [] = refl
 sum-joined (x ∷ xs) =
@@ -70,13 +45,6 @@ pub joins-sum : (bs : List Block) (i : ℕ) (bytes all : List ℕ) (sizes : List
 joins-sum bs i bytes all sizes j =
     ap sum j.sizes_are ∙ sum-joined (among (take i bs) bytes)
     ∙ ap (λ (x : List ℕ). length x) (sym j.all_is)
-
-pub joins-some : (bs : List Block) (i : ℕ) (bytes all : List ℕ) (sizes : List ℕ) →
-    JoinsTo bs i bytes all sizes → length bs ≤ i → length sizes ≡ length bs
-joins-some bs i bytes all sizes j past =
-    ap (λ (x : List ℕ). length x) j.sizes_are ∙ length-map (among (take i bs) bytes) length
-    ∙ length-map (take i bs) (λ (k : Block). field bytes k.at k.bytes)
-    ∙ ap (λ (x : List Block). length x) (take_all i bs past)
 
 pub joins-cut : (l : Layout) (i : ℕ) (bytes all : List ℕ) (sizes : List ℕ) →
     JoinsTo l.blocks i bytes all sizes → length l.blocks ≤ i → cut sizes all ≡ blocks l bytes

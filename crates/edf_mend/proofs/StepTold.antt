@@ -7,7 +7,7 @@ use Rattle.std.proofs.lemmas.List.{nil_from_length}
 use Rattle.edf_mend.specs.Edits.{Edit, RuleEdits}
 use Rattle.edf_mend.specs.Header.{HeaderTexts, SignalTexts}
 use Rattle.edf_mend.specs.Mark.{new_block, new_signal}
-use Rattle.edf_mend.specs.Steps.{Makes, Tells, IsRecodedBy}
+use Rattle.edf_mend.specs.Steps.{Makes, TellsRule, IsRecodedBy}
 use Rattle.edf_mend.specs.Told.{edits_of}
 use Rattle.edf_mend.specs.Inside.Grown.{IsGrown}
 use Rattle.edf_mend.specs.Inside.Proposed.{AreOfRow, IsTableRow}
@@ -84,7 +84,7 @@ pub step-told : (w : Wanted) (G : Type 0) (first : HeaderTexts) (body : List ℕ
 step-told w G first body r fields old d p changes step made gate k told some is steps added =
     let t = old.head in
     let edits = told (never-fewer fields p.adds_signal t d.head k) in
-    let tells : Tells w G first body r t d.head p.cut.items step = record {
+    let tells : TellsRule w G first body r t d.head p.cut.items step = record {
       rule_is = ap (λ (x : RuleEdits). x.rule) is;
       edits_are = ap (λ (x : RuleEdits). x.edits) is ∙ edits;
       cut_is = ap (λ (x : RuleEdits). x.cut) is;

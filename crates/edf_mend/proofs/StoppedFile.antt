@@ -15,7 +15,7 @@ use Rattle.edf_mend.proofs.FittingShapes.{fits}
 use Rattle.edf_mend.proofs.MendingSteps.{few-left}
 use Rattle.edf_mend.specs.Header.{HeaderTexts, header_bytes}
 use Rattle.edf_mend.specs.Mended.{joined}
-use Rattle.edf_mend.specs.Inside.Accepted.{IsOpened}
+use Rattle.edf_mend.specs.Inside.Accepted.{IsHeaderOpen}
 use Rattle.edf_mend.specs.Inside.Carrying.{AreRemade, CarriesSoFar, StopsIn, StopsFile}
 use Rattle.edf_mend.specs.Inside.Grown.{IsGrown}
 use Rattle.edf_mend.specs.Inside.Head.{HasWidths}
@@ -46,7 +46,7 @@ module _ (w : Wanted) (first t : HeaderTexts) (added : ℕ) (o : OpenFragment) (
   }
 
   module _ (a : Buffered) (put : Writes z a header a.held) (widths : HasWidths t)
-      (grown : IsGrown (length first.signals) t added) (opened : IsOpened (header_bytes t) o)
+      (grown : IsGrown (length first.signals) t added) (opened : IsHeaderOpen (header_bytes t) o)
       (shaped : length t.signals ≤ 1000 → IsShape w first t added shape) where
     is : IsShape w first t added shape
     is = shaped (omega (arith, few-left t opened.header widths opened.is_header))

@@ -82,10 +82,6 @@ part-some text p ps e = ltb-true 0 (length p) (All-head (λ q. is_some q ≡ tru
 
 -- ---- put together
 
-pub joined-none : (text : List ℕ) (b : ℕ) → joined_to text b [] ≡ text
-joined-none [] b = refl
-joined-none (c ∷ cs) b = refl
-
 -- a text that a byte parts is two
 pub glue : (a c : List ℕ) (b : ℕ) (ps : List (List ℕ)) →
     join_with_byte b ((a ++ b ∷ c) ∷ ps) ≡ join_with_byte b (a ∷ c ∷ ps)
@@ -163,10 +159,6 @@ one-text-some text some = (one-text-by text (subfields text) refl).1 some
 pub unnamed-made : (code one : List ℕ) →
     (code ++ codes " X X ") ++ one ≡ with_spaces (code ∷ codes "X" ∷ codes "X" ∷ one ∷ [])
 unnamed-made code one = append_assoc code (codes " X X ") one
-
-pub hidden-patient : (code : List ℕ) →
-    code ++ codes " X X X" ≡ with_spaces (code ∷ codes "X" ∷ codes "X" ∷ codes "X" ∷ [])
-hidden-patient code = refl
 
 -- ---- by the texts on the way
 

@@ -19,9 +19,6 @@ pub if-any : {X E : Type 0} (r : Result X E) (Q : X → Type 0) → ((x : X) →
 if-any (Ok x) Q q = q x
 if-any (Err e) Q q = tt
 
-pub ok-of : {X E : Type 0} (r : Result X E) (x : X) (P : X → Type 0) → r ≡ Ok x → IfOk r P → P x
-ok-of {X} {E} r x P is p = subst (λ (y : Result X E). IfOk y P) is p
-
 few-signals : (header : List ℕ) (n : ℕ) → HasSignals header n → n ≤ 640
 few-signals header n (inl x) = omega (arith, x.1)
 few-signals header n (inr x) = omega (arith, x.1)

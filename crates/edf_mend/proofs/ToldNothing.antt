@@ -78,17 +78,6 @@ fixed-self f = (refl, (refl, (refl, (refl, (refl, (refl, (refl, (refl, (refl, (r
 
 -- ---- signals
 
--- of a field of all of them
-column-same : (f : Field) (text : SignalTexts → List ℕ) (olds news : List SignalTexts) →
-    length olds ≡ length news → AllSame (pairs_of f (map text olds) (map text news)) →
-    map text news ≡ map text olds
-column-same f text [] [] e all = refl
-column-same f text [] (n ∷ ns) e all = absurd (omega arith)
-column-same f text (o ∷ os) [] e all = absurd (omega arith)
-column-same f text (o ∷ os) (n ∷ ns) e all =
-    ap (λ (x : List ℕ). x ∷ map text ns) (sym all.0)
-    ∙ ap (λ (xs : List (List ℕ)). text o ∷ xs) (column-same f text os ns (omega arith) all.1)
-
 column-self : (f : Field) (xs : List (List ℕ)) → AllSame (pairs_of f xs xs)
 column-self f [] = tt
 column-self f (x ∷ xs) = (refl, column-self f xs)

@@ -23,7 +23,7 @@ use Rattle.edf_mend.specs.Header.{fill_len}
 use Rattle.edf_mend.specs.Inside.Head.{HasFixedWidths, HasSignalWidths, HasWidths, no_signal}
 use Rattle.edf_mend.specs.Letters.{ascii, spelling, has_room}
 use Rattle.edf_mend.specs.Mark.{GetsSignalIf, new_signal, IsMarkedPlus, IsMarkMade}
-use Rattle.edf_mend.specs.Mark.{IsContinuous, IsSizeAfter}
+use Rattle.edf_mend.specs.Mark.{IsContinuous, IsSizeAfter, has_mark}
 use Rattle.edf_mend.specs.Counted.{IsSizeMade, IsCountMade, record_size, whole_records}
 use Rattle.edf_mend.specs.Laws.{FillsField}
 use Rattle.edf_mend.specs.Patient.{IsPatientText, hidden_patient, KeepsCode, StaysNamed}
@@ -34,7 +34,7 @@ use Rattle.edf_mend.specs.Recording.{IsRecordingText, HidesTechnician, IsRecordi
 use Rattle.edf_mend.specs.Starts.{HasStartdate, HasStarttime, GetsDots, IsStartdateMade, IsStarttimeMade, IsGivenStart}
 use Rattle.edf_mend.specs.Steps.{Makes, ascii_texts, ascii_fixed, ascii_signal, ascii_label}
 use Rattle.edf_mend.specs.Steps.{IsHiddenMade, IsMarkedIf, OfSignals, is_near, own_signals}
-use Rattle.edf_mend.specs.Steps.{GotSignal}
+use Rattle.edf_mend.specs.Steps.{GotSignal, ascii_reserved}
 use Rattle.edf_mend.specs.Values.{IsPhysicalMade, IsDigitalMade, IsAnnotationsMade, IsLimit}
 use Rattle.edf_mend.specs.Values.{IsBlockLimit, AreBlockValues, MendsPhysical}
 use Rattle.edf_mend.specs.declared.rule.Rule.{Rule}
@@ -74,6 +74,10 @@ length-ascii text = length-choice (has_room text) (fitted (length text) (spellin
 pub length-label : (text : List ℕ) → length (ascii_label text) ≡ length text
 length-label text = length-choice (is_near text) (spaced text) (ascii text) (length text)
     (length-spaced text) (length-ascii text)
+
+length-reserved : (text : List ℕ) → length (ascii_reserved text) ≡ length text
+length-reserved text = length-choice (has_mark text) (ascii text) (spaced text) (length text)
+    (length-ascii text) (length-spaced text)
 
 -- ---- a header is sound
 
@@ -172,7 +176,7 @@ ascii-fixed-widths f h = record {
   startdate = h.startdate;
   starttime = h.starttime;
   header_bytes = length-spaced f.header_bytes ∙ h.header_bytes;
-  reserved = length-ascii f.reserved ∙ h.reserved;
+  reserved = length-reserved f.reserved ∙ h.reserved;
   count = length-spaced f.count ∙ h.count;
   duration = length-spaced f.duration ∙ h.duration;
   signals = length-spaced f.signals ∙ h.signals;

@@ -47,10 +47,6 @@ time-some text (w, f, d) = decimal-some text w f d
 
 -- ---- times
 
-pub times-alone : (bytes : List ℕ) → IsTime bytes → AreTimes bytes bytes None
-times-alone bytes t =
-    record { parts = sym (append-nil bytes); is_onset = t; is_duration = tt }
-
 pub times-both : (bytes o d : List ℕ) → bytes ≡ o ++ 21 ∷ d → IsTime o → IsTime d →
     AreTimes bytes o (Some d)
 times-both bytes o d e p q = record { parts = e; is_onset = p; is_duration = q }
@@ -80,29 +76,9 @@ from-both bytes o x onset (Some text) lacks e t =
 
 -- ---- heads
 
-pub head-none : (sign : ℕ) (onset : List ℕ) (d : Option (List ℕ)) →
-    IsWrittenHead [] sign onset d → ⊥
-head-none sign onset d h = let e : [] ≡ sign ∷ h.times = h.parts in cc
-
 pub record Signed (b : ℕ) (bytes onset : List ℕ) (d : Option (List ℕ)) : Type 0 where
   pub sign : (b ≡ 43) ⊎ (b ≡ 45)
   pub times : AreTimes bytes onset d
-
-pub head-signed : (b : ℕ) (bytes : List ℕ) (sign : ℕ) (onset : List ℕ) (d : Option (List ℕ)) →
-    IsWrittenHead (b ∷ bytes) sign onset d → Signed b bytes onset d
-head-signed b bytes sign onset d h =
-    let e : b ∷ bytes ≡ sign ∷ h.times = h.parts in
-    let first : b ≡ sign = cc in
-    let rest : bytes ≡ h.times = cc in
-    record {
-      sign = subst (λ (x : ℕ). (x ≡ 43) ⊎ (x ≡ 45)) (sym first) h.is_sign;
-      times = subst (λ (x : List ℕ). AreTimes x onset d) (sym rest) h.are_times;
-    }
-
-pub head-made : (b : ℕ) (bytes onset : List ℕ) (d : Option (List ℕ)) → (b ≡ 43) ⊎ (b ≡ 45) →
-    AreTimes bytes onset d → IsWrittenHead (b ∷ bytes) b onset d
-head-made b bytes onset d sign times =
-    record { times = bytes; parts = refl; is_sign = sign; are_times = times }
 
 -- ---- lists
 

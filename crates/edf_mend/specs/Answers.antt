@@ -8,7 +8,7 @@ use Rattle.edf_header.specs.declared.fault.HeaderFault.TheVariants.{UnprintableS
 use Rattle.edf_fragment.specs.Fault.{IsFirstFault}
 use Rattle.edf_fragment.specs.declared.fault.FragmentFault.{FragmentFault}
 use Rattle.edf_fragment.specs.declared.fault.FragmentFault.TheVariants.{Header as BadHeader}
-use Rattle.edf_mend.specs.Header.{HeaderTexts, HasHeader, spaced, Names}
+use Rattle.edf_mend.specs.Header.{HeaderTexts, HasHeader, spaced, NamesSignals}
 use Rattle.edf_mend.specs.Mended.{Leaves}
 use Rattle.edf_mend.specs.Objections.{IsObjection, HasNone}
 use Rattle.edf_mend.specs.declared.fault.MendFault.{MendFault}
@@ -32,7 +32,7 @@ IsEdf file = spaced (take 8 file) ≡ codes "0       "
 -- a file ends in its header
 abbrev pub IsCutHeader : List ℕ → FragmentFault → Type 0
 IsCutHeader file (BadHeader Cut) = length file < 256
-IsCutHeader file (BadHeader CutSignals) = IsEdf file × ((n : ℕ) × Names file n
+IsCutHeader file (BadHeader CutSignals) = IsEdf file × ((n : ℕ) × NamesSignals file n
     × (256 ≤ length file) × (length file < 256 + 256 * n))
 IsCutHeader file fault = ⊥
 

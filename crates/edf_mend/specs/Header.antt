@@ -125,11 +125,11 @@ header_bytes t = fixed_bytes t.fixed ++ (flat_map (λ s. s.label) t.signals
 
 -- a header names n signals: by a number, behind which zeros may fill the field; or, where it names
 -- none or more than a file may have, 0
-abbrev pub Names : List ℕ → ℕ → Type 0
-Names header n = IsNumber (spaced (signals_field header)) n × (n ≤ MOST_SIGNALS)
+abbrev pub NamesSignals : List ℕ → ℕ → Type 0
+NamesSignals header n = IsNumber (spaced (signals_field header)) n × (n ≤ MOST_SIGNALS)
 
 abbrev pub HasSignals : List ℕ → ℕ → Type 0
-HasSignals header n = Names header n ⊎ (((k : ℕ) → Names header k → ⊥) × (n ≡ 0))
+HasSignals header n = NamesSignals header n ⊎ (((k : ℕ) → NamesSignals header k → ⊥) × (n ≡ 0))
 
 -- a file is this header, as long as its number of signals says, and then these bytes
 pub record HasHeader (file : List ℕ) (texts : HeaderTexts) (body : List ℕ) : Type 0 where

@@ -4,7 +4,7 @@
 -- (Carried, Rewritten, Texts, Retimed); how the rules follow each other (Steps) and what they leave
 -- (Mended); what is asked first (Objections), and why there is no file (Answers), be it for a call
 -- that failed (Counts, Faults); what a first reading finds (Survey); what a person may rely on
--- (Laws, Notes, Times); and which files are mended (Mendable). Inside has words of private
+-- (Laws, Notes, Times, Parts); and which files are mended (Mendable). Inside has words of private
 -- contracts.
 pub mod Header
 pub mod Letters
@@ -34,4 +34,5 @@ pub mod Mendable
 pub mod Laws
 pub mod Notes
 pub mod Times
+pub mod Parts
 pub mod Inside

@@ -1,8 +1,8 @@
 -- The mark of EDF+, and the annotations signal that a file may lack.
 use Rattle.std.specs.Prelude.{◌≡◌, ◌⊎◌, ℕ, ◌+◌, ◌≤◌, ◌<◌, List, [], ◌∷◌, ◌++◌}
-use Rattle.std.specs.Prelude.{length, take, drop, filter, codes, decimal, All}
+use Rattle.std.specs.Prelude.{length, take, drop, filter, codes, decimal, All, Bool, ◌||◌}
 use Rattle.std.specs.Char.{is_ascii_uppercase}
-use Rattle.std.specs.Str.{str_to_ascii_uppercase}
+use Rattle.std.specs.Str.{bytes_eq, str_to_ascii_uppercase}
 use Rattle.edf_field.specs.Number.{IsNumber}
 use Rattle.edf_header.specs.declared.limits.TheConstants.{MOST_SIGNALS}
 use Rattle.edf_mend.specs.Header.{HeaderTexts, SignalTexts, fitted}
@@ -16,6 +16,11 @@ IsContinuous reserved = mark_of reserved ≡ codes "EDF+C"
 
 abbrev pub IsMarkedPlus : List ℕ → Type 0
 IsMarkedPlus reserved = IsContinuous reserved ⊎ (mark_of reserved ≡ codes "EDF+D")
+
+-- the same, as a truth value
+abbrev pub has_mark : List ℕ → Bool
+has_mark reserved = bytes_eq (mark_of reserved) (codes "EDF+C")
+    || bytes_eq (mark_of reserved) (codes "EDF+D")
 
 -- ---- labels
 

@@ -159,6 +159,7 @@ pub record AreRecords (w : Wanted) (first : HeaderTexts) (l : Layout) (carried :
 
 -- ---- **a file that can be mended**
 
+-- what stands in the reserved field without a mark may be anything: `plain` writes over it
 pub record Mendable (w : Wanted) (file : List ℕ) : Type 0 where
   pub first : HeaderTexts
   pub body : List ℕ
@@ -170,7 +171,7 @@ pub record Mendable (w : Wanted) (file : List ℕ) : Type 0 where
   pub signals_read : All (HasTexts w first body) first.signals
   pub fixed_read : All (IsFilled w first body) (first.fixed.version ∷ first.fixed.duration
       ∷ first.fixed.signals ∷ [])
-  pub reserved_read : IsText w first body first.fixed.reserved
+  pub reserved_read : IsMarkedPlus first.fixed.reserved → IsText w first body first.fixed.reserved
   pub who : KnowsWho w t body
   pub started : IsStarted w t body
   pub marked : HasMark w t body

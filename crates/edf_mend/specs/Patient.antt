@@ -67,7 +67,7 @@ unnamed_text field code =
     with_spaces (code ∷ codes "X" ∷ codes "X" ∷ one_text (subfields (spelling field)) ∷ [])
 
 -- a field of 80 bytes that has this text; where it has no room for the end, that is told
-pub record Holds (text new cut : List ℕ) : Type 0 where
+pub record IsFitted (text new cut : List ℕ) : Type 0 where
   pub field : new ≡ fitted 80 text
   pub rest : cut ≡ drop 80 text
 
@@ -75,15 +75,15 @@ pub record Holds (text new cut : List ℕ) : Type 0 where
 abbrev pub StaysNamed : List ℕ → List ℕ → List ℕ → Type 0
 StaysNamed old new cut = (IsPlain old × (new ≡ spaced old) × (cut ≡ []))
     ⊎ ((IsPlain old → ⊥) × ((code : List ℕ) × (names : NamesCode old code)
-    × Holds (named_text names.0 code) new cut))
+    × IsFitted (named_text names.0 code) new cut))
 
 -- another code comes in its place
 abbrev pub IsRecoded : List ℕ → List ℕ → List ℕ → List ℕ → Type 0
-IsRecoded code old new cut = (named : NamesPatient old) × Holds (named_text named code) new cut
+IsRecoded code old new cut = (named : NamesPatient old) × IsFitted (named_text named code) new cut
 
 -- a code comes before a field that names nobody
 abbrev pub IsCoded : List ℕ → List ℕ → List ℕ → List ℕ → Type 0
-IsCoded code old new cut = NamesNobody old × Holds (unnamed_text old code) new cut
+IsCoded code old new cut = NamesNobody old × IsFitted (unnamed_text old code) new cut
 
 -- where the rule is listed, a field that names a code keeps it; where it is not, the field stays
 abbrev pub KeepsCode : Type 0 → List ℕ → List ℕ → List ℕ → Type 0

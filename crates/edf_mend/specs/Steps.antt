@@ -10,7 +10,7 @@ use Rattle.edf_mend.specs.Counted.{record_size, IsCountMade, IsSizeMade}
 use Rattle.edf_mend.specs.Edits.{RuleEdits}
 use Rattle.edf_mend.specs.Header.{FixedTexts, SignalTexts, HeaderTexts, row_of, spaced}
 use Rattle.edf_mend.specs.Letters.{ascii, spelling}
-use Rattle.edf_mend.specs.Mark.{IsContinuous, IsMarkedPlus, GetsSignalIf, IsMarkMade}
+use Rattle.edf_mend.specs.Mark.{IsContinuous, IsMarkedPlus, GetsSignalIf, IsMarkMade, has_mark}
 use Rattle.edf_mend.specs.Patient.{IsPatientText, NamesCode, hidden_patient}
 use Rattle.edf_mend.specs.Recording.{IsRecordingText, GetsMark, SaysMended, HidesTechnician}
 use Rattle.edf_mend.specs.Recording.{HasThreeCodes}
@@ -35,6 +35,11 @@ is_near label = bytes_eq (take 14 (filter (λ b. not (b == 32))
 abbrev pub ascii_label : List ℕ → List ℕ
 ascii_label label = if is_near label then spaced label else ascii label
 
+-- the reserved field only where it has a mark: other letters make none. Whatever stands there
+-- without one, `plain` writes over it
+abbrev pub ascii_reserved : List ℕ → List ℕ
+ascii_reserved text = if has_mark text then ascii text else spaced text
+
 -- texts by the table; a number only without the zeros that fill it
 abbrev pub ascii_signal : SignalTexts → SignalTexts
 ascii_signal s = record {
@@ -54,7 +59,7 @@ abbrev pub ascii_fixed : FixedTexts → FixedTexts
 ascii_fixed f = record f {
   version = spaced f.version;
   header_bytes = spaced f.header_bytes;
-  reserved = ascii f.reserved;
+  reserved = ascii_reserved f.reserved;
   count = spaced f.count;
   duration = spaced f.duration;
   signals = spaced f.signals;
@@ -200,7 +205,7 @@ module _ (w : Wanted) (HasGaps : Type 0) (first : HeaderTexts) (body : List ℕ)
   IsRecodedBy r old recoded = recoded ≡ false
 
   -- a step that changed nothing is not told; any other is, with each field that differs
-  pub record Tells (r : Rule) (old new : HeaderTexts) (cut : List ℕ) (step : RuleEdits) : Type 0
+  pub record TellsRule (r : Rule) (old new : HeaderTexts) (cut : List ℕ) (step : RuleEdits) : Type 0
     where
       pub rule_is : step.rule ≡ r
       pub edits_are : step.edits ≡ edits_of old new
@@ -210,7 +215,7 @@ module _ (w : Wanted) (HasGaps : Type 0) (first : HeaderTexts) (body : List ℕ)
   abbrev pub TellsStep : Rule → HeaderTexts → HeaderTexts → List ℕ → List RuleEdits →
       List RuleEdits → Type 0
   TellsStep r old new cut steps more = ((new ≡ old) × (steps ≡ more))
-      ⊎ ((new ≢ old) × ((step : RuleEdits) × Tells r old new cut step × (steps ≡ step ∷ more)))
+      ⊎ ((new ≢ old) × ((step : RuleEdits) × TellsRule r old new cut step × (steps ≡ step ∷ more)))
 
   -- ---- all of them, in their order: each that is asked for, over what those before it made
 

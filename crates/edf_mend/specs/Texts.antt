@@ -55,9 +55,9 @@ pub record IsBlockOf (tals : List WrittenTal) (fill block : List ℕ) : Type 0 w
 -- ---- the same list, as EDF+ spells it
 
 -- a digit from 5 on comes first
-abbrev pub IsHalf : List ℕ → Type 0
-IsHalf [] = ⊥
-IsHalf (d ∷ ds) = 53 ≤ d
+abbrev pub RoundsUp : List ℕ → Type 0
+RoundsUp [] = ⊥
+RoundsUp (d ∷ ds) = 53 ≤ d
 
 -- a decimal that has a digit past the ninth behind the dot which is not 0 becomes the shortest one
 -- of the nearest nanosecond; of two that are as near, the one that is further from 0
@@ -71,8 +71,8 @@ pub record IsRounded (old new : List ℕ) : Type 0 where
   pub len : length nine ≡ 9
   pub value : IsSeconds (whole ++ 46 ∷ nine) nanos
   pub small : nanos + 1 < 2 ^ 63
-  pub new_is : (IsHalf finer × (new ≡ short (nanos + 1)))
-      ⊎ ((IsHalf finer → ⊥) × (new ≡ short nanos))
+  pub new_is : (RoundsUp finer × (new ≡ short (nanos + 1)))
+      ⊎ ((RoundsUp finer → ⊥) × (new ≡ short nanos))
 
 -- any other time stays as it is written
 abbrev pub IsTimeSpelled : List ℕ → List ℕ → Type 0

@@ -10,6 +10,7 @@ use Rattle.edf_fragment.specs.Fragment.{DataRecord, blocks}
 use Rattle.edf_mend.specs.Counted.{record_size}
 use Rattle.edf_mend.specs.Header.{FixedTexts, HeaderTexts, HasHeader}
 use Rattle.edf_mend.specs.Laws.{IsWanted}
+use Rattle.edf_mend.specs.Mark.{IsMarkedPlus, IsMarkWritten, mark_of}
 use Rattle.edf_mend.specs.Mended.{IsMended, IsCut}
 use Rattle.edf_mend.specs.Notes.{AreWritten}
 use Rattle.edf_mend.specs.Retimed.{apart}
@@ -43,6 +44,30 @@ abbrev pub AStartStays : Type 0
 AStartStays = (w : Wanted) (a c : List ℕ) (l : Ledger) (first after : HeaderTexts)
     (body rest : List ℕ) → IsWanted w → IsMended w a l c → HasHeader a first body →
     HasHeader c after rest → KeepsStart w first.fixed after.fixed
+
+-- ---- its mark
+
+-- a data record starts later than the one before it ends
+pub record HasPause (duration : ℕ) (records : List DataRecord) : Type 0 where
+  pub front : List DataRecord
+  pub one : DataRecord
+  pub next : DataRecord
+  pub back : List DataRecord
+  pub parts : records ≡ front ++ one ∷ next ∷ back
+  pub later : one.start + duration < next.start
+
+-- a mark that is there stays; one that is written is EDF+D where there is a gap, else EDF+C
+pub record TellsGaps (HasGaps : Type 0) (old new : List ℕ) : Type 0 where
+  pub stays : IsMarkedPlus old → mark_of new ≡ mark_of old
+  pub written : ¬ IsMarkedPlus old → IsMarkWritten HasGaps new
+
+-- **a mark that is written says whether there are gaps**, and none takes the place of another
+abbrev pub AMarkTellsGaps : Type 0
+AMarkTellsGaps = (w : Wanted) (a c : List ℕ) (l : Ledger) (first after : HeaderTexts)
+    (body rest : List ℕ) → IsWanted w → (x : IsMended w a l c) → HasHeader a first body →
+    HasHeader c after rest →
+    TellsGaps (HasPause (duration_of (layout_of x.spells.header).key.duration) x.records)
+    first.fixed.reserved after.fixed.reserved
 
 -- ---- its data records
 

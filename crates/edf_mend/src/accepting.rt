@@ -6,7 +6,7 @@ ghost use Rattle.edf_fragment.specs.Fault.{IsFirstFault};
 ghost use Rattle.edf_fragment.specs.declared.advance.ReaderState.TheVariants.{Reading};
 ghost use Rattle.edf_fragment.specs.declared.fault.FragmentFault.{FragmentFault};
 ghost use Rattle.edf_mend.specs.Answers.{IsEdf};
-ghost use Rattle.edf_mend.specs.Inside.Accepted.{IsOpened, RefusesHeader, IsAccepted};
+ghost use Rattle.edf_mend.specs.Inside.Accepted.{IsHeaderOpen, RefusesHeader, IsNextRead};
 ghost use Rattle.edf_mend.specs.Inside.Accepted.{RefusesNext};
 
 use crate::fault::MendFault;
@@ -55,7 +55,7 @@ pub(crate) fn refusal_of(alloc: Global, front: &[u8]) -> Result<MendFault, Alloc
 
 /// Reads a header, which is all of the bytes.
 pub(crate) fn accept_header(alloc: Global, bytes: &[u8]) -> Result<OpenFragment, MendFault>
-    ensures opened { IfOk result (IsOpened bytes.now) }
+    ensures opened { IfOk result (IsHeaderOpen bytes.now) }
     ensures refused { IfErr result (RefusesHeader bytes.now) }
 {
     let mut piece = Piece::of(bytes);
@@ -76,7 +76,7 @@ pub(crate) fn accept_record(fragment: &mut OpenFragment, bytes: &[u8]) -> Result
     requires reading { fragment.old.progress.state ≡ Reading }
     requires len { length bytes.now ≡ fragment.old.header.record_bytes }
     ensures header { fragment.new.header ≡ fragment.old.header }
-    ensures accepted { IfOk result (IsAccepted fragment.old.header fragment.old.progress
+    ensures accepted { IfOk result (IsNextRead fragment.old.header fragment.old.progress
         fragment.new.progress bytes.now) }
     ensures refused { IfErr result
         (RefusesNext fragment.old.header fragment.old.progress bytes.now) }

@@ -7,8 +7,9 @@ ghost use Rattle.edf_mend.specs.Inside.Proposed.{AreAscii, places_below, places_
 ghost use Rattle.edf_mend.specs.Inside.Proposed.{ascii_in, by_letters};
 
 use crate::field::Field;
-use crate::header::{Head, Place};
+use crate::header::{FieldPlace, Head};
 use crate::letters::{ascii, is_near, unfilled};
+use crate::mark::has_mark;
 use crate::rule::RuleRow;
 use crate::steps::Proposals;
 use std::alloc::{AllocError, Global};
@@ -28,19 +29,21 @@ fn has_letters(field: Field) -> bool
     )
 }
 
-/// Whether it replaces letters of a text: not of a label that would name annotations.
+/// Whether it replaces letters of a text: not of a label that would name annotations, nor of a
+/// reserved field that has no mark.
 fn is_text(alloc: Global, field: Field, old: &[u8]) -> Result<bool, AllocError>
     ensures { IfOk result (λ is. ascii_in field old.now ≡ by_letters is old.now) }
 {
     match field {
         Field::Label => Ok(!is_near(alloc, old)?),
+        Field::Reserved => Ok(has_mark(old)),
         _ => Ok(has_letters(field)),
     }
 }
 
-/// Proposes what `ascii` makes of a field: of a text by the table; of a number, and of a label that
-/// would name annotations, without the zeros that fill it.
-fn propose_ascii(made: &mut Proposals, head: &Head, place: Place) -> Result<(), AllocError>
+/// Proposes what `ascii` makes of a field: of a text by the table; of a number, of a label that
+/// would name annotations and of a reserved field without a mark, without the zeros that fill it.
+fn propose_ascii(made: &mut Proposals, head: &Head, place: FieldPlace) -> Result<(), AllocError>
     ensures { OnOk result (ProposesEach (AreAscii head.now (place ∷ [])) made.old made.new) }
 {
     let old = head.text(place);

@@ -44,7 +44,7 @@ pub(crate) const SIGNAL_FIELDS: [Field; 10] = [
 ];
 
 /// A field, and of which signal, counted from 0; of one of the fixed part that is 0.
-pub(crate) type Place = (Field, usize);
+pub(crate) type FieldPlace = (Field, usize);
 
 /// Where a field begins, in the fixed part or in a signal's row of 256 bytes, and its width.
 fn span(field: Field) -> (usize, usize)
@@ -177,7 +177,7 @@ impl Head {
     }
 
     /// Whether a field is of a signal that is not there.
-    fn lacks(&self, place: Place) -> bool
+    fn lacks(&self, place: FieldPlace) -> bool
         ensures lacks { result ≡ true → (of_signal place.0 ≡ true)
             × (length self.now.signals ≤ place.1) }
         ensures has { result ≡ false → of_signal place.0 ≡ true →
@@ -187,7 +187,7 @@ impl Head {
     }
 
     /// Where a field begins; or, after the last signal, where its column ends.
-    pub(crate) fn offset(&self, place: Place) -> usize
+    pub(crate) fn offset(&self, place: FieldPlace) -> usize
         requires { of_signal place.0 ≡ true → place.1 ≤ length self.now.signals }
         ensures { result ≡ offset_of (length self.now.signals) place.0 place.1 }
     {
@@ -199,7 +199,7 @@ impl Head {
     }
 
     /// The text of a field; nothing where it is of no signal.
-    pub(crate) fn text(&self, place: Place) -> &[u8]
+    pub(crate) fn text(&self, place: FieldPlace) -> &[u8]
         ensures text { result.now ≡ text_of self.now place.0 place.1 }
         ensures widths { HasWidths self.now }
     {
@@ -219,7 +219,7 @@ impl Head {
     }
 
     /// Writes a text into a field: it is cut, or filled with spaces.
-    pub(crate) fn set(&mut self, place: Place, text: &[u8])
+    pub(crate) fn set(&mut self, place: FieldPlace, text: &[u8])
         ensures { self.new ≡ set_text self.old place.0 place.1 text.now }
     {
         if self.lacks(place) {
@@ -290,7 +290,7 @@ impl Head {
     }
 
     /// The whole number that a field has, where it has one.
-    pub(crate) fn number(&self, place: Place) -> Option<u32>
+    pub(crate) fn number(&self, place: FieldPlace) -> Option<u32>
         ensures number { ReadsWhole (text_of self.now place.0 place.1) result }
         ensures widths { HasWidths self.now }
     {

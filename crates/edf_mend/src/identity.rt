@@ -6,7 +6,7 @@ ghost use Rattle.edf_mend.specs.Steps.{StaysText, StaysOrdinary, KeepsIdentity, 
 ghost use Rattle.edf_mend.specs.Inside.Head.{text_of, signal_at};
 
 use crate::field::Field;
-use crate::header::{Head, Place, SIGNAL_FIELDS};
+use crate::header::{FieldPlace, Head, SIGNAL_FIELDS};
 use crate::letters::unfilled;
 use crate::values::is_labelled;
 
@@ -18,7 +18,7 @@ fn stays_text(old: &[u8], new: &[u8]) -> bool
 }
 
 /// Whether a field is the same but for what fills it.
-fn stays(first: &Head, head: &Head, place: Place) -> bool
+fn stays(first: &Head, head: &Head, place: FieldPlace) -> bool
     ensures { IsTrue result ↔ StaysText (text_of first.now place.0 place.1)
         (text_of head.now place.0 place.1) }
 {

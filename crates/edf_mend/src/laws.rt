@@ -7,7 +7,9 @@ ghost use Rattle.edf_mend.specs.Laws.{EachRuleKeepsToItsRow, AWrongSizeStays, AP
 ghost use Rattle.edf_mend.specs.Laws.{NobodyIsNamed, NoNoteIsASample};
 ghost use Rattle.edf_mend.specs.Mendable.{EachIsMended};
 ghost use Rattle.edf_mend.specs.Notes.{EachAnnotationStays};
-ghost use Rattle.edf_mend.specs.Times.{AStartStays, EachStartStays, NewStartsFollow};
+ghost use Rattle.edf_mend.specs.Parts.{EachSubfieldComes};
+ghost use Rattle.edf_mend.specs.Times.{AStartStays, AMarkTellsGaps, EachStartStays};
+ghost use Rattle.edf_mend.specs.Times.{NewStartsFollow};
 
 /// Two files that become one recording, with no code given, named one patient.
 pub fn nobody_is_merged()
@@ -27,6 +29,12 @@ pub fn a_code_stays()
 /// A file for others has the code alone, and no technician.
 pub fn nobody_is_named()
     ensures { NobodyIsNamed }
+{}
+
+/// Each subfield of patient and recording comes from the old one, and none is lost while there is
+/// room.
+pub fn each_subfield_comes()
+    ensures { EachSubfieldComes }
 {}
 
 /// No sample means anything else: the line from digital to physical values, label and dimension.
@@ -52,6 +60,11 @@ pub fn no_note_is_a_sample()
 /// A start that is good stays, and none is guessed.
 pub fn a_start_stays()
     ensures { AStartStays }
+{}
+
+/// A mark that is written says whether there are gaps; one that is there stays.
+pub fn a_mark_tells_gaps()
+    ensures { AMarkTellsGaps }
 {}
 
 /// Each data record starts when it did; one that is moved, less than half a sample from then.

@@ -1,8 +1,8 @@
 //! The mark of EDF+, and the annotations signal that a file may lack.
 
-ghost use Rattle.std.specs.Prelude.{◌↔◌, IsTrue, codes};
+ghost use Rattle.std.specs.Prelude.{◌≡◌, ◌↔◌, IsTrue, codes};
 ghost use Rattle.edf_mend.specs.Mark.{IsContinuous, IsMarkedPlus, AlmostNames, LacksAnnotations};
-ghost use Rattle.edf_mend.specs.Mark.{MayGetSignal, Begins};
+ghost use Rattle.edf_mend.specs.Mark.{MayGetSignal, Begins, has_mark};
 
 use crate::field::Field;
 use crate::header::Head;
@@ -33,11 +33,18 @@ pub(crate) fn is_continuous(head: &Head) -> bool
     head.fixed(Field::Reserved).starts_with(b"EDF+C".as_slice())
 }
 
-/// Whether it has the mark of EDF+.
+/// Whether a reserved field has a mark of EDF+.
+pub(crate) fn has_mark(reserved: &[u8]) -> bool
+    ensures { result ≡ has_mark reserved.now }
+{
+    reserved.starts_with(b"EDF+C".as_slice()) || reserved.starts_with(b"EDF+D".as_slice())
+}
+
+/// Whether the reserved field has a mark of EDF+.
 pub(crate) fn is_marked_plus(head: &Head) -> bool
     ensures { IsTrue result ↔ IsMarkedPlus head.now.fixed.reserved }
 {
-    is_continuous(head) || head.fixed(Field::Reserved).starts_with(b"EDF+D".as_slice())
+    has_mark(head.fixed(Field::Reserved))
 }
 
 /// The word by which a label speaks of annotations.

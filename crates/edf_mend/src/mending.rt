@@ -12,7 +12,7 @@ ghost use Rattle.edf_mend.specs.Header.{HeaderTexts, HasHeader, header_bytes};
 ghost use Rattle.edf_mend.specs.Mendable.{Mendable};
 ghost use Rattle.edf_mend.specs.Mended.{Mends, TellsNone, AsksNothing};
 ghost use Rattle.edf_mend.specs.Survey.{IsSurveyOf};
-ghost use Rattle.edf_mend.specs.Inside.Accepted.{IsOpened};
+ghost use Rattle.edf_mend.specs.Inside.Accepted.{IsHeaderOpen};
 ghost use Rattle.edf_mend.specs.Inside.Carrying.{WritesMended, RefusesMended, IsQuiet};
 ghost use Rattle.edf_mend.specs.Inside.Carrying.{AnswersAfter, TellsBefore, MendsBehind};
 ghost use Rattle.edf_mend.specs.Inside.Carrying.{RefusesBehind, AsksNoneYet, SaysLeft};
@@ -113,7 +113,7 @@ fn write_mended<R: Input, W: Output>(
 ) -> Result<Ledger, MendFault>
     requires few { length ground.first.now.signals ≤ 640 }
     requires grown { IsGrown (length ground.first.now.signals) draft.head draft.added }
-    requires opened { IsOpened (header_bytes draft.head) fragment }
+    requires opened { IsHeaderOpen (header_bytes draft.head) fragment }
     ensures mended { IsTally (header_bytes ground.entry.first.now) [] tally.old → IfOk result
         (WritesMended ground.entry.wanted.now ground.entry.first.now draft.head draft.steps.items
         draft.added fragment.header ground.entry.body survey.now (R.remaining input.old)

@@ -24,7 +24,7 @@ use crate::ascii_rule::ascii_fields;
 use crate::counted::{Body, count_stays, header_size, is_miscounted, record_size, whole_records};
 use crate::fault::MendFault;
 use crate::field::Field;
-use crate::header::{Head, Place};
+use crate::header::{FieldPlace, Head};
 use crate::identity::keeps_identity;
 use crate::ledger::Step;
 use crate::mark::{NEW_BLOCK, NEW_SIGNAL, is_continuous, is_marked_plus, may_get_signal};
@@ -41,7 +41,7 @@ use std::marker::Model;
 /// A text for a field, in which it is cut or filled with spaces.
 #[derive(Drop)]
 struct Proposal {
-    place: Place,
+    place: FieldPlace,
     text: Vec<u8>,
 }
 
@@ -66,7 +66,7 @@ pub(crate) struct Proposals {
 
 impl Proposals {
     /// Proposes a text for a field.
-    pub(crate) fn propose(&mut self, place: Place, text: &[u8]) -> Result<(), AllocError>
+    pub(crate) fn propose(&mut self, place: FieldPlace, text: &[u8]) -> Result<(), AllocError>
         ensures { OnOk result (Proposes self.old self.new
             (proposed place.0 place.1 text.now ∷ [])) }
     {

@@ -12,7 +12,7 @@ ghost use Rattle.edf_mend.specs.Mark.{IsContinuous};
 ghost use Rattle.edf_mend.specs.Steps.{own_signals};
 ghost use Rattle.edf_mend.specs.Wanted.{IsAsked};
 ghost use Rattle.edf_mend.specs.Inside.Tallied.{filled_len, Measures, IsTally};
-ghost use Rattle.edf_mend.specs.Inside.Accepted.{IsOpened, NoHeader};
+ghost use Rattle.edf_mend.specs.Inside.Accepted.{IsHeaderOpen, NoHeader};
 ghost use Rattle.edf_mend.specs.Inside.Asking.{IsKnown};
 ghost use Rattle.edf_mend.specs.Inside.Head.{HasWidths};
 ghost use Rattle.edf_mend.specs.Inside.Surveyed.{ReadsStarts, EndsInHeader, IsFitting, IsShape};
@@ -112,7 +112,7 @@ pub(crate) fn shape_of(ground: Ground<'_>, draft: &Draft) -> Shape
 /// A header that is all of the bytes, where they are one.
 fn opened(alloc: Global, bytes: &[u8]) -> Result<Option<OpenFragment>, MendFault>
     ensures opened { IfOk result
-        (λ found. MatchOption found (NoHeader bytes.now) (IsOpened bytes.now)) }
+        (λ found. MatchOption found (NoHeader bytes.now) (IsHeaderOpen bytes.now)) }
     ensures trouble { IfErr result (λ why. why ≡ MendFault.Memory) }
 {
     match accept_header(alloc, bytes) {

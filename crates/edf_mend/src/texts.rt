@@ -9,7 +9,7 @@ ghost use Rattle.edf_header.specs.Header.{IsLayout};
 ghost use Rattle.edf_tal.specs.Tal.{IsText, ended};
 ghost use Rattle.edf_tal.specs.Inside.Scan.{Lacks, EndsWith20};
 ghost use Rattle.edf_mend.specs.Edits.{Edit};
-ghost use Rattle.edf_mend.specs.Texts.{WrittenTal, tal_bytes, IsTime, IsHalf, IsRounded};
+ghost use Rattle.edf_mend.specs.Texts.{WrittenTal, tal_bytes, IsTime, RoundsUp, IsRounded};
 ghost use Rattle.edf_mend.specs.Texts.{IsTimeSpelled, IsTextSpelled, IsTalSpelled};
 ghost use Rattle.edf_mend.specs.Texts.{IsBlockSpelled, IsRespelled, IsToldRespelled};
 ghost use Rattle.edf_mend.specs.Texts.{IsBlockMade, IsBlockTold, AreBlocksTold, block_pairs};
@@ -39,7 +39,7 @@ pub(crate) const TAL_END: u8 = 0;
 
 /// The list at the front of some bytes, whose times may be too fine, and whose texts any bytes.
 #[derive(Clone, Copy)]
-struct Front<'a> {
+struct FirstTal<'a> {
     sign: u8,
     onset: &'a [u8],
     /// Nothing where it has none.
@@ -128,7 +128,7 @@ fn is_ended(texts: &[u8]) -> bool
 }
 
 /// The list at the front.
-fn first_tal(bytes: &[u8]) -> Option<Front<'_>>
+fn first_tal(bytes: &[u8]) -> Option<FirstTal<'_>>
     ensures { MatchOption result (NoWrittenTal bytes.now)
         (λ f. (t : WrittenTal) × IsWrittenFront bytes.now f.sign f.onset.now f.duration.now
         f.texts.now f.rest.now t) }
@@ -139,7 +139,7 @@ fn first_tal(bytes: &[u8]) -> Option<Front<'_>>
         return None;
     }
     let (sign, onset, duration) = head_in(head)?;
-    Some(Front {
+    Some(FirstTal {
         sign,
         onset,
         duration,
@@ -150,7 +150,7 @@ fn first_tal(bytes: &[u8]) -> Option<Front<'_>>
 
 /// Whether digits begin with one from 5 on.
 fn is_half(digits: &[u8]) -> bool
-    ensures { IsTrue result ↔ IsHalf digits.now }
+    ensures { IsTrue result ↔ RoundsUp digits.now }
 {
     match digits {
         [] => false,
@@ -276,7 +276,7 @@ fn push_texts(alloc: Global, new: &mut Vec<u8>, texts: &[u8]) -> Result<(), Allo
 }
 
 /// A list as EDF+ spells it.
-fn spelled_tal(alloc: Global, tal: &Front<'_>) -> Result<Vec<u8>, AllocError>
+fn spelled_tal(alloc: Global, tal: &FirstTal<'_>) -> Result<Vec<u8>, AllocError>
     ensures { (bytes : List ℕ) (old : WrittenTal) → IsWrittenFront bytes tal.now.sign
         tal.now.onset.now tal.now.duration.now tal.now.texts.now tal.now.rest.now old →
         IfOk result (λ v. (new : WrittenTal) × IsTalSpelled old new

@@ -18,7 +18,7 @@ ghost use Rattle.edf_mend.specs.Values.{HasLimits, IsPhysicalMade, MendsPhysical
 ghost use Rattle.edf_mend.specs.Values.{IsAnnotationsMade, HasBlockLimits, Falls};
 
 use crate::field::Field;
-use crate::header::{Head, Place};
+use crate::header::{FieldPlace, Head};
 use crate::limit::{differ, limit, loose_in};
 use crate::loose::Loose;
 use crate::steps::Proposals;
@@ -217,7 +217,7 @@ pub(crate) fn digital(made: &mut Proposals, head: &Head) -> Result<(), AllocErro
 /// Proposes a digital limit of an annotations signal, where it is another.
 fn propose_digital(
     made: &mut Proposals,
-    place: Place,
+    place: FieldPlace,
     found: Option<i32>,
     wanted: i32,
     text: &[u8],

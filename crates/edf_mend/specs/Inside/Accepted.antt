@@ -14,7 +14,7 @@ use Rattle.edf_mend.specs.declared.fault.MendFault.{MendFault}
 use Rattle.edf_mend.specs.declared.fault.MendFault.TheVariants.{Refused, Memory}
 
 -- bytes are a header, and its data records can be read
-pub record IsOpened (bytes : List ℕ) (o : OpenFragment) : Type 0 where
+pub record IsHeaderOpen (bytes : List ℕ) (o : OpenFragment) : Type 0 where
   pub header : HeaderRecord
   pub is_header : IsHeader bytes header []
   pub layout_is : o.header ≡ layout_of header
@@ -36,7 +36,7 @@ RefusesHeader bytes Memory = Unit {0}
 RefusesHeader bytes why = ⊥
 
 -- bytes were read as the next data record
-pub record IsAccepted (l : Layout) (from to : Progress) (bytes : List ℕ) (r : DataRecord) : Type 0
+pub record IsNextRead (l : Layout) (from to : Progress) (bytes : List ℕ) (r : DataRecord) : Type 0
   where
     pub gives : GivesRecord l from (Some bytes) (Some []) r
     pub to_is : to ≡ progress_after l from (Ok (Some r))

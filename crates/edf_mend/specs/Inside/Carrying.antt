@@ -26,7 +26,7 @@ use Rattle.edf_mend.specs.Rewritten.{RecordEdits}
 use Rattle.edf_mend.specs.Rules.{order}
 use Rattle.edf_mend.specs.Steps.{Follow}
 use Rattle.edf_mend.specs.Wanted.{Hides, If, IsListed}
-use Rattle.edf_mend.specs.Inside.Accepted.{IsAccepted, RefusesNext, IsOpened, RefusesHeader}
+use Rattle.edf_mend.specs.Inside.Accepted.{IsNextRead, RefusesNext, IsHeaderOpen, RefusesHeader}
 use Rattle.edf_mend.specs.Inside.Asking.{HasNoneBelow, IsKnown}
 use Rattle.edf_mend.specs.Inside.Followed.{IsSpelledRecord, IsFollowed, MayBeToldAnew}
 use Rattle.edf_mend.specs.Inside.Surveyed.{IsShape, IsFitting, Finds}
@@ -94,7 +94,7 @@ pub record Remakes (l : Layout) (shape : Shape) (moves : Bool) (old : List ℕ) 
 pub record PutsOne (l : Layout) (from to : Progress) (a b : Buffered) (new : List ℕ)
     (before after : Told) : Type 0 where
   pub r : DataRecord
-  pub accepted : IsAccepted l from to new r
+  pub accepted : IsNextRead l from to new r
   pub wrote : Writes a b new b.held
   pub told : after ≡ record before {
     ledger = record before.ledger {
@@ -395,7 +395,7 @@ pub record MendsBehind (w : Wanted) (first : HeaderTexts) (survey : Survey)
   pub added : ℕ
   pub texts : LeavesTexts w first survey known t steps added
   pub o : OpenFragment
-  pub opened : IsOpened (header_bytes t) o
+  pub opened : IsHeaderOpen (header_bytes t) o
   pub writes : WritesMended w first t steps added o.header known survey left rest before after
       ledger
 
@@ -427,7 +427,7 @@ pub record RefusesRecords (w : Wanted) (first : HeaderTexts) (survey : Survey) (
   pub added : ℕ
   pub texts : LeavesTexts w first survey known t steps added
   pub o : OpenFragment
-  pub opened : IsOpened (header_bytes t) o
+  pub opened : IsHeaderOpen (header_bytes t) o
   pub refuses : RefusesMended w first t steps added o.header known survey left rest why
 
 abbrev pub RefusesBehind : Wanted → HeaderTexts → Survey → Option (List ℕ) → Option (List ℕ) →

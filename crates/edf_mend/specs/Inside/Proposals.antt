@@ -90,7 +90,7 @@ accepted t added true = add_signal (put_all t added) new_signal
 accepted t added adds = put_all t added
 
 -- a signal keeps the label and the samples that are no fields of a row
-pub record KeepsOthers (fields : List Field) (old new : SignalTexts) : Type 0 where
+pub record KeepsOtherFields (fields : List Field) (old new : SignalTexts) : Type 0 where
   pub label : ¬ Contains fields at.Label → new.label ≡ old.label
   pub samples : ¬ Contains fields at.Samples → new.samples ≡ old.samples
 
@@ -101,7 +101,7 @@ new_of false = []
 -- the gate lets each signal stay in its place, and adds one behind them
 pub record KeepsSignals (fields : List Field) (adds : Bool) (old new : HeaderTexts) : Type 0 where
   pub front : List SignalTexts
-  pub kept : AllZip (KeepsOthers fields) old.signals front
+  pub kept : AllZip (KeepsOtherFields fields) old.signals front
   pub parts : new.signals ≡ front ++ new_of adds
 
 -- of these texts, which are of the row's fields, the gate makes what a rule is to make

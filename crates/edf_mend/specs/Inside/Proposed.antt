@@ -7,7 +7,7 @@ use Rattle.std.specs.List.{AllZip}
 use Rattle.edf_mend.specs.Header.{HeaderTexts, fitted, spaced}
 use Rattle.edf_mend.specs.Letters.{ascii}
 use Rattle.edf_mend.specs.Rules.{TableRow, IsRow}
-use Rattle.edf_mend.specs.Steps.{ascii_label}
+use Rattle.edf_mend.specs.Steps.{ascii_label, ascii_reserved}
 use Rattle.edf_mend.specs.Inside.Head.{text_of, set_text, times_of, HasWidths}
 use Rattle.edf_mend.specs.declared.field.Field.{Field}
 use Rattle.edf_mend.specs.declared.field.Field.TheVariants as at
@@ -49,6 +49,7 @@ by_letters letters text = if letters then ascii text else spaced text
 
 abbrev pub ascii_in : Field → List ℕ → List ℕ
 ascii_in at.Label text = ascii_label text
+ascii_in at.Reserved text = ascii_reserved text
 ascii_in f text = by_letters (has_letters f) text
 
 -- a text that fills its field so

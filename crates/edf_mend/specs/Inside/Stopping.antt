@@ -6,7 +6,7 @@ use Rattle.edf_fragment.specs.declared.open_fragment.OpenFragment.{OpenFragment}
 use Rattle.edf_mend.specs.Edits.{RuleEdits}
 use Rattle.edf_mend.specs.Header.{HeaderTexts, header_bytes}
 use Rattle.edf_mend.specs.Mended.{joined}
-use Rattle.edf_mend.specs.Inside.Accepted.{IsOpened}
+use Rattle.edf_mend.specs.Inside.Accepted.{IsHeaderOpen}
 use Rattle.edf_mend.specs.Inside.Carrying.{AreRemade, GoesBy, LeavesTexts}
 use Rattle.edf_mend.specs.Inside.Surveyed.{IsShape, IsFitting}
 use Rattle.edf_mend.specs.declared.counted.Body.{Body}
@@ -51,7 +51,7 @@ pub record StopsTexts (w : Wanted) (first : HeaderTexts) (survey : Survey)
   pub added : ℕ
   pub texts : LeavesTexts w first survey known t steps added
   pub o : OpenFragment
-  pub opened : IsOpened (header_bytes t) o
+  pub opened : IsHeaderOpen (header_bytes t) o
   pub stops : StopsMended w first t added o.header survey.is_retold left before after
 
 -- or nothing was written

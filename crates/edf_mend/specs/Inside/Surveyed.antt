@@ -7,7 +7,7 @@ use Rattle.edf_fragment.specs.declared.open_fragment.OpenFragment.{OpenFragment}
 use Rattle.edf_mend.specs.Answers.{IsEdf}
 use Rattle.edf_mend.specs.Counted.{record_size}
 use Rattle.edf_mend.specs.Edits.{RuleEdits}
-use Rattle.edf_mend.specs.Header.{HeaderTexts, header_bytes, Names}
+use Rattle.edf_mend.specs.Header.{HeaderTexts, header_bytes, NamesSignals}
 use Rattle.edf_mend.specs.Mark.{IsContinuous}
 use Rattle.edf_mend.specs.Mended.{joined}
 use Rattle.edf_mend.specs.Objections.{HasNone, HasSecond}
@@ -15,7 +15,7 @@ use Rattle.edf_mend.specs.Rewritten.{RecordEdits}
 use Rattle.edf_mend.specs.Rules.{order}
 use Rattle.edf_mend.specs.Steps.{Follow, own_signals}
 use Rattle.edf_mend.specs.Wanted.{IsAsked}
-use Rattle.edf_mend.specs.Inside.Accepted.{IsOpened, NoHeader}
+use Rattle.edf_mend.specs.Inside.Accepted.{IsHeaderOpen, NoHeader}
 use Rattle.edf_mend.specs.Inside.Followed.{IsSpelledRecord, IsFollowed}
 use Rattle.edf_mend.specs.Inside.Grown.{IsGrown}
 use Rattle.edf_mend.specs.Inside.Head.{set_text}
@@ -34,7 +34,7 @@ use Rattle.edf_mend.specs.declared.wanted.Wanted.{Wanted}
 -- a file ends in its header: there are fewer bytes than it names
 abbrev pub EndsInHeader : List ℕ → Type 0
 EndsInHeader file = (length file < 256)
-    ⊎ ((n : ℕ) × Names file n × (length file < 256 + 256 * n))
+    ⊎ ((n : ℕ) × NamesSignals file n × (length file < 256 + 256 * n))
 
 -- data records, the first of which has this number, were spelled so, each by itself
 abbrev pub AreSpelledRecords : Layout → Shape → ℕ → List (List ℕ) → List (List ℕ) → Type 0
@@ -105,7 +105,7 @@ pub record OpensProvisional (w : Wanted) (first : HeaderTexts) (o : OpenFragment
   pub t : HeaderTexts
   pub added : ℕ
   pub is : IsProvisional w first t added
-  pub opened : IsOpened (header_bytes (uncounted t)) o
+  pub opened : IsHeaderOpen (header_bytes (uncounted t)) o
   pub shaped : IsShape w first t added shape
 
 pub record RefusesProvisional (w : Wanted) (first : HeaderTexts) : Type 0 where

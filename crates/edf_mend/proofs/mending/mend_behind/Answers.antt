@@ -1,7 +1,7 @@
 use Rattle.std.proofs.Common.{rules, arith, ◌≢◌, ◌≤◌, length, inl, inr, refl}
 use Rattle.std.proofs.lemmas.Result.{IfOk-weaker, IfErr-weaker}
 use Rattle.edf_mend.specs.Header.{header_bytes}
-use Rattle.edf_mend.specs.Inside.Accepted.{IsOpened, RefusesHeader}
+use Rattle.edf_mend.specs.Inside.Accepted.{IsHeaderOpen, RefusesHeader}
 use Rattle.edf_mend.specs.Inside.Carrying.{WritesMended, RefusesMended, MendsBehind, RefusesBehind}
 use Rattle.edf_mend.specs.Inside.Carrying.{AsksNoneYet}
 use Rattle.edf_mend.specs.Inside.Stopping.{StopsMended, StopsBehind}
@@ -64,7 +64,7 @@ returns-in-Ok g c =
     c.in_ok-objection.ensures.asked draft.head draft.steps.items draft.added
     c.in_default.is
     (λ body m asks lt room. c.in_ok-draft.ensures.followed body m (λ _. asks) lt (λ _. room)) in
-    let opened : IsOpened (header_bytes t) o = search rules in
+    let opened : IsHeaderOpen (header_bytes t) o = search rules in
     record {
       mended = λ tally none. IfOk-weaker c.write_mended.result
           (WritesMended w first t steps added o.header known survey left rest before after)

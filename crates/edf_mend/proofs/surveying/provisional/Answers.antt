@@ -1,7 +1,7 @@
 use Rattle.std.proofs.Common.{◌≡◌, ◌∙◌, Some, None, ap, subst, length, arith, rules}
 use Rattle.std.specs.Prelude.{List, ℕ}
 use Rattle.edf_mend.specs.Header.{HeaderTexts, header_bytes}
-use Rattle.edf_mend.specs.Inside.Accepted.{IsOpened, NoHeader}
+use Rattle.edf_mend.specs.Inside.Accepted.{IsHeaderOpen, NoHeader}
 use Rattle.edf_mend.specs.Inside.Surveyed.{uncounted}
 use Rattle.edf_mend.proofs.FittingProvisional.{opens, fits-so, few-signals, provisional-of}
 use Rattle.edf_mend.proofs.LeftOver.{some-found, none-found}
@@ -21,7 +21,7 @@ returns-in-Some-clause-opened c measures gaps =
     let u = c.uncount.new.head in
     let o = c.in-Some.fragment in
     let is : c.in_ok-found.found ≡ Some o = search rules in
-    let opened : IsOpened (header_bytes u) o = subst (λ (b : List ℕ). IsOpened b o)
+    let opened : IsHeaderOpen (header_bytes u) o = subst (λ (b : List ℕ). IsHeaderOpen b o)
     c.bytes.ensures.bytes (some-found c.in_ok-found.found o _ _ is c.in_ok-found.ensures.opened) in
     let few = few-signals u o c.bytes.ensures.widths opened in
     opens w first d.head u d.added o c.shape_of.result c.in_ok-uncount.ensures
@@ -38,7 +38,7 @@ returns-in-Some-clause-fitting c =
     let u = c.uncount.new.head in
     let o = c.in-Some.fragment in
     let is : c.in_ok-found.found ≡ Some o = search rules in
-    let opened : IsOpened (header_bytes u) o = subst (λ (b : List ℕ). IsOpened b o)
+    let opened : IsHeaderOpen (header_bytes u) o = subst (λ (b : List ℕ). IsHeaderOpen b o)
     c.bytes.ensures.bytes (some-found c.in_ok-found.found o _ _ is c.in_ok-found.ensures.opened) in
     let few = few-signals u o c.bytes.ensures.widths opened in
     fits-so w first d.head u d.added o c.shape_of.result c.in_ok-uncount.ensures

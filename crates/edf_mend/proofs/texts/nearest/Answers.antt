@@ -2,7 +2,7 @@ use Rattle.std.proofs.Common.{rules, ◌≡◌, ◌++◌, ◌∷◌, [], ◌⊎�
 use Rattle.std.proofs.Common.{◌∙◌, subst, arith, append_assoc}
 use Rattle.std.proofs.lemmas.Grind.{common_steps}
 use Rattle.edf_time.specs.Decimal.{IsSeconds, IsDecimalFault, short}
-use Rattle.edf_mend.specs.Texts.{IsHalf}
+use Rattle.edf_mend.specs.Texts.{RoundsUp}
 use Rattle.edf_mend.proofs.Rounding.{none-unread, none-large}
 use Rattle.edf_mend.proofs.texts.nearest.Goals as goal
 use Rattle.edf_mend.proofs.texts.nearest.Goals.{then-is_half, else-is_half}
@@ -37,13 +37,13 @@ returns c =
     let value = subst (λ (x : List ℕ). IsSeconds x nanos)
     (read ∙ append_assoc whole (46 ∷ []) nine) c.in-Ok.ensures.0 in
     let text : new ≡ short c.if-is_half.up = search rules in
-    let new_is : (IsHalf finer × (new ≡ short (nanos + 1)))
-    ⊎ ((IsHalf finer → ⊥) × (new ≡ short nanos)) = elim c.if-is_half.branch [
+    let new_is : (RoundsUp finer × (new ≡ short (nanos + 1)))
+    ⊎ ((RoundsUp finer → ⊥) × (new ≡ short nanos)) = elim c.if-is_half.branch [
       | then-is_half w ↦
-          let half : IsHalf finer = search (rules, c.is_half.ensures.0) in
+          let half : RoundsUp finer = search (rules, c.is_half.ensures.0) in
           inl (half, text ∙ ap short w.up-is)
       | else-is_half w ↦
-          let less : IsHalf finer → ⊥ = search (rules, c.is_half.ensures.1) in
+          let less : RoundsUp finer → ⊥ = search (rules, c.is_half.ensures.1) in
           inr (less, text ∙ ap short w.up-is)
     ] in
     record {
