@@ -1,6 +1,6 @@
-//! What is known of a file before its first byte is written.
+//! What a first walk over a recording tells of its file.
 
-ghost use Rattle.std.specs.Prelude.{◌≡◌, ◌≤◌, ◌<◌, None, Err, false, length, IfOk, OnOk, IfErr};
+ghost use Rattle.std.specs.Prelude.{◌≡◌, ◌≤◌, None, Err, false, IfOk, OnOk, IfErr};
 ghost use Rattle.std.specs.Prelude.{IfSome, MatchResult, ⊤};
 ghost use Rattle.sqlite.specs.State.{HasCleanDisk};
 ghost use Rattle.edf_header.specs.Key.{Key, MayStart};
@@ -10,64 +10,56 @@ ghost use Rattle.edf_store.specs.Fault.{HasCauseOrIsForeign, MayRefuse, IsStoreR
 ghost use Rattle.edf_store.specs.Held.{at, Holds};
 ghost use Rattle.edf_store.specs.Walk.{HasGiven, IsWalking};
 ghost use Rattle.edf_export.specs.Inside.Calls.{LeavesWalk};
-ghost use Rattle.edf_export.specs.Inside.Walks.{IsPlanned, HoldBlocks, IsSoundRecording};
+ghost use Rattle.edf_export.specs.Inside.Walks.{IsPlanned, IsToldSoFar, IsSoundRecording};
 
 use crate::plan::Plan;
-use edf_canonical::samples_of;
-use edf_header::Identity;
+use edf_header::{Identity, MOST_RECORDS};
 use edf_store::{Records, Store, StoreFault};
-use edf_tal::MOST_CANONICAL_BLOCK_SAMPLES;
-use edf_time::Instant;
 use sqlite::Alter;
 
-/// How many samples hold the longest block among the next `count` data records of a walk, with
-/// onsets counted from `file_start`.
-fn samples_of_longest<S: Alter>(
-    walk: &mut Records<'_, S>,
-    count: u32,
-    file_start: Instant,
-) -> Result<u32, StoreFault>
+/// How many steps a walk over a recording has at most: one for each data record, and its end.
+const MOST_STEPS: u32 = MOST_RECORDS + 1;
+
+/// What the data records of a walk tell from its begin on; `None` where there is none.
+fn plan_walk<S: Alter>(walk: &mut Records<'_, S>) -> Result<Option<Plan>, StoreFault>
     requires ready { (walk.old.failed ≡ false) × IsWalking S.Store walk.old }
+    requires cap { walk.old.store.now.cap ≤ MOST_RECORDS }
     ensures leaves { LeavesWalk S.Store walk.old walk.new
         (λ s. OnOk result (s.in_transaction ≡ false)) }
     ensures walked { HasCleanDisk (at S.Store walk.new.store.now) → (h : Holdings) (k : Key) →
         HasGiven S.Store walk.old h k 0 →
-        length (h k) ≡ count →
-        MatchResult result (λ samples. HoldBlocks file_start samples (h k)) IsStoreRefusal }
-    ensures bounds { IfOk result
-        (λ samples. (samples ≤ MOST_CANONICAL_BLOCK_SAMPLES) × (0 < count → 1 ≤ samples)) }
+        MatchResult result (IsToldSoFar (h k)) IsStoreRefusal }
     ensures why { IfErr result HasCauseOrIsForeign }
 {
-    let mut samples = 0u32;
-    for _ in 0..count {
+    let mut plan: Option<Plan> = None;
+    for _ in 0..MOST_STEPS {
         let Some(data_record) = walk.next()? else {
-            return Err(StoreFault::Foreign);
+            return Ok(plan);
         };
-        samples = samples.max(samples_of(&data_record, file_start));
+        plan = Some(Plan::after(plan, &data_record));
     }
-    Ok(samples)
+    Err(StoreFault::Foreign)
 }
 
-/// The same among the `count` data records that an identity holds.
-fn measure<S: Alter>(
+/// The same of the data records that an identity holds.
+fn plan_held<S: Alter>(
     store: &mut Store<S>,
     identity: &Identity,
-    count: u32,
-    file_start: Instant,
-) -> Result<u32, StoreFault>
+    cap: u32,
+) -> Result<Option<Plan>, StoreFault>
+    requires { (cap ≡ store.old.cap) × (cap ≤ MOST_RECORDS) }
     ensures leaves { ReadsOutside S.Store store.old store.new result }
     ensures walked { HasCleanDisk (at S.Store store.new) → (h : Holdings) →
-        Holds S.Store store.old h → length (h identity.now) ≡ count →
+        Holds S.Store store.old h →
         MatchResult result
-        (λ samples. HoldBlocks file_start samples (h identity.now)
+        (λ plan. IsToldSoFar (h identity.now) plan
         × IsSoundRecording store.new.cap identity.now (h identity.now))
         IsStoreRefusal }
-    ensures bounds { IfOk result
-        (λ samples. (samples ≤ MOST_CANONICAL_BLOCK_SAMPLES) × (0 < count → 1 ≤ samples)) }
+    ensures busy { IsBusy S.Store store.old → result ≡ Err (StoreFault.Store None) }
     ensures why { IfErr result (MayRefuse (IsBusy S.Store store.old) ⊤ ⊥) }
 {
     let mut walk = store.records(identity)?;
-    samples_of_longest(&mut walk, count, file_start)
+    plan_walk(&mut walk)
 }
 
 /// What a first walk over the data records of an identity tells of its file; `None` where it holds
@@ -85,19 +77,12 @@ pub(crate) fn plan_file<S: Alter>(
     ensures why { IfErr result
         (MayRefuse (HasCleanDisk (at S.Store store.new) → IsBusy S.Store store.old) ⊤ ⊥) }
 {
-    let Some(summary) = store.summary(identity)? else {
+    let cap = store.cap();
+    let Some(plan) = plan_held(store, identity, cap)? else {
         return Ok(None);
     };
-    let samples = measure(store, identity, summary.records, summary.first.second())?;
-    if summary.records == 0 || summary.records > store.cap() {
+    if plan.records > cap || !identity.may_start(plan.first) {
         return Err(StoreFault::Foreign);
     }
-    if !identity.may_start(summary.first) {
-        return Err(StoreFault::Foreign);
-    }
-    Ok(Some(Plan {
-        records: summary.records,
-        first: summary.first,
-        samples,
-    }))
+    Ok(Some(plan))
 }

@@ -31,6 +31,17 @@ pub record IsSoundRecording (cap : ℕ) (k : Key) (records : List DataRecord) : 
   pub begins : MayBegin k records
   pub few : length records ≤ cap
 
+-- how many records there are, when the first starts, and how long their longest block is
+pub record TellsOf (records : List DataRecord) (plan : Plan) : Type 0 where
+  pub count : plan.records ≡ length records
+  pub first : start_at records 0 ≡ Some plan.first
+  pub samples : HoldBlocks (second_of plan.first) plan.samples records
+
+-- nothing where there is none yet
+abbrev pub IsToldSoFar : List DataRecord → Option Plan → Type 0
+IsToldSoFar records None = records ≡ []
+IsToldSoFar records (Some plan) = TellsOf records plan
+
 -- the plan is that of the records' file
 pub record IsPlanOf (k : Key) (records : List DataRecord) (plan : Plan) : Type 0 where
   pub recording : IsSoundRecording MOST_RECORDS k records
