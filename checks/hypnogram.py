@@ -1,7 +1,8 @@
 """Draws random nights by `edfruns picture`, reads the pictures back, and compares with plain models
 of the rules: the line of the stages of sleep, half pixel by half pixel; the figures in words and in
 the metadata, line by line (`lib.sleep`, `lib.sleep_words`); the lane of each text, its count, rate
-and bars (`lib.events`); the lights; what a tolerance joins.
+and bars (`lib.events`); the lights; what a tolerance joins; whose picture it is and when, with the
+patient code and without it (`lib.titles`).
 
     python3 -m checks.hypnogram [--edfruns PATH] [--seed SEED] [COUNT]      200 nights if left out
     python3 -m checks.hypnogram --model [--seed SEED] [COUNT]
@@ -19,7 +20,7 @@ from pathlib import Path
 from xml.etree import ElementTree
 
 from checks.lib import arguments, checks, events, measure, model, runs as of_runs, scorings, sleep
-from checks.lib import sleep_words
+from checks.lib import sleep_words, titles
 from checks.lib.gapped import SECOND, decimal
 
 LEFT, COLUMNS = 112, 1_728      # where the line begins, and how many half pixels it has
@@ -121,8 +122,8 @@ def scored_night(seed: int, nth: int) -> ScoredNight:
     runs = scorings.random_runs(chance, seconds)
     notes = scorings.random_notes(chance, runs)
     tolerance = chance.choice((0, 0, 0, SECOND // 1_000, SECOND, 30 * SECOND))
-    return ScoredNight(scorings.file_of(chance, runs, seconds, notes), sleep.Night(notes, runs),
-                       tolerance)
+    data = titles.coded(chance, scorings.file_of(chance, runs, seconds, notes))
+    return ScoredNight(data, sleep.Night(notes, runs), tolerance)
 
 
 def instant(at: int) -> str:
@@ -146,13 +147,21 @@ def read_back(data: bytes) -> str:
     return f"<svg><metadata>{of_runs.lines(of_runs.read_runs(data))}{told}</metadata></svg>"
 
 
-def picture_of(given, path: Path, tolerance: int) -> str:
+def picture_of(given, path: Path, tolerance: int, *options) -> str:
     """The program's picture of a file; nothing where the program failed."""
     if given.model:
         return read_back(path.read_bytes())
     words = ("--tolerance", decimal(tolerance)) if tolerance else ()
-    ran = measure.ran(given.edfruns, "picture", *words, path)
+    ran = measure.ran(given.edfruns, "picture", *words, *options, path)
     return "" if ran.status else ran.out.decode()
+
+
+def is_named(given, path: Path, drawn: ScoredNight, picture: str) -> bool:
+    """Whether a picture says whose it is and when, and one without the patient code as well."""
+    if given.model:
+        return True
+    bare = picture_of(given, path, drawn.tolerance, "--without-code")
+    return titles.are_named(drawn.file, picture, bare, instant(0), instant(drawn.night.runs[-1][1]))
 
 
 def main() -> None:
@@ -169,7 +178,8 @@ def main() -> None:
         drawn = scored_night(given.seed, nth)
         path.write_bytes(drawn.file)
         picture = picture_of(given, path, drawn.tolerance)
-        if not picture or not is_good(picture, drawn.night, drawn.tolerance):
+        is_drawn = picture and is_good(picture, drawn.night, drawn.tolerance)
+        if not is_drawn or not is_named(given, path, drawn, picture):
             print(f"{path}: night {nth} of seed {given.seed} is drawn otherwise")
             checks.end(nth + 1, 1)
     path.unlink()

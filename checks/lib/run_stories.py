@@ -6,7 +6,7 @@ The files are of Q's recording, which begins on 2002-03-02 at 23:59:50, with dat
 second, unless it is said otherwise. A data record is its number, the first sample, and its
 annotations block.
 """
-from . import faults, joined, model, named, printed, runs, stories
+from . import arguments, faults, joined, model, named, printed, runs, stories
 from .by_hand import MARCH_3
 from .edf import Header, Signal, annotations_signal, fragment, keeping, tal
 
@@ -159,7 +159,15 @@ def files() -> dict:
                                tal("+13", "Late", duration="0.5"))),
         "joined_nanosecond.edf": run(3, start, (2, keeping("+1"))),
         "joined_strays.edf": of_joined_strays(),
+        "first_run.svg": drawn("Patient P7"),
+        "first_run_without_code.svg": drawn("Patient code left out"),
     }
+
+
+def drawn(patient: str) -> bytes:
+    """The picture of first_run.edf, as it was looked at, with such words for the patient."""
+    picture = (arguments.TOP / "checks/data/first_run.svg").read_text()
+    return picture.replace("Patient P7", patient).encode()
 
 
 # Lines
@@ -375,11 +383,18 @@ def joined_files(script: RunScript) -> None:
                   error=printed.crowded(1, "file"), status=1)
 
 
+def pictured(script: RunScript) -> None:
+    script.title("a picture names the patient, or says that the code is left out")
+    script.writes("picture first_run.edf", name="first_run.svg")
+    script.writes("picture --without-code first_run.edf", name="first_run_without_code.svg")
+
+
 def refused(script: RunScript) -> None:
     script.title("a file with a fault is refused, and nothing is written or made of it")
     for words in ("list cut_night.edf", "split cut_night.edf cut", "canonical cut_night.edf",
                   "canonical --by-onset cut_night.edf", "split --by-onset cut_night.edf cut",
-                  "split --tolerance 1 cut_night.edf cut", "picture cut_night.edf"):
+                  "split --tolerance 1 cut_night.edf cut", "picture cut_night.edf",
+                  "picture --without-code cut_night.edf"):
         script.refused(words, "cut_night.edf", CUT)
     for words in ("write overlap.edf 1", "split --tolerance 1 overlap.edf cut",
                   "canonical --by-onset overlap.edf"):
@@ -419,5 +434,5 @@ def misspelled(script: RunScript) -> None:
 def play(script: stories.Script) -> None:
     """All stories of `edfruns`."""
     made = RunScript(script)
-    for one in (listed, in_one_line, written, split, joined_files, refused, misspelled):
+    for one in (listed, in_one_line, written, split, joined_files, pictured, refused, misspelled):
         one(made)

@@ -159,12 +159,13 @@ fn viewed(
     joined: Option<Joined>,
 ) -> Option<String> {
     let title = Title {
-        patient: b"P7",
+        patient: Some(b"P7"),
         investigation: b"N1",
     };
     let recorded = Recorded {
         duration: SECOND,
         stretches,
+        times: &[],
         signals,
         joined,
     };

@@ -75,18 +75,29 @@ pub(crate) fn drawn(
     stretches: &[Stretch],
 ) -> Result<String, AllocError> {
     let title = Title {
-        patient,
+        patient: Some(patient),
         investigation: b"N1",
     };
+    drawn_as(alloc, notes, &title, stretches)
+}
+
+/// That under a title.
+fn drawn_as(
+    alloc: Global,
+    notes: &[Note],
+    title: &Title<'_>,
+    stretches: &[Stretch],
+) -> Result<String, AllocError> {
+    let times = times_of(alloc, stretches)?;
     let recorded = Recorded {
         duration: SECOND,
         stretches,
+        times: &times,
         signals: &[],
         joined: None,
     };
-    let times = times_of(alloc, stretches)?;
     let account = account_of(alloc, notes, &times)?;
-    draw(alloc, &title, &recorded, &account, b"1 & <2>\n")
+    draw(alloc, title, &recorded, &account, b"1 & <2>\n")
 }
 
 /// Whether there is a picture, and it has all parts.
@@ -172,6 +183,65 @@ const TEN_MINUTES: &[&str] = &[
     "x='112' y='16' width='864' height='12'><title>600 records,",
     ">22:03</text>",
 ];
+
+/// More than a line shows.
+const LONG: &[u8] = b"0123456789012345678901234567890123456789012345678901234567890123";
+
+/// The codes, and what a picture has of them, up to the line of times.
+const TITLES: &[(Option<&[u8]>, &[u8], &str)] = &[
+    (
+        Some(b"S-0118"),
+        b"OX-7",
+        "><text class='b' x='112' y='28'>Patient S-0118, investigation OX-7</text>\
+            <text class='f' x='112' y='48'>1985-01-01 22:03:00 to 1985-01-01 22:13:00</text>",
+    ),
+    (
+        Some(b"S-0118"),
+        LONG,
+        "><text class='b' x='112' y='28'>Patient S-0118</text>\
+            <text class='b' x='112' y='48'>Investigation \
+            012345678901234567890123456789012345678901234567890123456789...</text>\
+            <text class='f' x='112' y='68'>1985",
+    ),
+    (
+        None,
+        b"OX-7",
+        "><text class='b' x='112' y='28'>Patient code left out, investigation OX-7</text>\
+            <text class='f' x='112' y='48'>1985",
+    ),
+    (
+        None,
+        b"OX-7",
+        "<title id='edf-title'>Patient code left out, investigation OX-7</title>",
+    ),
+    (
+        None,
+        LONG,
+        "><text class='b' x='112' y='28'>Patient code left out</text>\
+            <text class='b' x='112' y='48'>Investigation 0123",
+    ),
+];
+
+/// Ten minutes under a title.
+fn titled(alloc: Global, patient: Option<&[u8]>, investigation: &[u8]) -> Option<String> {
+    let title = Title {
+        patient,
+        investigation,
+    };
+    let recorded = stretch(22 * HOUR + 3 * MINUTE, 600)?;
+    drawn_as(alloc, &[], &title, &[recorded]).ok()
+}
+
+#[test]
+fn a_title_has_the_codes_or_says_that_one_is_left_out(rt: HostRuntime) {
+    let alloc = rt.alloc();
+    for (patient, investigation, part) in TITLES.iter().copied() {
+        assert!(rt;
+            has_all(titled(alloc, patient, investigation), &[part]),
+            "{part}"
+        );
+    }
+}
 
 #[test]
 fn runs_and_gaps_are_drawn_and_named(rt: HostRuntime) {

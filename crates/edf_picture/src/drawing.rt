@@ -1,5 +1,6 @@
 ghost use Rattle.std.specs.Prelude.{◌≡◌, ℕ, List, IfOk, map, string_bytes};
-ghost use Rattle.edf_picture.specs.Picture.{IsPicture, drawn_words};
+ghost use Rattle.edf_picture.specs.Inside.{IsHeading};
+ghost use Rattle.edf_picture.specs.Picture.{IsPicture, drawn_words, named_by};
 ghost use Rattle.edf_sleep.specs.Account.{IsAccount, night_of};
 
 use crate::bars::{write_data_row, write_folded_row, write_row_start};
@@ -26,6 +27,8 @@ pub struct Recorded<'a> {
     pub duration: u64,
     /// The stretches in the order of their starts, as they are to be drawn.
     pub stretches: &'a [Stretch],
+    /// The times of all runs.
+    pub times: &'a [edf_sleep::Extent],
     /// The ordinary signals, in the order of the header.
     pub signals: &'a [Signal<'a>],
     /// The gaps between them that are drawn as if nothing were missing, if that was asked for.
@@ -35,7 +38,6 @@ pub struct Recorded<'a> {
 /// What is drawn of a recording's annotations.
 #[derive(Drop)]
 struct Drawing<'a> {
-    notes: &'a [Note],
     recording: Recording<'a>,
     /// When annotations are that are no stages of sleep.
     onsets: Onsets,
@@ -78,31 +80,58 @@ pub fn draw(
 ) -> Result<String, AllocError>
     requires { IsAccount account.now }
     ensures { IfOk result (λ picture. (onset : List ℕ)
-        × IsPicture (drawn_words onset (night_of account.now).notes (night_of account.now).runs)
+        × IsPicture (named_by title.now) recorded.now.times.now
+        (drawn_words onset (night_of account.now).notes (night_of account.now).runs)
         lines.now (string_bytes picture)) }
 {
     let onset = onset_text(alloc, account)?;
     let words = list_words(alloc, account, onset.as_str())?;
-    let mut svg = String::new(alloc);
-    let top = write_drawn(&mut svg, alloc, title, recorded, account, words.len())?;
-    with_metadata(alloc, svg.as_str(), words.as_slice(), top, lines)
+    let heading = heading_of(alloc, title, recorded, account.notes())?;
+    let sheet = sheet_of(alloc, recorded, account, &heading, words.len())?;
+    let head = heading.head(alloc, sheet.height)?;
+    let drawn = sheet.svg.as_str();
+    with_metadata(
+        alloc,
+        head.as_str(),
+        drawn,
+        words.as_slice(),
+        sheet.words_top,
+        lines,
+    )
 }
 
-/// Writes the picture without the lines of figures and the metadata, and answers at which height
-/// the former begin.
-fn write_drawn(
-    svg: &mut String,
+/// The texts above what is drawn.
+fn heading_of(
     alloc: Global,
     title: &Title<'_>,
     recorded: &Recorded<'_>,
+    notes: &[Note],
+) -> Result<Heading, AllocError>
+    ensures { IfOk result (λ h. IsHeading (named_by title.now) recorded.now.times.now h) }
+{
+    let recording = Recording::new(recorded.stretches, recorded.duration);
+    let counts = Counts::of(notes, &recording);
+    Heading::new(
+        alloc,
+        title,
+        recorded.times,
+        &recording,
+        recorded.joined,
+        counts,
+    )
+}
+
+/// What is drawn below the line of times, without so many lines of figures.
+fn sheet_of(
+    alloc: Global,
+    recorded: &Recorded<'_>,
     account: &Account<'_>,
+    heading: &Heading,
     lines: usize,
-) -> Result<u64, AllocError>
+) -> Result<Sheet, AllocError>
     requires { IsAccount account.now }
 {
     let drawing = Drawing::of(alloc, recorded, account.notes())?;
-    let counts = drawing.counts();
-    let heading = Heading::new(alloc, title, &drawing.recording, recorded.joined, counts)?;
     let mut drawn = Drawn::new(alloc);
     let lines = u64::try_from(lines).unwrap_or(0);
     let words_top = drawing.draw_overview(alloc, account, lines, &mut drawn)?;
@@ -114,8 +143,7 @@ fn write_drawn(
             duration: recorded.duration,
         },
     )?;
-    let top = drawn.write_below(svg, alloc, &heading)?;
-    Ok(top.saturating_add(words_top))
+    drawn.below(alloc, heading, words_top)
 }
 
 /// When annotations are that are no stages of sleep.
@@ -133,30 +161,13 @@ impl<'a> Drawing<'a> {
     fn of(
         alloc: Global,
         recorded: &Recorded<'a>,
-        notes: &'a [Note],
+        notes: &[Note],
     ) -> Result<Drawing<'a>, AllocError> {
         Ok(Drawing {
-            notes,
             recording: Recording::new(recorded.stretches, recorded.duration),
             onsets: list_onsets(alloc, notes)?,
             lights: list_lights(alloc, notes)?,
         })
-    }
-
-    fn counts(&self) -> Counts {
-        let (mut all, mut stages, mut outside) = (0u64, 0u64, 0u64);
-        for note in self.notes {
-            let is_stage = stage_of_text(note.text.as_str()).is_some();
-            let is_inside = self.recording.annotated().has(note.onset);
-            all = all.saturating_add(1);
-            stages = stages.saturating_add(u64::from(is_stage));
-            outside = outside.saturating_add(u64::from(!is_inside));
-        }
-        Counts {
-            all,
-            stages,
-            outside,
-        }
     }
 
     /// Draws what goes over the whole recording, if there is something, and answers where its lines
@@ -239,6 +250,16 @@ impl<'a> Drawing<'a> {
 /// The height of the scale above the rows, in pixels.
 const SCALE: u64 = 24;
 
+/// What is drawn below the line of times, without the lines of figures.
+#[derive(Drop)]
+struct Sheet {
+    svg: String,
+    /// The height of the picture, in pixels.
+    height: u64,
+    /// Where the lines of figures begin.
+    words_top: u64,
+}
+
 /// What is drawn so far below the heading.
 #[derive(Drop)]
 struct Drawn {
@@ -258,20 +279,20 @@ impl Drawn {
         }
     }
 
-    /// Writes the heading, the legend, and what is drawn below them, and answers where that begins.
-    fn write_below(
-        &self,
-        svg: &mut String,
-        alloc: Global,
-        heading: &Heading,
-    ) -> Result<u64, AllocError> {
+    /// The rest of the heading, the legend, and what is drawn below them, in which the lines of
+    /// figures begin so many pixels down.
+    fn below(&self, alloc: Global, heading: &Heading, words_top: u64) -> Result<Sheet, AllocError> {
         let legend = Legend::of(alloc, self.shown)?;
         let top = heading.height().saturating_add(legend.height());
-        heading.write_start(svg, top.saturating_add(self.foot).saturating_add(16))?;
-        heading.write(svg)?;
-        legend.write(svg, heading.height())?;
-        self.write(svg, top)?;
-        Ok(top)
+        let mut svg = String::new(alloc);
+        heading.write(&mut svg)?;
+        legend.write(&mut svg, heading.height())?;
+        self.write(&mut svg, top)?;
+        Ok(Sheet {
+            svg,
+            height: top.saturating_add(self.foot).saturating_add(16),
+            words_top: top.saturating_add(words_top),
+        })
     }
 
     /// Writes it below so many pixels.

@@ -1,16 +1,24 @@
+ghost use Rattle.std.specs.Prelude.{◌≡◌, ◌++◌, ℕ, List, IfOk, OnOk, string_bytes};
+ghost use Rattle.edf_picture.specs.Inside.{IsHeading};
+ghost use Rattle.edf_picture.specs.Picture.{IsTimeLine, ground_text, head_of, is_short, named_by};
+ghost use Rattle.edf_picture.specs.Picture.{names_text, opening_tag, patient_words, text_with};
+ghost use Rattle.edf_picture.specs.Picture.{time_text, time_top, title_line, title_texts};
+
 use crate::missing::Missing;
 use crate::numbers::{counted, thousands};
 use crate::pixels::LEFT;
 use crate::recording::Recording;
-use crate::times::{seconds_text, times_text};
+use crate::texts::text_with;
+use crate::times::{instant_label, seconds_text};
 use edf_markup::escaped;
+use edf_sleep::{Extent, Note, stage_of_text};
 use std::alloc::{AllocError, Global};
 
 /// What the title names.
 #[derive(Clone, Copy)]
 pub struct Title<'a> {
-    /// The patient code, in printable ASCII.
-    pub patient: &'a [u8],
+    /// The patient code, in printable ASCII, where it is not left out.
+    pub patient: Option<&'a [u8]>,
     /// The investigation code, in printable ASCII.
     pub investigation: &'a [u8],
 }
@@ -18,11 +26,11 @@ pub struct Title<'a> {
 /// How many annotations there are.
 #[derive(Clone, Copy)]
 pub(crate) struct Counts {
-    pub(crate) all: u64,
+    all: u64,
     /// Those that are stages of sleep.
-    pub(crate) stages: u64,
+    stages: u64,
     /// Those that begin outside the recording's time.
-    pub(crate) outside: u64,
+    outside: u64,
 }
 
 /// The gaps that are joined for the view.
@@ -41,10 +49,14 @@ pub struct Joined {
 /// The texts above the picture.
 #[derive(Drop)]
 pub(crate) struct Heading {
-    /// One line, or two where the codes are long.
-    titles: Vec<String>,
-    /// All of the codes.
+    /// The title, which programs read out.
     name: String,
+    /// What they read out after the line of times.
+    more: String,
+    /// The title as it is drawn, in one line or two.
+    titles: String,
+    /// Where the line below it stands, in pixels.
+    time_top: u64,
     /// The first and the last instant.
     time: String,
     summary: String,
@@ -80,120 +92,187 @@ patternTransform='rotate(45)'><rect width='6' height='6' fill='#fff'/>\
 <rect width='2.5' height='6' fill='#D55E00'/></pattern></defs>";
 
 impl Heading {
+    /// That of the recording of this title, whose runs have these times.
     pub(crate) fn new(
         alloc: Global,
         title: &Title<'_>,
+        times: &[Extent],
         recording: &Recording<'_>,
         joined: Option<Joined>,
         counts: Counts,
-    ) -> Result<Heading, AllocError> {
+    ) -> Result<Heading, AllocError>
+        ensures { IfOk result (λ h. IsHeading (named_by title.now) times.now h) }
+    {
+        let summary = recording.summary(alloc)?;
+        let annotations = counts.line(alloc)?;
         Ok(Heading {
-            titles: title.lines(alloc)?,
             name: title.line(alloc, ALL)?,
-            time: time_line(alloc, recording)?,
-            summary: recording.summary(alloc)?,
-            joined: match joined {
-                Some(joined) => Some(joined.line(alloc)?),
-                None => None,
-            },
-            annotations: counts.line(alloc)?,
+            more: more_text(alloc, summary.as_str(), annotations.as_str())?,
+            titles: title.drawn(alloc)?,
+            time_top: title.height(),
+            time: time_line(alloc, times)?,
+            summary,
+            joined: joined_line(alloc, joined)?,
+            annotations,
         })
     }
 
     /// Its height without the legend, in pixels.
     pub(crate) fn height(&self) -> u64 {
-        let titles = u64::from(self.titles.len() > 1);
-        let lines = titles.saturating_add(u64::from(self.joined.is_some()));
-        lines.saturating_mul(20).saturating_add(100)
+        let joined = u64::from(self.joined.is_some()).saturating_mul(20);
+        self.time_top.saturating_add(joined).saturating_add(52)
     }
 
-    /// Writes what stands before anything that is drawn, from the attributes of the SVG on.
-    pub(crate) fn write_start(&self, svg: &mut String, height: u64) -> Result<(), AllocError> {
-        svg.push_str("xmlns='http://www.w3.org/2000/svg' role='img' ")?;
-        svg.push_str("aria-labelledby='edf-title edf-desc' ")?;
-        write!(
-            svg,
-            "width='1000' height='{height}' viewBox='0 0 1000 {height}'>"
+    /// The start of an SVG of this height, up to the line of times.
+    pub(crate) fn head(&self, alloc: Global, height: u64) -> Result<String, AllocError>
+        ensures { IfOk result (λ t. string_bytes t ≡ head_of height (string_bytes self.now.name)
+            (string_bytes self.now.more) (string_bytes self.now.titles) self.now.time_top
+            (string_bytes self.now.time)) }
+    {
+        let mut svg = opening_tag(alloc, height)?;
+        write_names(
+            &mut svg,
+            self.name.as_str(),
+            self.time.as_str(),
+            self.more.as_str(),
         )?;
-        self.write_names(svg)?;
         svg.push_str(STYLE)?;
-        write!(svg, "<rect class='w' width='1000' height='{height}'/>")
+        write_ground(&mut svg, height)?;
+        svg.push_str(self.titles.as_str())?;
+        write_time(&mut svg, self.time_top, self.time.as_str())?;
+        Ok(svg)
     }
 
-    /// Writes the title and the description, which programs read out.
-    fn write_names(&self, svg: &mut String) -> Result<(), AllocError> {
-        let (name, time) = (self.name.as_str(), self.time.as_str());
-        let (summary, annotations) = (self.summary.as_str(), self.annotations.as_str());
-        write!(svg, "<title id='edf-title'>{name}</title>")?;
-        write!(
-            svg,
-            "<desc id='edf-desc'>{time}. {summary}. {annotations}.</desc>"
-        )
-    }
-
-    /// Writes the lines of the heading.
+    /// Writes its lines below that of times.
     pub(crate) fn write(&self, svg: &mut String) -> Result<(), AllocError> {
-        let mut y = 28u64;
-        for title in &self.titles {
-            write_line(svg, "b", y, title)?;
-            y = y.saturating_add(20);
-        }
-        write_line(svg, "f", y, &self.time)?;
-        y = y.saturating_add(20);
-        write_line(svg, "f", y, &self.summary)?;
+        let mut y = self.time_top.saturating_add(20);
+        write_line(svg, y, &self.summary)?;
         y = y.saturating_add(20);
         if let Some(joined) = &self.joined {
-            write_line(svg, "f", y, joined)?;
+            write_line(svg, y, joined)?;
             y = y.saturating_add(20);
         }
-        write_line(svg, "f", y, &self.annotations)
+        write_line(svg, y, &self.annotations)
     }
 }
 
-fn write_line(svg: &mut String, class: &str, y: u64, text: &String) -> Result<(), AllocError> {
-    let text = text.as_str();
-    write!(
-        svg,
-        "<text class='{class}' x='{LEFT}' y='{y}'>{text}</text>"
+/// The tag that begins an SVG of this height.
+fn opening_tag(alloc: Global, height: u64) -> Result<String, AllocError>
+    ensures { IfOk result (λ t. string_bytes t ≡ opening_tag height) }
+{
+    format!(in alloc;
+        "<svg xmlns='http://www.w3.org/2000/svg' role='img' \
+aria-labelledby='edf-title edf-desc' width='1000' height='{height}' viewBox='0 0 1000 {height}'>"
     )
 }
 
+/// Writes the title and the description, which programs read out.
+fn write_names(svg: &mut String, name: &str, time: &str, more: &str) -> Result<(), AllocError>
+    ensures { OnOk result
+        (string_bytes svg.new ≡ string_bytes svg.old ++ names_text name.now time.now more.now) }
+{
+    write!(
+        svg,
+        "<title id='edf-title'>{name}</title><desc id='edf-desc'>{time}. {more}.</desc>"
+    )
+}
+
+fn write_ground(svg: &mut String, height: u64) -> Result<(), AllocError>
+    ensures { OnOk result (string_bytes svg.new ≡ string_bytes svg.old ++ ground_text height) }
+{
+    write!(svg, "<rect class='w' width='1000' height='{height}'/>")
+}
+
+fn write_time(svg: &mut String, top: u64, time: &str) -> Result<(), AllocError>
+    ensures { OnOk result (string_bytes svg.new ≡ string_bytes svg.old ++ time_text top time.now) }
+{
+    write!(svg, "<text class='f' x='112' y='{top}'>{time}</text>")
+}
+
+fn write_line(svg: &mut String, y: u64, text: &String) -> Result<(), AllocError> {
+    let text = text.as_str();
+    write!(svg, "<text class='f' x='{LEFT}' y='{y}'>{text}</text>")
+}
+
 impl Title<'_> {
+    /// The patient code, or that it is left out.
+    fn patient(&self) -> &[u8]
+        ensures { result.now ≡ patient_words (named_by self.now).patient }
+    {
+        match self.patient {
+            Some(code) => code,
+            None => b"code left out".as_slice(),
+        }
+    }
+
     /// Both codes, each cut after the characters that a line shows.
-    fn line(&self, alloc: Global, limit: usize) -> Result<String, AllocError> {
-        let patient = escaped(alloc, self.patient, limit)?;
+    fn line(&self, alloc: Global, limit: usize) -> Result<String, AllocError>
+        ensures { IfOk result (λ t. string_bytes t ≡ title_line limit (named_by self.now)) }
+    {
+        let patient = escaped(alloc, self.patient(), limit)?;
         let investigation = escaped(alloc, self.investigation, limit)?;
         format!(in alloc; "Patient {patient}, investigation {investigation}")
     }
 
-    fn lines(&self, alloc: Global) -> Result<Vec<String>, AllocError> {
-        let mut lines = Vec::new(alloc);
-        self.push_lines(&mut lines, alloc)?;
-        Ok(lines)
+    /// Whether it is drawn in one line.
+    fn is_short(&self) -> bool
+        ensures { result ≡ is_short (named_by self.now) }
+    {
+        self.patient().len() + self.investigation.len() <= ONE_LINE
     }
 
-    fn push_lines(&self, lines: &mut Vec<String>, alloc: Global) -> Result<(), AllocError> {
-        let length = self.patient.len().saturating_add(self.investigation.len());
-        if length <= ONE_LINE {
-            lines.push(self.line(alloc, SHOWN)?)?;
-            return Ok(());
+    /// Where the line below it stands, in pixels.
+    fn height(&self) -> u64
+        ensures { result ≡ time_top (named_by self.now) }
+    {
+        if self.is_short() { 48 } else { 68 }
+    }
+
+    /// The title as it is drawn.
+    fn drawn(&self, alloc: Global) -> Result<String, AllocError>
+        ensures { IfOk result (λ t. string_bytes t ≡ title_texts (named_by self.now)) }
+    {
+        if self.is_short() {
+            let line = self.line(alloc, SHOWN)?;
+            return format!(in alloc; "<text class='b' x='112' y='28'>{line}</text>");
         }
-        lines.push(code_line(alloc, "Patient", self.patient)?)?;
-        lines.push(code_line(alloc, "Investigation", self.investigation)?)?;
-        Ok(())
+        let patient = escaped(alloc, self.patient(), SHOWN)?;
+        let investigation = escaped(alloc, self.investigation, SHOWN)?;
+        format!(in alloc;
+            "<text class='b' x='112' y='28'>Patient {patient}</text>\
+<text class='b' x='112' y='48'>Investigation {investigation}</text>"
+        )
     }
 }
 
-fn code_line(alloc: Global, name: &str, code: &[u8]) -> Result<String, AllocError> {
-    let code = escaped(alloc, code, SHOWN)?;
-    format!(in alloc; "{name} {code}")
+/// What programs read out after the line of times.
+fn more_text(alloc: Global, summary: &str, annotations: &str) -> Result<String, AllocError>
+    ensures { IfOk result (λ t. (text : List ℕ) × (string_bytes t ≡ text_with 39 39 text)) }
+{
+    let text = format!(in alloc; "{summary}. {annotations}")?;
+    text_with(alloc, text.as_bytes(), b'\'', b'\'')
 }
 
-fn time_line(alloc: Global, recording: &Recording<'_>) -> Result<String, AllocError> {
-    if recording.stretches.is_empty() {
-        return String::from_str(alloc, "no time");
+/// The start of the first run and the end of the last.
+fn time_line(alloc: Global, times: &[Extent]) -> Result<String, AllocError>
+    ensures { IfOk result (λ t. IsTimeLine times.now (string_bytes t)) }
+{
+    match times {
+        [] => String::from_str(alloc, "no time"),
+        [first, ..] => {
+            let from = instant_label(alloc, first.from)?;
+            let to = instant_label(alloc, times[times.len() - 1].to)?;
+            format!(in alloc; "{from} to {to}")
+        }
     }
-    times_text(alloc, recording.all)
+}
+
+/// What was joined for the view, if that was asked for.
+fn joined_line(alloc: Global, joined: Option<Joined>) -> Result<Option<String>, AllocError> {
+    match joined {
+        Some(joined) => Ok(Some(joined.line(alloc)?)),
+        None => Ok(None),
+    }
 }
 
 impl Joined {
@@ -214,6 +293,23 @@ impl Joined {
 }
 
 impl Counts {
+    /// Those of annotations of a recording.
+    pub(crate) fn of(notes: &[Note], recording: &Recording<'_>) -> Counts {
+        let (mut all, mut stages, mut outside) = (0u64, 0u64, 0u64);
+        for note in notes {
+            let is_stage = stage_of_text(note.text.as_str()).is_some();
+            let is_inside = recording.annotated().has(note.onset);
+            all = all.saturating_add(1);
+            stages = stages.saturating_add(u64::from(is_stage));
+            outside = outside.saturating_add(u64::from(!is_inside));
+        }
+        Counts {
+            all,
+            stages,
+            outside,
+        }
+    }
+
     /// `2,963 annotations, 960 of them sleep stages; 3 outside the recording's time, not drawn`.
     fn line(self, alloc: Global) -> Result<String, AllocError> {
         let mut line = counted(alloc, self.all, "annotation")?;

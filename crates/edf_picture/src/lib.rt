@@ -22,8 +22,8 @@
 //! a bar for each event, in the colour of a gap where its onset was not recorded. `Lights off` and
 //! `Lights on` are lines.
 //!
-//! Every call returns, and a picture is whole and has the lines of figures and the lines that it
-//! was given as its metadata; what else it shows is tested.
+//! Every call returns. A picture is whole, and has the title, the first and the last instant, the
+//! lines of figures and the lines that it was given as its metadata; what else it shows is tested.
 #![tactic(auto)]
 
 mod bars;
@@ -48,6 +48,7 @@ mod recording;
 mod rows;
 mod scale;
 mod signals;
+mod texts;
 mod ticks;
 mod times;
 

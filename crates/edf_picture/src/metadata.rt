@@ -1,34 +1,13 @@
 //! The lines that a picture has as text, for programs and for searches.
 
-ghost use Rattle.std.specs.Prelude.{◌≡◌, ◌++◌, ◌<◌, ◌^◌, IfOk, OnOk, map, string_bytes};
-ghost use Rattle.edf_picture.specs.Picture.{IsPicture, line_piece, lines_text, words_from};
+ghost use Rattle.std.specs.Prelude.{◌≡◌, ◌<◌, ◌^◌, IfOk, map, string_bytes};
+ghost use Rattle.edf_picture.specs.Picture.{IsWhole, words_from};
 
-use edf_markup::push_piece;
+use crate::texts::text_with;
 use std::alloc::{AllocError, Global};
 
 /// No picture is higher, in pixels.
 const MOST_TOP: u64 = 1_000_000_000;
-
-/// Appends what stands for a byte of the lines.
-fn push_line_piece(out: &mut String, byte: u8) -> Result<(), AllocError>
-    ensures { OnOk result (string_bytes out.new ≡ string_bytes out.old ++ line_piece byte) }
-{
-    match byte {
-        b'\n' => out.push('\n'),
-        _ => push_piece(out, byte),
-    }
-}
-
-/// Lines of text as XML has them in an element.
-fn lines_text(alloc: Global, lines: &[u8]) -> Result<String, AllocError>
-    ensures { IfOk result (λ text. string_bytes text ≡ lines_text lines.now) }
-{
-    let mut out = String::new(alloc);
-    for byte in lines {
-        push_line_piece(&mut out, *byte)?;
-    }
-    Ok(out)
-}
 
 /// Lines for a person, one below the other from this height on.
 fn words_text(alloc: Global, words: &[String], top: u64) -> Result<String, AllocError>
@@ -46,19 +25,20 @@ fn words_text(alloc: Global, words: &[String], top: u64) -> Result<String, Alloc
     Ok(out)
 }
 
-/// The whole SVG: its start, what was drawn after that, lines for a person from this height on, and
+/// The whole SVG: its head, what was drawn after that, lines for a person from this height on, and
 /// lines for programs as its metadata.
 pub(crate) fn with_metadata(
     alloc: Global,
+    head: &str,
     drawn: &str,
     words: &[String],
     top: u64,
     lines: &[u8],
 ) -> Result<String, AllocError>
     ensures { IfOk result (λ picture.
-        IsPicture (map string_bytes words.now) lines.now (string_bytes picture)) }
+        IsWhole head.now (map string_bytes words.now) lines.now (string_bytes picture)) }
 {
     let words = words_text(alloc, words, top.min(MOST_TOP))?;
-    let text = lines_text(alloc, lines)?;
-    format!(in alloc; "<svg {drawn}{words}<metadata>{text}</metadata>\n</svg>\n")
+    let text = text_with(alloc, lines, b'\n', b'\n')?;
+    format!(in alloc; "{head}{drawn}{words}<metadata>{text}</metadata>\n</svg>\n")
 }

@@ -1,5 +1,9 @@
+ghost use Rattle.std.specs.Prelude.{IfOk, string_bytes};
+ghost use Rattle.edf_picture.specs.Picture.{IsInstantLabel};
+
 use crate::extent::Extent;
 use crate::numbers::thousands;
+use crate::texts::text_with;
 use edf_time::{Instant, instant_text, write_seconds};
 use std::alloc::{AllocError, Global};
 
@@ -12,6 +16,9 @@ pub(crate) const MINUTE: u64 = 60_000_000_000;
 pub(crate) const HOUR: u64 = 3_600_000_000_000;
 
 pub(crate) const DAY: u64 = 86_400_000_000_000;
+
+/// An instant that no year of the window has.
+const LATE: &str = "after 2184";
 
 /// A length of time in its two largest units, cut: `8 h 00 min`.
 pub(crate) fn span_text(alloc: Global, nanos: u64) -> Result<String, AllocError> {
@@ -60,8 +67,13 @@ fn days_text(alloc: Global, days: u64, hours: u64) -> Result<String, AllocError>
 }
 
 /// An instant as a person reads it: `2002-03-02 22:00:00`, and its fraction where it has one.
-pub(crate) fn instant_label(alloc: Global, nanos: u64) -> Result<String, AllocError> {
-    instant_part(alloc, nanos, 0, 30)
+pub(crate) fn instant_label(alloc: Global, nanos: u64) -> Result<String, AllocError>
+    ensures { IfOk result (λ label. IsInstantLabel nanos (string_bytes label)) }
+{
+    match Instant::at(nanos) {
+        Some(instant) => text_with(alloc, &instant_text(alloc, instant)?, b'T', b' '),
+        None => String::from_str(alloc, LATE),
+    }
 }
 
 /// Two instants: `2002-03-02 22:00:00 to 2002-03-03 06:00:00`.
@@ -90,7 +102,7 @@ fn instant_part(
 ) -> Result<String, AllocError> {
     match Instant::at(nanos) {
         Some(instant) => ascii_text(alloc, &instant_text(alloc, instant)?, skipped, count),
-        None => String::from_str(alloc, "after 2184"),
+        None => String::from_str(alloc, LATE),
     }
 }
 

@@ -28,7 +28,7 @@ use Rattle.edfruns_command.specs.Writing.{ReadsAgain}
 use Rattle.edfruns_command.specs.Rereading.{IsOfReading, IsNoEnd}
 use Rattle.edfruns_command.specs.Splitting.{WereFirst}
 use Rattle.edfruns_command.proofs.Finished.{first-all}
-use Rattle.edfruns_command.specs.InsideMaking.{Ends, StopsAtEnd, MakesEach, MakesFirst, HasMade}
+use Rattle.edfruns_command.specs.InsideMaking.{IsAtEnd, StopsAtEnd, MakesEach, MakesFirst, HasMade}
 use Rattle.edfruns_command.specs.InsideMaking.{HalfRereads, HalfMakesEach, StopsEach, StopsMaking}
 use Rattle.edfruns_command.specs.InsideMaking.{RereadsAll, RereadsWith, AreLinesOf}
 use Rattle.edfruns_command.specs.declared.stop.Stop.{Stop}
@@ -152,7 +152,7 @@ module _ (m : Making) (bytes : Option (List ℕ)) (plan : OnsetListing) (names :
       unfailed = makes.unfailed;
     }
 
-    ended : Ends l mid to left rest → EndsThere l mid left rest
+    ended : IsAtEnd l mid to left rest → EndsThere l mid left rest
     ended ends =
         let a : AnswersIn Reading l mid to left rest (Ok None) =
         subst (λ (s : ReaderState). AnswersIn s l mid to left rest (Ok None)) makes.read.state
@@ -162,7 +162,7 @@ module _ (m : Making) (bytes : Option (List ℕ)) (plan : OnsetListing) (names :
     abbrev records : List DataRecord
     records = flat_map (λ part. part) makes.parts
 
-    reads-records : Ends l mid to left rest → ReadsRecords l start rest records
+    reads-records : IsAtEnd l mid to left rest → ReadsRecords l start rest records
     reads-records ends =
         let end = ended ends in
         let on = makes.read in
@@ -177,7 +177,7 @@ module _ (m : Making) (bytes : Option (List ℕ)) (plan : OnsetListing) (names :
           most = omega (arith, end.most, on.given);
         }
 
-    pub rereads-all : Ends l mid to left rest → RereadsAll m bytes plan names
+    pub rereads-all : IsAtEnd l mid to left rest → RereadsAll m bytes plan names
     rereads-all ends = record {
       again = record {
         layout = l;
@@ -196,7 +196,7 @@ module _ (m : Making) (bytes : Option (List ℕ)) (plan : OnsetListing) (names :
       unfailed = makes.unfailed;
     }
 
-    pub rereads-with : (text : List ℕ) → Ends l mid to left rest →
+    pub rereads-with : (text : List ℕ) → IsAtEnd l mid to left rest →
         AreLinesOf (duration_of l.key.duration) names plan.runs.items
         (annotated_runs makes.parts plan.runs.items) text → RereadsWith m bytes plan names text
     unfolding rereads-all

@@ -34,8 +34,8 @@ use Rattle.edfruns_command.specs.declared.stop.Stop.TheVariants as stop
 
 -- ---- the end
 
-abbrev pub Ends : Layout → Progress → Progress → Option (List ℕ) → Option (List ℕ) → Type 0
-Ends l from to left rest = IsAnswer l from to left rest (Ok None)
+abbrev pub IsAtEnd : Layout → Progress → Progress → Option (List ℕ) → Option (List ℕ) → Type 0
+IsAtEnd l from to left rest = IsAnswer l from to left rest (Ok None)
 
 pub record StopsAtEnd (l : Layout) (from to : Progress) (left rest : Option (List ℕ))
     (why : WriteFault) : Type 0 where

@@ -11,8 +11,8 @@ use Rattle.edf_runs.specs.declared.onset_run.OnsetRun.{OnsetRun}
 use Rattle.edf_runs.specs.declared.onset_listing.OnsetListing.{OnsetListing}
 use Rattle.edf_new_files.specs.Made.{MadeFile, made_file}
 use Rattle.edf_new_files.specs.Making.{Making}
-use Rattle.edf_new_files.specs.There.{There, IsFree, MayBeThere}
-use Rattle.edf_new_files.specs.declared.new_files.Stage.TheVariants.{Begun}
+use Rattle.edf_new_files.specs.There.{There, IsVacant, MayBeThere}
+use Rattle.edf_new_files.specs.declared.new_files.FileStage.TheVariants.{Begun}
 use Rattle.edfruns_command.specs.Lines.{IsSpelling, reread_line, unwritten_line}
 use Rattle.edfruns_command.specs.Lines.{standard_output}
 use Rattle.edfruns_command.specs.Made.{IsOver, RemovesMade, left_text}
@@ -28,7 +28,7 @@ pub record IsTaken (there : There) (names : List (List ℕ)) (found : List ℕ) 
   pub front : List (List ℕ)
   pub later : List (List ℕ)
   pub parts : names ≡ front ++ (found ∷ later)
-  pub free : All (IsFree there) front
+  pub free : All (IsVacant there) front
   pub taken : MayBeThere there found
 
 -- the run of this number is the first whose start no header can name

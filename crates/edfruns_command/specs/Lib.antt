@@ -16,3 +16,4 @@ pub mod Run
 pub mod Inside
 pub mod InsideMaking
 pub mod InsideSplit
+pub mod InsidePicture

@@ -5,9 +5,10 @@ use Rattle.edf_program.specs.Output.{Growth, IsWritten}
 use Rattle.edf_program.specs.declared.status.Status.{Status}
 use Rattle.edf_program.specs.declared.status.Status.TheVariants.{Trouble}
 use Rattle.edf_new_files.specs.Made.{MadeFile, names_of}
-use Rattle.edf_new_files.specs.declared.new_files.Stage.{Stage}
-use Rattle.edf_new_files.specs.declared.new_files.Stage.TheVariants.{Begun, Left, Finished, Removed}
-use Rattle.edf_new_files.specs.declared.new_files.Stage.TheVariants.{Kept}
+use Rattle.edf_new_files.specs.declared.new_files.FileStage.{FileStage}
+use Rattle.edf_new_files.specs.declared.new_files.FileStage.TheVariants.{Begun, Left, Finished}
+use Rattle.edf_new_files.specs.declared.new_files.FileStage.TheVariants.{Removed}
+use Rattle.edf_new_files.specs.declared.new_files.FileStage.TheVariants.{Kept}
 use Rattle.edfruns_command.specs.Lines.{left_line}
 
 -- it was left half written
@@ -17,7 +18,7 @@ IsHalf file = file.whole ≡ false
 -- ---- files that are removed again
 
 -- the removal was tried
-abbrev pub IsOver : Stage → Type 0
+abbrev pub IsOver : FileStage → Type 0
 IsOver Begun = ⊥
 IsOver Left = ⊥
 IsOver Finished = ⊥
@@ -25,7 +26,7 @@ IsOver Removed = Unit {0}
 IsOver Kept = Unit {0}
 
 -- a line for one that could not be removed, and nothing for one that is gone
-abbrev pub left_by : Stage → List ℕ → List ℕ
+abbrev pub left_by : FileStage → List ℕ → List ℕ
 left_by Kept name = left_line name
 left_by stage name = []
 

@@ -1,13 +1,16 @@
--- What `picture` does: a picture of the whole file goes out, or a front of one, or nothing. It has
--- the lines of the file's runs and of its figures as text, and draws the figures; what else it
--- shows is said by no definition.
-use Rattle.std.specs.Prelude.{◌≡◌, ◌⊎◌, ℕ, List, [], ◌++◌, Option, map, string_bytes}
+-- What `picture` does: a picture of the whole file goes out, or a front of one, or nothing. Its title
+-- has the codes of the file's recording, and the line below that its times. It has the lines of the
+-- file's runs and of its figures as text, and draws the figures; what else it shows is said by no
+-- definition.
+use Rattle.std.specs.Prelude.{◌≡◌, ◌⊎◌, ℕ, Bool, List, [], ◌++◌, Option, Some, None, map}
+use Rattle.std.specs.Prelude.{string_bytes, if◌then◌else◌}
 use Rattle.std.specs.List.{AllZip}
 use Rattle.edf_field.specs.Number.{duration_of}
 use Rattle.edf_fragment.specs.Fragment.{DataRecord}
 use Rattle.edf_fragment.specs.Whole.{ReadsFragment}
 use Rattle.edf_header.specs.Header.{Layout}
-use Rattle.edf_picture.specs.Picture.{IsPicture, drawn_words}
+use Rattle.edf_header.specs.Key.{Key, patient_code, investigation_code}
+use Rattle.edf_picture.specs.Picture.{IsPicture, Named, drawn_words}
 use Rattle.edf_program.specs.Output.{Growth, Gets, GetsFront, IsWritten}
 use Rattle.edf_program.specs.declared.status.Status.{Status}
 use Rattle.edf_program.specs.declared.status.Status.TheVariants.{Done, Trouble}
@@ -44,14 +47,23 @@ pub record HasFiguresOf (spell : ℕ → List ℕ) (notes : List Note) (times : 
   pub told : HasFigures spell notes times figures
   pub drawn : words ≡ drawn_words onset notes times
 
--- a picture that has as text the lines of these runs, of data records that last so many
--- nanoseconds, and the figures of them and these notes, where these are as a file has them
-abbrev pub IsPictureOf : ℕ → List Run → List Note → List ℕ → Type 0
-IsPictureOf duration runs notes picture = (spell : ℕ → List ℕ) → IsSpelling spell →
+-- the codes of a recording, or that of the investigation alone
+abbrev pub named_of : Key → Bool → Named
+named_of key has_code = record {
+  patient = if has_code then Some (patient_code key) else None;
+  investigation = investigation_code key;
+}
+
+-- a picture of this recording, with the patient code or without it, that has as text the lines of
+-- these runs, and the figures of them and these notes, where these are as a file has them
+abbrev pub IsPictureOf : Key → Bool → List Run → List Note → List ℕ → Type 0
+IsPictureOf key has_code runs notes picture =
+    let duration = duration_of key.duration in let times = map (run_time duration) runs in
+    (spell : ℕ → List ℕ) → IsSpelling spell →
     (onset : List ℕ) × (words : List (List ℕ)) × (figures : List ℕ)
-    × (IsSound notes (map (run_time duration) runs) →
-    HasFiguresOf spell notes (map (run_time duration) runs) onset words figures)
-    × IsPicture words (each_line spell duration runs ++ figures) picture
+    × (IsSound notes times → HasFiguresOf spell notes times onset words figures)
+    × IsPicture (named_of key has_code) times words (each_line spell duration runs ++ figures)
+    picture
 
 -- the whole input was read, and these are the annotations of what it spells, in their order
 pub record ReadsNotes (left rest : Option (List ℕ)) (notes : List Note) : Type 0 where
@@ -71,7 +83,8 @@ module _ (out err : Growth) where
   SendsPicture picture unwritten status = (Gets out picture × Gets err [] × (status ≡ Done))
       ⊎ (GetsFront out picture × IsWritten err unwritten Trouble status)
 
-module _ (out err : Growth) (bytes : Option (List ℕ)) (name : List ℕ) (status : Status) where
+module _ (out err : Growth) (bytes : Option (List ℕ)) (name : List ℕ) (has_code : Bool)
+    (status : Status) where
   -- the file was read to its end, and a picture was sent
   pub record SendsOne : Type 0 where
     pub listing : Listing
@@ -79,8 +92,7 @@ module _ (out err : Growth) (bytes : Option (List ℕ)) (name : List ℕ) (statu
     pub notes : List Note
     pub noted : HasNotes bytes notes
     pub picture : List ℕ
-    pub is_picture : IsPictureOf (duration_of listing.identity.duration) listing.runs.items notes
-        picture
+    pub is_picture : IsPictureOf listing.identity has_code listing.runs.items notes picture
     pub sent : SendsPicture out err picture (unwritten_line standard_output) status
 
   abbrev pub IsPictured : Type 0

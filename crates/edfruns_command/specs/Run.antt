@@ -14,15 +14,15 @@ use Rattle.edfruns_command.specs.declared.runs_command.RunsCommand.{RunsCommand}
 use Rattle.edfruns_command.specs.declared.runs_command.RunsCommand.TheVariants as parsed
 
 -- what can be asked for, with the values: the files' texts, the tolerance in nanoseconds, the run's
--- number, the prefix's text, whether annotations are to be where their onsets are, and which gaps
--- are joined
+-- number, the prefix's text, whether annotations are to be where their onsets are, which gaps
+-- `split` joins, and whether the patient code is shown
 pub data Asked : Type 0 where
   list : List (List ℕ) → Option ℕ → Asked
   write : List ℕ → ℕ → Bool → Asked
   canonical : List ℕ → Bool → Asked
   canonical_of_stream : Bool → Asked
   split : List ℕ → List ℕ → Bool → Option Joining → Asked
-  picture : List ℕ → Asked
+  picture : List ℕ → Bool → Asked
 
 -- what a command asks for
 abbrev pub meaning : RunsCommand → Asked
@@ -32,7 +32,7 @@ meaning (parsed.Canonical file by_onset) = canonical (string_bytes file) by_onse
 meaning (parsed.CanonicalOfStream by_onset) = canonical_of_stream by_onset
 meaning (parsed.Split file prefix by_onset joining) =
     split (string_bytes file) (string_bytes prefix) by_onset joining
-meaning (parsed.Picture file tolerance) = picture (string_bytes file)
+meaning (parsed.Picture file tolerance has_code) = picture (string_bytes file) has_code
 
 -- the name of standard input
 abbrev pub stream : List ℕ
@@ -50,7 +50,8 @@ IsDone bytes made out err (canonical_of_stream by_onset) status =
     IsCanonicalOut out err (bytes stream) stream by_onset status
 IsDone bytes made out err (split file prefix by_onset joining) status =
     IsSplit made out err (bytes file) file prefix by_onset joining status
-IsDone bytes made out err (picture file) status = IsPictured out err (bytes file) file status
+IsDone bytes made out err (picture file has_code) status =
+    IsPictured out err (bytes file) file has_code status
 
 -- `split` alone makes files
 abbrev pub HasMade : Making → Asked → Type 0
@@ -64,7 +65,7 @@ readings_of (write file number by_onset) = 2
 readings_of (canonical file by_onset) = 2
 readings_of (canonical_of_stream by_onset) = 1
 readings_of (split file prefix by_onset joining) = 2
-readings_of (picture file) = 1
+readings_of (picture file has_code) = 1
 
 -- `list` reads each of its files once, `picture` its file and `canonical` standard input once, and
 -- `write`, `canonical` and `split` a file twice, where they are done
@@ -76,4 +77,4 @@ HasOpened before after (canonical_of_stream by_onset) status =
     OpensAgain before after stream 1 status
 HasOpened before after (split file prefix by_onset joining) status =
     OpensAgain before after file 2 status
-HasOpened before after (picture file) status = OpensAgain before after file 1 status
+HasOpened before after (picture file has_code) status = OpensAgain before after file 1 status

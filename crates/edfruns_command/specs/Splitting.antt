@@ -23,8 +23,8 @@ use Rattle.edf_runs.specs.declared.onset_listing.OnsetListing.{OnsetListing}
 use Rattle.edf_runs.specs.declared.fault.WriteFault.{WriteFault}
 use Rattle.edf_new_files.specs.Made.{MadeFile, names_of}
 use Rattle.edf_new_files.specs.Making.{Making, MakesNothing}
-use Rattle.edf_new_files.specs.There.{IsFree, MayBeThere}
-use Rattle.edf_new_files.specs.declared.new_files.Stage.TheVariants.{Finished}
+use Rattle.edf_new_files.specs.There.{IsVacant, MayBeThere}
+use Rattle.edf_new_files.specs.declared.new_files.FileStage.TheVariants.{Finished}
 use Rattle.edfruns_command.specs.Naming.{run_names, asked_names}
 use Rattle.edfruns_command.specs.Lines.{IsSpelling, undated_line, reread_line}
 use Rattle.edfruns_command.specs.Lines.{unwritten_line, standard_output}
@@ -151,7 +151,7 @@ module _ (m : Making) (out err : Growth) (bytes : Option (List ℕ)) (name prefi
   pub record IsReady (plan : OnsetListing) : Type 0 where
     pub has : HasJoinedPlan joining by_onset bytes plan
     pub dated : All (λ (run : OnsetRun). MayStart plan.identity run.run.first) plan.runs.items
-    pub free : All (IsFree m.there) (asked_names prefix (length plan.runs.items))
+    pub free : All (IsVacant m.there) (asked_names prefix (length plan.runs.items))
 
   -- of each run there is a file now, and each has its line
   pub record SplitsFile (plan : OnsetListing) : Type 0 where
@@ -179,7 +179,7 @@ module _ (m : Making) (out err : Growth) (bytes : Option (List ℕ)) (name prefi
     pub found : List ℕ
     pub later : List (List ℕ)
     pub parts : asked_names prefix (length plan.runs.items) ≡ front ++ (found ∷ later)
-    pub free : All (IsFree m.there) front
+    pub free : All (IsVacant m.there) front
     pub taken : MayBeThere m.there found
     pub said : Explains out err (there_line found) Refused status
 

@@ -121,9 +121,9 @@ fn command_in(alloc: Global, matches: &ArgMatches<'_>) -> Result<RunsCommand, Co
 /// The words are `list FILE..`, `write FILE N`, `canonical FILE`, `split FILE PREFIX` or
 /// `picture FILE`. N is digits, without a sign, with a value from 1 to 4,294,967,295; zeros may
 /// lead. `list`, `picture` and `split` have an option `--tolerance S`, a decimal of seconds, and
-/// `split` beside that `--shift S`. `write`, `canonical` and `split` have an option `--by-onset`.
-/// The FILE of `write` and `split` is read twice, so it is not `-`. `--help`, `-h`, `help` and
-/// `--version`, `-V` are as `edfstore` has them.
+/// `split` beside that `--shift S`. `write`, `canonical` and `split` have an option `--by-onset`,
+/// and `picture` one `--without-code`. The FILE of `write` and `split` is read twice, so it is not
+/// `-`. `--help`, `-h`, `help` and `--version`, `-V` are as `edfstore` has them.
 ///
 /// # Errors
 /// `Help` where help or the version was asked for, `Usage` where the words ask for nothing that can

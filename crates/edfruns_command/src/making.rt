@@ -10,7 +10,7 @@ ghost use Rattle.edf_new_files.specs.Making.{making};
 ghost use Rattle.edfruns_command.specs.Inside.{OpensUpTo};
 ghost use Rattle.edfruns_command.specs.InsideMaking.{MakesFile, StopsFile, MakesFirst, StopsEach};
 ghost use Rattle.edfruns_command.specs.InsideMaking.{RereadsWith, StopsMaking, IsStopOf};
-ghost use Rattle.edfruns_command.specs.InsideMaking.{Ends, StopsAtEnd};
+ghost use Rattle.edfruns_command.specs.InsideMaking.{IsAtEnd, StopsAtEnd};
 
 use crate::counting::{first_outside, with_line};
 use crate::stop::Stop;
@@ -33,7 +33,7 @@ pub(crate) struct MadeLines<'a> {
 /// Reads on after the last run, where nothing may follow.
 fn expect_end<R: Input>(fragment: &mut OpenFragment, input: &mut R) -> Result<(), WriteFault>
     ensures { MatchResult result
-        (λ _. Ends fragment.old.header fragment.old.progress fragment.new.progress
+        (λ _. IsAtEnd fragment.old.header fragment.old.progress fragment.new.progress
         (R.remaining input.old) (R.remaining input.new))
         (StopsAtEnd fragment.old.header fragment.old.progress fragment.new.progress
         (R.remaining input.old) (R.remaining input.new)) }

@@ -20,7 +20,7 @@ use crate::refusal::{refuse, refuse_run};
 use crate::runs_command::RunsCommand;
 use crate::sight::Sight;
 use crate::tolerance::{read_tolerance, tolerance_option};
-use clap::{ArgMatches, Command};
+use clap::{Arg, ArgAction, ArgMatches, Command};
 use edf_field::MOST_DURATION;
 use edf_fragment::{FragmentFault, Input, OpenFragment, Output, send};
 use edf_header::Identity;
@@ -39,16 +39,30 @@ others; and the signals.
 A file that is refused leaves standard output empty.
 
 With --tolerance, gaps of at most S seconds are drawn as if nothing were missing.
-The picture tells how many they are, their sum and the longest.";
+The picture tells how many they are, their sum and the longest.
+
+With --without-code the patient code is left out, and the title says so. The
+investigation code, the times and the texts of annotations stay as they are.";
 
 const PICTURE_EXAMPLES: &str = "\
 Examples:
   edfruns picture night.edf > night.svg
   edfruns picture --tolerance 0.5 night.edf > night.svg
+  edfruns picture --without-code night.edf > night.svg
   edfstore export night.db 1 | edfruns picture - > night.svg";
 
 /// What usage calls the command.
 const NAME: &str = "edfruns picture";
+
+/// The option for a picture that others are to see.
+const WITHOUT_CODE: &str = "without-code";
+
+fn without_code_option<'a>(alloc: Global) -> Arg<'a> {
+    Arg::new(alloc, WITHOUT_CODE)
+        .long(WITHOUT_CODE)
+        .help("Leave the patient code out of the title")
+        .action(ArgAction::SetTrue)
+}
 
 /// The word and its values, as `clap` gets them.
 pub(crate) fn picture_words<'a>(alloc: Global) -> Result<Command<'a>, AllocError> {
@@ -57,6 +71,7 @@ pub(crate) fn picture_words<'a>(alloc: Global) -> Result<Command<'a>, AllocError
         .long_about(PICTURE_MORE)
         .after_help(PICTURE_EXAMPLES)
         .arg(tolerance_option(alloc))?
+        .arg(without_code_option(alloc))?
         .arg(file_value(alloc))
 }
 
@@ -70,6 +85,7 @@ pub(crate) fn read_picture(
     Ok(RunsCommand::Picture {
         file,
         tolerance: tolerance.unwrap_or(0),
+        has_code: !values.get_flag(WITHOUT_CODE),
     })
 }
 
@@ -165,18 +181,19 @@ fn send_picture<O: Output, F: Output>(file: &str, picture: &str, out: &mut O, er
     }
 }
 
-/// Writes a picture of a file, in which gaps of at most so many nanoseconds are joined. Nothing
-/// goes to `out` where the file is refused.
+/// Writes a picture of a file, in which gaps of at most so many nanoseconds are joined, with the
+/// code of the patient or without it. Nothing goes to `out` where the file is refused.
 pub(crate) fn picture<I: Inputs, O: Output, F: Output>(
     alloc: Global,
     file: &str,
     tolerance: u64,
+    has_code: bool,
     inputs: &mut I,
     out: &mut O,
     err: &mut F,
 ) -> Status
     ensures pictured { IsPictured (growth O.Output out.old out.new)
-        (growth F.Output err.old err.new) (I.bytes inputs.old file.now) file.now result }
+        (growth F.Output err.old err.new) (I.bytes inputs.old file.now) file.now has_code result }
     ensures opened { OpensAgain (I.opened inputs.old) (I.opened inputs.new) file.now 1 result }
     ensures same { (name : List ℕ) → I.bytes inputs.new name ≡ I.bytes inputs.old name }
 {
@@ -184,7 +201,7 @@ pub(crate) fn picture<I: Inputs, O: Output, F: Output>(
         Ok(seen) => seen,
         Err(fault) => return refuse(alloc, file, fault, err),
     };
-    match seen.sight.draw(alloc, seen.identity, tolerance) {
+    match seen.sight.draw(alloc, seen.identity, tolerance, has_code) {
         Ok(picture) => send_picture(file, picture.as_str(), out, err),
         Err(_) => tell_memory(err, file),
     }

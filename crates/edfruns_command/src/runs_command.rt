@@ -65,6 +65,8 @@ pub enum RunsCommand {
         file: String,
         /// The longest gap that is joined for the view, in nanoseconds; 0 joins none.
         tolerance: u64,
+        /// Whether its title has the code of the patient.
+        has_code: bool,
     },
 }
 
@@ -100,6 +102,7 @@ impl RunsCommand {
             RunsCommand::Picture {
                 file: _,
                 tolerance: _,
+                has_code: _,
             } => 1,
         }
     }
@@ -112,7 +115,8 @@ impl RunsCommand {
 /// write failed, which a line tells, or nothing where memory ran out. `Split` leaves all its files
 /// where it is done, and else none but those that it names as not removed; the lines of files that
 /// were removed may have gone out, where writing them failed. The clauses say what `List`, `Write`,
-/// `Canonical` and `Split` do, and of `Picture` all but what the picture shows.
+/// `Canonical` and `Split` do, and of `Picture` all but what the picture shows beside its title, its
+/// times and its figures.
 pub fn run_runs<I: Inputs, P: NewFiles, O: Output, F: Output>(
     alloc: Global,
     command: &RunsCommand,
@@ -167,8 +171,18 @@ pub fn run_runs<I: Inputs, P: NewFiles, O: Output, F: Output>(
             out,
             err,
         ),
-        RunsCommand::Picture { file, tolerance } => {
-            picture(alloc, file.as_str(), *tolerance, inputs, out, err)
-        }
+        RunsCommand::Picture {
+            file,
+            tolerance,
+            has_code,
+        } => picture(
+            alloc,
+            file.as_str(),
+            *tolerance,
+            *has_code,
+            inputs,
+            out,
+            err,
+        ),
     }
 }

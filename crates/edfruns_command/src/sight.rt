@@ -2,7 +2,6 @@
 
 ghost use Rattle.std.specs.Prelude.{◌≡◌, ◌++◌, ◌∷◌, [], ◌≤◌, ◌<◌, ℕ, List, IfOk, OnOk, length};
 ghost use Rattle.std.specs.Prelude.{map, string_bytes};
-ghost use Rattle.edf_field.specs.Number.{duration_of};
 ghost use Rattle.edf_header.specs.declared.limits.TheConstants.{MOST_RECORDS};
 ghost use Rattle.edf_fragment.specs.Fragment.{DataRecord};
 ghost use Rattle.edf_runs.specs.Runs.{AreListed};
@@ -12,7 +11,9 @@ ghost use Rattle.edf_sleep.specs.Account.{IsAccount, night_of};
 ghost use Rattle.edf_sleep.specs.FigureLines.{HasFigures};
 ghost use Rattle.edf_sleep.specs.Night.{Night, IsSound, span_of};
 ghost use Rattle.edfruns_command.specs.Picturing.{AreNoted, IsNoted, IsPictureOf};
-ghost use Rattle.edfruns_command.specs.Picturing.{run_time};
+ghost use Rattle.edfruns_command.specs.Picturing.{named_of, run_time};
+ghost use Rattle.edf_picture.specs.Picture.{named_by};
+ghost use Rattle.edfruns_command.specs.InsidePicture.{HasText};
 
 use crate::joining::each_text;
 use crate::signals::signals_in;
@@ -66,8 +67,8 @@ impl Sight {
     }
 
     /// The picture of the recording of this identity, as one SVG, with the lines of its runs and
-    /// those of its figures as text. Gaps of at most so many nanoseconds are drawn as if nothing
-    /// were missing.
+    /// those of its figures as text. Its title has the code of the patient or not. Gaps of at most
+    /// so many nanoseconds are drawn as if nothing were missing.
     ///
     /// # Errors
     /// Where memory runs out.
@@ -76,15 +77,16 @@ impl Sight {
         alloc: Global,
         identity: Identity,
         tolerance: u64,
+        has_code: bool,
     ) -> Result<String, AllocError>
-        ensures { IfOk result (λ picture. IsPictureOf (duration_of identity.duration)
+        ensures { IfOk result (λ picture. IsPictureOf identity has_code
             self.runs.items self.notes.items (string_bytes picture)) }
     {
         let listing = Listing {
             identity,
             runs: self.runs,
         };
-        draw_listing(alloc, &listing, &self.notes, tolerance)
+        draw_listing(alloc, &listing, &self.notes, tolerance, has_code)
     }
 }
 
@@ -230,28 +232,59 @@ fn figures_of(alloc: Global, account: &Account<'_>) -> Result<Vec<u8>, AllocErro
     account.lines(alloc, first.as_slice())
 }
 
+/// What a picture's title names: both codes, or that of the investigation alone.
+fn title_of(identity: &Identity, has_code: bool) -> Title<'_>
+    ensures { named_by result ≡ named_of identity.now has_code }
+{
+    let investigation = identity.investigation_code();
+    if has_code {
+        Title {
+            patient: Some(identity.patient_code()),
+            investigation,
+        }
+    } else {
+        Title {
+            patient: None,
+            investigation,
+        }
+    }
+}
+
+/// The lines of the runs, and those of the figures.
+fn text_of(alloc: Global, listing: &Listing, account: &Account<'_>) -> Result<Vec<u8>, AllocError>
+    requires { IsAccount account.now }
+    ensures { IfOk result (λ r. (spell : ℕ → List ℕ) → IsSpelling spell → HasText spell
+        listing.now.identity listing.now.runs.items (night_of account.now) r.items) }
+{
+    let runs = each_text(alloc, listing)?;
+    let figures = figures_of(alloc, account)?;
+    joined(alloc, &[runs.as_slice(), figures.as_slice()])
+}
+
 /// The picture of runs and annotations, with the lines of the runs and of the figures as text.
 fn draw_listing(
     alloc: Global,
     listing: &Listing,
     notes: &[Note],
     tolerance: u64,
+    has_code: bool,
 ) -> Result<String, AllocError>
-    ensures { IfOk result (λ picture. IsPictureOf (duration_of listing.now.identity.duration)
+    ensures { IfOk result (λ picture. IsPictureOf listing.now.identity has_code
         listing.now.runs.items notes.now (string_bytes picture)) }
 {
     let identity = &listing.identity;
-    let title = Title {
-        patient: identity.patient_code(),
-        investigation: identity.investigation_code(),
-    };
     let duration = identity.duration();
     let bytes = identity.to_bytes(alloc)?;
     let signals = signals_in(alloc, &bytes)?;
     let view = View::of(alloc, &listing.runs, duration, tolerance)?;
+    let times = times_of(alloc, duration, &listing.runs)?;
+    let account = account_of(alloc, notes, &times)?;
+    let lines = text_of(alloc, listing, &account)?;
+    let title = title_of(identity, has_code);
     let recorded = Recorded {
         duration,
         stretches: &view.stretches,
+        times: &times,
         signals: &signals,
         joined: if tolerance > 0 {
             Some(view.joined)
@@ -259,10 +292,5 @@ fn draw_listing(
             None
         },
     };
-    let times = times_of(alloc, duration, &listing.runs)?;
-    let account = account_of(alloc, notes, &times)?;
-    let runs = each_text(alloc, listing)?;
-    let figures = figures_of(alloc, &account)?;
-    let lines = joined(alloc, &[runs.as_slice(), figures.as_slice()])?;
     draw(alloc, &title, &recorded, &account, lines.as_slice())
 }

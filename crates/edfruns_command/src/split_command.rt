@@ -6,7 +6,7 @@ ghost use Rattle.edf_header.specs.Key.{MayStart};
 ghost use Rattle.edf_program.specs.Output.{growth};
 ghost use Rattle.edf_runs.specs.declared.onset_run.OnsetRun.{OnsetRun as PlannedRun};
 ghost use Rattle.edf_new_files.specs.Making.{making};
-ghost use Rattle.edf_new_files.specs.There.{IsFree};
+ghost use Rattle.edf_new_files.specs.There.{IsVacant};
 ghost use Rattle.edfruns_command.specs.InsideSplit.{IsTaken, IsUndated, SplitsListed};
 ghost use Rattle.edfruns_command.specs.Listing.{OpensAgain};
 ghost use Rattle.edfruns_command.specs.Naming.{asked_names};
@@ -159,7 +159,7 @@ fn undated_run(plan: &OnsetListing) -> Option<usize>
 /// The first of these names that something has already, if there is one.
 fn taken_name<'a, P: NewFiles>(outputs: &mut P, names: &'a [String]) -> Option<&'a str>
     ensures answer { MatchOption result
-        (All (IsFree (P.there outputs.old)) (map string_bytes names.now))
+        (All (IsVacant (P.there outputs.old)) (map string_bytes names.now))
         (λ name. IsTaken (P.there outputs.old) (map string_bytes names.now) name.now) }
     ensures there { (name : List ℕ) → P.there outputs.new name ≡ P.there outputs.old name }
     ensures made { P.made outputs.new ≡ P.made outputs.old }

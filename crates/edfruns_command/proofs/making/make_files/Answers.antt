@@ -10,7 +10,7 @@ use Rattle.edf_runs.specs.Again.{IsNotReopened}
 use Rattle.edf_runs.specs.declared.onset_run.OnsetRun.{OnsetRun}
 use Rattle.edf_new_files.specs.Making.{making}
 use Rattle.edfruns_command.specs.Writing.{ReadsAgain}
-use Rattle.edfruns_command.specs.InsideMaking.{MakesFirst, StopsEach, Ends, StopsAtEnd}
+use Rattle.edfruns_command.specs.InsideMaking.{MakesFirst, StopsEach, IsAtEnd, StopsAtEnd}
 use Rattle.edf_program.proofs.Opened.{opened-once}
 use Rattle.edfruns_command.proofs.Rereads.{not-opened, not-reopened, stops-making, stops-after}
 use Rattle.edfruns_command.proofs.Rereads.{all-made, rereads-with}
@@ -77,7 +77,7 @@ returns-in-Ok-expect_end-clause-answer g c =
     (subst (λ (rs : List OnsetRun). MakesFirst m names l mid start left rs (length rs) text)
     c.deref.ensures.value c.in_ok-lines.ensures.answer) in
     rereads-with m bytes c.args.plan.now names l start again mid to left rest fit made.0 text
-    (subst (λ (x : Layout). Ends x mid to left rest) c.in_ok-lines.ensures.header
+    (subst (λ (x : Layout). IsAtEnd x mid to left rest) c.in_ok-lines.ensures.header
     c.in-Ok-expect_end.ensures) made.1
 
 pub returns-clause-answer : goal.returns-clause-answer

@@ -4,6 +4,7 @@ use Rattle.edf_new_files.specs.Making.{making}
 use Rattle.edfruns_command.specs.Listed.{IsListOut, OpensEach}
 use Rattle.edfruns_command.specs.Run.{IsDone, HasOpened, meaning}
 use Rattle.edfruns_command.specs.Canonical.{IsCanonicalOut}
+use Rattle.edfruns_command.specs.Picturing.{IsPictured}
 use Rattle.edfruns_command.specs.Splitting.{IsSplit}
 use Rattle.edfruns_command.specs.Writing.{IsRunOut}
 use Rattle.edfruns_command.specs.declared.runs_command.RunsCommand.{RunsCommand}
@@ -84,3 +85,16 @@ returns-in-Split-clause-done g c =
     c.in-Split.is_by_onset c.in-Split.joining c.split.result in
     subst Does (sym c.in-Split.is) (subst Named c.as_str-in-Split-2.ensures.value
     (subst Splits c.as_str-in-Split.ensures.value c.split.ensures.split))
+
+pub returns-in-Picture-clause-done : goal.returns-in-Picture-clause-done
+returns-in-Picture-clause-done g c =
+    let out = growth g.O.Output c.args.out.now c.picture.new.out in
+    let err = growth g.F.Output c.args.err.now c.picture.new.err in
+    let bytes = g.I.Inputs.bytes c.args.inputs.now in
+    let made = making g.P.NewFiles c.args.outputs.now c.args.outputs.now in
+    let Does : RunsCommand → Type 0 = λ command.
+    IsDone bytes made out err (meaning command) c.picture.result in
+    let Draws : List ℕ → Type 0 = λ name.
+    IsPictured out err (bytes name) name c.in-Picture.has_code c.picture.result in
+    subst Does (sym c.in-Picture.is) (subst Draws c.as_str-in-Picture.ensures.value
+    c.picture.ensures.pictured)

@@ -8,7 +8,7 @@ use Rattle.edf_program.specs.declared.status.Status.TheVariants.{Refused}
 use Rattle.edf_program.proofs.Puts.{nothing-gets}
 use Rattle.edf_runs.specs.declared.onset_run.OnsetRun.{OnsetRun}
 use Rattle.edf_new_files.specs.Making.{Making, making}
-use Rattle.edf_new_files.specs.There.{IsFree}
+use Rattle.edf_new_files.specs.There.{IsVacant}
 use Rattle.edfruns_command.specs.Inside.{IsPlanRefused}
 use Rattle.edfruns_command.specs.Lines.{undated_line}
 use Rattle.edfruns_command.specs.Naming.{run_name, run_names, first_names, asked_names}
@@ -182,7 +182,7 @@ returns-clause-split g c =
       record {
         has = c.in-Ok.ensures.answer;
         dated = c.in_default-undated_run.ensures;
-        free = subst (λ (ns : List (List ℕ)). All (IsFree (g.P.NewFiles.there c.args.outputs.now))
+        free = subst (λ (ns : List (List ℕ)). All (IsVacant (g.P.NewFiles.there c.args.outputs.now))
             ns) (ap (map string_bytes) c.deref.ensures.value ∙ (c.in-Ok-asked_names.ensures ∙ ap (λ (rs : List OnsetRun). asked_names c.args.prefix.now
             (length rs)) c.as_slice.ensures.value))
             c.in_default-taken_name.ensures.answer;

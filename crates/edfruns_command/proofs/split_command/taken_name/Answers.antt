@@ -1,7 +1,7 @@
 use Rattle.std.proofs.Common.{◌≡◌, ◌+◌, ◌<◌, ◌∷◌, ◌++◌, ℕ, List, ap, sym, ◌∙◌, subst, arith}
 use Rattle.std.proofs.Common.{All, take, drop, length, map, string_bytes, ◌≢◌, Option, None, IfSome}
 use Rattle.std.proofs.lemmas.List.{take_all, length-map}
-use Rattle.edf_new_files.specs.There.{Found, IsFree, MayBeThere}
+use Rattle.edf_new_files.specs.There.{Found, IsVacant, MayBeThere}
 use Rattle.edfruns_command.proofs.Walking.{all-more, around, mapped}
 use Rattle.edfruns_command.proofs.split_command.taken_name.Goals as goal
 
@@ -44,9 +44,9 @@ loop-name-preserved g c =
     let there = g.P.NewFiles.there c.args.outputs.now in
     let same = subst (λ (n : List ℕ). g.P.NewFiles.there c.loop-name.outputs n ≡ there name)
     (sym c.as_str.ensures.value) (c.loop-name.invariant.there name) in
-    let free : IsFree there name = subst HasNone same c.if-is_there.ensures.answer in
+    let free : IsVacant there name = subst HasNone same c.if-is_there.ensures.answer in
     record {
-      free = all-more names at name lt is (IsFree there) c.loop-name.invariant.free free;
+      free = all-more names at name lt is (IsVacant there) c.loop-name.invariant.free free;
       there = λ other. c.is_there.ensures.there other ∙ c.loop-name.invariant.there other;
       made = c.is_there.ensures.made ∙ c.loop-name.invariant.made;
       failed = c.is_there.ensures.failed ∙ c.loop-name.invariant.failed;
@@ -57,7 +57,7 @@ pub returns-clause-answer : goal.returns-clause-answer
 returns-clause-answer g c =
     let all = c.args.names.now in
     let names = map string_bytes all in
-    subst (All (IsFree (g.P.NewFiles.there c.args.outputs.now)))
+    subst (All (IsVacant (g.P.NewFiles.there c.args.outputs.now)))
     (take_all c.loop-name.name-index names
     (omega (arith, c.loop-name-test.false, length-map all string_bytes)))
     c.loop-name.invariant.free

@@ -1,10 +1,10 @@
 use Rattle.std.proofs.Common.{◌≡◌, ℕ, List, All, map, string_bytes, take}
-use Rattle.edf_new_files.specs.There.{IsFree}
+use Rattle.edf_new_files.specs.There.{IsVacant}
 use Rattle.edfruns_command.proofs.split_command.taken_name.Given as goal
 
 abbrev pub invariant-loop-name : goal.invariant-loop-name
 invariant-loop-name g l = record {
-  free : All (IsFree (g.P.NewFiles.there l.initial.outputs))
+  free : All (IsVacant (g.P.NewFiles.there l.initial.outputs))
       (take l.name-index (map string_bytes l.names));
   there : (other : List ℕ) → g.P.NewFiles.there l.outputs other
       ≡ g.P.NewFiles.there l.initial.outputs other;
