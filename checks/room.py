@@ -1,28 +1,36 @@
 """Whether all pages of a store are kept in memory while it is open, by what the system says of
 memory: then its file is read twice, and not seven times.
 
-    python3 -m checks.room [--program PATH]
+    python3 -m checks.room [--program PATH] [--edfserve PATH]
 
 A night of 19 MB is listed where files of this check stand in place of /proc/meminfo,
 /proc/self/cgroup and what is below /sys/fs/cgroup. All pages are kept where they take up a quarter
 at most of what is free there, and of what each limit leaves, of version 1 or 2 of the groups: a
 kilobyte less, and they are not; nor where a number is missing or none. The list is the same. Then
 the night is listed with less and less room for addresses: where the list is told without kept
-pages it is told with them too, since an opening that lacks memory for them is tried without. It
-needs root, who may mount, and a minute.
+pages it is told with them too, since an opening that lacks memory for them is tried without. A
+session over a night has, once it has answered, little more memory than one over a new store: what
+its opening took is given back, whatever its rows are. It needs root, who may mount, and a minute.
 """
 import resource
 import shutil
 import sys
+import time
 from dataclasses import dataclass, replace
 from pathlib import Path
 
 from checks.lib import arguments, disks, measure, night, printed
 from checks.lib.checks import Lost, compare, end
+from checks.lib.serving import Client
 
 # More than twice as many pages as are kept of any store: of fewer, some reading is spared anyway.
 NIGHT = replace(night.SHORT, records=9_000)
 PAGE, SHARE = 4_096, 4
+# What a session over a night may have more than one over a new store, which has its pages too
+SPARE, SETTLED = 4_000_000, 0.2
+# Nights of 20 MB, whose rows have 1.7 kB, 6.7 kB, and 200 kB
+SESSIONS = {"short rows": NIGHT, "wide rows": replace(night.CLINIC, records=3_000, fragments=10),
+            "very wide rows": replace(night.LONG_RECORDS, records=100, fragments=10)}
 # From so many times its bytes on that are read, a store's pages were not kept.
 PASSES = 4
 MEMINFO = "MemTotal: 99999999 kB\nMemFree: 12 kB\nMemAvailable:{}\nBuffers: 7 kB\n"
@@ -175,8 +183,35 @@ def try_rooms(bench: Bench, size: int) -> int:
     return 2 * len(rooms)
 
 
+def held_over(program: Path, folder: Path) -> int:
+    """The memory of a session over the store of a folder, once it has answered."""
+    client = Client(program, folder)
+    compare("how the list of a session ends", client.ask("list").endswith("status 0\n"), True)
+    time.sleep(SETTLED)
+    held = client.held()
+    compare("how a session ends", client.end(), (0, "", ""))
+    return held
+
+
+def try_sessions(program: Path, bench: Bench) -> int:
+    """Begins a session over a new store, and over nights with short, wide and very wide rows."""
+    new = bench.folder / "new"
+    new.mkdir()
+    held = held_over(program, new)
+    for name, kind in SESSIONS.items():
+        folder = bench.folder / name
+        folder.mkdir()
+        parts = kind.parts(folder)
+        measure.done(bench.program, "take", folder / "s.db", *parts)
+        most = held_over(program, folder)
+        compare(f"whether a session gave back what its opening took of {name}: {held} bytes over a "
+                f"new store, {most} over this", most < held + SPARE, True)
+        shutil.rmtree(folder)
+    return 1 + len(SESSIONS)
+
+
 def main():
-    given = arguments.Parser(__doc__, programs=("edfstore",)).read()
+    given = arguments.Parser(__doc__, programs=("edfstore", "edfserve")).read()
     if not disks.may_mount():
         sys.exit("this user may mount nothing")
     resource.setrlimit(resource.RLIMIT_CORE, (0, 0))
@@ -186,7 +221,8 @@ def main():
             size = bench.store.stat().st_size
             compare("whole pages, more than twice as many as are kept of any store",
                     (size % PAGE, size // PAGE > 4_000), (0, True))
-            tried = try_systems(bench, size)
+            tried = try_sessions(given.edfserve, bench)
+            tried += try_systems(bench, size)
             end(tried + try_rooms(bench, size), 0)
     except Lost as lost:
         print(lost)

@@ -66,10 +66,18 @@ class Client:
         self.send(line)
         return self.answer()
 
-    def peak(self) -> int:
-        """The most memory that it had, in bytes."""
+    def memory(self, name: str) -> int:
+        """A line of the system's on its memory, in bytes."""
         text = Path(f"/proc/{self.child.pid}/status").read_text()
-        return 1024 * int(text.split("VmHWM:")[1].split()[0])
+        return 1024 * int(text.split(f"{name}:")[1].split()[0])
+
+    def peak(self) -> int:
+        """The most memory that it had."""
+        return self.memory("VmHWM")
+
+    def held(self) -> int:
+        """The memory that it has now."""
+        return self.memory("VmRSS")
 
     def end(self) -> tuple:
         """Ends its input: its status, and what else it wrote."""

@@ -13,8 +13,8 @@ use Rattle.edf_store.specs.Held.{StoreModel}
 use Rattle.edf_store.specs.Open.{IsOpened, IsGivenUp, StaysClean}
 use Rattle.edf_store.specs.declared.fault.StoreFault.{StoreFault}
 use Rattle.edf_store.specs.declared.fault.StoreFault.TheVariants.{Memory, Store, Foreign, Failed}
-use Rattle.edf_session.specs.Files.{no_table}
-use Rattle.edf_session.proofs.Keeping.{opened_holds, kept_is_own}
+use Rattle.edf_program_run.specs.Files.{no_table}
+use Rattle.edf_program_run.proofs.Keeping.{opened_holds, kept_is_own}
 use Rattle.edfstore_host.specs.InMemory.{IsEmptyStore}
 
 pub stays_clean : (conn : Held MemStore) → HasCleanDisk (state over_memory conn)

@@ -1,2 +1,3 @@
 mod OnFile
 mod InMemory
+mod Interrupted

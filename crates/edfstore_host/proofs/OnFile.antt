@@ -1,15 +1,15 @@
 -- A run over the files of a store, under the greatest cap.
 use Rattle.std.proofs.Common.{◌≡◌, ◌≢◌, ◌⊎◌, ℕ, Option, None, Some, sym, ◌∙◌, subst}
 use Rattle.sqlite_disk.specs.declared.Disk.{Ghosts}
-use Rattle.edf_session.specs.Close.{Ran, IsRefused}
-use Rattle.edf_session.specs.Run.{Run}
-use Rattle.edf_session.specs.declared.session.Session.{Session}
+use Rattle.edf_program_run.specs.Close.{Ran, IsRefused}
+use Rattle.edf_program_run.specs.ProgramRun.{ProgramRun}
+use Rattle.edf_program_run.specs.declared.session.EndedRun.{EndedRun}
 
 pub some_is_found : {A : Type 0} (found : Option A) (it : A) → found ≡ Some it → found ≢ None
 some_is_found found it some none = let e : Some it ≡ None = sym some ∙ none in absurd (cc)
 
-module _ {D : Type 0} {g : Ghosts D} (r : Run g) (cap : ℕ) (is : r.cap ≡ cap) where
-  pub run_under : (s : Session D) → Ran r s ⊎ IsRefused r s →
+module _ {D : Type 0} {g : Ghosts D} (r : ProgramRun g) (cap : ℕ) (is : r.cap ≡ cap) where
+  pub run_under : (s : EndedRun D) → Ran r s ⊎ IsRefused r s →
       Ran (record r { cap = cap }) s ⊎ IsRefused (record r { cap = cap }) s
   run_under s =
       subst (λ (n : ℕ). Ran (record r { cap = n }) s ⊎ IsRefused (record r { cap = n }) s) is

@@ -14,7 +14,7 @@ use Rattle.edf_command.specs.Taking.{HasOpened}
 use Rattle.edf_program.specs.Output.{Growth, Gets, IsWritten}
 use Rattle.edf_program.specs.declared.status.Status.{Status}
 use Rattle.edf_program.specs.declared.status.Status.TheVariants.{Trouble}
-use Rattle.edf_session.specs.Run.{Command}
+use Rattle.edf_program_run.specs.ProgramRun.{Command}
 
 -- a store in memory that holds nothing, is open and in no transaction, and takes as many data
 -- records of a recording as a file may have

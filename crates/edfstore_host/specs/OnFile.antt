@@ -13,9 +13,9 @@ use Rattle.edf_command.specs.Lines.{no_recording_line}
 use Rattle.edf_program.specs.Output.{Growth, Gets, IsWritten}
 use Rattle.edf_program.specs.declared.status.Status.{Status}
 use Rattle.edf_program.specs.declared.status.Status.TheVariants.{Done, Refused, Trouble}
-use Rattle.edf_session.specs.Close.{Ran, IsRefused}
-use Rattle.edf_session.specs.Run as run
-use Rattle.edf_session.specs.Run.{IsOpening}
+use Rattle.edf_program_run.specs.Close.{Ran, IsRefused}
+use Rattle.edf_program_run.specs.ProgramRun as run
+use Rattle.edf_program_run.specs.ProgramRun.{IsOpening}
 use Rattle.edfstore_host.specs.declared.ended.Ended.{Ended}
 use Rattle.edfstore_host.specs.declared.ended.Ended.TheVariants.{Run, NotOpened, WithoutFiles}
 
@@ -38,7 +38,7 @@ FindsNothing (convert file) err status = ⊥
 abbrev pub Opening : (D : Type 0) → Ghosts D → Type 0
 Opening D g = Result (Held (FileStore D g)) (Error × Option (Leftover D g))
 
-module _ {D : Type 0} {g : Ghosts D} (r : run.Run g) (asked : Asked) where
+module _ {D : Type 0} {g : Ghosts D} (r : run.ProgramRun g) (asked : Asked) where
   -- It was run over the files that were opened. They are closed under every status but trouble,
   -- and what they are read as then is among what a crash may leave. Or they were not opened, for
   -- this error, and what is left of them is what was. Or none were looked for, and it only reads.

@@ -6,7 +6,7 @@ use Rattle.edf_header.specs.declared.limits.TheConstants.{MOST_RECORDS}
 use Rattle.edf_command.specs.Command.{store_path}
 use Rattle.edf_program.specs.Output.{Growth}
 use Rattle.edf_program.specs.declared.status.Status.{Status}
-use Rattle.edf_session.specs.Run.{Run, Command, IsNoticed, run_of}
+use Rattle.edf_program_run.specs.ProgramRun.{ProgramRun, Command, IsNoticed, run_of}
 use Rattle.edfstore_host.specs.InMemory.{IsRunInMemory}
 use Rattle.edfstore_host.specs.OnFile.{IsRunAtPath}
 use Rattle.edfstore_host.specs.declared.ended.Ended.{Ended}
@@ -15,7 +15,7 @@ use Rattle.edfstore_host.specs.declared.ended.Ended.TheVariants.{WithoutFiles}
 -- a run of the program over files that hold this: a recording may have as many data records as a
 -- file may, and what is told of the opening is not known
 abbrev pub program_run : {D : Type 0} (g : Ghosts D) → Image → Command → Growth →
-    (Unread : Type 0) → Run g
+    (Unread : Type 0) → ProgramRun g
 program_run g start c err Unread =
     run_of g MOST_RECORDS start c err (IsNoticed None None) Unread
 

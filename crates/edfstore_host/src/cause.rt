@@ -6,7 +6,7 @@ use crate::ended::Ended;
 use crate::path::{is_address, look_at, why_none};
 use edf_command::Status;
 use edf_fragment::Output;
-use edf_session::{Session, Watch};
+use edf_program_run::{EndedRun, Watch};
 use edf_store::StoreFault;
 use edf_system::{FULL, Terminal, tell_system_error};
 use sqlite::{Error, ErrorCode};
@@ -133,7 +133,7 @@ pub fn tell_failure_of<D: Disk>(
     rt: &HostRuntime,
     terminal: &Terminal<'_>,
     path: &str,
-    session: &Session<D>,
+    session: &EndedRun<D>,
 ) {
     if terminal.is_there()
         && let Some(failure) = disk_failure(session.files.tally()).or(session.failure)

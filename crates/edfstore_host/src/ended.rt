@@ -4,14 +4,14 @@ ghost use Rattle.std.specs.Prelude.{◌≡◌};
 ghost use Rattle.edfstore_host.specs.Ended.{status_of};
 
 use edf_command::Status;
-use edf_session::Session;
+use edf_program_run::EndedRun;
 use sqlite::Leftover;
 use sqlite_disk::Disk;
 
 /// What a command came to, with the files of its store, where these came back.
 pub(crate) enum Ended<D: Disk> {
     /// It was run over the files of its store.
-    Run(Session<D>),
+    Run(EndedRun<D>),
     /// These were not opened; with the status comes what is left of them.
     NotOpened(Status, Option<Leftover<D>>),
     /// It has no files: there are none at its path, and it only reads, or it names no path.

@@ -13,11 +13,13 @@
 mod cache;
 mod cause;
 mod ended;
+mod heap;
 mod memory;
 mod opening;
 mod path;
 mod room;
 mod running;
+mod spare;
 mod standing;
 mod waiting;
 

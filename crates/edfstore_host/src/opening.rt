@@ -1,18 +1,22 @@
 //! How the files of a store are opened: they are waited for where another program has them.
 
-ghost use Rattle.std.specs.Prelude.{◌≡◌, true, MatchOption};
+ghost use Rattle.std.specs.Prelude.{◌≡◌, true, Ok, IfOk, IfErr, MatchOption};
 ghost use Rattle.sqlite_wal.specs.Recovery.{Image};
 ghost use Rattle.sqlite_wal.specs.Files.{image_at};
 ghost use Rattle.edfstore_arguments.specs.Arguments.{meaning};
-ghost use Rattle.edf_session.specs.Run.{IsOpening};
+ghost use Rattle.edf_program_run.specs.ProgramRun.{IsOfNoFiles, IsOpening};
 ghost use Rattle.edfstore_host.specs.OnFile.{OnlyReads};
 
+use crate::heap::give_back;
 use crate::room::pages_at;
+use crate::spare::without_spares;
 use crate::standing::Standing;
 use crate::waiting::{TRIES, is_held, pause};
 use edf_command::Order;
-use edf_session::open_path;
+use edf_program_run::open_path;
 use sqlite::{Connection, Error, ErrorCode, FileFrom, FileStore, Leftover, Start, Unknown};
+use sqlite_disk::Disk;
+use std::alloc::Global;
 
 /// What stands for what files hold, and can do so again at the next try.
 pub trait Again {
@@ -33,7 +37,8 @@ fn lacks_memory(error: &Error) -> bool {
 
 /// Opens the files of the store at a path with all of their pages in memory, where there is room
 /// and they do not stay open; and once more, as SQLite's port does by itself, where memory ran out
-/// then. What an opening that failed leaves of files keeps what they kept (`edf_session::laws`), and
+/// then. What an opening that failed leaves of files keeps what they kept
+/// (`edf_program_run::laws`), and
 /// is let go before.
 fn open_with_room<S: Start + Again>(
     rt: &HostRuntime,
@@ -84,11 +89,26 @@ pub fn open_when_free<S: Start + Again>(
     open_with_room(rt, path, stay_open, &start)
 }
 
-/// The same for a program that keeps them open: what the path stands for is kept then.
+/// A connection whose files stay open, without the memory that only their check took.
+fn settled<D: Disk + Drop>(
+    alloc: Global,
+    conn: Connection<FileStore<D>>,
+) -> Result<Connection<FileStore<D>>, Error>
+    ensures opening { (start : Image) → IsOpening {g = D.Disk} start (Ok conn) →
+        IfOk result (λ c. IsOpening {g = D.Disk} start (Ok c)) }
+    ensures why { IfErr result IsOfNoFiles }
+{
+    let kept = without_spares(conn);
+    give_back(alloc);
+    kept
+}
+
+/// The same for a program that keeps them open: what the path stands for is kept then, and no
+/// memory that only the check of the files took.
 ///
 /// # Errors
 /// As those of `open_when_free`. Nothing is left where the path does not stand for the files that
-/// were opened, or there is no memory to keep it: they are let go as they are.
+/// were opened, or memory ran out once they were: they are let go as they are.
 pub fn open_standing<S: Start + Again>(
     standing: &Standing<'_>,
     start: S,
@@ -100,6 +120,10 @@ pub fn open_standing<S: Start + Again>(
     let conn = match open_when_free(rt, standing.path(), true, start) {
         Ok(conn) => conn,
         Err(refused) => return Err(refused),
+    };
+    let conn = match settled(rt.alloc(), conn) {
+        Ok(conn) => conn,
+        Err(error) => return Err((error, None)),
     };
     match standing.keep(before) {
         Ok(()) => Ok(conn),

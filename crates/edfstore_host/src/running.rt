@@ -6,7 +6,7 @@ ghost use Rattle.edfstore_arguments.specs.Arguments.{meaning};
 ghost use Rattle.edf_command.specs.Command.{store_path};
 ghost use Rattle.edf_header.specs.declared.limits.TheConstants.{MOST_RECORDS};
 ghost use Rattle.edf_program.specs.Output.{growth};
-ghost use Rattle.edf_session.specs.Run.{IsNoticed, IsOpening, run_of};
+ghost use Rattle.edf_program_run.specs.ProgramRun.{IsNoticed, IsOpening, run_of};
 ghost use Rattle.edfstore_host.specs.OnFile.{OnlyReads, FindsNothing, IsRunOn, IsRunAtPath};
 ghost use Rattle.edfstore_host.specs.Program.{program_run, IsProgramRun};
 
@@ -17,7 +17,7 @@ use crate::opening::{Again, find};
 use crate::path::{AtPath, look_at};
 use edf_command::{Inputs, Order, Status, store_path, tell_no_recording};
 use edf_fragment::Output;
-use edf_session::{Cap, Watch, run_opened};
+use edf_program_run::{Cap, Watch, run_opened};
 use edf_system::Terminal;
 use sqlite::{Connection, Error, FileFrom, FileStore, Leftover, Start};
 use sqlite_disk::Disk;
