@@ -5,12 +5,14 @@
 A night of 195 MB in 96 files: each is sent when the one before was answered. The first table has
 the session and one call of `edfstore take` with all files, by processor and clock, with the peak
 memory, and `cat` with a sync a file. The second has the answers: the median and the last. In the
-middle of the night `list` and `export 1 F` are asked for. Then NIGHTS nights (10 if left
-out) come into one store in one session, by tenths. Exports are compared with those of `edfstore`.
-It needs /usr/bin/time and 5 GB in TMPDIR for ten nights.
+middle of the night `list` and `export 1 F` are asked for. A session that is begun again over the
+night has some memory left a second after its first answer. Then NIGHTS nights (10 if left out) come
+into one store in one session, by tenths, and it is begun again over these. Exports are compared
+with those of `edfstore`. It needs /usr/bin/time and 5 GB in TMPDIR for ten nights.
 """
 import filecmp
 import resource
+import shutil
 import statistics
 import sys
 import time
@@ -91,14 +93,39 @@ def compare_exports(given, folder: Path) -> None:
         sys.exit("the exports differ")
 
 
-def tenths(given, folder: Path) -> None:
+def begun_again(program: Path, folder: Path, store: Path = None) -> tuple:
+    """A session that is begun over a store, or over the folder's own: its memory a second after its
+    first answer, and the most that it had."""
+    if store:
+        shutil.copy(store, folder / "s.db")
+    client = Client(program, folder)
+    answer = client.ask("list")
+    if not answer.endswith(status(0)):
+        sys.exit(f"list: {answer}")
+    time.sleep(1)
+    held = client.held(), client.peak()
+    if client.end() != (0, "", ""):
+        sys.exit("the session did not end with status 0")
+    return held
+
+
+def nights_in_one(program: Path, folder: Path, nights: int) -> Served:
     """Many nights of one recording into one store, in one session."""
-    served, one = Served(Client(given.edfserve, folder)), night.CLINIC
-    for nth in range(given.nights):
-        parts = one.next_night(nth).parts(folder)
-        for path in parts:
+    served = Served(Client(program, folder))
+    for nth in range(nights):
+        for path in night.CLINIC.next_night(nth).parts(folder):
             served.take(path)
             path.unlink()
+    return served
+
+
+def tell_again(what: str, held: tuple) -> None:
+    print(f"{what}: {measure.mb(held[0])} a second after the first answer, "
+          f"{measure.mb(held[1])} at most")
+
+
+def tenths(given, folder: Path) -> None:
+    served = nights_in_one(given.edfserve, folder, given.nights)
     step = len(served.seconds) // 10
     spent = [sum(served.processor[at:at + step]) for at in range(0, 10 * step, step)]
     median = statistics.median(spent)
@@ -107,6 +134,7 @@ def tenths(given, folder: Path) -> None:
           f"{spent[-1] / median:.2f} times the median; peak {measure.mb(served.client.peak())}")
     if served.client.end()[0]:
         sys.exit("the session did not end with status 0")
+    tell_again("begun again over them", begun_again(given.edfserve, folder))
 
 
 def report(given, folder: Path, parts: list) -> None:
@@ -146,6 +174,7 @@ def main() -> None:
         measure.table(("in the middle of the night", "clock", "processor"),
                       in_the_middle(given, folder, parts))
         compare_exports(given, folder)
+        tell_again("begun again over the night", begun_again(given.edfserve, folder))
         measure.remove_store(folder / "s.db")
         for path in parts:
             path.unlink()
