@@ -18,7 +18,7 @@ use Rattle.edf_command.specs.Listing.{AreRecordingsListed}
 use Rattle.edf_command.specs.Exporting.{IsRecordingExported, TellsWrites, IsPlaceExported}
 use Rattle.edf_program.specs.Status.{status_of_number}
 use Rattle.edf_program.specs.Text.{memory_line}
-use Rattle.edf_program.specs.Output.{Growth, Gets, IsTold, Explains}
+use Rattle.edf_program.specs.Output.{Growth, Gets, IsTextTold, Explains}
 use Rattle.edf_program.specs.declared.status.Status.{Status}
 use Rattle.edf_program.specs.declared.status.Status.TheVariants.{Trouble}
 
@@ -40,7 +40,7 @@ module _ {S : Type 0} (g : Ghosts S) (old new : StoreModel S) (out err : Growth)
     pub opened : from.left ≡ bytes
     pub submitted : IsSubmitted g old new from to (Err refusal)
     pub said : (spell : ℕ → List ℕ) → IsSpelling spell →
-        Gets out [] × IsTold err (refused_file_line spell name refusal)
+        Gets out [] × IsTextTold err (refused_file_line spell name refusal)
         (status_of_number (refusal_number refusal)) status
 
   -- it was accepted, and what its recording then holds went out

@@ -1,21 +1,22 @@
 -- Files that were begun, and what is left of them.
 use Rattle.std.specs.Prelude.{◌≡◌, ◌≢◌, ◌⊎◌, ℕ, zero, suc, ◌+◌, ◌-◌, ◌^◌, min, List, [], ◌∷◌, ◌++◌, map}
 use Rattle.std.specs.Prelude.{Bool, true, false, Option, Some, None, Result, Ok, Err}
-use Rattle.edf_new_files.specs.declared.new_files.Stage.{Stage}
-use Rattle.edf_new_files.specs.declared.new_files.Stage.TheVariants.{Begun, Left, Finished, Removed}
-use Rattle.edf_new_files.specs.declared.new_files.Stage.TheVariants.{Kept}
+use Rattle.edf_new_files.specs.declared.new_files.FileStage.{FileStage}
+use Rattle.edf_new_files.specs.declared.new_files.FileStage.TheVariants.{Begun, Left, Finished}
+use Rattle.edf_new_files.specs.declared.new_files.FileStage.TheVariants.{Removed}
+use Rattle.edf_new_files.specs.declared.new_files.FileStage.TheVariants.{Kept}
 use Rattle.edf_new_files.specs.declared.new_files.Unfinished.{Unfinished}
 
 -- a file that was begun: under which name, how far it is, whether it was finished, what its writer
 -- held when it was given back, where that is known, and why it did not get its name, if it was to
 pub record MadeFile : Type 0 where
   pub name : List ℕ
-  pub stage : Stage
+  pub stage : FileStage
   pub whole : Bool
   pub bytes : Option (List ℕ)
   pub why : Option Unfinished
 
-abbrev pub made_file : List ℕ → Stage → Bool → Option (List ℕ) → Option Unfinished → MadeFile
+abbrev pub made_file : List ℕ → FileStage → Bool → Option (List ℕ) → Option Unfinished → MadeFile
 made_file name stage whole bytes why =
     record { name = name; stage = stage; whole = whole; bytes = bytes; why = why }
 
@@ -40,7 +41,7 @@ abbrev pub kept : MadeFile → MadeFile
 kept file = made_file file.name Kept file.whole file.bytes file.why
 
 -- how far one is that was to be removed
-abbrev pub stage_after : Bool → Stage
+abbrev pub stage_after : Bool → FileStage
 stage_after true = Removed
 stage_after false = Kept
 

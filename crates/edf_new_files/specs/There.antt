@@ -1,7 +1,7 @@
 -- What is there under a name, where that is known.
 use Rattle.std.specs.Prelude.{◌≡◌, ◌≢◌, ◌⊎◌, ℕ, List, Bool, true, false, Option, Some, None, IfSome}
 use Rattle.std.specs.Prelude.{Result, Ok, Err}
-use Rattle.edf_new_files.specs.declared.new_files.Stage.TheVariants.{Removed}
+use Rattle.edf_new_files.specs.declared.new_files.FileStage.TheVariants.{Removed}
 use Rattle.edf_new_files.specs.declared.new_files.Unfinished.{Unfinished}
 use Rattle.edf_new_files.specs.declared.new_files.Unfinished.TheVariants.{IsThere, Failed}
 use Rattle.edf_new_files.specs.Made.{MadeFile}
@@ -14,8 +14,8 @@ abbrev pub There : Type 0
 There = List ℕ → Option Found
 
 -- nothing of this name is known to be there
-abbrev pub IsFree : There → List ℕ → Type 0
-IsFree there name = IfSome (there name) (λ found. found ≡ None)
+abbrev pub IsVacant : There → List ℕ → Type 0
+IsVacant there name = IfSome (there name) (λ found. found ≡ None)
 
 -- nothing of this name is known not to be there
 abbrev pub MayBeThere : There → List ℕ → Type 0
@@ -37,7 +37,7 @@ IsSameBut old new name = (other : List ℕ) → other ≢ name → new other ≡
 -- a file whose writer held this got its name, of which nothing was there; or it did not, and
 -- nothing changed: something was there of it, or it failed
 abbrev pub IsNamed : There → There → List ℕ → Option (List ℕ) → Result ℕ Unfinished → Type 0
-IsNamed old new name held (Ok bytes) = IsFree old name
+IsNamed old new name held (Ok bytes) = IsVacant old name
     × Becomes (old name) (new name) (Some held) × IsSameBut old new name
 IsNamed old new name held (Err IsThere) = MayBeThere old name × IsSame old new
 IsNamed old new name held (Err Failed) = IsSame old new

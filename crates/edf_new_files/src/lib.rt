@@ -4,11 +4,11 @@
 //!   nothing has its name, and only files that were begun here are removed. [`Unfinished`]: why one
 //!   did not get its name.
 //! - [`MadeFiles`]: the list of them that what makes them keeps, with the count of failed calls.
-//!   [`Stage`]: how far each is.
+//!   [`FileStage`]: how far each is.
 #![tactic(auto)]
 
 mod made_files;
 mod new_files;
 
 pub use made_files::MadeFiles;
-pub use new_files::{NewFiles, Stage, Unfinished};
+pub use new_files::{FileStage, NewFiles, Unfinished};

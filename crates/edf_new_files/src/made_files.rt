@@ -7,7 +7,7 @@ ghost use Rattle.edf_fragment.specs.Failures.{one_more};
 ghost use Rattle.edf_new_files.specs.Made.{MadeFile, made_file, begun, half, finished, removed};
 ghost use Rattle.edf_new_files.specs.Made.{kept, unnamed, stage_after, WritesNone, failed_with};
 
-use crate::new_files::{Stage, Unfinished};
+use crate::new_files::{FileStage, Unfinished};
 use edf_fragment::one_more;
 use std::alloc::{AllocError, Global};
 use std::marker::Model;
@@ -17,7 +17,7 @@ use std::marker::Model;
 #[derive(Drop)]
 struct MadeEntry {
     name: String,
-    stage: Stage,
+    stage: FileStage,
     is_whole: bool,
     bytes: Option<Vec<u8>>,
     why: Option<Unfinished>,
@@ -29,7 +29,7 @@ impl MadeEntry {
     /// Its writer was given back.
     fn give_back(
         &mut self,
-        stage: Stage,
+        stage: FileStage,
         is_whole: bool,
         bytes: Option<Vec<u8>>,
         why: Option<Unfinished>,
@@ -48,10 +48,14 @@ impl MadeEntry {
 }
 
 /// How far a file is that was to be removed.
-fn stage_after(is_gone: bool) -> Stage
+fn stage_after(is_gone: bool) -> FileStage
     ensures { result ≡ stage_after is_gone }
 {
-    if is_gone { Stage::Removed } else { Stage::Kept }
+    if is_gone {
+        FileStage::Removed
+    } else {
+        FileStage::Kept
+    }
 }
 
 /// The files that were begun so far, in turn; how many were, with those that were forgotten; and
@@ -105,7 +109,7 @@ impl MadeFiles {
         ensures none { result ≡ false → WritesNone self.now.files }
     {
         let count = self.entries.len();
-        count > 0 && self.entries[count - 1].stage == Stage::Begun
+        count > 0 && self.entries[count - 1].stage == FileStage::Begun
     }
 
     /// Adds a file of that name that is begun.
@@ -119,7 +123,7 @@ impl MadeFiles {
         let name = String::from_str(alloc, name)?;
         self.entries.push(MadeEntry {
             name,
-            stage: Stage::Begun,
+            stage: FileStage::Begun,
             is_whole: false,
             bytes: None,
             why: None,
@@ -173,7 +177,7 @@ impl MadeFiles {
     /// Notes how far the file is that is written, whose writer was given back.
     fn give_back(
         &mut self,
-        stage: Stage,
+        stage: FileStage,
         is_whole: bool,
         bytes: Option<Vec<u8>>,
         why: Option<Unfinished>,
@@ -186,7 +190,7 @@ impl MadeFiles {
         ensures begun_count { self.new.begun_count ≡ self.old.begun_count }
     {
         let count = self.entries.len();
-        if count > 0 && self.entries[count - 1].stage == Stage::Begun {
+        if count > 0 && self.entries[count - 1].stage == FileStage::Begun {
             self.entries[count - 1].give_back(stage, is_whole, bytes, why);
         }
     }
@@ -200,7 +204,7 @@ impl MadeFiles {
         ensures failed { self.new.failed ≡ self.old.failed }
         ensures begun_count { self.new.begun_count ≡ self.old.begun_count }
     {
-        self.give_back(Stage::Finished, true, bytes, None);
+        self.give_back(FileStage::Finished, true, bytes, None);
     }
 
     /// Notes why the file that is written, with these bytes, did not get its name, and whether it
@@ -226,7 +230,7 @@ impl MadeFiles {
         ensures failed { self.new.failed ≡ failed_with self.old.failed failures }
         ensures begun_count { self.new.begun_count ≡ self.old.begun_count }
     {
-        self.give_back(Stage::Left, false, bytes, None);
+        self.give_back(FileStage::Left, false, bytes, None);
         self.failed = self.failed.saturating_add(failures);
     }
 
@@ -242,7 +246,7 @@ impl MadeFiles {
     }
 
     /// How far the file at a place is, if there is one.
-    pub fn stage(&self, place: usize) -> Option<Stage>
+    pub fn stage(&self, place: usize) -> Option<FileStage>
         ensures { result
             ≡ option_map (λ (file : MadeFile). file.stage) (slice_get self.now.files place) }
     {

@@ -6,7 +6,8 @@ ghost use Rattle.std.specs.Bool.{MatchBool};
 ghost use Rattle.edf_fragment.specs.Failures.{one_more};
 ghost use Rattle.edf_new_files.specs.Made.{MadeFile, begun, half, removed, kept};
 ghost use Rattle.edf_new_files.specs.Made.{IsEnded, WritesNone, failed_with};
-ghost use Rattle.edf_new_files.specs.There.{There, IsFree, MayBeThere, IsSame, IsNamed, IsTakenAway};
+ghost use Rattle.edf_new_files.specs.There.{There, IsVacant, MayBeThere, IsSame, IsNamed};
+ghost use Rattle.edf_new_files.specs.There.{IsTakenAway};
 
 use edf_fragment::Output;
 use std::alloc::Global;
@@ -14,7 +15,7 @@ use std::io;
 
 /// How far a file is that was begun.
 #[derive(Clone, Copy, Debug, PartialEq, Eq, Drop)]
-pub enum Stage {
+pub enum FileStage {
     /// It is written, and has not its name.
     Begun,
     /// It was left half written.
@@ -68,7 +69,7 @@ pub trait NewFiles {
     fn is_there(&mut self, name: &str) -> bool
         ensures answer { MatchBool result
             (MayBeThere (there self.old) name.now)
-            (IsFree (there self.old) name.now) }
+            (IsVacant (there self.old) name.now) }
         ensures there { IsSame (there self.old) (there self.new) }
         ensures made { made self.new ≡ made self.old }
         ensures begun_count { begun_count self.new ≡ begun_count self.old }
@@ -92,7 +93,7 @@ pub trait NewFiles {
         ensures empty { IfOk result (λ writer. known self.old ≡ true →
             Self.Writer.contents writer ≡ Some []) }
         ensures unfailed { IfOk result (λ writer. Self.Writer.failures writer ≡ 0) }
-        ensures free { IfOk result (λ _. IsFree (there self.old) name.now) }
+        ensures free { IfOk result (λ _. IsVacant (there self.old) name.now) }
         ensures there { IsSame (there self.old) (there self.new) }
         ensures known { known self.new ≡ known self.old };
 

@@ -11,7 +11,7 @@ use Rattle.std.specs.Io.KnownBytes.{Appends}
 use Rattle.edf_fragment.specs.Failures.{one_more}
 use Rattle.edf_fragment.specs.declared.streams.Output.{Ghosts}
 use Rattle.edf_program.specs.Output.{Growth, growth, Gets, GetsFront, LacksText, IsPut, IsLinePut}
-use Rattle.edf_program.specs.Output.{IsWritten, IsTold, AreTold}
+use Rattle.edf_program.specs.Output.{IsWritten, IsTextTold, AreTold}
 use Rattle.edf_program.specs.declared.status.Status.{Status}
 use Rattle.edf_program.specs.declared.status.Status.TheVariants.{Trouble}
 
@@ -80,7 +80,8 @@ module _ (w : Growth) where
     line-put (Err e) false text p is = inr p.0
 
     pub line-told : (line : Result T E) (wanted status : Status) (text : List ℕ) →
-        IsToldBy line wanted status → IfOk line (λ l. items l ≡ text) → IsTold w text wanted status
+        IsToldBy line wanted status → IfOk line (λ l. items l ≡ text) → IsTextTold w text wanted
+        status
     line-told (Ok l) wanted status text p is =
         inl (subst (λ (t : List ℕ). IsWritten w t wanted status) is p)
     line-told (Err e) wanted status text p is = inr p

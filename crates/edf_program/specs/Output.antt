@@ -62,8 +62,8 @@ IsWritten w bytes wanted status = (Gets w bytes × (status ≡ wanted))
     ⊎ (GetsFront w bytes × (status ≡ Trouble))
 
 -- or memory for the text was refused
-abbrev pub IsTold : Growth → List ℕ → Status → Status → Type 0
-IsTold w text wanted status = IsWritten w text wanted status ⊎ (Gets w [] × (status ≡ Trouble))
+abbrev pub IsTextTold : Growth → List ℕ → Status → Status → Type 0
+IsTextTold w text wanted status = IsWritten w text wanted status ⊎ (Gets w [] × (status ≡ Trouble))
 
 abbrev pub AreTold : Growth → (ℕ → List ℕ) → ℕ → Status → Status → Type 0
 AreTold w lines count wanted status = IsWritten w (lines count) wanted status

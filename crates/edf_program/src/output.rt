@@ -2,7 +2,7 @@
 
 ghost use Rattle.std.specs.Prelude.{◌≡◌, ℕ, [], List, false, IfOk, MatchResult};
 ghost use Rattle.std.specs.List.{flat_map};
-ghost use Rattle.edf_program.specs.Output.{growth, Gets, IsPut, IsLinePut, IsWritten, IsTold};
+ghost use Rattle.edf_program.specs.Output.{growth, Gets, IsPut, IsLinePut, IsWritten, IsTextTold};
 
 use crate::status::Status;
 use edf_fragment::{Output, Remark, send};
@@ -39,7 +39,7 @@ pub fn tell<W: Output>(out: &mut W, line: Result<Vec<u8>, AllocError>, status: S
     ensures line { let w = growth W.Output out.old out.new in MatchResult line
         (λ l. IsWritten w l.items status result) (λ _. Gets w [] × (result ≡ Status.Trouble)) }
     ensures told { (text : List ℕ) → IfOk line (λ l. l.items ≡ text) →
-        IsTold (growth W.Output out.old out.new) text status result }
+        IsTextTold (growth W.Output out.old out.new) text status result }
 {
     if put_line(out, line) {
         status

@@ -9,7 +9,7 @@ use Rattle.edf_program.specs.Output.{Growth, Gets, GetsFront, IsWritten}
 use Rattle.edf_program.specs.Text.{refused_line}
 use Rattle.edf_program.specs.declared.status.Status.{Status}
 use Rattle.edf_program.specs.declared.status.Status.TheVariants.{Trouble}
-use Rattle.edf_serve.specs.Client.{IsIdle, IsOpenSince, IsUntold}
+use Rattle.edf_serve.specs.Client.{IsIdle, IsOpenSince, IsNameless}
 use Rattle.edf_serve.specs.Exchange.{Exchange, IsAfterAccepted}
 use Rattle.edf_serve.specs.Lines.{whole_lines}
 use Rattle.edf_serve.specs.Work.{Point}
@@ -17,7 +17,7 @@ use Rattle.edf_serve.specs.declared.answering.End.TheVariants.{Left}
 use Rattle.edf_serve.proofs.Whole.{EndsFed, fed-behind, is-whole}
 
 pub after-accepted : {S : Type 0} (g : Ghosts S) (x : Exchange S) (b : Point S)
-    (receipt : Receipt) (is_left : Bool) → (is_left ≡ true → IsUntold receipt.identity) →
+    (receipt : Receipt) (is_left : Bool) → (is_left ≡ true → IsNameless receipt.identity) →
     (is_left ≡ false → IsIdle g b.store × IsOpenSince g x.work.new.store b.store) →
     IsAfterAccepted g x b receipt (cond is_left (Some Left) None)
 after-accepted g x b receipt true untold idle = untold refl

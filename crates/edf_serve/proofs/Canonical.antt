@@ -13,7 +13,7 @@ use Rattle.edf_store.specs.Held.{StoreModel, at, Holds, Stays}
 use Rattle.edf_export.specs.Export.{export_fault_number}
 use Rattle.edf_export.specs.Headline.{IsOnlyFile}
 use Rattle.edf_export.proofs.Walks.{clean_before}
-use Rattle.edf_program.specs.Output.{Growth, Gets, IsWritten, IsTold}
+use Rattle.edf_program.specs.Output.{Growth, Gets, IsWritten, IsTextTold}
 use Rattle.edf_program.specs.declared.status.Status.{Status}
 use Rattle.edf_program.specs.declared.status.Status.TheVariants.{Done, Refused, Trouble}
 use Rattle.edf_new_files.specs.declared.new_files.Unfinished.{Unfinished}
@@ -89,7 +89,7 @@ whole-file g Picture old new file out key told is clean h held done =
 
 -- a line that is told with the first status was written whole
 line-told : (out : Growth) (text : List ℕ) (status : Status) → status ≡ Done →
-    IsTold out text Done status → Gets out text
+    IsTextTold out text Done status → Gets out text
 line-told out text status done (inl (inl w)) = w.0
 line-told out text status done (inl (inr w)) = absurd (trouble-not (sym w.1 ∙ done))
 line-told out text status done (inr w) = absurd (trouble-not (sym w.1 ∙ done))

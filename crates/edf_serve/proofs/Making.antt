@@ -6,7 +6,7 @@ use Rattle.std.specs.Bool.{MatchBool}
 use Rattle.edf_new_files.specs.Made.{MadeFile, made_file, half, finished, removed, kept, unnamed}
 use Rattle.edf_new_files.specs.Made.{stage_after, IsEnded}
 use Rattle.edf_new_files.specs.There.{There, Found, Becomes, IsSameBut, IsNamed, HasName}
-use Rattle.edf_new_files.specs.declared.new_files.Stage.TheVariants.{Removed, Kept}
+use Rattle.edf_new_files.specs.declared.new_files.FileStage.TheVariants.{Removed, Kept}
 use Rattle.edf_new_files.specs.declared.new_files.Unfinished.{Unfinished}
 use Rattle.edf_new_files.specs.declared.new_files.Unfinished.TheVariants.{IsThere, Failed}
 use Rattle.edf_serve.specs.NewFile.{Maker, BeginsFile, BeginsNot, FinishesFile, GivesUpFile}

@@ -12,7 +12,7 @@ use Rattle.edf_intake.proofs.Turns.{map-next}
 use Rattle.edf_serve.specs.Exchange.{Exchange, IsAnswered}
 use Rattle.edf_serve.specs.Files.{Paths, opens, from_folder, to_folder, LiesBelow}
 use Rattle.edf_serve.specs.NewFile.{Maker}
-use Rattle.edf_serve.specs.Session.{Moment, IsExchange, AreExchanges, IsStep, IsWhole}
+use Rattle.edf_serve.specs.Session.{Moment, IsExchange, AreExchanges, IsStep, IsWholeSession}
 use Rattle.edf_serve.specs.Session.{AreSubmittedInTurn, AreMadeBelow, IsSession, submissions}
 use Rattle.edf_serve.specs.Session.{status_at}
 use Rattle.edf_serve.specs.Work.{Point, Submission}
@@ -178,7 +178,7 @@ module _ {S : Type 0} (g : Ghosts S) (folders : Folders) where
         d ≡ record c { at = record c.at { worst = status_at why c.at.worst } } →
         Took g folders a.at c.at (submissions all) →
         AreMadeBelow (to_folder folders) a.at.made all c.at.made → IsSession g folders a d all why →
-        IsWhole g folders a d why
+        IsWholeSession g folders a d why
     whole d why all status took made session =
         let point = ap (λ (m : Moment S). m.at) status in
         let now = took-none g folders a.at c.at d.at (submissions all) took
@@ -196,7 +196,7 @@ module _ {S : Type 0} (g : Ghosts S) (folders : Folders) where
     ends-with : (d : Moment S) (why : End) (x : Option (Exchange S)) →
         IsStep g folders b c x (Some why) →
         d ≡ record c { at = record c.at { worst = status_at why c.at.worst } } →
-        IsWhole g folders a d why
+        IsWholeSession g folders a d why
     ends-with d why (Some x) step status = whole d why (x ∷ so.all) status (took-next x step.0)
         (made-next x step.0) (record {
           mid = b;
@@ -222,7 +222,7 @@ module _ {S : Type 0} (g : Ghosts S) (folders : Folders) where
     pub step-ends : (d : Moment S) (result : Option End) (why : End) → result ≡ Some why →
         ((x : Option (Exchange S)) × IsStep g folders b c x result) →
         d ≡ record c { at = record c.at { worst = status_at why c.at.worst } } →
-        IsWhole g folders a d why
+        IsWholeSession g folders a d why
     step-ends d result why e step status =
         ends-with d why step.0 (subst (IsStep g folders b c step.0) e step.1) status
 
@@ -244,7 +244,12 @@ module _ {S : Type 0} (g : Ghosts S) (folders : Folders) where
   -- as many lines as a session can have
   pub is-full : (a b : Moment S) (count : ℕ) (so : SoFar a b count) →
       count ≡ 18446744073709551615 →
-      IsWhole g folders a (record b { at = record b.at { worst = status_at end.Full b.at.worst } })
+      IsWholeSession g folders a (record b {
+        at = record b.at {
+          worst = status_at end.Full
+              b.at.worst;
+        };
+      })
       end.Full
   is-full a b count so all = record {
     all = so.all;

@@ -57,8 +57,8 @@ looked looks true = (one_more looks.0, looks.1)
 looked looks false = (looks.0, one_more looks.1)
 
 -- the patient has neither a code nor a name, the fourth subfield of the patient identification
-abbrev pub IsUntold : Key → Type 0
-IsUntold k = (patient_code k ≡ codes "X")
+abbrev pub IsNameless : Key → Type 0
+IsNameless k = (patient_code k ≡ codes "X")
     × (slice_index_or (subfields k.patient) 3 [] ≡ codes "X")
 
 -- of two data records that begin one after the other the later begins more than 8 hours, in
@@ -91,11 +91,11 @@ module _ {S : Type 0} (g : Ghosts S) where
   -- It was so, and what is held stayed; all data records of the file are new, its patient has
   -- neither code nor name, and anywhere in its recording two of them, one after the other, begin
   -- more than 8 hours apart.
-  pub record IsApart (store : StoreModel S) (receipt : Receipt) : Type 0 where
+  pub record MayBeOfTwo (store : StoreModel S) (receipt : Receipt) : Type 0 where
     pub mid : StoreModel S
     pub accepted : HasAccepted mid receipt
     pub stays : Stays g mid store
     pub new : receipt.known ≡ 0
-    pub untold : IsUntold receipt.identity
+    pub untold : IsNameless receipt.identity
     pub paused : HasCleanDisk (at g store) → (h : Holdings) → Holds g mid h →
         HasPause (h receipt.identity)

@@ -15,7 +15,7 @@ use Rattle.edf_program.specs.Output.{IsWritten}
 use Rattle.edf_program.specs.Text.{refused_line}
 use Rattle.edf_program.specs.declared.status.Status.{Status}
 use Rattle.edf_program.specs.declared.status.Status.TheVariants.{Done, Usage, Trouble}
-use Rattle.edf_serve.specs.Client.{Heard, GetsAnswer, looked, IsIdle, IsOpenSince, IsUntold}
+use Rattle.edf_serve.specs.Client.{Heard, GetsAnswer, looked, IsIdle, IsOpenSince, IsNameless}
 use Rattle.edf_serve.specs.Client.{status_line, refused_once, warned_once}
 use Rattle.edf_serve.specs.Exporting.{IsMadeOf}
 use Rattle.edf_serve.specs.Files.{and_one}
@@ -70,7 +70,8 @@ refused_by asked counts = counts
 module _ {S : Type 0} (g : Ghosts S) (x : Exchange S) (b : Point S) where
   -- Whole lines, and behind them the line of the status, go out to a client that then heard so
   -- much. The session goes on or ends so, or ends since not all of that went out.
-  pub record Tells (lines : List ℕ) (status : Status) (goes : Option End) (heard : Heard) : Type 0
+  pub record TellsAnswer (lines : List ℕ) (status : Status) (goes : Option End) (heard : Heard) :
+      Type 0
     where
       pub whole : lines ≡ whole_lines lines
       pub is_out : Bool
@@ -94,7 +95,7 @@ module _ {S : Type 0} (g : Ghosts S) (x : Exchange S) (b : Point S) where
   pub record TellsLines (told : Status) (is_doubtful : Bool) : Type 0 where
     pub status : Status
     pub goes : Option End
-    pub tells : Tells (whole_lines x.work.new.out.bytes.items
+    pub tells : TellsAnswer (whole_lines x.work.new.out.bytes.items
         ++ whole_lines x.work.new.why.bytes.items) status goes b.heard
     pub stays : Stays g x.work.new.store b.store
     pub after : IsAfterTold told is_doubtful status goes
@@ -108,7 +109,7 @@ module _ {S : Type 0} (g : Ghosts S) (x : Exchange S) (b : Point S) where
   -- is left, only of a patient without code and name. (That it was asked more then is not said.)
   abbrev pub IsAfterAccepted : Receipt → Option End → Type 0
   IsAfterAccepted receipt None = IsIdle g b.store × IsOpenSince g x.work.new.store b.store
-  IsAfterAccepted receipt (Some Left) = IsUntold receipt.identity
+  IsAfterAccepted receipt (Some Left) = IsNameless receipt.identity
   IsAfterAccepted receipt other = ⊥
 
   -- It was asked whether the store's path stands for its files, and it does: the file is told as
@@ -116,12 +117,12 @@ module _ {S : Type 0} (g : Ghosts S) (x : Exchange S) (b : Point S) where
   pub record TellsAccepted (name : List ℕ) (receipt : Receipt) : Type 0 where
     pub goes : Option End
     pub heard : Heard
-    pub tells : Tells (accepted_line name receipt.new receipt.known) Done goes heard
+    pub tells : TellsAnswer (accepted_line name receipt.new receipt.known) Done goes heard
     pub warned : ((b.heard ≡ heard) × (b.counts ≡ x.work.new.counts))
         ⊎ ((b.heard ≡ record heard { warned = and_one heard.warned name })
         × (b.counts ≡ warned_once x.work.new.counts))
     pub asked : (b.store ≡ x.work.new.store)
-        ⊎ (IsUntold receipt.identity × Stays g x.work.new.store b.store)
+        ⊎ (IsNameless receipt.identity × Stays g x.work.new.store b.store)
     pub after : IsAfterAccepted receipt goes
     pub same : b ≡ record x.work.new {
       store = b.store;
@@ -134,7 +135,8 @@ module _ {S : Type 0} (g : Ghosts S) (x : Exchange S) (b : Point S) where
   pub record TellsLost (name : List ℕ) : Type 0 where
     pub said : IsWritten (grown x.work.new.out b.out)
         (refused_line name (number (Store None)) (store_fault_name (Store None))) Trouble Trouble
-    pub tells : Tells (whole_lines b.out.bytes.items ++ whole_lines x.work.new.why.bytes.items)
+    pub tells : TellsAnswer (whole_lines b.out.bytes.items ++ whole_lines
+        x.work.new.why.bytes.items)
         Trouble (Some Lost) b.heard
     pub same : b ≡ record x.work.new {
       out = b.out;

@@ -8,7 +8,7 @@ use Rattle.edf_holdings.specs.Holdings.{Holdings}
 use Rattle.edf_store.specs.Held.{StoreModel, at, Holds, Stays}
 use Rattle.edf_command.specs.Exporting.{IsRecordingExported, TellsWrites}
 use Rattle.edfruns_command.specs.Lines.{unwritten_line}
-use Rattle.edf_program.specs.Output.{Growth, IsWritten, IsTold}
+use Rattle.edf_program.specs.Output.{Growth, IsWritten, IsTextTold}
 use Rattle.edf_program.specs.Text.{memory_line}
 use Rattle.edf_program.specs.declared.status.Status.{Status}
 use Rattle.edf_program.specs.declared.status.Status.TheVariants.{Done, Refused, Trouble}
@@ -62,7 +62,7 @@ there_line name = name ++ (codes " is there" ++ (10 ∷ []))
 -- what is said of a file that has its name with so many bytes, or has it not
 abbrev pub IsFinishTold : Form → List ℕ → Growth → Result ℕ Unfinished → Status → Type 0
 IsFinishTold form name out (Ok bytes) status =
-    IsTold out (made_line form name bytes) Done status
+    IsTextTold out (made_line form name bytes) Done status
 IsFinishTold form name out (Err IsThere) status = IsWritten out (there_line name) Refused status
 IsFinishTold form name out (Err Failed) status =
     IsWritten out (unwritten_line (verb form)) Trouble status

@@ -104,8 +104,8 @@ unpicked_line (by_place place) count = no_recording_line place
 unpicked_line (by_codes s) count = matches_line count
 
 -- a line of such a word says that the store refused, for such a fault
-abbrev pub IsRefused : List ℕ → (StoreFault → Type 0) → Growth → Status → Type 0
-IsRefused word P out status = (fault : StoreFault) × P fault
+abbrev pub IsRefusalLine : List ℕ → (StoreFault → Type 0) → Growth → Status → Type 0
+IsRefusalLine word P out status = (fault : StoreFault) × P fault
     × IsWritten out (refused_line word (number fault) (store_fault_name fault)) Trouble status
 
 module _ {S : Type 0} (g : Ghosts S) (old new : StoreModel S) where
@@ -127,7 +127,7 @@ module _ {S : Type 0} (g : Ghosts S) (old new : StoreModel S) where
   abbrev pub TellsNone : PickedBy → List ℕ → Growth → Status → Type 0
   TellsNone p verb out status = ((count : ℕ) × Finds p (Other count)
       × IsWritten out (unpicked_line p count) Refused status)
-      ⊎ IsRefused verb RefusesFinding out status
+      ⊎ IsRefusalLine verb RefusesFinding out status
 
 -- with trouble there is doubt of the store
 abbrev pub DoubtsTrouble : Outcome → Type 0

@@ -21,7 +21,7 @@ use Rattle.edfserve_arguments.specs.Line.LineAsked.{runs, runs_of, export, expor
 use Rattle.edfserve_arguments.specs.Line.LineAsked.{picture_of}
 use Rattle.edf_program.specs.declared.status.Status.TheVariants.{Done, Refused, Trouble}
 use Rattle.edf_new_files.specs.Made.{finished}
-use Rattle.edf_new_files.specs.There.{IsFree, IsSameBut, Becomes}
+use Rattle.edf_new_files.specs.There.{IsVacant, IsSameBut, Becomes}
 use Rattle.edf_serve.specs.Client.{HasAccepted}
 use Rattle.edf_serve.specs.Exchange.{Exchange, IsServed}
 use Rattle.edf_serve.specs.Exporting.{made_line}
@@ -60,7 +60,7 @@ pub record HasNewFile {S : Type 0} (folders : Folders) (a b : Point S) (name : L
     (Has : List ℕ → Type 0) : Type 0 where
   pub path : List ℕ
   pub leads : IsPlace a.paths (to_folder folders) name (Some path)
-  pub new : IsFree a.made.there path
+  pub new : IsVacant a.made.there path
   pub file : List ℕ
   pub has : Has file
   pub made : b.made.made ≡ finished path (Some file) ∷ []

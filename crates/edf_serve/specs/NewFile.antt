@@ -3,10 +3,10 @@ use Rattle.std.specs.Prelude.{◌≡◌, ◌⊎◌, ℕ, Bool, true, false, List
 use Rattle.std.specs.Prelude.{IfSome, length, Result, IfOk, MatchResult}
 use Rattle.edf_fragment.specs.Failures.{one_more}
 use Rattle.edf_new_files.specs.Made.{MadeFile, made_file, begun, stage_after, IsEnded, failed_with}
-use Rattle.edf_new_files.specs.There.{There, IsFree, MayBeThere, Becomes, IsSame, IsSameBut}
+use Rattle.edf_new_files.specs.There.{There, IsVacant, MayBeThere, Becomes, IsSame, IsSameBut}
 use Rattle.edf_new_files.specs.There.{IsNamed}
 use Rattle.edf_new_files.specs.declared.new_files.NewFiles.{Ghosts}
-use Rattle.edf_new_files.specs.declared.new_files.Stage.TheVariants.{Finished, Removed, Kept}
+use Rattle.edf_new_files.specs.declared.new_files.FileStage.TheVariants.{Finished, Removed, Kept}
 use Rattle.edf_new_files.specs.declared.new_files.Unfinished.{Unfinished}
 use Rattle.edf_new_files.specs.declared.new_files.Unfinished.TheVariants.{IsThere, Failed}
 use Rattle.edf_serve.specs.Files.{LiesBelow}
@@ -36,7 +36,7 @@ module _ (old new : Maker) (path : List ℕ) where
   -- writer, which holds this, is empty where that is known, and had no failures
   pub record BeginsFile (held : Option (List ℕ)) (failures : ℕ) : Type 0 where
     pub known : new.known ≡ old.known
-    pub free : IsFree old.there path
+    pub free : IsVacant old.there path
     pub there : IsSame old.there new.there
     pub made : new.made ≡ begun path ∷ []
     pub begun_count : new.begun_count ≡ one_more old.begun_count
@@ -49,7 +49,7 @@ module _ (old new : Maker) (path : List ℕ) where
   BeginsNot IsThere = MayBeThere old.there path × (new.known ≡ old.known)
       × IsSame old.there new.there × (new.made ≡ old.made)
       × (new.begun_count ≡ old.begun_count) × (new.failed ≡ old.failed)
-  BeginsNot Failed = IsFree old.there path × (new.known ≡ old.known)
+  BeginsNot Failed = IsVacant old.there path × (new.known ≡ old.known)
       × IsSame old.there new.there × (new.made ≡ [])
       × (new.begun_count ≡ old.begun_count) × (new.failed ≡ one_more old.failed)
 
@@ -86,7 +86,7 @@ module _ (old new : Maker) (path : List ℕ) where
     pub made : new.made ≡ file ∷ []
     pub named : file.name ≡ path
     pub begun_count : new.begun_count ≡ one_more old.begun_count
-    pub ended : ((file.stage ≡ Finished) × IsFree old.there path
+    pub ended : ((file.stage ≡ Finished) × IsVacant old.there path
         × Becomes (old.there path) (new.there path) (Some file.bytes))
         ⊎ (((file.stage ≡ Removed) ⊎ (file.stage ≡ Kept)) × (new.there path ≡ old.there path))
 

@@ -1,5 +1,5 @@
 -- What goes to the file of a picture, straight from the store, and what a line says of it.
-use Rattle.std.specs.Prelude.{◌≡◌, ◌≢◌, ◌⊎◌, ℕ, List, [], codes}
+use Rattle.std.specs.Prelude.{◌≡◌, ◌≢◌, ◌⊎◌, ℕ, List, [], codes, true}
 use Rattle.sqlite_trees.specs.declared.store.Store.{Ghosts}
 use Rattle.sqlite.specs.State.{HasCleanDisk}
 use Rattle.edf_field.specs.Number.{duration_of}
@@ -20,21 +20,23 @@ use Rattle.edf_program.specs.Output.{Growth, Gets}
 use Rattle.edf_program.specs.declared.status.Status.{Status}
 use Rattle.edf_program.specs.declared.status.Status.TheVariants.{Done}
 use Rattle.edf_serve.specs.Client.{IsIdle}
-use Rattle.edf_serve.specs.Finding.{IsRefused}
+use Rattle.edf_serve.specs.Finding.{IsRefusalLine}
 
--- it has the lines of the runs and the figures of just what the recording holds
+-- its title has the recording's codes, and it has the times, the lines of the runs and the figures
+-- of just what the recording holds
 pub record ShowsRecording (h : Holdings) (key : Key) (picture : List ℕ) : Type 0 where
   pub runs : List Run
   pub listed : AreListed (duration_of key.duration) (h key) runs
   pub notes : List Note
   pub noted : AreNoted (annotations_of (h key)) notes
-  pub shows : IsPictureOf (duration_of key.duration) runs notes picture
+  pub shows : IsPictureOf key true runs notes picture
 
--- it has the lines of some runs and the figures of some annotations
+-- its title has the recording's codes, and it has the times and the lines of some runs and the
+-- figures of some annotations
 pub record ShowsRuns (key : Key) (picture : List ℕ) : Type 0 where
   pub runs : List Run
   pub notes : List Note
-  pub shows : IsPictureOf (duration_of key.duration) runs notes picture
+  pub shows : IsPictureOf key true runs notes picture
 
 module _ (file out : Growth) (status : Status) where
   -- such a picture went to the file whole; or a front of one did, and a line says that a write
@@ -45,7 +47,7 @@ module _ (file out : Growth) (status : Status) where
 
   -- nothing did: the store refused, for such a fault, or memory ran out
   abbrev pub DrawsNone : (StoreFault → Type 0) → Type 0
-  DrawsNone P = Gets file [] × IsRefused (codes "picture") P out status
+  DrawsNone P = Gets file [] × IsRefusalLine (codes "picture") P out status
 
 -- What is held stays, and with the first status no transaction is open. On any disk a picture of
 -- some runs went to the file, or a front of one; or a line says why not, but never E0, which is for

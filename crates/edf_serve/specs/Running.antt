@@ -17,7 +17,7 @@ use Rattle.edf_program.specs.Output.{Growth, IsWritten}
 use Rattle.edf_program.specs.declared.status.Status.{Status}
 use Rattle.edf_program.specs.declared.status.Status.TheVariants.{Done}
 use Rattle.edf_serve.specs.Client.{IsIdle}
-use Rattle.edf_serve.specs.Finding.{IsRefused}
+use Rattle.edf_serve.specs.Finding.{IsRefusalLine}
 use Rattle.edf_serve.specs.Work.{Work, OnlyWrites}
 
 module _ (out : Growth) (status : Status) where
@@ -35,10 +35,10 @@ pub record AreRunsOf {S : Type 0} (g : Ghosts S) (old new : StoreModel S) (key :
   pub stays : Stays g old new
   pub idle : status ≡ Done → IsIdle g new
   pub told : ((text : List ℕ) × IsWritten out text Done status)
-      ⊎ IsRefused (codes "runs") (λ fault. fault ≢ Failed) out status
+      ⊎ IsRefusalLine (codes "runs") (λ fault. fault ≢ Failed) out status
   pub listed : HasCleanDisk (at g new) → (h : Holdings) → Holds g old h →
       HasRunsOf out status h key
-      ⊎ IsRefused (codes "runs") (MayRefuse (IsBusy g old) ⊥ ⊥) out status
+      ⊎ IsRefusalLine (codes "runs") (MayRefuse (IsBusy g old) ⊥ ⊥) out status
 
 -- that is all that is done
 abbrev pub IsListed : {S : Type 0} → Ghosts S → Work S → Key → Type 0

@@ -94,7 +94,7 @@ module _ {S : Type 0} (g : Ghosts S) (folders : Folders) where
   -- The files of all lines were submitted as one list, and just those were opened, each with the
   -- bytes of its path. For each line one file was begun at most, and ended. Where there are
   -- folders, all paths lie below them.
-  pub record IsWhole (a b : Moment S) (why : End) : Type 0 where
+  pub record IsWholeSession (a b : Moment S) (why : End) : Type 0 where
     pub all : List (Exchange S)
     pub session : IsSession a b all why
     pub submitted : AreSubmittedInTurn g a.at.store b.at.store (submissions all)

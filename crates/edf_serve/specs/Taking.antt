@@ -7,7 +7,7 @@ use Rattle.edf_intake.specs.Refusal.{Answer, IsStopped, refusal_number}
 use Rattle.edf_intake.specs.Submitted.{IsSubmitted, IsEnded}
 use Rattle.edf_command.specs.Lines.{refused_file_line, take_memory_line}
 use Rattle.edf_program.specs.Text.{IsSpelling}
-use Rattle.edf_program.specs.Output.{Growth, Gets, IsWritten, IsTold}
+use Rattle.edf_program.specs.Output.{Growth, Gets, IsWritten, IsTextTold}
 use Rattle.edf_program.specs.Status.{status_of_number}
 use Rattle.edf_program.specs.declared.status.Status.{Status}
 use Rattle.edf_program.specs.declared.status.Status.TheVariants.{Refused, Trouble}
@@ -33,7 +33,7 @@ abbrev pub IsAnswerSaid : Growth → List ℕ → Answer → Outcome → Type 0
 IsAnswerSaid out name (Ok receipt) (outcome.Accepted given told start) = (given.now ≡ name)
     × (told ≡ receipt) × Gets out []
 IsAnswerSaid out name (Err refusal) (outcome.Told status is_doubtful) = ((spell : ℕ → List ℕ) →
-    IsSpelling spell → IsTold out (refused_file_line spell name refusal)
+    IsSpelling spell → IsTextTold out (refused_file_line spell name refusal)
     (status_of_number (refusal_number refusal)) status)
     × ((is_doubtful ≡ true) ↔ IsStopped (Err refusal))
 IsAnswerSaid out name answer outcome = ⊥

@@ -11,7 +11,7 @@ ghost use Rattle.edf_serve.specs.Exchange.{refused_by};
 ghost use Rattle.edf_serve.specs.Work.{Submission, Work, EndsAs, point, grown};
 ghost use Rattle.edf_serve.specs.declared.room.Counts.{Counts};
 
-use crate::apart::warn_if_apart;
+use crate::apart::warn_if_of_two;
 use crate::client::Client;
 use crate::exporting::make_of;
 use crate::files::{Folders, Sources};
@@ -296,7 +296,7 @@ pub(crate) fn serve_line<S: Alter, I: Sources, P: NewFiles, C: Client, K: StoreF
                 return tell_lost(store, name, room);
             }
             let is_out = room.client.accept(store, name, &receipt);
-            let is_left = warn_if_apart(
+            let is_left = warn_if_of_two(
                 alloc,
                 store,
                 &mut room.client,

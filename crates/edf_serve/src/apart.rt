@@ -8,14 +8,14 @@ ghost use Rattle.edf_holdings.specs.Holdings.{Holdings};
 ghost use Rattle.edf_store.specs.Held.{at, Holds, Stays};
 ghost use Rattle.edf_store.specs.StoreTx.{IsRunning};
 ghost use Rattle.edf_store.specs.Transaction.{IsNextStart, Sees};
-ghost use Rattle.edf_serve.specs.Client.{IsUntold, HasPause, HasAccepted, IsIdle, IsOpenSince};
+ghost use Rattle.edf_serve.specs.Client.{IsNameless, HasPause, HasAccepted, IsIdle, IsOpenSince};
 ghost use Rattle.edf_serve.specs.Client.{warned_once};
 ghost use Rattle.edf_serve.specs.Files.{and_one};
 
 use crate::answering::takes_transaction;
 use crate::client::Client;
 use crate::room::Counts;
-use crate::untold::is_untold;
+use crate::untold::is_nameless;
 use edf_header::Identity;
 use edf_intake::Receipt;
 use edf_store::{Store, StoreFault, StoreTx};
@@ -260,7 +260,7 @@ fn is_alone(before: Side, after: Side) -> bool
 /// Whether the recording of an accepted file, all of whose data records are new, has a pause of
 /// more than 8 hours right before or behind them, and none of its data records is nearer on the
 /// other side. `start` is that of the file, to the second.
-fn is_apart<S: Alter>(
+fn may_be_of_two<S: Alter>(
     store: &mut Store<S>,
     receipt: &Receipt,
     start: Instant,
@@ -285,7 +285,7 @@ fn is_apart<S: Alter>(
 
 /// Warns the client where an accepted file may be another person's than its recording. Answers
 /// whether the store takes no transaction any more.
-pub(crate) fn warn_if_apart<S: Alter, C: Client>(
+pub(crate) fn warn_if_of_two<S: Alter, C: Client>(
     alloc: Global,
     store: &mut Store<S>,
     client: &mut C,
@@ -297,8 +297,8 @@ pub(crate) fn warn_if_apart<S: Alter, C: Client>(
     requires idle { IsIdle S.Store store.old }
     requires accepted { HasAccepted S.Store store.old receipt.now }
     ensures asked { (store.new ≡ store.old)
-        ⊎ (IsUntold receipt.now.identity × Stays S.Store store.old store.new) }
-    ensures left { result ≡ true → IsUntold receipt.now.identity }
+        ⊎ (IsNameless receipt.now.identity × Stays S.Store store.old store.new) }
+    ensures left { result ≡ true → IsNameless receipt.now.identity }
     ensures idle { result ≡ false → IsIdle S.Store store.new
         × IsOpenSince S.Store store.old store.new }
     ensures warned { ((C.heard client.new ≡ C.heard client.old) × (counts.new ≡ counts.old))
@@ -312,10 +312,10 @@ pub(crate) fn warn_if_apart<S: Alter, C: Client>(
     if receipt.known > 0 {
         return false;
     }
-    if !is_untold(alloc, &receipt.identity) {
+    if !is_nameless(alloc, &receipt.identity) {
         return false;
     }
-    match is_apart(store, receipt, start) {
+    match may_be_of_two(store, receipt, start) {
         Ok(true) => {
             client.warn(store, name, receipt);
             *counts = counts.warned_once();

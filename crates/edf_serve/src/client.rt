@@ -7,7 +7,7 @@ ghost use Rattle.edf_command.specs.Lines.{accepted_line};
 ghost use Rattle.edf_program.specs.Output.{IsPut, growth};
 ghost use Rattle.edf_program.specs.declared.status.Status.TheVariants.{Done};
 ghost use Rattle.edf_program.specs.Output.{IsWritten};
-ghost use Rattle.edf_serve.specs.Client.{Heard, GetsAnswer, HasAccepted, IsIdle, IsApart};
+ghost use Rattle.edf_serve.specs.Client.{Heard, GetsAnswer, HasAccepted, IsIdle, MayBeOfTwo};
 ghost use Rattle.edf_serve.specs.Client.{status_line};
 ghost use Rattle.edf_serve.specs.Files.{and_one};
 
@@ -55,7 +55,7 @@ pub trait Client {
     /// of the store is open. What was answered is as it was.
     fn warn<S: Alter>(&mut self, store: &Store<S>, name: &str, receipt: &Receipt)
         requires idle { IsIdle S.Store store.now }
-        requires apart { IsApart S.Store store.now receipt.now }
+        requires apart { MayBeOfTwo S.Store store.now receipt.now }
         ensures { heard self.new ≡ record (heard self.old) {
           warned = and_one (heard self.old).warned name.now;
         } };

@@ -25,7 +25,7 @@ use edf_header::Identity;
 use edf_program::{Status, tell_bytes, tell_parts, tell_refused};
 use edf_store::{Store, StoreFault};
 use edf_time::{Instant, instant_text};
-use edfserve_arguments::Wanted;
+use edfserve_arguments::SoughtRecording;
 use itoa::Buffer;
 use sqlite::Alter;
 use std::alloc::Global;
@@ -41,7 +41,7 @@ pub(crate) enum Pick<'l> {
     /// Its codes, and its first start where that is named, which just one recording is to have.
     Codes {
         /// What they are.
-        wanted: Wanted<'l>,
+        wanted: SoughtRecording<'l>,
     },
 }
 
@@ -101,7 +101,7 @@ fn begins_at<S: Alter>(
 }
 
 /// Whether a recording has these codes.
-fn has_codes(identity: &Identity, wanted: Wanted<'_>) -> bool
+fn has_codes(identity: &Identity, wanted: SoughtRecording<'_>) -> bool
     ensures { IsTrue result ↔ HasCodes (sought_by wanted.entry) identity.now }
 {
     identity.patient_code() == wanted.patient.as_bytes()
@@ -113,7 +113,7 @@ fn is_named<S: Alter>(
     alloc: Global,
     store: &mut Store<S>,
     identity: &Identity,
-    wanted: Wanted<'_>,
+    wanted: SoughtRecording<'_>,
 ) -> Result<bool, StoreFault>
     requires { IsIdle S.Store store.old }
     ensures stays { Stays S.Store store.old store.new }
@@ -153,7 +153,7 @@ fn named_in<S: Alter>(
     alloc: Global,
     store: &mut Store<S>,
     recordings: &[Identity],
-    wanted: Wanted<'_>,
+    wanted: SoughtRecording<'_>,
 ) -> Result<Matches, StoreFault>
     requires { IsIdle S.Store store.old }
     ensures stays { Stays S.Store store.old store.new }
@@ -182,7 +182,7 @@ fn named_in<S: Alter>(
 fn find_named<S: Alter>(
     alloc: Global,
     store: &mut Store<S>,
-    wanted: Wanted<'_>,
+    wanted: SoughtRecording<'_>,
 ) -> Result<Found, StoreFault>
     ensures { MatchResult result
         (Finds S.Store store.old store.new (by_codes (sought_by wanted.entry)))

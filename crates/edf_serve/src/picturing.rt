@@ -42,7 +42,7 @@ fn picture_of<S: Alter>(
         (MayRefuse (IsBusy S.Store store.old) ⊥ ⊥) }
 {
     let sight = gather_of(store, &identity, Sight::new(alloc))?;
-    match sight.draw(alloc, identity, 0) {
+    match sight.draw(alloc, identity, 0, true) {
         Ok(picture) => Ok(picture),
         Err(_) => Err(StoreFault::Memory),
     }

@@ -8,7 +8,7 @@ ghost use Rattle.edf_store.specs.Fault.{MayRefuse};
 ghost use Rattle.edf_store.specs.Held.{at, Holds, Stays};
 ghost use Rattle.edf_program.specs.Output.{growth, IsWritten};
 ghost use Rattle.edf_serve.specs.Client.{IsIdle};
-ghost use Rattle.edf_serve.specs.Finding.{IsDoneForOne, IsRefused, picked_by};
+ghost use Rattle.edf_serve.specs.Finding.{IsDoneForOne, IsRefusalLine, picked_by};
 ghost use Rattle.edf_serve.specs.Running.{HasRunsOf, IsListed};
 ghost use Rattle.edf_serve.specs.Work.{point};
 
@@ -39,10 +39,10 @@ fn put_runs<S: Alter, O: Output>(
     ensures listed { HasCleanDisk (at S.Store store.new) → (h : Holdings) →
         Holds S.Store store.old h →
         HasRunsOf (growth O.Output out.old out.new) result h identity
-        ⊎ IsRefused (codes "runs") (MayRefuse (IsBusy S.Store store.old) ⊥ ⊥)
+        ⊎ IsRefusalLine (codes "runs") (MayRefuse (IsBusy S.Store store.old) ⊥ ⊥)
         (growth O.Output out.old out.new) result }
     ensures told { ((text : List ℕ) × IsWritten (growth O.Output out.old out.new) text Status.Done
-        result) ⊎ IsRefused (codes "runs") (λ fault. fault ≢ StoreFault.Failed)
+        result) ⊎ IsRefusalLine (codes "runs") (λ fault. fault ≢ StoreFault.Failed)
         (growth O.Output out.old out.new) result }
     ensures idle { result ≡ Status.Done → IsIdle S.Store store.new }
 {

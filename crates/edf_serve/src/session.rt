@@ -2,7 +2,7 @@
 
 ghost use Rattle.std.specs.Prelude.{◌≡◌, Option};
 ghost use Rattle.edf_serve.specs.Exchange.{Exchange};
-ghost use Rattle.edf_serve.specs.Session.{IsStep, IsWhole, status_at};
+ghost use Rattle.edf_serve.specs.Session.{IsStep, IsWholeSession, status_at};
 ghost use Rattle.edf_serve.specs.Work.{point};
 
 use crate::answering::{End, serve_line};
@@ -70,7 +70,7 @@ pub fn serve<S: Alter, R: Input, I: Sources, P: NewFiles, C: Client, K: StoreFil
     store: &mut Store<S>,
     room: &mut Room<I, P, C, K>,
 ) -> End
-    ensures { IsWhole S.Store folders.entry
+    ensures { IsWholeSession S.Store folders.entry
         (record { at = point I.Sources P.NewFiles C.Client K.StoreFiles store.old room.old; coming = lines.old })
         (record { at = point I.Sources P.NewFiles C.Client K.StoreFiles store.new room.new; coming = lines.new })
         result }

@@ -3,7 +3,7 @@
 ghost use Rattle.std.specs.Prelude.{◌≡◌, ◌⊎◌, ◌↔◌, ℕ, true, List, Option, Err};
 ghost use Rattle.edf_command.specs.Lines.{refused_file_line, take_memory_line};
 ghost use Rattle.edf_intake.specs.Refusal.{IsStopped, refusal_number};
-ghost use Rattle.edf_program.specs.Output.{growth, IsWritten, IsTold};
+ghost use Rattle.edf_program.specs.Output.{growth, IsWritten, IsTextTold};
 ghost use Rattle.edf_program.specs.Status.{status_of_number};
 ghost use Rattle.edf_program.specs.Text.{IsSpelling};
 ghost use Rattle.edf_serve.specs.Taking.{SubmitsFile, IsTakenBelow, IsTakenNow, outside_line};
@@ -35,7 +35,7 @@ pub(crate) fn tell_outside<O: Output>(out: &mut O, name: &str) -> Status
 
 /// Writes the line of a refused file.
 fn tell_refusal<O: Output>(alloc: Global, name: &str, refusal: Refusal, out: &mut O) -> Status
-    ensures { (spell : ℕ → List ℕ) → IsSpelling spell → IsTold (growth O.Output out.old out.new)
+    ensures { (spell : ℕ → List ℕ) → IsSpelling spell → IsTextTold (growth O.Output out.old out.new)
         (refused_file_line spell name.now refusal)
         (status_of_number (refusal_number refusal)) result }
 {

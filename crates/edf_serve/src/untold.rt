@@ -3,7 +3,7 @@
 ghost use Rattle.std.specs.Prelude.{◌≡◌, [], true, take, codes, IfSome, slice_index_or};
 ghost use Rattle.edf_field.specs.Text.{subfields};
 ghost use Rattle.edf_header.specs.Key.{patient_code};
-ghost use Rattle.edf_serve.specs.Client.{IsUntold};
+ghost use Rattle.edf_serve.specs.Client.{IsNameless};
 
 use edf_field::next_subfield;
 use edf_header::Identity;
@@ -43,8 +43,8 @@ fn has_no_code(identity: &Identity) -> bool
 }
 
 /// Whether the patient has neither code nor name. Not where memory ran out.
-pub(crate) fn is_untold(alloc: Global, identity: &Identity) -> bool
-    ensures { result ≡ true → IsUntold identity.now }
+pub(crate) fn is_nameless(alloc: Global, identity: &Identity) -> bool
+    ensures { result ≡ true → IsNameless identity.now }
 {
     if !has_no_code(identity) {
         return false;

@@ -14,10 +14,10 @@ use Rattle.sqlite.specs.declared.error.Error.TheVariants.{SqliteFailure}
 use Rattle.sqlite.specs.declared.error.ErrorCode.TheVariants.{Closed}
 use Rattle.sqlite.specs.declared.file.Leftover.TheVariants as left
 use Rattle.edf_intake.specs.Batch.{Turn}
-use Rattle.edf_session.specs.Close.{Ran, AreLetGo}
-use Rattle.edf_session.specs.Turns.{PastRun, ended, idle, broken, given_in, StepsBy, Follow}
-use Rattle.edf_session.specs.declared.session.Session.{Session}
-use Rattle.edf_session.proofs.Chains.{unclosed}
+use Rattle.edf_program_run.specs.Close.{Ran, AreLetGo}
+use Rattle.edf_program_run.specs.Turns.{PastRun, ended, idle, broken, given_in, StepsBy, Follow}
+use Rattle.edf_program_run.specs.declared.session.EndedRun.{EndedRun}
+use Rattle.edf_program_run.proofs.Chains.{unclosed}
 use Rattle.edf_serve.specs.declared.answering.End.{End}
 use Rattle.edf_serve.specs.declared.answering.End.TheVariants as end
 use Rattle.edf_serve.specs.declared.files.Folders.{Folders}
@@ -159,7 +159,7 @@ module _ {D : Type 0} {g : Ghosts D} (cap : ℕ) (folders : Folders) where
       (between first i.start before i.before earlier it.5 gave.1)
       (again_step i it.0 it.1 it.2 gave.0 image may)
 
-  pub whole : (first : Image) (before after : Beside g) (why : Option End) (session : Session D)
+  pub whole : (first : Image) (before after : Beside g) (why : Option End) (session : EndedRun D)
       (s : Serves cap folders first before after why session) → GaveBack s.last →
       (session.failure ≡ None) ⊎ (session.failure ≡ Some (SqliteFailure Closed)) →
       (image : Image) → outcomes g session.files.log session.files.db image →
@@ -168,9 +168,9 @@ module _ {D : Type 0} {g : Ghosts D} (cap : ℕ) (folders : Folders) where
       behind cap (past_runs s.earlier) (past_run s.last) first s.last.start image
       (between first s.last.start before s.last.before s.earlier s.follow (s.gave_back gave))
       (last_step s.last s.sat s.closes gave
-      (subst (λ (x : Session D). (x.failure ≡ None) ⊎ (x.failure ≡ Some (SqliteFailure Closed)))
+      (subst (λ (x : EndedRun D). (x.failure ≡ None) ⊎ (x.failure ≡ Some (SqliteFailure Closed)))
       (sym s.are.2) how) image
-      (subst (λ (x : Session D). outcomes g x.files.log x.files.db image) (sym s.are.2) may))
+      (subst (λ (x : EndedRun D). outcomes g x.files.log x.files.db image) (sym s.are.2) may))
 
   came_back : (i : Sitting g) (error : Error) (now : Files D) →
       FailsAgain {g = g} i.session.files error (left.Files now) → AreClean g now.log now.db →

@@ -26,17 +26,17 @@ use Rattle.edf_holdings.specs.Reply.{after, replies}
 use Rattle.edf_store.specs.Held.{StoreModel, at, Holds}
 use Rattle.edf_intake.specs.Batch.{told_in, replies_in}
 use Rattle.edf_program.specs.declared.status.Status.{Status}
-use Rattle.edf_session.specs.Files.{Keeps, TreesKeep, FilesKeep}
-use Rattle.edf_session.specs.Run.{Run}
-use Rattle.edf_session.specs.Turns.{IsFront, ended, MaySubmit, StepsBy, LeaveAfterAll}
-use Rattle.edf_session.specs.Close.{IsLetGo, IsCloseTold, GaveBack, AreClosed, MayBe, Ran}
-use Rattle.edf_session.specs.declared.session.Session.{Session}
-use Rattle.edf_session.proofs.Chains.{result}
-use Rattle.edf_session.proofs.Keeping.{found_keeps}
-use Rattle.edf_session.proofs.LetGo.{LeavesEach, leads, rows_left, clean_last, still_keeps}
-use Rattle.edf_session.proofs.Working.{Works, crash, holds_first, keeps_last}
+use Rattle.edf_program_run.specs.Files.{Keeps, TreesKeep, FilesKeep}
+use Rattle.edf_program_run.specs.ProgramRun.{ProgramRun}
+use Rattle.edf_program_run.specs.Turns.{IsFront, ended, MaySubmit, StepsBy, LeaveAfterAll}
+use Rattle.edf_program_run.specs.Close.{IsLetGo, IsCloseTold, GaveBack, AreClosed, MayBe, Ran}
+use Rattle.edf_program_run.specs.declared.session.EndedRun.{EndedRun}
+use Rattle.edf_program_run.proofs.Chains.{result}
+use Rattle.edf_program_run.proofs.Keeping.{found_keeps}
+use Rattle.edf_program_run.proofs.LetGo.{LeavesEach, leads, rows_left, clean_last, still_keeps}
+use Rattle.edf_program_run.proofs.Working.{Works, crash, holds_first, keeps_last}
 
-module _ {D : Type 0} {g : Ghosts D} (stays : SeenMayStay g) (r : Run g) (s : Session D)
+module _ {D : Type 0} {g : Ghosts D} (stays : SeenMayStay g) (r : ProgramRun g) (s : EndedRun D)
     (first : Held (FileStore D g))
     (opens : HasCleanDisk (file_state first) → IsOpened first)
     (finds : HasCleanDisk (file_state first) → FindsIn r.start (file_state first))

@@ -11,7 +11,7 @@ use Rattle.sqlite.specs.Files.{file_state}
 use Rattle.sqlite.specs.declared.error.Error.{Error}
 use Rattle.sqlite.specs.declared.file.Leftover.{Leftover}
 use Rattle.edf_program.specs.declared.status.Status.{Status}
-use Rattle.edf_session.specs.Run.{IsOpening}
+use Rattle.edf_program_run.specs.ProgramRun.{IsOpening}
 use Rattle.edf_serve.specs.declared.answering.End.{End}
 use Rattle.edf_serve.specs.declared.answering.End.TheVariants as end
 use Rattle.edf_serve.specs.declared.files.Folders.{Folders}

@@ -16,8 +16,8 @@ use Rattle.edf_program.specs.Status.{worse}
 use Rattle.edf_program.proofs.Undone.{trouble-told}
 use Rattle.edf_program.specs.declared.status.Status.{Status}
 use Rattle.edf_program.specs.declared.status.Status.TheVariants.{Done, Refused, Usage, Trouble}
-use Rattle.edf_session.specs.Close.{Ran, IsCloseTold}
-use Rattle.edf_session.specs.declared.session.Session.{Session}
+use Rattle.edf_program_run.specs.Close.{Ran, IsCloseTold}
+use Rattle.edf_program_run.specs.declared.session.EndedRun.{EndedRun}
 use Rattle.edf_serve.specs.Exchange.{Exchange, IsWorked, IsAnswered}
 use Rattle.edf_serve.specs.Session.{Moment, IsExchange, IsStep, AreExchanges, IsSession}
 use Rattle.edf_serve.specs.Session.{status_at}
@@ -197,14 +197,14 @@ module _ {D : Type 0} {g : disk.Ghosts D} (cap : ℕ) (folders : Folders) where
       (sat-again i it.0 it.2 store)))
 
   pub without : (first : Image) (before after : Beside g) (why : Option End)
-      (session : Session D) (s : Serves cap folders first before after why session) →
+      (session : EndedRun D) (s : Serves cap folders first before after why session) →
       session.status ≢ Trouble →
       (s.earlier ≡ []) × (why ≡ Some end.Ended) × (session.failure ≡ None)
   without first before after why session s well =
       let still : s.last.session.status ≢ Trouble =
-      subst (λ (x : Session D). x.status ≢ Trouble) (sym s.are.2) well in
+      subst (λ (x : EndedRun D). x.status ≢ Trouble) (sym s.are.2) well in
       let last = sat-well s.last s.sat still in (
         none-earlier first s.last.start before s.last.before s.earlier s.follow last.1 last.2,
         sym s.are.1 ∙ last.0,
-        subst (λ (x : Session D). x.failure ≡ None) s.are.2 (s.sat.closed still),
+        subst (λ (x : EndedRun D). x.failure ≡ None) s.are.2 (s.sat.closed still),
       )

@@ -14,12 +14,12 @@ use Rattle.edf_intake.specs.Batch.{Turn}
 use Rattle.edf_program.specs.Output.{Growth, Gets}
 use Rattle.edf_program.specs.declared.status.Status.{Status}
 use Rattle.edf_program.specs.declared.status.Status.TheVariants.{Trouble}
-use Rattle.edf_session.specs.Close.{Ran, IsRefused}
-use Rattle.edf_session.specs.Run.{Run, Notice, IsNoticed}
-use Rattle.edf_session.specs.Turns.{ended, StepsBy}
-use Rattle.edf_session.specs.declared.session.Session.{Session}
+use Rattle.edf_program_run.specs.Close.{Ran, IsRefused}
+use Rattle.edf_program_run.specs.ProgramRun.{ProgramRun, Notice, IsNoticed}
+use Rattle.edf_program_run.specs.Turns.{ended, StepsBy}
+use Rattle.edf_program_run.specs.declared.session.EndedRun.{EndedRun}
 use Rattle.edf_serve.specs.Lines.{Coming}
-use Rattle.edf_serve.specs.Session.{Moment, IsWhole, submissions}
+use Rattle.edf_serve.specs.Session.{Moment, IsWholeSession, submissions}
 use Rattle.edf_serve.specs.Work.{Point, Submission}
 use Rattle.edf_serve.specs.declared.answering.End.{End}
 use Rattle.edf_serve.specs.declared.answering.End.TheVariants as end
@@ -57,7 +57,7 @@ pub record Sitting {D : Type 0} (g : Ghosts D) : Type 0 where
   pub closes : Bool
   pub turns : List Turn
   pub is_open : Bool
-  pub session : Session D
+  pub session : EndedRun D
 
 -- Whether the files are closed after lines that ended so: they are not where the store is to be
 -- opened anew before the next line, unless they are to be closed always.
@@ -82,7 +82,8 @@ moment b store = record { at = b.at store; coming = b.coming }
 abbrev pub ServesLines : {D : Type 0} {g : Ghosts D} → Folders → Option End →
     Moment (FileStore D g) → Moment (FileStore D g) → List Turn → Growth → Status → Type 0
 ServesLines folders ends a b turns err status = (why : End) × (ends ≡ Some why)
-    × ((whole : IsWhole over_files folders a b why) × AreTurnsOf (submissions whole.all) turns)
+    × ((whole : IsWholeSession over_files folders a b why) × AreTurnsOf (submissions whole.all)
+    turns)
     × (status ≡ b.at.worst) × Gets err []
 
 -- the store is the only thing of a point that it does not fix
@@ -97,7 +98,7 @@ GaveBack {g = g} i = AreClean g i.session.files.log i.session.files.db
 module _ {D : Type 0} {g : Ghosts D} (cap : ℕ) (folders : Folders) where
   -- What is done over one opening, in the words of a run. Its output, of which `watch` is told as
   -- the store is opened, is standard error.
-  abbrev pub run_between : Image → Beside g → Beside g → Option End → Bool → Run g
+  abbrev pub run_between : Image → Beside g → Beside g → Option End → Bool → ProgramRun g
   run_between start before after why closes = record {
     cap = cap;
     start = start;
@@ -115,7 +116,7 @@ module _ {D : Type 0} {g : Ghosts D} (cap : ℕ) (folders : Folders) where
         ServesLines folders why (moment before old) (moment after new) turns err status;
   }
 
-  abbrev pub run_of : Sitting g → Run g
+  abbrev pub run_of : Sitting g → ProgramRun g
   run_of i = run_between i.start i.before i.after i.why i.closes
 
   -- Lines were answered over the store, or it was refused, and none was read. Only with trouble the

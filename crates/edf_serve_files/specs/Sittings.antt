@@ -16,9 +16,9 @@ use Rattle.sqlite.specs.declared.file.Leftover.{Leftover}
 use Rattle.sqlite.specs.declared.file.Leftover.TheVariants as left
 use Rattle.edf_intake.specs.Batch.{Turn}
 use Rattle.edf_program.specs.declared.status.Status.{Status}
-use Rattle.edf_session.specs.Run.{NotOpened}
-use Rattle.edf_session.specs.Turns.{PastRun, ended, idle, broken, given_in}
-use Rattle.edf_session.specs.declared.session.Session.{Session}
+use Rattle.edf_program_run.specs.ProgramRun.{NotOpened}
+use Rattle.edf_program_run.specs.Turns.{PastRun, ended, idle, broken, given_in}
+use Rattle.edf_program_run.specs.declared.session.EndedRun.{EndedRun}
 use Rattle.edf_serve.specs.declared.answering.End.{End}
 use Rattle.edf_serve.specs.declared.answering.End.TheVariants as end
 use Rattle.edf_serve.specs.declared.files.Folders.{Folders}
@@ -54,7 +54,7 @@ module _ {D : Type 0} {g : Ghosts D} (cap : ℕ) (folders : Folders) where
   -- they may be used. Where the disk gave back what was written in the last sitting, it did so in
   -- all.
   pub record Serves (first : Image) (before after : Beside g) (why : Option End)
-      (session : Session D) : Type 0 where
+      (session : EndedRun D) : Type 0 where
     pub earlier : List (Sitting g)
     pub last : Sitting g
     pub follow : Follows first before earlier last.start last.before

@@ -11,8 +11,8 @@ ghost use Rattle.sqlite.specs.declared.error.Error.TheVariants.{SqliteFailure};
 ghost use Rattle.sqlite.specs.declared.error.ErrorCode.TheVariants.{Closed};
 ghost use Rattle.sqlite.specs.declared.file.Leftover.TheVariants as left;
 ghost use Rattle.edf_program.specs.declared.status.Status.TheVariants.{Trouble};
-ghost use Rattle.edf_session.specs.Turns.{Follow};
-ghost use Rattle.edf_session.specs.declared.session.Session.{Session};
+ghost use Rattle.edf_program_run.specs.Turns.{Follow};
+ghost use Rattle.edf_program_run.specs.declared.session.EndedRun.{EndedRun};
 ghost use Rattle.edf_serve.specs.declared.answering.End.{End};
 ghost use Rattle.edf_serve.specs.declared.answering.End.TheVariants.{Ended};
 ghost use Rattle.edf_serve.specs.declared.files.Folders.{Folders};
@@ -21,7 +21,8 @@ ghost use Rattle.edf_serve_files.specs.Sittings.{Follows, Serves, FailsAgain, pa
 
 use sqlite_disk::Disk;
 
-/// A session in the words of many runs (`edf_session::laws`): what a crash leaves of its files, or
+/// A session in the words of many runs (`edf_program_run::laws`): what a crash leaves of its files,
+/// or
 /// what they hold, follows what they held at first by what became of its sittings, in their order.
 /// That is `ended`, with all of its turns, for one that was closed, and for one whose files were
 /// let go, to be opened anew, of a store that was open still; it is `broken` where a failure had
@@ -32,7 +33,7 @@ use sqlite_disk::Disk;
 /// only read (`unopened`). All that is where the disk gave back what was written.
 pub fn across_sittings<D: Disk>()
     ensures sat { (cap : ℕ) (folders : Folders) (first : Image) (before after : Beside D.Disk)
-        (why : Option End) (session : Session D)
+        (why : Option End) (session : EndedRun D)
         (s : Serves cap folders first before after why session) → GaveBack s.last →
         (session.failure ≡ None) ⊎ (session.failure ≡ Some (SqliteFailure Closed)) →
         (image : Image) → outcomes D.Disk session.files.log session.files.db image →
@@ -54,7 +55,7 @@ pub fn across_sittings<D: Disk>()
 /// Its lines were answered up to the end of the input, and its files were closed with no failure.
 pub fn without_trouble<D: Disk>()
     ensures { (cap : ℕ) (folders : Folders) (first : Image) (before after : Beside D.Disk)
-        (why : Option End) (session : Session D)
+        (why : Option End) (session : EndedRun D)
         (s : Serves cap folders first before after why session) → session.status ≢ Trouble →
         (s.earlier ≡ []) × (why ≡ Some Ended) × (session.failure ≡ None) }
 {}

@@ -4,7 +4,7 @@ ghost use Rattle.std.specs.Prelude.{◌≡◌, ◌≢◌, None, Ok, false, IfOk,
 ghost use Rattle.sqlite_wal.specs.Recovery.{Image};
 ghost use Rattle.sqlite.specs.Files.{file_state};
 ghost use Rattle.edf_program.specs.declared.status.Status.TheVariants.{Trouble};
-ghost use Rattle.edf_session.specs.Run.{IsOpening};
+ghost use Rattle.edf_program_run.specs.ProgramRun.{IsOpening};
 ghost use Rattle.edf_serve.specs.Work.{point};
 ghost use Rattle.edf_serve_files.specs.Sitting.{beside};
 ghost use Rattle.edf_serve_files.specs.Sittings.{Serves, IsUnopened};
@@ -14,8 +14,8 @@ use crate::over::{closes_after, serve_over};
 use edf_command::Status;
 use edf_fragment::{Input, Output};
 use edf_new_files::NewFiles;
+use edf_program_run::{Cap, EndedRun, Watch, refuse};
 use edf_serve::{Client, End, Folders, Lines, Room, Sources, StoreFiles};
-use edf_session::{Cap, Session, Watch, refuse};
 use edf_store::StoreFault;
 use sqlite::{Connection, FileStore, Leftover, Options};
 use sqlite_disk::Disk;
@@ -47,7 +47,7 @@ pub(crate) fn serve_on<
     room: &mut Room<I, P, C, K>,
     err: &mut F,
     watch: &mut W,
-) -> Result<(Option<End>, Session<D>), (Status, Option<Leftover<D>>)>
+) -> Result<(Option<End>, EndedRun<D>), (Status, Option<Leftover<D>>)>
     requires idle { (file_state conn).in_transaction ≡ false }
     ensures ran { (first : Image) → IsOpening {g = D.Disk} first (Ok conn) → IfOk result
         (λ s. Serves {g = D.Disk} cap folders.entry first

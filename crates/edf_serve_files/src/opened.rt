@@ -3,7 +3,7 @@
 ghost use Rattle.std.specs.Prelude.{◌≡◌, ◌≢◌, None, IfOk, IfErr};
 ghost use Rattle.sqlite_wal.specs.Files.{image_at};
 ghost use Rattle.edf_program.specs.declared.status.Status.TheVariants.{Trouble};
-ghost use Rattle.edf_session.specs.Run.{IsOpening};
+ghost use Rattle.edf_program_run.specs.ProgramRun.{IsOpening};
 ghost use Rattle.edf_serve.specs.Work.{point};
 ghost use Rattle.edf_serve_files.specs.Sitting.{beside};
 ghost use Rattle.edf_serve_files.specs.Sittings.{Serves, IsUnopened};
@@ -12,8 +12,8 @@ use crate::on::serve_on;
 use edf_command::Status;
 use edf_fragment::{Input, Output};
 use edf_new_files::NewFiles;
+use edf_program_run::{Cap, EndedRun, Watch, refuse};
 use edf_serve::{Client, End, Folders, Lines, Room, Sources, StoreFiles};
-use edf_session::{Cap, Session, Watch, refuse};
 use edf_store::StoreFault;
 use sqlite::{Connection, Error, FileFrom, FileStore, Leftover, Options, Start};
 use sqlite_disk::Disk;
@@ -70,7 +70,7 @@ pub fn serve_opened<
     room: &mut Room<I, P, C, K>,
     err: &mut F,
     watch: &mut W,
-) -> Result<(Option<End>, Session<FileFrom<S>>), (Status, Option<Leftover<FileFrom<S>>>)>
+) -> Result<(Option<End>, EndedRun<FileFrom<S>>), (Status, Option<Leftover<FileFrom<S>>>)>
     requires { IsOpening (image_at S.Start) opened }
     ensures ran { IfOk result (λ s. Serves cap folders.entry (image_at S.Start)
         (beside ⟦<FileFrom<S> as Disk>⟧

@@ -7,15 +7,15 @@ ghost use Rattle.sqlite.specs.Files.{file_state};
 ghost use Rattle.sqlite.specs.State.{HasCleanDisk};
 ghost use Rattle.edf_intake.specs.Batch.{Turn};
 ghost use Rattle.edf_program.specs.declared.status.Status.TheVariants.{Trouble};
-ghost use Rattle.edf_session.specs.Run.{IsOpening};
+ghost use Rattle.edf_program_run.specs.ProgramRun.{IsOpening};
 ghost use Rattle.edf_serve.specs.Work.{point};
 ghost use Rattle.edf_serve_files.specs.Sitting.{IsSat, beside, closes_after};
 
 use edf_fragment::{Input, Output};
 use edf_new_files::NewFiles;
+use edf_program_run::{Cap, EndedRun, Watch, close, leave, refuse};
 use edf_schema::is_ours;
 use edf_serve::{Client, End, Folders, Lines, Room, Sources, StoreFiles, serve};
-use edf_session::{Cap, Session, Watch, close, leave, refuse};
 use edf_store::Store;
 use edf_tables::obey;
 use sqlite::{Connection, FileStore};
@@ -56,7 +56,7 @@ pub(crate) fn serve_over<
     err: &mut F,
     watch: &mut W,
     closes_always: bool,
-) -> (Option<End>, Session<D>)
+) -> (Option<End>, EndedRun<D>)
     requires idle { (file_state conn).in_transaction ≡ false }
     ensures sat { (start : Image) → IsOpening {g = D.Disk} start (Ok conn) → (turns : List Turn)
         × (is_open : Bool) × IsSat {g = D.Disk} cap folders.entry (record {

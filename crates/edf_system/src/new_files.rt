@@ -4,7 +4,7 @@ ghost use Rattle.std.specs.Prelude.{◌≡◌, None, false, IfOk};
 
 use crate::parts::{NewFile, Parts};
 use crate::terminal::Terminal;
-use edf_new_files::{MadeFiles, NewFiles, Stage, Unfinished};
+use edf_new_files::{FileStage, MadeFiles, NewFiles, Unfinished};
 use std::alloc::Global;
 use std::io::{self, ErrorKind};
 
@@ -153,7 +153,7 @@ impl<'rt, B: Barred> NewFiles for PartFiles<'rt, B> {
         if place >= self.made.count() {
             return false;
         }
-        let was_gone = matches!(self.made.stage(place), Some(Stage::Removed));
+        let was_gone = matches!(self.made.stage(place), Some(FileStage::Removed));
         let is_gone = was_gone || self.is_removed(place);
         self.made.end(place, is_gone);
         is_gone

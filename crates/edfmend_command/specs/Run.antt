@@ -16,7 +16,7 @@ use Rattle.edf_program.specs.declared.status.Status.{Status}
 use Rattle.edf_program.specs.declared.status.Status.TheVariants.{Done, Refused, Trouble}
 use Rattle.edf_new_files.specs.Made.{MadeFile, finished, removed, kept as kept_file}
 use Rattle.edf_new_files.specs.Making.{Making, MakesNothing}
-use Rattle.edf_new_files.specs.There.{IsFree, MayBeThere}
+use Rattle.edf_new_files.specs.There.{IsVacant, MayBeThere}
 use Rattle.edfmend_command.specs.Lines.{why_line, why_status, kept_line, kept_status}
 use Rattle.edfmend_command.specs.Lines.{unwritten_line, memory_line, standard_output}
 use Rattle.edfmend_command.specs.Ledger.{ledger_lines}
@@ -121,7 +121,7 @@ module _ (out err : Growth) (bytes : Option (List ℕ)) (w : Wanted) (file : Lis
       pub new : List ℕ
       pub ledger : Ledger
       pub is_mended : IsMendedFile bytes w ledger new
-      pub free : IsFree m.there name
+      pub free : IsVacant m.there name
       pub held : Option (List ℕ)
       pub made : m.after ≡ m.before ++ (finished name held ∷ [])
       pub holds : m.known ≡ true → held ≡ Some new
@@ -132,7 +132,7 @@ module _ (out err : Growth) (bytes : Option (List ℕ)) (w : Wanted) (file : Lis
     pub record LacksMended : Type 0 where
       pub why : MendFault
       pub is_why : IsNotMended bytes w why
-      pub free : IsFree m.there name
+      pub free : IsVacant m.there name
       pub is_left : Bool
       pub leaves : LeavesPart m name is_left
       pub counted : CountsWrite m.failed_before m.failed_after why

@@ -5,7 +5,7 @@ ghost use Rattle.edf_program.specs.declared.status.Status.TheVariants.{Trouble};
 
 use edf_command::{Status, tell_store_not_closed};
 use edf_fragment::Output;
-use edf_session::{Session, Watch};
+use edf_program_run::{EndedRun, Watch};
 use edf_store::StoreFault;
 use edf_system::Terminal;
 use edfstore_host::{Refused, Standing, tell_cause, tell_failure_of, tell_lost};
@@ -48,7 +48,7 @@ impl<'s> Journal<'s> {
 
     /// Tells why the store was not closed, if it was not; and how the session ends: with trouble,
     /// where its files were lost.
-    pub(crate) fn tell_close<F: Output>(&self, session: &Session<File>, err: &mut F) -> Status
+    pub(crate) fn tell_close<F: Output>(&self, session: &EndedRun<File>, err: &mut F) -> Status
         ensures { (result ≡ session.now.status) ⊎ (result ≡ Trouble) }
     {
         if !self.standing.has_stood() {

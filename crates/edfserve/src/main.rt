@@ -13,9 +13,9 @@ mod sources;
 
 use edf_fragment::Counted;
 use edf_program::{Status, tell_fault, tell_memory};
+use edf_program_run::Cap;
 use edf_serve::{Console, Folders, Lines, Room};
 use edf_serve_files::serve_opened;
-use edf_session::Cap;
 use edf_system::{PartFiles, Terminal, refuse_words, words};
 use edfserve_arguments::{ServeWords, parse_words};
 use edfstore_host::Standing;

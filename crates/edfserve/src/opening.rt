@@ -1,7 +1,7 @@
 //! The store of a session, opened.
 
 ghost use Rattle.sqlite_wal.specs.Files.{image_at};
-ghost use Rattle.edf_session.specs.Run.{IsOpening};
+ghost use Rattle.edf_program_run.specs.ProgramRun.{IsOpening};
 
 use edfstore_host::{Standing, open_standing};
 use sqlite::{Connection, Error, ErrorCode, FileStore, Leftover, Options, Start, Unknown};

@@ -2,7 +2,7 @@
 use Rattle.std.specs.Prelude.{◌≡◌, ◌≢◌, ℕ, List, [], ◌∷◌, ◌++◌, Option, Some, None, IfSome, codes}
 use Rattle.std.specs.Prelude.{All, option_map}
 use Rattle.edf_time.specs.Civil.{IsVisible}
-use Rattle.edfserve_arguments.specs.declared.sought.Wanted.{Wanted}
+use Rattle.edfserve_arguments.specs.declared.sought.SoughtRecording.{SoughtRecording}
 
 -- the patient code, the investigation code, and the text of the first start, where that is named
 pub record Sought : Type 0 where
@@ -41,7 +41,7 @@ pub record Names (text : List ℕ) (s : Sought) (rest : Option (List ℕ)) : Typ
       ++ (codes " investigation=" ++ (s.investigation ++ behind (first_and s.first rest))))
 
 -- what is named by these words
-abbrev pub sought_by : Wanted → Sought
+abbrev pub sought_by : SoughtRecording → Sought
 sought_by wanted = record {
   patient = wanted.patient.now;
   investigation = wanted.investigation.now;

@@ -4,7 +4,7 @@ ghost use Rattle.std.specs.Prelude.{◌++◌, ℕ, List, option_map, codes, Matc
 ghost use Rattle.edfserve_arguments.specs.Line.{IsAsked, IsRead, IsPlaced, IsNamed, asked_by};
 ghost use Rattle.edfserve_arguments.specs.Sought.{Sought, sought_by};
 
-use crate::sought::{Wanted, wanted_in};
+use crate::sought::{SoughtRecording, wanted_in};
 use edfstore_arguments::read_place;
 
 /// How many bytes a line may have, without its line feed.
@@ -30,7 +30,7 @@ pub enum LineCommand<'l> {
     /// List the runs of the one recording that matches.
     RunsOf {
         /// What it is.
-        wanted: Wanted<'l>,
+        wanted: SoughtRecording<'l>,
     },
     /// Write a recording to a new file.
     Export {
@@ -42,7 +42,7 @@ pub enum LineCommand<'l> {
     /// Write the one recording that matches to a new file.
     ExportOf {
         /// What it is.
-        wanted: Wanted<'l>,
+        wanted: SoughtRecording<'l>,
         /// The name of the new file, which is not empty.
         name: &'l str,
     },
@@ -56,7 +56,7 @@ pub enum LineCommand<'l> {
     /// Draw the one recording that matches in a new file.
     PictureOf {
         /// What it is.
-        wanted: Wanted<'l>,
+        wanted: SoughtRecording<'l>,
         /// The name of the new file, which is not empty.
         name: &'l str,
     },
@@ -104,7 +104,7 @@ fn placed(text: &str) -> Option<(u32, &str)>
 }
 
 /// A recording that is named, and the name that comes after it.
-fn named(text: &str) -> Option<(Wanted<'_>, &str)>
+fn named(text: &str) -> Option<(SoughtRecording<'_>, &str)>
     ensures { MatchOption result ((s : Sought) (name : List ℕ) → ¬ IsNamed text.now s name)
         (λ r. IsNamed text.now (sought_by r.0) r.1.now) }
 {

@@ -8,7 +8,7 @@ ghost use Rattle.edfserve_arguments.specs.Sought.{Names, sought_by};
 
 /// A recording that is named by its codes and its first start, and not by its place.
 #[derive(Clone, Copy, Debug, PartialEq, Eq, Drop)]
-pub struct Wanted<'l> {
+pub struct SoughtRecording<'l> {
     /// The patient code.
     pub patient: &'l str,
     /// The investigation code.
@@ -88,7 +88,7 @@ fn first_in(text: Option<&str>) -> Option<(Option<&str>, Option<&str>)>
 
 /// The recording that a text names, and what comes after a space behind it: `patient=CODE
 /// investigation=CODE`, and ` first=INSTANT` where that is named.
-pub(crate) fn wanted_in(text: &str) -> Option<(Wanted<'_>, Option<&str>)>
+pub(crate) fn wanted_in(text: &str) -> Option<(SoughtRecording<'_>, Option<&str>)>
     ensures { MatchOption result ((s : Sought) (rest : Option (List ℕ)) → ¬ Names text.now s rest)
         (λ r. Names text.now (sought_by r.0) (option_map (λ t. t.now) r.1)) }
 {
@@ -96,7 +96,7 @@ pub(crate) fn wanted_in(text: &str) -> Option<(Wanted<'_>, Option<&str>)>
     let second = rest?;
     let (investigation, third) = word_after(second, "investigation=")?;
     let (first, rest) = first_in(third)?;
-    let wanted = Wanted {
+    let wanted = SoughtRecording {
         patient,
         investigation,
         first,

@@ -3,7 +3,7 @@ use Rattle.std.proofs.lemmas.Result.{IfOk-weaker}
 use Rattle.edf_fragment.specs.Call.{input_state}
 use Rattle.edf_command.specs.Lines.{refused_file_line}
 use Rattle.edf_program.specs.Status.{status_of_number}
-use Rattle.edf_program.specs.Output.{growth, IsTold}
+use Rattle.edf_program.specs.Output.{growth, IsTextTold}
 use Rattle.edf_program.specs.declared.status.Status.{Status}
 use Rattle.edf_program.proofs.Puts.{nothing-gets, remarked}
 use Rattle.edf_command.proofs.converting.convert.Goals as goal
@@ -45,11 +45,12 @@ returns-clause-converted g c = inr (inl (record {
       (IfOk-weaker c.refused_file_line.result _ _ (λ r line. line spell is)
       c.refused_file_line.ensures) in
       let IsSo : Status → Type 0 = λ wanted.
-      IsTold (growth g.F.Output c.args.err.now c.remark.new.self) text wanted c.tell-told.result in (
+      IsTextTold (growth g.F.Output c.args.err.now c.remark.new.self) text wanted c.tell-told.result
+      in (
         nothing-gets (g.O.Output.contents c.args.out.now) (g.O.Output.failures c.args.out.now),
         subst IsSo (c.status_of_number-status.ensures ∙ ap status_of_number c.number.ensures)
             (remarked (g.F.Output) c.args.err.now c.tell-told.new.out c.remark.new.self
-            (λ w. IsTold w text c.status_of_number-status.result c.tell-told.result)
+            (λ w. IsTextTold w text c.status_of_number-status.result c.tell-told.result)
             c.remark.ensures.contents c.remark.ensures.failures told),
       );
 }))

@@ -5,8 +5,8 @@ use Rattle.edf_program.proofs.text.tell_there.Goals as goal
 
 pub returns : goal.returns
 returns g c =
-    let IsTold : List ℕ → Type 0 = λ bytes.
+    let IsTextTold : List ℕ → Type 0 = λ bytes.
     IsWritten (growth g.F.Output c.args.err.now c.tell_line.new.out) bytes Refused
     c.tell_line.result in
-    subst IsTold (ap (λ (t : List ℕ). t ++ codes " is there already; nothing was written\n")
+    subst IsTextTold (ap (λ (t : List ℕ). t ++ codes " is there already; nothing was written\n")
     c.as_bytes.ensures.value) c.tell_line.ensures

@@ -25,13 +25,13 @@ pub accept-is_out-requires-clause-accepted : goal.accept-is_out-requires-clause-
 accept-is_out-requires-clause-accepted g c = (may-be_told g.S.Store c.args.folders _ _ _ _ _ _ _ _
     c.in-Accepted.is c.work.ensures.worked.1).accepted
 
-pub warn_if_apart-is_left-requires-clause-idle : goal.warn_if_apart-is_left-requires-clause-idle
-warn_if_apart-is_left-requires-clause-idle g c = (may-be_told g.S.Store c.args.folders _ _ _ _ _
+pub warn_if_of_two-is_left-requires-clause-idle : goal.warn_if_of_two-is_left-requires-clause-idle
+warn_if_of_two-is_left-requires-clause-idle g c = (may-be_told g.S.Store c.args.folders _ _ _ _ _
     _ _ _ c.in-Accepted.is c.work.ensures.worked.1).idle
 
-pub warn_if_apart-is_left-requires-clause-accepted :
-    goal.warn_if_apart-is_left-requires-clause-accepted
-warn_if_apart-is_left-requires-clause-accepted g c = (may-be_told g.S.Store c.args.folders _ _ _ _
+pub warn_if_of_two-is_left-requires-clause-accepted :
+    goal.warn_if_of_two-is_left-requires-clause-accepted
+warn_if_of_two-is_left-requires-clause-accepted g c = (may-be_told g.S.Store c.args.folders _ _ _ _
     _ _ _ _ c.in-Accepted.is c.work.ensures.worked.1).accepted
 
 pub returns-in-Told : goal.returns-in-Told
@@ -120,7 +120,7 @@ returns-else-not-stand g c =
       work = w;
       answered = record { status = Done; after = c.ends_by.result };
     } in
-    let warned = c.warn_if_apart-is_left in
+    let warned = c.warn_if_of_two-is_left in
     let b : Point g.row.S.Denot = point g.I.Sources g.P.NewFiles g.C.Client g.K.StoreFiles
     warned.new.store (record c.work.new.room {
       client = warned.new.client;

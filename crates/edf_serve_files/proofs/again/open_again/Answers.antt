@@ -1,5 +1,5 @@
 use Rattle.std.proofs.Common.{◌∙◌, inr, sym}
-use Rattle.edf_session.proofs.Opening.{finds_in}
+use Rattle.edf_program_run.proofs.Opening.{finds_in}
 use Rattle.edf_serve_files.proofs.again.open_again.Goals as goal
 
 pub returns-in-Ok-clause-opened : goal.returns-in-Ok-clause-opened

@@ -1,7 +1,7 @@
 use Rattle.std.proofs.Common.{◌≡◌, false, Ok}
 use Rattle.sqlite_wal.specs.Recovery.{Image}
 use Rattle.sqlite.specs.Files.{file_state}
-use Rattle.edf_session.specs.Run.{IsOpening}
+use Rattle.edf_program_run.specs.ProgramRun.{IsOpening}
 use Rattle.edf_serve.specs.Work.{point}
 use Rattle.edf_serve_files.specs.Sitting.{beside}
 use Rattle.edf_serve_files.proofs.Sittings.{SoFar}

@@ -1,6 +1,6 @@
 use Rattle.std.proofs.Common.{[], refl, sym, subst, inl}
 use Rattle.sqlite_wal.specs.Files.{image_at}
-use Rattle.edf_session.specs.Run.{IsOpening}
+use Rattle.edf_program_run.specs.ProgramRun.{IsOpening}
 use Rattle.edf_serve_files.proofs.Sittings.{same_opening}
 use Rattle.edf_serve_files.proofs.opened.serve_opened.Goals as goal
 

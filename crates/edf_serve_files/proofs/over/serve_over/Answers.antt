@@ -9,11 +9,11 @@ use Rattle.edf_store.specs.Held.{at}
 use Rattle.edf_store.specs.Open.{IsGivenBack}
 use Rattle.edf_program.specs.Output.{growth}
 use Rattle.edf_program.proofs.Puts.{nothing-gets}
-use Rattle.edf_session.specs.Close.{Ran, IsRefused, IsCloseTold}
-use Rattle.edf_session.specs.Run.{Run, Refuses}
-use Rattle.edf_session.proofs.Ending.{ran_back, is_refused, none_failed}
-use Rattle.edf_session.proofs.LetGo.{clean_last}
-use Rattle.edf_session.proofs.Working.{Works, Returns}
+use Rattle.edf_program_run.specs.Close.{Ran, IsRefused, IsCloseTold}
+use Rattle.edf_program_run.specs.ProgramRun.{ProgramRun, Refuses}
+use Rattle.edf_program_run.proofs.Ending.{ran_back, is_refused, none_failed}
+use Rattle.edf_program_run.proofs.LetGo.{clean_last}
+use Rattle.edf_program_run.proofs.Working.{Works, Returns}
 use Rattle.edf_serve.specs.Work.{point}
 use Rattle.edf_serve_files.specs.Sitting.{Beside, beside, closes_after, run_between}
 use Rattle.edf_serve_files.proofs.LettingGo.{went, all_kept, clean_back}
@@ -31,7 +31,7 @@ returns-then-closes-clause-sat g c start opening =
     let after : Beside g.D.Disk = beside g.D.Disk
     (λ store. point g.I.Sources g.P.NewFiles g.C.Client g.K.StoreFiles store c.serve.new.room)
     c.serve.new.lines g.F.Output c.close.new.err (g.W.Watch.noticed c.opened.new.self) in
-    let r : Run g.D.Disk = run_between c.args.cap c.args.folders start before after
+    let r : ProgramRun g.D.Disk = run_between c.args.cap c.args.folders start before after
     (Some c.serve.result) (closes_after c.args.closes_always (Some c.serve.result)) in
     let whole = c.serve.ensures in
     let sent = whole.submitted.submitted in
@@ -112,7 +112,7 @@ returns-else-closes-clause-sat g c start opening =
     let after : Beside g.D.Disk = beside g.D.Disk
     (λ store. point g.I.Sources g.P.NewFiles g.C.Client g.K.StoreFiles store c.serve.new.room)
     c.serve.new.lines g.F.Output c.args.err.now (g.W.Watch.noticed c.opened.new.self) in
-    let r : Run g.D.Disk = run_between c.args.cap c.args.folders start before after
+    let r : ProgramRun g.D.Disk = run_between c.args.cap c.args.folders start before after
     (Some c.serve.result) (closes_after c.args.closes_always (Some c.serve.result)) in
     let whole = c.serve.ensures in
     let sent = whole.submitted.submitted in
@@ -198,7 +198,7 @@ returns-in-Err-clause-sat g c start opening =
     let after : Beside g.D.Disk = beside g.D.Disk
     (λ store. point g.I.Sources g.P.NewFiles g.C.Client g.K.StoreFiles store c.args.room.now)
     c.args.lines.now g.F.Output c.refuse.new.err (g.W.Watch.noticed c.refuse.new.watch) in
-    let r : Run g.D.Disk = run_between c.args.cap c.args.folders start before after None
+    let r : ProgramRun g.D.Disk = run_between c.args.cap c.args.folders start before after None
     (closes_after c.args.closes_always None) in
     let ours = c.is_ours-has_our_tables.result in
     let left = c.leave-in-Err in

@@ -4,21 +4,22 @@ use Rattle.std.specs.Prelude.{option_map}
 use Rattle.std.specs.Bool.{MatchBool}
 use Rattle.edf_new_files.specs.Made.{Made, MadeFile, made_file, removed, kept, stage_after}
 use Rattle.edf_new_files.specs.declared.made_files.MadeEntry.{MadeEntry}
-use Rattle.edf_new_files.specs.declared.new_files.Stage.{Stage}
+use Rattle.edf_new_files.specs.declared.new_files.FileStage.{FileStage}
 use Rattle.edf_new_files.proofs.MadeLists.{replaced, was}
 use Rattle.edf_new_files.proofs.made_files.MadeFiles.end.Goals as goal
 
-ends : (is_gone : Bool) (stage : Stage) (front later now : List MadeFile) (old new file : MadeFile)
+ends : (is_gone : Bool) (stage : FileStage) (front later now : List MadeFile) (old new file :
+    MadeFile)
     → stage ≡ stage_after is_gone → old ≡ file →
     new ≡ made_file old.name stage old.whole old.bytes old.why → now ≡ front ++ (new ∷ later) →
     MatchBool is_gone (now ≡ front ++ (removed file ∷ later)) (now ≡ front ++ (kept file ∷ later))
 ends true stage front later now old new file s was is so =
     so ∙ ap (λ (f : MadeFile). front ++ (f ∷ later)) (is
-    ∙ ap (λ (t : Stage). made_file old.name t old.whole old.bytes old.why) s
+    ∙ ap (λ (t : FileStage). made_file old.name t old.whole old.bytes old.why) s
     ∙ ap (λ (f : MadeFile). removed f) was)
 ends false stage front later now old new file s was is so =
     so ∙ ap (λ (f : MadeFile). front ++ (f ∷ later)) (is
-    ∙ ap (λ (t : Stage). made_file old.name t old.whole old.bytes old.why) s
+    ∙ ap (λ (t : FileStage). made_file old.name t old.whole old.bytes old.why) s
     ∙ ap (λ (f : MadeFile). kept f) was)
 
 pub returns-then-place-len-clause-files : goal.returns-then-place-len-clause-files

@@ -4,7 +4,7 @@ use Rattle.std.specs.Prelude.{option_map}
 use Rattle.std.proofs.lemmas.List.{length-map}
 use Rattle.edf_new_files.specs.Made.{Made, MadeFile, made_file, begun}
 use Rattle.edf_new_files.specs.declared.made_files.MadeEntry.{MadeEntry}
-use Rattle.edf_new_files.specs.declared.new_files.Stage.{Stage}
+use Rattle.edf_new_files.specs.declared.new_files.FileStage.{FileStage}
 use Rattle.edf_new_files.specs.declared.new_files.Unfinished.{Unfinished}
 use Rattle.edf_new_files.proofs.MadeLists.{replaced, was}
 use Rattle.edf_new_files.proofs.made_files.MadeFiles.give_back.Goals as goal
@@ -42,7 +42,7 @@ returns-then-eq-clause-files c files name now =
     (option_map (λ bytes. bytes.items) e'.bytes) e'.why) c.give_back.ensures.name
     ∙ ap (λ (n : List ℕ). made_file n e'.stage e'.is_whole
     (option_map (λ bytes. bytes.items) e'.bytes) e'.why) before
-    ∙ ap (λ (t : Stage). made_file name t e'.is_whole
+    ∙ ap (λ (t : FileStage). made_file name t e'.is_whole
     (option_map (λ bytes. bytes.items) e'.bytes) e'.why) c.give_back.ensures.stage
     ∙ ap (λ (w : Bool). made_file name c.args.stage w
     (option_map (λ bytes. bytes.items) e'.bytes) e'.why) c.give_back.ensures.whole

@@ -1,0 +1,4 @@
+pub mod Files
+pub mod Turns
+pub mod ProgramRun
+pub mod Close

@@ -1,0 +1,30 @@
+//! One run of the program over the two files of a store, and many runs and sessions, one after
+//! another.
+//!
+//! - [`run_opened`], [`run_files`]: a run over files that were opened for it, or over two files
+//!   that it opens: a command is run, and they are closed. [`open_path`] opens those at a path.
+//! - [`leave_files`]: the same, where the files are let go before they are closed, as a crash does.
+//! - [`close`], [`leave`], [`refuse`]: how the files of a store are let go, and how it is told that
+//!   it was refused, for a session.
+//! - [`EndedRun`], [`Watch`], [`Cap`]: what a run answered, who is told how its opening went, and
+//!   how many data records a recording may have.
+//! - [`laws`]: what many runs and sessions leave.
+#![tactic(auto)]
+
+mod cap;
+mod files;
+pub mod laws;
+mod leaving;
+mod opened;
+mod over;
+mod path;
+mod session;
+mod watch;
+
+pub use cap::Cap;
+pub use files::run_files;
+pub use leaving::leave_files;
+pub use opened::run_opened;
+pub use path::open_path;
+pub use session::{EndedRun, close, leave};
+pub use watch::{Watch, refuse};

@@ -1,4 +1,0 @@
-pub mod Files
-pub mod Turns
-pub mod Run
-pub mod Close
