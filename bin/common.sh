@@ -1,17 +1,21 @@
 # shellcheck shell=bash
-# What the scripts of this folder and of ports/arm64 share: which sources the programs are made
-# from, their digest, and where a program is. A machine is named as `uname -m` names it.
+# What the scripts of this folder and of ports/arm64 share: which sources the programs and the page
+# are made from, their digest, and where a program is. A machine is named as `uname -m` names it.
 top=$(cd "$(dirname "${BASH_SOURCE[0]}")/.." && pwd)
 programs=(edfstore edfruns edfserve edfmend)
+page_crate=edf_page_exports
 release=$top/release
 
 # Where the program $1 is when it was built here, for x86-64 or for the machine $2; for machines
-# that no program is made for it prints nothing.
+# that no program is made for it prints nothing. And where the page is.
 built() {
   case ${2:-x86_64} in
     x86_64) echo "$top/crates/$1/out/$1" ;;
     aarch64) echo "$top/ports/arm64/out/$1" ;;
   esac
+}
+built_page() {
+  echo "$top/crates/$page_crate/out/edfstore.html"
 }
 
 # The crates $* and all that they stand on, a line each, by crates.txt.
@@ -49,10 +53,20 @@ port_files() {
   [ "$1" != aarch64 ] || printf 'ports/arm64/%s\n' build host.c packages.sha256
 }
 
-# The SHA-256 of the names and the contents of those files, of all programs.
+# The files that the page is made from, with the script that makes it. It has sentences of two
+# documents beside, which are no sources: bin/release puts them in as they are.
+page_files() {
+  (cd "$top" && {
+    source_files $page_crate
+    find page -maxdepth 1 -type f
+    echo bin/page
+  } | LC_ALL=C sort)
+}
+
+# The SHA-256 of the names and the contents of those files, of all programs and the page.
 sources_digest() {
-  (cd "$top" && { source_files "${programs[@]}" && port_files aarch64; } |
-    xargs -d '\n' sha256sum) | sha256sum | cut -d ' ' -f 1
+  (cd "$top" && { source_files "${programs[@]}" && port_files aarch64 && page_files; } |
+    LC_ALL=C sort -u | xargs -d '\n' sha256sum) | sha256sum | cut -d ' ' -f 1
 }
 
 # What a package has below its folder of documents: README, the documents and the examples, with
@@ -62,17 +76,26 @@ document_files() {
     grep -v '^docs/.*\.1$'
 }
 
-# Whether the file $1, which was made of the crate $2 for the machine $3, is there and no source of
-# it is newer.
-is_newer() {
+# Whether $1 is there and none of the files that are read is newer.
+is_newest() {
   # shellcheck disable=SC2016     # sh puts them in
-  [ -e "$1" ] && [ -z "$(cd "$top" && { source_files "$2" && port_files "$3"; } |
+  [ -e "$1" ] && [ -z "$(cd "$top" &&
     xargs -d '\n' sh -c 'find "$@" -newer "$0" -print -quit' "$1")" ]
 }
 
-# Whether the program $1 was built here, for x86-64 or for the machine $2, and is not stale.
+# Whether the file $1, which was made of the crate $2 for the machine $3, is there and no source of
+# it is newer.
+is_newer() {
+  { source_files "$2" && port_files "$3"; } | is_newest "$1"
+}
+
+# Whether the program $1 was built here, for x86-64 or for the machine $2, and is not stale; and the
+# page.
 is_fresh() {
   is_newer "$(built "$@")" "$1" "${2:-x86_64}"
+}
+is_fresh_page() {
+  { page_files && printf 'docs/%s\n' REFUSALS.md edfmend.1; } | is_newest "$(built_page)"
 }
 
 # Whether this line is the verdict of a program that was proved for arm64.

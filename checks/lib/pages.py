@@ -64,10 +64,11 @@ def pictures(data: bytes) -> list:
 class Chromium:
     """A headless Chromium that speaks over a pipe, until the `with` ends."""
 
-    def __init__(self, folder: Path):
+    def __init__(self, folder: Path, *more: str):
+        """`more` are flags beside those that it always has."""
         theirs, ours = os.pipe()            # its descriptors 3 and 4
         self.read_from, other = os.pipe()
-        line = f"exec chromium {' '.join(FLAGS)} '--user-data-dir={folder}' " \
+        line = f"exec chromium {' '.join((*FLAGS, *more))} '--user-data-dir={folder}' " \
                f"about:blank 3<&{theirs} 4>&{other}"
         self.child = subprocess.Popen(["bash", "-c", line], pass_fds=(theirs, other),
                                       stdin=subprocess.DEVNULL, stdout=subprocess.DEVNULL,
@@ -125,6 +126,12 @@ class Chromium:
     def value(self, expression: str):
         return self.ask("Runtime.evaluate", expression=expression, awaitPromise=True,
                         returnByValue=True)["result"].get("value")
+
+    def choose(self, files: list) -> None:
+        """Gives the first chooser of files these."""
+        root = self.ask("DOM.getDocument")["root"]["nodeId"]
+        found = self.ask("DOM.querySelector", nodeId=root, selector="input[type=file]")
+        self.ask("DOM.setFileInputFiles", nodeId=found["nodeId"], files=list(map(str, files)))
 
     def texts(self, selector: str) -> list:
         return [plain(text) for text in self.value(

@@ -1,0 +1,440 @@
+"""Gives files to the page `edfstore.html` in headless Chromium and Firefox, and compares every byte
+that it gives with those of the programs.
+
+    python3 -m checks.page [--program PATH] [--edfruns PATH] [--edfmend PATH] [--page FILE]
+                           [--browser NAME] [--without-night] [--screenshots FOLDER] [--control]
+                           [COUNT]
+
+A technician does all by keys alone: gives it a night in pieces with one that was cut, one of other
+letters and a foreign one, sees why, mends, adds the card, and saves the file, its runs and the
+picture; cards of EDFlib by onset; a job that is cancelled; files that change later; files that are
+dropped. Each state is looked at on two screens, light and dark, for pale texts and what has no
+room; `--screenshots` keeps them.
+
+COUNT files by chance, 2,000 if left out; the page is release/edfstore.html. Files are taken in
+lists: by chance, half of them broken; of each number of refusal that a file of this size can have;
+foreign ones; of odd names; several of one name; of 639 signals; none. For each list the lines of
+`edfstore take` and `edfstore list`, and for each recording the file of `edfstore export`, the lines
+of `edfruns list` and the picture of `edfruns picture` must be what the page gives, byte for byte.
+
+Then a night of 195 MB, with its time and memory beside the programs' (MOST_TIMES, MOST_MEMORY); a
+module that may have little memory: E41, and no file is offered; a trap: no file is offered, and the
+module lets no call in after it; files that are removed, cut, longer or replaced since they were
+chosen; in which of the ways of lib/sends.py the page reaches a server: none; and a browser without
+64-bit memory, which is told in a sentence.
+
+--control gives lists to pages that answer wrongly: a script that exchanges the files of two
+recordings, which must be found, and modules with one instruction changed in a function that runs:
+in one function of four one of some such changes must be found.
+
+It needs chromium and firefox-esr, as Debian has them.
+"""
+import base64
+import json
+import re
+import time
+from dataclasses import dataclass, field
+from pathlib import Path
+
+from checks.lib import (arguments, measure, modules, night, page_files, printed, sends,
+                        technician)
+from checks.lib.checks import Lost, compare, end
+from checks.lib.firefox import Firefox
+from checks.lib.hands import ChromiumHands, FirefoxHands
+from checks.lib.natively import Native, written
+from checks.lib.pages import Chromium
+
+BROWSERS = {"chromium": Chromium, "firefox": Firefox}
+HANDS = {"chromium": ChromiumHands, "firefox": FirefoxHands}
+# The same browsers without WebAssembly, since none of them can be had without 64-bit memory alone
+OFF = {"chromium": lambda folder: Chromium(folder, "--js-flags=--jitless"),
+       "firefox": lambda folder: Firefox(folder, javascript_options_wasm=False)}
+PAGE = arguments.TOP / "release/edfstore.html"
+MOST_TIMES = {"chromium": 3, "firefox": 6}      # of the programs' time
+MOST_MEMORY = 1_500_000_000                     # bytes, of the module
+MOST_BYTES = 4_000_000                          # of the page
+SECONDS = 300                                   # that the page may take
+PATIENCE = 8                                    # seconds, for a module that was changed
+LONG_BODY, TRIED_BODIES = 60, 150               # bytes of a function, and how many are looked at
+ENOUGH = 16                                     # functions that run
+LITTLE = night.Night(records=2_000, fragments=1)        # 13 MB
+MODULE = re.compile(r'(<script type="text/plain" id="module">)([A-Za-z0-9+/=]*)(</script>)')
+GIVEN = """(async () => {
+  const sum = async (bytes) => [...new Uint8Array(await crypto.subtle.digest("SHA-256", bytes))]
+    .map((byte) => byte.toString(16).padStart(2, "0")).join("");
+  const answer = window.answer;
+  if (!answer) return null;
+  const recordings = [];
+  for (const { file, runs, picture } of answer.recordings) {
+    recordings.push([await sum(await file.arrayBuffer()), runs.text,
+      await sum(new TextEncoder().encode(picture))]);
+  }
+  return [answer.taken, answer.listed, recordings];
+})()"""
+# Two calls of one module, the first of which traps, and one of another
+GUARDED = """(async () => {
+  const text = document.getElementById("module").textContent;
+  const module = await WebAssembly.compile(Uint8Array.from(atob(text), (it) => it.charCodeAt(0)));
+  const instance = () => new WebAssembly.Instance(module, {}).exports;
+  const call = (it, count, names) => {
+    const place = it.dlmalloc(4096n), out = it.dlmalloc(4096n), parts = it.dlmalloc(64n);
+    new BigUint64Array(it.memory.buffer, Number(place), 1)[0] = 1n;
+    try {
+      return it.night(names ?? place, place, place, place, count, count, count,
+        out, 4096n, parts, 8n);
+    } catch (fault) { return fault.name; }
+  };
+  const one = instance();
+  return [call(one, 1n, 1n << 40n), call(one, 0n), call(instance(), 0n)];
+})()"""
+# Another module in the page that is open
+CHANGED = """(() => {
+  const text = document.getElementById("module").textContent;
+  const bytes = Uint8Array.from(atob(text), (it) => it.charCodeAt(0));
+  for (const [at, byte] of CHANGES) bytes[at] = byte;
+  compiled = WebAssembly.compile(bytes);
+  compiled.catch(() => {});
+})()"""
+ANEW = "document.getElementById('anew').click()"
+HELD = """(() => {
+  const input = document.querySelector("input[type=file]");
+  input.addEventListener("change", (event) => {
+    event.stopImmediatePropagation();
+    window.chosen = [...input.files].map((file) => file.size + file.lastModified);
+  }, { capture: true, once: true });
+})()"""
+LET_GO = """document.querySelector("input[type=file]").dispatchEvent(new Event("change"))"""
+
+# The page
+
+def with_module(page: str, change) -> str:
+    """The page with another module."""
+    head, text, tail = MODULE.search(page).groups()
+    other = base64.b64encode(change(base64.b64decode(text))).decode()
+    return page.replace(head + text + tail, head + other + tail)
+
+
+def module_of(page: str) -> bytes:
+    return base64.b64decode(MODULE.search(page)[2])
+
+
+@dataclass
+class Bench:
+    """A browser with a page, and how much was compared."""
+    browser: object
+    name: str
+    page: Path
+    shots: Path = None
+    count: int = 0
+    shown: set = field(default_factory=set)
+
+    def same(self, what: str, got, expected) -> None:
+        self.count += 1
+        compare(f"{self.name}: {what}", got, expected)
+
+    def wait(self) -> str:
+        until = time.monotonic() + SECONDS
+        while True:
+            state = self.browser.value("document.body.dataset.state")
+            if state in ("done", "failed"):
+                return state
+            if time.monotonic() > until:
+                raise Lost(f"{self.name}: the page is {state} after {SECONDS} s")
+            time.sleep(0.02)
+
+    def take(self, paths: list) -> str:
+        """Opens the page anew, and gives it the files."""
+        self.browser.open(self.page)
+        self.same("at first", self.browser.value("document.body.dataset.state"), "idle")
+        self.browser.choose(paths)
+        return self.wait()
+
+    def given(self):
+        return self.browser.value(GIVEN)
+
+    def words(self) -> str:
+        return self.browser.value("document.getElementById('results').innerText")
+
+    def offers_nothing(self, what: str, *parts: str) -> None:
+        """The page failed, says these parts of a sentence, and has nothing to save."""
+        self.same(f"{what}: no answer", self.given(), None)
+        self.same(f"{what}: no file", self.browser.value(
+            "document.querySelectorAll('a[href], img').length"), 0)
+        words = self.words()
+        for part in parts:
+            self.same(f"{what}: {words!r} has {part!r}", part in words, True)
+
+    def shot(self, what: str) -> None:
+        if self.shots and what not in self.shown:
+            self.shown.add(what)
+            self.browser.screenshot(self.shots / f"{self.name}-{what.replace(' ', '-')}.png")
+
+
+# What is tried
+
+def lists(bench: Bench, expected: dict) -> None:
+    """Each list of files."""
+    for what, (paths, given) in expected.items():
+        state = bench.take(paths)
+        bench.same(f"{what}: {bench.words() if state == 'failed' else ''}", state, "done")
+        bench.same(what, bench.given(), given)
+        bench.shot(what.partition(",")[0])
+    bench.same("asked for", [url for url in bench.browser.asked_for()
+                             if not url.startswith(("file:", "blob:"))], [])
+
+
+def no_files(bench: Bench) -> None:
+    bench.browser.open(bench.page)
+    bench.browser.value(LET_GO)
+    bench.same("no files", bench.wait(), "done")
+    bench.same("no files", bench.given(), ["", "", []])
+
+
+def other_page(bench: Bench, folder: Path, text: str) -> Bench:
+    path = folder / f"other-{bench.name}.html"
+    path.write_text(text)
+    return Bench(bench.browser, bench.name, path, bench.shots, shown=bench.shown)
+
+
+def little_memory(bench: Bench, folder: Path, page: str, native: Native) -> None:
+    """E41 wherever memory runs out: for the file's bytes, in the store, for the answer. Where there
+    is enough, the answer is the programs'."""
+    own = folder / f"little-{bench.name}"
+    paths = written(own, [("night.edf", b"")])
+    LITTLE.card(paths[0])
+    least, size = modules.least_pages(module_of(page)), paths[0].stat().st_size // modules.PAGE
+    for tried in range(40):
+        pages = least + size * tried // 4
+        other = other_page(bench, folder, with_module(
+            page, lambda module, pages=pages: modules.capped(module, pages)))
+        if other.take(paths) == "done":
+            break
+        other.offers_nothing(f"{pages} pages", "E41", "Nothing is given.")
+        other.shot("little memory")
+        bench.count += other.count
+    bench.same(f"caps at which memory runs out: {tried}", 8 <= tried < 39, True)
+    bench.same("with enough memory", other.given(), native.given(own, paths))
+
+
+def traps(bench: Bench, folder: Path, page: str, paths: list) -> None:
+    other = other_page(bench, folder, page.replace(
+        "names.sizes, bytes, sizes,", "names.sizes, bytes + (1n << 40n), sizes,"))
+    bench.same("a trap", other.take(paths), "failed")
+    other.offers_nothing("a trap", "RuntimeError", "Nothing is given.")
+    other.shot("a trap")
+    bench.browser.open(bench.page)
+    bench.same("a trap, a call after it, another module", bench.browser.value(GUARDED),
+               ["RuntimeError", "RuntimeError", 0])
+
+
+def changes(bench: Bench, folder: Path, native: Native) -> None:
+    """Files that are no more what they were when they were chosen. What is read whole of a file
+    that was replaced may be taken, and then it is what is there."""
+    good = page_files.seconds(400)
+    done = {"is removed": lambda path: path.unlink(),
+            "is cut": lambda path: path.write_bytes(good[:-5_000]),
+            "is longer": lambda path: path.write_bytes(good + good),
+            "is replaced": lambda path: path.write_bytes(good[:-4] + b"\1\2\3\4")}
+    for nth, (what, change) in enumerate(done.items()):
+        own = folder / f"changes-{bench.name}-{nth}"
+        paths = written(own, [("first.edf", page_files.seconds(3)), ("changed.edf", good)])
+        bench.browser.open(bench.page)
+        bench.browser.value(HELD)
+        bench.browser.choose(paths)
+        bench.same("files that are held back", len(bench.browser.value("window.chosen")), 2)
+        time.sleep(1.1)         # since times of files may be told by the second
+        change(paths[1])
+        bench.browser.value(LET_GO)
+        if bench.wait() == "failed":
+            bench.offers_nothing(f"a file {what}", "changed.edf", "Nothing is given.")
+            bench.shot("a file that changed")
+        else:
+            bench.same(f"a file that {what} was taken as it is", bench.given(),
+                       native.given(own, paths))
+
+
+def asks_nothing(bench: Bench, folder: Path, page: str) -> None:
+    bench.same("a server is reached", sends.reached(bench.browser, bench.page), set())
+    policy = re.compile(r'<meta http-equiv="Content-Security-Policy"[^>]*>')
+    open_page = folder / f"open-{bench.name}.html"
+    open_page.write_text(policy.sub("", page))
+    ways = sends.reached(bench.browser, open_page)
+    bench.count += len(ways)
+    bench.same(f"without the policy it is, by {len(ways)} ways", sends.NAMED - ways, set())
+
+
+def big_night(bench: Bench, path: Path, native: Native, folder: Path) -> None:
+    """The time of three runs each, one beside the other, of which the shortest count."""
+    theirs, ours, memory, expected = [], [], 0, None
+    for _ in range(3):
+        expected = native.given(folder, [path])
+        theirs.append(native.seconds)
+        bench.same("the night", bench.take([path]), "done")
+        bench.same("the night", bench.given(), expected)
+        cost = bench.browser.value("window.cost")
+        ours.append(cost["milliseconds"] / 1000)
+        memory = max(memory, cost["memory"])
+    times = min(ours) / min(theirs)
+    print(f"{bench.name}: {path.stat().st_size:,} bytes: the programs {min(theirs):.2f} s, "
+          f"the page {min(ours):.2f} s, {times:.1f} times, {memory:,} bytes of memory", flush=True)
+    bench.same(f"{times:.1f} times", times <= MOST_TIMES[bench.name], True)
+    bench.same(f"{memory:,} bytes of memory", memory <= MOST_MEMORY, True)
+
+
+def unable(bench: Bench, folder: Path) -> None:
+    """A browser without 64-bit memory says so at once, and takes nothing."""
+    with OFF[bench.name](folder / f"unable-{bench.name}") as browser:
+        other = Bench(browser, bench.name, bench.page, bench.shots)
+        browser.open(bench.page)
+        other.same("without 64-bit memory", other.wait(), "failed")
+        text = browser.value("document.getElementById('unable').textContent")
+        other.same(f"{text!r} says so", "64-bit memory" in text, True)
+        other.same("no button", browser.value(
+            "[...document.querySelectorAll('button')].some((it) => it.checkVisibility())"), False)
+        other.shot("without 64-bit memory")
+        bench.count += other.count
+
+
+# Pages that answer wrongly
+
+def takes_otherwise(bench: Bench, what: str, paths: list, given) -> bool:
+    """Whether the page that is open gives another answer than this, or none soon."""
+    bench.browser.value(ANEW)
+    bench.browser.choose(paths)
+    until = time.monotonic() + PATIENCE
+    while bench.browser.value("document.body.dataset.state") not in ("done", "failed"):
+        if time.monotonic() > until:
+            bench.browser.value("cancel?.()")
+            return True
+        time.sleep(0.02)
+    bench.count += 1
+    return bench.given() != given
+
+
+def is_found(bench: Bench, expected: dict) -> bool:
+    return any(takes_otherwise(bench, what, *list_of) for what, list_of in expected.items())
+
+
+def with_bytes(bench: Bench, changes: list) -> None:
+    """Has the page that is open take its module with these bytes at these places."""
+    bench.browser.value(CHANGED.replace("CHANGES", json.dumps(changes)))
+
+
+def runs(bench: Bench, expected: dict, module: bytes, function: tuple) -> bool:
+    """Whether a call of the module comes to this function, which is made to trap."""
+    changes = modules.trap_in(module, function)
+    with_bytes(bench, changes)
+    return bool(changes) and is_found(bench, expected)
+
+
+def is_felt(bench: Bench, expected: dict, module: bytes, function: tuple) -> bool:
+    """Whether one of some instructions of this function is found where it is changed. Not each of
+    them is run, and one may do the same as the other."""
+    places = modules.places_in(module, function)
+    for at in places[::max(1, len(places) // 6)]:
+        with_bytes(bench, [[at, modules.OTHERS[module[at]]]])
+        if is_found(bench, expected):
+            return True
+    return False
+
+
+def control(bench: Bench, folder: Path, page: str, expected: dict) -> None:
+    swapped = page.replace("file: blobOf(file)", "file: blobOf(rest[rest.length - 3 - at])")
+    bench.same("a script that exchanges files is another", swapped != page, True)
+    bench.browser.open(other_page(bench, folder, swapped).page)
+    bench.same("it is found", is_found(bench, expected), True)
+    bench.browser.open(bench.page)
+    bench.same("the page itself", is_found(bench, expected), False)
+    module = module_of(page)
+    bodies = [it for it in modules.bodies(module) if it[1] - it[0] > LONG_BODY]
+    step = max(1, len(bodies) // TRIED_BODIES)
+    running, tried = [], 0
+    for function in bodies[::step]:
+        if len(running) < ENOUGH:
+            tried += 1
+            running += [function] * runs(bench, expected, module, function)
+    found = sum(is_felt(bench, expected, module, it) for it in running)
+    with_bytes(bench, [])
+    bench.same("the module itself again", is_found(bench, expected), False)
+    print(f"{bench.name}: of {tried} functions {len(running)} run; in {found} of these one "
+          "changed instruction is found", flush=True)
+    bench.same(f"one changed instruction is found in {found}", found >= len(running) // 4, True)
+    bench.same("functions that run", len(running) >= 10, True)
+
+
+# All of it
+
+def words() -> arguments.Parser:
+    parser = arguments.Parser(__doc__, (*arguments.BOTH, "edfmend"), count=2_000)
+    parser.add_argument("--page", metavar="FILE", type=arguments.path, default=PAGE)
+    parser.add_argument("--browser", choices=tuple(BROWSERS), action="append")
+    parser.add_argument("--without-night", action="store_true")
+    parser.add_argument("--screenshots", metavar="FOLDER", type=arguments.path)
+    parser.add_argument("--control", action="store_true")
+    return parser
+
+
+def expectations(folder: Path, native: Native, given) -> dict:
+    """The lists of files, and what the programs give of each; for a control those that are soon
+    taken."""
+    expected, numbers, files = {}, set(), 0
+    lists_of = page_files.corpus(given.count)
+    if given.control:
+        lists_of = {what: lists_of[what] for what in ("one name", "odd names")}
+    for nth, (what, list_of) in enumerate(lists_of.items()):
+        own = folder / f"list-{nth}"
+        paths = written(own, list_of)
+        expected[what] = (paths, native.given(own, paths))
+        numbers |= {printed.number(line) for line in expected[what][1][0].splitlines()}
+        files += len(paths)
+    print(f"{files} files in {len(expected)} lists; refused by",
+          " ".join(sorted(numbers - {""}, key=lambda it: int(it[1:]))), flush=True)
+    return expected
+
+
+def in_browser(bench: Bench, given, folder: Path, native: Native, expected: dict) -> None:
+    page = given.page.read_text()
+    bench.same("bytes of the page", len(page) <= MOST_BYTES, True)
+    if given.control:
+        return control(bench, folder, page, expected)
+    hands = HANDS[bench.name](bench.browser, folder / f"profile-{bench.name}/downloads")
+    big = None if given.without_night else folder / "night/card.edf"
+    technician.all_of_it(bench, hands, folder, native, big)
+    lists(bench, expected)
+    no_files(bench)
+    little_memory(bench, folder, page, native)
+    traps(bench, folder, page, expected["one file"][0])
+    changes(bench, folder, native)
+    asks_nothing(bench, folder, page)
+    unable(bench, folder)
+    if not given.without_night:
+        big_night(bench, folder / "night/card.edf", native, folder / "night")
+
+
+def main() -> None:
+    given = words().read()
+    tried, failed = 0, 0
+    with measure.scratch() as name:
+        folder = Path(name)
+        native = Native(given.program, given.edfruns, given.edfmend)
+        expected = expectations(folder, native, given)
+        (folder / "night").mkdir()
+        if not (given.without_night or given.control):
+            night.CLINIC.card(folder / "night/card.edf")
+        for kind in given.browser or BROWSERS:
+            begun = time.perf_counter()
+            with BROWSERS[kind](folder / f"profile-{kind}") as browser:
+                bench = Bench(browser, kind, given.page, given.screenshots)
+                try:
+                    in_browser(bench, given, folder, native, expected)
+                except Lost as wrong:
+                    print(wrong)
+                    failed += 1
+                tried += bench.count
+            print(f"{kind}: {bench.count} compared in {time.perf_counter() - begun:.0f} s",
+                  flush=True)
+    end(tried, failed)
+
+
+if __name__ == "__main__":
+    main()

@@ -1,0 +1,8 @@
+use Rattle.edf_page.proofs.Nights.{take-writes-lines, list-writes-runs}
+use Rattle.edf_page.proofs.laws.the_programs_write_this.Goals as goal
+
+pub returns-clause-take : goal.returns-clause-take
+returns-clause-take c = take-writes-lines
+
+pub returns-clause-runs : goal.returns-clause-runs
+returns-clause-runs c = list-writes-runs

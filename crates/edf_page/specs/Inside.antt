@@ -1,0 +1,123 @@
+-- What the steps to a night leave of the store in memory, and what they answer.
+use Rattle.std.specs.Prelude.{◌≡◌, ℕ, List, map, length, codes, Option, Some, None, Err, true}
+use Rattle.std.specs.List.{AllZip}
+use Rattle.sqlite_trees.specs.declared.memory.MemStore.{MemStore}
+use Rattle.sqlite.specs.Steps.{over_memory}
+use Rattle.edf_field.specs.Number.{duration_of}
+use Rattle.edf_header.specs.declared.limits.TheConstants.{MOST_RECORDS}
+use Rattle.edf_header.specs.Key.{Key}
+use Rattle.edf_fragment.specs.Told.{Told, Tells}
+use Rattle.edf_holdings.specs.Holdings.{Holdings}
+use Rattle.edf_holdings.specs.Keys.{AreKeysOf}
+use Rattle.edf_holdings.specs.Reply.{reply, replies, after_one, after}
+use Rattle.edf_store.specs.Held.{StoreModel, Holds}
+use Rattle.edf_store.specs.declared.fault.StoreFault.{StoreFault}
+use Rattle.edf_store.specs.declared.fault.StoreFault.TheVariants as fault
+use Rattle.edf_intake.specs.Refusal.{Answer, reply_told}
+use Rattle.edf_intake.specs.declared.answer.Refusal.TheVariants as refusal
+use Rattle.edf_new_files.specs.Making.{Making}
+use Rattle.edf_program.specs.Output.{Growth}
+use Rattle.edf_program.specs.Text.{IsSpelling}
+use Rattle.edf_program.specs.declared.status.Status.TheVariants.{Done}
+use Rattle.edf_command.specs.Lines.{list_lines}
+use Rattle.edf_export.specs.Headline.{IsOnlyFile}
+use Rattle.edf_runs.specs.declared.run_list.Listing.{Listing}
+use Rattle.edf_sleep.specs.declared.note.Note.{Note}
+use Rattle.edfruns_command.specs.Joining.{each_line}
+use Rattle.edfruns_command.specs.Listing.{HasRuns}
+use Rattle.edfruns_command.specs.Picturing.{HasNotes, IsPictureOf}
+use Rattle.edfruns_command.specs.Run.{Asked, IsDone}
+use Rattle.edf_page.specs.Night.{lines_by}
+use Rattle.edf_page.specs.Programs.{IsText}
+use Rattle.edf_page.specs.declared.given.GivenFile.{GivenFile}
+use Rattle.edf_page.specs.declared.stopped.Stopped.{Stopped}
+use Rattle.edf_page.specs.declared.stopped.Stopped.TheVariants.{Memory, Store, Foreign}
+
+-- a store in memory takes as many data records of a recording as a file may have, and holds this
+pub record HasIn (store : StoreModel MemStore) (h : Holdings) : Type 0 where
+  pub cap_is : store.cap ≡ MOST_RECORDS
+  pub holds : Holds over_memory store h
+
+-- it holds what it held
+abbrev pub HoldsStill : StoreModel MemStore → StoreModel MemStore → Type 0
+HoldsStill old new = (h : Holdings) → HasIn old h → HasIn new h
+
+-- why nothing is given where the store refused
+abbrev pub stop_by : StoreFault → Stopped
+stop_by fault.Memory = Memory
+stop_by fault.Foreign = Foreign
+stop_by (fault.Store cause) = Store
+stop_by fault.Failed = Store
+
+-- where an answer says nothing of its file
+abbrev pub stop_in : Answer → Option Stopped
+stop_in (Err refusal.Read) = Some Memory
+stop_in (Err refusal.Memory) = Some Memory
+stop_in (Err (refusal.Store met)) = Some (stop_by met)
+stop_in answer = None
+
+-- a file was submitted, whatever was held: the answer is the reply to what it tells, and this is
+-- held then
+abbrev pub Submits : StoreModel MemStore → StoreModel MemStore → List ℕ → Answer → Type 0
+Submits old new bytes answer = (h : Holdings) (told : Told) → HasIn old h → Tells bytes told →
+    (reply_told answer ≡ Some (reply MOST_RECORDS h told))
+    × HasIn new (after_one MOST_RECORDS h told)
+
+-- files of these names, which tell these, were taken where h was held, and these are their lines
+pub record TakesTold (new : StoreModel MemStore) (lines names : List (List ℕ)) (h : Holdings)
+    (tolds : List Told) : Type 0 where
+  pub answers : List Answer
+  pub answered : map reply_told answers ≡ map Some (replies MOST_RECORDS h tolds)
+  pub each : length answers ≡ length names
+  pub lines_are : (spell : ℕ → List ℕ) → IsSpelling spell → lines ≡ lines_by spell names answers
+  pub has : HasIn new (after MOST_RECORDS h tolds)
+
+-- so whatever was held
+abbrev pub Takes : StoreModel MemStore → StoreModel MemStore → List (List ℕ) → List (List ℕ) →
+    List (List ℕ) → Type 0
+Takes old new lines names files = (h : Holdings) (tolds : List Told) → HasIn old h →
+    AllZip Tells files tolds → TakesTold new lines names h tolds
+
+-- of these files
+abbrev pub TakesGiven : StoreModel MemStore → StoreModel MemStore → List (List ℕ) →
+    List GivenFile → Type 0
+TakesGiven old new lines files = Takes old new lines (map (λ file. file.name.now) files)
+    (map (λ file. file.bytes.now) files)
+
+-- the lines of a store's recordings
+pub record ListsHeld (h : Holdings) (text : List ℕ) : Type 0 where
+  pub keys : List Key
+  pub are_keys : AreKeysOf h keys
+  pub lines : (spell : ℕ → List ℕ) → IsSpelling spell → text ≡ list_lines spell h 1 keys
+
+-- their files
+pub record ExportsHeld (h : Holdings) (files : List (List ℕ)) : Type 0 where
+  pub keys : List Key
+  pub are_keys : AreKeysOf h keys
+  pub each : AllZip (λ k file. IsOnlyFile file k (h k)) keys files
+
+-- what lines call it where a command stops
+abbrev pub recording_name : List ℕ
+recording_name = codes "recording"
+
+-- what was asked for was done of just these bytes, where nothing was written before
+pub record IsWrittenOf (asked : Asked) (bytes text : List ℕ) : Type 0 where
+  pub made : Making
+  pub out : Growth
+  pub err : Growth
+  pub done : IsDone (λ _. Some bytes) made out err asked Done
+  pub is_text : IsText out text
+
+-- the lines of the runs of a file, and a picture of it
+pub record ListsFile (file text : List ℕ) : Type 0 where
+  pub listing : Listing
+  pub has : HasRuns (Some file) listing
+  pub lines : (spell : ℕ → List ℕ) → IsSpelling spell →
+      text ≡ each_line spell (duration_of listing.identity.duration) listing.runs.items
+
+pub record DrawsFile (file picture : List ℕ) : Type 0 where
+  pub listing : Listing
+  pub has : HasRuns (Some file) listing
+  pub notes : List Note
+  pub noted : HasNotes (Some file) notes
+  pub is_picture : IsPictureOf listing.identity true listing.runs.items notes picture

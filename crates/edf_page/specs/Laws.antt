@@ -1,0 +1,59 @@
+-- Laws of what comes of files: it is one thing, but for pictures, and it is what the programs write
+-- of the same files.
+use Rattle.std.specs.Prelude.{◌≡◌, ◌≢◌, ℕ, List, ◌∷◌, [], Option, Some, None, map}
+use Rattle.std.specs.List.{AllZip, flat_map}
+use Rattle.sqlite_trees.specs.declared.memory.MemStore.{MemStore}
+use Rattle.sqlite.specs.Steps.{over_memory}
+use Rattle.edf_field.specs.Number.{duration_of}
+use Rattle.edf_header.specs.Key.{Key}
+use Rattle.edf_fragment.specs.Fragment.{DataRecord}
+use Rattle.edf_fragment.specs.Told.{Told, Tells}
+use Rattle.edf_holdings.specs.Holdings.{nothing_held}
+use Rattle.edf_store.specs.Held.{StoreModel}
+use Rattle.edf_program.specs.Output.{Growth}
+use Rattle.edf_program.specs.declared.status.Status.{Status}
+use Rattle.edf_program.specs.declared.status.Status.TheVariants.{Done, Trouble}
+use Rattle.edf_command.specs.Taking.{IsTaken}
+use Rattle.edf_export.specs.Headline.{IsOnlyFile}
+use Rattle.edfruns_command.specs.Listed.{IsListOut}
+use Rattle.edf_page.specs.Inside.{HasIn}
+use Rattle.edf_page.specs.Night.{AreTaken, AreRunLines, IsNight, taken_lines}
+use Rattle.edf_page.specs.Programs.{IsText}
+use Rattle.edf_page.specs.declared.night.Night.{Night}
+use Rattle.edf_page.specs.declared.night.Recording.{Recording}
+
+-- ---- one thing
+
+-- recordings have the same file and the same runs
+abbrev pub AreAlike : Recording → Recording → Type 0
+AreAlike r other = (r.file.items ≡ other.file.items) × (r.runs.items ≡ other.runs.items)
+
+-- nights are the same but for pictures
+pub record AreNightsAlike (night other : Night) : Type 0 where
+  pub taken : taken_lines night ≡ taken_lines other
+  pub listed : night.listed.items ≡ other.listed.items
+  pub each : AllZip AreAlike night.recordings.items other.recordings.items
+
+-- of the same files the same comes
+abbrev pub OneNightComes : Type 0
+OneNightComes = (names files : List (List ℕ)) (night other : Night) →
+    IsNight names files night → IsNight names files other → AreNightsAlike night other
+
+-- ---- the programs
+
+-- what `edfstore take` writes of these files, where they are taken into a store that holds nothing
+-- and there is no trouble, is their lines, joined
+abbrev pub TakeWritesLines : Type 0
+TakeWritesLines = (old new : StoreModel MemStore) (out err : Growth)
+    (bytes : List ℕ → Option (List ℕ)) (names files lines : List (List ℕ)) (tolds : List Told)
+    (text : List ℕ) (status : Status) → HasIn old nothing_held → map bytes names ≡ map Some files →
+    AllZip Tells files tolds → AreTaken names tolds lines → IsText out text → status ≢ Trouble →
+    IsTaken over_memory old new out err bytes names status → text ≡ flat_map (λ line. line) lines
+
+-- what `edfruns list` writes of the one file of a recording, where it is done, is the lines of its
+-- runs
+abbrev pub ListWritesRuns : Type 0
+ListWritesRuns = (out err : Growth) (file name text lines : List ℕ) (k : Key)
+    (records : List DataRecord) → IsOnlyFile file k records →
+    AreRunLines (duration_of k.duration) records lines → IsText out text →
+    IsListOut (λ _. Some file) out err None (name ∷ []) Done → text ≡ lines

@@ -1,0 +1,5 @@
+pub mod Night
+pub mod Programs
+pub mod Laws
+pub mod Inside
+pub mod InsideHeld

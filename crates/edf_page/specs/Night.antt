@@ -1,0 +1,113 @@
+-- What comes of files in a page. They are taken in turn into a store that holds nothing; of all
+-- that it then holds there are the lines and, recording by recording, the file, its runs and a
+-- picture.
+use Rattle.std.specs.Prelude.{◌≡◌, ℕ, List, [], ◌∷◌, ◌++◌, length, map, codes, Some, true}
+use Rattle.std.specs.List.{AllZip, flat_map, zip}
+use Rattle.edf_field.specs.Number.{duration_of}
+use Rattle.edf_header.specs.declared.limits.TheConstants.{MOST_RECORDS}
+use Rattle.edf_header.specs.Key.{Key}
+use Rattle.edf_fragment.specs.Fragment.{DataRecord}
+use Rattle.edf_fragment.specs.Told.{Told, Tells}
+use Rattle.edf_holdings.specs.Holdings.{Holdings, nothing_held}
+use Rattle.edf_holdings.specs.Keys.{AreKeysOf}
+use Rattle.edf_holdings.specs.Reply.{after, replies}
+use Rattle.edf_intake.specs.Refusal.{Answer, reply_told}
+use Rattle.edf_program.specs.Text.{IsSpelling}
+use Rattle.edf_command.specs.Lines.{take_line, list_lines}
+use Rattle.edf_export.specs.Headline.{IsOnlyFile}
+use Rattle.edf_runs.specs.ByOnset.{annotations_of}
+use Rattle.edf_runs.specs.Runs.{AreListed}
+use Rattle.edf_runs.specs.declared.run.Run.{Run}
+use Rattle.edf_sleep.specs.declared.note.Note.{Note}
+use Rattle.edfruns_command.specs.Joining.{each_line}
+use Rattle.edfruns_command.specs.Picturing.{AreNoted, IsPictureOf}
+use Rattle.edf_page.specs.declared.stopped.Stopped.{Stopped}
+use Rattle.edf_page.specs.declared.stopped.Stopped.TheVariants.{Memory, Store, Foreign}
+use Rattle.edf_page.specs.declared.night.Night.{Night}
+use Rattle.edf_page.specs.declared.night.Recording.{Recording}
+
+-- ---- the files, in turn
+
+-- the answers are the replies to the files, of which each meets what those before it left, where at
+-- first nothing is held
+abbrev pub AreAnswered : List Told → List Answer → Type 0
+AreAnswered tolds answers =
+    map reply_told answers ≡ map Some (replies MOST_RECORDS nothing_held tolds)
+
+-- what is held then
+abbrev pub held_after : List Told → Holdings
+held_after tolds = after MOST_RECORDS nothing_held tolds
+
+-- a line for each file, in their order: joined they are the lines of `edfstore take`
+abbrev pub lines_by : (ℕ → List ℕ) → List (List ℕ) → List Answer → List (List ℕ)
+lines_by spell names answers = map (λ p. take_line spell p.0 p.1) (zip names answers)
+
+-- each file has its line, by its name, as `edfstore take` has it
+pub record AreTaken (names : List (List ℕ)) (tolds : List Told) (lines : List (List ℕ)) : Type 0
+  where
+    pub answers : List Answer
+    pub answered : AreAnswered tolds answers
+    pub each : (spell : ℕ → List ℕ) → IsSpelling spell → lines ≡ lines_by spell names answers
+
+-- ---- the recordings
+
+-- the lines of the runs of these data records, which last d nanoseconds, as `edfruns list` has them
+pub record AreRunLines (d : ℕ) (records : List DataRecord) (lines : List ℕ) : Type 0 where
+  pub runs : List Run
+  pub are_runs : AreListed d records runs
+  pub are_lines : (spell : ℕ → List ℕ) → IsSpelling spell → lines ≡ each_line spell d runs
+
+-- a picture of this recording, with its codes, of its data records and of their annotations, as
+-- `edfruns picture` draws one where no gap is joined
+pub record IsPictured (k : Key) (records : List DataRecord) (picture : List ℕ) : Type 0 where
+  pub runs : List Run
+  pub are_runs : AreListed (duration_of k.duration) records runs
+  pub notes : List Note
+  pub are_notes : AreNoted (annotations_of records) notes
+  pub is_picture : IsPictureOf k true runs notes picture
+
+-- the recording of a key: the one file of what is held, its runs and its picture
+pub record IsRecording (h : Holdings) (k : Key) (r : Recording) : Type 0 where
+  pub is_file : IsOnlyFile r.file.items k (h k)
+  pub runs : AreRunLines (duration_of k.duration) (h k) r.runs.items
+  pub picture : IsPictured k (h k) r.picture.items
+
+-- each recording that is held has its line, as `edfstore list` has it, and in the same order each
+-- is given
+pub record AreGiven (h : Holdings) (listed : List ℕ) (recordings : List Recording) : Type 0 where
+  pub keys : List Key
+  pub are_keys : AreKeysOf h keys
+  pub lines : (spell : ℕ → List ℕ) → IsSpelling spell → listed ≡ list_lines spell h 1 keys
+  pub each : AllZip (IsRecording h) keys recordings
+
+-- ---- all of it
+
+abbrev pub taken_lines : Night → List (List ℕ)
+taken_lines night = map (λ line. line.items) night.taken.items
+
+-- what comes of files of these names, which have these bytes: by a law they tell one list alone,
+-- and two such nights differ in pictures at most
+pub record IsNight (names files : List (List ℕ)) (night : Night) : Type 0 where
+  pub each : length names ≡ length files
+  pub tolds : List Told
+  pub told : AllZip Tells files tolds
+  pub taken : AreTaken names tolds (taken_lines night)
+  pub given : AreGiven (held_after tolds) night.listed.items night.recordings.items
+
+-- ---- why nothing is given
+
+-- the line of `edfstore` where its store can't be opened: of E41, E42 or E45
+abbrev pub stopped_line : Stopped → List ℕ
+stopped_line Memory = codes "store refused E41 Memory\n"
+stopped_line Store = codes "store refused E42 Store\n"
+stopped_line Foreign = codes "store refused E45 Foreign\n"
+
+-- ---- one piece after another
+
+abbrev pub pieces_of_one : Recording → List (List ℕ)
+pieces_of_one r = r.file.items ∷ r.runs.items ∷ r.picture.items ∷ []
+
+-- its pieces, in the order in which they are laid down
+abbrev pub pieces_of : Night → List (List ℕ)
+pieces_of night = taken_lines night
+    ++ (night.listed.items ∷ flat_map pieces_of_one night.recordings.items)

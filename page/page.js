@@ -1,0 +1,91 @@
+// The files that the page holds, by their handles, and what it does with them.
+
+// Those of what is shown, each { name, blob }; whether that is by onset.
+let held = [], isSorted = false;
+
+function clear() {
+  urls.splice(0).forEach((url) => URL.revokeObjectURL(url));
+  delete window.answer;
+  byId("results").replaceChildren();
+}
+
+// The page asks for the first files, or for more.
+function dress() {
+  const isMore = held.length > 0 || document.body.dataset.state === "failed";
+  document.body.classList.toggle("more", isMore);
+}
+
+// Says why nothing is given. A file that is the cause is held no more, and neither are files that
+// are too many: those that are left may be taken.
+function fail(files, { message, place }) {
+  clear();
+  if (place !== null) held = files.filter((_, at) => at !== place);
+  const [box, head] = part("section", byId("results"), "h2", "Nothing is given.");
+  made("p", message, box, { className: "fault" });
+  if (place !== null) made("p", "Choose it again, or go on without it.", box);
+  if (held.length > 0) {
+    button(`Go on with ${several(held.length, "other file")}`, box, () => take(held));
+  }
+  isSorted = byId("by-onset").checked;
+  setState("failed");
+  return head;
+}
+
+// Takes files anew, all of them. Where the person cancels that, what was here before comes back.
+async function take(files) {
+  if (isBusy()) return;
+  const hidden = [byId("results"), byId("give")], sorts = byId("by-onset").checked;
+  const begun = performance.now(), before = document.body.dataset.state;
+  let focus = byId("choose-files");
+  say("");
+  try {
+    const job = work({ kind: "take", files, sorts }, `Reading ${several(files.length, "file")}`);
+    hidden.forEach((it) => { it.hidden = true; });
+    byId("cancel").focus();
+    const done = await job;
+    clear();
+    [held, isSorted] = [files, sorts];
+    focus = await show(done, files);
+    window.cost = { memory: done.memory, milliseconds: performance.now() - begun };
+    setState("done");
+  } catch (fault) {
+    if (fault === CANCELLED) byId("by-onset").checked = isSorted;
+    else focus = fail(files, { message: fault.message, place: fault.place ?? null });
+    if (fault === CANCELLED) [say(fault.message), setState(before)];
+  }
+  hidden.forEach((it) => { it.hidden = false; });
+  dress();
+  focus.focus();
+}
+
+function add(files) {
+  if (files.length === 0 && held.length > 0) return say("No file came.");
+  take([...held, ...files.map((blob) => ({ name: blob.name, blob }))]);
+}
+
+function startOver() {
+  clear();
+  [held, isSorted] = [[], false];
+  byId("by-onset").checked = false;
+  say("");
+  setState("idle");
+  dress();
+  byId("choose-files").focus();
+}
+
+function begin() {
+  if (!isAble()) {
+    byId("unable").textContent = UNABLE;
+    byId("give").hidden = true;
+    return setState("failed");
+  }
+  compile();
+  listenForChoices(add);
+  listenForDrops(add);
+  byId("anew").addEventListener("click", startOver);
+  byId("by-onset").addEventListener("change", () => { if (held.length > 0) take(held); });
+  byId("cancel").addEventListener("click", () => cancel?.());
+  addEventListener("keydown", (event) => { if (event.key === "Escape") cancel?.(); });
+}
+
+begin();

@@ -1,0 +1,108 @@
+#!/usr/bin/env python3
+"""Puts the page together: its parts of this folder, a module, and of the documents what to do after
+a refusal and the rules of edfmend.
+
+    page/whole.py MODULE.wasm VERSION >edfstore.html
+    page/whole.py OTHER.html VERSION >edfstore.html     the module of another page
+
+The policy of the page names its script and its style by their sums, and lets it ask no server.
+"""
+
+import base64
+import hashlib
+import json
+import pathlib
+import re
+import sys
+
+HERE = pathlib.Path(__file__).parent
+DOCUMENTS = HERE.parent / "docs"
+POLICY = (
+    "default-src 'none'; form-action 'none'; base-uri 'none'; "
+    "script-src {script} 'wasm-unsafe-eval'; style-src {style}; worker-src blob:; img-src blob:"
+)
+# The parts of the page's script, in their order.
+SCRIPT = ("dom", "work", "files", "show", "views", "mend", "page")
+NUMBER = re.compile(r"^- \*\*(E\d+)\*\*(?: `[^`]*`)?: ")
+
+
+def part(name):
+    """The text of a part, which must not end the element that it stands in."""
+    text = (HERE / name).read_text(encoding="utf-8")
+    if "</" in text and name != "page.html":
+        sys.exit(f"page/whole.py: {name} has a '</'")
+    return text
+
+
+def plain(text):
+    """A text of a document without its marks."""
+    text = re.sub(r"\[([^\]]*)\]\([^)]*\)", r"\1", " ".join(text.split()))
+    return text.replace("`", "").replace("**", "")
+
+
+def entries(text):
+    """Of each number of REFUSALS its paragraph and the points below it."""
+    body = text[text.index("\n## Every number\n"):]
+    body = body[:body.index("\n## ", 4)]
+    found, number = {}, None
+    for line in body.splitlines():
+        begins = NUMBER.match(line)
+        if begins:
+            number = begins[1]
+            found[number] = [line[begins.end():]]
+        elif number and line.startswith("  - "):
+            found[number].append(line[4:])
+        elif number and line.startswith("  "):
+            found[number][-1] += " " + line.strip()
+        elif not line.startswith("  "):
+            number = None
+    return found
+
+
+def refusals():
+    """What to do after each refusal, whether edfmend mends it, and the rules of edfmend."""
+    found = {}
+    for number, (what, *more) in entries((DOCUMENTS / "REFUSALS.md").read_text("utf-8")).items():
+        mends = any(point.startswith("`edfmend`: ") for point in more)
+        more = [point for point in more if not point.startswith("`edfmend`: ")]
+        if "one of three things" in what:
+            what = more.pop(0)
+        found[number] = {"what": plain(what), "more": list(map(plain, more)), "mends": mends}
+    page = (DOCUMENTS / "edfmend.1").read_text("utf-8")
+    rules = page[page.index(".SH RULES"):page.index(".SH OUTPUT")]
+    found["rules"] = re.findall(r"^\.TP\n\.B (\w+)$", rules, re.M)
+    if len(found) < 39 or len(found["rules"]) < 12:
+        sys.exit("page/whole.py: docs/REFUSALS.md or docs/edfmend.1 lacks numbers or rules")
+    return json.dumps(found, ensure_ascii=True).replace("<", "\\u003c")
+
+
+def sum_of(text):
+    """How a policy names a script or a style."""
+    digest = hashlib.sha256(text.encode("utf-8")).digest()
+    return f"'sha256-{base64.b64encode(digest).decode('ascii')}'"
+
+
+def whole(module, version):
+    """The page's text."""
+    parts = {"STYLE": part("page.css"), "WORKER": part("worker.js"), "REFUSALS": refusals()}
+    parts["SCRIPT"] = "\n".join(part(f"{name}.js") for name in SCRIPT)
+    parts["MODULE"] = base64.b64encode(module).decode("ascii")
+    parts["SUM"] = hashlib.sha256(module).hexdigest()
+    parts["VERSION"] = version
+    parts["POLICY"] = POLICY.format(
+        script=sum_of(parts["SCRIPT"]), style=sum_of(parts["STYLE"])
+    )
+    text = part("page.html")
+    for name, value in parts.items():
+        text = text.replace(f"@{name}@", value)
+    return text
+
+
+def main():
+    module = pathlib.Path(sys.argv[1]).read_bytes()
+    if sys.argv[1].endswith(".html"):
+        module = base64.b64decode(re.search(rb'id="module">([\w+/=]*)<', module)[1])
+    sys.stdout.write(whole(module, sys.argv[2]))
+
+
+main()
