@@ -6,8 +6,9 @@ Each crate of crates.txt has its row, behind those that it uses, and the sign of
 definitions just where it has none. Each file of definitions, but for those of private contracts,
 stands once in the list of them; from the third group on it stands behind those that it uses. Each
 file that the page names is there: by its path from `docs`, `checks`, `crates` or a crate on, or by
-its name alone. A line tells each place where it is not so. With --control pages are looked at that
-are wrong in one place: each must be found wrong.
+its name alone. A public function, or one of a public trait, with more than MOST_CLAUSES clauses of
+`ensures` is named in the paragraph that says why, and no other is. A line tells each place where it
+is not so. With --control pages are looked at that are wrong in one place: each must be found wrong.
 """
 import re
 
@@ -23,13 +24,17 @@ OF_CRATE = re.compile(r"(edf\w+): ([^;]*)")
 USED = re.compile(r"\bRattle\.(edf\w+)\.specs\.(\w+)\b")
 FILE = re.compile(r"`((?:[\w-]+/)*[\w-]+\.(?:antt|rt|py|md|edits|txt|1))`")
 UNORDERED = 2       # groups, of which the first reads ahead
+MOST_CLAUSES = 8
+LONG = re.compile(r"^\*\*[^*]*public contract[^*]*more than eight clauses\*\*(.*?)\n\n",
+                  re.MULTILINE | re.DOTALL)
+FUNCTION = re.compile(r"^ *(pub )?(?:pub\(\w+\) )?(?:const )?fn (\w+)")
 
 
 def uses() -> dict:
     """The crates that each uses."""
     lines = (TOP / "crates.txt").read_text().splitlines()
     parts = [line.split(":") for line in lines if ":" in line and not line.startswith("#")]
-    return {name: set(used.split()) for name, used in parts}
+    return {name.split()[0]: set(used.split()) for name, used in parts}
 
 
 def definitions() -> set:
@@ -78,8 +83,29 @@ def of_files(page: str, tracked: list) -> list:
                 else not any((TOP / f"{place}{name}").is_file() for place in places))]
 
 
+def long_contracts(text: str) -> set:
+    """The public functions of a source that have more than MOST_CLAUSES clauses of `ensures`."""
+    found, name, count, in_trait = set(), None, 0, False
+    for line in text.splitlines():
+        in_trait = (in_trait or line.startswith("pub trait ")) and line != "}"
+        if begun := FUNCTION.match(line):
+            name, count = begun[2] if begun[1] or in_trait else None, 0
+        elif name and re.match(r"\s+ensures\b", line):
+            count += 1
+            found |= {name} if count > MOST_CLAUSES else set()
+    return found
+
+
+def of_clauses(page: str) -> list:
+    long = {f"{path.relative_to(CRATES).parts[0]}::{path.stem}::{name}"
+            for path in CRATES.glob("*/src/**/*.rt") for name in long_contracts(path.read_text())}
+    told = set(re.findall(r"`(edf\w+::[\w:]+)`", LONG.search(page)[1]))
+    return [*(f"{name} has more than {MOST_CLAUSES} clauses" for name in sorted(long - told)),
+            *(f"{name} has no more than {MOST_CLAUSES} clauses" for name in sorted(told - long))]
+
+
 def look(page: str, tracked: list) -> list:
-    return of_rows(page) + of_order(page) + of_files(page, tracked)
+    return of_rows(page) + of_order(page) + of_files(page, tracked) + of_clauses(page)
 
 
 # The control: what stands in the page, and what in its place
@@ -88,7 +114,7 @@ WRONG = (("| `edf_tal` |", "| `edf_tall` |"), ("| `edf_serve` |", "| `edf_serve`
          ("Walk;", ";"), ("Carried Rewritten", "Rewritten Carried Carried"),
          ("Sought Line", "Line Sought"), ("Decimal Civil", "Decimal Civic"),
          ("`edf_tal/src/check.rt`", "`edf_tal/src/checks.rt`"), ("`checks/told.py`", "`checks/tolled.py`"),
-         ("`Overview.antt`", "`Overviews.antt`"))
+         ("`Overview.antt`", "`Overviews.antt`"), ("meaning::intake`", "meaning::take`"))
 
 
 def main() -> None:

@@ -15,7 +15,7 @@ from checks.lib import arguments, checks
 
 PAGE = arguments.TOP / "docs/PROMISES.md"
 CRATES = arguments.TOP / "crates"
-FUNCTION = re.compile(r"^\s*(?:pub(?:\([a-z]+\))? )?fn (\w+)")
+FUNCTION = re.compile(r"^\s*(?:pub(?:\([a-z]+\))? )?(?:extern \"C\" )?fn (\w+)")
 CLAUSE = re.compile(r"^\s*(?:ensures|requires) (\w+) \{")
 TYPE = re.compile(r"^\s*(?:pub(?:\([a-z]+\))? )?(?:struct|enum|trait|type|mod) (\w+)")
 WORD = re.compile(r"^\s*(?:abbrev|(?:pub )?record|(?:pub )?data)(?: pub)? ([A-Za-z]\w*)")

@@ -26,6 +26,7 @@ SECONDS = 2.0
 TIMES = 3       # clones at most, since others may use the machine
 EXAMPLES = ("examples/edflib.edf", "examples/one-record.edf")
 PROGRAMS = ("edfstore", "edfruns", "edfserve", "edfmend")
+PAGE, BUILT_PAGE = "edfstore.html", "crates/edf_page_exports/out"
 MACHINES = {"x86_64": ("crates/{0}/out/{0}", 62), "aarch64": ("ports/arm64/out/{0}", 183)}
 NAMED = "logic=proved main= target=aarch64-unknown-linux-gnu sum=0\n"
 SAME = "release: {}, as it was proved here, has the released bytes\n"
@@ -111,8 +112,8 @@ def change_a_source(clone: Path) -> None:
 
 
 def built(clones: Clones) -> Path:
-    """A clone with the released programs where `rt ci` and ports/arm64/build leave what they
-    built."""
+    """A clone with the released programs and page where `rt ci`, ports/arm64/build and bin/page
+    leave what they built."""
     clone = clones.fresh()
     for name, (machine, (place, _)) in itertools.product(PROGRAMS, MACHINES.items()):
         line = f". bin/common.sh && released_program {name} {machine}"
@@ -120,6 +121,8 @@ def built(clones: Clones) -> Path:
         target.parent.mkdir(exist_ok=True)
         shutil.copy(clones.run(clone, "bash", "-c", line).out.decode().strip(), target)
         target.with_suffix(".verdict").write_text(NAMED)
+    (clone / BUILT_PAGE).mkdir()
+    shutil.copy(clone / "release" / PAGE, clone / BUILT_PAGE)
     return clone
 
 
@@ -175,7 +178,7 @@ def written_again(checks: Checks, clones: Clones, clone: Path) -> None:
         written.append(release_of(clone))
     checks.same("the release has the same bytes", written[1:] == written[:1] * 2, True)
     checks.same("its files", [sorted(path.rpartition(".")[2] for path in written[0])],
-                [["SHA256SUMS", "SOURCES", "TOOLCHAIN", "deb", "deb", "xz", "xz"]])
+                [["SHA256SUMS", "SOURCES", "TOOLCHAIN", "deb", "deb", "html", "xz", "xz"]])
     for name in ("SOURCES", "TOOLCHAIN"):
         checks.same(name, written[0][name], committed[name])
     print("bin/release writes the committed release" if written[0] == committed else
@@ -187,9 +190,9 @@ def written_again(checks: Checks, clones: Clones, clone: Path) -> None:
     last = release_of(clone)
     checks.same("with another page all archives are others",
                 sorted(name for name in last if last[name] != written[0][name]),
-                sorted(name for name in last if name not in ("SOURCES", "TOOLCHAIN")))
+                sorted(name for name in last if name not in ("SOURCES", "TOOLCHAIN", PAGE)))
     checks.compare("with another page bin/compare", clones.run(clone, "bin/compare"),
-                   "".join(map(SAME.format, PROGRAMS)), "", 0)
+                   "".join(map(SAME.format, (*PROGRAMS, PAGE))), "", 0)
 
 
 def changed(checks: Checks, clones: Clones, clone: Path, name: str) -> None:
@@ -199,7 +202,7 @@ def changed(checks: Checks, clones: Clones, clone: Path, name: str) -> None:
     at = len(data) // 2
     data[at] ^= 1
     program.write_bytes(data)
-    expected = "".join((OTHER if it == name else SAME).format(it) for it in PROGRAMS)
+    expected = "".join((OTHER if it == name else SAME).format(it) for it in (*PROGRAMS, PAGE))
     ran = clones.run(clone, "bin/compare")
     lines = ran.out.decode().splitlines(keepends=True)
     ours = "".join(line for line in lines if line.startswith("release:"))
@@ -219,7 +222,8 @@ def comparison(checks: Checks, clones: Clones) -> None:
     clones.toolchain(toolchain)
     compared(checks, clones, "no programs", clones.fresh(), "".join(map(NONE.format, PROGRAMS)))
     clone = built(clones)
-    compared(checks, clones, "the released programs", clone, "".join(map(SAME.format, PROGRAMS)))
+    compared(checks, clones, "what is released", clone,
+             "".join(map(SAME.format, (*PROGRAMS, PAGE))))
     if shutil.which("dpkg-deb"):
         not_named(checks, clones, clone)
         written_again(checks, clones, clone)

@@ -152,7 +152,7 @@ def spoilt(text: str) -> list:
     """Lists that are wrong in one place: a number, a name, a detail, a word, a rule."""
     changes = (("**E6**", "**E7**"), ("`NotPlus`", "`NoPlus`"), ("`Text record= ", "`Text "),
                ("no number above 0", "no number from 0"), ("look at its spelling", "look at it"),
-               ("a ZIP file: unpack it", "a ZIP file"), ("  - `edfmend`: `count`.\n", ""),
+               ("a ZIP file: unpack it", "a ZIP file"), ("  - `edfmend`: `plain`.\n", ""),
                ("- **E19**", "- **E39**"), ("is no sex (F, M or X)", "is no sex (F or M)"))
     return [text.replace(old, new, 1) for old, new in changes]
 
