@@ -73,6 +73,11 @@ class Clones:
         return measure.ran(*words, folder=clone, added={"PATH": f"{self.stub}:{self.tools}"})
 
 
+def line_of(line: str, name: str) -> str:
+    """What is said of a program; of the page, whose script is not proved, that it was built."""
+    return line.format(name).replace("proved", "built" if name == PAGE else "proved")
+
+
 def first_commands(checks: Checks, clones: Clones) -> None:
     """Each of these is the first command of its clone."""
     checks.begin("a fresh clone without the toolchain")
@@ -192,7 +197,7 @@ def written_again(checks: Checks, clones: Clones, clone: Path) -> None:
                 sorted(name for name in last if last[name] != written[0][name]),
                 sorted(name for name in last if name not in ("SOURCES", "TOOLCHAIN", PAGE)))
     checks.compare("with another page bin/compare", clones.run(clone, "bin/compare"),
-                   "".join(map(SAME.format, (*PROGRAMS, PAGE))), "", 0)
+                   "".join(line_of(SAME, it) for it in (*PROGRAMS, PAGE)), "", 0)
 
 
 def changed(checks: Checks, clones: Clones, clone: Path, name: str) -> None:
@@ -202,7 +207,8 @@ def changed(checks: Checks, clones: Clones, clone: Path, name: str) -> None:
     at = len(data) // 2
     data[at] ^= 1
     program.write_bytes(data)
-    expected = "".join((OTHER if it == name else SAME).format(it) for it in (*PROGRAMS, PAGE))
+    expected = "".join(line_of(OTHER if it == name else SAME, it)
+                       for it in (*PROGRAMS, PAGE))
     ran = clones.run(clone, "bin/compare")
     lines = ran.out.decode().splitlines(keepends=True)
     ours = "".join(line for line in lines if line.startswith("release:"))
@@ -223,7 +229,7 @@ def comparison(checks: Checks, clones: Clones) -> None:
     compared(checks, clones, "no programs", clones.fresh(), "".join(map(NONE.format, PROGRAMS)))
     clone = built(clones)
     compared(checks, clones, "what is released", clone,
-             "".join(map(SAME.format, (*PROGRAMS, PAGE))))
+             "".join(line_of(SAME, it) for it in (*PROGRAMS, PAGE)))
     if shutil.which("dpkg-deb"):
         not_named(checks, clones, clone)
         written_again(checks, clones, clone)
