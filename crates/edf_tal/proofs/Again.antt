@@ -80,7 +80,7 @@ tal_of base a = record {
       a.text ∷ [];
 }
 
-in-parts : (o d x : List ℕ) → o ++ (d ++ (20 ∷ (x ++ (20 ∷ 0 ∷ [])))) ≡ o ++ d
+pub in-parts : (o d x : List ℕ) → o ++ (d ++ (20 ∷ (x ++ (20 ∷ 0 ∷ [])))) ≡ o ++ d
     ++ 20 ∷ ended (x ∷ []) ++ 0 ∷ []
 in-parts o d x = simp (append_assoc, append-nil)
 
@@ -157,7 +157,8 @@ IsAnnotation-time_keeping start h = record {
 }
 
 -- the one block of a data record, with these TALs
-read-of : (b : List ℕ) (s : ℕ) (p : Place) (start : ℕ) (list : List Annotation) (ts : List Tal) →
+pub read-of : (b : List ℕ) (s : ℕ) (p : Place) (start : ℕ) (list : List Annotation) (ts : List Tal)
+    →
     AreTalsAndZeros b ts → HaveUtf8Texts ts → IsTimed ts → KeepsPlace p s ts
     → AllByRecursion (IsTalInWindow s) ts → IsWithinLimits list → start ≡ record_start s ts →
     list ≡ annotations s ts → IsRead b s p start list

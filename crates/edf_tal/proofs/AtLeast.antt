@@ -294,7 +294,8 @@ form b s =
       ]
     ]
 
-pub forms : (bs : List (List ℕ)) (s : ℕ) → ((f : Form) × HasForm bs s f) ⊎ ((at : ℕ) × IsBroken bs at)
+pub forms : (bs : List (List ℕ)) (s : ℕ) → ((f : Form) × HasForm bs s f) ⊎ ((at : ℕ) × IsBroken bs
+    at)
 forms [] s = inl (Good (record { in_window = true; count = 0; text_bytes = 0 }), surveyed-none s)
 forms (b ∷ bs) s =
     elim (form b s) [

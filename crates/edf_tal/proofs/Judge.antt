@@ -134,7 +134,7 @@ fault-none b later s p sums v none =
 pub fault-empty : (s : ℕ) (p : Place) → IsBlocksFault [] s p NotTimed
 fault-empty s p = fault-lists [] s p [] tt tt (λ h. h)
 
-keeps-place : (p : Place) (s : ℕ) (t : Tal) (ts : List Tal) → KeepsSecond p t.onset →
+pub keeps-place : (p : Place) (s : ℕ) (t : Tal) (ts : List Tal) → KeepsSecond p t.onset →
     KeepsOrder p (instant s t.onset) → KeepsPlace p s (t ∷ ts)
 keeps-place First s t ts second order = second
 keeps-place (After before duration) s t ts second order = order

@@ -15,4 +15,5 @@ pub mod Decide
 pub mod AtLeast
 pub mod FirstTal
 pub mod Judge
+pub mod Bare
 pub mod Cited

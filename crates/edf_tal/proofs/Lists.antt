@@ -4,7 +4,6 @@ use Rattle.std.proofs.Common.{ap, ◌∙◌, subst, append_assoc, Option}
 use Rattle.std.specs.Prelude.{IsUtf8}
 use Rattle.std.specs.List.{AllByRecursion, flat_map}
 use Rattle.std.proofs.lemmas.List.{append-nil}
-use Rattle.edf_time.specs.Civil.{window}
 use Rattle.edf_tal.specs.Tal.{Tal, Annotation, IsText, ended, AreTalsAndZeros, HaveUtf8Texts}
 use Rattle.edf_tal.specs.Tal.{IsTimed, IsTalInWindow, instant, tal_annotations, annotations}
 use Rattle.edf_tal.specs.Inside.Scan.{Lacks, NoTal, IsTalAtFront, TellsOnset, TellsDuration}

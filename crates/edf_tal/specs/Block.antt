@@ -1,6 +1,6 @@
 -- What the blocks of a data record say of it, and when they are refused.
 use Rattle.std.specs.Prelude.{◌≡◌, ℕ, ◌+◌, ◌^◌, ◌≤◌, ◌<◌, List, [], ◌∷◌, length, take, drop}
-use Rattle.std.specs.Prelude.{sum_by, ℤ, pos, ◌≤ℤ◌, ◌<ℤ◌, Option, Some, None, codes}
+use Rattle.std.specs.Prelude.{sum_by, pos, ◌≤ℤ◌, ◌<ℤ◌, Option, Some, None, codes}
 use Rattle.std.specs.List.{AllByRecursion}
 use Rattle.edf_tal.specs.Condition.{IsBroken, HasBadText}
 use Rattle.edf_tal.specs.Tal.{Tal, Annotation, AreBlocks, first_tals, all_tals, HaveUtf8Texts}

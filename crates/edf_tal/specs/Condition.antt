@@ -1,5 +1,6 @@
 -- When blocks are no lists of TALs, and when a text is no UTF-8.
-use Rattle.std.specs.Prelude.{◌≡◌, ℕ, ◌+◌, ◌≤◌, List, ◌∷◌, ◌++◌, length, take, sum_by, ℤ, Option, IsUtf8}
+use Rattle.std.specs.Prelude.{◌≡◌, ℕ, ◌+◌, ◌≤◌, List, ◌∷◌, ◌++◌, length, take, sum_by, ℤ, Option}
+use Rattle.std.specs.Prelude.{IsUtf8}
 use Rattle.std.specs.List.{AllByRecursion}
 use Rattle.edf_tal.specs.Tal.{Tal, IsOnset, IsDurationPart, IsText, ended, AreTals}
 use Rattle.edf_tal.specs.Tal.{AreTalsAndZeros, AreBlocks, all_tals, HaveUtf8Texts}

@@ -35,7 +35,7 @@ pub(crate) enum Form {
     BadText { offset: usize },
 }
 
-fn are_zeros(bytes: &[u8]) -> bool
+pub(crate) fn are_zeros(bytes: &[u8]) -> bool
     ensures { IsTrue result ↔ AreZeros bytes.now }
 {
     bytes.iter().all(|b| *b == 0)
@@ -67,7 +67,7 @@ fn form_of(block: &[u8], file_start: Instant) -> Result<Form, usize>
 }
 
 /// What is found in blocks and in others after them, which begin at `start`.
-fn joined(form: Form, start: usize, next: Form) -> Form
+fn with_next(form: Form, start: usize, next: Form) -> Form
     requires { (s : ℕ) × (before after : List (List ℕ)) ×
         HasForm before s form × (start ≡ sum_by length before) × HasForm after s next
         × (sum_by length (before ++ after) < 2 ^ 64) }
@@ -110,7 +110,7 @@ pub(crate) fn survey_blocks(
         let start = block.len() - rest.len();
         let (front, back) = rest.split_at(*size);
         match form_of(front, file_start) {
-            Ok(next) => form = joined(form, start, next),
+            Ok(next) => form = with_next(form, start, next),
             Err(offset) => {
                 return Err(TalFault::Tal {
                     offset: start + offset,

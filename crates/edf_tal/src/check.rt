@@ -1,14 +1,14 @@
-ghost use Rattle.std.specs.Prelude.{◌≡◌, ℕ, ◌+◌, ◌≤◌, ◌<◌, ◌↔◌, ℤ, MatchResult, IsTrue};
-ghost use Rattle.std.specs.Prelude.{List, ◌∷◌};
-ghost use Rattle.edf_tal.specs.Block.{IsBlocksFault, cut};
-ghost use Rattle.edf_tal.specs.Inside.Scan.{TellsOnset, KeepsSecond, KeepsOrder};
-ghost use Rattle.edf_tal.specs.Inside.Blocks.{AreSizes, AreSurveyed, IsChecked};
+ghost use Rattle.std.specs.Prelude.{◌≡◌, ℕ, ◌+◌, ◌≤◌, ◌<◌, ◌↔◌, ℤ, MatchResult, IfSome, IsTrue};
+ghost use Rattle.std.specs.Prelude.{List, [], ◌∷◌};
+ghost use Rattle.edf_tal.specs.Block.{AreRead, IsBlocksFault, cut};
+ghost use Rattle.edf_tal.specs.Inside.Scan.{capped, TellsOnset, KeepsSecond, KeepsOrder};
+ghost use Rattle.edf_tal.specs.Inside.Blocks.{AreSizes, AreSurveyed, IsChecked, KeepsTime};
 ghost use Rattle.edf_tal.specs.declared.place.Place.{Place};
 
-use crate::blocks::{Sums, survey_blocks};
+use crate::blocks::{Sums, are_zeros, survey_blocks};
 use crate::limits::{MOST_ANNOTATIONS, MOST_TEXT_BYTES};
 use crate::place::{Place, TalFault};
-use crate::scan::{TEXT_END, first_tal};
+use crate::scan::{TAL_END, TEXT_END, capped_seconds, first_tal, split_first};
 use crate::survey::onset_instant;
 use edf_time::Instant;
 
@@ -120,4 +120,42 @@ pub(crate) fn check_blocks(
 {
     let sums = survey_blocks(block, sizes, file_start)?;
     check_tals(&block[..sizes[0]], sums, file_start, place)
+}
+
+/// The nanoseconds of the onset, capped, of a block that is the time-keeping annotation alone: `+`,
+/// a decimal, two bytes 20, and zeros.
+fn bare_onset(block: &[u8]) -> Option<u64>
+    ensures { IfSome result (λ onset. (n : ℕ) × (onset ≡ capped n) × KeepsTime block.now n) }
+{
+    let (tal, zeros) = split_first(block, TAL_END)?;
+    match tal {
+        [b'+', onset @ .., TEXT_END, TEXT_END] if are_zeros(zeros) => capped_seconds(onset),
+        _ => None,
+    }
+}
+
+/// The start of a data record whose one block is the time-keeping annotation alone, where it keeps
+/// the rules of its place. `None` says nothing: the blocks may still be read.
+pub(crate) fn bare_start(
+    block: &[u8],
+    sizes: &[usize],
+    file_start: Instant,
+    place: &Place,
+) -> Option<Instant>
+    requires { AreSizes sizes.now block.now }
+    ensures { IfSome result
+        (λ start. AreRead (cut sizes.now block.now) file_start place.now start []) }
+{
+    if sizes.len() != 1 {
+        return None;
+    }
+    let onset = bare_onset(block)?;
+    if !keeps_second(place, true, onset) {
+        return None;
+    }
+    let start = onset_instant(true, onset, file_start)?;
+    if !keeps_order(place, start) {
+        return None;
+    }
+    Some(start)
 }

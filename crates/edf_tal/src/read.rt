@@ -9,7 +9,7 @@ ghost use Rattle.edf_tal.specs.Inside.Blocks.{AreSizes, AreSoundTals};
 ghost use Rattle.edf_tal.specs.declared.place.Place.{Place};
 
 use crate::blocks::push_blocks;
-use crate::check::check_blocks;
+use crate::check::{bare_start, check_blocks};
 use crate::note::Note;
 use crate::place::{Place, TalFault};
 use crate::scan::{TEXT_END, Times, first_tal, split_first};
@@ -179,6 +179,10 @@ pub fn read_blocks(
         (λ r. AreRead (cut sizes.now block.now) file_start place r.0 r.1.items)
         (IsBlocksRefusal (cut sizes.now block.now) file_start place) }
 {
+    // most data records have the time-keeping annotation alone, which needs no survey
+    if let Some(start) = bare_start(block, sizes, file_start, &place) {
+        return Ok((start, Vec::new(alloc)));
+    }
     match check_blocks(block, sizes, file_start, place) {
         Ok(checked) => match list_notes(alloc, block, sizes, checked.count, file_start) {
             Ok(list) => Ok((checked.start, list)),

@@ -49,7 +49,7 @@ pub(crate) fn split_first(bytes: &[u8], byte: u8) -> Option<(&[u8], &[u8])>
 }
 
 /// The nanoseconds of a decimal, capped.
-fn capped_seconds(text: &[u8]) -> Option<u64>
+pub(crate) fn capped_seconds(text: &[u8]) -> Option<u64>
     ensures { MatchOption result ((n : ℕ) → ¬ IsSeconds text.now n)
         (λ nanos. (n : ℕ) × IsSeconds text.now n × (nanos ≡ capped n)) }
 {

@@ -1,5 +1,6 @@
 -- Words of what is known of blocks on the way.
-use Rattle.std.specs.Prelude.{◌≡◌, ℕ, ◌≤◌, List, [], ◌∷◌, length, sum, sum_by, IsTrue, ◌↔◌}
+use Rattle.std.specs.Prelude.{◌≡◌, ℕ, ◌≤◌, List, [], ◌∷◌, length, sum, sum_by, IsTrue, ◌↔◌, pos}
+use Rattle.std.specs.Prelude.{None}
 use Rattle.std.specs.List.{AllByRecursion, flat_map}
 use Rattle.edf_tal.specs.Tal.{Tal, Annotation, AreTalsAndZeros, AreBlocks, all_tals, HaveUtf8Texts}
 use Rattle.edf_tal.specs.Tal.{IsTalInWindow, tal_annotations}
@@ -37,6 +38,14 @@ pub record IsChecked (blocks : List (List ℕ)) (file_start : ℕ) (place : Plac
   pub list : List Annotation
   pub read : AreRead blocks file_start place start list
   pub count_is : count ≡ length list
+
+-- the time-keeping annotation alone in its TAL, n nanoseconds after the file's start
+abbrev pub bare_tal : ℕ → Tal
+bare_tal n = record { onset = pos n; duration = None; texts = [] ∷ [] }
+
+-- a block of this TAL and zeros
+abbrev pub KeepsTime : List ℕ → ℕ → Type 0
+KeepsTime block n = AreTalsAndZeros block (bare_tal n ∷ [])
 
 -- the TALs of a block without a fault, but for the first one's rules
 pub record AreSoundTals (bytes : List ℕ) (file_start : ℕ) (tals : List Tal) : Type 0 where

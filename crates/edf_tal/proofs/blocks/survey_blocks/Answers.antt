@@ -17,9 +17,9 @@ the-next c =
     c.split_at.result.1.now c.loop-size-test.true
     c.loop-size.invariant.left c.split_at.ensures.front c.split_at.ensures.back
 
-pub joined-form-requires : goal.joined-form-requires
-joined-form-requires c =
-    let n = the-next (goal.at.joined-form-requires c).After-split_at in
+pub with_next-form-requires : goal.with_next-form-requires
+with_next-form-requires c =
+    let n = the-next (goal.at.with_next-form-requires c).After-split_at in
     let w = c.loop-size.invariant in
     let begun = surveyed-begin c.args.sizes.now c.args.block.now c.loop-size.size-index
     c.loop-size.rest.now c.args.file_start c.loop-size.form w in
@@ -63,8 +63,9 @@ loop-size-preserved c =
     c.loop-size.rest.now c.args.file_start c.loop-size.form w in
     surveyed-next c.args.sizes.now c.args.block.now c.loop-size.size-index c.loop-size.rest.now
     c.split_at.result.0.now c.split_at.result.1.now
-    c.args.file_start c.loop-size.form c.joined-form.result w n
-    (c.joined-form.ensures c.args.file_start w.done (c.split_at.result.0.now ∷ []) w.is_form begun
+    c.args.file_start c.loop-size.form c.with_next-form.result w n
+    (c.with_next-form.ensures c.args.file_start w.done (c.split_at.result.0.now ∷ []) w.is_form
+    begun
     c.in-Ok.ensures)
 
 pub returns-in-BadText : goal.returns-in-BadText

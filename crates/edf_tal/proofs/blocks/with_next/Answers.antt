@@ -8,7 +8,7 @@ use Rattle.edf_tal.specs.declared.blocks.Form.TheVariants.{Good}
 use Rattle.edf_tal.specs.Condition.{HasBadText}
 use Rattle.edf_tal.proofs.Joined.{surveyed-append, surveyed-room, bad-front, bad-back, form-lists}
 use Rattle.edf_tal.proofs.Joined.{lists-both}
-use Rattle.edf_tal.proofs.blocks.joined.Goals as goal
+use Rattle.edf_tal.proofs.blocks.with_next.Goals as goal
 
 sums-fit : (before after : List (List ℕ)) (s : ℕ) (f g : Form) (a b : Sums) → HasForm before s f →
     HasForm after s g → f ≡ Good a → g ≡ Good b
