@@ -21,7 +21,7 @@ use Rattle.edf_tal.specs.Canonical.{block_text}
 use Rattle.edf_fragment.specs.Fragment.{DataRecord}
 use Rattle.edf_holdings.specs.Same.{same_key}
 use Rattle.edf_holdings.specs.Clash.{near_of}
-use Rattle.edf_holdings.specs.Rising.{inserted, joined}
+use Rattle.edf_holdings.specs.Rising.{inserted, united}
 use Rattle.edf_holdings.specs.Holdings.{Holdings, put}
 use Rattle.edf_holdings.proofs.Same.{same_key-true, same_key-Decides}
 use Rattle.edf_holdings.proofs.Joining.{lasting, put_here}
@@ -149,7 +149,7 @@ module _ (old new : State) (id : ℤ) (k : Key) (r : DataRecord) (h : Holdings)
           ap (map shown_record) (other_records old new m id (pos r.start) r.samples
           (block_text 0 r.start r.annotations) has (other_id id m other))
           ∙ stand.held m q was ∙ ap (map record_cells)
-          (sym (cond-false (same_key k q) (joined (h q) (r ∷ [])) (h q) differ))
+          (sym (cond-false (same_key k q) (united (h q) (r ∷ [])) (h q) differ))
 
   owned_now : AllByRecursion (IsOwned new.now.trees) (old.now.trees 2) → IsOwned new.now.trees row →
       AllByRecursion (IsOwned new.now.trees) (new.now.trees 2)
@@ -182,7 +182,7 @@ module _ (old new : State) (id : ℤ) (k : Key) (r : DataRecord) (h : Holdings)
               (subst (IsThere old.now.trees id) (same_key-true k q e) there)))
           | inr e ↦ e
         ] in
-        cond-false (same_key k q) (joined (h q) (r ∷ [])) (h q) differ
+        cond-false (same_key k q) (united (h q) (r ∷ [])) (h q) differ
         ∙ stand.others q (λ m it. gone m (there_too m q it));
   }
     where

@@ -6,7 +6,7 @@ use Rattle.sqlite.specs.State.{State, HasCleanDisk}
 use Rattle.edf_header.specs.Key.{Key}
 use Rattle.edf_fragment.specs.Fragment.{DataRecord}
 use Rattle.edf_holdings.specs.Same.{same_key}
-use Rattle.edf_holdings.specs.Rising.{joined}
+use Rattle.edf_holdings.specs.Rising.{united}
 use Rattle.edf_holdings.specs.Holdings.{Holdings, put}
 use Rattle.edf_holdings.proofs.Same.{same_key-Decides}
 use Rattle.edf_rows.proofs.Rows.{one-holdings}
@@ -71,7 +71,7 @@ module _ (cap : ℕ) (a b : State) (was : HasCleanDisk b → HasCleanDisk a) (ru
         go : (g : Holdings) → (k ≢ made → g k ≢ []) → (s : Bool) → same_key made k ≡ s →
             put made (r ∷ []) g k ≢ []
         go g held true e empty = inserted-some r (g k)
-            (sym (cond-true (same_key made k) (joined (g k) (r ∷ [])) (g k) e) ∙ empty)
+            (sym (cond-true (same_key made k) (united (g k) (r ∷ [])) (g k) e) ∙ empty)
         go g held false e empty =
             held (λ p. true≢false (sym ((same_key-Decides made k).1 (sym p)) ∙ e))
-            (sym (cond-false (same_key made k) (joined (g k) (r ∷ [])) (g k) e) ∙ empty)
+            (sym (cond-false (same_key made k) (united (g k) (r ∷ [])) (g k) e) ∙ empty)

@@ -36,7 +36,13 @@ pub(crate) fn records_near<S: Alter>(
 {
     let begin = start.nanos() as i64;
     let length = duration as i64;
-    let rows = near_rows(&mut store.conn, id, begin - length, begin + length)?;
+    let rows = near_rows(
+        store.alloc,
+        &mut store.conn,
+        id,
+        begin - length,
+        begin + length,
+    )?;
     records_in(store.alloc, rows)
 }
 

@@ -43,7 +43,13 @@ fn read_ahead<S: Alter>(
     if !cursor.rows.is_empty() {
         return Ok(());
     }
-    let rows = page_rows(&mut store.conn, recording, cursor.start, cursor.limit)?;
+    let rows = page_rows(
+        store.alloc,
+        &mut store.conn,
+        recording,
+        cursor.start,
+        cursor.limit,
+    )?;
     cursor.rows = VecDeque::from_vec(rows);
     Ok(())
 }

@@ -265,6 +265,14 @@ pub unread_if : {T : Type 0} (r : Result T Error) (P Q : Error → Type 0) →
 unread_if (Ok x) P Q f h = tt
 unread_if (Err e) P Q f h = f e h
 
+-- the query is refused, or a cell of a row that it shows
+pub untold_from : {T : Type 0} (r : Result T Error) (old new : State) (P : Error → Type 0) →
+    ((e : Error) → P e → IsUnread old new e) → IfErr r (λ e. P e ⊎ IsCellRefused e) →
+    IfErr r (IsUntold old new)
+untold_from (Ok x) old new P f h = tt
+untold_from (Err e) old new P f (inl h) = inl (f e h)
+untold_from (Err e) old new P f (inr h) = inr h
+
 -- there is a row, and its cell cannot be read
 pub untold_if : {T : Type 0} (r : Result T Error) (old new : State) (rows : List Row) → rows ≢ [] →
     IfErr r (λ e. (rows ≡ []) ⊎ IsCellRefused e) → IfErr r (IsUntold old new)

@@ -34,7 +34,6 @@ use Rattle.sqlite.specs.Rowids.TheVariants.{Above, Chosen}
 use Rattle.sqlite_rules.specs.Action.{Writes, Leads}
 use Rattle.sqlite_rules.specs.Edit.{IsRefused, IsOversized, next_rowid}
 use Rattle.sqlite_rules.specs.declared.error.Refusal.{Refusal}
-use Rattle.sqlite_catalog.specs.declared.error.Refusal.TheVariants as why
 use Rattle.sqlite_typing.specs.Types.{accepts_terms}
 use Rattle.sqlite_tied.specs.Compute.{everything}
 use Rattle.sqlite.specs.declared.run.Mode.{Mode}
@@ -50,7 +49,6 @@ use Rattle.sqlite.specs.State.{IsLive}
 use Rattle.sqlite.proofs.Callers.{command_of, statement_of}
 use Rattle.edf_tables.specs.Refused.{IsUnadded}
 use Rattle.edf_tables.specs.Refused.{IsUnadded as row}
-use Rattle.edf_tables.specs.Refused.{IsUnmade as table}
 use Rattle.edf_tables.specs.Row.{cells, named_cells, new_row, one_row, stored_size, IsInside}
 use Rattle.edf_tables.specs.Schema.{recording, records, Others, schema_with}
 use Rattle.edf_tables.specs.Schema.{IsOtherIndex, HasBoth}

@@ -9,7 +9,6 @@ use Rattle.sqlite.specs.Schema.{Schema}
 use Rattle.sqlite_schema.specs.declared.schema.Table.{Table}
 use Rattle.sqlite.specs.Command.TheVariants.{CreateTable, Nothing}
 use Rattle.sqlite_schema.specs.declared.command.Command.{Command}
-use Rattle.sqlite_rules.specs.declared.error.Refusal.{Refusal}
 use Rattle.sqlite_catalog.specs.declared.error.Refusal as alter
 use Rattle.sqlite_catalog.specs.declared.error.Refusal.TheVariants as why
 use Rattle.sqlite_catalog.specs.Calls.{IsLongTable}

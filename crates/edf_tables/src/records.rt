@@ -11,8 +11,9 @@ ghost use Rattle.edf_tables.specs.Records.{starts_between, starts_from};
 ghost use Rattle.edf_tables.specs.Statement.{HasBothTables, tables, IfClean, Gives, OnlyReads};
 ghost use Rattle.edf_tables.specs.Statement.{FailsAs, KeepsCommitted, IsCrashSafe};
 
-use crate::row::{MOST_COUNTED, RecordRow, first_count, first_number, record_rows, rows_shown};
+use crate::row::{MOST_COUNTED, RecordRow, first_count, first_number, records_shown, rows_shown};
 use sqlite::{Alter, Connection, Error, params};
+use std::alloc::Global;
 
 /// The records of a recording that start after one instant and before another, by their starts.
 ///
@@ -20,6 +21,7 @@ use sqlite::{Alter, Connection, Error, params};
 /// `sqlite`'s, and the one for a cell of another type. What is committed stays; an open transaction
 /// may be undone.
 pub fn near_rows<S: Alter>(
+    alloc: Global,
     conn: &mut Connection<S>,
     recording: i64,
     after: i64,
@@ -35,13 +37,13 @@ pub fn near_rows<S: Alter>(
     ensures kept { KeepsCommitted S.Store conn.old conn.new }
     ensures survives { IsCrashSafe S.Store conn.old conn.new }
 {
-    let rows = rows_shown(
+    records_shown(
+        alloc,
         conn,
         "SELECT start, samples, block FROM record \
             WHERE recording = ?1 AND start > ?2 AND start < ?3 ORDER BY start",
         params![recording, after, before],
-    )?;
-    record_rows(rows)
+    )
 }
 
 /// The first `limit` records of a recording that start after an instant, by their starts.
@@ -50,6 +52,7 @@ pub fn near_rows<S: Alter>(
 /// `sqlite`'s, and the one for a cell of another type. What is committed stays; an open transaction
 /// may be undone.
 pub fn page_rows<S: Alter>(
+    alloc: Global,
     conn: &mut Connection<S>,
     recording: i64,
     after: i64,
@@ -65,13 +68,13 @@ pub fn page_rows<S: Alter>(
     ensures kept { KeepsCommitted S.Store conn.old conn.new }
     ensures survives { IsCrashSafe S.Store conn.old conn.new }
 {
-    let rows = rows_shown(
+    records_shown(
+        alloc,
         conn,
         "SELECT start, samples, block FROM record \
             WHERE recording = ?1 AND start > ?2 ORDER BY start LIMIT ?3",
         params![recording, after, limit],
-    )?;
-    record_rows(rows)
+    )
 }
 
 /// The number of records of a recording, or [`MOST_COUNTED`] where there are more.

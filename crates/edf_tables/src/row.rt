@@ -17,6 +17,7 @@ ghost use Rattle.edf_tables.specs.Statement.{IsCrashSafe};
 
 use sqlite::types::ValueRef;
 use sqlite::{Alter, Connection, Error, Row};
+use std::alloc::Global;
 
 /// A row of the table `record` as typed values, without its recording.
 #[derive(Debug, PartialEq, Eq, Drop)]
@@ -42,18 +43,6 @@ fn record_row(row: &Row) -> Result<RecordRow, Error>
         samples: row.get(1)?,
         block: row.get(2)?,
     })
-}
-
-/// The same of each of these rows.
-pub(crate) fn record_rows(rows: Vec<Row>) -> Result<Vec<RecordRow>, Error>
-    ensures value { IfOk result (λ found. map cells_of found.items ≡ map first_three rows.items) }
-    ensures why { IfErr result IsCellRefused }
-{
-    let mut found = Vec::new(*rows.allocator());
-    for row in &rows {
-        found.push(record_row(row)?)?;
-    }
-    Ok(found)
 }
 
 /// The bytes in the first column of each row.
@@ -118,4 +107,32 @@ pub(crate) fn rows_shown<S: Alter>(
     ensures survives { IsCrashSafe S.Store conn.old conn.new }
 {
     conn.query_all(sql, params)
+}
+
+/// The typed rows of those that a query shows, which changes nothing. Each is read while the
+/// connection lends it, so that its bytes are copied once.
+pub(crate) fn records_shown<S: Alter>(
+    alloc: Global,
+    conn: &mut Connection<S>,
+    sql: &str,
+    params: &[ValueRef<'_>],
+) -> Result<Vec<RecordRow>, Error>
+    requires { IfClean S.Store conn.old (λ s. IsPlain (understood s.now.schema sql.now)) }
+    ensures why { FailsAs S.Store conn.old conn.new result (λ old new e.
+        FailsToQuery sql.now (bound params.now) old new e ⊎ IsCellRefused e) }
+    ensures shown { Gives S.Store conn.new result (λ found.
+        (rows : _) × Shown sql.now (bound params.now) (state S.Store conn.old)
+        (state S.Store conn.new) rows × (map cells_of found.items ≡ map first_three rows)) }
+    ensures same { OnlyReads S.Store conn.old conn.new result }
+    ensures kept { KeepsCommitted S.Store conn.old conn.new }
+    ensures survives { IsCrashSafe S.Store conn.old conn.new }
+{
+    let mut found = Vec::new(alloc);
+    let mut rows = conn.query(sql, params)?;
+    'rows: loop {
+        let Some(row) = rows.next()? else {
+            return Ok(found);
+        };
+        found.push(record_row(row)?)?;
+    }
 }
