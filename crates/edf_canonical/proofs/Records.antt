@@ -1,5 +1,5 @@
 -- The records of a canonical file are read again as they were.
-use Rattle.std.proofs.Common.{◌≡◌, ℕ, zero, suc, ◌+◌, ◌-◌, ◌≤◌, ◌<◌, List, get_or, append_assoc, []}
+use Rattle.std.proofs.Common.{◌≡◌, ℕ, ◌+◌, ◌-◌, ◌≤◌, List, []}
 use Rattle.std.proofs.Common.{◌∷◌, ◌++◌, length, map, take, drop, refl, sym, ap, ◌∙◌, subst, arith}
 use Rattle.std.proofs.Common.{length-append, replicate}
 use Rattle.std.proofs.lemmas.List.{take_at, drop_at, take_all, drop_all, length-replicate}
@@ -78,26 +78,3 @@ records-read l place base size [] each = (place, (refl, refl))
 records-read l place base size (r ∷ rs) each =
     let rest = records-read l (place_after l r.start) base size rs each.1 in
     (rest.0, (record_text base size r, flat_map (record_text base size) rs, refl, each.0, rest.1))
-
--- the texts of the records so far, and of one more
-texts-more : (base size : ℕ) (rs : List DataRecord) (i : ℕ) (r : DataRecord) → i < length rs →
-    r ≡ get_or rs i r
-    → flat_map (record_text base size) (take i rs)
-    ++ record_text base size r ≡ flat_map (record_text base size) (take (suc i) rs)
-texts-more base size [] i r low is = absurd (omega arith)
-texts-more base size (x ∷ rs) zero r low is =
-    ap (λ (y : DataRecord). record_text base size y) is ∙ sym (append-nil (record_text base size x))
-texts-more base size (x ∷ rs) (suc i) r low is =
-    append_assoc (record_text base size x) (flat_map (record_text base size) (take i rs))
-    (record_text base size r)
-    ∙ ap (λ (l : List ℕ). record_text base size x
-    ++ l) (texts-more base size rs i r (omega arith) is)
-
-pub one-more-text : (base size : ℕ) (rs : List DataRecord) (i : ℕ) (r : DataRecord) →
-    i < length rs → r ≡ get_or rs i r
-    → flat_map (record_text base size) (take i rs)
-    ++ record_text base size r ≡ flat_map (record_text base size) (take (i + 1) rs)
-one-more-text base size rs i r low is =
-    let next : suc i ≡ i + 1 = omega arith in
-    texts-more base size rs i r low is
-    ∙ ap (λ (n : ℕ). flat_map (record_text base size) (take n rs)) next

@@ -1,6 +1,7 @@
 //! A data record as it is in a canonical file.
 
 ghost use Rattle.std.specs.Prelude.{◌≡◌, ◌≤◌, length};
+ghost use Rattle.edf_fragment.specs.Sound.{IsValidRecord};
 ghost use Rattle.edf_canonical.specs.File.{block_of, samples_of, filled_block, record_text};
 ghost use Rattle.edf_canonical.specs.Output.{buffered, IsPutThrough};
 
@@ -17,6 +18,7 @@ pub fn samples_of(data_record: &Record, file_start: Instant) -> u32
     ensures value { result ≡ samples_of file_start data_record.now }
     ensures some { 1 ≤ result }
     ensures few { result ≤ MOST_CANONICAL_BLOCK_SAMPLES }
+    ensures valid { IsValidRecord data_record.now }
 {
     let len = block_len(data_record.start(), data_record.notes(), file_start);
     len.div_ceil(2) as u32

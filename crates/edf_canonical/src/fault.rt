@@ -10,3 +10,25 @@ pub enum OutputFault {
     #[error("out of memory")]
     Memory,
 }
+
+/// Why the data records of a source did not go out, or not to their end.
+#[derive(Debug, Drop)]
+pub enum SendFault<E> {
+    /// The source stopped.
+    Source(E),
+    /// They are not those that were measured.
+    Unlike,
+    /// They could not be put out.
+    Output(OutputFault),
+}
+
+impl<E> From<OutputFault> for SendFault<E> {
+    ghost use Rattle.std.specs.Prelude.{◌≡◌};
+    ghost use Rattle.edf_canonical.specs.declared.fault.SendFault.{SendFault};
+
+    ghost from_gives = { λ refused fault. fault ≡ SendFault.Output refused };
+
+    fn from(refused: OutputFault) -> SendFault<E> {
+        SendFault::Output(refused)
+    }
+}

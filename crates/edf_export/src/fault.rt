@@ -1,6 +1,6 @@
 //! Why a call of this crate is refused.
 
-use edf_canonical::OutputFault;
+use edf_canonical::{OutputFault, SendFault};
 use edf_store::StoreFault;
 use thiserror::Error;
 
@@ -61,16 +61,18 @@ impl From<StoreFault> for ExportFault {
     }
 }
 
-impl From<OutputFault> for ExportFault {
+impl From<SendFault<StoreFault>> for ExportFault {
     ghost use Rattle.std.specs.Prelude.{◌≡◌};
     ghost use Rattle.edf_export.specs.Inside.Walks.{export_fault_of};
 
     ghost from_gives = { λ refused fault. fault ≡ export_fault_of refused };
 
-    fn from(refused: OutputFault) -> ExportFault {
+    fn from(refused: SendFault<StoreFault>) -> ExportFault {
         match refused {
-            OutputFault::Write => ExportFault::Write,
-            OutputFault::Memory => ExportFault::Memory,
+            SendFault::Source(fault) => ExportFault::Store(fault),
+            SendFault::Unlike => ExportFault::Store(StoreFault::Foreign),
+            SendFault::Output(OutputFault::Write) => ExportFault::Write,
+            SendFault::Output(OutputFault::Memory) => ExportFault::Memory,
         }
     }
 }

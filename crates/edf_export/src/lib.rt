@@ -8,9 +8,9 @@
 
 mod fault;
 pub mod laws;
-mod plan;
 mod planning;
 mod recording;
+mod walked;
 mod writing;
 
 pub use fault::ExportFault;

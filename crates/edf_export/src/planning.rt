@@ -9,10 +9,11 @@ ghost use Rattle.edf_store.specs.Call.{IsBusy, ReadsOutside};
 ghost use Rattle.edf_store.specs.Fault.{HasCauseOrIsForeign, MayRefuse, IsStoreRefusal};
 ghost use Rattle.edf_store.specs.Held.{at, Holds};
 ghost use Rattle.edf_store.specs.Walk.{HasGiven, IsWalking};
+ghost use Rattle.edf_canonical.specs.Measure.{IsMeasuredSoFar};
 ghost use Rattle.edf_export.specs.Inside.Calls.{LeavesWalk};
-ghost use Rattle.edf_export.specs.Inside.Walks.{IsPlanned, IsToldSoFar, IsSoundRecording};
+ghost use Rattle.edf_export.specs.Inside.Walks.{IsPlanned, IsSoundRecording};
 
-use crate::plan::Plan;
+use edf_canonical::Measure;
 use edf_header::{Identity, MOST_RECORDS};
 use edf_store::{Records, Store, StoreFault};
 use sqlite::Alter;
@@ -21,22 +22,22 @@ use sqlite::Alter;
 const MOST_STEPS: u32 = MOST_RECORDS + 1;
 
 /// What the data records of a walk tell from its begin on; `None` where there is none.
-fn plan_walk<S: Alter>(walk: &mut Records<'_, S>) -> Result<Option<Plan>, StoreFault>
+fn plan_walk<S: Alter>(walk: &mut Records<'_, S>) -> Result<Option<Measure>, StoreFault>
     requires ready { (walk.old.failed ≡ false) × IsWalking S.Store walk.old }
     requires cap { walk.old.store.now.cap ≤ MOST_RECORDS }
     ensures leaves { LeavesWalk S.Store walk.old walk.new
         (λ s. OnOk result (s.in_transaction ≡ false)) }
     ensures walked { HasCleanDisk (at S.Store walk.new.store.now) → (h : Holdings) (k : Key) →
         HasGiven S.Store walk.old h k 0 →
-        MatchResult result (IsToldSoFar (h k)) IsStoreRefusal }
+        MatchResult result (IsMeasuredSoFar (h k)) IsStoreRefusal }
     ensures why { IfErr result HasCauseOrIsForeign }
 {
-    let mut plan: Option<Plan> = None;
+    let mut plan: Option<Measure> = None;
     for _ in 0..MOST_STEPS {
         let Some(data_record) = walk.next()? else {
             return Ok(plan);
         };
-        plan = Some(Plan::after(plan, &data_record));
+        plan = Some(Measure::after(plan, &data_record));
     }
     Err(StoreFault::Foreign)
 }
@@ -46,13 +47,13 @@ fn plan_held<S: Alter>(
     store: &mut Store<S>,
     identity: &Identity,
     cap: u32,
-) -> Result<Option<Plan>, StoreFault>
+) -> Result<Option<Measure>, StoreFault>
     requires { (cap ≡ store.old.cap) × (cap ≤ MOST_RECORDS) }
     ensures leaves { ReadsOutside S.Store store.old store.new result }
     ensures walked { HasCleanDisk (at S.Store store.new) → (h : Holdings) →
         Holds S.Store store.old h →
         MatchResult result
-        (λ plan. IsToldSoFar (h identity.now) plan
+        (λ plan. IsMeasuredSoFar (h identity.now) plan
         × IsSoundRecording store.new.cap identity.now (h identity.now))
         IsStoreRefusal }
     ensures busy { IsBusy S.Store store.old → result ≡ Err (StoreFault.Store None) }
@@ -67,7 +68,7 @@ fn plan_held<S: Alter>(
 pub(crate) fn plan_file<S: Alter>(
     store: &mut Store<S>,
     identity: &Identity,
-) -> Result<Option<Plan>, StoreFault>
+) -> Result<Option<Measure>, StoreFault>
     ensures leaves { ReadsOutside S.Store store.old store.new result }
     ensures planned { HasCleanDisk (at S.Store store.new) → (h : Holdings) →
         Holds S.Store store.old h →

@@ -6,10 +6,11 @@ use Rattle.edf_fragment.proofs.OneFragment.{one-fragment}
 use Rattle.edf_fragment.proofs.Sound.{spelled-sound}
 use Rattle.edf_canonical.specs.File.{IsCanonicalFile}
 use Rattle.edf_runs.specs.ByOnset.{by_onset}
-use Rattle.edf_runs.specs.Canonical.{IsMeasured, StartAlike}
+use Rattle.edf_canonical.specs.Measure.{IsMeasured}
+use Rattle.edf_runs.specs.Canonical.{StartAlike}
 use Rattle.edf_runs.specs.OnsetRead.{without_samples}
 use Rattle.edf_runs.specs.PlanByOnset.{StaysAsPlanned, WritesByOnset, WritesAlike}
-use Rattle.edf_runs.specs.WrittenByOnset.{annotated}
+use Rattle.edf_canonical.specs.Kept.{annotated}
 use Rattle.edf_runs.proofs.ByOnset.{stay-alike, are-one-however-spread}
 use Rattle.edf_runs.proofs.KeptByOnset.{bare-annotated}
 use Rattle.edf_runs.proofs.KeptWhole.{alike-bare}

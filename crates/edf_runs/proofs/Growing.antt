@@ -1,17 +1,15 @@
 -- Runs grow data record by data record.
 use Rattle.std.proofs.Common.{◌≡◌, ◌≢◌, ℕ, zero, suc, ◌+◌, ◌-◌, ◌*◌, ◌/◌, ◌≤◌, ◌<◌, min, max, List}
 use Rattle.std.proofs.Common.{[], ◌∷◌, ◌++◌, length, refl, sym, ap, ◌∙◌, subst, arith, append_assoc}
-use Rattle.std.proofs.Common.{append-nil, length-append, All}
-use Rattle.std.specs.Prelude.{Contains}
+use Rattle.std.proofs.Common.{append-nil, length-append}
 use Rattle.std.specs.List.{flat_map, AllZip}
 use Rattle.std.proofs.Math.Nat.{suc-mul}
 use Rattle.std.proofs.lemmas.Grind.{flat_map-append}
-use Rattle.std.proofs.lemmas.List.Elements.{All-nil, All-cons, All-push, All-weaker, All-contains}
-use Rattle.std.proofs.lemmas.List.Elements.{All-contains_itself, Contains-append_left}
-use Rattle.std.proofs.lemmas.List.Elements.{Contains-push}
+use Rattle.std.proofs.lemmas.List.Elements.{All-nil, All-cons, All-push, All-weaker}
 use Rattle.edf_header.specs.declared.limits.TheConstants.{MOST_RECORDS}
 use Rattle.edf_fragment.specs.Fragment.{DataRecord}
 use Rattle.edf_canonical.specs.File.{second_of, block_of, BlocksFit}
+use Rattle.edf_canonical.proofs.Measures.{all_front, all_last, samples_hold, samples_least}
 use Rattle.edf_runs.specs.Runs.{StartFrom, IsTouching, AreParted, IsRuns, IsListed, AreListed}
 use Rattle.edf_runs.specs.declared.run.Run.{Run}
 
@@ -78,14 +76,6 @@ pub joined_more : (runs : List (List DataRecord)) (run : List DataRecord) →
 joined_more runs run = flat_map-append (λ (x : List DataRecord). x) runs (run ∷ [])
     ∙ ap (λ (x : List DataRecord). joined runs ++ x) (append-nil run)
 
-pub all_front : {X : Type 0} (P : X → Type 0) (xs ys : List X) → All P (xs ++ ys) → All P xs
-all_front P xs ys all = All-weaker (Contains xs) P
-    (λ y is. All-contains P (xs ++ ys) y all (Contains-append_left xs ys y is)) xs
-    (All-contains_itself xs)
-
-pub all_last : {X : Type 0} (P : X → Type 0) (xs : List X) (x : X) → All P (xs ++ x ∷ []) → P x
-all_last P xs x all = All-contains P (xs ++ x ∷ []) x all (Contains-push xs x)
-
 pub some_more : (run : List DataRecord) (r : DataRecord) → (run ++ r ∷ []) ≢ []
 some_more [] r same = let none : ◌≡◌ {A = List DataRecord} (r ∷ []) [] = same in cc
 some_more (x ∷ xs) r same = let none : ◌≡◌ {A = List DataRecord} (x ∷ (xs ++ r ∷ [])) [] = same in
@@ -138,12 +128,6 @@ pub run_end : (d : ℕ) (records : List DataRecord) (run : Run) → IsListed d r
 run_end d records run is =
     let count : run.records * d ≡ length records * d = ap (λ n. n * d) is.count in
     omega (arith, is.last, last_end run.records d run.records_some, count)
-
-pub samples_hold : (len samples : ℕ) → (len + 1) / 2 ≤ samples → len ≤ 2 * samples
-samples_hold len samples few = omega arith
-
-pub samples_least : (len fewer : ℕ) → len ≤ 2 * fewer → (len + 1) / 2 ≤ fewer
-samples_least len fewer fits = omega arith
 
 pub listed_more : (d : ℕ) (records : List DataRecord) (run new : Run) (r : DataRecord) →
     IsListed d records run → r.start ≡ run.last + d → length records < MOST_RECORDS

@@ -17,7 +17,8 @@ use Rattle.edf_runs.proofs.Order.{order-all}
 use Rattle.edf_runs.specs.ByOnset.{annotations_of, AreAlike, by_onset, assigned, each_assigned}
 use Rattle.edf_runs.specs.ByOnset.{is_between}
 use Rattle.edf_runs.specs.OnsetRead.{kept_of, starts_of, without_samples}
-use Rattle.edf_runs.specs.WrittenByOnset.{annotated, with_samples, StartAs}
+use Rattle.edf_canonical.specs.Kept.{annotated, with_samples}
+use Rattle.edf_runs.specs.WrittenByOnset.{StartAs}
 use Rattle.edf_runs.specs.KeptByOnset.{annotated_runs, IsAsKept, KeptAreByOnset, StaySound}
 use Rattle.edf_runs.specs.declared.onset_run.OnsetRun.{OnsetRun}
 use Rattle.edf_runs.specs.declared.run.Run.{Run}

@@ -15,7 +15,8 @@ use Rattle.edf_runs.specs.Moved.{moved_record}
 use Rattle.edf_runs.specs.OnsetRead.{kept_of, starts_of}
 use Rattle.edf_runs.specs.Runs.{IsListed}
 use Rattle.edf_runs.specs.TakenBack.{KeptAreMoved}
-use Rattle.edf_runs.specs.WrittenByOnset.{annotated, StartAs}
+use Rattle.edf_canonical.specs.Kept.{annotated}
+use Rattle.edf_runs.specs.WrittenByOnset.{StartAs}
 use Rattle.edf_runs.specs.declared.onset_run.OnsetRun.{OnsetRun}
 use Rattle.edf_runs.proofs.ByOnset.{stay-alike}
 use Rattle.edf_runs.proofs.Filed.{bare}

@@ -10,7 +10,8 @@ use Rattle.edf_runs.specs.OnsetRead.{AreKept, kept_of, starts_of, IsRunCount}
 use Rattle.edf_runs.specs.Inside.Keeping.{EndAt, EndsThen}
 use Rattle.edf_runs.specs.declared.onset_run.OnsetRun.{OnsetRun}
 use Rattle.edf_runs.proofs.Growing.{first_run, longer_run, next_run, few_in, parts_touch, run_end}
-use Rattle.edf_runs.proofs.Growing.{touching_from, starts_more, all_front, all_last}
+use Rattle.edf_canonical.proofs.Measures.{all_front, all_last}
+use Rattle.edf_runs.proofs.Growing.{touching_from, starts_more}
 
 abbrev is_listed : ℕ → OnsetRun → Type 0
 is_listed d run = IsListed d (kept_of run) run.run

@@ -7,10 +7,10 @@ use Rattle.std.proofs.lemmas.List.{length-take}
 use Rattle.std.specs.Prelude.{MatchResult}
 use Rattle.std.specs.List.{slice_get}
 use Rattle.std.specs.Io.KnownBytes.{Consumes, Appends, Keeps}
+use Rattle.std.proofs.KnownBytes.{Appends-nil}
 use Rattle.edf_field.specs.Number.{duration_of}
-use Rattle.edf_header.specs.Canonical.{IsCanonicalHeader}
 use Rattle.edf_header.specs.Header.{Layout, most_records}
-use Rattle.edf_header.specs.Key.{Key, MayStart}
+use Rattle.edf_header.specs.Key.{Key}
 use Rattle.edf_header.specs.declared.limits.TheConstants.{MOST_RECORDS}
 use Rattle.edf_tal.specs.declared.place.Place.TheVariants.{First}
 use Rattle.edf_fragment.specs.Failures.{one_more}
@@ -22,43 +22,51 @@ use Rattle.edf_fragment.specs.declared.advance.Progress.{Progress}
 use Rattle.edf_fragment.specs.declared.advance.ReaderState.TheVariants.{Reading}
 use Rattle.edf_fragment.proofs.Fragments.{fragment_of_all}
 use Rattle.edf_fragment.proofs.OneFragment.{one-fragment}
-use Rattle.edf_fragment.proofs.Sound.{spelled-key, spelled-sound, spelled-few}
+use Rattle.edf_fragment.proofs.Sound.{spelled-sound, spelled-few}
 use Rattle.edf_canonical.specs.File.{second_of, block_of, record_text, BlocksFit}
 use Rattle.edf_canonical.specs.Output.{Buffered, Writes, WritesFront, IsPutThrough, IsFlushed}
 use Rattle.edf_canonical.specs.Output.{CountsOutputFault}
 use Rattle.edf_canonical.specs.declared.fault.OutputFault.{OutputFault}
 use Rattle.edf_canonical.specs.declared.fault.OutputFault.TheVariants.{Write as FailedWrite}
 use Rattle.edf_canonical.specs.declared.fault.OutputFault.TheVariants.{Memory as NoRoom}
-use Rattle.edf_canonical.proofs.Files.{one-file}
 use Rattle.edf_canonical.proofs.Puts.{put-fails-between}
 use Rattle.edf_canonical.proofs.Sent.{all_sent, flush_stops}
 use Rattle.edf_runs.specs.ByOnset.{by_onset}
-use Rattle.edf_runs.specs.Canonical.{IsCanonicalWritten, IsNotCanonical, StopsInFile, planned_text}
-use Rattle.edf_runs.specs.Canonical.{AreAsPlanned, IsMeasured, StartAlike}
+use Rattle.edf_canonical.specs.Measure.{planned_text}
+use Rattle.edf_runs.specs.Canonical.{IsCanonicalWritten, IsNotCanonical, StopsInFile}
+use Rattle.edf_canonical.specs.Measure.{IsMeasured}
+use Rattle.edf_runs.specs.Canonical.{AreAsPlanned, StartAlike}
 use Rattle.edf_runs.specs.Canonical.{WritesPlannedFront}
 use Rattle.edf_runs.specs.Loaded.{IsLoaded}
 use Rattle.edf_runs.specs.Inside.Keeping.{AreKeptWithin}
-use Rattle.edf_runs.specs.Inside.Sending.{records_text}
+use Rattle.edf_canonical.specs.Measure.{records_text}
 use Rattle.edf_runs.specs.Inside.Spaced.{Spaced}
-use Rattle.edf_runs.specs.Inside.Steps.{annotated_one, fault_out}
+use Rattle.edf_canonical.specs.Kept.{annotated_one}
+use Rattle.edf_runs.specs.Inside.Steps.{fault_out}
 use Rattle.edf_runs.specs.OnsetRead.{ReadsByOnset, without_samples}
 use Rattle.edf_runs.specs.PlanByOnset.{ReadsPlanByOnset}
-use Rattle.edf_runs.specs.WrittenByOnset.{annotated}
+use Rattle.edf_canonical.specs.Kept.{annotated}
 use Rattle.edf_runs.specs.declared.canonical_plan.CanonicalPlan.{CanonicalPlan}
-use Rattle.edf_runs.specs.declared.canonical_plan.Measure.{Measure}
+use Rattle.edf_canonical.specs.declared.measure.Measure.{Measure}
 use Rattle.edf_runs.specs.declared.fault.WriteFault.{WriteFault}
 use Rattle.edf_runs.specs.declared.fault.WriteFault.TheVariants.{Undated}
 use Rattle.edf_runs.specs.declared.loaded.LoadedRecording.{LoadedRecording}
 use Rattle.edf_runs.specs.declared.onset_listing.OnsetListing.{OnsetListing}
-use Rattle.edf_runs.proofs.Annotated.{annotated-front, annotated-nth}
+use Rattle.edf_canonical.proofs.Annotated.{annotated-none, annotated-front, annotated-nth}
 use Rattle.edf_runs.proofs.ByOnset.{stay-alike, spaced-sound}
 use Rattle.edf_runs.proofs.CanonicalByOnset.{stays-as-planned}
 use Rattle.edf_runs.proofs.Gathering.{full-within}
-use Rattle.edf_runs.proofs.Growing.{all_front, all_last}
+use Rattle.edf_canonical.proofs.Measures.{all_front, all_last}
 use Rattle.edf_runs.proofs.KeptByOnset.{bare-annotated, stay-sound}
-use Rattle.edf_runs.proofs.Whole.{all_first, file_of, put_one_more, text_more}
+use Rattle.edf_canonical.proofs.Measures.{all_first, put_one_more, text_more}
+use Rattle.edf_runs.proofs.Whole.{IsHead, planned_written}
 
 -- ---- the nth of the data records
+
+pub none-put : (a : Buffered) (m : Measure) (kept : List DataRecord) →
+    Writes a a (records_text m (annotated kept [])) a.held
+none-put a m kept = subst (λ x. Writes a a (records_text m x) a.held) (sym (annotated-none kept))
+    (record { front = []; wrote = Appends-nil _; parts = append-nil _ })
 
 module _ (kept records : List DataRecord) (nth : ℕ) (r : DataRecord) (few : nth < length records)
     (is : take (nth + 1) records ≡ take nth records ++ r ∷ []) where
@@ -180,36 +188,14 @@ module _ (left rest before after : Option (List ℕ)) (loaded : LoadedRecording)
   text header = planned_text header loaded.plan.measure
       (annotated loaded.plan.kept.items loaded.records.items)
 
-  abbrev IsHead : List ℕ → Type 0
-  IsHead header = IsCanonicalHeader header loaded.plan.identity loaded.plan.measure.first
-      loaded.plan.measure.records loaded.plan.measure.block_samples
-
-  pub loaded-written : (header : List ℕ) → IsHead header → Appends before after (text header) →
+  pub loaded-written : (header : List ℕ) → IsHead loaded.plan header →
+      Appends before after (text header) →
       (len : ℕ) × IsCanonicalWritten left rest before after loaded.plan len
-  loaded-written header is-header wrote =
-      let m = loaded.plan.measure in
-      let k = is.layout.key in
-      let rs = annotated loaded.plan.kept.items loaded.records.items in
-      let same : loaded.plan.identity ≡ k = is.planned.planned.identity in
-      let head : IsCanonicalHeader header k m.first m.records m.block_samples =
-      subst (λ x. IsCanonicalHeader header x m.first m.records m.block_samples) same is-header in
-      let begins : MayStart k m.first = subst (λ x. MayStart x m.first) same loaded.plan.may_start in
-      let file = file_of k rs m header
-      (spelled-key is.read.bytes k loaded.records.items is.read.spells) is.sound
-      is.planned.planned.measured begins head in (
-        length (text header),
-        record {
-          layout = is.layout;
-          records = loaded.records.items;
-          read = is.read;
-          planned = is.planned;
-          file = text header;
-          is_file = file;
-          only = λ other one. one-file other (text header) k rs one file;
-          wrote = wrote;
-          len_is = refl;
-        },
-      )
+  loaded-written header is-header wrote = (
+    length (text header),
+    planned_written left rest before after loaded.plan is.layout loaded.records.items header
+        (length (text header)) is.read is.planned is.sound is-header wrote refl,
+  )
 
   stops : WritesPlannedFront before after loaded.plan
       (annotated loaded.plan.kept.items loaded.records.items) →
@@ -236,7 +222,7 @@ module _ (left rest before after : Option (List ℕ)) (loaded : LoadedRecording)
       IsNotCanonical left rest before after loaded.plan fault
   loaded-unwritten fault dated none = (dated, inr (stops (inl none)))
 
-  pub loaded-stops : (fault : WriteFault) → fault ≢ Undated → (header : List ℕ) → IsHead header →
+  pub loaded-stops : (fault : WriteFault) → fault ≢ Undated → (header : List ℕ) → IsHead loaded.plan header →
       WritesFront before after (text header) →
       IsNotCanonical left rest before after loaded.plan fault
   loaded-stops fault dated header is-header front =

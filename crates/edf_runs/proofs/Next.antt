@@ -24,19 +24,24 @@ use Rattle.edf_fragment.specs.declared.fault.FragmentFault.TheVariants.{Read as 
 use Rattle.edf_fragment.specs.declared.fault.FragmentFault.TheVariants.{Memory as NoMemory, Failed}
 use Rattle.edf_fragment.proofs.Fronts.{same_front}
 use Rattle.edf_fragment.proofs.Layouts.{record-some}
-use Rattle.edf_runs.specs.Runs.{StartFrom}
+use Rattle.edf_canonical.specs.Measure.{IsMeasured}
+use Rattle.edf_canonical.specs.declared.measure.Measure.{Measure}
+use Rattle.edf_runs.specs.Runs.{StartFrom, IsListed}
 use Rattle.edf_runs.specs.Again.{fault_again, IsFaultBy, StopsAt, ComesNext}
 use Rattle.edf_canonical.specs.File.{second_of, block_of, BlocksFit}
-use Rattle.edf_runs.specs.WrittenByOnset.{annotated, StartAs, ComesByOnset}
-use Rattle.edf_runs.specs.Inside.Steps.{StepsOn, HasOthers, ReadSoFar, ArePut, annotated_one}
+use Rattle.edf_canonical.specs.Kept.{annotated}
+use Rattle.edf_runs.specs.WrittenByOnset.{StartAs, ComesByOnset}
+use Rattle.edf_canonical.specs.Kept.{annotated_one}
+use Rattle.edf_runs.specs.Inside.Steps.{StepsOn, HasOthers, ReadSoFar}
 use Rattle.edf_runs.specs.Inside.Steps.{due}
 use Rattle.edf_runs.specs.Inside.Putting.{IsAsListed}
 use Rattle.edf_runs.specs.declared.run.Run.{Run}
 use Rattle.edf_runs.specs.declared.fault.WriteFault.{WriteFault}
 use Rattle.edf_runs.specs.declared.fault.WriteFault.TheVariants.{Changed, Read, Memory}
-use Rattle.edf_runs.proofs.Growing.{all_front, all_last, run_end, samples_least, starts_front}
+use Rattle.edf_canonical.proofs.Measures.{all_front, all_last, samples_least}
+use Rattle.edf_runs.proofs.Growing.{run_end, starts_front}
 use Rattle.edf_runs.proofs.Growing.{last_start}
-use Rattle.edf_runs.proofs.Annotated.{annotated-length, annotated-front, annotated-nth}
+use Rattle.edf_canonical.proofs.Annotated.{annotated-length, annotated-front, annotated-nth}
 use Rattle.edf_runs.proofs.StartsAs.{start-as-of}
 use Rattle.edf_fragment.proofs.OneFragment.{one-record}
 
@@ -303,6 +308,28 @@ none_more : (xs : List DataRecord) → length xs ≡ 0 → xs ≡ []
 none_more [] none = refl
 none_more (x ∷ xs) none = absurd (omega (arith, none))
 
+-- what is listed of a run is measured of it
+listed_measured : (d : ℕ) (rs : List DataRecord) (run : Run) (whole : Measure) →
+    IsListed d rs run → whole.first ≡ run.first → whole.records ≡ run.records →
+    whole.block_samples ≡ run.block_samples → IsMeasured rs whole
+listed_measured d [] run whole is first records samples =
+    absurd (omega (arith, is.count, run.records_some))
+listed_measured d (r ∷ rs) run whole is first records samples = record {
+  first = r;
+  others = rs;
+  parts = refl;
+  start = first ∙ sym is.starts.0;
+  count = records ∙ is.count;
+  holds = subst (λ n. BlocksFit (second_of n) whole.block_samples (r ∷ rs)) (sym first)
+      (subst (λ n. BlocksFit (second_of run.first) n (r ∷ rs)) (sym samples) is.holds);
+  least = λ fewer hold. omega (
+    arith,
+    samples,
+    is.least fewer
+        (subst (λ n. BlocksFit (second_of n) fewer (r ∷ rs)) first hold),
+  );
+}
+
 -- ---- so far
 
 module _ (l : Layout) (from : Progress) (left : Option (List ℕ)) (run : Run) (starts : List ℕ)
@@ -385,13 +412,14 @@ module _ (l : Layout) (from mid : Progress) (left middle : Option (List ℕ)) (r
       ++ x) (none_more h.others (omega (arith, len, so.counted, all, same)))
       ∙ append-nil rs
 
-  -- the longest block is as long as was listed
-  pub longest_as_listed : (samples : ℕ) → ArePut l run (annotated kept rs) samples
-      → count ≡ run.records → samples ≡ run.block_samples
-  longest_as_listed samples put all =
-      let low = n.listed.least samples (subst (λ x. BlocksFit (second_of run.first) samples
-      (annotated kept x)) (sym (all_listed all)) put.holds) in
-      omega (arith, low, put.within)
+  -- they are measured as was listed
+  pub run_as_listed : count ≡ run.records → (whole : Measure) → whole.first ≡ run.first →
+      whole.records ≡ run.records → whole.block_samples ≡ run.block_samples →
+      IsMeasured (annotated kept rs) whole
+  run_as_listed all whole first records samples =
+      listed_measured (duration_of l.key.duration) (annotated kept rs) run whole
+      (subst (λ x. IsListed (duration_of l.key.duration) (annotated kept x) run) (all_listed all)
+      n.listed) first records samples
 
   -- the run ends where was listed
   pub end_as_listed : count ≡ run.records → next ≡ run.last + duration_of l.key.duration

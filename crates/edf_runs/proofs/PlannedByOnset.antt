@@ -14,7 +14,7 @@ use Rattle.edf_fragment.specs.Sound.{MayBegin}
 use Rattle.edf_fragment.proofs.Sound.{spelled-begins, spelled-few, spelled-some, spelled-sound}
 use Rattle.edf_canonical.specs.File.{second_of, block_of, BlocksFit}
 use Rattle.edf_runs.specs.ByOnset.{annotations_of, by_onset}
-use Rattle.edf_runs.specs.Canonical.{IsMeasured}
+use Rattle.edf_canonical.specs.Measure.{IsMeasured}
 use Rattle.edf_runs.specs.Inside.Measuring.{outside_here}
 use Rattle.edf_runs.specs.Inside.Spaced.{Spaced}
 use Rattle.edf_runs.specs.OneByOnset.{lies_in, outside_count}
@@ -22,7 +22,7 @@ use Rattle.edf_runs.specs.OnsetRead.{AreKept, ReadsByOnset, kept_of, without_sam
 use Rattle.edf_runs.specs.Order.{in_order}
 use Rattle.edf_runs.specs.PlanByOnset.{ReadsPlanByOnset}
 use Rattle.edf_runs.specs.declared.canonical_plan.CanonicalPlan.{CanonicalPlan}
-use Rattle.edf_runs.specs.declared.canonical_plan.Measure.{Measure}
+use Rattle.edf_canonical.specs.declared.measure.Measure.{Measure}
 use Rattle.edf_runs.specs.declared.onset_listing.OnsetListing.{OnsetListing}
 use Rattle.edf_runs.specs.declared.onset_run.OnsetRun.{OnsetRun}
 use Rattle.edf_runs.proofs.ByOnset.{once, spaced-sound}

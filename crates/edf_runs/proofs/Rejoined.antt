@@ -10,7 +10,7 @@ use Rattle.edf_fragment.specs.Fragment.{DataRecord, Spells}
 use Rattle.edf_fragment.specs.Told.{Told, Fragment, Tells}
 use Rattle.edf_fragment.proofs.Told.{one-telling}
 use Rattle.edf_holdings.specs.Clash.{NoClash}
-use Rattle.edf_holdings.specs.Rising.{joined}
+use Rattle.edf_holdings.specs.Rising.{united}
 use Rattle.edf_holdings.specs.Holdings.{Holdings, IsSound, put, nothing_held}
 use Rattle.edf_holdings.specs.Reply.{IsSoundTold, IsAccepted, after, replies}
 use Rattle.edf_holdings.specs.Free.{IsFragment, IsFree, Has, SameRecords}
@@ -127,9 +127,9 @@ whole k records = Fragment k records ∷ []
 module _ (cap : ℕ) (h : Holdings) (k : Key) (records : List DataRecord) (sound : IsSound cap h)
     (none : h k ≡ []) (told : IsSoundTold (Fragment k records)) where
   -- what the key holds with them is what it would hold where nothing was held
-  as-from-nothing : put k records nothing_held k ≡ joined (h k) records
+  as-from-nothing : put k records nothing_held k ≡ united (h k) records
   as-from-nothing = put_here k records nothing_held
-      ∙ ap (λ (l : List DataRecord). joined l records) (sym none)
+      ∙ ap (λ (l : List DataRecord). united l records) (sym none)
 
   alone-free : length records ≤ cap → IsFree cap h (whole k records)
   alone-free few =
@@ -151,7 +151,7 @@ module _ (cap : ℕ) (h : Holdings) (k : Key) (records : List DataRecord) (sound
         told,
         tt,
       ) (alone-free few)).1
-      ∙ put_here k records h ∙ ap (λ (l : List DataRecord). joined l records) none
+      ∙ put_here k records h ∙ ap (λ (l : List DataRecord). united l records) none
       ∙ from_nothing (duration_of k.duration) 0 records (lasting k told.0) apart apart
 
 -- submissions that hold just the data records of the whole file

@@ -1,7 +1,6 @@
 -- The canonical file of a whole file, by two readings of it.
-use Rattle.std.specs.Prelude.{◌≡◌, ◌≢◌, ℕ, ◌*◌, ◌≤◌, ◌⊎◌, List, [], ◌∷◌, ◌++◌, length, Option, Some}
+use Rattle.std.specs.Prelude.{◌≡◌, ◌≢◌, ℕ, ◌⊎◌, List, [], ◌∷◌, length, Option, Some}
 use Rattle.std.specs.Prelude.{Result, Err}
-use Rattle.std.specs.List.{flat_map}
 use Rattle.std.specs.Io.KnownBytes.{Appends, Keeps}
 use Rattle.edf_header.specs.Key.{Key}
 use Rattle.edf_header.specs.Header.{Layout}
@@ -11,26 +10,14 @@ use Rattle.edf_fragment.specs.Reading.{ReadsHeader, IsAnswer}
 use Rattle.edf_fragment.specs.Whole.{ReadsFragment, HasRead}
 use Rattle.edf_fragment.specs.declared.advance.Progress.{Progress}
 use Rattle.edf_fragment.specs.declared.fault.FragmentFault.{FragmentFault}
-use Rattle.edf_canonical.specs.File.{IsCanonicalFile, second_of, record_text, BlocksFit}
+use Rattle.edf_canonical.specs.File.{IsCanonicalFile}
+use Rattle.edf_canonical.specs.Measure.{IsMeasured, MayComeFirst, planned_text}
 use Rattle.edf_canonical.specs.Output.{WritesFront}
 use Rattle.edf_runs.specs.Again.{IsNotReopened}
-use Rattle.edf_runs.specs.WrittenByOnset.{annotated}
+use Rattle.edf_canonical.specs.Kept.{annotated}
 use Rattle.edf_runs.specs.declared.canonical_plan.CanonicalPlan.{CanonicalPlan}
-use Rattle.edf_runs.specs.declared.canonical_plan.Measure.{Measure}
 use Rattle.edf_runs.specs.declared.fault.WriteFault.{WriteFault}
 use Rattle.edf_runs.specs.declared.fault.WriteFault.TheVariants.{Undated, Changed}
-
--- when the first of the data records starts, how many there are, and the fewest samples, two bytes
--- each, that hold the longest block, with onsets counted from the second in which the first starts
-pub record IsMeasured (records : List DataRecord) (measure : Measure) : Type 0 where
-  pub first : DataRecord
-  pub others : List DataRecord
-  pub parts : records ≡ first ∷ others
-  pub start : measure.first ≡ first.start
-  pub count : measure.records ≡ length records
-  pub holds : BlocksFit (second_of measure.first) measure.block_samples records
-  pub least : (fewer : ℕ) → BlocksFit (second_of measure.first) fewer records →
-      measure.block_samples ≤ fewer
 
 -- what the canonical file of data records needs before its first byte: their key, and this of them
 pub record IsPlanned (k : Key) (records : List DataRecord) (plan : CanonicalPlan) : Type 0 where
@@ -58,23 +45,6 @@ StartAlike (k ∷ ks) (r ∷ rs) = (k.start ≡ r.start) × StartAlike ks rs
 pub record AreAsPlanned (k : Key) (records : List DataRecord) (plan : CanonicalPlan) : Type 0 where
   pub alike : StartAlike plan.kept.items records
   pub planned : IsPlanned k (annotated plan.kept.items records) plan
-
--- a header and data records as they are in a canonical file that was measured so
-abbrev pub planned_text : List ℕ → Measure → List DataRecord → List ℕ
-planned_text header m records = header
-    ++ flat_map (record_text (second_of m.first) (2 * m.block_samples)) records
-
--- the first of the data records, where there is one, starts at this instant
-abbrev pub StartsAt : ℕ → List DataRecord → Type 0
-StartsAt instant [] = Unit {0}
-StartsAt instant (r ∷ rs) = instant ≡ r.start
-
--- these may be the first of the data records that were measured: the first starts as theirs, and
--- there are no more, and no longer blocks
-pub record MayComeFirst (records : List DataRecord) (m : Measure) : Type 0 where
-  pub starts : StartsAt m.first records
-  pub within : length records ≤ m.records
-  pub holds : BlocksFit (second_of m.first) m.block_samples records
 
 -- the whole input was read; with the annotations that were kept it has what was planned, and the
 -- canonical file of that went out, the only one that it has, and this is the length

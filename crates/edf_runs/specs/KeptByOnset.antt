@@ -11,7 +11,8 @@ use Rattle.edf_fragment.specs.Sound.{AreSound}
 use Rattle.edf_runs.specs.Runs.{IsRuns, IsListed}
 use Rattle.edf_runs.specs.ByOnset.{by_onset}
 use Rattle.edf_runs.specs.OnsetRead.{AreKept, kept_of, starts_of, without_samples}
-use Rattle.edf_runs.specs.WrittenByOnset.{annotated, StartAs}
+use Rattle.edf_canonical.specs.Kept.{annotated}
+use Rattle.edf_runs.specs.WrittenByOnset.{StartAs}
 use Rattle.edf_runs.specs.declared.onset_run.OnsetRun.{OnsetRun}
 
 -- runs as they are read, each with what was kept of it

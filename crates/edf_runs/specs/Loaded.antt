@@ -5,7 +5,7 @@ use Rattle.edf_fragment.specs.Whole.{ReadsFragment}
 use Rattle.edf_header.specs.Header.{Layout}
 use Rattle.edf_runs.specs.Canonical.{AreAsPlanned, ReadsPlan}
 use Rattle.edf_runs.specs.PlanByOnset.{ReadsPlanByOnset}
-use Rattle.edf_runs.specs.WrittenByOnset.{annotated}
+use Rattle.edf_canonical.specs.Kept.{annotated}
 use Rattle.edf_runs.specs.declared.loaded.LoadedRecording.{LoadedRecording}
 
 -- the whole input was read; the data records that it spells are in memory, and are what was planned;

@@ -11,6 +11,7 @@ use Rattle.edf_fragment.specs.declared.advance.Progress.{Progress}
 use Rattle.edf_fragment.specs.declared.advance.ReaderState.TheVariants.{Reading}
 use Rattle.edf_fragment.specs.declared.open_fragment.OpenFragment.{OpenFragment}
 use Rattle.edf_canonical.specs.File.{second_of, BlocksFit}
+pub use Rattle.edf_canonical.specs.Kept.{annotated, with_samples}
 use Rattle.edf_runs.specs.Groups.{starts_in}
 use Rattle.edf_runs.specs.Runs.{StartFrom, IsListed}
 use Rattle.edf_runs.specs.File.{IsRunFile}
@@ -22,18 +23,6 @@ use Rattle.edf_runs.specs.declared.written.Written.{Written}
 use Rattle.edf_runs.specs.declared.fault.WriteFault.{WriteFault}
 use Rattle.edf_runs.specs.declared.fault.WriteFault.TheVariants.{Undated, Changed, Read, Memory}
 use Rattle.edf_runs.specs.declared.fault.WriteFault.TheVariants.{Write}
-
--- what was kept of a data record, with the samples of this one
-abbrev pub with_samples : DataRecord → DataRecord → DataRecord
-with_samples kept r =
-    record { start = kept.start; samples = r.samples; annotations = kept.annotations }
-
--- data records with the starts and annotations that were kept of them, one by one; those of which
--- nothing was kept have their own
-abbrev pub annotated : List DataRecord → List DataRecord → List DataRecord
-annotated [] records = records
-annotated (k ∷ ks) [] = []
-annotated (k ∷ ks) (r ∷ rs) = with_samples k r ∷ annotated ks rs
 
 -- the first of these, and of nothing else
 abbrev pub AreFront : List ℕ → List ℕ → Type 0

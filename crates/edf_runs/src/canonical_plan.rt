@@ -1,24 +1,9 @@
-ghost use Rattle.std.specs.Prelude.{◌≡◌, ◌≤◌, [], All};
+ghost use Rattle.std.specs.Prelude.{◌≡◌, [], All};
 ghost use Rattle.edf_header.specs.Key.{MayStart};
-ghost use Rattle.edf_header.specs.declared.limits.TheConstants.{MOST_RECORDS};
-ghost use Rattle.edf_tal.specs.declared.limits.TheConstants.{MOST_CANONICAL_BLOCK_SAMPLES};
 
+use edf_canonical::Measure;
 use edf_fragment::Record;
 use edf_header::Identity;
-use edf_time::Instant;
-
-/// When the first data record of a recording starts, how many there are, and how many samples, two
-/// bytes each, hold the longest block in their canonical file.
-#[derive(Clone, Copy, Debug, PartialEq, Eq, Drop)]
-pub(crate) struct Measure {
-    pub(crate) first: Instant,
-    pub(crate) records: u32,
-    pub(crate) block_samples: u32,
-    ghost records_some: { 1 ≤ records },
-    ghost records_few: { records ≤ MOST_RECORDS },
-    ghost block_some: { 1 ≤ block_samples },
-    ghost block_few: { block_samples ≤ MOST_CANONICAL_BLOCK_SAMPLES },
-}
 
 /// What the canonical file of a recording needs before its first byte: whose it is, when its first
 /// data record starts, how many there are, and how many samples hold the longest block; and, by

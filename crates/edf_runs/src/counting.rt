@@ -1,12 +1,9 @@
 //! How many annotations data records have, and how many of these lie outside of a run.
 
-ghost use Rattle.std.specs.Prelude.{◌≡◌, ℕ, ◌*◌, ◌≤◌, ◌++◌, ◌∷◌, [], List, count_by};
-ghost use Rattle.edf_header.specs.declared.limits.TheConstants.{MOST_RECORDS};
-ghost use Rattle.edf_tal.specs.declared.limits.TheConstants.{MOST_ANNOTATIONS};
-ghost use Rattle.edf_fragment.specs.Fragment.{DataRecord};
+ghost use Rattle.std.specs.Prelude.{◌≡◌, ◌≤◌, [], count_by};
 ghost use Rattle.edf_runs.specs.Counted.{is_outside};
+ghost use Rattle.edf_runs.specs.Inside.Putting.{CountsOneMore};
 ghost use Rattle.edf_runs.specs.Inside.Tally.{IsTallied};
-ghost use Rattle.edf_runs.specs.declared.run.Run.{Run as TheRun};
 
 use crate::run::Run;
 use crate::tally::Tally;
@@ -40,18 +37,15 @@ impl Tally {
 
     /// With one more data record.
     pub(crate) fn with(self, data_record: &Record) -> Tally
-        requires { self.annotations ≤ MOST_RECORDS * MOST_ANNOTATIONS }
-        ensures { (d : ℕ) (run : TheRun) (records : List DataRecord) →
-            IsTallied d run records self →
-            IsTallied d run (records ++ data_record.now ∷ []) result }
+        ensures { CountsOneMore self data_record.now result }
     {
         let notes = data_record.notes();
         let outside = outside_of(notes, self.first, self.end);
         Tally {
             first: self.first,
             end: self.end,
-            annotations: self.annotations + notes.len() as u64,
-            outside: self.outside + outside as u64,
+            annotations: self.annotations.saturating_add(notes.len() as u64),
+            outside: self.outside.saturating_add(outside as u64),
         }
     }
 }

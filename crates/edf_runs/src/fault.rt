@@ -1,3 +1,4 @@
+use edf_canonical::{OutputFault, SendFault};
 use thiserror::Error;
 
 /// Why a run is not written, or not to its end.
@@ -19,4 +20,34 @@ pub enum WriteFault {
     /// E43: a write failed, or took none of some bytes.
     #[error("a write failed")]
     Write,
+}
+
+impl From<OutputFault> for WriteFault {
+    ghost use Rattle.std.specs.Prelude.{◌≡◌};
+    ghost use Rattle.edf_runs.specs.Inside.Steps.{fault_out};
+
+    ghost from_gives = { λ refused fault. fault ≡ fault_out refused };
+
+    fn from(refused: OutputFault) -> WriteFault {
+        match refused {
+            OutputFault::Write => WriteFault::Write,
+            OutputFault::Memory => WriteFault::Memory,
+        }
+    }
+}
+
+impl From<SendFault<WriteFault>> for WriteFault {
+    ghost use Rattle.std.specs.Prelude.{◌≡◌};
+    ghost use Rattle.edf_runs.specs.Inside.Steps.{send_fault};
+
+    ghost from_gives = { λ refused fault. fault ≡ send_fault refused };
+
+    fn from(refused: SendFault<WriteFault>) -> WriteFault {
+        match refused {
+            SendFault::Source(fault) => fault,
+            SendFault::Unlike => WriteFault::Changed,
+            SendFault::Output(OutputFault::Write) => WriteFault::Write,
+            SendFault::Output(OutputFault::Memory) => WriteFault::Memory,
+        }
+    }
 }

@@ -5,17 +5,18 @@
 //!   [`Listing`] of its [`Run`]s.
 //! - [`add_record`]: the same for a caller that reads itself.
 //! - [`list_by_onset`]: the same with each annotation in the data record that has its onset; an
-//!   [`OnsetListing`] keeps the annotations of each [`OnsetRun`]; [`OnsetFault`]: why there is none.
-//! - [`reopen_by_onset`], [`skip_run`], [`write_by_onset`]: a second reading, past runs and over one
-//!   whose file is written, as it was listed; what was [`Written`], with the annotations that lie
-//!   outside of the run; [`WriteFault`]: why it was not.
+//!   [`OnsetListing`] keeps the annotations of each [`OnsetRun`]; [`OnsetFault`]: why there is
+//!   none.
+//! - [`reopen_by_onset`], [`skip_run`], [`write_by_onset`]: a second reading, past runs and over
+//!   one whose file is written, as it was listed; what was [`Written`], with the annotations that
+//!   lie outside of the run; [`WriteFault`]: why it was not.
 //! - [`list_joined`]: the files that data records have where short gaps are joined, as a
 //!   [`Joining`] says; [`write_by_onset`] writes them too.
 //! - [`plan_canonical`], [`write_canonical`]: the canonical file of a whole file, by two readings
 //!   from any reader; a [`CanonicalPlan`] is what is kept between them. [`plan_by_onset`]: the same
 //!   with each annotation in the data record that has its onset.
-//! - [`load_canonical`], [`load_by_onset`], [`write_loaded`]: the same by one reading into memory: a
-//!   [`LoadedRecording`].
+//! - [`load_canonical`], [`load_by_onset`], [`write_loaded`]: the same by one reading into memory:
+//!   a [`LoadedRecording`].
 //! - [`joining_laws`]: each list of data records has such files, and they are taken back by what
 //!   they were moved.
 //! - [`laws`]: each list of data records has its runs; a run's file is read again; nothing is lost
@@ -44,6 +45,7 @@ mod ordering;
 mod planning;
 mod planning_by_onset;
 mod reading;
+mod rereading;
 mod run;
 mod run_list;
 mod tally;

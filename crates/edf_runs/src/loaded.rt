@@ -1,5 +1,5 @@
 ghost use Rattle.edf_canonical.specs.File.{second_of, BlocksFit};
-ghost use Rattle.edf_runs.specs.WrittenByOnset.{annotated};
+ghost use Rattle.edf_canonical.specs.Kept.{annotated};
 
 use crate::canonical_plan::CanonicalPlan;
 use edf_fragment::Record;

@@ -1,63 +1,18 @@
 //! What is known of a canonical file before its first byte is written.
 
-ghost use Rattle.std.specs.Prelude.{◌≡◌, ◌<◌, ◌++◌, ◌∷◌, [], List, MatchResult, length};
-ghost use Rattle.edf_header.specs.declared.limits.TheConstants.{MOST_RECORDS};
+ghost use Rattle.std.specs.Prelude.{◌≡◌, List, MatchResult};
 ghost use Rattle.edf_fragment.specs.Fragment.{DataRecord};
 ghost use Rattle.edf_fragment.specs.Reading.{CountsAnswer, at_first};
 ghost use Rattle.edf_fragment.specs.Whole.{FailsAfterRecords, IsFragmentFault};
 ghost use Rattle.edf_fragment.specs.Inside.Steps.{ReadsRecords};
-ghost use Rattle.edf_runs.specs.Canonical.{IsMeasured, ReadsPlan};
-ghost use Rattle.edf_runs.specs.Inside.Measuring.{IsMeasuredSoFar, HoldsBlock};
+ghost use Rattle.edf_canonical.specs.Measure.{IsMeasuredSoFar};
+ghost use Rattle.edf_runs.specs.Canonical.{ReadsPlan};
 
-use crate::canonical_plan::{CanonicalPlan, Measure};
-use edf_canonical::samples_of;
-use edf_fragment::{FragmentFault, Input, OpenFragment, Record};
-use edf_header::MOST_RECORDS;
+use crate::canonical_plan::CanonicalPlan;
+use edf_canonical::Measure;
+use edf_fragment::{FragmentFault, Input, OpenFragment};
 use edf_header::laws::header_is_layout;
 use std::alloc::Global;
-
-impl Measure {
-    /// That of one data record.
-    fn of(data_record: &Record) -> Measure
-        ensures measured { IsMeasured (data_record.now ∷ []) result }
-        ensures holds { HoldsBlock result data_record.now }
-    {
-        let first = data_record.start();
-        Measure {
-            first,
-            records: 1,
-            block_samples: samples_of(data_record, first.second()),
-        }
-    }
-
-    /// That of one data record more.
-    fn with(&self, data_record: &Record) -> Measure
-        ensures measured { (records : List DataRecord) → IsMeasured records self.now →
-            length records < MOST_RECORDS →
-            IsMeasured (records ++ data_record.now ∷ []) result }
-        ensures holds { HoldsBlock result data_record.now }
-    {
-        let samples = samples_of(data_record, self.first.second());
-        Measure {
-            first: self.first,
-            records: (self.records + 1).min(MOST_RECORDS),
-            block_samples: self.block_samples.max(samples),
-        }
-    }
-
-    /// That of the data records before, where there were some, and of this one.
-    pub(crate) fn after(before: Option<Measure>, data_record: &Record) -> Measure
-        ensures measured { (records : List DataRecord) → IsMeasuredSoFar records before →
-            length records < MOST_RECORDS →
-            IsMeasured (records ++ data_record.now ∷ []) result }
-        ensures holds { HoldsBlock result data_record.now }
-    {
-        match before {
-            Some(measure) => measure.with(data_record),
-            None => Measure::of(data_record),
-        }
-    }
-}
 
 /// Measures the data records that follow a header that was just read.
 fn measure_records<R: Input>(

@@ -7,13 +7,15 @@ ghost use Rattle.edf_header.specs.declared.limits.TheConstants.{MOST_RECORDS};
 ghost use Rattle.edf_tal.specs.declared.limits.TheConstants.{MOST_ANNOTATIONS};
 ghost use Rattle.edf_runs.specs.OnsetRead.{ReadsByOnset, IsOnsetFault, CountsOnset, kept_of};
 ghost use Rattle.edf_runs.specs.PlanByOnset.{ReadsPlanByOnset};
-ghost use Rattle.edf_runs.specs.Inside.Measuring.{IsMeasuredSoFar, outside_here};
+ghost use Rattle.edf_canonical.specs.Measure.{IsMeasuredSoFar};
+ghost use Rattle.edf_runs.specs.Inside.Measuring.{outside_here};
 
-use crate::canonical_plan::{CanonicalPlan, Measure};
+use crate::canonical_plan::CanonicalPlan;
 use crate::counting::outside_of;
 use crate::listing_by_onset::list_by_onset;
 use crate::onset_listing::{OnsetFault, OnsetListing};
 use crate::onset_run::OnsetRun;
+use edf_canonical::Measure;
 use edf_field::MOST_DURATION;
 use edf_fragment::{Input, Record};
 use std::alloc::{AllocError, Global};

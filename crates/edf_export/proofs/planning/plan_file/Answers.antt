@@ -1,6 +1,5 @@
-use Rattle.std.proofs.Common.{◌≡◌, ◌≤◌, None, length, refl, sym, ◌∙◌, subst, arith, rules}
-use Rattle.std.proofs.lemmas.Result.{err_from_is_err_and, MatchResult-weaker}
-use Rattle.edf_export.specs.Inside.Walks.{IsSoundRecording}
+use Rattle.std.proofs.Common.{◌≡◌, None, arith, rules}
+use Rattle.std.proofs.lemmas.Result.{err_from_is_err_and}
 use Rattle.edf_export.proofs.Walks.{may_start, refusal_why}
 use Rattle.edf_export.proofs.planning.plan_file.Goals.{then-plan-cap-via-then-plan-cap}
 use Rattle.edf_export.proofs.planning.plan_file.Goals.{then-plan-cap-via-else-plan-cap+then-not-may_start}
@@ -57,8 +56,8 @@ returns-then-plan-cap-clause-planned g c clean h held =
             w.if-plan-cap.true,
           ))
       | then-plan-cap-via-else-plan-cap+then-not-may_start w ↦
-          let may = w.may_start.ensures.1 (may_start c.args.identity.now records
-          c.in-Some.plan.first it.0.first it.1.begins) in
+          let may = w.may_start.ensures.1 (may_start c.args.identity.now records c.in-Some.plan it.0
+          it.1.begins) in
           absurd (let not = w.if-not-may_start.true in cc)
     ]
 
@@ -85,7 +84,5 @@ returns-clause-planned g c clean h held =
           c.cap-cap.ensures.bound.1,
         );
       };
-      count = it.0.count;
-      first = it.0.first;
-      samples = it.0.samples;
+      measured = it.0;
     }

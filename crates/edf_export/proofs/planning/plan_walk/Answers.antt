@@ -1,13 +1,14 @@
-use Rattle.std.proofs.Common.{◌≡◌, ◌∙◌, ◌≤◌, ◌<◌, List, None, length, refl, subst, arith, rules}
-use Rattle.std.proofs.lemmas.List.{take_all}
+use Rattle.std.proofs.Common.{◌≡◌, ◌∙◌, ◌≤◌, ◌<◌, List, None, length, take, refl, sym, subst, arith, rules}
+use Rattle.std.proofs.lemmas.List.{take_all, length-take}
 use Rattle.std.proofs.lemmas.Option.{slice_get_within}
 use Rattle.std.proofs.lemmas.Result.{err_from_is_err_and}
 use Rattle.edf_header.specs.declared.limits.TheConstants.{MOST_RECORDS}
 use Rattle.edf_fragment.specs.Fragment.{DataRecord}
 use Rattle.edf_store.proofs.Readiness.{stays_then}
 use Rattle.edf_store.proofs.Faults.{is_store_refusal}
-use Rattle.edf_export.specs.Inside.Walks.{IsToldSoFar}
+use Rattle.edf_canonical.specs.Measure.{IsMeasured, IsMeasuredSoFar}
 use Rattle.edf_export.proofs.Calls.{leaves_on}
+use Rattle.edf_export.proofs.FromWalk.{take-next}
 use Rattle.edf_export.proofs.Walks.{stays_same, clean_before, refusal_why, not_failed, few_records}
 use Rattle.edf_export.proofs.planning.plan_walk.Goals as goal
 
@@ -41,9 +42,15 @@ loop-preserved g c =
           let capped : c.loop.walk.store.now.cap ≤ MOST_RECORDS =
           rw i.stays.cap c.requires.cap in
           let few = few_records _ _ _ _ h k n (i.moved h k walked was) in
-          c.after.ensures (h k) n gives
-          (omega (arith, slice_get_within (h k) n c.in-Some.data_record gives, few, capped))
-          (i.told was h k walked);
+          subst (λ rs. IsMeasured rs c.after.result) (sym (take-next (h k) n _ gives))
+          (c.after.ensures.measured (take n (h k)) (i.told was h k walked)
+          (omega (
+            arith,
+            slice_get_within (h k) n c.in-Some.data_record gives,
+            few,
+            capped,
+            length-take n (h k),
+          )));
     }
 
 -- all were given
@@ -62,7 +69,7 @@ returns-in_default-clause-walked g c clean h k walked =
     step clean h k c.loop.counter (i.moved h k walked) in
     let was = clean_before g.S.Store c.loop.walk.store.now c.next.new.self.store.now
     c.next.ensures.leaves.stays clean in
-    subst (λ (rs : List DataRecord). IsToldSoFar rs c.loop.plan)
+    subst (λ (rs : List DataRecord). IsMeasuredSoFar rs c.loop.plan)
     (take_all c.loop.counter (h k) (omega (arith, all))) (i.told was h k walked)
 
 pub returns-in_err-data_record-clause-leaves : goal.returns-in_err-data_record-clause-leaves

@@ -4,7 +4,7 @@ use Rattle.edf_header.specs.Key.{Key}
 use Rattle.edf_holdings.specs.Holdings.{Holdings}
 use Rattle.edf_store.specs.Held.{at, Stays}
 use Rattle.edf_store.specs.Walk.{HasGiven, IsWalking}
-use Rattle.edf_export.specs.Inside.Walks.{IsToldSoFar}
+use Rattle.edf_canonical.specs.Measure.{IsMeasuredSoFar}
 use Rattle.edf_export.proofs.planning.plan_walk.Given as goal
 
 abbrev pub invariant-loop : goal.invariant-loop
@@ -16,5 +16,5 @@ invariant-loop g l = record {
   moved : (h : Holdings) (k : Key) →
       HasGiven g.S.Store l.initial.walk h k 0 → HasGiven g.S.Store l.walk h k l.counter;
   told : HasCleanDisk (at g.S.Store l.walk.store.now) → (h : Holdings) (k : Key) →
-      HasGiven g.S.Store l.initial.walk h k 0 → IsToldSoFar (take l.counter (h k)) l.plan;
+      HasGiven g.S.Store l.initial.walk h k 0 → IsMeasuredSoFar (take l.counter (h k)) l.plan;
 }

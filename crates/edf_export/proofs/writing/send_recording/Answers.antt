@@ -33,14 +33,14 @@ returns-in_err-walk-clause-counted g c =
 pub returns-clause-leaves : goal.returns-clause-leaves
 returns-clause-leaves g c =
     let same : c.drop-walk.new.self.0 ≡ c.store-2-1.given.0 = search rules in
-    let l = c.send_file.ensures.leaves in
+    let l = c.send_walk.ensures.leaves in
     rw (← (sym c.drop-walk.ensures ∙ same)) (record {
       stays = stays_then g.S.Store c.args.store.now c.in_ok-walk.walk.store.now
-          c.send_file.new.walk.store.now c.in_ok-walk.ensures.begun.stays l.stays;
+          c.send_walk.new.walk.store.now c.in_ok-walk.ensures.begun.stays l.stays;
       idle = l.left;
     })
 
 pub returns-clause-counted : goal.returns-clause-counted
 returns-clause-counted g c =
-    MatchResult-weaker c.send_file.result c.send_file.ensures.counted (λ done same. same)
+    MatchResult-weaker c.send_walk.result c.send_walk.ensures.counted (λ done same. same)
     (λ fault counts. counts_weaker ⊥ _ _ _ fault (λ no. absurd no) counts)

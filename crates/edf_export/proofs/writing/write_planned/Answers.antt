@@ -29,9 +29,9 @@ returns-in_err-send_recording-clause-written g c clean h held plan =
     let k = c.args.identity.now in
     let text = c.as_slice.result.now in
     let is-header : IsCanonicalHeader text k c.args.plan.first c.args.plan.records
-    c.args.plan.samples =
+    c.args.plan.block_samples =
     subst (λ (t : List ℕ). IsCanonicalHeader t k c.args.plan.first c.args.plan.records
-    c.args.plan.samples) (sym c.as_slice.ensures.value) c.in-Ok.ensures in
+    c.args.plan.block_samples) (sym c.as_slice.ensures.value) c.in-Ok.ensures in
     let p = err_from_is_err_and c.from_residual.result c.from_residual.ensures.1 in
     let sent = c.in_err-send_recording.ensures.sent clean h held plan in
     rw (p.1, p.2) (stopped _ _ k (h k) c.args.plan text c.in_err-send_recording.field-0.0 plan
@@ -53,9 +53,9 @@ returns-clause-written g c clean h held plan =
     let k = c.args.identity.now in
     let text = c.as_slice.result.now in
     let is-header : IsCanonicalHeader text k c.args.plan.first c.args.plan.records
-    c.args.plan.samples =
+    c.args.plan.block_samples =
     subst (λ (t : List ℕ). IsCanonicalHeader t k c.args.plan.first c.args.plan.records
-    c.args.plan.samples) (sym c.as_slice.ensures.value) c.in-Ok.ensures in
+    c.args.plan.block_samples) (sym c.as_slice.ensures.value) c.in-Ok.ensures in
     let len : c.len.result ≡ length text =
     omega (
       arith,
@@ -64,10 +64,10 @@ returns-clause-written g c clean h held plan =
       ap (λ (l : List ℕ). length l) c.as_slice.ensures.value,
     ) in
     let whole : c.len.result + c.args.plan.records
-    * (c.ordinary_bytes.result + 2 * c.args.plan.samples)
-    ≡ length text + c.args.plan.records * (2 * samples_in_all k.signals + 2 * c.args.plan.samples) =
-    ap (λ n. n + c.args.plan.records * (c.ordinary_bytes.result + 2 * c.args.plan.samples)) len
-    ∙ ap (λ n. length text + c.args.plan.records * (n + 2 * c.args.plan.samples))
+    * (c.ordinary_bytes.result + 2 * c.args.plan.block_samples)
+    ≡ length text + c.args.plan.records * (2 * samples_in_all k.signals + 2 * c.args.plan.block_samples) =
+    ap (λ n. n + c.args.plan.records * (c.ordinary_bytes.result + 2 * c.args.plan.block_samples)) len
+    ∙ ap (λ n. length text + c.args.plan.records * (n + 2 * c.args.plan.block_samples))
     c.ordinary_bytes.ensures.value in
     exported _ _ k (h k) c.args.plan text _ plan is-header
     (c.in_ok-send_recording.ensures.sent clean h held plan) whole

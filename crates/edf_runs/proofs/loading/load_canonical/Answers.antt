@@ -2,8 +2,8 @@ use Rattle.std.proofs.Common.{◌≡◌, [], All, refl, sym, subst}
 use Rattle.std.proofs.lemmas.List.Elements.{All-nil}
 use Rattle.edf_header.specs.Key.{Key, MayStart}
 use Rattle.edf_fragment.specs.Fragment.{DataRecord}
-use Rattle.edf_runs.specs.Canonical.{IsMeasured}
-use Rattle.edf_runs.specs.Inside.Measuring.{IsMeasuredSoFar}
+use Rattle.edf_canonical.specs.Measure.{IsMeasured}
+use Rattle.edf_canonical.specs.Measure.{IsMeasuredSoFar}
 use Rattle.edf_runs.proofs.LoadedFiles.{loaded-of, of-none}
 use Rattle.edf_runs.proofs.Measuring.{measured_starts}
 use Rattle.edf_runs.proofs.loading.load_canonical.Goals as goal

@@ -3,7 +3,7 @@ use Rattle.edf_header.specs.Header.{most_records}
 use Rattle.edf_fragment.specs.Fragment.{DataRecord}
 use Rattle.edf_fragment.specs.declared.advance.ReaderState.TheVariants.{Reading}
 use Rattle.edf_fragment.specs.Whole.{HasRead}
-use Rattle.edf_runs.specs.Inside.Measuring.{IsMeasuredSoFar}
+use Rattle.edf_canonical.specs.Measure.{IsMeasuredSoFar}
 use Rattle.edf_runs.proofs.planning.measure_records.Given as goal
 
 abbrev pub invariant-records : goal.invariant-records

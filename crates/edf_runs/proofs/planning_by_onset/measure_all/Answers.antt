@@ -3,7 +3,7 @@ use Rattle.std.proofs.Common.{length}
 use Rattle.std.proofs.lemmas.List.{take_more, take_all, length-take}
 use Rattle.edf_header.specs.declared.limits.TheConstants.{MOST_RECORDS}
 use Rattle.edf_fragment.specs.Fragment.{DataRecord}
-use Rattle.edf_runs.specs.Inside.Measuring.{IsMeasuredSoFar}
+use Rattle.edf_canonical.specs.Measure.{IsMeasuredSoFar}
 use Rattle.edf_runs.proofs.planning_by_onset.measure_all.Goals as goal
 
 pub loop-data_record-init : goal.loop-data_record-init

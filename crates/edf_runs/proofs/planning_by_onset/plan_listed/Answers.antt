@@ -5,8 +5,9 @@ use Rattle.edf_header.specs.Key.{Key}
 use Rattle.edf_header.specs.declared.limits.TheConstants.{MOST_RECORDS}
 use Rattle.edf_field.specs.Number.{duration_of}
 use Rattle.edf_fragment.specs.Fragment.{DataRecord}
-use Rattle.edf_runs.specs.Canonical.{IsMeasured}
-use Rattle.edf_runs.specs.Inside.Measuring.{IsMeasuredSoFar, outside_here}
+use Rattle.edf_canonical.specs.Measure.{IsMeasured}
+use Rattle.edf_canonical.specs.Measure.{IsMeasuredSoFar}
+use Rattle.edf_runs.specs.Inside.Measuring.{outside_here}
 use Rattle.edf_runs.specs.OnsetRead.{kept_of}
 use Rattle.edf_runs.proofs.PlannedByOnset.{kept-bare, kept-few, kept-some, kept-starts, planned}
 use Rattle.edf_runs.proofs.planning_by_onset.plan_listed.Goals as goal

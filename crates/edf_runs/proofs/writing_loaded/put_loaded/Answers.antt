@@ -5,10 +5,9 @@ use Rattle.std.proofs.lemmas.List.{take_more}
 use Rattle.std.proofs.lemmas.Result.{err_from_is_err_and}
 use Rattle.edf_canonical.specs.File.{block_of, second_of}
 use Rattle.edf_fragment.specs.Fragment.{DataRecord}
-use Rattle.edf_runs.specs.Inside.Steps.{annotated_one}
-use Rattle.edf_runs.proofs.Annotated.{bare-of}
-use Rattle.edf_runs.proofs.LoadedFiles.{nth-fits, nth-put, nth-stops}
-use Rattle.edf_runs.proofs.PutWhole.{none-put}
+use Rattle.edf_canonical.specs.Kept.{annotated_one}
+use Rattle.edf_canonical.proofs.Annotated.{bare-of}
+use Rattle.edf_runs.proofs.LoadedFiles.{nth-fits, nth-put, nth-stops, none-put}
 use Rattle.edf_runs.proofs.writing_loaded.put_loaded.Goals as goal
 
 pub loop-nth-init : goal.loop-nth-init

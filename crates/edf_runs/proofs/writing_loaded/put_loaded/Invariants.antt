@@ -1,7 +1,7 @@
 use Rattle.std.proofs.Common.{◌≡◌, take}
 use Rattle.edf_canonical.specs.Output.{buffered, Writes}
-use Rattle.edf_runs.specs.Inside.Sending.{records_text}
-use Rattle.edf_runs.specs.WrittenByOnset.{annotated}
+use Rattle.edf_canonical.specs.Measure.{records_text}
+use Rattle.edf_canonical.specs.Kept.{annotated}
 use Rattle.edf_runs.proofs.writing_loaded.put_loaded.Given as goal
 
 abbrev pub invariant-loop-nth : goal.invariant-loop-nth

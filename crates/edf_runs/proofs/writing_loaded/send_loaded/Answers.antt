@@ -2,8 +2,8 @@ use Rattle.std.proofs.Common.{ℕ, subst}
 use Rattle.std.proofs.lemmas.Result.{err_from_is_err_and}
 use Rattle.edf_canonical.specs.Output.{CountsOutputFault}
 use Rattle.edf_canonical.proofs.Sent.{header_stops, body_stops}
-use Rattle.edf_runs.specs.Inside.Sending.{records_text}
-use Rattle.edf_runs.specs.WrittenByOnset.{annotated}
+use Rattle.edf_canonical.specs.Measure.{records_text}
+use Rattle.edf_canonical.specs.Kept.{annotated}
 use Rattle.edf_runs.proofs.LoadedFiles.{sent-flushed}
 use Rattle.edf_runs.proofs.writing_loaded.send_loaded.Goals as goal
 

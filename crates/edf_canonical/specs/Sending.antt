@@ -1,0 +1,130 @@
+-- What the writer does with the data records of a source.
+use Rattle.std.specs.Prelude.{◌≡◌, ℕ, ◌*◌, ◌⊎◌, List, [], ◌∷◌, ◌++◌, length, slice_get, Option, Some}
+use Rattle.std.specs.Prelude.{None, Result, Ok, Err, MatchResult}
+use Rattle.std.specs.List.{AllByRecursion}
+use Rattle.std.specs.Io.KnownBytes.{Appends}
+use Rattle.edf_header.specs.Key.{Key}
+use Rattle.edf_fragment.specs.Fragment.{DataRecord}
+use Rattle.edf_fragment.specs.Sound.{IsSoundRecord}
+use Rattle.edf_canonical.specs.File.{second_of, record_text}
+use Rattle.edf_canonical.specs.Kept.{annotated, annotated_one}
+use Rattle.edf_canonical.specs.Measure.{IsMeasured, IsNoMore, MayComeFirst, records_text}
+use Rattle.edf_canonical.specs.Measure.{planned_text}
+use Rattle.edf_canonical.specs.Output.{Buffered, Writes, WritesFront, CountsOutputFault}
+use Rattle.edf_canonical.specs.Source.{At, Answers, Gives}
+use Rattle.edf_canonical.specs.declared.fault.OutputFault.{OutputFault}
+use Rattle.edf_canonical.specs.declared.fault.OutputFault.TheVariants.{Write}
+use Rattle.edf_canonical.specs.declared.fault.SendFault.{SendFault}
+use Rattle.edf_canonical.specs.declared.fault.SendFault.TheVariants.{Source, Unlike, Output}
+use Rattle.edf_canonical.specs.declared.measure.Measure.{Measure}
+
+-- ---- all of them
+
+module _ {S F R E : Type 0}
+    (answers : S → F → R → S → F → R → Result (Option DataRecord) E → Type 0) (from to : At S F R)
+    (whole : Measure) (kept : List DataRecord) where
+  -- the source gave all, which with what was kept of them are measured so; this holds of them
+  pub record SendsAll (Text : List DataRecord → Type 0) : Type 0 where
+    pub records : List DataRecord
+    pub mid : At S F R
+    pub gave : Gives answers from mid records
+    pub end : Answers answers mid to (Ok None)
+    pub measured : IsMeasured (annotated kept records) whole
+    -- what was kept keeps the limits of each key of the source's
+    pub sound : (k : Key) → AllByRecursion (IsSoundRecord k) records →
+        AllByRecursion (IsSoundRecord k) (annotated kept records)
+    pub wrote : Text (annotated kept records)
+
+  -- it gave one that can't be among the first of those that were measured, or no more too early
+  abbrev pub IsUnlike : At S F R → List DataRecord → Type 0
+  IsUnlike mid records =
+      ((r : DataRecord) × Answers answers mid to (Ok (Some r))
+      × ¬ MayComeFirst (annotated kept (records ++ r ∷ [])) whole)
+      ⊎ (Answers answers mid to (Ok None) × ¬ IsMeasured (annotated kept records) whole)
+
+  -- why it went no further, after these data records: where the source had ended, they were all,
+  -- and what was held back could not be written
+  abbrev pub StopsFor : At S F R → List DataRecord → SendFault E → Type 0
+  StopsFor mid records (Source fault) = Answers answers mid to (Err fault)
+  StopsFor mid records Unlike = IsUnlike mid records
+  StopsFor mid records (Output fault) = (to ≡ mid)
+      ⊎ (Answers answers mid to (Ok None) × IsMeasured (annotated kept records) whole
+      × (fault ≡ Write))
+
+  -- the source gave some, which may be the first of those that were measured; this holds of them
+  pub record StopsAfter (Front : List DataRecord → Type 0) (fault : SendFault E) : Type 0 where
+    pub records : List DataRecord
+    pub mid : At S F R
+    pub gave : Gives answers from mid records
+    pub first : MayComeFirst (annotated kept records) whole
+    pub why : StopsFor mid records fault
+    pub front : Front (annotated kept records)
+
+-- a write failed, or took none of some bytes, where that is the fault
+abbrev pub CountsSendFault : {E : Type 0} → ℕ → ℕ → SendFault E → Type 0
+CountsSendFault old new (Source fault) = new ≡ old
+CountsSendFault old new Unlike = new ≡ old
+CountsSendFault old new (Output fault) = CountsOutputFault old new fault
+
+module _ {S F R E : Type 0}
+    (answers : S → F → R → S → F → R → Result (Option DataRecord) E → Type 0) (from to : At S F R)
+    (whole : Measure) (kept : List DataRecord) where
+  -- all were put, or a front of the first of them
+  abbrev pub PutsAll : Buffered → Buffered → Result Unit (SendFault E) → Type 0
+  PutsAll before after result =
+      MatchResult result
+      (λ _. SendsAll answers from to whole kept
+      (λ rs. Writes before after (records_text whole rs) after.held)
+      × (after.failures ≡ before.failures))
+      (λ fault. StopsAfter answers from to whole kept
+      (λ rs. (left : List ℕ) × Writes before after (records_text whole rs) left) fault
+      × CountsSendFault before.failures after.failures fault)
+
+  -- a header and all of them were written, or a front of the header and of the first of them; and
+  -- so many writes failed before and after
+  abbrev pub Sends : Option (List ℕ) → Option (List ℕ) → ℕ → ℕ → List ℕ →
+      Result Unit (SendFault E) → Type 0
+  Sends before after failed_before failed_after header result =
+      MatchResult result
+      (λ _. SendsAll answers from to whole kept
+      (λ rs. Appends before after (planned_text header whole rs))
+      × (failed_after ≡ failed_before))
+      (λ fault. StopsAfter answers from to whole kept
+      (λ rs. WritesFront before after (planned_text header whole rs)) fault
+      × CountsSendFault failed_before failed_after fault)
+
+-- ---- one more
+
+-- the data record after these, as it is in the file of those that were measured
+abbrev pub next_text : Measure → List DataRecord → List DataRecord → DataRecord → List ℕ
+next_text whole kept records r = record_text (second_of whole.first) (2 * whole.block_samples)
+    (annotated_one (slice_get kept (length records)) r)
+
+-- one data record more was put, and with it this is measured
+pub record IsPutNext (before after : Buffered) (whole : Measure) (kept records : List DataRecord)
+    (r : DataRecord) (m : Measure) : Type 0 where
+  pub measured : IsMeasured (annotated kept (records ++ r ∷ [])) m
+  pub no_more : IsNoMore m whole
+  -- what was kept keeps the limits of each key of the source's
+  pub sound : (k : Key) → IsSoundRecord k r →
+      IsSoundRecord k (annotated_one (slice_get kept (length records)) r)
+  pub wrote : Writes before after (next_text whole kept records r) after.held
+  pub counted : after.failures ≡ before.failures
+
+-- or a front of it
+pub record StopsInNext (before after : Buffered) (whole : Measure) (kept records : List DataRecord)
+    (r : DataRecord) : Type 0 where
+  pub first : MayComeFirst (annotated kept (records ++ r ∷ [])) whole
+  pub left : List ℕ
+  pub wrote : Writes before after (next_text whole kept records r) left
+
+-- or with it they can't be among the first of those that were measured, and it was not put
+abbrev pub PutsNext : Buffered → Buffered → Measure → List DataRecord → List DataRecord →
+    DataRecord → Result (Option Measure) OutputFault → Type 0
+PutsNext before after whole kept records r (Ok (Some m)) =
+    IsPutNext before after whole kept records r m
+PutsNext before after whole kept records r (Ok None) =
+    (after ≡ before) × ¬ MayComeFirst (annotated kept (records ++ r ∷ [])) whole
+PutsNext before after whole kept records r (Err fault) =
+    StopsInNext before after whole kept records r
+    × CountsOutputFault before.failures after.failures fault

@@ -1,0 +1,70 @@
+//! A data record put with what was kept of it.
+
+ghost use Rattle.std.specs.Prelude.{◌≡◌, ◌≤◌, [], length, IfSome, unwrap_or, slice_get};
+ghost use Rattle.edf_canonical.specs.File.{block_of, record_text};
+ghost use Rattle.edf_canonical.specs.Kept.{with_samples, annotated_one};
+ghost use Rattle.edf_canonical.specs.Output.{buffered, IsPutThrough};
+
+use crate::data_record::put_record;
+use crate::fault::OutputFault;
+use crate::output::{Buffer, put};
+use edf_fragment::{Output, Record};
+use edf_time::Instant;
+use std::alloc::Global;
+
+/// The data record whose annotations go out: what was kept of the nth, or itself.
+pub fn kept_or<'a>(kept: &'a [Record], nth: usize, data_record: &'a Record) -> &'a Record
+    ensures { result.now ≡ unwrap_or (slice_get kept.now nth) data_record.now }
+{
+    match kept.get(nth) {
+        Some(other) => other,
+        None => data_record,
+    }
+}
+
+/// Puts a data record as it was kept.
+fn put_with<W: Output>(
+    alloc: Global,
+    out: &mut W,
+    held: &mut Buffer,
+    data_record: &Record,
+    kept: &Record,
+    base: Instant,
+    size: usize,
+) -> Result<(), OutputFault>
+    requires bare { kept.now.samples ≡ [] }
+    requires fits { length (block_of base (with_samples kept.now data_record.now)) ≤ size }
+    ensures { IsPutThrough (buffered W.Output out.old held.old.bytes.items)
+        (buffered W.Output out.new held.new.bytes.items)
+        (record_text base size (with_samples kept.now data_record.now)) result }
+{
+    put(out, held, data_record.samples())?;
+    put_record(alloc, out, held, kept, base, size)
+}
+
+/// Puts the nth data record, as it was kept where it was.
+///
+/// # Errors
+/// As [`put_record`].
+pub fn put_annotated<W: Output>(
+    alloc: Global,
+    out: &mut W,
+    held: &mut Buffer,
+    data_record: &Record,
+    kept: &[Record],
+    nth: usize,
+    base: Instant,
+    size: usize,
+) -> Result<(), OutputFault>
+    requires bare { IfSome (slice_get kept.now nth) (λ k. k.samples ≡ []) }
+    requires fits { length (block_of base (annotated_one (slice_get kept.now nth) data_record.now))
+        ≤ size }
+    ensures { IsPutThrough (buffered W.Output out.old held.old.bytes.items)
+        (buffered W.Output out.new held.new.bytes.items)
+        (record_text base size (annotated_one (slice_get kept.now nth) data_record.now)) result }
+{
+    match kept.get(nth) {
+        Some(other) => put_with(alloc, out, held, data_record, other, base, size),
+        None => put_record(alloc, out, held, data_record, base, size),
+    }
+}

@@ -1,0 +1,127 @@
+//! The one writer of data records: a header, and then what a source gives.
+
+ghost use Rattle.std.specs.Prelude.{◌≡◌, List, [], All};
+ghost use Rattle.edf_fragment.specs.Fragment.{DataRecord};
+ghost use Rattle.edf_canonical.specs.Kept.{annotated};
+ghost use Rattle.edf_canonical.specs.Measure.{IsMeasuredSoFar};
+ghost use Rattle.edf_canonical.specs.Output.{buffered};
+ghost use Rattle.edf_canonical.specs.Sending.{PutsNext, PutsAll, Sends};
+ghost use Rattle.edf_canonical.specs.Source.{at};
+
+use crate::fault::{OutputFault, SendFault};
+use crate::kept::{kept_or, put_annotated};
+use crate::measure::Measure;
+use crate::output::{Buffer, flush, put};
+use crate::source::Source;
+use edf_fragment::{Output, Record};
+use std::alloc::Global;
+
+/// Puts one data record more, with what was kept of it where something was, and tells what is
+/// measured with it. `None` where it can't be among the first of those that were measured; then it
+/// is not put.
+fn put_next<W: Output>(
+    alloc: Global,
+    out: &mut W,
+    held: &mut Buffer,
+    data_record: &Record,
+    kept: &[Record],
+    so_far: Option<Measure>,
+    whole: Measure,
+) -> Result<Option<Measure>, OutputFault>
+    requires { All (λ r. r.samples ≡ []) kept.now }
+    ensures { (records : List DataRecord) →
+        IsMeasuredSoFar (annotated kept.now records) so_far →
+        PutsNext (buffered W.Output out.old held.old.bytes.items)
+        (buffered W.Output out.new held.new.bytes.items) whole kept.now records data_record.now
+        result }
+{
+    let nth = Measure::count(&so_far);
+    if nth >= whole.records as usize {
+        return Ok(None);
+    }
+    let annotated = kept_or(kept, nth, data_record);
+    let measure = Measure::after(so_far, annotated);
+    if !measure.may_come_first(&whole) {
+        return Ok(None);
+    }
+    let base = whole.first.second();
+    let size = 2 * whole.block_samples as usize;
+    put_annotated(alloc, out, held, data_record, kept, nth, base, size)?;
+    Ok(Some(measure))
+}
+
+/// Puts all data records of a source, with what was kept of them where something was. With this
+/// they must be those that were measured.
+fn put_all<F, R, S: Source<F, R>, W: Output>(
+    alloc: Global,
+    source: &mut S,
+    file: &mut F,
+    input: &mut R,
+    whole: Measure,
+    kept: &[Record],
+    out: &mut W,
+    held: &mut Buffer,
+) -> Result<(), SendFault<S::Fault>>
+    requires ready { S.ready source.old file.old input.old }
+    requires bare { All (λ r. r.samples ≡ []) kept.now }
+    ensures { PutsAll S.answers (at source.old file.old input.old)
+        (at source.new file.new input.new) whole kept.now
+        (buffered W.Output out.old held.old.bytes.items)
+        (buffered W.Output out.new held.new.bytes.items) result }
+{
+    let mut so_far: Option<Measure> = None;
+    'records: loop {
+        match source.next(file, input) {
+            Ok(Some(data_record)) => {
+                let put = put_next(alloc, out, held, &data_record, kept, so_far, whole)?;
+                let Some(measure) = put else {
+                    return Err(SendFault::Unlike);
+                };
+                so_far = Some(measure);
+            }
+            Ok(None) => {
+                let Some(measure) = so_far else {
+                    return Err(SendFault::Unlike);
+                };
+                if !measure.is_whole(&whole) {
+                    return Err(SendFault::Unlike);
+                }
+                return Ok(());
+            }
+            Err(fault) => return Err(SendFault::Source(fault)),
+        }
+    }
+}
+
+/// Writes a header, and then all data records of a source, through a buffer of 64 KiB. Of the nth
+/// go out the start and the annotations that were kept of it, where they were, and its samples; what
+/// is kept has none, and what is kept of more data records than come is left out. With this they
+/// must be those that were measured: of what goes out, not of what the source gave in its place. One
+/// data record is in memory at a time. The writer is not flushed.
+///
+/// # Errors
+/// `Source` where the source tells a fault; `Unlike` where it gives a data record that can't be among the
+/// first of those that were measured, or no more before the last; `Output` where a write failed or
+/// memory ran out. A front of the header and of the data records may have been written then.
+pub fn send<F, R, S: Source<F, R>, W: Output>(
+    alloc: Global,
+    source: &mut S,
+    file: &mut F,
+    input: &mut R,
+    header: &[u8],
+    whole: Measure,
+    kept: &[Record],
+    out: &mut W,
+) -> Result<(), SendFault<S::Fault>>
+    requires ready { S.ready source.old file.old input.old }
+    requires bare { All (λ r. r.samples ≡ []) kept.now }
+    ensures { Sends S.answers (at source.old file.old input.old)
+        (at source.new file.new input.new) whole kept.now (W.contents out.old) (W.contents out.new)
+        (W.failures out.old) (W.failures out.new) header.now result }
+{
+    let mut held = Buffer::new(alloc);
+    put(out, &mut held, header)?;
+    put_all(alloc, source, file, input, whole, kept, out, &mut held)?;
+    flush(out, &mut held)?;
+    Ok(())
+}

@@ -1,0 +1,21 @@
+-- A step of a walk over the records of a recording, as a source of data records.
+use Rattle.std.specs.Prelude.{ℕ, Option, Result, IfOk}
+use Rattle.sqlite_trees.specs.declared.store.Store.{Ghosts}
+use Rattle.edf_header.specs.Key.{Key}
+use Rattle.edf_fragment.specs.Fragment.{DataRecord}
+use Rattle.edf_holdings.specs.Holdings.{Holdings}
+use Rattle.edf_store.specs.Call.{AnswersWith}
+use Rattle.edf_store.specs.Walk.{GivesNext, HasGiven, WalksOn, moved}
+use Rattle.edf_store.specs.declared.cursor.Cursor.{Cursor}
+use Rattle.edf_store.specs.declared.fault.StoreFault.{StoreFault}
+use Rattle.edf_store.specs.declared.records.Records.{Records}
+use Rattle.edf_export.specs.declared.walked.Walked.{Walked}
+
+pub record Steps {S : Type 0} (g : Ghosts S) (source : Walked) (old : Records S Cursor)
+    (input : Unit {0}) (source' : Walked) (new : Records S Cursor) (input' : Unit {0})
+    (answer : Result (Option DataRecord) StoreFault) : Type 0 where
+  pub leaves : WalksOn g old new answer
+  pub step : AnswersWith g new.store.now answer (λ o. (h : Holdings) (k : Key) (n : ℕ) →
+      HasGiven g old h k n → GivesNext (h k) n o)
+  pub moved : IfOk answer (λ o. (h : Holdings) (k : Key) (n : ℕ) →
+      HasGiven g old h k n → HasGiven g new h k (moved n o))

@@ -1,0 +1,31 @@
+//! The data records of a recording in the store, as a source.
+
+ghost use Rattle.std.specs.Prelude.{◌≡◌, false};
+
+use edf_canonical::Source;
+use edf_fragment::Record;
+use edf_store::{Records, StoreFault};
+use sqlite::Alter;
+
+/// Gives what a walk over them gives.
+#[derive(Drop)]
+pub(crate) struct Walked;
+
+impl<'s, S: Alter> Source<Records<'s, S>, ()> for Walked {
+    ghost use Rattle.edf_store.specs.Walk.{IsWalking};
+    ghost use Rattle.edf_export.specs.Inside.Steps.{Steps};
+
+    type Fault = StoreFault;
+
+    ghost ready = { λ source walk input. walk.failed ≡ false → IsWalking S.Store walk };
+
+    ghost answers = { Steps S.Store };
+
+    fn next(
+        &mut self,
+        walk: &mut Records<'s, S>,
+        _input: &mut (),
+    ) -> Result<Option<Record>, StoreFault> {
+        walk.next()
+    }
+}
