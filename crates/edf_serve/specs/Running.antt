@@ -1,5 +1,5 @@
 -- What `runs` does: what it writes, the status that it answers, and what it leaves.
-use Rattle.std.specs.Prelude.{◌≡◌, ◌≢◌, ◌⊎◌, ℕ, List, [], codes}
+use Rattle.std.specs.Prelude.{◌≡◌, ◌≢◌, ◌⊎◌, ℕ, List, codes}
 use Rattle.sqlite_trees.specs.declared.store.Store.{Ghosts}
 use Rattle.sqlite.specs.State.{HasCleanDisk}
 use Rattle.edf_field.specs.Number.{duration_of}
@@ -12,7 +12,7 @@ use Rattle.edf_store.specs.declared.fault.StoreFault.TheVariants.{Failed}
 use Rattle.edf_runs.specs.Runs.{AreListed}
 use Rattle.edf_runs.specs.declared.run.Run.{Run}
 use Rattle.edf_program.specs.Text.{IsSpelling}
-use Rattle.edfruns_command.specs.Lines.{run_lines}
+use Rattle.edfruns_command.specs.Joining.{each_line}
 use Rattle.edf_program.specs.Output.{Growth, IsWritten}
 use Rattle.edf_program.specs.declared.status.Status.{Status}
 use Rattle.edf_program.specs.declared.status.Status.TheVariants.{Done}
@@ -26,7 +26,7 @@ module _ (out : Growth) (status : Status) where
     pub runs : List Run
     pub listed : AreListed (duration_of key.duration) (h key) runs
     pub said : (spell : ℕ → List ℕ) → IsSpelling spell → IsWritten out
-        (run_lines spell (duration_of key.duration) (λ number. []) 1 runs) Done status
+        (each_line spell (duration_of key.duration) runs) Done status
 
 -- What is held stays, and with the first status no transaction is open. On any disk some text was
 -- written, or why not, but never E0, which is for a fault of an earlier call.

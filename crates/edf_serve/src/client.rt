@@ -1,6 +1,7 @@
 //! Who is answered.
 
-ghost use Rattle.std.specs.Prelude.{◌≡◌, ◌⊎◌, ℕ, true, List, Option, None, ◌∷◌, [], ◌++◌, codes, OnOk, OnErr};
+ghost use Rattle.std.specs.Prelude.{◌≡◌, ◌⊎◌, ℕ, true, List, Option, None, ◌∷◌, [], ◌++◌, codes};
+ghost use Rattle.std.specs.Prelude.{OnOk, OnErr};
 ghost use Rattle.std.specs.List.{flat_map};
 ghost use Rattle.edf_fragment.specs.Failures.{one_more};
 ghost use Rattle.edf_command.specs.Lines.{accepted_line};

@@ -202,7 +202,8 @@ fn gather<R: Input>(input: &mut R, buffer: &mut [u8], end: usize) -> (Found, usi
     requires end { end ≤ length buffer.old }
     requires room { length buffer.old ≡ ROOM }
     ensures bounds { (result.1 ≤ length buffer.new) × (length buffer.new ≡ ROOM) }
-    ensures gathered { (more : List ℕ) × Consumes (R.remaining input.old) (R.remaining input.new) more
+    ensures gathered { (more : List ℕ) × Consumes (R.remaining input.old) (R.remaining input.new)
+        more
         × (take result.1 buffer.new ≡ take end buffer.old ++ more) }
     ensures feed { (at : ℕ) → result.0 ≡ Found.Feed at →
         position (λ b. b == 10) (take result.1 buffer.new) ≡ Some at }

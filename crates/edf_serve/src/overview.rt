@@ -24,7 +24,7 @@ use crate::standing::StoreFiles;
 use edf_fragment::Output;
 use edf_header::Identity;
 use edf_new_files::NewFiles;
-use edf_program::{Status, joined, spelled, tell_bytes, tell_refused};
+use edf_program::{Status, concat, spelled, tell_bytes, tell_refused};
 use edf_store::{Store, StoreFault, Summary};
 use edf_time::Instant;
 use sqlite::Alter;
@@ -169,7 +169,7 @@ fn overview_line(
         heard.as_slice(),
         b"\n",
     ];
-    joined(alloc, &parts)
+    concat(alloc, &parts)
 }
 
 /// Prints why nothing is told. Printing takes no memory.

@@ -51,7 +51,7 @@ fn put_runs<S: Alter, O: Output>(
         Ok(runs) => runs,
         Err(fault) => return tell_refusal(out, "runs", &fault),
     };
-    match runs_text(alloc, &[], &Listing { identity, runs }) {
+    match runs_text(alloc, &Listing { identity, runs }) {
         Ok(text) => tell_bytes(out, text.as_slice(), Status::Done),
         Err(_) => tell_refusal(out, "runs", &StoreFault::Memory),
     }

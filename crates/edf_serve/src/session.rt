@@ -37,8 +37,16 @@ fn serve_next<S: Alter, R: Input, I: Sources, P: NewFiles, C: Client, K: StoreFi
     room: &mut Room<I, P, C, K>,
 ) -> Option<End>
     ensures { (x : Option (Exchange S)) × IsStep S.Store folders.entry
-        (record { at = point I.Sources P.NewFiles C.Client K.StoreFiles store.old room.old; coming = lines.old })
-        (record { at = point I.Sources P.NewFiles C.Client K.StoreFiles store.new room.new; coming = lines.new })
+        (record {
+          at = point I.Sources P.NewFiles C.Client K.StoreFiles store.old room.old;
+          coming =
+              lines.old;
+        })
+        (record {
+          at = point I.Sources P.NewFiles C.Client K.StoreFiles store.new room.new;
+          coming =
+              lines.new;
+        })
         x result }
 {
     match lines.next() {
@@ -71,8 +79,16 @@ pub fn serve<S: Alter, R: Input, I: Sources, P: NewFiles, C: Client, K: StoreFil
     room: &mut Room<I, P, C, K>,
 ) -> End
     ensures { IsWholeSession S.Store folders.entry
-        (record { at = point I.Sources P.NewFiles C.Client K.StoreFiles store.old room.old; coming = lines.old })
-        (record { at = point I.Sources P.NewFiles C.Client K.StoreFiles store.new room.new; coming = lines.new })
+        (record {
+          at = point I.Sources P.NewFiles C.Client K.StoreFiles store.old room.old;
+          coming =
+              lines.old;
+        })
+        (record {
+          at = point I.Sources P.NewFiles C.Client K.StoreFiles store.new room.new;
+          coming =
+              lines.new;
+        })
         result }
 {
     for _ in 0..u64::MAX {

@@ -1,8 +1,7 @@
 -- The lines of files, one line more.
-use Rattle.std.proofs.Common.{◌≡◌, ℕ, suc, ◌+◌, ◌-◌, ◌<◌, List, [], ◌∷◌, ◌++◌, length, get_or, sym, ap}
-use Rattle.std.proofs.Common.{◌∙◌, arith, append_assoc, append-nil, codes, decimal, Option}
+use Rattle.std.proofs.Common.{◌≡◌, ℕ, suc, ◌+◌, ◌<◌, List, [], ◌∷◌, ◌++◌, length, get_or, sym, ap}
+use Rattle.std.proofs.Common.{◌∙◌, arith, append_assoc, append-nil, codes, Option}
 use Rattle.std.specs.Prelude.{slice_get}
-use Rattle.edf_time.specs.Decimal.{short}
 use Rattle.edf_fragment.specs.Fragment.{DataRecord}
 use Rattle.edf_runs.specs.ByOnset.{annotations_of}
 use Rattle.edf_runs.specs.Counted.{AreCounted}
@@ -10,31 +9,10 @@ use Rattle.edf_runs.specs.AsRead.{runs_of}
 use Rattle.edf_runs.specs.InRecording.{in_recording}
 use Rattle.edf_runs.specs.declared.run.Run.{Run}
 use Rattle.edf_runs.specs.declared.onset_run.OnsetRun.{OnsetRun}
-use Rattle.edfruns_command.specs.Lines.{end_of, gap_text}
-use Rattle.edfruns_command.specs.Counting.{run_front, counts_text, counts_of, counted_line}
+use Rattle.edfruns_command.specs.Lines.{run_front}
+use Rattle.edfruns_command.specs.Counting.{counts_text, counts_of, counted_line}
 use Rattle.edfruns_command.specs.Counting.{split_lines, file_line, file_front, shifted_text}
 use Rattle.edf_program.proofs.Parts.{four-parts}
-
--- the front of the line of a run, whose parts are these
-pub front-of : (spell : ℕ → List ℕ) (d number : ℕ) (r : Run) (next : Option Run)
-    (a s t g front : List ℕ)
-    → a ≡ decimal number ++ (codes " records=" ++ (decimal r.records ++ codes " first=")) →
-    s ≡ spell r.first → t ≡ short (end_of d r - r.first) → g ≡ gap_text d r next →
-    front ≡ a ++ (s ++ (codes " seconds=" ++ (t ++ (g ++ [])))) →
-    front ≡ run_front spell d number r next
-front-of spell d number r next a s t g front ea es et eg is =
-    is
-    ∙ ap (λ (x : List ℕ). a ++ (s ++ (codes " seconds=" ++ (t ++ x)))) (append-nil g)
-    ∙ ap (λ (x : List ℕ). x ++ (s ++ (codes " seconds=" ++ (t ++ g)))) ea
-    ∙ four-parts (decimal number) (codes " records=") (decimal r.records) (codes " first=")
-    (s ++ (codes " seconds=" ++ (t ++ g)))
-    ∙ ap (λ (x : List ℕ). decimal number ++ (codes " records=" ++ (decimal r.records
-    ++ (codes " first=" ++ (x ++ (codes " seconds=" ++ (t ++ g))))))) es
-    ∙ ap (λ (x : List ℕ). decimal number ++ (codes " records=" ++ (decimal r.records
-    ++ (codes " first=" ++ (spell r.first ++ (codes " seconds=" ++ (x ++ g))))))) et
-    ∙ ap (λ (x : List ℕ). decimal number ++ (codes " records=" ++ (decimal r.records
-    ++ (codes " first=" ++ (spell r.first ++ (codes " seconds="
-    ++ (short (end_of d r - r.first) ++ x))))))) eg
 
 -- the line of a file, whose parts are these
 pub file-of : (spell : ℕ → List ℕ) (d number : ℕ) (run : OnsetRun) (next : Option Run)

@@ -1,15 +1,17 @@
 -- Which files were finished before they were removed.
 use Rattle.std.proofs.Common.{◌≡◌, ℕ, List, [], ◌∷◌, ◌++◌, Bool, map, take, sym, subst, ap, ◌∙◌}
-use Rattle.std.proofs.Common.{refl}
+use Rattle.std.proofs.Common.{refl, arith, length}
 use Rattle.std.specs.List.{AllZip}
+use Rattle.std.proofs.lemmas.List.{take_all}
 use Rattle.edf_field.specs.Number.{duration_of}
 use Rattle.edf_header.specs.Key.{Key}
 use Rattle.edf_fragment.specs.Fragment.{DataRecord}
 use Rattle.edf_runs.specs.KeptByOnset.{annotated_runs}
 use Rattle.edf_runs.specs.declared.onset_run.OnsetRun.{OnsetRun}
 use Rattle.edf_new_files.specs.Made.{MadeFile, names_of}
+use Rattle.edf_new_files.specs.Making.{Making}
 use Rattle.edfruns_command.specs.Made.{IsHalf}
-use Rattle.edfruns_command.specs.Splitting.{HoldsRun, IsKeptRun, WereFinished, WereFirst}
+use Rattle.edfruns_command.specs.Splitting.{HasMade, HoldsRun, IsKeptRun, WereFinished}
 use Rattle.edfruns_command.specs.InsideSplit.{as_begun}
 
 module _ (known : Bool) (k : Key) where
@@ -52,19 +54,37 @@ module _ (known : Bool) (k : Key) where
   finished-still runs old new same were = recalls runs new
       (subst (WereFinished known k runs) (sym same) (forgets runs old were))
 
-  -- of all listed runs files were finished
-  pub first-all : (listed : List OnsetRun) (n : ℕ) → take n listed ≡ listed →
-      (runs : List (List DataRecord)) (files : List MadeFile) →
-      AllZip (IsKeptRun (duration_of k.duration)) runs listed →
-      AllZip (HoldsRun known k) (annotated_runs runs listed) files →
-      WereFirst known k listed n files
-  first-all listed n all runs files are held = record {
-    runs = runs;
-    are_listed = subst (λ (ls : List OnsetRun). AllZip (IsKeptRun (duration_of k.duration)) runs ls)
-        (sym all) are;
-    finished = subst (λ (ls : List OnsetRun). WereFinished known k (annotated_runs runs ls) files)
-        (sym all) (all-finished (annotated_runs runs listed) files held);
-  }
+-- of so many of the first listed runs files were finished
+pub has-made : (m : Making) (names : List (List ℕ)) (k : Key) (listed : List OnsetRun) (n : ℕ)
+    (runs : List (List DataRecord)) (files : List MadeFile) → m.after ≡ m.before ++ files →
+    names_of files ≡ take n names →
+    AllZip (IsKeptRun (duration_of k.duration)) runs (take n listed) →
+    AllZip (HoldsRun m.known k) (annotated_runs runs (take n listed)) files →
+    HasMade m names k listed n n
+has-made m names k listed n runs files made named are held = record {
+  files = files;
+  made = made;
+  named = named;
+  runs = runs;
+  are_listed = are;
+  were = all-finished m.known k (annotated_runs runs (take n listed)) files held;
+}
+
+-- and of all
+pub has-all : (m : Making) (names : List (List ℕ)) (k : Key) (listed : List OnsetRun)
+    (runs : List (List DataRecord)) (files : List MadeFile) → m.after ≡ m.before ++ files →
+    names_of files ≡ names → length names ≡ length listed →
+    AllZip (IsKeptRun (duration_of k.duration)) runs listed →
+    AllZip (HoldsRun m.known k) (annotated_runs runs listed) files →
+    HasMade m names k listed (length listed) (length listed)
+has-all m names k listed runs files made named fit are held =
+    let n = length listed in
+    let all : listed ≡ take n listed = sym (take_all n listed (omega arith)) in
+    has-made m names k listed n runs files made
+    (named ∙ sym (take_all n names (omega (arith, fit))))
+    (subst (λ (ls : List OnsetRun). AllZip (IsKeptRun (duration_of k.duration)) runs ls) all are)
+    (subst (λ (ls : List OnsetRun). AllZip (HoldsRun m.known k) (annotated_runs runs ls) files) all
+    held)
 
 names-again : (files : List MadeFile) → names_of (map as_begun files) ≡ names_of files
 names-again [] = refl

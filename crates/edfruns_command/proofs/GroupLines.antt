@@ -9,12 +9,10 @@ use Rattle.std.proofs.lemmas.List.Elements.{All-nil, All-cons, All-head}
 use Rattle.edf_runs.specs.declared.run.Run.{Run}
 use Rattle.edfruns_command.specs.Inside.{IsFrontGroup}
 use Rattle.edfruns_command.specs.Joining.{AreClose, AreApart, AreJoined, AreSeen, next_run}
-use Rattle.edfruns_command.specs.Joining.{group_line, group_lines, records_of, last_of, span_of}
-use Rattle.edfruns_command.specs.Joining.{missing_in, end_text}
-use Rattle.edfruns_command.specs.Lines.{end_of, gap_text}
+use Rattle.edfruns_command.specs.Joining.{group_line, group_lines, records_of, last_of, end_text}
+use Rattle.edfruns_command.specs.Lines.{end_of, line_front}
 use Rattle.edf_time.specs.Decimal.{short}
 use Rattle.std.proofs.Common.{codes, decimal}
-use Rattle.edf_program.proofs.Parts.{four-parts}
 
 -- ---- close runs
 
@@ -174,8 +172,6 @@ one_line_more spell d most label number group gs later text line next is =
     ∙ ap (λ (n : Option Run). text ++ (label
     ++ (group_line spell most d number group n ++ others))) (sym next)
 
--- ---- sums
-
 -- ---- the line of a group
 
 -- how it ends
@@ -194,44 +190,28 @@ last_at : (r : Run) (rs : List Run) (d : Run) → get_or (r ∷ rs) (length rs) 
 last_at r [] d = refl
 last_at r (next ∷ rs) d = last_at next rs d
 
-abbrev line_parts : List ℕ → List ℕ → List ℕ → List ℕ → List ℕ → List ℕ
-line_parts a s t g e = a ++ (s ++ (codes " seconds=" ++ (t ++ (g ++ (e ++ (10 ∷ []))))))
-
 -- the line of a group, whose first and last runs are these, and whose parts are these
 pub group-line-of : (spell : ℕ → List ℕ) (d number : ℕ) (most : Option ℕ) (group : List Run)
-    (next : Option Run) (run last : Run) (a s t g e line : List ℕ) → 1 ≤ length group →
-    run ≡ get_or group 0 run → last ≡ get_or group (length group - 1) last
-    → a ≡ decimal number ++ (codes " records=" ++ (decimal (records_of group) ++ codes " first="))
-    → s ≡ spell run.first → t ≡ short (end_of d last - run.first) → g ≡ gap_text d last next
-    → e ≡ end_text most (length group - 1)
-    ((end_of d last - run.first) - records_of group * d) → line ≡ line_parts a s t g e →
-    line ≡ group_line spell most d number group next
-group-line-of spell d number most [] next run last a s t g e line some ir il ea es et eg ee is =
+    (next : Option Run) (first last : Run) (front told line : List ℕ) → 1 ≤ length group →
+    first ≡ get_or group 0 first → last ≡ get_or group (length group - 1) last →
+    front ≡ line_front spell d number (records_of group) first last next →
+    told ≡ end_text most (length group - 1)
+    ((end_of d last - first.first) - records_of group * d) →
+    line ≡ front ++ (told ++ (10 ∷ [])) → line ≡ group_line spell most d number group next
+group-line-of spell d number most [] next first last front told line some ir il ef et is =
     absurd (omega (arith, some))
-group-line-of spell d number most (r ∷ rs) next run last a s t g e line some ir il ea es et eg ee
-    is =
-    let er : run ≡ r = ir in
+group-line-of spell d number most (r ∷ rs) next first last front told line some ir il ef et is =
     let count : length (r ∷ rs) - 1 ≡ length rs = omega arith in
     let el : last ≡ last_of r rs = il ∙ ap (λ n. get_or (r ∷ rs) n last) count
     ∙ last_at r rs last in
-    let span : end_of d last - run.first ≡ span_of d r rs =
-    ap (λ (x : Run). end_of d x - run.first) el
-    ∙ ap (λ (x : Run). end_of d (last_of r rs) - x.first) er in
     let records = records_of (r ∷ rs) in
-    let front = decimal number ++ (codes " records=" ++ (decimal records
-    ++ codes " first=")) in
-    let first = spell r.first in
-    let seconds = short (span_of d r rs) in
-    let gap = gap_text d (last_of r rs) next in
-    let end = end_text most (length rs) (missing_in d r rs) in
+    let begins : Run → Run → List ℕ = λ x y. line_front spell d number records x y next in
+    let ends : ℕ → Run → Run → List ℕ = λ n x y.
+    end_text most n ((end_of d y - x.first) - records * d) in
+    let tail : ends (length (r ∷ rs) - 1) first last ≡ ends (length rs) r (last_of r rs) =
+    ap (λ n. ends n first last) count ∙ ap (λ x. ends (length rs) x last) ir
+    ∙ ap (ends (length rs) r) el in
     is
-    ∙ ap (λ (x : List ℕ). line_parts x s t g e) ea
-    ∙ ap (λ (x : List ℕ). line_parts front x t g e) (es ∙ ap (λ (x : Run). spell x.first) er)
-    ∙ ap (λ (x : List ℕ). line_parts front first x g e) (et ∙ ap short span)
-    ∙ ap (λ (x : List ℕ). line_parts front first seconds x e)
-    (eg ∙ ap (λ (x : Run). gap_text d x next) el)
-    ∙ ap (λ (x : List ℕ). line_parts front first seconds gap x)
-    (ee ∙ ap (λ n. end_text most n ((end_of d last - run.first) - records * d)) count
-    ∙ ap (λ n. end_text most (length rs) (n - records * d)) span)
-    ∙ four-parts (decimal number) (codes " records=") (decimal records) (codes " first=")
-    (first ++ (codes " seconds=" ++ (seconds ++ (gap ++ (end ++ (10 ∷ []))))))
+    ∙ ap (λ (x : List ℕ). x ++ (told ++ (10 ∷ [])))
+    (ef ∙ ap (λ x. begins x last) ir ∙ ap (begins r) el)
+    ∙ ap (λ (x : List ℕ). begins r (last_of r rs) ++ (x ++ (10 ∷ []))) (et ∙ tail)

@@ -1,4 +1,4 @@
-mod RunTexts
+mod Fronts
 mod GroupLines
 mod Groups
 mod Listed

@@ -23,12 +23,11 @@ use Rattle.edf_runs.proofs.Annotated.{annotated-length}
 use Rattle.edf_runs.proofs.Growing.{joined_more}
 use Rattle.edf_new_files.specs.Made.{MadeFile, names_of, HasPart, failed_with}
 use Rattle.edf_new_files.specs.Making.{Making}
-use Rattle.edfruns_command.specs.Rereading.{IsAtRun, ComesToOutput, IsPassedAs}
-use Rattle.edfruns_command.specs.Rereading.{PassesRuns}
-use Rattle.edfruns_command.specs.Splitting.{HoldsRun, IsKeptRun}
-use Rattle.edfruns_command.specs.InsideMaking.{MakesFile, HalfMakes, LacksFile, HasMade, MakesEach}
-use Rattle.edfruns_command.specs.InsideMaking.{HalfMakesEach, LacksOneOf, StopsFile, StopsEach}
-use Rattle.edfruns_command.specs.InsideMaking.{IsStopOf, MakesFirst, AreLinesOf}
+use Rattle.edfruns_command.specs.Rereading.{IsAtRun, IsOfReading, ComesToOutput, IsPassedAs}
+use Rattle.edfruns_command.specs.Rereading.{PassesRuns, StopsAtRuns}
+use Rattle.edfruns_command.specs.Splitting.{HasMade, HoldsRun, IsKeptRun}
+use Rattle.edfruns_command.specs.InsideMaking.{MakesFile, MakesEach, MakesFirst, AreLinesOf}
+use Rattle.edfruns_command.specs.InsideMaking.{IsStopOf, StopsFile, StopsEach}
 use Rattle.edfruns_command.specs.Lines.{IsSpelling}
 use Rattle.edfruns_command.specs.Counting.{file_front, counts_text, file_line, split_lines}
 use Rattle.edfruns_command.specs.declared.stop.Stop.{Stop}
@@ -38,7 +37,7 @@ use Rattle.edf_runs.specs.declared.fault.WriteFault.TheVariants as fault
 use Rattle.edf_runs.proofs.SecondReading.{none_read}
 use Rattle.edfruns_command.proofs.Rereading.{both, one-more, reads-then}
 use Rattle.edfruns_command.proofs.CountedLines.{counted-text, lines-more}
-use Rattle.edfruns_command.proofs.Finished.{all-finished, half-more}
+use Rattle.edfruns_command.proofs.Finished.{has-made, half-more}
 
 -- from the state before one to the state after another
 abbrev pub then : Making → Making → Making
@@ -120,31 +119,20 @@ module _ (a b : Making) (known : b.known ≡ a.known) (before : b.before ≡ a.a
       ∙ append_assoc a.before so_far.files (file ∷ [])
 
   -- one file more was begun
-  has-more : HasPart b.before name b.after → HasMade (then a b) (take (i + 1) names) l.key runs i
+  has-more : HasPart b.before name b.after → HasMade (then a b) names l.key runs (i + 1) i
   has-more has = record {
     files = so_far.files ++ (has.part ∷ []);
     made = more-made has.part has.behind;
     named = names-more so_far.files has.part names i name named is_name has.named so_far.named;
-    first = record {
-      runs = so_far.parts;
-      are_listed = so_far.listed;
-      finished = half-more a.known l.key (annotated_runs so_far.parts (take i runs)) so_far.files
-          has.part so_far.held has.is_half;
-    };
+    runs = so_far.parts;
+    are_listed = so_far.listed;
+    were = half-more a.known l.key (annotated_runs so_far.parts (take i runs)) so_far.files
+        has.part so_far.held has.is_half;
   }
 
-  has-same : b.after ≡ b.before → HasMade (then a b) (take i names) l.key runs i
-  has-same made = record {
-    files = so_far.files;
-    made = made ∙ before ∙ so_far.made;
-    named = so_far.named;
-    first = record {
-      runs = so_far.parts;
-      are_listed = so_far.listed;
-      finished = all-finished a.known l.key (annotated_runs so_far.parts (take i runs))
-          so_far.files so_far.held;
-    };
-  }
+  has-same : b.after ≡ b.before → HasMade (then a b) names l.key runs i i
+  has-same made = has-made (then a b) names l.key runs i so_far.parts so_far.files
+      (made ∙ before ∙ so_far.made) so_far.named so_far.listed so_far.held
 
   at-run : IsAtRun l mid left middle runs i run
   at-run = record {
@@ -232,114 +220,97 @@ module _ (a b : Making) (known : b.known ≡ a.known) (before : b.before ≡ a.a
             ∙ ap (split_lines spell d 1 names runs) (sym (outs-more one.records));
       }
 
+  -- it was not read to its end
+  among : (why : WriteFault) (whole : ℕ) (blank half : Option (List ℕ)) → IsOfReading why →
+      IsNotWrittenByOnset l mid to middle rest blank half run.run (starts_of run) (kept_of run)
+      why →
+      (ComesByOnset l mid middle run.run (starts_of run) (kept_of run) → why ≢ fault.Changed) →
+      StopsAtRuns l left rest runs names (i + 1) whole (stop.Reading why)
+  among why whole blank half is_why unwritten unchanged = (
+    is_why,
+    inl (
+      i,
+      refl,
+      record {
+        run = run;
+        from = mid;
+        left = middle;
+        at_run = at-run;
+        to = to;
+        blank = blank;
+        half = half;
+        unwritten = unwritten;
+        unchanged = unchanged;
+      },
+    ),
+  )
+
   -- there was no memory for its line
   pub stops-telling : (written : Written) → MakesFile b name l mid to middle rest run written →
-      HalfMakesEach (then a b) names l left rest runs fault.Memory
+      StopsEach (then a b) names l left rest runs (stop.Reading fault.Memory)
   stops-telling written one =
       let more = makes-more written one in
       record {
-        is_why = tt;
-        nth = i;
-        stops = record {
-          run = run;
-          from = mid;
-          left = middle;
-          at_run = at-run;
-          to = to;
-          blank = None;
-          half = None;
-          unwritten = record {
-            records = one.records;
-            mid = to;
-            middle = rest;
-            read = one.read;
-            start = one.listed.start;
-            within = omega (
-              arith,
-              one.listed.listed.count,
-              annotated-length (kept_of run) one.records,
-            );
-            holds = one.listed.listed.holds;
-            front = inl tt;
-            more = inl (refl, refl);
-          };
-          unchanged = λ next. memory-unchanged;
-        };
-        finished = i + 1;
-        made = record {
-          files = more.files;
-          made = more.made;
-          named = more.named;
-          first = record {
-            runs = more.parts;
-            are_listed = more.listed;
-            finished = all-finished a.known l.key (annotated_runs more.parts (take (i + 1) runs))
-                more.files more.held;
-          };
-        };
-        unfailed = one.unfailed ∙ failed ∙ so_far.unfailed;
+        count = i + 1;
+        whole = i + 1;
+        has = has-made (then a b) names l.key runs (i + 1) more.parts more.files more.made
+            more.named more.listed more.held;
+        stops = among fault.Memory (i + 1) None None tt (record {
+          records = one.records;
+          mid = to;
+          middle = rest;
+          read = one.read;
+          start = one.listed.start;
+          within = omega (arith, one.listed.listed.count, annotated-length (kept_of run) one.records);
+          holds = one.listed.listed.holds;
+          front = inl tt;
+          more = inl (refl, refl);
+        }) (λ next. memory-unchanged);
+        failed = one.unfailed ∙ failed ∙ so_far.unfailed;
       }
 
-  -- the run was not read to its end
-  pub stops-reading : (why : WriteFault) → HalfMakes b name l mid to middle rest run why →
-      HalfMakesEach (then a b) names l left rest runs why
-  stops-reading why half = record {
-    is_why = half.is_why;
-    nth = i;
-    stops = record {
-      run = run;
-      from = mid;
-      left = middle;
-      at_run = at-run;
-      to = to;
-      blank = half.blank;
-      half = half.half;
-      unwritten = half.unwritten;
-      unchanged = half.unchanged;
-    };
-    finished = i;
-    made = has-more half.made;
-    unfailed = half.unfailed ∙ failed ∙ so_far.unfailed;
-  }
-
   comes : (count : ℕ) (output : List ℕ) → output ≡ name → (count ≡ i) ⊎ (count ≡ i + 1) →
-      slice_get names i ≡ Some name → ComesToOutput l left runs names count output
+      slice_get names i ≡ Some name → ComesToOutput l left runs names count i output
   comes count output its made got = record {
     from = mid;
     left = middle;
-    nth = i;
     run = run;
     at_run = at-run;
     is_output = got ∙ ap (λ (n : List ℕ). Some n) (sym its);
     made = made;
   }
 
-  -- its file could not be made, written or ended
-  pub stops-writing : (output : List ℕ) → slice_get names i ≡ Some name → LacksFile b name output →
-      LacksOneOf (then a b) names l left runs output
-  unfolding comes
-  stops-writing output got lacks =
-      let failed_more = lacks.failed ∙ ap one_more (failed ∙ so_far.unfailed) in
-      elim lacks.made [
-        | inl same ↦ record {
-          count = i;
-          comes = comes i output lacks.is_output (inl refl) got;
-          made = has-same same;
-          failed = failed_more;
-        }
-        | inr begins ↦ record {
-          count = i + 1;
-          comes = comes (i + 1) output lacks.is_output (inr refl) got;
-          made = has-more begins;
-          failed = failed_more;
-        }
-      ]
-
+  -- the run was not read to its end; or its file could not be made, written or ended
   pub stops-each : (why : Stop) → slice_get names i ≡ Some name →
       StopsFile b name l mid to middle rest run why →
       StopsEach (then a b) names l left rest runs why
-  stops-each (stop.Reading why) got half = stops-reading why half
-  stops-each (stop.Output output) got lacks = stops-writing output.now got lacks
+  stops-each (stop.Reading why) got one =
+      let half = one.stops in
+      record {
+        count = i + 1;
+        whole = i;
+        has = has-more half.made;
+        stops = among why i half.blank half.half half.is_why half.unwritten half.unchanged;
+        failed = one.failed ∙ failed ∙ so_far.unfailed;
+      }
+  stops-each (stop.Output output) got one =
+      let more = one.failed ∙ ap one_more (failed ∙ so_far.unfailed) in
+      elim one.stops.1 [
+        | inl same ↦ record {
+          count = i;
+          whole = i;
+          has = has-same same;
+          stops = comes i output.now one.stops.0 (inl refl) got;
+          failed = more;
+        }
+        | inr begins ↦ record {
+          count = i + 1;
+          whole = i;
+          has = has-more begins;
+          stops = comes (i + 1) output.now one.stops.0 (inr refl) got;
+          failed = more;
+        }
+      ]
 
 -- ---- no file yet
 
@@ -369,8 +340,24 @@ module _ (m : Making) (name : List ℕ) (l : Layout) (from to : Progress)
     (reads reads' failures failures' : ℕ) (none : failures ≡ 0)
     (made : HasPart m.before name m.after)
     (failed : m.failed_after ≡ failed_with m.failed_before failures') where
-  no-more : failures' ≡ failures → m.failed_after ≡ m.failed_before
-  no-more same = failed ∙ ap (failed_with m.failed_before) (same ∙ none)
+  of-reading : (met why : WriteFault) → why ≡ met → IsOfReading met →
+      IsNotWrittenByOnset l from to left rest blank half run.run (starts_of run) (kept_of run)
+      met →
+      (ComesByOnset l from left run.run (starts_of run) (kept_of run) → met ≢ fault.Changed) →
+      failures' ≡ failures → StopsFile m name l from to left rest run (stop.Reading why)
+  of-reading met why is reading not same counts =
+      subst (λ (w : WriteFault). StopsFile m name l from to left rest run (stop.Reading w)) (sym is)
+      (record {
+        stops = record {
+          is_why = reading;
+          blank = blank;
+          half = half;
+          unwritten = not;
+          unchanged = same;
+          made = made;
+        };
+        failed = failed ∙ ap (failed_with m.failed_before) (counts ∙ none);
+      })
 
   -- a run that was not written to its end
   pub half-made : (met : WriteFault) (why : Stop) → IsStopOf met name why →
@@ -383,43 +370,15 @@ module _ (m : Making) (name : List ℕ) (l : Layout) (from to : Progress)
   half-made fault.Undated why is not same dated counts = absurd (dated refl)
   half-made fault.Write (stop.Reading why) is not same dated counts = absurd is
   half-made fault.Write (stop.Output output) is not same dated counts = record {
-    is_output = is;
-    made = inr made;
+    stops = (is, inr made);
     failed = failed ∙ ap (failed_with m.failed_before) (counts.1 ∙ ap one_more none);
   }
   half-made fault.Changed (stop.Output output) is not same dated counts = absurd is
   half-made fault.Changed (stop.Reading why) is not same dated counts =
-      subst (λ (w : WriteFault). HalfMakes m name l from to left rest run w) (sym is)
-      (record {
-        is_why = tt;
-        blank = blank;
-        half = half;
-        unwritten = not;
-        unchanged = same;
-        made = made;
-        unfailed = no-more counts.1;
-      })
+      of-reading fault.Changed why is tt not same counts.1
   half-made fault.Read (stop.Output output) is not same dated counts = absurd is
   half-made fault.Read (stop.Reading why) is not same dated counts =
-      subst (λ (w : WriteFault). HalfMakes m name l from to left rest run w) (sym is)
-      (record {
-        is_why = tt;
-        blank = blank;
-        half = half;
-        unwritten = not;
-        unchanged = same;
-        made = made;
-        unfailed = no-more counts.1;
-      })
+      of-reading fault.Read why is tt not same counts.1
   half-made fault.Memory (stop.Output output) is not same dated counts = absurd is
   half-made fault.Memory (stop.Reading why) is not same dated counts =
-      subst (λ (w : WriteFault). HalfMakes m name l from to left rest run w) (sym is)
-      (record {
-        is_why = tt;
-        blank = blank;
-        half = half;
-        unwritten = not;
-        unchanged = same;
-        made = made;
-        unfailed = no-more counts.1;
-      })
+      of-reading fault.Memory why is tt not same counts.1

@@ -1,5 +1,5 @@
 -- A second reading of a whole file.
-use Rattle.std.proofs.Common.{◌≡◌, inl, inr, ℕ, ◌+◌, List, [], length, take, refl, sym}
+use Rattle.std.proofs.Common.{◌≡◌, inl, inr, ℕ, List, [], length, take, refl, sym}
 use Rattle.std.proofs.Common.{◌∙◌, subst, arith, append-nil, Option, Some, None, Result, Ok, Err}
 use Rattle.std.specs.List.{flat_map}
 use Rattle.std.specs.Io.KnownBytes.{Consumes}
@@ -25,80 +25,52 @@ use Rattle.edf_runs.specs.declared.fault.WriteFault.{WriteFault}
 use Rattle.edf_runs.specs.declared.fault.WriteFault.TheVariants as fault
 use Rattle.edf_new_files.specs.Making.{Making}
 use Rattle.edfruns_command.specs.Writing.{ReadsAgain}
-use Rattle.edfruns_command.specs.Rereading.{IsOfReading, IsNoEnd}
-use Rattle.edfruns_command.specs.Splitting.{WereFirst}
-use Rattle.edfruns_command.proofs.Finished.{first-all}
-use Rattle.edfruns_command.specs.InsideMaking.{IsAtEnd, StopsAtEnd, MakesEach, MakesFirst, HasMade}
-use Rattle.edfruns_command.specs.InsideMaking.{HalfRereads, HalfMakesEach, StopsEach, StopsMaking}
-use Rattle.edfruns_command.specs.InsideMaking.{RereadsAll, RereadsWith, AreLinesOf}
+use Rattle.edfruns_command.specs.Rereading.{IsNotReread, IsOfReading, IsNoEnd}
+use Rattle.edfruns_command.specs.Splitting.{HasMade, MakesRuns}
+use Rattle.edfruns_command.proofs.Finished.{has-made, has-all}
+use Rattle.edfruns_command.specs.InsideMaking.{IsAtEnd, StopsAtEnd, MakesEach, MakesFirst}
+use Rattle.edfruns_command.specs.InsideMaking.{StopsEach, StopsMaking, RereadsWith, AreLinesOf}
 use Rattle.edfruns_command.specs.declared.stop.Stop.{Stop}
 use Rattle.edfruns_command.specs.declared.stop.Stop.TheVariants as stop
 use Rattle.edfruns_command.proofs.MakingFiles.{passes-made}
 
 -- ---- nothing was made
 
-made-none : (m : Making) (names : List (List ℕ)) (k : Key) (runs : List OnsetRun) →
-    m.after ≡ m.before → HasMade m (take 0 names) k runs 0
-made-none m names k runs none = record {
-  files = [];
-  made = none ∙ sym (append-nil m.before);
-  named = refl;
-  first = record { runs = []; are_listed = tt; finished = tt };
+pub not-begun : (m : Making) (bytes : Option (List ℕ)) (plan : OnsetListing)
+    (names : List (List ℕ)) → m.after ≡ m.before → m.failed_after ≡ m.failed_before →
+    (why : WriteFault) → IsNotReread bytes plan (stop.Reading why) →
+    StopsMaking m bytes plan names (stop.Reading why)
+not-begun m bytes plan names made failed why not = record {
+  count = 0;
+  whole = 0;
+  has = has-made m names plan.identity plan.runs.items 0 [] [] (made ∙ sym (append-nil m.before))
+      refl tt tt;
+  stops = inl (refl, not);
+  failed = failed;
 }
 
-module _ (m : Making) (bytes : Option (List ℕ)) (plan : OnsetListing) (names : List (List ℕ))
-    (made : m.after ≡ m.before) (failed : m.failed_after ≡ m.failed_before) where
-  pub not-opened : HalfRereads m bytes plan names fault.Memory
-  not-opened = record {
-    is_why = tt;
-    count = 0;
-    stops = inl (refl, inl refl);
-    finished = 0;
-    made = made-none m names plan.identity plan.runs.items made;
-    unfailed = failed;
-  }
-
-  of-reading : (rest : Option (List ℕ)) (key : Key) (why : WriteFault) →
-      IsNotReopened bytes rest key why → IsOfReading why
-  of-reading rest key fault.Undated not = absurd not
-  of-reading rest key fault.Changed not = tt
-  of-reading rest key fault.Read not = tt
-  of-reading rest key fault.Memory not = tt
-  of-reading rest key fault.Write not = absurd not
-
-  pub not-reopened : (rest : Option (List ℕ)) (why : WriteFault) →
-      IsNotReopened bytes rest plan.identity why → HalfRereads m bytes plan names why
-  not-reopened rest why not = record {
-    is_why = of-reading rest plan.identity why not;
-    count = 0;
-    stops = inl (refl, inr (rest, not));
-    finished = 0;
-    made = made-none m names plan.identity plan.runs.items made;
-    unfailed = failed;
-  }
+pub of-reading : (bytes rest : Option (List ℕ)) (key : Key) (why : WriteFault) →
+    IsNotReopened bytes rest key why → IsOfReading why
+of-reading bytes rest key fault.Undated not = absurd not
+of-reading bytes rest key fault.Changed not = tt
+of-reading bytes rest key fault.Read not = tt
+of-reading bytes rest key fault.Memory not = tt
+of-reading bytes rest key fault.Write not = absurd not
 
 -- ---- after the header
 
 module _ (m : Making) (bytes : Option (List ℕ)) (plan : OnsetListing) (names : List (List ℕ))
     (l : Layout) (start : Option (List ℕ)) (again : ReadsAgain bytes start plan.identity l) where
-  pub stops-among : (rest : Option (List ℕ)) (why : WriteFault) →
-      HalfMakesEach m names l start rest plan.runs.items why →
-      HalfRereads m bytes plan names why
-  stops-among rest why half = record {
-    is_why = half.is_why;
-    count = half.nth + 1;
-    stops = inr (l, start, rest, again, inl (half.nth, refl, half.stops));
-    finished = half.finished;
-    made = subst (λ (k : Key). HasMade m (take (half.nth + 1) names) k plan.runs.items half.finished)
-        again.same half.made;
-    unfailed = half.unfailed;
-  }
-
   pub stops-making : (rest : Option (List ℕ)) (why : Stop) →
-      StopsEach m names l start rest plan.runs.items why →
-      StopsMaking m bytes plan names why
-  stops-making rest (stop.Reading why) half = stops-among rest why half
-  stops-making rest (stop.Output output) lacks = (l, start, again, lacks)
+      StopsEach m names l start rest plan.runs.items why → StopsMaking m bytes plan names why
+  stops-making rest why each = record {
+    count = each.count;
+    whole = each.whole;
+    has = subst (λ (k : Key). HasMade m names k plan.runs.items each.count each.whole) again.same
+        each.has;
+    stops = inr (l, start, rest, again, each.stops);
+    failed = each.failed;
+  }
 
   no-end : (answer : Result (Option DataRecord) FragmentFault) (why : WriteFault) →
       IsNoEnd answer why → IsOfReading why
@@ -116,15 +88,14 @@ module _ (m : Making) (bytes : Option (List ℕ)) (plan : OnsetListing) (names :
       ≡ length plan.runs.items)
       (makes : MakesEach m names l mid start left plan.runs.items) where
     pub stops-after : (why : WriteFault) → StopsAtEnd l mid to left rest why →
-        HalfRereads m bytes plan names why
-    stops-after why stop = record {
-      is_why = no-end stop.answer why stop.is_why;
+        StopsMaking m bytes plan names (stop.Reading why)
+    stops-after why ends = stops-making rest (stop.Reading why) (record {
       count = length plan.runs.items;
-      stops = inr (
-        l,
-        start,
-        rest,
-        again,
+      whole = length plan.runs.items;
+      has = has-all m names l.key plan.runs.items makes.parts makes.files makes.made makes.named
+          fit makes.listed makes.held;
+      stops = (
+        no-end ends.answer why ends.is_why,
         inr (
           refl,
           record {
@@ -132,25 +103,14 @@ module _ (m : Making) (bytes : Option (List ℕ)) (plan : OnsetListing) (names :
             left = left;
             passes = passes-made m names l mid start left plan.runs.items makes;
             to = to;
-            answer = stop.answer;
-            is_answer = stop.is_answer;
-            is_why = stop.is_why;
+            answer = ends.answer;
+            is_answer = ends.is_answer;
+            is_why = ends.is_why;
           },
         ),
       );
-      finished = length plan.runs.items;
-      made = record {
-        files = makes.files;
-        made = makes.made;
-        named = makes.named
-            ∙ sym (take_all (length plan.runs.items) names (omega (arith, fit)));
-        first = subst (λ (k : Key). WereFirst m.known k plan.runs.items (length plan.runs.items)
-            makes.files) again.same (first-all m.known l.key plan.runs.items
-            (length plan.runs.items) (take_all (length plan.runs.items) plan.runs.items
-            (omega arith)) makes.parts makes.files makes.listed makes.held);
-      };
-      unfailed = makes.unfailed;
-    }
+      failed = makes.unfailed;
+    })
 
     ended : IsAtEnd l mid to left rest → EndsThere l mid left rest
     ended ends =
@@ -177,7 +137,7 @@ module _ (m : Making) (bytes : Option (List ℕ)) (plan : OnsetListing) (names :
           most = omega (arith, end.most, on.given);
         }
 
-    pub rereads-all : IsAtEnd l mid to left rest → RereadsAll m bytes plan names
+    pub rereads-all : IsAtEnd l mid to left rest → MakesRuns m bytes plan names
     rereads-all ends = record {
       again = record {
         layout = l;
@@ -185,7 +145,7 @@ module _ (m : Making) (bytes : Option (List ℕ)) (plan : OnsetListing) (names :
         rest = rest;
         read = fragment_read bytes start rest l records again.header (reads-records ends);
         same = again.same;
-        parts = makes.parts;
+        runs = makes.parts;
         joined = refl;
         listed = makes.listed;
       };

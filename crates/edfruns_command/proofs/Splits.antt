@@ -1,5 +1,5 @@
 -- What `split` did, from what it did of a listed file.
-use Rattle.std.proofs.Common.{◌≡◌, ◌⊎◌, inl, inr, ℕ, ◌≤◌, List, length, sym, ap, subst}
+use Rattle.std.proofs.Common.{◌≡◌, ℕ, ◌≤◌, List, length, sym, ap, subst}
 use Rattle.std.proofs.Common.{Option, arith, decimal, length-append}
 use Rattle.std.proofs.lemmas.List.FromFn.{length-map-range_with_len}
 use Rattle.std.specs.Prelude.{Bool}
@@ -7,67 +7,26 @@ use Rattle.std.specs.List.{AllZip, flat_map}
 use Rattle.edf_field.specs.Number.{duration_of}
 use Rattle.edf_header.specs.Key.{Key}
 use Rattle.edf_fragment.specs.Fragment.{DataRecord}
-use Rattle.edf_program.specs.Output.{Growth}
-use Rattle.edf_program.specs.declared.status.Status.{Status}
 use Rattle.edf_runs.specs.declared.joining.Joining.{Joining}
 use Rattle.edf_runs.specs.declared.onset_listing.OnsetListing.{OnsetListing}
 use Rattle.edf_new_files.specs.Making.{Making}
 use Rattle.edfruns_command.specs.Naming.{run_name, run_names, first_names, asked_names}
 use Rattle.edfruns_command.specs.JoinedPlan.{HasJoinedPlan, AreFiles}
-use Rattle.edfruns_command.specs.Splitting.{RereadsRuns, SplitsFile, GivesUp, IsKeptRun}
-use Rattle.edfruns_command.specs.InsideMaking.{RereadsParts}
-use Rattle.edfruns_command.specs.InsideSplit.{SplitsListed}
+use Rattle.edfruns_command.specs.Splitting.{RereadsRuns, HaveFiles, IsKeptRun}
 use Rattle.edfruns_command.proofs.SameGroups.{planned-files}
 
 module _ (bytes : Option (List ℕ)) (plan : OnsetListing) (by_onset : Bool)
     (joining : Option Joining) (has : HasJoinedPlan joining by_onset bytes plan) where
-  rereads : RereadsParts bytes plan → RereadsRuns joining bytes plan
-  rereads again =
+  -- the files that are read again are those that were planned
+  pub have-files : (again : RereadsRuns bytes plan) → HaveFiles joining again
+  have-files again =
       let d = duration_of again.layout.key.duration in
       let e : d ≡ duration_of plan.identity.duration =
       ap (λ (k : Key). duration_of k.duration) again.same in
-      let each = subst (λ n. AllZip (IsKeptRun n) again.parts plan.runs.items) e again.listed in
-      let files : AreFiles joining d (flat_map (λ part. part) again.parts) again.parts =
-      subst (λ n. AreFiles joining n (flat_map (λ part. part) again.parts) again.parts) (sym e)
-      (planned-files bytes plan again.parts by_onset joining has each) in
-      record {
-        layout = again.layout;
-        records = again.records;
-        rest = again.rest;
-        read = again.read;
-        same = again.same;
-        runs = again.parts;
-        are_runs = subst (λ (rs : List DataRecord). AreFiles joining d rs again.parts)
-            again.joined files;
-        listed = again.listed;
-      }
-
-  pub splits : (m : Making) (out err : Growth) (name prefix : List ℕ) (status : Status) →
-      SplitsListed m out err bytes name plan (run_names prefix (length plan.runs.items)) status →
-      SplitsFile m out err bytes name prefix by_onset joining status plan
-      ⊎ GivesUp m out err bytes name prefix by_onset joining status plan
-  unfolding rereads
-  splits m out err name prefix status (inl (all, got, none, done)) = inl (record {
-    makes = record {
-      again = rereads all.again;
-      files = all.files;
-      made = all.made;
-      named = all.named;
-      held = all.held;
-      unfailed = all.unfailed;
-    };
-    said = got;
-    silent = none;
-    done = done;
-  })
-  splits m out err name prefix status (inr (inl cut)) = inr (inl (record {
-    again = rereads cut.again;
-    said = cut.said;
-    unfailed = cut.unfailed;
-    removes = cut.removes;
-    made = cut.made;
-  }))
-  splits m out err name prefix status (inr (inr stops)) = inr (inr stops)
+      let each = subst (λ n. AllZip (IsKeptRun n) again.runs plan.runs.items) e again.listed in
+      subst (λ (rs : List DataRecord). AreFiles joining d rs again.runs) again.joined
+      (subst (λ n. AreFiles joining n (flat_map (λ run. run) again.runs) again.runs) (sym e)
+      (planned-files bytes plan again.runs by_onset joining has each))
 
 -- what makes files is as it was, before a file is made
 pub as-before : (a b : Making) → a.known ≡ b.known →

@@ -1,5 +1,5 @@
 -- The lines of runs whose files were written: with how many annotations each has.
-use Rattle.std.specs.Prelude.{ℕ, ◌+◌, ◌-◌, List, [], ◌∷◌, ◌++◌, length, codes, decimal, Option}
+use Rattle.std.specs.Prelude.{ℕ, ◌+◌, List, [], ◌∷◌, ◌++◌, length, codes, decimal, Option}
 use Rattle.std.specs.Prelude.{count_by, slice_get, Some, None}
 use Rattle.edf_time.specs.Decimal.{short}
 use Rattle.edf_fragment.specs.Fragment.{DataRecord}
@@ -9,13 +9,7 @@ use Rattle.edf_runs.specs.Counted.{is_outside, run_end}
 use Rattle.edf_runs.specs.InRecording.{in_recording, shift_of}
 use Rattle.edf_runs.specs.declared.run.Run.{Run}
 use Rattle.edf_runs.specs.declared.onset_run.OnsetRun.{OnsetRun}
-use Rattle.edfruns_command.specs.Lines.{end_of, gap_text}
-
--- `N records=K first=I seconds=S gap=S`: the line of `list`, without its end
-abbrev pub run_front : (ℕ → List ℕ) → ℕ → ℕ → Run → Option Run → List ℕ
-run_front spell d number r next = decimal number ++ (codes " records=" ++ (decimal r.records
-    ++ (codes " first=" ++ (spell r.first
-    ++ (codes " seconds=" ++ (short (end_of d r - r.first) ++ gap_text d r next))))))
+use Rattle.edfruns_command.specs.Lines.{run_front}
 
 -- ` shifted=S`: how many seconds the last data record of a file is moved, where they are
 abbrev pub shift_text : Option ℕ → List ℕ

@@ -1,6 +1,5 @@
 -- What private functions do.
-use Rattle.std.specs.Prelude.{◌≡◌, ℕ, ◌+◌, ◌-◌, ◌<◌, List, [], ◌++◌, codes}
-use Rattle.std.specs.Prelude.{Option, Some, None, length, take, slice_get, ◌⊎◌}
+use Rattle.std.specs.Prelude.{◌≡◌, ◌⊎◌, ℕ, ◌+◌, ◌<◌, List, Option, Some, None, length, take}
 use Rattle.edf_program.specs.Output.{Growth, IsWritten}
 use Rattle.edf_program.specs.Text.{memory_line}
 use Rattle.edf_program.specs.declared.status.Status.{Status}
@@ -11,17 +10,6 @@ use Rattle.edf_runs.specs.declared.run.Run.{Run}
 use Rattle.edfruns_command.specs.Joining.{AreClose}
 use Rattle.edfruns_command.specs.Lines.{crowded_line, file_refused_line, file_refused_status}
 pub use Rattle.edf_program.specs.Opened.{OpensUpTo}
-
--- ---- labels of lines
-
--- a name and a space, where there is a name
-abbrev pub label_text : Option (List ℕ) → List ℕ
-label_text None = []
-label_text (Some name) = name ++ codes " "
-
--- that of the line of this number, from 1
-abbrev pub label_in : List (List ℕ) → ℕ → List ℕ
-label_in names number = label_text (slice_get names (number - 1))
 
 -- ---- groups of runs
 

@@ -1,14 +1,11 @@
 -- What private functions do that make files of runs.
-use Rattle.std.specs.Prelude.{◌≡◌, ◌≢◌, ◌⊎◌, ℕ, ◌+◌, List, [], ◌∷◌, ◌++◌, Option, None}
+use Rattle.std.specs.Prelude.{◌≡◌, ◌≢◌, ◌⊎◌, ℕ, List, [], ◌∷◌, ◌++◌, Option, None}
 use Rattle.std.specs.Prelude.{Result, Ok, take}
 use Rattle.std.specs.List.{flat_map, AllZip}
 use Rattle.edf_field.specs.Number.{duration_of}
 use Rattle.edf_header.specs.Header.{Layout}
-use Rattle.edf_header.specs.Key.{Key}
-use Rattle.edf_fragment.specs.Failures.{one_more}
 use Rattle.edf_fragment.specs.Fragment.{DataRecord}
 use Rattle.edf_fragment.specs.Reading.{IsAnswer, at_first}
-use Rattle.edf_fragment.specs.Whole.{ReadsFragment}
 use Rattle.edf_fragment.specs.declared.advance.Progress.{Progress}
 use Rattle.edf_fragment.specs.declared.fault.FragmentFault.{FragmentFault}
 use Rattle.edf_runs.specs.Counted.{AreCounted}
@@ -23,10 +20,9 @@ use Rattle.edf_runs.specs.declared.fault.WriteFault.{WriteFault}
 use Rattle.edf_runs.specs.declared.fault.WriteFault.TheVariants as fault
 use Rattle.edf_new_files.specs.Made.{MadeFile, HasPart, names_of}
 use Rattle.edf_new_files.specs.Making.{Making}
-use Rattle.edfruns_command.specs.Writing.{ReadsAgain}
-use Rattle.edfruns_command.specs.Rereading.{IsOfReading, IsNoEnd, StopsAmong, StopsRereading}
-use Rattle.edfruns_command.specs.Rereading.{ComesToOutput}
-use Rattle.edfruns_command.specs.Splitting.{HoldsRun, WereFirst, IsKeptRun, lines_of}
+use Rattle.edfruns_command.specs.Rereading.{IsOfReading, IsNoEnd, StopsAtRuns, StopsRereading}
+use Rattle.edfruns_command.specs.Rereading.{failed_by}
+use Rattle.edfruns_command.specs.Splitting.{HoldsRun, HasMade, IsKeptRun, MakesRuns, lines_of}
 use Rattle.edfruns_command.specs.Lines.{IsSpelling}
 use Rattle.edfruns_command.specs.Counting.{split_lines}
 use Rattle.edfruns_command.specs.declared.stop.Stop.{Stop}
@@ -70,7 +66,6 @@ pub record HalfMakes (m : Making) (name : List ℕ) (l : Layout) (from to : Prog
   pub unchanged : ComesByOnset l from left run.run (starts_of run) (kept_of run) →
       why ≢ fault.Changed
   pub made : HasPart m.before name m.after
-  pub unfailed : m.failed_after ≡ m.failed_before
 
 -- the fault in a run's writing is one of reading, or its file's
 abbrev pub IsStopOf : WriteFault → List ℕ → Stop → Type 0
@@ -79,27 +74,20 @@ IsStopOf fault.Write name (stop.Reading why) = ⊥
 IsStopOf met name (stop.Output output) = ⊥
 IsStopOf met name (stop.Reading why) = why ≡ met
 
--- it could not be made, written or ended
-pub record LacksFile (m : Making) (name output : List ℕ) : Type 0 where
-  pub is_output : output ≡ name
-  pub made : (m.after ≡ m.before) ⊎ HasPart m.before name m.after
-  pub failed : m.failed_after ≡ one_more m.failed_before
-
-abbrev pub StopsFile : Making → List ℕ → Layout → Progress → Progress → Option (List ℕ) →
+-- or it could not be made, written or ended
+abbrev pub StopsOneFile : Making → List ℕ → Layout → Progress → Progress → Option (List ℕ) →
     Option (List ℕ) → OnsetRun → Stop → Type 0
-StopsFile m name l from to left rest run (stop.Reading why) =
+StopsOneFile m name l from to left rest run (stop.Reading why) =
     HalfMakes m name l from to left rest run why
-StopsFile m name l from to left rest run (stop.Output output) = LacksFile m name output.now
+StopsOneFile m name l from to left rest run (stop.Output output) =
+    (output.now ≡ name) × ((m.after ≡ m.before) ⊎ HasPart m.before name m.after)
+
+pub record StopsFile (m : Making) (name : List ℕ) (l : Layout) (from to : Progress)
+    (left rest : Option (List ℕ)) (run : OnsetRun) (why : Stop) : Type 0 where
+  pub stops : StopsOneFile m name l from to left rest run why
+  pub failed : m.failed_after ≡ failed_by why m.failed_before
 
 -- ---- all files
-
--- files of these names were made, and of so many of the first runs they were finished
-pub record HasMade (m : Making) (names : List (List ℕ)) (k : Key) (runs : List OnsetRun)
-    (count : ℕ) : Type 0 where
-  pub files : List MadeFile
-  pub made : m.after ≡ m.before ++ files
-  pub named : names_of files ≡ names
-  pub first : WereFirst m.known k runs count files
 
 -- of each of the runs one of these names was made, and their data records were read
 pub record MakesEach (m : Making) (names : List (List ℕ)) (l : Layout) (to : Progress)
@@ -128,70 +116,27 @@ pub record MakesFirst (m : Making) (names : List (List ℕ)) (l : Layout) (to : 
         (annotated_runs each.parts (take count runs)) text
 
 -- one was not, or not whole
-pub record HalfMakesEach (m : Making) (names : List (List ℕ)) (l : Layout)
-    (left rest : Option (List ℕ)) (runs : List OnsetRun) (why : WriteFault) : Type 0 where
-  pub is_why : IsOfReading why
-  pub nth : ℕ
-  pub stops : StopsAmong l left rest runs nth why
-  pub finished : ℕ
-  pub made : HasMade m (take (nth + 1) names) l.key runs finished
-  pub unfailed : m.failed_after ≡ m.failed_before
-
-pub record LacksOneOf (m : Making) (names : List (List ℕ)) (l : Layout) (left : Option (List ℕ))
-    (runs : List OnsetRun) (output : List ℕ) : Type 0 where
+pub record StopsEach (m : Making) (names : List (List ℕ)) (l : Layout)
+    (left rest : Option (List ℕ)) (runs : List OnsetRun) (why : Stop) : Type 0 where
   pub count : ℕ
-  pub comes : ComesToOutput l left runs names count output
-  pub made : HasMade m (take count names) l.key runs comes.nth
-  pub failed : m.failed_after ≡ one_more m.failed_before
-
-abbrev pub StopsEach : Making → List (List ℕ) → Layout → Option (List ℕ) → Option (List ℕ) →
-    List OnsetRun → Stop → Type 0
-StopsEach m names l left rest runs (stop.Reading why) =
-    HalfMakesEach m names l left rest runs why
-StopsEach m names l left rest runs (stop.Output output) =
-    LacksOneOf m names l left runs output.now
+  pub whole : ℕ
+  pub has : HasMade m names l.key runs count whole
+  pub stops : StopsAtRuns l left rest runs names count whole why
+  pub failed : m.failed_after ≡ failed_by why m.failed_before
 
 -- ---- the second reading, from the file's first byte on
 
--- it was read to its end, and has such runs
-pub record RereadsParts (bytes : Option (List ℕ)) (plan : OnsetListing) : Type 0 where
-  pub layout : Layout
-  pub records : List DataRecord
-  pub rest : Option (List ℕ)
-  pub read : ReadsFragment bytes rest layout records
-  pub same : layout.key ≡ plan.identity
-  pub parts : List (List DataRecord)
-  pub joined : flat_map (λ part. part) parts ≡ records
-  pub listed : AllZip (IsKeptRun (duration_of layout.key.duration)) parts plan.runs.items
-
--- and files were made of all of them
-pub record RereadsAll (m : Making) (bytes : Option (List ℕ)) (plan : OnsetListing)
-    (names : List (List ℕ)) : Type 0 where
-  pub again : RereadsParts bytes plan
-  pub files : List MadeFile
-  pub made : m.after ≡ m.before ++ files
-  pub named : names_of files ≡ names
-  pub held : AllZip (HoldsRun m.known again.layout.key)
-      (annotated_runs again.parts plan.runs.items) files
-  pub unfailed : m.failed_after ≡ m.failed_before
-
--- with their lines
+-- files were made of all runs, with their lines
 abbrev pub RereadsWith : Making → Option (List ℕ) → OnsetListing → List (List ℕ) → List ℕ → Type 0
-RereadsWith m bytes plan names text = (all : RereadsAll m bytes plan names)
+RereadsWith m bytes plan names text = (all : MakesRuns m bytes plan names)
     × ((spell : ℕ → List ℕ) → IsSpelling spell →
-    text ≡ lines_of spell plan names all.again.parts)
+    text ≡ lines_of spell plan names all.again.runs)
 
-pub record HalfRereads (m : Making) (bytes : Option (List ℕ)) (plan : OnsetListing)
-    (names : List (List ℕ)) (why : WriteFault) : Type 0 where
-  pub is_why : IsOfReading why
+-- or not of all
+pub record StopsMaking (m : Making) (bytes : Option (List ℕ)) (plan : OnsetListing)
+    (names : List (List ℕ)) (why : Stop) : Type 0 where
   pub count : ℕ
-  pub stops : StopsRereading bytes plan count why
-  pub finished : ℕ
-  pub made : HasMade m (take count names) plan.identity plan.runs.items finished
-  pub unfailed : m.failed_after ≡ m.failed_before
-
-abbrev pub StopsMaking : Making → Option (List ℕ) → OnsetListing → List (List ℕ) → Stop → Type 0
-StopsMaking m bytes plan names (stop.Reading why) = HalfRereads m bytes plan names why
-StopsMaking m bytes plan names (stop.Output output) =
-    (l : Layout) × (start : Option (List ℕ)) × ReadsAgain bytes start plan.identity l
-    × LacksOneOf m names l start plan.runs.items output.now
+  pub whole : ℕ
+  pub has : HasMade m names plan.identity plan.runs.items count whole
+  pub stops : StopsRereading bytes plan names count whole why
+  pub failed : m.failed_after ≡ failed_by why m.failed_before

@@ -4,7 +4,7 @@ use Rattle.std.specs.Prelude.{All, codes, decimal, Option, Some, None, slice_get
 use Rattle.std.specs.List.{flat_map, sum_by}
 use Rattle.edf_time.specs.Decimal.{short}
 use Rattle.edf_runs.specs.declared.run.Run.{Run}
-use Rattle.edfruns_command.specs.Lines.{end_of, gap_text, run_lines}
+use Rattle.edfruns_command.specs.Lines.{end_of, line_front, run_front}
 
 -- ---- which runs, where their data records last d nanoseconds
 
@@ -62,11 +62,9 @@ end_text (Some most) gaps missing =
 -- `N records=K first=I seconds=S gap=S joined=J missing=S`
 abbrev pub group_line : (ℕ → List ℕ) → Option ℕ → ℕ → ℕ → List Run → Option Run → List ℕ
 group_line spell most d number [] next = []
-group_line spell most d number (r ∷ rs) next = decimal number ++ (codes " records="
-    ++ (decimal (records_of (r ∷ rs)) ++ (codes " first="
-    ++ (spell r.first ++ (codes " seconds="
-    ++ (short (span_of d r rs) ++ (gap_text d (last_of r rs) next
-    ++ (end_text most (length rs) (missing_in d r rs) ++ (10 ∷ [])))))))))
+group_line spell most d number (r ∷ rs) next =
+    line_front spell d number (records_of (r ∷ rs)) r (last_of r rs) next
+    ++ (end_text most (length rs) (missing_in d r rs) ++ (10 ∷ []))
 
 -- the first run of the groups that follow
 abbrev pub next_run : List (List Run) → Option Run
@@ -84,7 +82,10 @@ group_lines spell most d label number (group ∷ groups) = label
 abbrev pub each_line : (ℕ → List ℕ) → ℕ → List Run → List ℕ
 each_line spell d runs = group_lines spell None d [] 1 (map (λ r. r ∷ []) runs)
 
--- these are the lines of the runs
+-- these are the line of the first run, which tells the gap before the next, and then those of the
+-- others, whose numbers count on
 abbrev pub EachLineIsOfARun : Type 0
-EachLineIsOfARun = (spell : ℕ → List ℕ) (d : ℕ) (runs : List Run) →
-    each_line spell d runs ≡ run_lines spell d (λ number. []) 1 runs
+EachLineIsOfARun = (spell : ℕ → List ℕ) (d number : ℕ) (r : Run) (rs : List Run) →
+    group_lines spell None d [] number (map (λ q. q ∷ []) (r ∷ rs))
+    ≡ (run_front spell d number r (slice_get rs 0) ++ (10 ∷ []))
+    ++ group_lines spell None d [] (number + 1) (map (λ q. q ∷ []) rs)

@@ -1,6 +1,6 @@
 -- The lines that the program writes: functions of names, runs and faults. A line ends with byte 10.
 use Rattle.std.specs.Prelude.{ℕ, ◌+◌, ◌-◌, List, [], ◌∷◌, ◌++◌, codes, decimal, Option}
-use Rattle.std.specs.Prelude.{Some, None, slice_get}
+use Rattle.std.specs.Prelude.{Some, None}
 use Rattle.edf_time.specs.Decimal.{short}
 use Rattle.edf_fragment.specs.Fault.{fragment_fault_number, fragment_fault_name}
 use Rattle.edf_fragment.specs.declared.fault.FragmentFault.{FragmentFault}
@@ -12,6 +12,8 @@ use Rattle.edf_program.specs.declared.status.Status.TheVariants.{Refused, Troubl
 use Rattle.edf_runs.specs.declared.run.Run.{Run}
 use Rattle.edf_runs.specs.declared.fault.WriteFault.{WriteFault}
 use Rattle.edf_runs.specs.declared.fault.WriteFault.TheVariants as run
+use Rattle.edfruns_command.specs.declared.stop.Stop.{Stop}
+use Rattle.edfruns_command.specs.declared.stop.Stop.TheVariants as stop
 pub use Rattle.edf_program.specs.Text.{IsSpelling}
 
 -- ---- lines of runs, whose data records last d nanoseconds
@@ -25,18 +27,16 @@ abbrev pub gap_text : ℕ → Run → Option Run → List ℕ
 gap_text d r None = []
 gap_text d r (Some next) = codes " gap=" ++ short (next.first - end_of d r)
 
--- `N records=K first=I seconds=S gap=S`
-abbrev pub run_line : (ℕ → List ℕ) → ℕ → ℕ → Run → Option Run → List ℕ
-run_line spell d number r next = decimal number ++ (codes " records=" ++ (decimal r.records
-    ++ (codes " first=" ++ (spell r.first
-    ++ (codes " seconds=" ++ (short (end_of d r - r.first)
-    ++ (gap_text d r next ++ (10 ∷ []))))))))
+-- `N records=K first=I seconds=S gap=S`: how a line begins that tells of runs, of which these are
+-- the first and the last, and which have so many data records
+abbrev pub line_front : (ℕ → List ℕ) → ℕ → ℕ → ℕ → Run → Run → Option Run → List ℕ
+line_front spell d number records first last next = decimal number ++ (codes " records="
+    ++ (decimal records ++ (codes " first=" ++ (spell first.first
+    ++ (codes " seconds=" ++ (short (end_of d last - first.first) ++ gap_text d last next))))))
 
--- a line a run, in time order, each after the label of its number, which counts on from this one
-abbrev pub run_lines : (ℕ → List ℕ) → ℕ → (ℕ → List ℕ) → ℕ → List Run → List ℕ
-run_lines spell d label number [] = []
-run_lines spell d label number (r ∷ rs) = label number
-    ++ (run_line spell d number r (slice_get rs 0) ++ run_lines spell d label (number + 1) rs)
+-- of one run
+abbrev pub run_front : (ℕ → List ℕ) → ℕ → ℕ → Run → Option Run → List ℕ
+run_front spell d number r next = line_front spell d number r.records r r next
 
 -- ---- why something is not done
 
@@ -80,6 +80,11 @@ abbrev pub reread_line : List ℕ → WriteFault → List ℕ
 reread_line name run.Changed = changed_line name
 reread_line name run.Memory = memory_line name
 reread_line name why = unread_line name
+
+-- why files were not made of all runs
+abbrev pub stop_line : List ℕ → Stop → List ℕ
+stop_line name (stop.Reading why) = reread_line name why
+stop_line name (stop.Output output) = unwritten_line output.now
 
 -- why the run of this number is not written to standard output
 abbrev pub run_refused_line : List ℕ → ℕ → WriteFault → List ℕ

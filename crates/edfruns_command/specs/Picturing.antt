@@ -18,7 +18,7 @@ use Rattle.edf_runs.specs.ByOnset.{annotations_of}
 use Rattle.edf_runs.specs.declared.run.Run.{Run}
 use Rattle.edf_runs.specs.declared.run_list.Listing.{Listing}
 use Rattle.edf_sleep.specs.FigureLines.{HasFigures}
-use Rattle.edf_sleep.specs.Night.{IsSound}
+use Rattle.edf_sleep.specs.Night.{AreOfFile}
 use Rattle.edf_sleep.specs.declared.extent.Extent.{Extent}
 use Rattle.edf_sleep.specs.declared.note.Note.{Note}
 use Rattle.edf_tal.specs.Tal.{Annotation}
@@ -61,7 +61,7 @@ IsPictureOf key has_code runs notes picture =
     let duration = duration_of key.duration in let times = map (run_time duration) runs in
     (spell : ℕ → List ℕ) → IsSpelling spell →
     (onset : List ℕ) × (words : List (List ℕ)) × (figures : List ℕ)
-    × (IsSound notes times → HasFiguresOf spell notes times onset words figures)
+    × (AreOfFile notes times → HasFiguresOf spell notes times onset words figures)
     × IsPicture (named_of key has_code) times words (each_line spell duration runs ++ figures)
     picture
 

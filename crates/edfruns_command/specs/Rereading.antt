@@ -4,6 +4,7 @@ use Rattle.std.specs.Prelude.{Result, Ok, Err, length, slice_get}
 use Rattle.std.specs.List.{flat_map, AllZip}
 use Rattle.edf_field.specs.Number.{duration_of}
 use Rattle.edf_header.specs.Header.{Layout}
+use Rattle.edf_fragment.specs.Failures.{one_more}
 use Rattle.edf_fragment.specs.Fragment.{DataRecord}
 use Rattle.edf_fragment.specs.Reading.{IsAnswer, at_first}
 use Rattle.edf_fragment.specs.declared.advance.Progress.{Progress}
@@ -17,6 +18,8 @@ use Rattle.edf_runs.specs.declared.onset_listing.OnsetListing.{OnsetListing}
 use Rattle.edf_runs.specs.declared.fault.WriteFault.{WriteFault}
 use Rattle.edf_runs.specs.declared.fault.WriteFault.TheVariants as fault
 use Rattle.edfruns_command.specs.Writing.{ReadsAgain}
+use Rattle.edfruns_command.specs.declared.stop.Stop.{Stop}
+use Rattle.edfruns_command.specs.declared.stop.Stop.TheVariants as stop
 
 -- the faults of a reading
 abbrev pub IsOfReading : WriteFault → Type 0
@@ -79,30 +82,42 @@ pub record StopsAfter (l : Layout) (start rest : Option (List ℕ)) (runs : List
   pub is_answer : IsAnswer l from to left rest answer
   pub is_why : IsNoEnd answer why
 
--- after the header it stopped, when so many files were made: that of a run is made before the run
--- is read
-abbrev pub StopsAtRuns : Layout → Option (List ℕ) → Option (List ℕ) → List OnsetRun → ℕ → WriteFault →
-    Type 0
-StopsAtRuns l start rest runs count why =
-    ((nth : ℕ) × (count ≡ nth + 1) × StopsAmong l start rest runs nth why)
-    ⊎ ((count ≡ length runs) × StopsAfter l start rest runs why)
-
--- it stopped: before a data record was read, where no file was made, or later
-abbrev pub StopsRereading : Option (List ℕ) → OnsetListing → ℕ → WriteFault → Type 0
-StopsRereading bytes plan count why =
-    ((count ≡ 0) × ((why ≡ fault.Memory)
-    ⊎ ((rest : Option (List ℕ)) × IsNotReopened bytes rest plan.identity why)))
-    ⊎ ((l : Layout) × (start : Option (List ℕ)) × (rest : Option (List ℕ))
-    × ReadsAgain bytes start plan.identity l × StopsAtRuns l start rest plan.runs.items count why)
-
--- it came to the run whose file has this name, when so many files were made: that one, or those
--- before it
+-- it came to the run whose file has this name, after so many, which are whole; so many files were
+-- made: that one too, or those before it
 pub record ComesToOutput (l : Layout) (start : Option (List ℕ)) (runs : List OnsetRun)
-    (names : List (List ℕ)) (count : ℕ) (output : List ℕ) : Type 0 where
+    (names : List (List ℕ)) (count whole : ℕ) (output : List ℕ) : Type 0 where
   pub from : Progress
   pub left : Option (List ℕ)
-  pub nth : ℕ
   pub run : OnsetRun
-  pub at_run : IsAtRun l from start left runs nth run
-  pub is_output : slice_get names nth ≡ Some output
-  pub made : (count ≡ nth) ⊎ (count ≡ nth + 1)
+  pub at_run : IsAtRun l from start left runs whole run
+  pub is_output : slice_get names whole ≡ Some output
+  pub made : (count ≡ whole) ⊎ (count ≡ whole + 1)
+
+-- after the header it stopped, when so many files were made: that of a run is made before the run is
+-- read. How many of them are whole is told where an output failed
+abbrev pub StopsAtRuns : Layout → Option (List ℕ) → Option (List ℕ) → List OnsetRun →
+    List (List ℕ) → ℕ → ℕ → Stop → Type 0
+StopsAtRuns l start rest runs names count whole (stop.Reading why) = IsOfReading why
+    × (((nth : ℕ) × (count ≡ nth + 1) × StopsAmong l start rest runs nth why)
+    ⊎ ((count ≡ length runs) × StopsAfter l start rest runs why))
+StopsAtRuns l start rest runs names count whole (stop.Output output) =
+    ComesToOutput l start runs names count whole output.now
+
+-- it stopped before a data record was read
+abbrev pub IsNotReread : Option (List ℕ) → OnsetListing → Stop → Type 0
+IsNotReread bytes plan (stop.Reading why) = IsOfReading why × ((why ≡ fault.Memory)
+    ⊎ ((rest : Option (List ℕ)) × IsNotReopened bytes rest plan.identity why))
+IsNotReread bytes plan (stop.Output output) = ⊥
+
+-- so it stopped, where no file was made, or later
+abbrev pub StopsRereading : Option (List ℕ) → OnsetListing → List (List ℕ) → ℕ → ℕ → Stop → Type 0
+StopsRereading bytes plan names count whole why =
+    ((count ≡ 0) × IsNotReread bytes plan why)
+    ⊎ ((l : Layout) × (start : Option (List ℕ)) × (rest : Option (List ℕ))
+    × ReadsAgain bytes start plan.identity l
+    × StopsAtRuns l start rest plan.runs.items names count whole why)
+
+-- how many calls of what makes files failed, of so many before
+abbrev pub failed_by : Stop → ℕ → ℕ
+failed_by (stop.Reading why) failed = failed
+failed_by (stop.Output output) failed = one_more failed

@@ -1,17 +1,16 @@
 -- What `split` does: the files that it makes, what it writes, and the status that it answers.
 use Rattle.std.specs.Prelude.{◌≡◌, ◌⊎◌, ℕ, ◌+◌, List, [], ◌∷◌, ◌++◌, Bool, true, All, Option, Some}
 use Rattle.std.specs.Prelude.{length, take}
-use Rattle.std.specs.List.{AllZip}
+use Rattle.std.specs.List.{flat_map, AllZip}
 use Rattle.edf_field.specs.Number.{duration_of}
 use Rattle.edf_header.specs.Key.{Key, MayStart}
 use Rattle.edf_header.specs.Header.{Layout}
-use Rattle.edf_fragment.specs.Failures.{one_more}
 use Rattle.edf_fragment.specs.Fragment.{DataRecord}
 use Rattle.edf_fragment.specs.Whole.{ReadsFragment}
-use Rattle.edf_program.specs.Output.{Growth, Gets, GetsFront, Explains}
+use Rattle.edf_program.specs.Output.{Growth, Gets, GetsFront, IsWritten, Explains}
 use Rattle.edf_program.specs.Text.{there_line}
 use Rattle.edf_program.specs.declared.status.Status.{Status}
-use Rattle.edf_program.specs.declared.status.Status.TheVariants.{Done, Refused}
+use Rattle.edf_program.specs.declared.status.Status.TheVariants.{Done, Refused, Trouble}
 use Rattle.edf_runs.specs.File.{IsRunFile}
 use Rattle.edf_runs.specs.KeptByOnset.{annotated_runs}
 use Rattle.edf_runs.specs.OnsetRead.{kept_of, starts_of}
@@ -20,19 +19,18 @@ use Rattle.edf_runs.specs.WrittenByOnset.{annotated, StartAs}
 use Rattle.edf_runs.specs.declared.joining.Joining.{Joining}
 use Rattle.edf_runs.specs.declared.onset_run.OnsetRun.{OnsetRun}
 use Rattle.edf_runs.specs.declared.onset_listing.OnsetListing.{OnsetListing}
-use Rattle.edf_runs.specs.declared.fault.WriteFault.{WriteFault}
 use Rattle.edf_new_files.specs.Made.{MadeFile, names_of}
 use Rattle.edf_new_files.specs.Making.{Making, MakesNothing}
-use Rattle.edf_new_files.specs.There.{IsVacant, MayBeThere}
+use Rattle.edf_new_files.specs.There.{There, IsVacant, MayBeThere}
 use Rattle.edf_new_files.specs.declared.new_files.FileStage.TheVariants.{Finished}
 use Rattle.edfruns_command.specs.Naming.{run_names, asked_names}
-use Rattle.edfruns_command.specs.Lines.{IsSpelling, undated_line, reread_line}
+use Rattle.edfruns_command.specs.Lines.{IsSpelling, undated_line, stop_line}
 use Rattle.edfruns_command.specs.Lines.{unwritten_line, standard_output}
 use Rattle.edfruns_command.specs.Counting.{split_lines}
-use Rattle.edfruns_command.specs.Made.{IsHalf, RemovesMade}
+use Rattle.edfruns_command.specs.Made.{IsHalf, IsOver, left_text}
 use Rattle.edfruns_command.specs.JoinedPlan.{HasJoinedPlan, LacksJoinedPlan, AreFiles, part_of}
-use Rattle.edfruns_command.specs.Writing.{ReadsAgain}
-use Rattle.edfruns_command.specs.Rereading.{IsOfReading, StopsRereading, ComesToOutput}
+use Rattle.edfruns_command.specs.Rereading.{StopsRereading, failed_by}
+use Rattle.edfruns_command.specs.declared.stop.Stop.{Stop}
 
 -- a file of the run was finished, with just these bytes where what is made is known
 pub record HasFinished (known : Bool) (k : Key) (run : List DataRecord) (whole : Bool)
@@ -68,25 +66,33 @@ WereFinished known k (run ∷ runs) [] = ⊥
 WereFinished known k (run ∷ runs) (made ∷ files) =
     WasFinished known k run made × WereFinished known k runs files
 
--- so it was with the first runs of those that were listed, so many
-pub record WereFirst (known : Bool) (k : Key) (listed : List OnsetRun) (count : ℕ)
-    (files : List MadeFile) : Type 0 where
+-- files of the first of these names were made, `count` of them; and of the first of the listed runs,
+-- `whole` of them, they were finished in turn
+pub record HasMade (m : Making) (names : List (List ℕ)) (k : Key) (listed : List OnsetRun)
+    (count whole : ℕ) : Type 0 where
+  pub files : List MadeFile
+  pub made : m.after ≡ m.before ++ files
+  pub named : names_of files ≡ take count names
   pub runs : List (List DataRecord)
-  pub are_listed : AllZip (IsKeptRun (duration_of k.duration)) runs (take count listed)
-  pub finished : WereFinished known k (annotated_runs runs (take count listed)) files
+  pub are_listed : AllZip (IsKeptRun (duration_of k.duration)) runs (take whole listed)
+  pub were : WereFinished m.known k (annotated_runs runs (take whole listed)) files
 
--- the file was read a second time to its end; these are its runs, or the data records that share a
--- file over short gaps, and of each just this was listed
-pub record RereadsRuns (joining : Option Joining) (bytes : Option (List ℕ)) (plan : OnsetListing) :
-    Type 0 where
+-- the file was read a second time to its end, and of each of these parts just this was listed
+pub record RereadsRuns (bytes : Option (List ℕ)) (plan : OnsetListing) : Type 0 where
   pub layout : Layout
   pub records : List DataRecord
   pub rest : Option (List ℕ)
   pub read : ReadsFragment bytes rest layout records
   pub same : layout.key ≡ plan.identity
   pub runs : List (List DataRecord)
-  pub are_runs : AreFiles joining (duration_of layout.key.duration) records runs
+  pub joined : flat_map (λ run. run) runs ≡ records
   pub listed : AllZip (IsKeptRun (duration_of layout.key.duration)) runs plan.runs.items
+
+-- the parts are its runs, or the data records that share a file over short gaps
+abbrev pub HaveFiles : {bytes : Option (List ℕ)} → {plan : OnsetListing} → Option Joining →
+    RereadsRuns bytes plan → Type 0
+HaveFiles joining again =
+    AreFiles joining (duration_of again.layout.key.duration) again.records again.runs
 
 -- the lines of the files of runs, which go out with the annotations that were kept of them, where
 -- any were
@@ -94,55 +100,80 @@ abbrev pub lines_of : (ℕ → List ℕ) → OnsetListing → List (List ℕ) �
 lines_of spell plan names runs = split_lines spell (duration_of plan.identity.duration) 1 names
     plan.runs.items (annotated_runs runs plan.runs.items)
 
-module _ (m : Making) (bytes : Option (List ℕ)) (plan : OnsetListing) (names : List (List ℕ)) where
-  -- of each run, in turn, a file was made that has the run's name, of its data records with the
-  -- annotations that were kept of them, where any were; no other was made
-  pub record MakesRuns (joining : Option Joining) : Type 0 where
-    pub again : RereadsRuns joining bytes plan
-    pub files : List MadeFile
-    pub made : m.after ≡ m.before ++ files
-    pub named : names_of files ≡ names
-    pub held : AllZip (HoldsRun m.known again.layout.key)
-        (annotated_runs again.runs plan.runs.items) files
+-- of each run, in turn, a file was made that has the run's name, of its data records with the
+-- annotations that were kept of them, where any were; no other was made
+pub record MakesRuns (m : Making) (bytes : Option (List ℕ)) (plan : OnsetListing)
+    (names : List (List ℕ)) : Type 0 where
+  pub again : RereadsRuns bytes plan
+  pub files : List MadeFile
+  pub made : m.after ≡ m.before ++ files
+  pub named : names_of files ≡ names
+  pub held : AllZip (HoldsRun m.known again.layout.key)
+      (annotated_runs again.runs plan.runs.items) files
+  pub unfailed : m.failed_after ≡ m.failed_before
+
+module _ (m : Making) (out err : Growth) (bytes : Option (List ℕ)) (name : List ℕ)
+    (joining : Option Joining) (plan : OnsetListing) (names : List (List ℕ)) (status : Status) where
+  -- of each run there is a file now, and each has its line
+  pub record SplitsFile : Type 0 where
+    pub makes : MakesRuns m bytes plan names
+    pub are_runs : HaveFiles joining makes.again
+    pub said : (spell : ℕ → List ℕ) → IsSpelling spell →
+        Gets out (lines_of spell plan names makes.again.runs)
+    pub silent : Gets err []
+    pub done : status ≡ Done
+
+  -- all were made, but the lines could not be written whole
+  pub record LacksLines (count whole : ℕ) (line : List ℕ) : Type 0 where
+    pub is_line : line ≡ unwritten_line standard_output
+    pub again : RereadsRuns bytes plan
+    pub are_runs : HaveFiles joining again
+    pub said : (spell : ℕ → List ℕ) → IsSpelling spell →
+        GetsFront out (lines_of spell plan names again.runs)
     pub unfailed : m.failed_after ≡ m.failed_before
+    pub all : (count ≡ length plan.runs.items) × (whole ≡ length plan.runs.items)
 
-  -- all were made, but the lines could not be written whole; so what was made was removed
-  pub record LacksLines (joining : Option Joining) (out err : Growth) (status : Status) : Type 0
-    where
-      pub again : RereadsRuns joining bytes plan
-      pub said : (spell : ℕ → List ℕ) → IsSpelling spell →
-          GetsFront out (lines_of spell plan names again.runs)
-      pub unfailed : m.failed_after ≡ m.failed_before
-      pub removes : RemovesMade m.before m.after err names (length plan.runs.items)
-          (unwritten_line standard_output) status
-      pub made : WereFirst m.known again.layout.key plan.runs.items (length plan.runs.items)
-          removes.files
-
-  -- one could not be made, written or ended, and those before it were finished; so what was made
-  -- was removed
-  pub record LacksOutput (out err : Growth) (status : Status) : Type 0 where
-    pub layout : Layout
-    pub start : Option (List ℕ)
-    pub again : ReadsAgain bytes start plan.identity layout
-    pub count : ℕ
-    pub output : List ℕ
-    pub comes : ComesToOutput layout start plan.runs.items names count output
-    pub failed : m.failed_after ≡ one_more m.failed_before
+  -- the file could not be read again, or memory ran out; or a file could not be made, written or
+  -- ended
+  pub record LacksFiles (count whole : ℕ) (line : List ℕ) : Type 0 where
+    pub why : Stop
+    pub is_line : line ≡ stop_line name why
+    pub stops : StopsRereading bytes plan names count whole why
     pub unsaid : Gets out []
-    pub removes : RemovesMade m.before m.after err names count (unwritten_line output) status
-    pub made : WereFirst m.known layout.key plan.runs.items comes.nth removes.files
+    pub failed : m.failed_after ≡ failed_by why m.failed_before
 
-  -- it could not be read again, or memory ran out; so what was made was removed
-  pub record LacksReading (out err : Growth) (name : List ℕ) (status : Status) : Type 0 where
-    pub why : WriteFault
-    pub is_why : IsOfReading why
+  -- so many files were made, those of the first runs, and at most one half; the removal of each was
+  -- tried, whatever else failed; a line says why, and one names each that is left
+  pub record GivesUp : Type 0 where
     pub count : ℕ
-    pub stops : StopsRereading bytes plan count why
-    pub unfailed : m.failed_after ≡ m.failed_before
-    pub unsaid : Gets out []
-    pub removes : RemovesMade m.before m.after err names count (reread_line name why) status
-    pub finished : ℕ
-    pub made : WereFirst m.known plan.identity plan.runs.items finished removes.files
+    pub whole : ℕ
+    pub has : HasMade m names plan.identity plan.runs.items count whole
+    pub over : All (λ (file : MadeFile). IsOver file.stage) has.files
+    pub line : List ℕ
+    pub said : IsWritten err (line ++ flat_map left_text has.files) Trouble status
+    pub why : LacksLines count whole line ⊎ LacksFiles count whole line
+
+  -- each run has its file, or none is left but those that are named
+  abbrev pub SplitsPlan : Type 0
+  SplitsPlan = SplitsFile ⊎ GivesUp
+
+-- of some names this one may be taken, and none before it is
+pub record IsTaken (there : There) (names : List (List ℕ)) (found : List ℕ) : Type 0 where
+  pub front : List (List ℕ)
+  pub later : List (List ℕ)
+  pub parts : names ≡ front ++ (found ∷ later)
+  pub free : All (IsVacant there) front
+  pub taken : MayBeThere there found
+
+-- the run of this number is the first whose start no header can name
+pub record IsUndated (plan : OnsetListing) (number : ℕ) : Type 0 where
+  pub front : List OnsetRun
+  pub run : OnsetRun
+  pub later : List OnsetRun
+  pub parts : plan.runs.items ≡ front ++ (run ∷ later)
+  pub dated : All (λ (earlier : OnsetRun). MayStart plan.identity earlier.run.first) front
+  pub undated : ¬ MayStart plan.identity run.run.first
+  pub number_is : number ≡ length front + 1
 
 module _ (m : Making) (out err : Growth) (bytes : Option (List ℕ)) (name prefix : List ℕ)
     (by_onset : Bool) (joining : Option Joining) (status : Status) where
@@ -153,49 +184,26 @@ module _ (m : Making) (out err : Growth) (bytes : Option (List ℕ)) (name prefi
     pub dated : All (λ (run : OnsetRun). MayStart plan.identity run.run.first) plan.runs.items
     pub free : All (IsVacant m.there) (asked_names prefix (length plan.runs.items))
 
-  -- of each run there is a file now, and each has its line
-  pub record SplitsFile (plan : OnsetListing) : Type 0 where
-    pub makes : MakesRuns m bytes plan (run_names prefix (length plan.runs.items)) joining
-    pub said : (spell : ℕ → List ℕ) → IsSpelling spell → Gets out
-        (lines_of spell plan (run_names prefix (length plan.runs.items)) makes.again.runs)
-    pub silent : Gets err []
-    pub done : status ≡ Done
-
-  -- or files could not be made of all runs, or not be told
-  abbrev pub GivesUp : OnsetListing → Type 0
-  GivesUp plan =
-      let names = run_names prefix (length plan.runs.items) in
-      LacksLines m bytes plan names joining out err status
-      ⊎ (LacksOutput m bytes plan names out err status
-      ⊎ LacksReading m bytes plan names out err name status)
-
   -- each run has a start that a header can name, and there is something of one of the names that
   -- are asked for, and of none before it
   pub record FindsName : Type 0 where
     pub plan : OnsetListing
     pub has : HasJoinedPlan joining by_onset bytes plan
     pub dated : All (λ (run : OnsetRun). MayStart plan.identity run.run.first) plan.runs.items
-    pub front : List (List ℕ)
     pub found : List ℕ
-    pub later : List (List ℕ)
-    pub parts : asked_names prefix (length plan.runs.items) ≡ front ++ (found ∷ later)
-    pub free : All (IsVacant m.there) front
-    pub taken : MayBeThere m.there found
+    pub taken : IsTaken m.there (asked_names prefix (length plan.runs.items)) found
     pub said : Explains out err (there_line found) Refused status
 
   -- no header can name when a run starts, and that is the first such, whatever is there
   pub record LacksDate : Type 0 where
     pub plan : OnsetListing
     pub has : HasJoinedPlan joining by_onset bytes plan
-    pub front : List OnsetRun
-    pub run : OnsetRun
-    pub later : List OnsetRun
-    pub parts : plan.runs.items ≡ front ++ (run ∷ later)
-    pub dated : All (λ (earlier : OnsetRun). MayStart plan.identity earlier.run.first) front
-    pub undated : ¬ MayStart plan.identity run.run.first
-    pub said : Explains out err (undated_line (part_of joining) (length front + 1)) Refused status
+    pub number : ℕ
+    pub undated : IsUndated plan number
+    pub said : Explains out err (undated_line (part_of joining) number) Refused status
 
   abbrev pub IsSplit : Type 0
-  IsSplit = ((plan : OnsetListing) × IsReady plan × (SplitsFile plan ⊎ GivesUp plan))
+  IsSplit = ((plan : OnsetListing) × IsReady plan × SplitsPlan m out err bytes name joining plan
+      (run_names prefix (length plan.runs.items)) status)
       ⊎ (MakesNothing m × (FindsName ⊎ (LacksDate
       ⊎ LacksJoinedPlan out err bytes name status joining by_onset)))

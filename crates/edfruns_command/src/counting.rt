@@ -5,15 +5,14 @@ ghost use Rattle.std.specs.Prelude.{option_map, slice_get};
 ghost use Rattle.edf_field.specs.Number.{duration_of};
 ghost use Rattle.edf_program.specs.Output.{growth, IsWritten};
 ghost use Rattle.edf_runs.specs.AsRead.{runs_of};
-ghost use Rattle.edfruns_command.specs.Counting.{run_front, counts_text, file_front};
-ghost use Rattle.edfruns_command.specs.Counting.{shifted_text};
-ghost use Rattle.edfruns_command.specs.Lines.{IsSpelling};
+ghost use Rattle.edfruns_command.specs.Counting.{counts_text, file_front, shifted_text};
+ghost use Rattle.edfruns_command.specs.Lines.{IsSpelling, run_front};
 
-use crate::lines::gap_text;
+use crate::lines::line_front;
 use crate::refusal::STANDARD_OUTPUT;
 use edf_field::MOST_DURATION;
 use edf_fragment::{Output, Remark};
-use edf_program::{Status, joined, spelled, tell_parts};
+use edf_program::{Status, concat, tell_parts};
 use edf_runs::{OnsetListing, OnsetRun, Run, Written};
 use edf_time::write_seconds;
 use itoa::Buffer;
@@ -29,35 +28,7 @@ fn run_at(runs: &[OnsetRun], at: usize) -> Option<&Run>
     }
 }
 
-/// The line of a run up to its counts: its number, how many data records it has, the start of the
-/// first, its length in seconds, and the gap before the next run, if there is one.
-fn run_front(
-    alloc: Global,
-    duration: u64,
-    number: usize,
-    run: &Run,
-    next: Option<&Run>,
-) -> Result<Vec<u8>, AllocError>
-    requires { duration ≤ MOST_DURATION }
-    ensures { IfOk result (λ r. (spell : ℕ → List ℕ) → IsSpelling spell → r.items
-        ≡ run_front spell duration number run.now (option_map (λ run. run.now) next.entry)) }
-{
-    let (records, end) = (run.records(), run.last().nanos() + duration);
-    let counts = format!(in alloc; "{number} records={records} first=")?;
-    let first = spelled(alloc, run.first())?;
-    let seconds = write_seconds(alloc, end.saturating_sub(run.first().nanos()))?;
-    let gap = gap_text(alloc, end, next)?;
-    let parts = [
-        counts.as_bytes(),
-        first.as_slice(),
-        b" seconds=",
-        seconds.as_slice(),
-        gap.as_slice(),
-    ];
-    joined(alloc, &parts)
-}
-
-/// The same of the run of that number of a file, from 1.
+/// How the line of a file's run of that number begins, from 1.
 pub(crate) fn front_of_run(
     alloc: Global,
     plan: &OnsetListing,
@@ -70,7 +41,8 @@ pub(crate) fn front_of_run(
 {
     let duration = plan.identity.duration();
     let next = run_at(&plan.runs, number as usize);
-    run_front(alloc, duration, number as usize, run, next)
+    let records = u128::from(run.records());
+    line_front(alloc, duration, number as usize, records, run, run, next)
 }
 
 /// ` shifted=S`: how many seconds the last data record of a file is moved, where they are.
@@ -81,7 +53,7 @@ fn shifted_text(alloc: Global, run: &OnsetRun) -> Result<Vec<u8>, AllocError>
         return Ok(Vec::new(alloc));
     };
     let seconds = write_seconds(alloc, shift)?;
-    joined(alloc, &[b" shifted=".as_slice(), seconds.as_slice()])
+    concat(alloc, &[b" shifted=".as_slice(), seconds.as_slice()])
 }
 
 /// How many annotations a file has, and how many of these have an onset outside of the run.
@@ -92,39 +64,8 @@ fn counts_text(alloc: Global, written: &Written) -> Result<Vec<u8>, AllocError>
     Ok(format!(in alloc; " annotations={annotations} outside={outside}\n")?.into_bytes())
 }
 
-/// The line of a file that was written, after the file's name and a space. Its run is the one at
-/// this place, from 0.
-fn file_line(
-    alloc: Global,
-    duration: u64,
-    name: &str,
-    runs: &[OnsetRun],
-    at: usize,
-    run: &OnsetRun,
-    written: &Written,
-) -> Result<Vec<u8>, AllocError>
-    requires duration { duration ≤ MOST_DURATION }
-    requires within { at + 1 ≤ length runs.now }
-    ensures { IfOk result (λ r. (spell : ℕ → List ℕ) → IsSpelling spell →
-        r.items ≡ name.now ++ (codes " " ++ (file_front spell duration (at + 1) run.now
-        (slice_get (runs_of runs.now) (at + 1))
-        ++ counts_text written.now.annotations written.now.outside))) }
-{
-    let of_run = run.in_recording();
-    let front = run_front(alloc, duration, at + 1, &of_run, run_at(runs, at + 1))?;
-    let shifted = shifted_text(alloc, run)?;
-    let counts = counts_text(alloc, written)?;
-    let parts = [
-        name.as_bytes(),
-        b" ",
-        front.as_slice(),
-        shifted.as_slice(),
-        counts.as_slice(),
-    ];
-    joined(alloc, &parts)
-}
-
-/// A text with that line behind it.
+/// A text and, behind it, the line of a file that was written, after the file's name and a space.
+/// Its run is the one at this place, from 0.
 pub(crate) fn with_line(
     alloc: Global,
     mut text: Vec<u8>,
@@ -142,7 +83,20 @@ pub(crate) fn with_line(
         (slice_get (runs_of runs.now) (at + 1))
         ++ counts_text written.now.annotations written.now.outside)))) }
 {
-    let line = file_line(alloc, duration, name, runs, at, run, written)?;
+    let of_run = run.in_recording();
+    let records = u128::from(of_run.records());
+    let next = run_at(runs, at + 1);
+    let front = line_front(alloc, duration, at + 1, records, &of_run, &of_run, next)?;
+    let shifted = shifted_text(alloc, run)?;
+    let counts = counts_text(alloc, written)?;
+    let parts = [
+        name.as_bytes(),
+        b" ",
+        front.as_slice(),
+        shifted.as_slice(),
+        counts.as_slice(),
+    ];
+    let line = concat(alloc, &parts)?;
     text.extend_from_slice(line.as_slice())?;
     Ok(text)
 }

@@ -8,9 +8,9 @@ ghost use Rattle.edfruns_command.specs.Joining.{AreSeen, end_text, group_line, g
 ghost use Rattle.edfruns_command.specs.Joining.{each_line, records_of};
 ghost use Rattle.edfruns_command.specs.Lines.{IsSpelling, end_of};
 
-use crate::lines::{gap_text, run_at};
+use crate::lines::{line_front, run_at};
 use edf_field::MOST_DURATION;
-use edf_program::{joined, spelled};
+use edf_program::concat;
 use edf_runs::{Listing, Run};
 use edf_time::write_seconds;
 use std::alloc::{AllocError, Global};
@@ -78,12 +78,10 @@ fn end_text(
     };
     let joins = format!(in alloc; " joined={gaps} missing=")?;
     let seconds = write_seconds(alloc, missing)?;
-    joined(alloc, &[joins.as_bytes(), seconds.as_slice()])
+    concat(alloc, &[joins.as_bytes(), seconds.as_slice()])
 }
 
-/// The line of some runs: its number, how many data records they have, the start of the first, the
-/// seconds from there to the end of the last, the gap before the next run, if there is one, and
-/// what was joined.
+/// The line of some runs: how it begins, and what was joined.
 fn group_line(
     alloc: Global,
     most: Option<u64>,
@@ -100,26 +98,13 @@ fn group_line(
     if group.is_empty() {
         return Ok(Vec::new(alloc));
     }
-    let (run, last) = (&group[0], &group[group.len() - 1]);
+    let (first, last) = (&group[0], &group[group.len() - 1]);
     let records = records_in(group);
-    let end = last.last().nanos() + duration;
-    let span = end.saturating_sub(run.first().nanos());
-    let counts = format!(in alloc; "{number} records={records} first=")?;
-    let first = spelled(alloc, run.first())?;
-    let seconds = write_seconds(alloc, span)?;
-    let gap = gap_text(alloc, end, next)?;
+    let span = (last.last().nanos() + duration).saturating_sub(first.first().nanos());
     let missing = missing_in(span, records, duration);
+    let front = line_front(alloc, duration, number, records, first, last, next)?;
     let told = end_text(alloc, most, group.len() - 1, missing)?;
-    let parts = [
-        counts.as_bytes(),
-        first.as_slice(),
-        b" seconds=",
-        seconds.as_slice(),
-        gap.as_slice(),
-        told.as_slice(),
-        b"\n",
-    ];
-    joined(alloc, &parts)
+    concat(alloc, &[front.as_slice(), told.as_slice(), b"\n"])
 }
 
 /// The lines of a file's runs, in time order, each after the label.
@@ -149,8 +134,8 @@ pub(crate) fn list_text(
     Ok(text)
 }
 
-/// The lines of a file's runs without a label, a line for each run.
-pub(crate) fn each_text(alloc: Global, listing: &Listing) -> Result<Vec<u8>, AllocError>
+/// A line for each of a file's runs, in time order.
+pub fn runs_text(alloc: Global, listing: &Listing) -> Result<Vec<u8>, AllocError>
     ensures { IfOk result (λ r. (spell : ℕ → List ℕ) → IsSpelling spell → r.items
         ≡ each_line spell (duration_of listing.now.identity.duration) listing.now.runs.items) }
 {

@@ -5,8 +5,8 @@
 //!   written. [`parse`]: the words, read, and nothing else.
 //! - [`run_runs`]: one command, over what opens files (`edf_program`'s `Inputs`) and what makes
 //!   them (`edf_new_files`' `NewFiles`).
-//! - [`laws`]: runs have groups that share a line, and no others; the lines of a picture are those
-//!   of `list`. Each function does nothing: its contract is a law.
+//! - [`laws`]: runs have groups that share a line, and no others; a run alone has its own line. Each
+//!   function does nothing: its contract is a law.
 //! - [`runs_text`]: the lines of runs that were listed; [`Sight`]: what a picture shows of a
 //!   recording, data record by data record, and the picture.
 #![tactic(auto)]
@@ -34,6 +34,6 @@ mod tolerance;
 mod write_command;
 
 pub use arguments::{parse, read_command};
-pub use lines::runs_text;
+pub use joining::runs_text;
 pub use runs_command::{RunsCommand, run_runs};
 pub use sight::Sight;

@@ -19,7 +19,7 @@ use crate::runs_command::RunsCommand;
 use crate::tolerance::{read_tolerance, tolerance_option};
 use clap::{Arg, ArgAction, ArgMatches, Command};
 use edf_fragment::{FragmentFault, Output, send};
-use edf_program::{CommandFault, Inputs, Status, joined, tell_memory, worse};
+use edf_program::{CommandFault, Inputs, Status, concat, tell_memory, worse};
 use edf_runs::{Listing, list_runs};
 use std::alloc::{AllocError, Global};
 
@@ -118,7 +118,7 @@ fn file_label(alloc: Global, file: &str, several: bool) -> Result<Vec<u8>, Alloc
     ensures { IfOk result (λ r. r.items ≡ file_label several file.now) }
 {
     if several {
-        joined(alloc, &[file.as_bytes(), b" "])
+        concat(alloc, &[file.as_bytes(), b" "])
     } else {
         Ok(Vec::new(alloc))
     }

@@ -9,8 +9,7 @@ ghost use Rattle.edfruns_command.specs.Lines.{file_refused_line, file_refused_st
 ghost use Rattle.edfruns_command.specs.Lines.{no_run_line, left_line, undated_line};
 ghost use Rattle.edfruns_command.specs.Lines.{crowded_line};
 ghost use Rattle.edfruns_command.specs.Lines.{run_refused_line, run_refused_status};
-ghost use Rattle.edfruns_command.specs.Lines.{reread_line, unwritten_line};
-ghost use Rattle.edfruns_command.specs.InsideSplit.{stop_line};
+ghost use Rattle.edfruns_command.specs.Lines.{reread_line, stop_line, unwritten_line};
 
 use crate::stop::Stop;
 use edf_fragment::{FragmentFault, Output, Remark};

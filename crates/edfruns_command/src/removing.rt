@@ -4,7 +4,8 @@ ghost use Rattle.std.specs.Prelude.{◌≡◌, ◌-◌, ◌≤◌, ◌++◌, ◌
 ghost use Rattle.std.specs.Prelude.{drop, take};
 ghost use Rattle.edf_program.specs.Output.{growth};
 ghost use Rattle.edf_new_files.specs.Made.{MadeFile, names_of};
-ghost use Rattle.edfruns_command.specs.InsideSplit.{RemovesOne, RemovesFrom, stop_line};
+ghost use Rattle.edfruns_command.specs.InsideSplit.{RemovesOne, RemovesFrom};
+ghost use Rattle.edfruns_command.specs.Lines.{stop_line};
 
 use crate::refusal::{is_left_told, is_stop_told};
 use crate::stop::Stop;

@@ -115,8 +115,8 @@ impl RunsCommand {
 /// write failed, which a line tells, or nothing where memory ran out. `Split` leaves all its files
 /// where it is done, and else none but those that it names as not removed; the lines of files that
 /// were removed may have gone out, where writing them failed. The clauses say what `List`, `Write`,
-/// `Canonical` and `Split` do, and of `Picture` all but what the picture shows beside its title, its
-/// times and its figures.
+/// `Canonical` and `Split` do, and of `Picture` all but what the picture shows beside its title,
+/// its times and its figures.
 pub fn run_runs<I: Inputs, P: NewFiles, O: Output, F: Output>(
     alloc: Global,
     command: &RunsCommand,

@@ -9,19 +9,19 @@ ghost use Rattle.edf_tal.specs.Tal.{Annotation};
 ghost use Rattle.edf_program.specs.Text.{IsSpelling};
 ghost use Rattle.edf_sleep.specs.Account.{IsAccount, night_of};
 ghost use Rattle.edf_sleep.specs.FigureLines.{HasFigures};
-ghost use Rattle.edf_sleep.specs.Night.{Night, IsSound, span_of};
+ghost use Rattle.edf_sleep.specs.Night.{Night, AreOfFile, span_of};
 ghost use Rattle.edfruns_command.specs.Picturing.{AreNoted, IsNoted, IsPictureOf};
 ghost use Rattle.edfruns_command.specs.Picturing.{named_of, run_time};
 ghost use Rattle.edf_picture.specs.Picture.{named_by};
 ghost use Rattle.edfruns_command.specs.InsidePicture.{HasText};
 
-use crate::joining::each_text;
+use crate::joining::runs_text;
 use crate::signals::signals_in;
 use edf_field::MOST_DURATION;
 use edf_fragment::Record;
 use edf_header::Identity;
 use edf_picture::{Joined, Recorded, Stretch, Title, draw};
-use edf_program::{joined, spelled};
+use edf_program::{concat, spelled};
 use edf_runs::{Listing, Run, add_record};
 use edf_sleep::{Account, Extent, Note, are_sound};
 use edf_time::Instant;
@@ -201,7 +201,7 @@ fn account_of<'a>(
 ) -> Result<Account<'a>, AllocError>
     ensures account { IfOk result (λ a. IsAccount a) }
     ensures told { let night : Night = record { notes = notes.now; runs = times.now } in
-        IfOk result (λ a. IsSound notes.now times.now → night_of a ≡ night) }
+        IfOk result (λ a. AreOfFile notes.now times.now → night_of a ≡ night) }
 {
     if are_sound(notes, times) {
         Account::of(alloc, notes, times)
@@ -256,9 +256,9 @@ fn text_of(alloc: Global, listing: &Listing, account: &Account<'_>) -> Result<Ve
     ensures { IfOk result (λ r. (spell : ℕ → List ℕ) → IsSpelling spell → HasText spell
         listing.now.identity listing.now.runs.items (night_of account.now) r.items) }
 {
-    let runs = each_text(alloc, listing)?;
+    let runs = runs_text(alloc, listing)?;
     let figures = figures_of(alloc, account)?;
-    joined(alloc, &[runs.as_slice(), figures.as_slice()])
+    concat(alloc, &[runs.as_slice(), figures.as_slice()])
 }
 
 /// The picture of runs and annotations, with the lines of the runs and of the figures as text.

@@ -7,10 +7,10 @@ ghost use Rattle.edf_program.specs.Output.{growth};
 ghost use Rattle.edf_runs.specs.declared.onset_run.OnsetRun.{OnsetRun as PlannedRun};
 ghost use Rattle.edf_new_files.specs.Making.{making};
 ghost use Rattle.edf_new_files.specs.There.{IsVacant};
-ghost use Rattle.edfruns_command.specs.InsideSplit.{IsTaken, IsUndated, SplitsListed};
+ghost use Rattle.edfruns_command.specs.InsideSplit.{SplitsListed};
 ghost use Rattle.edfruns_command.specs.Listing.{OpensAgain};
 ghost use Rattle.edfruns_command.specs.Naming.{asked_names};
-ghost use Rattle.edfruns_command.specs.Splitting.{IsSplit};
+ghost use Rattle.edfruns_command.specs.Splitting.{IsSplit, IsTaken, IsUndated};
 
 use crate::arguments::{refuse_stream, required_value, twice_read_file_value, value_in};
 use crate::counting::remark_outside;

@@ -4,7 +4,7 @@ use Rattle.edf_serve.proofs.Totalling.{overview-of, last-of, heard-of}
 use Rattle.edf_serve.proofs.overview.overview_line.Goals as goal
 
 pub returns : goal.returns
-returns c = IfOk-weaker c.joined.result _ _ (λ r line spell is.
+returns c = IfOk-weaker c.concat.result _ _ (λ r line spell is.
     overview-of spell c.args.totals c.args.counts c.args.heard c.as_slice-3.result.now
     c.as_bytes.result.now c.as_bytes-2.result.now c.as_slice-4.result.now c.as_bytes-3.result.now
     c.as_bytes-4.result.now c.as_slice-5.result.now r.items c.as_slice-3.ensures
@@ -16,4 +16,4 @@ returns c = IfOk-weaker c.joined.result _ _ (λ r line spell is.
     (c.as_bytes-4.ensures.value ∙ c.in_ok-warned.ensures.ok)
     (c.as_slice-5.ensures.value ∙ (c.in_ok-heard.ensures spell is
     ∙ heard-of spell c.as_slice-2.result.now c.args.heard c.as_slice-2.ensures))
-    line) c.joined.ensures
+    line) c.concat.ensures

@@ -39,14 +39,16 @@ returns-in-Err-finish-clause-answer g c =
     let ended = c.in-Err-finish.ensures.made (g.P.NewFiles.made c.args.outputs.now)
     c.args.name.now c.in-Ok.ensures.made in
     record {
-      is_output = refl;
-      made = inr (record {
-        part = unnamed c.args.name.now _ (g.P.Writer.Output.contents c.write_by_onset.new.out)
-            ended.0;
-        behind = ended.1;
-        named = refl;
-        is_half = refl;
-      });
+      stops = (
+        refl,
+        inr (record {
+          part = unnamed c.args.name.now _ (g.P.Writer.Output.contents c.write_by_onset.new.out)
+              ended.0;
+          behind = ended.1;
+          named = refl;
+          is_half = refl;
+        }),
+      );
       failed = c.in-Err-finish.ensures.failed ∙ ap one_more c.in-Ok.ensures.failed;
     }
 

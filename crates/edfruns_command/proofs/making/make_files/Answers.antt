@@ -1,4 +1,5 @@
 use Rattle.std.proofs.Common.{ℕ, List, ◌∙◌, ap, sym, subst, refl, length, map, string_bytes}
+use Rattle.std.proofs.Common.{inl, inr}
 use Rattle.std.specs.Prelude.{Option}
 use Rattle.std.proofs.lemmas.List.{length-map}
 use Rattle.std.proofs.lemmas.Result.{err_from_is_err_and}
@@ -8,28 +9,31 @@ use Rattle.edf_header.specs.Header.{Layout}
 use Rattle.edf_fragment.specs.Reading.{ReadsHeader}
 use Rattle.edf_runs.specs.Again.{IsNotReopened}
 use Rattle.edf_runs.specs.declared.onset_run.OnsetRun.{OnsetRun}
+use Rattle.edf_runs.specs.declared.fault.WriteFault.TheVariants.{Memory}
 use Rattle.edf_new_files.specs.Making.{making}
 use Rattle.edfruns_command.specs.Writing.{ReadsAgain}
 use Rattle.edfruns_command.specs.InsideMaking.{MakesFirst, StopsEach, IsAtEnd, StopsAtEnd}
 use Rattle.edf_program.proofs.Opened.{opened-once}
-use Rattle.edfruns_command.proofs.Rereads.{not-opened, not-reopened, stops-making, stops-after}
+use Rattle.edfruns_command.proofs.Rereads.{not-begun, of-reading, stops-making, stops-after}
 use Rattle.edfruns_command.proofs.Rereads.{all-made, rereads-with}
 use Rattle.edfruns_command.proofs.making.make_files.Goals as goal
 
 pub returns-in_default-clause-answer : goal.returns-in_default-clause-answer
 returns-in_default-clause-answer g c =
-    not-opened (making g.P.NewFiles c.args.outputs.now c.args.outputs.now)
+    not-begun (making g.P.NewFiles c.args.outputs.now c.args.outputs.now)
     (g.I.Inputs.bytes c.args.inputs.now c.args.file.now) c.args.plan.now
-    (map string_bytes c.args.names.now) refl refl
+    (map string_bytes c.args.names.now) refl refl Memory (tt, inl refl)
 
 pub returns-in-Err-clause-answer : goal.returns-in-Err-clause-answer
 returns-in-Err-clause-answer g c =
+    let bytes = g.I.Inputs.bytes c.args.inputs.now c.args.file.now in
     let rest = g.I.Reader.Input.remaining c.reopen_by_onset.new.input in
-    not-reopened (making g.P.NewFiles c.args.outputs.now c.args.outputs.now)
-    (g.I.Inputs.bytes c.args.inputs.now c.args.file.now) c.args.plan.now
-    (map string_bytes c.args.names.now) refl refl rest c.in-Err.fault
-    (subst (λ (b : Option (List ℕ)). IsNotReopened b rest c.args.plan.now.identity
-    c.in-Err.fault) c.in-Ok.ensures.reader c.in-Err.ensures.answer)
+    let key = c.args.plan.now.identity in
+    let not = subst (λ (b : Option (List ℕ)). IsNotReopened b rest key c.in-Err.fault)
+    c.in-Ok.ensures.reader c.in-Err.ensures.answer in
+    not-begun (making g.P.NewFiles c.args.outputs.now c.args.outputs.now) bytes c.args.plan.now
+    (map string_bytes c.args.names.now) refl refl c.in-Err.fault
+    (of-reading bytes rest key c.in-Err.fault not, inr (rest, not))
 
 pub returns-in_err-lines-clause-answer : goal.returns-in_err-lines-clause-answer
 returns-in_err-lines-clause-answer g c =

@@ -4,7 +4,7 @@ use Rattle.std.proofs.lemmas.List.{length-map, length-take, length-take-le, leng
 use Rattle.std.proofs.lemmas.List.{get_or-take}
 use Rattle.edf_program.specs.Output.{growth}
 use Rattle.edf_new_files.specs.Made.{MadeFile, begun}
-use Rattle.edfruns_command.specs.InsideSplit.{stop_line}
+use Rattle.edfruns_command.specs.Lines.{stop_line}
 use Rattle.edfruns_command.proofs.Removals.{RemovedSoFar, nth, next-there, next-place}
 use Rattle.edfruns_command.proofs.Removals.{removes-more, removes-all, removes-none}
 use Rattle.edfruns_command.proofs.removing.give_up.Goals as goal

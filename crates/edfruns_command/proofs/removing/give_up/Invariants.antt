@@ -1,6 +1,6 @@
 use Rattle.std.proofs.Common.{◌≡◌, ◌-◌, ◌≤◌, drop, take}
 use Rattle.edf_program.specs.Output.{growth}
-use Rattle.edfruns_command.specs.InsideSplit.{stop_line}
+use Rattle.edfruns_command.specs.Lines.{stop_line}
 use Rattle.edfruns_command.proofs.Removals.{RemovedSoFar}
 use Rattle.edfruns_command.proofs.removing.give_up.Given as goal
 

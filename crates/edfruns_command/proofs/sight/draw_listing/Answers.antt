@@ -5,7 +5,7 @@ use Rattle.edf_picture.specs.Picture.{IsPicture, Named, drawn_words, named_by}
 use Rattle.edf_runs.specs.declared.run.Run.{Run}
 use Rattle.edf_sleep.specs.Account.{night_of}
 use Rattle.edf_sleep.specs.FigureLines.{HasFigures}
-use Rattle.edf_sleep.specs.Night.{Night, IsSound}
+use Rattle.edf_sleep.specs.Night.{Night, AreOfFile}
 use Rattle.edf_sleep.specs.declared.account.Account.{Account}
 use Rattle.edf_sleep.specs.declared.extent.Extent.{Extent}
 use Rattle.edf_sleep.specs.declared.note.Note.{Note}
@@ -16,12 +16,12 @@ use Rattle.edfruns_command.proofs.sight.draw_listing.Goals as goal
 -- what an account of sound notes and times has
 figures-of : (spell : ℕ → List ℕ) (account : Account) (notes : List Note)
     (given times : List Extent) (onset figures : List ℕ) → given ≡ times →
-    (IsSound notes given → night_of account ≡ record { notes = notes; runs = given }) →
+    (AreOfFile notes given → night_of account ≡ record { notes = notes; runs = given }) →
     HasFigures spell (night_of account).notes (night_of account).runs figures →
-    IsSound notes times → HasFiguresOf spell notes times onset
+    AreOfFile notes times → HasFiguresOf spell notes times onset
     (drawn_words onset (night_of account).notes (night_of account).runs) figures
 figures-of spell account notes given times onset figures same told has sound =
-    let night = subst (λ (ts : List Extent). IsSound notes ts →
+    let night = subst (λ (ts : List Extent). AreOfFile notes ts →
     night_of account ≡ record { notes = notes; runs = ts }) same told sound in
     record {
       told = subst (λ (n : Night). HasFigures spell n.notes n.runs figures) night has;

@@ -10,10 +10,10 @@ joined-lines text first second runs figures parts first-is second-is = parts
     ∙ ap (λ (t : List ℕ). t ++ second) first-is ∙ ap (λ (t : List ℕ). runs ++ t) second-is
 
 pub returns : goal.returns
-returns c = IfOk-weaker c.joined.result _ _ (λ r is spell spelled. (
+returns c = IfOk-weaker c.concat.result _ _ (λ r is spell spelled. (
   c.in_ok-figures.figures.items,
   c.in_ok-figures.ensures spell spelled,
   joined-lines r.items c.as_slice.result.now c.as_slice-2.result.now _
       c.in_ok-figures.figures.items is
       (c.as_slice.ensures.value ∙ c.in_ok-runs.ensures spell spelled) c.as_slice-2.ensures.value,
-)) c.joined.ensures
+)) c.concat.ensures

@@ -18,7 +18,8 @@ use Rattle.edf_program.proofs.Undone.{refused-undone, trouble-undone}
 use Rattle.edfruns_command.proofs.Answered.{plan-undone}
 use Rattle.edfruns_command.proofs.Answered.{lacks-joined-plan}
 use Rattle.edfruns_command.proofs.GivingUp.{take-front}
-use Rattle.edfruns_command.proofs.Splits.{splits, as-before, names-count}
+use Rattle.edfruns_command.specs.Splitting.{IsTaken}
+use Rattle.edfruns_command.proofs.Splits.{as-before, names-count}
 use Rattle.edfruns_command.proofs.split_command.split.Goals as goal
 
 pub returns-in-Err-clause-split : goal.returns-in-Err-clause-split
@@ -55,26 +56,18 @@ returns-in_default-clause-opened g c = opened-first _ _ _ _ c.in-Ok.ensures.open
 
 pub returns-in-Some-clause-split : goal.returns-in-Some-clause-split
 returns-in-Some-clause-split g c =
-    let u = c.in-Some.ensures in
     inr (
       (refl, refl),
       inr (inl (record {
         plan = c.in-Ok.plan;
         has = c.in-Ok.ensures.answer;
-        front = u.front;
-        run = u.run;
-        later = u.later;
-        parts = u.parts;
-        dated = u.dated;
-        undated = u.undated;
+        number = c.in-Some.number;
+        undated = c.in-Some.ensures;
         said = (
           nothing-gets (g.O.Output.contents c.args.out.now) (g.O.Output.failures c.args.out.now),
           subst (λ part. IsWritten (growth g.F.Output c.args.err.now c.tell_undated.new.err)
-              (undated_line part (length u.front + 1)) Refused c.tell_undated.result)
-              c.part_of-part.ensures
-              (subst (λ n. IsWritten (growth g.F.Output c.args.err.now c.tell_undated.new.err)
-              (undated_line c.part_of-part.result.now n) Refused c.tell_undated.result) u.number_is
-              c.tell_undated.ensures),
+              (undated_line part c.in-Some.number) Refused c.tell_undated.result)
+              c.part_of-part.ensures c.tell_undated.ensures,
         );
       })),
     )
@@ -85,21 +78,18 @@ returns-in-Some-clause-opened g c = opened-first _ _ _ _ c.in-Ok.ensures.opened
 
 pub returns-in-Some-taken_name-clause-split : goal.returns-in-Some-taken_name-clause-split
 returns-in-Some-taken_name-clause-split g c =
-    let t = c.in-Some-taken_name.ensures.answer in
     inr (
       (c.in-Some-taken_name.ensures.made, c.in-Some-taken_name.ensures.failed),
       inl (record {
         plan = c.in-Ok.plan;
         has = c.in-Ok.ensures.answer;
         dated = c.in_default-undated_run.ensures;
-        front = t.front;
         found = c.in-Some-taken_name.name.now;
-        later = t.later;
-        parts = sym (c.in-Ok-asked_names.ensures ∙ ap (λ (rs : List OnsetRun). asked_names c.args.prefix.now
-            (length rs)) c.as_slice.ensures.value)
-            ∙ ap (map string_bytes) (sym c.deref.ensures.value) ∙ t.parts;
-        free = t.free;
-        taken = t.taken;
+        taken = subst (λ (ns : List (List ℕ)). IsTaken (g.P.NewFiles.there c.args.outputs.now) ns
+            c.in-Some-taken_name.name.now) (ap (map string_bytes) c.deref.ensures.value
+            ∙ c.in-Ok-asked_names.ensures ∙ ap (λ (rs : List OnsetRun).
+            asked_names c.args.prefix.now (length rs)) c.as_slice.ensures.value)
+            c.in-Some-taken_name.ensures.answer;
         said = (
           nothing-gets (g.O.Output.contents c.args.out.now) (g.O.Output.failures c.args.out.now),
           c.tell_there.ensures,
@@ -187,8 +177,7 @@ returns-clause-split g c =
             (length rs)) c.as_slice.ensures.value))
             c.in_default-taken_name.ensures.answer;
       },
-      splits bytes plan c.args.is_by_onset c.args.joining c.in-Ok.ensures.answer m out err name
-          prefix status done,
+      done c.args.joining c.args.is_by_onset c.in-Ok.ensures.answer,
     )
 
 pub returns-clause-opened : goal.returns-clause-opened

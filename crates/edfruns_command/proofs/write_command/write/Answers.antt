@@ -7,7 +7,7 @@ use Rattle.edf_program.specs.declared.status.Status.TheVariants.{Done}
 use Rattle.edf_runs.specs.AsRead.{runs_of}
 use Rattle.edf_runs.specs.Counted.{AreCounted}
 use Rattle.edf_runs.specs.declared.run.Run.{Run}
-use Rattle.edfruns_command.specs.Counting.{run_front}
+use Rattle.edfruns_command.specs.Lines.{run_front}
 use Rattle.edf_runs.specs.OnsetRead.{kept_of}
 use Rattle.edf_runs.specs.WrittenByOnset.{annotated}
 use Rattle.edf_program.proofs.Puts.{nothing-gets}

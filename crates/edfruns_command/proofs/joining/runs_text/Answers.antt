@@ -4,7 +4,7 @@ use Rattle.std.proofs.lemmas.Result.{IfOk-weaker}
 use Rattle.edf_field.specs.Number.{duration_of}
 use Rattle.edf_runs.specs.declared.run.Run.{Run}
 use Rattle.edfruns_command.specs.Joining.{group_lines}
-use Rattle.edfruns_command.proofs.joining.each_text.Goals as goal
+use Rattle.edfruns_command.proofs.joining.runs_text.Goals as goal
 
 pub returns : goal.returns
 returns c =

@@ -1,0 +1,26 @@
+-- How lines of runs begin.
+use Rattle.std.proofs.Common.{◌≡◌, ℕ, ◌-◌, List, [], ◌++◌, ap, ◌∙◌, append-nil, codes, decimal, Option}
+use Rattle.edf_time.specs.Decimal.{short}
+use Rattle.edf_runs.specs.declared.run.Run.{Run}
+use Rattle.edfruns_command.specs.Lines.{end_of, gap_text, line_front}
+use Rattle.edf_program.proofs.Parts.{four-parts}
+
+-- its parts are these
+pub front-of : (spell : ℕ → List ℕ) (d number records : ℕ) (first last : Run) (next : Option Run)
+    (a s t g front : List ℕ)
+    → a ≡ decimal number ++ (codes " records=" ++ (decimal records ++ codes " first=")) →
+    s ≡ spell first.first → t ≡ short (end_of d last - first.first) → g ≡ gap_text d last next →
+    front ≡ a ++ (s ++ (codes " seconds=" ++ (t ++ (g ++ [])))) →
+    front ≡ line_front spell d number records first last next
+front-of spell d number records first last next a s t g front ea es et eg is =
+    let parts : List ℕ → List ℕ → List ℕ → List ℕ = λ s t g.
+    s ++ (codes " seconds=" ++ (t ++ g)) in
+    let start = spell first.first in
+    let seconds = short (end_of d last - first.first) in
+    is
+    ∙ ap (λ (x : List ℕ). a ++ parts s t x) (append-nil g ∙ eg)
+    ∙ ap (λ (x : List ℕ). a ++ parts s x (gap_text d last next)) et
+    ∙ ap (λ (x : List ℕ). a ++ parts x seconds (gap_text d last next)) es
+    ∙ ap (λ (x : List ℕ). x ++ parts start seconds (gap_text d last next)) ea
+    ∙ four-parts (decimal number) (codes " records=") (decimal records) (codes " first=")
+    (parts start seconds (gap_text d last next))
