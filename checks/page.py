@@ -15,7 +15,8 @@ COUNT files by chance, 2,000 if left out; the page is release/edfstore.html. Fil
 lists: by chance, half of them broken; of each number of refusal that a file of this size can have;
 foreign ones; of odd names; several of one name; of 639 signals; none. For each list the lines of
 `edfstore take` and `edfstore list`, and for each recording the file of `edfstore export`, the lines
-of `edfruns list` and the picture of `edfruns picture` must be what the page gives, byte for byte.
+of `edfruns list` and the picture of `edfruns picture` must be what the page gives, byte for byte;
+and so what edfruns and edfmend do with some of the files, as the page asks them.
 
 Then a night of 195 MB, with its time and memory beside the programs' (MOST_TIMES, MOST_MEMORY); a
 module that may have little memory: E41, and no file is offered; a trap: no file is offered, and the
@@ -41,7 +42,7 @@ from checks.lib import (arguments, measure, modules, night, page_files, printed,
 from checks.lib.checks import Lost, compare, end
 from checks.lib.firefox import Firefox
 from checks.lib.hands import ChromiumHands, FirefoxHands
-from checks.lib.natively import Native, written
+from checks.lib.natively import Native, sum_of, written
 from checks.lib.pages import Chromium
 
 BROWSERS = {"chromium": Chromium, "firefox": Firefox}
@@ -51,17 +52,35 @@ OFF = {"chromium": lambda folder: Chromium(folder, "--js-flags=--jitless"),
        "firefox": lambda folder: Firefox(folder, javascript_options_wasm=False)}
 PAGE = arguments.TOP / "release/edfstore.html"
 MOST_TIMES = {"chromium": 3, "firefox": 6}      # of the programs' time
-MOST_MEMORY = 1_500_000_000                     # bytes, of the module
+MOST_MEMORY = 1_400_000_000                     # bytes, of the module
 MOST_BYTES = 4_000_000                          # of the page
 SECONDS = 300                                   # that the page may take
 PATIENCE = 8                                    # seconds, for a module that was changed
 LONG_BODY, TRIED_BODIES = 60, 150               # bytes of a function, and how many are looked at
 ENOUGH = 16                                     # functions that run
+LONGEST = 150                                   # seconds to look for them, and to change them
 LITTLE = night.Night(records=2_000, fragments=1)        # 13 MB
 MODULE = re.compile(r'(<script type="text/plain" id="module">)([A-Za-z0-9+/=]*)(</script>)')
+# All that the page asks edfruns for; and texts for edfmend: OUT, and what each of these options has
+RUNS = ("list", "canonical --by-onset", "picture --without-code", "split", "split --by-onset")
+OPTIONS = ("--patient", "--set-patient", "--deidentify", "--startdate", "--starttime", "--as")
+VALUES = [texts.split("|") for texts in (
+    "||||||", "out.edf||||||", "out.edf|S-9|||01.02.03|22.15.00|", "|S 1|||||",
+    "out.edf||||||count,recording", "||X-1||||nothing", "out.edf|||Q-7|||")]
+SUM = """const sum = async (bytes) => [...new Uint8Array(await crypto.subtle.digest("SHA-256",
+    bytes))].map((byte) => byte.toString(16).padStart(2, "0")).join("");"""
+CALLED = """(async () => {
+  SUM
+  const text = (it) => sum(new TextEncoder().encode(it)), file = window.chosen[NTH], all = [];
+  for (const call of CALLS) {
+    const { status, out, err, made } = await run(call, file.name, file) ?? { made: [] };
+    const each = made.map(async ({ name, blob }) => [name, await sum(await blob.arrayBuffer())]);
+    all.push([status, await text(out), await text(err), (await Promise.all(each)).sort()]);
+  }
+  return all;
+})()""".replace("SUM", SUM)
 GIVEN = """(async () => {
-  const sum = async (bytes) => [...new Uint8Array(await crypto.subtle.digest("SHA-256", bytes))]
-    .map((byte) => byte.toString(16).padStart(2, "0")).join("");
+  SUM
   const answer = window.answer;
   if (!answer) return null;
   const recordings = [];
@@ -70,7 +89,7 @@ GIVEN = """(async () => {
       await sum(new TextEncoder().encode(picture))]);
   }
   return [answer.taken, answer.listed, recordings];
-})()"""
+})()""".replace("SUM", SUM)
 # Two calls of one module, the first of which traps, and one of another
 GUARDED = """(async () => {
   const text = document.getElementById("module").textContent;
@@ -100,7 +119,8 @@ HELD = """(() => {
   const input = document.querySelector("input[type=file]");
   input.addEventListener("change", (event) => {
     event.stopImmediatePropagation();
-    window.chosen = [...input.files].map((file) => file.size + file.lastModified);
+    window.chosen = [...input.files];
+    window.told = window.chosen.map((file) => file.size + file.lastModified);
   }, { capture: true, once: true });
 })()"""
 LET_GO = """document.querySelector("input[type=file]").dispatchEvent(new Event("change"))"""
@@ -183,6 +203,41 @@ def lists(bench: Bench, expected: dict) -> None:
                              if not url.startswith(("file:", "blob:"))], [])
 
 
+def words_of(call) -> list:
+    """The same call as words of the program."""
+    if isinstance(call, str):
+        return [*call.split(), "in.edf", *["run"] * call.startswith("split")]
+    given = [[option, value] for option, value in zip(OPTIONS, call[1:]) if value]
+    return ["in.edf", call[0] or "--dry-run", *sum(given, [])]
+
+
+def does(native: Native, folder: Path, call) -> list:
+    """What a program does with in.edf of this folder, which stays there alone."""
+    program = native.edfruns if isinstance(call, str) else native.edfmend
+    ran = measure.ran(program, *words_of(call), folder=folder)
+    made = []
+    for path in sorted(it for it in folder.iterdir() if it.name != "in.edf"):
+        made.append([path.name, sum_of(path.read_bytes())])
+        path.unlink()
+    texts = [sum_of(it.decode("utf-8", "replace").encode()) for it in (ran.out, ran.err)]
+    return [ran.status, *texts, made]
+
+
+def programs(bench: Bench, folder: Path, native: Native, paths: list) -> None:
+    """What edfruns and edfmend do with each of these files."""
+    own, calls = folder / f"programs-{bench.name}", (*RUNS, *VALUES)
+    own.mkdir()
+    bench.browser.open(bench.page)
+    bench.browser.value(HELD)
+    bench.browser.choose(paths)
+    for nth, path in enumerate(paths):
+        (own / "in.edf").write_bytes(path.read_bytes())
+        given = bench.browser.value(
+            CALLED.replace("NTH", str(nth)).replace("CALLS", json.dumps(calls)))
+        for call, got in zip(calls, given):
+            bench.same(f"{call} of {path.name}", got, does(native, own, call))
+
+
 def no_files(bench: Bench) -> None:
     bench.browser.open(bench.page)
     bench.browser.value(LET_GO)
@@ -241,7 +296,7 @@ def changes(bench: Bench, folder: Path, native: Native) -> None:
         bench.browser.open(bench.page)
         bench.browser.value(HELD)
         bench.browser.choose(paths)
-        bench.same("files that are held back", len(bench.browser.value("window.chosen")), 2)
+        bench.same("files that are held back", bench.browser.value("window.chosen.length"), 2)
         time.sleep(1.1)         # since times of files may be told by the second
         change(paths[1])
         bench.browser.value(LET_GO)
@@ -348,18 +403,19 @@ def control(bench: Bench, folder: Path, page: str, expected: dict) -> None:
     module = module_of(page)
     bodies = [it for it in modules.bodies(module) if it[1] - it[0] > LONG_BODY]
     step = max(1, len(bodies) // TRIED_BODIES)
-    running, tried = [], 0
+    running, tried, until = [], 0, time.monotonic() + LONGEST
     for function in bodies[::step]:
-        if len(running) < ENOUGH:
+        if len(running) < ENOUGH and time.monotonic() < until:
             tried += 1
             running += [function] * runs(bench, expected, module, function)
-    found = sum(is_felt(bench, expected, module, it) for it in running)
+    until = time.monotonic() + LONGEST
+    felt = [is_felt(bench, expected, module, it) for it in running if time.monotonic() < until]
     with_bytes(bench, [])
     bench.same("the module itself again", is_found(bench, expected), False)
-    print(f"{bench.name}: of {tried} functions {len(running)} run; in {found} of these one "
-          "changed instruction is found", flush=True)
-    bench.same(f"one changed instruction is found in {found}", found >= len(running) // 4, True)
-    bench.same("functions that run", len(running) >= 10, True)
+    print(f"{bench.name}: of {tried} functions {len(running)} run; of {len(felt)} of these one "
+          f"changed instruction is found in {sum(felt)}", flush=True)
+    bench.same("functions that run and were changed", len(felt) >= 10, True)
+    bench.same(f"a change is found in {sum(felt)}", sum(felt) >= len(felt) // 4, True)
 
 
 # All of it
@@ -401,6 +457,7 @@ def in_browser(bench: Bench, given, folder: Path, native: Native, expected: dict
     big = None if given.without_night else folder / "night/card.edf"
     technician.all_of_it(bench, hands, folder, native, big)
     lists(bench, expected)
+    programs(bench, folder, native, expected["files of stories"][0])
     no_files(bench)
     little_memory(bench, folder, page, native)
     traps(bench, folder, page, expected["one file"][0])
@@ -414,6 +471,8 @@ def in_browser(bench: Bench, given, folder: Path, native: Native, expected: dict
 def main() -> None:
     given = words().read()
     tried, failed = 0, 0
+    if given.screenshots:
+        given.screenshots.mkdir(parents=True, exist_ok=True)
     with measure.scratch() as name:
         folder = Path(name)
         native = Native(given.program, given.edfruns, given.edfmend)

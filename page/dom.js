@@ -12,6 +12,8 @@ function made(tag, text, parent, more = {}) {
   return element;
 }
 
+const hint = (text, parent) => made("p", text, parent, { className: "hint" });
+
 // A button; `of` is the element that tells what it is of.
 function button(text, parent, press, of = null) {
   const element = made("button", text, parent, { type: "button" });
@@ -51,6 +53,13 @@ function row(body, name, ...cells) {
   return cells.map((cell) => made("td", cell, line));
 }
 
+// Adds the first of many rows, and says so where some are left out.
+const MOST_ROWS = 200;
+function firstRows(all, place, words, add) {
+  all.slice(0, MOST_ROWS).forEach(add);
+  if (all.length > MOST_ROWS) hint(`The first ${MOST_ROWS} of ${all.length}. ${words}`, place);
+}
+
 // Words for numbers and texts.
 const several = (number, thing) =>
   `${number.toLocaleString("en")} ${thing}${number === 1 ? "" : "s"}`;
@@ -72,7 +81,7 @@ function save(blob, name) {
   const link = made("a", null, document.body, { href: urlOf(blob), download: name, hidden: true });
   link.click();
   link.remove();
-  say(`${name} went to your downloads.`);
+  say(`${name}: see your browser's downloads.`);
 }
 
 const saveText = (text, name) => save(new Blob([text], { type: "text/plain" }), name);

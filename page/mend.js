@@ -21,18 +21,19 @@ const HINTS = [
     "good files of its night: mend all of them in the same way."],
   [/^(plain|annotations) records=/m, "It has no annotations. Beside it the memory card of its " +
     "night, which has them, is refused with E31."],
-  [/^/, "Is there a memory card of its night? That has all of it: add the card in its place."],
+  [/^/, "Is there a memory card of its night? Most often that has all of it: then take the card, " +
+    "and not this file."],
 ];
 const isNamed = ({ hint }) => !hint;     // a rule, which does more where --as names it
 
-// The words for edfmend. Where --as names one of those rules it names all others, but for one of
-// these that was not chosen.
-function wordsOf(answers) {
-  const given = QUESTIONS.filter(({ key }) => answers[key]);
-  const words = given.filter((it) => !isNamed(it)).flatMap(({ key }) => [`--${key}`, answers[key]]);
-  const not = QUESTIONS.filter((it) => isNamed(it) && !answers[it.key]).map(({ key }) => key);
-  const rules = REFUSALS.rules.filter((rule) => !not.includes(rule));
-  return given.some(isNamed) ? [...words, "--as", rules.join(",")] : words;
+// What edfmend is told: the name of the new file, none where it is to tell alone what would change;
+// then the values of --patient, --set-patient, --deidentify, --startdate, --starttime and --as.
+// Where --as names one of those rules it names all others, but for one that was not chosen.
+function valuesOf({ patient = "", startdate = "", starttime = "", ...answers }, out) {
+  const named = QUESTIONS.filter(isNamed), not = named.filter(({ key }) => !answers[key]);
+  const rules = REFUSALS.rules.filter((rule) => !not.some(({ key }) => key === rule));
+  const as = not.length < named.length ? rules.join(",") : "";
+  return [out, patient, "", "", startdate, starttime, as];
 }
 
 // The fields of what was asked so far.
@@ -72,14 +73,9 @@ function readChange(line) {
 function showMended(session) {
   const { box, head, ledger } = session;
   const body = table(box, "What changes in the mended file", "Rule", "Where", "Before", "After");
-  const lines = linesOf(ledger);
-  lines.slice(0, MOST_ROWS).forEach((line) => row(body, ...readChange(line)));
-  if (lines.length > MOST_ROWS) {
-    made("p", `These are the first ${MOST_ROWS} of ${several(lines.length, "change")}: save them ` +
-      "to see all.", box, { className: "hint" });
-  }
-  HINTS.filter(([had]) => had.test(ledger))
-    .forEach(([, words]) => made("p", words, box, { className: "hint" }));
+  firstRows(linesOf(ledger), box, "Save the list to see all.",
+    (line) => row(body, ...readChange(line)));
+  HINTS.filter(([had]) => had.test(ledger)).forEach(([, words]) => hint(words, box));
   const buttons = made("p", null, box, { className: "buttons" });
   button("Take the mended file with the others", buttons, async () => {
     const blob = await mended(session), name = `${session.name} (mended)`;
@@ -92,8 +88,7 @@ function showMended(session) {
 // The mended file, made once; its ledger must be the one that was shown.
 async function mended(session) {
   if (session.made) return session.made;
-  const words = [IN, "out.edf", ...wordsOf(session.answers)];
-  const done = await run("edfmend", words, session.name, session.blob);
+  const done = await run(valuesOf(session.answers, "out.edf"), session.name, session.blob);
   if (done?.status === 0 && done.made.length === 1 && done.out === session.ledger) {
     session.made = done.made[0].blob;
   } else if (done) say(`${session.name} was not mended. ${done.err}`);
@@ -103,7 +98,7 @@ async function mended(session) {
 // Its name is made of its own header, and of its first instant.
 async function saveMended(session) {
   const blob = await mended(session), fields = await blob?.slice(8, 168).text();
-  const runs = blob && await run("edfruns", ["list", IN], session.name, blob);
+  const runs = blob && await run("list", session.name, blob);
   if (!runs) return;
   const names = { patient: fields.split(" ")[0], first: valueIn(runs.out, "first"),
     investigation: fields.slice(80).split(" ")[2] ?? "" };
@@ -112,8 +107,7 @@ async function saveMended(session) {
 
 // Looks what edfmend would do, by the answers so far, and shows it.
 async function look(session) {
-  const words = [IN, "--dry-run", ...wordsOf(session.answers)];
-  const done = await run("edfmend", words, session.name, session.blob);
+  const done = await run(valuesOf(session.answers, ""), session.name, session.blob);
   if (!done) return;
   const { box, head, asked } = session, isGood = done.status === 0;
   [session.ledger, session.made] = [done.out, null];
@@ -129,6 +123,7 @@ async function look(session) {
   const form = asked.size > 0 ? showQuestions(box, session) : null;
   if (isGood) showMended(session);
   (isGood || !form ? head : form.querySelector("input")).focus();
+  box.scrollIntoView({ block: "nearest" });
 }
 
 function offerMending(buttons, cell, name, at) {

@@ -11,13 +11,13 @@ function clear() {
 
 // The page asks for the first files, or for more.
 function dress() {
-  const isMore = held.length > 0 || document.body.dataset.state === "failed";
-  document.body.classList.toggle("more", isMore);
+  document.body.classList.toggle("more", held.length > 0);
+  if (held.length === 0) byId("by-onset").checked = isSorted = false;
 }
 
 // Says why nothing is given. A file that is the cause is held no more, and neither are files that
 // are too many: those that are left may be taken.
-function fail(files, { message, place }) {
+function fail(files, { message, place = null }) {
   clear();
   if (place !== null) held = files.filter((_, at) => at !== place);
   const [box, head] = part("section", byId("results"), "h2", "Nothing is given.");
@@ -49,9 +49,8 @@ async function take(files) {
     window.cost = { memory: done.memory, milliseconds: performance.now() - begun };
     setState("done");
   } catch (fault) {
-    if (fault === CANCELLED) byId("by-onset").checked = isSorted;
-    else focus = fail(files, { message: fault.message, place: fault.place ?? null });
-    if (fault === CANCELLED) [say(fault.message), setState(before)];
+    if (fault !== CANCELLED) focus = fail(files, fault);
+    else [byId("by-onset").checked = isSorted, say(fault.message), setState(before)];
   }
   hidden.forEach((it) => { it.hidden = false; });
   dress();
@@ -65,8 +64,7 @@ function add(files) {
 
 function startOver() {
   clear();
-  [held, isSorted] = [[], false];
-  byId("by-onset").checked = false;
+  held = [];
   say("");
   setState("idle");
   dress();

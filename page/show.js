@@ -1,7 +1,6 @@
-// What came of files: those that are refused, with what to do; the others; the recordings.
+// What came of files: those that are refused, with what to do; the recordings; the other files.
 
 const REFUSALS = JSON.parse(byId("refusals").textContent);
-const MOST_OPEN = 12, MOST_ROWS = 200;      // rows that are shown at once, and in any table
 
 // A file's line in its parts.
 function readLine({ name }, line) {
@@ -32,7 +31,7 @@ function showRefused(body, file, at) {
   if (more.length > 0) {
     const box = made("details", null, cell);
     made("summary", `More about ${number}`, box);
-    more.forEach((words) => made("p", words, box, { className: "hint" }));
+    more.forEach((words) => hint(words, box));
   }
   const buttons = made("p", null, cell, { className: "buttons" });
   if (mends && !file.isForeign) offerMending(buttons, cell, name, at);
@@ -41,24 +40,26 @@ function showRefused(body, file, at) {
   }
 }
 
-function showFiles(box, files, outside) {
-  const [place] = part("section", box, "h3", "Files");
-  const taken = files.filter(({ number }) => !number), refused = files.length - taken.length;
-  if (refused > 0) {
-    const body = table(place, `${several(refused, "file")} refused`, "File", "Why, and what to do");
-    body.parentNode.className = "stack";
-    files.forEach((file, at) => { if (file.number) showRefused(body, file, at); });
-  }
+function showAllRefused(box, files) {
+  const [place] = part("section", box, "h3", "Refused files");
+  const body = table(place, "Nothing of these is in a recording. Where a button mends one, it " +
+    "shows first what edfmend would change.", "File", "Why, and what to do");
+  body.parentNode.className = "stack";
+  files.forEach((file, at) => { if (file.number) showRefused(body, file, at); });
+}
+
+function showOthers(box, files, outside) {
+  const [place] = part("section", box, "h3", "Files"), taken = files.filter((it) => !it.number);
   if (taken.length > 0) {
-    const all = made("details", null, place, { open: taken.length <= MOST_OPEN });
+    const all = made("details", null, place, { open: taken.length <= 12 });
     made("summary", `${several(taken.length, "file")} accepted`, all);
     const body = table(all, "Data records that are new, and those that other files had already",
       "File", "New", "Known");
     taken.forEach(({ name, fresh, known }) => row(body, name, fresh, known));
   }
-  outside.forEach((line) => made("p", `${line.trim()}: so many of its annotations happened in ` +
-    "none of its data records.", place, { className: "hint" }));
-  button("Save the answers", made("p", null, place),
+  outside.forEach((line) => hint(
+    `${line.trim()}: so many of its annotations happened in none of its data records.`, place));
+  button("Save the list of files", made("p", null, place),
     () => saveText(window.answer.taken + window.answer.listed, "edfstore-answers.txt"));
 }
 
@@ -80,11 +81,12 @@ function showRecording(box, recordings, at, given) {
     () => save(given.file, `${name()}.edf`), title).className = "first";
   button("Save the picture", buttons, () => save(picture, `${name()}.svg`), title);
   button("Save the picture without the code", buttons, async () => {
-    const done = await run("edfruns", ["picture", "--without-code", IN], name(), given.file);
+    const done = await run("picture --without-code", name(), given.file);
     if (done?.status === 0) saveText(done.out, `${name(false)}-without-code.svg`);
   }, title);
   button("Save the list of gaps", buttons,
     () => saveText(`${line}\n${given.runs.text}`, `${name()}.txt`), title);
+  hint("Keep the EDF+D file: all of the recording is in it.", card);
   offerViews(card, title, given, name);
   made("img", null, made("div", null, card, { className: "picture" }),
     { src: urlOf(picture), alt: `Picture of the recording. ${words}` });
@@ -103,12 +105,14 @@ async function show({ answer, lines, outside }, files) {
   const refused = read.filter(({ number }) => number).length;
   await markForeign(files, read);
   window.answer = answer;
-  const [box, head] = part("section", byId("results"), "h2", files.length === 0 ? "No file came"
+  const [box, head] = part("section", byId("results"), "h2", files.length === 0 ? "No file came."
     : `${several(files.length, "file")}: ${files.length - refused} accepted, ${refused} refused. ` +
       `${several(answer.recordings.length, "recording")}.`);
-  if (files.length > 0) {
-    showFiles(box, read, outside);
-    showRecordings(box, answer);
-  }
+  if (files.length === 0) return head;
+  made("p", (refused > 0 ? "Below it says why files were refused, and what to do. " : "") +
+    (answer.recordings.length > 0 ? "Save each recording: this page keeps nothing." : ""), box);
+  if (refused > 0) showAllRefused(box, read);
+  showRecordings(box, answer);
+  showOthers(box, read, outside);
   return head;
 }

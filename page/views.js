@@ -14,7 +14,7 @@ async function saveAll(files, nameFor) {
     save(file.blob, nameFor(file));
     await new Promise((done) => setTimeout(done, 200));
   }
-  say(`${several(files.length, "file")} went to your downloads.`);
+  say(`${several(files.length, "file")}: see your browser's downloads.`);
 }
 
 function showViews(place, { out, made: files }, name, title) {
@@ -22,16 +22,13 @@ function showViews(place, { out, made: files }, name, title) {
   const body = table(place, several(files.length, "file"),
     "Starts", "Lasts", "Then missing", "File");
   body.parentNode.className = "whole";
-  lines.slice(0, MOST_ROWS).forEach((line, at) => {
+  const drifts = "So many come of a clock that drifts: edfruns split --tolerance joins small gaps.";
+  firstRows(lines, place, drifts, (line, at) => {
     const [, , cell] = row(body, valueIn(line, "first").replace("T", " "),
       lasting(valueIn(line, "seconds")), lasting(valueIn(line, "gap")), null);
     button(`Save file ${at + 1} (${sizeOf(files[at].blob.size)})`, cell,
       () => save(files[at].blob, nameFor(files[at])), title);
   });
-  if (lines.length > MOST_ROWS) {
-    made("p", `These are the first ${MOST_ROWS}. So many come of a clock that drifts: edfruns ` +
-      "split --tolerance joins small gaps.", place, { className: "hint" });
-  }
   if (files.length > 1) button("Save all of them", place, () => saveAll(files, nameFor), title);
 }
 
@@ -40,14 +37,13 @@ function showViews(place, { out, made: files }, name, title) {
 function offerViews(card, title, given, name) {
   const count = linesOf(given.runs.text).length, files = several(count, "EDF+C file");
   const [place] = part("section", card, "h5", "Files for viewers");
-  made("p", "Many viewers don't take EDF+D, the form that may have gaps. They open EDF+C: " +
-    `a file for each stretch without a gap, here ${count}.`, place, { className: "hint" });
+  hint("Many viewers don't take EDF+D, the form that may have gaps. They open EDF+C: " +
+    `a file for each stretch without a gap, here ${count}.`, place);
   const press = button(`Make ${files}`, place, () => begin(), title);
   const box = checkbox("Each annotation in the file of the time when it happened", place);
   const choice = Object.assign(box.closest("p"), { hidden: true }), list = made("div", null, place);
   const fill = async () => {
-    const words = ["split", ...(box.checked ? ["--by-onset"] : []), IN, "run"];
-    const done = await run("edfruns", words, name(), given.file);
+    const done = await run(box.checked ? "split --by-onset" : "split", name(), given.file);
     list.replaceChildren();
     if (done?.status === 0) showViews(list, done, name, title);
     else if (done) made("p", `No file was made: ${done.err}`, list, { className: "fault" });

@@ -35,9 +35,9 @@ def part(name):
 
 
 def plain(text):
-    """A text of a document without its marks."""
+    """A text of a document without its marks. Nobody sends a file to the page."""
     text = re.sub(r"\[([^\]]*)\]\([^)]*\)", r"\1", " ".join(text.split()))
-    return text.replace("`", "").replace("**", "")
+    return text.replace("`", "").replace("**", "").replace("send it again", "get it again")
 
 
 def entries(text):

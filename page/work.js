@@ -56,13 +56,13 @@ async function work(order, what) {
   }
 }
 
-// Runs one of the programs over one file; none where that is cancelled or fails, with a word.
-async function run(program, words, name, blob) {
+// What edfruns or edfmend does with one file, as the worker has it; none where that is cancelled or
+// fails, with a word.
+async function run(call, name, blob) {
   if (isBusy()) return null;
-  const order = { kind: "run", program, words, file: { name, blob } };
   const before = document.body.dataset.state;
   try {
-    return await work(order, `${program} reads ${name}`);
+    return await work({ kind: "run", call, file: { name, blob } }, `Reading ${name}`);
   } catch ({ message, place }) {
     say(place === null ? message : `${message} Nothing is given.`);
     return null;

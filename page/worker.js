@@ -1,12 +1,15 @@
 "use strict";
 // One job over files, in a worker of its own with a module of its own. Their bytes go into the
-// module's memory, one of its two functions is called, and what it wrote there is sent back. What
-// is proved is proved of that call: this script must hand it just these files and words, and cut
-// what it wrote by its own numbers.
+// module's memory, one of its functions is called, and what it wrote there is sent back. What is
+// proved is proved of that call: this script must hand it just these files and texts, and cut what
+// it wrote by its own numbers.
 
 const GIVEN = 0, NO_ROOM = 1, STOPPED = 2;      // the module's answers
-const PROGRAMS = { edfruns: 0, edfmend: 1 };
-const PAGE = 65536, SLACK = 4 << 20;
+// What edfruns does with a file, by its number for the module; and what names the files of a split.
+const RUNS = ["list", "canonical --by-onset", "picture --without-code", "split",
+  "split --by-onset"];
+const PREFIX = "run";
+const SLACK = 4 << 20;
 const IN = "in.edf";    // the name of a program's one file, whatever that is called
 
 // What stops a job, in words for the person, and the place of the file that is its cause.
@@ -37,12 +40,13 @@ class Room {
     this.exports = new WebAssembly.Instance(module, {}).exports;
   }
 
-  // Has the memory grow once, by what a job of so many bytes takes, and not again and again. A
-  // module that then finds none says so itself.
-  grow(length) {
-    try {
-      this.exports.memory.grow(BigInt(Math.ceil(length / PAGE)));
-    } catch { /* it grows as it must */ }
+  // Has the memory grow once, by what a job takes, since Firefox copies all of it each time. Half
+  // of that is apart from its end, where then what grows has room to grow in its place. A module
+  // that finds no memory says so itself.
+  reserve(length) {
+    const { dlmalloc, dlfree } = this.exports, half = Math.ceil(length / 2);
+    const [apart, , end] = [half, 16, half].map((size) => dlmalloc(BigInt(size)));
+    [apart, end].forEach(dlfree);
   }
 
   take(length) {
@@ -119,23 +123,24 @@ class Room {
   }
 }
 
-// Why the module stopped, by the lines that it wrote: the store refused (E42, E45), or memory ran
-// out.
+// Why the module stopped, by the lines that it wrote: the store refused, or memory ran out.
 function stopped(bytes) {
   const lines = textOf(bytes);
-  return / E4[25] \w+\n$/.test(lines) ? new Stop(lines) : memoryIsOut();
+  return / E42 \w+\n$/.test(lines) ? new Stop(lines) : memoryIsOut();
 }
 
-// What a program does with one file: its status, what it wrote, and the files that it made.
-async function ran(module, program, words, file, nth, told) {
-  const room = new Room(module), size = file.blob.size;
-  room.grow(3 * size + SLACK);
+// What edfruns or edfmend does with one file: its status, what it wrote, and the files that it
+// made. `call` is one of RUNS, or the texts for edfmend in the module's order.
+async function ran(module, call, file, nth, told) {
+  const room = new Room(module), size = file.blob.size, isRun = typeof call === "string";
+  room.reserve(4 * size + SLACK);
   const bytes = room.take(size);
   await room.read(file, nth, bytes, told);
-  const { at, sizes, count, length } = room.putTexts(words), name = room.putTexts([IN]);
-  const [[status], out, err, ...rest] = room.pieces(size + SLACK, 64, (...answer) =>
-    room.exports.program(PROGRAMS[program], at, sizes, count, length, name.at, name.length,
-      bytes, BigInt(size), ...answer));
+  const texts = room.putTexts(isRun ? [call.startsWith("split") ? PREFIX : ""] : call);
+  const name = room.putTexts([IN]), given = [name.at, name.length, bytes, BigInt(size)];
+  const [[status], out, err, ...rest] = room.pieces(size + SLACK, 64, (...answer) => isRun
+    ? room.exports.runs(RUNS.indexOf(call), texts.at, texts.length, ...given, ...answer)
+    : room.exports.mend(texts.at, texts.sizes, texts.count, texts.length, ...given, ...answer));
   if (status === 3) throw memoryIsOut();    // a failure: all is read and written in memory
   const made = [];
   for (let it = 0; it < rest.length; it += 2) {
@@ -144,10 +149,10 @@ async function ran(module, program, words, file, nth, told) {
   return { status, out: blobOf(out), err: textOf(err), made };
 }
 
-// Runs a program over one file, for the page.
-async function run({ module, program, words, file }) {
+// The same for the page.
+async function run({ module, call, file }) {
   const told = (at) => tell(`Reading ${file.name}`, at, file.blob.size);
-  const done = await ran(module, program, words, file, 0, told);
+  const done = await ran(module, call, file, 0, told);
   return { ...done, out: textOf(await done.out.arrayBuffer()) };
 }
 
@@ -158,8 +163,7 @@ async function byOnset(module, files) {
   let before = 0;
   for (const [nth, file] of files.entries()) {
     const told = (at) => tell(`Sorting the annotations of ${file.name}`, before + at, total);
-    const words = ["canonical", "--by-onset", IN];
-    const { status, out, err } = await ran(module, "edfruns", words, file, nth, told);
+    const { status, out, err } = await ran(module, "canonical --by-onset", file, nth, told);
     const line = err.startsWith(IN) ? file.name + err.slice(IN.length) : err;
     if (status === 0) kept.push({ name: file.name, blob: out });
     if (status === 0 && err) outside.push(line);
@@ -172,7 +176,9 @@ async function byOnset(module, files) {
 // The pieces that the module gives of files, which are taken in turn into an empty store.
 async function night(module, files) {
   const room = new Room(module), total = sizeOf(files);
-  room.grow(5.5 * total + (32 << 20));
+  // Files' bytes and the answer, and what is held: all of it, or what the largest file has.
+  room.reserve(2 * total + 4.4 * Math.max(total / 2, ...files.map(({ blob }) => blob.size)) +
+    8 * SLACK);
   const bytes = room.take(total);
   let at = 0;
   for (const [nth, file] of files.entries()) {
@@ -211,7 +217,8 @@ onmessage = async ({ data }) => {
   try {
     postMessage({ done: await { take, run }[data.kind](data) });
   } catch (fault) {
-    const message = fault instanceof Stop ? fault.message : `${fault?.name}: ${fault?.message}`;
+    const message = fault instanceof Stop ? fault.message
+      : `The page failed (${fault?.name}: ${fault?.message}). Try again, or use the programs.`;
     postMessage({ fault: { message, place: fault?.place ?? null } });
   }
 };

@@ -11,10 +11,11 @@ from pathlib import Path
 
 from .checks import Lost
 
-FLAGS = ("--headless", "--no-remote", "--window-size=1280,1000")
+FLAGS = ("--headless", "--no-remote", "--remote-allow-system-access", "--window-size=1280,1000")
 SECONDS = 120       # that Firefox may take to answer
 STARTS = 60         # seconds that it may take to begin
-# No traffic of its own, and what is saved goes to a folder without a question
+# No traffic of its own, what is saved goes to a folder without a question, and a script beside the
+# page may give it a folder
 SETTINGS = """\
 user_pref("app.update.enabled", false);
 user_pref("browser.download.always_ask_before_handling_new_types", false);
@@ -26,6 +27,7 @@ user_pref("browser.safebrowsing.phishing.enabled", false);
 user_pref("browser.shell.checkDefaultBrowser", false);
 user_pref("browser.startup.homepage_override.mstone", "ignore");
 user_pref("datareporting.policy.dataSubmissionEnabled", false);
+user_pref("dom.filesystem.pathcheck.disabled", true);
 user_pref("extensions.getAddons.cache.enabled", false);
 user_pref("network.captive-portal-service.enabled", false);
 user_pref("network.connectivity-service.enabled", false);
@@ -181,6 +183,16 @@ class Firefox:
             raise Lost(f"Firefox: {expression:.200}: {told['exceptionDetails']['text']}")
         text = told["result"].get("value")
         return None if text is None else json.loads(text)
+
+    def do_beside(self, script: str) -> None:
+        """Has a script of Firefox itself run beside the page, which it knows as `content`."""
+        windows = self.ask("browsingContext.getTree", **{"moz:scope": "chrome"})["contexts"]
+        address = "data:text/javascript;base64," + base64.b64encode(script.encode()).decode()
+        told = self.ask("script.evaluate", target={"context": windows[0]["context"]},
+                        awaitPromise=False, expression="gBrowser.selectedBrowser.messageManager."
+                        f"loadFrameScript({json.dumps(address)}, false)")
+        if told["type"] != "success":
+            raise Lost(f"Firefox: {told['exceptionDetails']['text']}")
 
     def choose(self, files: list, chooser: str = "input[type=file]") -> None:
         """Gives the first chooser of files these, or that one."""

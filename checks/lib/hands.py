@@ -1,6 +1,5 @@
 """What a person does with a page: keys, files that are chosen or dropped, the screen, and what a
 screen reader is told, in Chromium and in Firefox, by the browsers' own ways."""
-import base64
 import json
 import time
 from pathlib import Path
@@ -20,18 +19,29 @@ WHERE = """(...all) => {
 OPENED = """addEventListener("click", ({ target }) => {
   if (target.type === "file") window.opened = target.id;
 }, true)"""
-# The event of a file that a script drops: its bytes come as text
-DROP = """((files) => {
-  const transfer = new DataTransfer();
-  for (const [name, text] of files) {
-    const bytes = Uint8Array.from(atob(text), (letter) => letter.charCodeAt(0));
-    transfer.items.add(new File([bytes], name));
-  }
-  for (const type of ["dragenter", "dragover", "drop"]) {
-    document.getElementById("give").dispatchEvent(new DragEvent(type,
-      { bubbles: true, cancelable: true, dataTransfer: transfer }));
-  }
-})(FILES)"""
+# Of Firefox itself, beside the page: it drops files and folders that lie at these paths. They are
+# Firefox's own, the event is the script's.
+DROP = """
+const { classes, interfaces, utils } = Components, page = content.wrappedJSObject;
+const given = utils.cloneInto({}, page);
+[given.items, given.files] = [new page.Array(), new page.Array()];
+for (const path of PATHS) {
+  const own = classes["@mozilla.org/file/local;1"].createInstance(interfaces.nsIFile);
+  own.initWithPath(path);
+  const transfer = new content.DataTransfer();
+  transfer.mozSetDataAt("application/x-moz-file", own, 0);
+  const item = utils.cloneInto({ kind: "file" }, page);
+  const entry = transfer.items[0].webkitGetAsEntry();
+  utils.exportFunction(() => entry, item, { defineAs: "webkitGetAsEntry" });
+  given.items.push(item);
+  given.files.push(transfer.files[0]);
+}
+for (const type of ["dragenter", "dragover", "drop"]) {
+  const event = new page.Event(type, utils.cloneInto({ bubbles: true, cancelable: true }, page));
+  event.dataTransfer = given;
+  page.document.getElementById("give").dispatchEvent(event);
+}
+"""
 
 
 class Hands:
@@ -73,8 +83,6 @@ class Hands:
 
 
 class ChromiumHands(Hands):
-    drops_folders = True
-
     def begin(self) -> None:
         """Once a page is open."""
         ask, session = self.browser.ask, self.browser.session
@@ -147,8 +155,6 @@ class ChromiumHands(Hands):
 
 
 class FirefoxHands(Hands):
-    drops_folders = False
-
     def begin(self) -> None:
         """Once a page is open. A headless Firefox tells of the first dialog alone of a chooser,
         so that its clicks are told by the page."""
@@ -194,9 +200,8 @@ class FirefoxHands(Hands):
         self.browser.value("window.opened = null")
 
     def drop(self, paths: list) -> None:
-        """By an event of a script, since nothing else can drop here: files alone."""
-        files = [(it.name, base64.b64encode(it.read_bytes()).decode()) for it in paths]
-        self.browser.value(DROP.replace("FILES", json.dumps(files)))
+        """By an event of a script, since nothing else can drop here."""
+        self.browser.do_beside(DROP.replace("PATHS", json.dumps(list(map(str, paths)))))
 
     def screen(self, width: int, height: int, is_dark: bool) -> None:
         """The colours are those that Firefox began with."""

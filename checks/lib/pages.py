@@ -4,6 +4,7 @@ import html.parser
 import json
 import os
 import re
+import select
 import signal
 import subprocess
 import time
@@ -88,8 +89,9 @@ class Chromium:
     def message(self) -> dict:
         until = time.monotonic() + SECONDS
         while b"\0" not in self.had:
-            more = os.read(self.read_from, 1 << 20)
-            if not more or time.monotonic() > until:
+            ready, _, _ = select.select([self.read_from], [], [], max(0, until - time.monotonic()))
+            more = os.read(self.read_from, 1 << 20) if ready else b""
+            if not more:
                 raise Lost("Chromium has ended, or does not answer")
             self.had += more
         text, _, self.had = self.had.partition(b"\0")

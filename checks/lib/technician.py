@@ -123,7 +123,6 @@ def first_look(it: Technician) -> None:
     it.open()
     it.looks("idle")
     for role, name in (("button", "Choose files"), ("button", "Choose a folder"),
-                       ("checkbox", "Annotations by onset first"),
                        ("heading", "Choose the files")):
         it.same(f"{role} {name}", it.hands.has(role, name), True)
 
@@ -137,7 +136,7 @@ def night(it: Technician) -> None:
         ("part6.edf", parts[6]), ("part2.edf", parts[2])]))
     it.says("7 files: 4 accepted, 3 refused. 1 recording.", "E21 CutRecord record=60",
             *(text[0].upper() + text[1:] + "." for text in (
-                printed.CUT, printed.OTHER_LETTERS, NO_EDF)))
+                printed.CUT.replace("send", "get"), printed.OTHER_LETTERS, NO_EDF)))
     it.looks("refused")
     mends_cut(it, cut)
     mends_names(it)
@@ -199,7 +198,8 @@ def saves_all(it: Technician) -> None:
     it.saves("Save the picture", f"{NAME}.svg", picture)
     it.saves("Save the picture without the code", f"{NAME}-without-code.svg", plain)
     it.saves("Save the list of gaps", f"{NAME}.txt", listed.encode() + runs)
-    it.saves("Save the answers", "edfstore-answers.txt", "".join(it.bench.given()[:2]).encode())
+    it.saves("Save the list of files", "edfstore-answers.txt",
+             "".join(it.bench.given()[:2]).encode())
     it.press("Make 2 EDF+C files")
     it.looks("for viewers")
     saves_runs(it, NAME)
@@ -230,6 +230,7 @@ def by_onset(it: Technician) -> None:
     unsorted = written(it.folder / "spread", files)
     it.chooses("Choose files", unsorted)
     it.says("E31 Differs")
+    it.looks("refused beside its pieces")
     it.press("Make 2 EDF+C files")
     it.until("document.body.dataset.state === 'done' && document.querySelector('article input')"
              ".checked")
@@ -287,10 +288,9 @@ def drops(it: Technician) -> None:
         (f"part{nth}.edf", (OXIMETER / f"part{nth}.edf").read_bytes()) for nth in (1, 2)])
     it.same("drop", it.after(lambda: it.hands.drop(it.paths)), "done")
     it.gives("dropped files")
-    if it.hands.drops_folders:
-        it.after(lambda: it.hands.drop([it.paths[-1].parent]))
-        it.paths = it.paths + it.paths[-1:]
-        it.gives("a dropped folder")
+    it.after(lambda: it.hands.drop([it.folder / "dropped", it.paths[0]]))
+    it.paths = [*it.paths, *it.paths, it.paths[0]]
+    it.gives("a dropped folder of folders, and a file")
 
 
 def all_of_it(bench, hands, folder: Path, native, big: Path = None) -> None:

@@ -1,5 +1,5 @@
 -- What a store in memory listed, what was written of a file, and a recording by its file.
-use Rattle.std.proofs.Common.{◌≡◌, ◌≢◌, ◌⊎◌, ℕ, List, [], ◌∷◌, length, Bool, true}
+use Rattle.std.proofs.Common.{◌≡◌, ◌≢◌, ◌⊎◌, ℕ, List, [], ◌∷◌, length, map, Bool, true}
 use Rattle.std.proofs.Common.{false, Option, Some, None, inl, inr, refl, sym, ap, subst}
 use Rattle.std.proofs.Common.{if◌then◌else◌, arith}
 use Rattle.std.proofs.Common.{◌∙◌}
@@ -29,6 +29,7 @@ use Rattle.edf_program.specs.declared.status.Status.{Status}
 use Rattle.edf_program.specs.declared.status.Status.TheVariants.{Done, Refused, Usage, Trouble}
 use Rattle.edf_command.specs.Lines.{list_lines, first_list_lines}
 use Rattle.edf_command.specs.Listing.{ListsAll, StopsListing}
+use Rattle.edf_sleep.specs.Night.{AreOfFile}
 use Rattle.edf_sleep.specs.declared.note.Note.{Note}
 use Rattle.edfruns_command.specs.Joining.{each_line}
 use Rattle.edfruns_command.specs.Joining as listed
@@ -36,13 +37,14 @@ use Rattle.edfruns_command.specs.Listed.{IsFileListed, IsListOut, Held, between,
 use Rattle.edfruns_command.specs.Listed.{held_after}
 use Rattle.edfruns_command.specs.Lines.{unwritten_line, standard_output}
 use Rattle.edfruns_command.specs.Listing.{HasRuns}
-use Rattle.edfruns_command.specs.Picturing.{AreNoted, HasNotes, IsPictureOf}
+use Rattle.edfruns_command.specs.Picturing.{AreNoted, HasNotes, IsPictureOf, run_time}
 use Rattle.edfruns_command.specs.Picturing as drawn
 use Rattle.edfruns_command.specs.Run.{Asked, IsDone}
 use Rattle.edf_page.specs.Night.{AreRunLines, IsRecording}
 use Rattle.edf_page.specs.Inside.{HoldsStill, ListsHeld, IsWrittenOf, ListsFile}
 use Rattle.edf_page.specs.Inside.{DrawsFile}
 use Rattle.edf_page.specs.Programs.{IsText}
+use Rattle.edf_page.proofs.Figures.{files-have-figures}
 use Rattle.edf_page.specs.declared.night.Recording.{Recording}
 
 -- ---- what was said, where there was no trouble
@@ -234,6 +236,9 @@ recording-is h k r is lists draws =
         are_runs = drawn.1;
         notes = draws.notes;
         are_notes = notes-of r.file.items k (h k) draws.notes is draws.noted;
+        of_file = subst (λ (q : Key). AreOfFile draws.notes
+            (map (run_time (duration_of q.duration)) draws.listing.runs.items)) drawn.0
+            (files-have-figures r.file.items draws.listing draws.notes draws.has draws.noted);
         is_picture = subst (λ (q : Key). IsPictureOf q true draws.listing.runs.items draws.notes
             r.picture.items) drawn.0 draws.is_picture;
       };

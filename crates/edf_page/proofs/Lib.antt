@@ -4,4 +4,7 @@ pub mod Memory
 pub mod Taken
 pub mod Files
 pub mod Replacing
+pub mod LastHeld
+pub mod There
+pub mod Figures
 pub mod Nights

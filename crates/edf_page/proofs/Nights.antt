@@ -122,9 +122,9 @@ module _ (spell : ℕ → List ℕ) (d : ℕ) where
       gap_text d r next ≡ gap_text d o other →
       group_line spell None d number (r ∷ []) next ≡ group_line spell None d number (o ∷ []) other
   line number r o next other alike same =
-      let text : ℕ → ℕ → ℕ → List ℕ → List ℕ = λ records first last g. decimal number
+      let text : ℕ → ℕ → ℕ → List ℕ → List ℕ = λ records first last g. (decimal number
       ++ (codes " records=" ++ (decimal (0 + records) ++ (codes " first=" ++ (spell first
-      ++ (codes " seconds=" ++ (short ((last + d) - first) ++ (g ++ (10 ∷ [])))))))) in
+      ++ (codes " seconds=" ++ (short ((last + d) - first) ++ g))))))) ++ (10 ∷ []) in
       ap (λ (n : ℕ). text n r.first r.last (gap_text d r next)) alike.records
       ∙ ap (λ (n : ℕ). text o.records n r.last (gap_text d r next)) alike.first
       ∙ ap (λ (n : ℕ). text o.records o.first n (gap_text d r next)) alike.last

@@ -31,7 +31,7 @@ use Rattle.edf_page.specs.Night.{lines_by}
 use Rattle.edf_page.specs.Programs.{IsText}
 use Rattle.edf_page.specs.declared.given.GivenFile.{GivenFile}
 use Rattle.edf_page.specs.declared.stopped.Stopped.{Stopped}
-use Rattle.edf_page.specs.declared.stopped.Stopped.TheVariants.{Memory, Store, Foreign}
+use Rattle.edf_page.specs.declared.stopped.Stopped.TheVariants.{Memory, Store}
 
 -- a store in memory takes as many data records of a recording as a file may have, and holds this
 pub record HasIn (store : StoreModel MemStore) (h : Holdings) : Type 0 where
@@ -42,12 +42,10 @@ pub record HasIn (store : StoreModel MemStore) (h : Holdings) : Type 0 where
 abbrev pub HoldsStill : StoreModel MemStore → StoreModel MemStore → Type 0
 HoldsStill old new = (h : Holdings) → HasIn old h → HasIn new h
 
--- why nothing is given where the store refused
+-- why nothing is given where the store refused; one that was empty has no rows of others
 abbrev pub stop_by : StoreFault → Stopped
 stop_by fault.Memory = Memory
-stop_by fault.Foreign = Foreign
-stop_by (fault.Store cause) = Store
-stop_by fault.Failed = Store
+stop_by refused = Store
 
 -- where an answer says nothing of its file
 abbrev pub stop_in : Answer → Option Stopped

@@ -15,11 +15,16 @@ use Rattle.edf_program.specs.declared.status.Status.{Status}
 use Rattle.edf_program.specs.declared.status.Status.TheVariants.{Done, Trouble}
 use Rattle.edf_command.specs.Taking.{IsTaken}
 use Rattle.edf_export.specs.Headline.{IsOnlyFile}
+use Rattle.edf_runs.specs.declared.run_list.Listing.{Listing}
+use Rattle.edf_sleep.specs.Night.{AreOfFile}
+use Rattle.edf_sleep.specs.declared.note.Note.{Note}
 use Rattle.edfruns_command.specs.Listed.{IsListOut}
+use Rattle.edfruns_command.specs.Listing.{HasRuns}
+use Rattle.edfruns_command.specs.Picturing.{HasNotes, run_time}
 use Rattle.edf_page.specs.Inside.{HasIn}
 use Rattle.edf_page.specs.Night.{AreTaken, AreRunLines, IsNight, taken_lines}
 use Rattle.edf_page.specs.Programs.{IsText}
-use Rattle.edf_page.specs.declared.night.Night.{Night}
+use Rattle.edf_page.specs.declared.night.GivenNight.{GivenNight}
 use Rattle.edf_page.specs.declared.night.Recording.{Recording}
 
 -- ---- one thing
@@ -29,14 +34,14 @@ abbrev pub AreAlike : Recording → Recording → Type 0
 AreAlike r other = (r.file.items ≡ other.file.items) × (r.runs.items ≡ other.runs.items)
 
 -- nights are the same but for pictures
-pub record AreNightsAlike (night other : Night) : Type 0 where
+pub record AreNightsAlike (night other : GivenNight) : Type 0 where
   pub taken : taken_lines night ≡ taken_lines other
   pub listed : night.listed.items ≡ other.listed.items
   pub each : AllZip AreAlike night.recordings.items other.recordings.items
 
 -- of the same files the same comes
 abbrev pub OneNightComes : Type 0
-OneNightComes = (names files : List (List ℕ)) (night other : Night) →
+OneNightComes = (names files : List (List ℕ)) (night other : GivenNight) →
     IsNight names files night → IsNight names files other → AreNightsAlike night other
 
 -- ---- the programs
@@ -57,3 +62,12 @@ ListWritesRuns = (out err : Growth) (file name text lines : List ℕ) (k : Key)
     (records : List DataRecord) → IsOnlyFile file k records →
     AreRunLines (duration_of k.duration) records lines → IsText out text →
     IsListOut (λ _. Some file) out err None (name ∷ []) Done → text ≡ lines
+
+-- ---- figures
+
+-- the runs and the annotations of a file that is accepted are as figures want them, so those of a
+-- picture are the file's
+abbrev pub FilesHaveFigures : Type 0
+FilesHaveFigures = (file : List ℕ) (listing : Listing) (notes : List Note) →
+    HasRuns (Some file) listing → HasNotes (Some file) notes →
+    AreOfFile notes (map (run_time (duration_of listing.identity.duration)) listing.runs.items)

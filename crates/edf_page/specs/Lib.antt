@@ -3,3 +3,4 @@ pub mod Programs
 pub mod Laws
 pub mod Inside
 pub mod InsideHeld
+pub mod InsideFolder

@@ -18,12 +18,13 @@ use Rattle.edf_export.specs.Headline.{IsOnlyFile}
 use Rattle.edf_runs.specs.ByOnset.{annotations_of}
 use Rattle.edf_runs.specs.Runs.{AreListed}
 use Rattle.edf_runs.specs.declared.run.Run.{Run}
+use Rattle.edf_sleep.specs.Night.{AreOfFile}
 use Rattle.edf_sleep.specs.declared.note.Note.{Note}
 use Rattle.edfruns_command.specs.Joining.{each_line}
-use Rattle.edfruns_command.specs.Picturing.{AreNoted, IsPictureOf}
+use Rattle.edfruns_command.specs.Picturing.{AreNoted, IsPictureOf, run_time}
 use Rattle.edf_page.specs.declared.stopped.Stopped.{Stopped}
-use Rattle.edf_page.specs.declared.stopped.Stopped.TheVariants.{Memory, Store, Foreign}
-use Rattle.edf_page.specs.declared.night.Night.{Night}
+use Rattle.edf_page.specs.declared.stopped.Stopped.TheVariants.{Memory, Store}
+use Rattle.edf_page.specs.declared.night.GivenNight.{GivenNight}
 use Rattle.edf_page.specs.declared.night.Recording.{Recording}
 
 -- ---- the files, in turn
@@ -58,12 +59,13 @@ pub record AreRunLines (d : ℕ) (records : List DataRecord) (lines : List ℕ) 
   pub are_lines : (spell : ℕ → List ℕ) → IsSpelling spell → lines ≡ each_line spell d runs
 
 -- a picture of this recording, with its codes, of its data records and of their annotations, as
--- `edfruns picture` draws one where no gap is joined
+-- `edfruns picture` draws one; these are as a file has them, so the figures hold
 pub record IsPictured (k : Key) (records : List DataRecord) (picture : List ℕ) : Type 0 where
   pub runs : List Run
   pub are_runs : AreListed (duration_of k.duration) records runs
   pub notes : List Note
   pub are_notes : AreNoted (annotations_of records) notes
+  pub of_file : AreOfFile notes (map (run_time (duration_of k.duration)) runs)
   pub is_picture : IsPictureOf k true runs notes picture
 
 -- the recording of a key: the one file of what is held, its runs and its picture
@@ -82,12 +84,12 @@ pub record AreGiven (h : Holdings) (listed : List ℕ) (recordings : List Record
 
 -- ---- all of it
 
-abbrev pub taken_lines : Night → List (List ℕ)
+abbrev pub taken_lines : GivenNight → List (List ℕ)
 taken_lines night = map (λ line. line.items) night.taken.items
 
 -- what comes of files of these names, which have these bytes: by a law they tell one list alone,
 -- and two such nights differ in pictures at most
-pub record IsNight (names files : List (List ℕ)) (night : Night) : Type 0 where
+pub record IsNight (names files : List (List ℕ)) (night : GivenNight) : Type 0 where
   pub each : length names ≡ length files
   pub tolds : List Told
   pub told : AllZip Tells files tolds
@@ -96,11 +98,10 @@ pub record IsNight (names files : List (List ℕ)) (night : Night) : Type 0 wher
 
 -- ---- why nothing is given
 
--- the line of `edfstore` where its store can't be opened: of E41, E42 or E45
+-- the line of `edfstore` where its store can't be opened: of E41 or E42
 abbrev pub stopped_line : Stopped → List ℕ
 stopped_line Memory = codes "store refused E41 Memory\n"
 stopped_line Store = codes "store refused E42 Store\n"
-stopped_line Foreign = codes "store refused E45 Foreign\n"
 
 -- ---- one piece after another
 
@@ -108,6 +109,6 @@ abbrev pub pieces_of_one : Recording → List (List ℕ)
 pieces_of_one r = r.file.items ∷ r.runs.items ∷ r.picture.items ∷ []
 
 -- its pieces, in the order in which they are laid down
-abbrev pub pieces_of : Night → List (List ℕ)
+abbrev pub pieces_of : GivenNight → List (List ℕ)
 pieces_of night = taken_lines night
     ++ (night.listed.items ∷ flat_map pieces_of_one night.recordings.items)

@@ -1,19 +1,20 @@
 -- What programs do with one file in memory: what they write, and which files they leave.
-use Rattle.std.specs.Prelude.{◌≡◌, ◌⊎◌, ◌∷◌, [], ℕ, List, Some}
-use Rattle.std.specs.Prelude.{Bool, true, false, if◌then◌else◌, string_bytes, option_map}
+use Rattle.std.specs.Prelude.{◌≡◌, ◌≢◌, ◌⊎◌, ◌∷◌, [], ℕ, List, Some, None, All, bytes_eq}
+use Rattle.std.specs.Prelude.{Bool, true, false, if◌then◌else◌, String, string_bytes, option_map}
+use Rattle.std.specs.Global.{Global}
 use Rattle.std.specs.List.{AllZip, flat_map}
 use Rattle.edf_new_files.specs.Made.{MadeFile, made_file}
 use Rattle.edf_new_files.specs.Making.{Making}
+use Rattle.edf_new_files.specs.There.{There}
 use Rattle.edf_new_files.specs.declared.new_files.FileStage.{FileStage}
-use Rattle.edf_new_files.specs.declared.new_files.FileStage.TheVariants.{Finished}
+use Rattle.edf_new_files.specs.declared.new_files.FileStage.TheVariants.{Finished, Kept}
 use Rattle.edf_program.specs.Output.{Growth}
 use Rattle.edf_program.specs.Status.{exit_code}
 use Rattle.edf_program.specs.Words.{IsFaultTold}
-use Rattle.edf_program.specs.declared.words.CommandFault.{CommandFault}
 use Rattle.edf_program.specs.declared.words.CommandFault.TheVariants as fault
 use Rattle.edfmend_command.specs.Run.{IsMendDone}
 use Rattle.edfmend_command.specs.Run as mend
-use Rattle.edfmend_command.specs.Words.{Values, Mean, MeansTwo, HasNoStroke}
+use Rattle.edfmend_command.specs.Words.{Values, Mean, MeanNothing}
 use Rattle.edfruns_command.specs.Run.{Asked, IsDone, HasMade}
 use Rattle.edf_page.specs.declared.begun.BegunFile.{BegunFile}
 use Rattle.edf_page.specs.declared.begun.NamedFile.{NamedFile}
@@ -42,13 +43,25 @@ pub record IsLeft (made : MadeFile) (file : NamedFile) : Type 0 where
   pub name : made.name ≡ string_bytes file.name
   pub bytes : made.bytes ≡ Some file.bytes.items
 
--- no file was made before, and no call failed; the bytes of files are known, and those that are
--- there at the end are given back in turn
-pub record MakesInMemory (m : Making) (files : List NamedFile) : Type 0 where
+-- no part of one is left, as where it could not be removed
+abbrev pub IsGone : MadeFile → Type 0
+IsGone made = made.stage ≢ Kept
+
+-- where a file of this name is given, that is there under it, and nothing under any other
+abbrev pub given_there : List ℕ → List ℕ → There
+given_there name bytes other =
+    Some (if bytes_eq name other then Some (Some bytes) else None)
+
+-- no file was made before, and no call failed; just the file that is given was there. The bytes of
+-- files are known, those that are there at the end are given back in turn, and of others no part is
+-- left.
+pub record MakesInMemory (name bytes : List ℕ) (m : Making) (files : List NamedFile) : Type 0 where
   pub known : m.known ≡ true
+  pub there : (other : List ℕ) → m.there other ≡ given_there name bytes other
   pub none : m.before ≡ []
   pub unfailed : m.failed_before ≡ 0
   pub left : AllZip IsLeft (finished_of m.after) files
+  pub gone : All IsGone m.after
 
 -- ---- what is written
 
@@ -65,59 +78,44 @@ NoneFailed made out err =
 
 -- ---- what the programs do
 
--- what `edfruns` does where this is asked for, and each name stands for these bytes
-pub record RunsDone (bytes : List ℕ) (asked : Asked) (ran : Ran) : Type 0 where
+-- what `edfruns` does where this is asked for, with a file of this name, which has these bytes
+pub record RunsDone (name bytes : List ℕ) (asked : Asked) (ran : Ran) : Type 0 where
   pub made : Making
   pub out : Growth
   pub err : Growth
   pub done : IsDone (λ _. Some bytes) made out err asked ran.status
   pub made_by : HasMade made asked
-  pub files : MakesInMemory made ran.files.items
+  pub files : MakesInMemory name bytes made ran.files.items
   pub unfailed : NoneFailed made out err
   pub written : IsText out ran.out.items
   pub told : IsText err ran.err.items
 
 -- what `edfmend` does so
-pub record MendDone (bytes : List ℕ) (asked : mend.Asked) (ran : Ran) : Type 0 where
+pub record MendDone (name bytes : List ℕ) (asked : mend.Asked) (ran : Ran) : Type 0 where
   pub made : Making
   pub out : Growth
   pub err : Growth
   pub done : IsMendDone made out err (Some bytes) asked ran.status
-  pub files : MakesInMemory made ran.files.items
+  pub files : MakesInMemory name bytes made ran.files.items
   pub unfailed : NoneFailed made out err
   pub written : IsText out ran.out.items
   pub told : IsText err ran.err.items
 
--- the words ask for nothing that can be done, for this reason, or for help; no file is made
-pub record TellsFault (why : CommandFault) (ran : Ran) : Type 0 where
+-- this text says that nothing can be done; no file is made
+pub record TellsUsage (text : String Global) (ran : Ran) : Type 0 where
   pub out : Growth
   pub err : Growth
-  pub says : IsFaultTold out err why ran.status
+  pub says : IsFaultTold out err (fault.Usage text) ran.status
+  pub unfailed : err.failed_after ≡ 0
   pub written : IsText out ran.out.items
   pub told : IsText err ran.err.items
   pub none : ran.files.items ≡ []
 
--- what comes of `edfruns` by some words
-abbrev pub IsRunsRan : List ℕ → Ran → Type 0
-IsRunsRan bytes ran = ((asked : Asked) × RunsDone bytes asked ran)
-    ⊎ ((why : CommandFault) × TellsFault why ran)
-
--- the words ask `edfmend` for this, as it reads them; IN and OUT alone ask for nothing more
-pub record AskMend (words : List (List ℕ)) (asked : mend.Asked) : Type 0 where
-  pub values : Values
-  pub mean : Mean values asked
-  pub two : (input output : List ℕ) → words ≡ input ∷ output ∷ [] → HasNoStroke input →
-      HasNoStroke output → MeansTwo input output asked
-
--- IN and OUT alone ask for what can be done
-abbrev pub AskNothing : List (List ℕ) → CommandFault → Type 0
-AskNothing words why = (input output : List ℕ) → words ≡ input ∷ output ∷ [] →
-    HasNoStroke input → HasNoStroke output → why ≡ fault.Memory
-
--- what comes of `edfmend` by these words
-abbrev pub IsMendRan : List (List ℕ) → List ℕ → Ran → Type 0
-IsMendRan words bytes ran = ((asked : mend.Asked) × AskMend words asked × MendDone bytes asked ran)
-    ⊎ ((why : CommandFault) × AskNothing words why × TellsFault why ran)
+-- what comes of `edfmend` by these values of its words: what they mean, or nothing can be done
+abbrev pub IsMendRan : Values → List ℕ → List ℕ → Ran → Type 0
+IsMendRan values name bytes ran =
+    ((asked : mend.Asked) × Mean values asked × MendDone name bytes asked ran)
+    ⊎ ((text : String Global) × MeanNothing values × TellsUsage text ran)
 
 -- ---- one piece after another
 

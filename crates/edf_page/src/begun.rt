@@ -1,10 +1,13 @@
 //! The files that a program began, in turn, with their bytes.
 
-ghost use Rattle.std.specs.Prelude.{◌≡◌, ◌≤◌, ◌++◌, ◌∷◌, [], ℕ, true, false, List, IfOk};
-ghost use Rattle.std.specs.Prelude.{MatchResult, OnOk, length, option_map};
+ghost use Rattle.std.specs.Prelude.{◌≡◌, ◌≤◌, ◌++◌, ◌∷◌, [], ℕ, false, List, All, IfOk};
+ghost use Rattle.std.specs.Prelude.{Option, Some, None, MatchOption, MatchResult, OnOk, length};
+ghost use Rattle.std.specs.Prelude.{option_map, string_bytes};
 ghost use Rattle.std.specs.List.{AllZip};
 ghost use Rattle.edf_new_files.specs.Made.{MadeFile, made_file, begun, removed, WritesNone};
-ghost use Rattle.edf_page.specs.Programs.{IsLeft, finished_of, made_of};
+ghost use Rattle.edf_new_files.specs.There.{HasName};
+ghost use Rattle.edf_page.specs.InsideFolder.{last_held};
+ghost use Rattle.edf_page.specs.Programs.{IsLeft, IsGone, finished_of, made_of};
 ghost use Rattle.edf_page.specs.declared.begun.NamedFile.{NamedFile};
 
 use edf_new_files::{FileStage, Unfinished};
@@ -30,7 +33,9 @@ struct BegunFile {
 }
 
 impl BegunFile {
-    ghost use Rattle.std.specs.Prelude.{◌≡◌};
+    ghost use Rattle.std.specs.Prelude.{◌≡◌, ◌↔◌, IsTrue, false};
+    ghost use Rattle.edf_new_files.specs.There.{HasName};
+    ghost use Rattle.edf_page.specs.Programs.{made_of};
 
     /// Its writer was given back.
     fn give_back(
@@ -52,18 +57,31 @@ impl BegunFile {
         self.why = why;
     }
 
-    /// Whether there is a file of that name now.
-    fn is_named(&self, name: &str) -> bool {
-        self.is_whole && self.stage != FileStage::Removed && self.name.as_str() == name
+    /// Whether it is written.
+    fn is_begun(&self) -> bool
+        ensures { IsTrue result ↔ (self.now.stage ≡ FileStage.Begun) × (self.now.is_whole ≡ false) }
+    {
+        self.stage == FileStage::Begun && !self.is_whole
+    }
+
+    /// Whether it has its name.
+    fn is_named(&self) -> bool
+        ensures { IsTrue result ↔ HasName (made_of self.now) }
+    {
+        self.is_whole && self.stage != FileStage::Removed
     }
 }
 
-/// Adds a file to those that are there, if it is there.
+/// Adds a file to those that are there, if it is there. None is kept: all can be removed.
 fn push_finished(files: &mut Vec<NamedFile>, file: BegunFile) -> Result<(), AllocError>
-    ensures { OnOk result ((added : List NamedFile)
+    ensures added { OnOk result ((added : List NamedFile)
         × (files.new.items ≡ files.old.items ++ added)
         × AllZip IsLeft (finished_of (made_of file ∷ [])) added) }
+    ensures gone { OnOk result (IsGone (made_of file)) }
 {
+    if file.stage == FileStage::Kept {
+        return Err(AllocError);
+    }
     if file.stage != FileStage::Finished {
         return Ok(());
     }
@@ -115,18 +133,35 @@ impl BegunFiles {
         self.entries.len()
     }
 
-    /// Whether a file is written: the last of them.
-    pub(crate) fn is_writing(&self) -> bool
-        ensures some { result ≡ true → ¬ WritesNone self.now }
-        ensures none { result ≡ false → WritesNone self.now }
+    /// The name of the file that is written, the last of them, if one is.
+    pub(crate) fn written_name(&self) -> Result<Option<String>, AllocError>
+        ensures some { (files : List MadeFile) (name : List ℕ) →
+            self.now ≡ files ++ (begun name ∷ []) →
+            IfOk result (λ found. option_map string_bytes found ≡ Some name) }
+        ensures none { WritesNone self.now → IfOk result (λ found. found ≡ None) }
     {
         let count = self.entries.len();
-        count > 0 && self.entries[count - 1].stage == FileStage::Begun
+        if count == 0 || !self.entries[count - 1].is_begun() {
+            return Ok(None);
+        }
+        Ok(Some(self.entries[count - 1].name.clone()?))
     }
 
-    /// Whether there is a file of that name.
-    pub(crate) fn has(&self, name: &str) -> bool {
-        self.entries.iter().any(|file| file.is_named(name))
+    /// The name of the file at a place, where it has that.
+    pub(crate) fn named_at(&self, place: usize) -> Option<&str>
+        ensures { (front later : List MadeFile) (file : MadeFile) →
+            self.now ≡ front ++ (file ∷ later) → length front ≡ place →
+            MatchOption result (¬ HasName file)
+            (λ name. HasName file × (name.now ≡ file.name)) }
+    {
+        if place >= self.entries.len() {
+            return None;
+        }
+        let entry = &self.entries[place];
+        if !entry.is_named() {
+            return None;
+        }
+        Some(entry.name.as_str())
     }
 
     /// Adds a file of that name that is begun.
@@ -158,9 +193,11 @@ impl BegunFiles {
             self.old ≡ files ++ (begun name ∷ []) → self.new ≡ files
             ++ (made_file name stage is_whole (option_map (λ bytes. bytes.items) bytes) why ∷ []) }
         ensures none { WritesNone self.old → self.new ≡ self.old }
+        ensures held { is_whole ≡ false → (name : List ℕ) (other : Option (List ℕ)) →
+            last_held self.new name other ≡ last_held self.old name other }
     {
         let count = self.entries.len();
-        if count > 0 && self.entries[count - 1].stage == FileStage::Begun {
+        if count > 0 && self.entries[count - 1].is_begun() {
             self.entries[count - 1].give_back(stage, is_whole, bytes, why);
         }
     }
@@ -177,16 +214,10 @@ impl BegunFiles {
         }
     }
 
-    /// Forgets them.
-    pub(crate) fn clear(&mut self)
-        ensures { self.new ≡ [] }
-    {
-        self.entries.clear();
-    }
-
     /// Those that are there, in turn.
     pub(crate) fn into_named(self, alloc: Global) -> Result<Vec<NamedFile>, AllocError>
-        ensures { IfOk result (λ files. AllZip IsLeft (finished_of self) files.items) }
+        ensures left { IfOk result (λ files. AllZip IsLeft (finished_of self) files.items) }
+        ensures gone { IfOk result (λ _. All IsGone self) }
     {
         let BegunFiles { entries } = self;
         let mut files = Vec::new(alloc);

@@ -1,73 +1,127 @@
 //! A folder in memory: a file is there, and a program makes new ones.
 
-ghost use Rattle.std.specs.Prelude.{◌≡◌, [], IfOk};
+ghost use Rattle.std.specs.Prelude.{◌≡◌, ◌++◌, ◌∷◌, [], ℕ, List, Bool, false, true, All, IfOk};
+ghost use Rattle.std.specs.Prelude.{◌||◌, IfErr, MatchResult, bytes_eq};
 ghost use Rattle.std.specs.List.{AllZip};
-ghost use Rattle.edf_page.specs.Programs.{IsLeft, finished_of};
+ghost use Rattle.edf_new_files.specs.Made.{MadeFile, begun, WritesNone};
+ghost use Rattle.edf_page.specs.InsideFolder.{is_among, unforgotten};
+ghost use Rattle.edf_page.specs.Programs.{IsLeft, IsGone, finished_of};
 
 use crate::begun::{BegunFiles, NamedFile};
+use crate::given::GivenFile;
+use crate::names::Names;
 use crate::text::Text;
 use edf_fragment::one_more;
 use edf_new_files::{FileStage, NewFiles, Unfinished};
 use std::alloc::{AllocError, Global};
 use std::io;
 
-/// A folder with a file of that name, and what a program makes beside it.
+/// A folder with a file, and what a program makes beside it. Once that is forgotten, nothing more
+/// is made: no command that has this folder forgets anything.
 #[derive(Drop)]
 pub(crate) struct Folder<'a> {
-    name: &'a str,
+    pub(crate) given: GivenFile<'a>,
+    /// The names of which there is something.
+    pub(crate) names: Names,
     pub(crate) files: BegunFiles,
+    pub(crate) is_forgotten: bool,
     pub(crate) begun_count: u64,
     pub(crate) failed: u64,
 }
 
 impl<'a> Folder<'a> {
     /// Nothing was made yet.
-    pub(crate) fn new(alloc: Global, name: &'a str) -> Folder<'a>
-        ensures none { result.files ≡ [] }
-        ensures unfailed { result.failed ≡ 0 }
+    pub(crate) fn new(alloc: Global, given: &GivenFile<'a>) -> Result<Folder<'a>, AllocError>
+        ensures given { IfOk result (λ folder. folder.given ≡ given.now) }
+        ensures named { IfOk result (λ folder. (other : List ℕ) →
+            is_among folder.names.all.items other ≡ bytes_eq given.now.name.now other) }
+        ensures none { IfOk result (λ folder. folder.files ≡ []) }
+        ensures unforgotten { IfOk result (λ folder. folder.is_forgotten ≡ false) }
+        ensures unfailed { IfOk result (λ folder. folder.failed ≡ 0) }
     {
-        Folder {
-            name,
+        let names = Names::of(alloc, given.name)?;
+        Ok(Folder {
+            given: *given,
+            names,
             files: BegunFiles::new(alloc),
+            is_forgotten: false,
             begun_count: 0,
             failed: 0,
-        }
+        })
     }
 
-    /// Whether there is a file of that name.
-    fn has(&self, name: &str) -> bool {
-        name == self.name || self.files.has(name)
+    /// Notes the name of the file that is written among those of which there is something. None is
+    /// written where a write to it failed.
+    fn take_name(&mut self, failures: u64) -> Result<(), Unfinished>
+        ensures given { self.new.given ≡ self.old.given }
+        ensures files { self.new.files ≡ self.old.files }
+        ensures forgotten { self.new.is_forgotten ≡ self.old.is_forgotten }
+        ensures begun_count { self.new.begun_count ≡ self.old.begun_count }
+        ensures failed { self.new.failed ≡ self.old.failed }
+        ensures unfailed { IfOk result (λ _. failures ≡ 0) }
+        ensures names { (files : List MadeFile) (name : List ℕ) →
+            self.old.files ≡ files ++ (begun name ∷ []) → MatchResult result
+            (λ _. (is_among self.old.names.all.items name ≡ false)
+            × ((other : List ℕ) → is_among self.new.names.all.items other
+            ≡ (is_among self.old.names.all.items other || bytes_eq name other)))
+            (λ why. why ≡ Unfinished.IsThere → is_among self.old.names.all.items name ≡ true) }
+        ensures stay { IfErr result (λ _. self.new.names.all.items ≡ self.old.names.all.items) }
+        ensures none { WritesNone (unforgotten self.old.is_forgotten self.old.files) →
+            IfOk result (λ _. ⊥) }
+    {
+        if self.is_forgotten || failures > 0 {
+            return Err(Unfinished::Failed);
+        }
+        let Ok(Some(name)) = self.files.written_name() else {
+            return Err(Unfinished::Failed);
+        };
+        if self.names.have(name.as_str()) {
+            return Err(Unfinished::IsThere);
+        }
+        match self.names.add(name) {
+            Ok(()) => Ok(()),
+            Err(_) => Err(Unfinished::Failed),
+        }
     }
 
     /// The files that were made and are there, in turn.
     pub(crate) fn into_named(self, alloc: Global) -> Result<Vec<NamedFile>, AllocError>
-        ensures { IfOk result (λ files. AllZip IsLeft (finished_of self.entry.files) files.items) }
+        ensures left { IfOk result (λ files. AllZip IsLeft
+            (finished_of (unforgotten self.entry.is_forgotten self.entry.files)) files.items) }
+        ensures gone { IfOk result (λ _. All IsGone
+            (unforgotten self.entry.is_forgotten self.entry.files)) }
     {
+        if self.is_forgotten {
+            return Ok(Vec::new(alloc));
+        }
         self.files.into_named(alloc)
     }
 }
 
 impl<'a> NewFiles for Folder<'a> {
-    ghost use Rattle.std.specs.Prelude.{None, true};
+    ghost use Rattle.std.specs.Prelude.{true};
+    ghost use Rattle.edf_page.specs.InsideFolder.{there_in, unforgotten};
 
     type Writer = Text;
 
     ghost known = { λ _. true };
 
-    ghost there = { λ _ _. None };
+    ghost there = { λ folder. there_in folder.given.name.now folder.given.bytes.now
+        folder.names.all.items folder.files };
 
-    ghost made = { λ folder. folder.files };
+    ghost made = { λ folder. unforgotten folder.is_forgotten folder.files };
 
     ghost begun_count = { λ folder. folder.begun_count };
 
     ghost failed = { λ folder. folder.failed };
 
     fn is_there(&mut self, name: &str) -> bool {
-        self.has(name)
+        self.names.have(name)
     }
 
     fn create(&mut self, alloc: Global, name: &str) -> io::Result<Text> {
-        if self.has(name) || self.files.push(alloc, name).is_err() {
+        let is_refused = self.is_forgotten || self.names.have(name);
+        if is_refused || self.files.push(alloc, name).is_err() {
             self.failed = one_more(self.failed);
             return Err(io::Error::from(io::ErrorKind::AlreadyExists));
         }
@@ -77,12 +131,13 @@ impl<'a> NewFiles for Folder<'a> {
 
     fn finish(&mut self, writer: Text) -> Result<u64, Unfinished> {
         let Text { bytes, failures } = writer;
-        if !self.files.is_writing() || failures > 0 {
-            let why = Some(Unfinished::Failed);
-            self.files
-                .give_back(FileStage::Removed, false, Some(bytes), why);
+        if let Err(why) = self.take_name(failures) {
+            if !self.is_forgotten {
+                self.files
+                    .give_back(FileStage::Removed, false, Some(bytes), Some(why));
+            }
             self.failed = one_more(self.failed);
-            return Err(Unfinished::Failed);
+            return Err(why);
         }
         let count = bytes.len() as u64;
         self.files
@@ -92,22 +147,38 @@ impl<'a> NewFiles for Folder<'a> {
 
     fn abandon(&mut self, writer: Text) {
         let Text { bytes, failures } = writer;
-        self.files
-            .give_back(FileStage::Left, false, Some(bytes), None);
+        if !self.is_forgotten {
+            self.files
+                .give_back(FileStage::Left, false, Some(bytes), None);
+        }
         self.failed = self.failed.saturating_add(failures);
     }
 
     fn count(&self) -> usize {
-        self.files.count()
+        if self.is_forgotten {
+            0
+        } else {
+            self.files.count()
+        }
     }
 
     fn remove(&mut self, place: usize) -> bool {
-        let is_there = place < self.files.count();
+        if self.is_forgotten {
+            return false;
+        }
+        if place >= self.files.count() {
+            return false;
+        }
+        let Some(name) = self.files.named_at(place) else {
+            self.files.remove(place);
+            return true;
+        };
+        self.names.remove(name);
         self.files.remove(place);
-        is_there
+        true
     }
 
     fn forget(&mut self) {
-        self.files.clear();
+        self.is_forgotten = true;
     }
 }

@@ -3,6 +3,7 @@
 ghost use Rattle.std.specs.Prelude.{ℕ, List};
 ghost use Rattle.edf_program.specs.Text.{IsSpelling};
 ghost use Rattle.edf_page.specs.Laws.{OneNightComes, TakeWritesLines, ListWritesRuns};
+ghost use Rattle.edf_page.specs.Laws.{FilesHaveFigures};
 
 /// Of the same files the same comes, but for pictures: the same lines, recordings and runs.
 pub fn one_night_comes()
@@ -18,4 +19,9 @@ pub fn the_programs_write_this()
 /// Instants have a spelling, as lines have them.
 pub fn instants_have_a_spelling()
     ensures { (spell : ℕ → List ℕ) × IsSpelling spell }
+{}
+
+/// The figures of a picture are those of its file's runs and annotations, whatever the file.
+pub fn files_have_figures()
+    ensures { FilesHaveFigures }
 {}

@@ -3,12 +3,13 @@
 //!
 //! - [`give_night`]: files are taken in turn into an empty store, and this is what comes of them:
 //!   the line of `edfstore take` for each, the lines of `edfstore list`, and of each recording its
-//!   EDF+D file, the lines of `edfruns list` and its picture ([`Night`], [`Recording`]).
-//! - [`run_edfruns`], [`run_edfmend`]: what these programs do by words with one file: what they
-//!   write, and the files that they make ([`Ran`], [`NamedFile`]).
+//!   EDF+D file, the lines of `edfruns list` and its picture ([`GivenNight`], [`Recording`]).
+//! - [`run_edfruns`], [`run_edfmend`]: what these programs do with one file where this is asked for:
+//!   what they write, and the files that they make ([`Ran`], [`NamedFile`]).
 //! - [`GivenFile`]: a file, by its name and its bytes.
 //! - [`Stopped`]: why nothing is given.
-//! - [`laws`]: what comes of files is one thing, but for pictures, and is what the programs say.
+//! - [`laws`]: what comes of files is one thing, but for pictures, and is what the programs say;
+//!   figures are those of the file.
 #![tactic(auto)]
 
 mod begun;
@@ -16,6 +17,7 @@ mod folder;
 mod given;
 mod holding;
 pub mod laws;
+mod names;
 mod night;
 mod programs;
 mod running;
@@ -24,6 +26,6 @@ mod text;
 
 pub use begun::NamedFile;
 pub use given::GivenFile;
-pub use night::{Night, Recording, give_night};
+pub use night::{GivenNight, Recording, give_night};
 pub use programs::{Ran, run_edfmend, run_edfruns};
 pub use stopped::Stopped;

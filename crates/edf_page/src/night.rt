@@ -28,7 +28,7 @@ pub struct Recording {
 
 /// What comes of files.
 #[derive(Debug, Drop)]
-pub struct Night {
+pub struct GivenNight {
     /// The line of `edfstore take` for each file, in their order.
     pub taken: Vec<Vec<u8>>,
     /// The lines of `edfstore list`.
@@ -113,7 +113,7 @@ fn recordings_of(alloc: Global, files: Vec<Vec<u8>>) -> Result<Vec<Recording>, S
 /// # Errors
 /// `Stopped` where memory ran out, or the store refused. Then nothing is given, of no file: also
 /// not of those that would have been taken.
-pub fn give_night(alloc: Global, files: &[GivenFile<'_>]) -> Result<Night, Stopped>
+pub fn give_night(alloc: Global, files: &[GivenFile<'_>]) -> Result<GivenNight, Stopped>
     ensures { IfOk result (λ night. IsNight (map (λ file. file.name.now) files.now)
         (map (λ file. file.bytes.now) files.now) night) }
 {
@@ -124,7 +124,7 @@ pub fn give_night(alloc: Global, files: &[GivenFile<'_>]) -> Result<Night, Stopp
         files: exported,
     } = held;
     let recordings = recordings_of(alloc, exported)?;
-    Ok(Night {
+    Ok(GivenNight {
         taken,
         listed,
         recordings,

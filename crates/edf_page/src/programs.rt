@@ -1,19 +1,18 @@
 //! The programs of files, over one file and in memory.
 
-ghost use Rattle.std.specs.Prelude.{◌≡◌, true, IfOk, map, string_bytes};
+ghost use Rattle.std.specs.Prelude.{◌≡◌, true, IfOk, MatchResult};
 ghost use Rattle.edfmend_command.specs.Run.{meaning as mend_meaning};
 ghost use Rattle.edfruns_command.specs.Run.{meaning};
-ghost use Rattle.edf_page.specs.Programs.{RunsDone, MendDone, TellsFault, IsRunsRan, IsMendRan};
+ghost use Rattle.edf_page.specs.Programs.{RunsDone, MendDone, TellsUsage, IsMendRan};
 
 use crate::begun::NamedFile;
 use crate::folder::Folder;
 use crate::given::{GivenFile, OneFile};
-use crate::stopped::Stopped;
 use crate::text::Text;
 use edf_program::{CommandFault, Status, tell_fault};
-use edfmend_command::{MendCommand, run_mend};
+use edfmend_command::{MendCommand, MendValues, command_of, run_mend};
 use edfruns_command::{RunsCommand, run_runs};
-use std::alloc::Global;
+use std::alloc::{AllocError, Global};
 
 /// What a program did.
 #[derive(Debug, Drop)]
@@ -36,17 +35,28 @@ fn are_whole(out: &Text, err: &Text, folder: &Folder<'_>) -> bool
     folder.failed == 0 && out.failures == 0 && err.failures == 0
 }
 
-/// What a command of `edfruns` does with a file.
-fn runs_of(alloc: Global, command: &RunsCommand, file: &GivenFile<'_>) -> Result<Ran, Stopped>
-    ensures { IfOk result (RunsDone file.now.bytes.now (meaning command.now)) }
+/// What `edfruns` does where this is asked for, with a file. Each name that the command has of a
+/// file to read stands for that file. Its name alone is one that no file can be made under.
+///
+/// With status 3, as where memory ran out, what was written may be a front of it.
+///
+/// # Errors
+/// Where memory ran out for what is written or made.
+pub fn run_edfruns(
+    alloc: Global,
+    command: &RunsCommand,
+    file: &GivenFile<'_>,
+) -> Result<Ran, AllocError>
+    ensures { IfOk result
+        (RunsDone file.now.name.now file.now.bytes.now (meaning command.now)) }
 {
     let mut out = Text::new(alloc);
     let mut err = Text::new(alloc);
     let mut input = OneFile::new(alloc, file.bytes);
-    let mut folder = Folder::new(alloc, file.name);
+    let mut folder = Folder::new(alloc, file)?;
     let status = run_runs(alloc, command, &mut input, &mut folder, &mut out, &mut err);
     if !are_whole(&out, &err, &folder) {
-        return Err(Stopped::Memory);
+        return Err(AllocError);
     }
     let files = folder.into_named(alloc)?;
     Ok(Ran {
@@ -58,16 +68,17 @@ fn runs_of(alloc: Global, command: &RunsCommand, file: &GivenFile<'_>) -> Result
 }
 
 /// What a command of `edfmend` does with a file.
-fn mend_of(alloc: Global, command: &MendCommand, file: &GivenFile<'_>) -> Result<Ran, Stopped>
-    ensures { IfOk result (MendDone file.now.bytes.now (mend_meaning command.now)) }
+fn mend_of(alloc: Global, command: &MendCommand, file: &GivenFile<'_>) -> Result<Ran, AllocError>
+    ensures { IfOk result
+        (MendDone file.now.name.now file.now.bytes.now (mend_meaning command.now)) }
 {
     let mut out = Text::new(alloc);
     let mut err = Text::new(alloc);
     let mut input = OneFile::new(alloc, file.bytes);
-    let mut folder = Folder::new(alloc, file.name);
+    let mut folder = Folder::new(alloc, file)?;
     let status = run_mend(alloc, command, &mut input, &mut folder, &mut out, &mut err);
     if !are_whole(&out, &err, &folder) {
-        return Err(Stopped::Memory);
+        return Err(AllocError);
     }
     let files = folder.into_named(alloc)?;
     Ok(Ran {
@@ -78,45 +89,39 @@ fn mend_of(alloc: Global, command: &MendCommand, file: &GivenFile<'_>) -> Result
     })
 }
 
-/// What is told where there is no command to run.
-fn told(alloc: Global, fault: &CommandFault) -> Ran
-    ensures { TellsFault fault.now result }
+/// What is told where the values ask for nothing that can be done.
+fn refusal_of(alloc: Global, text: String) -> Result<Ran, AllocError>
+    ensures { IfOk result (TellsUsage text) }
 {
     let mut out = Text::new(alloc);
     let mut err = Text::new(alloc);
-    let status = tell_fault(fault, &mut out, &mut err);
-    Ran {
+    let status = tell_fault(&CommandFault::Usage(text), &mut out, &mut err);
+    if err.failures > 0 {
+        return Err(AllocError);
+    }
+    Ok(Ran {
         status,
         out: out.bytes,
         err: err.bytes,
         files: Vec::new(alloc),
-    }
+    })
 }
 
-/// What `edfruns` does by the words after its name. Each name that they have of a file to read, and
-/// `-`, stands for the file that is given; a file to be made is refused its name, and so is one
-/// whose name was just given to another.
+/// What `edfmend` does by these values of its words, with a file, which is IN under any name: of
+/// files as [`run_edfruns`].
 ///
 /// # Errors
-/// Where memory ran out for the files that were made. Elsewhere a line of the answer says so.
-pub fn run_edfruns(alloc: Global, words: &[String], file: &GivenFile<'_>) -> Result<Ran, Stopped>
-    ensures { IfOk result (IsRunsRan file.now.bytes.now) }
+/// Where memory ran out for the words, or for what is written or made.
+pub fn run_edfmend(
+    alloc: Global,
+    values: &MendValues<'_>,
+    file: &GivenFile<'_>,
+) -> Result<Ran, AllocError>
+    ensures { IfOk result (IsMendRan values.now file.now.name.now file.now.bytes.now) }
 {
-    match edfruns_command::parse(alloc, words) {
-        Ok(command) => runs_of(alloc, &command, file),
-        Err(fault) => Ok(told(alloc, &fault)),
-    }
-}
-
-/// What `edfmend` does by the words after its name, of files as [`run_edfruns`].
-///
-/// # Errors
-/// Where memory ran out for the file that was made. Elsewhere a line of the answer says so.
-pub fn run_edfmend(alloc: Global, words: &[String], file: &GivenFile<'_>) -> Result<Ran, Stopped>
-    ensures { IfOk result (IsMendRan (map string_bytes words.now) file.now.bytes.now) }
-{
-    match edfmend_command::parse(alloc, words) {
+    match command_of(alloc, values) {
         Ok(command) => mend_of(alloc, &command, file),
-        Err(fault) => Ok(told(alloc, &fault)),
+        Err(CommandFault::Usage(text)) => refusal_of(alloc, text),
+        Err(CommandFault::Help(_) | CommandFault::Memory) => Err(AllocError),
     }
 }

@@ -6,7 +6,7 @@ ghost use Rattle.edfruns_command.specs.Run.Asked.{list, picture};
 ghost use Rattle.edf_page.specs.Inside.{IsWrittenOf, ListsFile, DrawsFile, recording_name};
 
 use crate::folder::Folder;
-use crate::given::OneFile;
+use crate::given::{GivenFile, OneFile};
 use crate::stopped::Stopped;
 use crate::text::Text;
 use edf_program::Status;
@@ -31,7 +31,7 @@ fn written_of(
     let mut out = Text::new(alloc);
     let mut err = Text::new(alloc);
     let mut input = OneFile::new(alloc, bytes);
-    let mut none = Folder::new(alloc, NAME);
+    let mut none = Folder::new(alloc, &GivenFile { name: NAME, bytes })?;
     match run_runs(alloc, &command, &mut input, &mut none, &mut out, &mut err) {
         Status::Done => Ok(out.bytes),
         _ => Err(Stopped::Memory),

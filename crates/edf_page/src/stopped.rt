@@ -14,8 +14,6 @@ pub enum Stopped {
     Memory,
     /// E42: the store refused.
     Store,
-    /// E45: the store has rows that it did not write.
-    Foreign,
 }
 
 impl Stopped {
@@ -26,7 +24,6 @@ impl Stopped {
         match self {
             Stopped::Memory => "store refused E41 Memory\n",
             Stopped::Store => "store refused E42 Store\n",
-            Stopped::Foreign => "store refused E45 Foreign\n",
         }
     }
 }
@@ -51,8 +48,7 @@ impl From<StoreFault> for Stopped {
     fn from(fault: StoreFault) -> Stopped {
         match fault {
             StoreFault::Memory => Stopped::Memory,
-            StoreFault::Foreign => Stopped::Foreign,
-            StoreFault::Store(_) | StoreFault::Failed => Stopped::Store,
+            StoreFault::Foreign | StoreFault::Store(_) | StoreFault::Failed => Stopped::Store,
         }
     }
 }
@@ -70,8 +66,6 @@ pub(crate) fn stop_of_export(fault: ExportFault) -> Stopped {
 pub(crate) fn stop_said(err: &[u8]) -> Stopped {
     if err.ends_with(b" E42 Store\n") {
         Stopped::Store
-    } else if err.ends_with(b" E45 Foreign\n") {
-        Stopped::Foreign
     } else {
         Stopped::Memory
     }

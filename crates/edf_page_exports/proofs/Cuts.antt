@@ -6,16 +6,16 @@ use Rattle.std.proofs.Common.{All, Bor, get_or}
 use Rattle.std.specs.Str.{IsUtf8}
 use Rattle.std.proofs.lemmas.List.{get_or-map, length-map}
 use Rattle.std.proofs.lemmas.List.Elements.{All-head, All-tail, All-cons, All-nil}
-use Rattle.edf_page_exports.specs.Laid.{AreCut, AreTexts, joined}
+use Rattle.edf_page_exports.specs.Laid.{AreCut, AreTexts, laid}
 
 abbrev total : List ℕ → ℕ
 total [] = 0
 total (x ∷ xs) = x + total xs
 
-length-joined : (ps : List (List ℕ)) → length (joined ps) ≡ total (map length ps)
-length-joined [] = refl
-length-joined (p ∷ ps) =
-    length-append p (joined ps) ∙ ap (λ (n : ℕ). length p + n) (length-joined ps)
+length-laid : (ps : List (List ℕ)) → length (laid ps) ≡ total (map length ps)
+length-laid [] = refl
+length-laid (p ∷ ps) =
+    length-append p (laid ps) ∙ ap (λ (n : ℕ). length p + n) (length-laid ps)
 
 total-take : (i : ℕ) (xs : List ℕ) → total (take i xs) ≤ total xs
 total-take zero xs = omega arith
@@ -30,16 +30,16 @@ total-append (x ∷ xs) ys = omega (arith, total-append xs ys)
 cut-total : (bytes sizes : List ℕ) (ps : List (List ℕ)) → AreCut bytes sizes ps →
     length bytes ≡ total sizes
 cut-total bytes sizes ps cut =
-    ap length cut.all ∙ (length-joined ps ∙ ap total (sym cut.sized))
+    ap length cut.all ∙ (length-laid ps ∙ ap total (sym cut.sized))
 
-front-total : (bytes left : List ℕ) (front : List (List ℕ)) → bytes ≡ joined front ++ left →
+front-total : (bytes left : List ℕ) (front : List (List ℕ)) → bytes ≡ laid front ++ left →
     length bytes ≡ total (map length front) + length left
-front-total bytes left front all = ap length all ∙ (length-append (joined front) left
-    ∙ ap (λ (n : ℕ). n + length left) (length-joined front))
+front-total bytes left front all = ap length all ∙ (length-append (laid front) left
+    ∙ ap (λ (n : ℕ). n + length left) (length-laid front))
 
 -- they are not cut where too few are left for a size
 pub too-few : (bytes left sizes : List ℕ) (front : List (List ℕ)) (i size : ℕ) →
-    bytes ≡ joined front ++ left → take i sizes ≡ map length front →
+    bytes ≡ laid front ++ left → take i sizes ≡ map length front →
     take (i + 1) sizes ≡ take i sizes ++ size ∷ [] → length left < size →
     (ps : List (List ℕ)) → AreCut bytes sizes ps → ⊥
 too-few bytes left sizes front i size all sized more few ps cut =
@@ -52,7 +52,7 @@ too-few bytes left sizes front i size all sized more few ps cut =
 
 -- nor where some are left over
 pub too-many : (bytes left sizes : List ℕ) (front : List (List ℕ)) →
-    bytes ≡ joined front ++ left → sizes ≡ map length front → 1 ≤ length left →
+    bytes ≡ laid front ++ left → sizes ≡ map length front → 1 ≤ length left →
     (ps : List (List ℕ)) → AreCut bytes sizes ps → ⊥
 too-many bytes left sizes front all sized some ps cut =
     let here = front-total bytes left front all in
@@ -77,16 +77,16 @@ same-front (x ∷ p) (y ∷ q) ps qs len same =
     let rest = same-front p q ps qs (omega (arith, len)) (tail-is x y (p ++ ps) (q ++ qs) same) in
     ap (λ (z : ℕ). z ∷ p) first ∙ ap (λ (l : List ℕ). y ∷ l) rest
 
-same-pieces : (ps qs : List (List ℕ)) → joined ps ≡ joined qs → map length ps ≡ map length qs →
+same-pieces : (ps qs : List (List ℕ)) → laid ps ≡ laid qs → map length ps ≡ map length qs →
     ps ≡ qs
 same-pieces [] [] all sized = refl
 same-pieces [] (q ∷ qs) all sized = absurd (cc)
 same-pieces (p ∷ ps) [] all sized = absurd (cc)
 same-pieces (p ∷ ps) (q ∷ qs) all sized =
-    let first : p ≡ q = same-front p q (joined ps) (joined qs)
+    let first : p ≡ q = same-front p q (laid ps) (laid qs)
     (head-is (length p) (length q) (map length ps) (map length qs) sized) all in
-    let rest : joined ps ≡ joined qs = append_cancel_left q (joined ps) (joined qs)
-    (subst (λ (f : List ℕ). f ++ joined ps ≡ q ++ joined qs) first all) in
+    let rest : laid ps ≡ laid qs = append_cancel_left q (laid ps) (laid qs)
+    (subst (λ (f : List ℕ). f ++ laid ps ≡ q ++ laid qs) first all) in
     let others = same-pieces ps qs rest
     (tail-is (length p) (length q) (map length ps) (map length qs) sized) in
     ap (λ (z : List ℕ). z ∷ ps) first ∙ ap (λ (l : List (List ℕ)). q ∷ l) others

@@ -1,3 +1,4 @@
 pub mod Cuts
 pub mod Answering
 pub mod Writing
+pub mod Values

@@ -5,7 +5,7 @@ use Rattle.std.specs.List.{flat_map}
 use Rattle.std.proofs.lemmas.List.{take_at, drop_more, set_at, map_push}
 use Rattle.std.proofs.lemmas.Slice.{drop-append-drop}
 use Rattle.std.proofs.lemmas.Grind.{flat_map-append}
-use Rattle.edf_page_exports.specs.Laid.{joined}
+use Rattle.edf_page_exports.specs.Laid.{laid}
 
 abbrev pub bytes_of : Bor (List ℕ) → List ℕ
 bytes_of piece = piece.now
@@ -31,12 +31,12 @@ set-more old now front at v is len lt =
 -- the bytes and the sizes of one piece more
 module _ (ps : List (Bor (List ℕ))) (at : ℕ) (p : Bor (List ℕ))
     (more : take (at + 1) ps ≡ take at ps ++ p ∷ []) where
-  pub joined-more :
-      joined (map bytes_of (take (at + 1) ps)) ≡ joined (map bytes_of (take at ps)) ++ p.now
-  joined-more = ap (λ (l : List (Bor (List ℕ))). joined (map bytes_of l)) more
-      ∙ ap joined (map_push bytes_of (take at ps) p)
+  pub laid-more :
+      laid (map bytes_of (take (at + 1) ps)) ≡ laid (map bytes_of (take at ps)) ++ p.now
+  laid-more = ap (λ (l : List (Bor (List ℕ))). laid (map bytes_of l)) more
+      ∙ ap laid (map_push bytes_of (take at ps) p)
       ∙ flat_map-append (λ (piece : List ℕ). piece) (map bytes_of (take at ps)) (p.now ∷ [])
-      ∙ ap (λ (t : List ℕ). joined (map bytes_of (take at ps)) ++ t) (append-nil p.now)
+      ∙ ap (λ (t : List ℕ). laid (map bytes_of (take at ps)) ++ t) (append-nil p.now)
 
   pub sizes-more : map length (map bytes_of (take (at + 1) ps))
       ≡ map length (map bytes_of (take at ps)) ++ length p.now ∷ []

@@ -1,23 +1,26 @@
 -- What lies one after another in memory: what is given to a call, and what it answers.
 use Rattle.std.specs.Prelude.{◌≡◌, ◌⊎◌, ℕ, ◌+◌, ◌-◌, ◌^◌, ◌≤◌, ◌<◌, min, List, ◌∷◌, ◌++◌, length}
-use Rattle.std.specs.Prelude.{All, map, take, drop}
+use Rattle.std.specs.Prelude.{All, Some, map, take, drop}
 use Rattle.std.specs.List.{flat_map}
 use Rattle.std.specs.Str.{IsUtf8}
 use Rattle.edf_page.specs.Night.{IsNight, pieces_of, stopped_line}
-use Rattle.edf_page.specs.Programs.{IsRunsRan, IsMendRan, pieces_of_ran}
-use Rattle.edf_page.specs.declared.night.Night.{Night}
+use Rattle.edf_page.specs.Programs.{RunsDone, IsMendRan, pieces_of_ran}
+use Rattle.edf_page.specs.declared.night.GivenNight.{GivenNight}
 use Rattle.edf_page.specs.declared.programs.Ran.{Ran}
 use Rattle.edf_page.specs.declared.stopped.Stopped.{Stopped}
+use Rattle.edf_page.specs.declared.stopped.Stopped.TheVariants.{Memory}
+use Rattle.edfmend_command.specs.Words.{Values}
+use Rattle.edf_page_exports.specs.Asked.{Asks, asked_by, values_of}
 
 -- ---- what is given
 
 -- the pieces one after another
-abbrev pub joined : List (List ℕ) → List ℕ
-joined pieces = flat_map (λ piece. piece) pieces
+abbrev pub laid : List (List ℕ) → List ℕ
+laid pieces = flat_map (λ piece. piece) pieces
 
 -- these bytes are just the pieces, which have these sizes; by a law there is one such list at most
 pub record AreCut (bytes sizes : List ℕ) (pieces : List (List ℕ)) : Type 0 where
-  pub all : bytes ≡ joined pieces
+  pub all : bytes ≡ laid pieces
   pub sized : sizes ≡ map length pieces
 
 -- and they are texts
@@ -31,20 +34,19 @@ module _ (out out' parts parts' : List ℕ) where
   -- the pieces lie at the front of the bytes, and how many they are and their sizes at the front of
   -- the numbers; what is behind is as it was
   pub record AreLaid (pieces : List (List ℕ)) : Type 0 where
-    pub lie : out' ≡ joined pieces ++ drop (length (joined pieces)) out
+    pub lie : out' ≡ laid pieces ++ drop (length (laid pieces)) out
     pub sized : parts' ≡ length pieces ∷ (map length pieces ++ drop (length pieces + 1) parts)
 
   -- they have no room, or their sizes have none; how many they are is told, and how many bytes they
   -- have, as far as that is a number of 64 bits
   pub record HaveNoRoom (pieces : List (List ℕ)) : Type 0 where
-    pub less : (length out < length (joined pieces)) ⊎ (length parts < length pieces + 1)
-    pub told : parts' ≡ length pieces ∷ min (length (joined pieces)) (2 ^ 64 - 1) ∷ drop 2 parts
+    pub less : (length out < length (laid pieces)) ⊎ (length parts < length pieces + 1)
+    pub told : parts' ≡ length pieces ∷ min (length (laid pieces)) (2 ^ 64 - 1) ∷ drop 2 parts
     pub stays : out' ≡ out
 
-  -- a line at the front says why nothing is given, as far as it has room, and how many bytes of it
-  -- there are is told; what is behind is as it was
-  pub record TellsWhy : Type 0 where
-    pub stopped : Stopped
+  -- a line at the front says that for this reason nothing is given, as far as it has room, and how
+  -- many bytes of it lie there is told; what is behind is as it was
+  pub record TellsWhy (stopped : Stopped) : Type 0 where
     pub count : ℕ
     pub counted : count ≡ min (length (stopped_line stopped)) (length out)
     pub lie : out' ≡ take count (stopped_line stopped) ++ drop count out
@@ -56,14 +58,24 @@ module _ (out out' parts parts' : List ℕ) where
     pub numbers : parts' ≡ parts
 
   -- The answers to a call from which these pieces may come: 0, they are laid down; 1, they have no
-  -- room; 2, it stopped; 3, it is no call, or has no room for two numbers. There is no other.
-  abbrev pub IsAnswer : (IsCall : Type 0) → (List (List ℕ) → Type 0) → ℕ → Type 0
-  IsAnswer IsCall Come answer =
+  -- room; 2, it stopped for such a reason; 3, it is no call, or has no room for two numbers. There
+  -- is no other.
+  abbrev pub IsAnswer : (IsCall : Type 0) → (List (List ℕ) → Type 0) → (Stopped → Type 0) → ℕ →
+      Type 0
+  IsAnswer IsCall Come MayStop answer =
       ((answer ≡ 0) × (2 ≤ length parts) × ((pieces : List (List ℕ)) × Come pieces × AreLaid pieces))
       ⊎ (((answer ≡ 1) × (2 ≤ length parts)
       × ((pieces : List (List ℕ)) × Come pieces × HaveNoRoom pieces))
-      ⊎ (((answer ≡ 2) × (2 ≤ length parts) × TellsWhy)
+      ⊎ (((answer ≡ 2) × (2 ≤ length parts)
+      × ((stopped : Stopped) × MayStop stopped × TellsWhy stopped))
       ⊎ ((answer ≡ 3) × Stays × ((length parts < 2) ⊎ (¬ IsCall)))))
+
+-- why nothing comes of files, and why nothing of a program
+abbrev pub AnyStop : Stopped → Type 0
+AnyStop stopped = Unit {0}
+
+abbrev pub IsMemory : Stopped → Type 0
+IsMemory stopped = stopped ≡ Memory
 
 -- ---- files
 
@@ -84,37 +96,37 @@ pub record ComeOfFiles (names name_sizes bytes sizes : List ℕ) (pieces : List 
     pub own_names : List (List ℕ)
     pub files : List (List ℕ)
     pub are_files : AreFiles names name_sizes bytes sizes own_names files
-    pub night : Night
+    pub night : GivenNight
     pub is_night : IsNight own_names files night
     pub are_pieces : pieces ≡ pieces_of night
 
--- ---- words for a program
+-- ---- what a program does
 
--- 0 is `edfruns`, 1 is `edfmend`
-abbrev pub IsProgram : ℕ → Type 0
-IsProgram which = which ≤ 1
+-- the pieces of what `edfruns` does by this number with a file
+pub record ComeOfRuns (which : ℕ) (prefix name bytes : List ℕ) (pieces : List (List ℕ)) : Type 0
+  where
+    pub ran : Ran
+    pub is_ran : RunsDone name bytes (asked_by which name prefix) ran
+    pub are_pieces : pieces ≡ pieces_of_ran ran
 
--- what the program does by these words with a file of these bytes
-abbrev pub IsRan : ℕ → List (List ℕ) → List ℕ → Ran → Type 0
-IsRan which words bytes ran = ((which ≡ 0) × IsRunsRan bytes ran)
-    ⊎ ((which ≡ 1) × IsMendRan words bytes ran)
+-- a number that asks for something, and texts
+abbrev pub LieRuns : (which : ℕ) → (prefix name : List ℕ) → Type 0
+LieRuns which prefix name = Asks which × IsUtf8 prefix × IsUtf8 name
 
--- words lie there, and the name of the file is a text
-pub record AreWords (which : ℕ) (words word_sizes name : List ℕ) (own_words : List (List ℕ)) :
-    Type 0 where
-  pub program : IsProgram which
-  pub texts : AreTexts words word_sizes own_words
+-- values for `edfmend` lie there, and the name of its file is a text
+pub record AreValues (texts sizes name : List ℕ) (values : Values) : Type 0 where
+  pub each : List (List ℕ)
+  pub are_texts : AreTexts texts sizes each
   pub named : IsUtf8 name
+  pub are_values : values_of name each ≡ Some values
 
-abbrev pub LieWords : (which : ℕ) → (words word_sizes name : List ℕ) → Type 0
-LieWords which words word_sizes name = (own_words : List (List ℕ))
-    × AreWords which words word_sizes name own_words
+abbrev pub LieValues : (texts sizes name : List ℕ) → Type 0
+LieValues texts sizes name = (values : Values) × AreValues texts sizes name values
 
--- the pieces of what comes of them
-pub record ComeOfWords (which : ℕ) (words word_sizes name bytes : List ℕ)
-    (pieces : List (List ℕ)) : Type 0 where
-  pub own_words : List (List ℕ)
-  pub are_words : AreWords which words word_sizes name own_words
+-- the pieces of what it does by them with a file
+pub record ComeOfValues (texts sizes name bytes : List ℕ) (pieces : List (List ℕ)) : Type 0 where
+  pub values : Values
+  pub are_values : AreValues texts sizes name values
   pub ran : Ran
-  pub is_ran : IsRan which own_words bytes ran
+  pub is_ran : IsMendRan values name bytes ran
   pub are_pieces : pieces ≡ pieces_of_ran ran

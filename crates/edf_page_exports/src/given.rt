@@ -1,10 +1,9 @@
 //! What lies one after another where a call is given it.
 
 ghost use Rattle.std.specs.Prelude.{◌≡◌, ◌++◌, ◌<◌, ◌≤◌, ℕ, List, Err, None, All, IfOk, IfSome};
-ghost use Rattle.std.specs.Prelude.{length, map, string_bytes};
+ghost use Rattle.std.specs.Prelude.{length, map};
 ghost use Rattle.std.specs.Str.{IsUtf8};
 ghost use Rattle.edf_page_exports.specs.Laid.{AreCut, AreTexts, AreFiles, LieFiles};
-ghost use Rattle.edf_page_exports.specs.Laid.{AreWords, LieWords};
 
 use edf_page::GivenFile;
 use std::alloc::{AllocError, Global};
@@ -69,7 +68,11 @@ fn pieces_in<'a>(alloc: Global, bytes: &'a [u8], sizes: &[u64]) -> Result<Vec<&'
 }
 
 /// The texts of these sizes, which are all of the bytes.
-fn texts_in<'a>(alloc: Global, bytes: &'a [u8], sizes: &[u64]) -> Result<Vec<&'a str>, Fault>
+pub(crate) fn texts_in<'a>(
+    alloc: Global,
+    bytes: &'a [u8],
+    sizes: &[u64],
+) -> Result<Vec<&'a str>, Fault>
     ensures texts { IfOk result
         (λ texts. AreTexts bytes.now sizes.now (map (λ text. text.now) texts.items)) }
     ensures none { result ≡ Err Fault.NoCall →
@@ -130,47 +133,4 @@ pub(crate) fn files_in<'a>(
     }
     let files = files_of(alloc, own_names.as_slice(), pieces.as_slice())?;
     Ok(files)
-}
-
-/// Words for a program, and the name of its file.
-#[derive(Drop)]
-pub(crate) struct Words<'a> {
-    pub(crate) words: Vec<String>,
-    pub(crate) name: &'a str,
-}
-
-/// Words that are owned.
-fn owned(alloc: Global, texts: &[&str]) -> Result<Vec<String>, AllocError>
-    ensures { IfOk result
-        (λ words. map string_bytes words.items ≡ map (λ text. text.now) texts.now) }
-{
-    let mut words = Vec::new(alloc);
-    for text in texts {
-        words.push(String::from_str(alloc, text)?)?;
-    }
-    Ok(words)
-}
-
-/// The words that lie there for the program of this number.
-pub(crate) fn words_in<'a>(
-    alloc: Global,
-    which: u32,
-    words: &[u8],
-    word_sizes: &[u64],
-    name: &'a [u8],
-) -> Result<Words<'a>, Fault>
-    ensures words { IfOk result (λ given.
-        AreWords which words.now word_sizes.now name.now (map string_bytes given.words.items)) }
-    ensures none { result ≡ Err Fault.NoCall →
-        ¬ LieWords which words.now word_sizes.now name.now }
-{
-    if which > 1 {
-        return Err(Fault::NoCall);
-    }
-    let Ok(name) = std::str::from_utf8(name) else {
-        return Err(Fault::NoCall);
-    };
-    let texts = texts_in(alloc, words, word_sizes)?;
-    let words = owned(alloc, texts.as_slice())?;
-    Ok(Words { words, name })
 }

@@ -2,7 +2,7 @@
 
 ghost use Rattle.std.specs.Prelude.{◌≡◌, ◌⊎◌, ◌++◌, ◌≤◌, ◌<◌, ◌+◌, ◌-◌, ◌^◌, ◌∷◌, min, map};
 ghost use Rattle.std.specs.Prelude.{length, take, drop};
-ghost use Rattle.edf_page_exports.specs.Laid.{AreLaid, HaveNoRoom, Stays, TellsWhy, joined};
+ghost use Rattle.edf_page_exports.specs.Laid.{AreLaid, HaveNoRoom, Stays, TellsWhy, laid};
 
 use crate::given::Fault;
 use edf_page::Stopped;
@@ -21,7 +21,7 @@ pub(crate) const NO_CALL: u32 = 3;
 
 /// How many bytes the pieces have, up to `usize::MAX`.
 fn length_of(pieces: &[&[u8]]) -> usize
-    ensures { result ≡ min (length (joined (map (λ piece. piece.now) pieces.now))) (2 ^ 64 - 1) }
+    ensures { result ≡ min (length (laid (map (λ piece. piece.now) pieces.now))) (2 ^ 64 - 1) }
 {
     let mut sum = 0usize;
     for piece in pieces {
@@ -43,10 +43,10 @@ fn put(out: &mut [u8], at: usize, bytes: &[u8]) -> usize
 
 /// Writes the pieces one after another, and the size of each.
 fn lay_all(pieces: &[&[u8]], out: &mut [u8], sizes: &mut [u64])
-    requires room { length (joined (map (λ piece. piece.now) pieces.now)) ≤ length out.old }
+    requires room { length (laid (map (λ piece. piece.now) pieces.now)) ≤ length out.old }
     requires places { length pieces.now ≤ length sizes.old }
     ensures lie { let all = map (λ piece. piece.now) pieces.now in
-        out.new ≡ joined all ++ drop (length (joined all)) out.old }
+        out.new ≡ laid all ++ drop (length (laid all)) out.old }
     ensures sized { let all = map (λ piece. piece.now) pieces.now in
         sizes.new ≡ map length all ++ drop (length all) sizes.old }
 {
@@ -59,7 +59,7 @@ fn lay_all(pieces: &[&[u8]], out: &mut [u8], sizes: &mut [u64])
 
 /// The same, and before the sizes how many there are.
 fn lay(pieces: &[&[u8]], out: &mut [u8], parts: &mut [u64])
-    requires room { length (joined (map (λ piece. piece.now) pieces.now)) ≤ length out.old }
+    requires room { length (laid (map (λ piece. piece.now) pieces.now)) ≤ length out.old }
     requires places { length pieces.now + 1 ≤ length parts.old }
     ensures { AreLaid out.old out.new parts.old parts.new (map (λ piece. piece.now) pieces.now) }
 {
@@ -88,7 +88,7 @@ pub(crate) fn give(pieces: &[&[u8]], out: &mut [u8], parts: &mut [u64]) -> u32
 pub(crate) fn tell(stopped: Stopped, out: &mut [u8], parts: &mut [u64]) -> u32
     requires { 2 ≤ length parts.old }
     ensures stopped { result ≡ 2 }
-    ensures told { TellsWhy out.old out.new parts.old parts.new }
+    ensures told { TellsWhy out.old out.new parts.old parts.new stopped }
 {
     let line = stopped.line().as_bytes();
     let count = line.len().min(out.len());
@@ -101,7 +101,7 @@ pub(crate) fn tell(stopped: Stopped, out: &mut [u8], parts: &mut [u64]) -> u32
 pub(crate) fn refuse(fault: Fault, out: &mut [u8], parts: &mut [u64]) -> u32
     requires { 2 ≤ length parts.old }
     ensures { ((fault ≡ Fault.NoCall) × (result ≡ 3) × Stays out.old out.new parts.old parts.new)
-        ⊎ ((result ≡ 2) × TellsWhy out.old out.new parts.old parts.new) }
+        ⊎ ((result ≡ 2) × TellsWhy out.old out.new parts.old parts.new Stopped.Memory) }
 {
     match fault {
         Fault::NoCall => NO_CALL,

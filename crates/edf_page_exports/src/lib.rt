@@ -2,34 +2,43 @@
 //! memory. Nothing is kept from one call to the next.
 //!
 //! - [`page_night`]: what comes of files.
-//! - [`page_program`]: what a program does with one file.
+//! - [`page_runs`], [`page_mend`]: what `edfruns` and `edfmend` do with one file.
 //!
-//! Both answer 0 to 3, and what they give is laid in `out`, piece after piece:
+//! They answer 0 to 3, and what they give is laid in `out`, piece after piece:
 //!
 //! - 0: `parts` has how many pieces there are, and then how many bytes each has. What is behind
 //!   them in `out` and `parts` is as it was.
-//! - 1: they have no room in `out`, or in `parts`. `parts` has how many they are, and how many bytes
-//!   they have in all; `out` is as it was.
-//! - 2: memory ran out, or the store refused, and nothing is given. `out` has the line that says
-//!   so, as far as it has room, and `parts` how many bytes of it there are.
-//! - 3: what is given is no call, by its sizes, since a text is not in UTF-8, or since `parts` has
-//!   no room for two numbers. Nothing is written.
+//! - 1: they have no room in `out`, or in `parts`. `parts` has how many they are, and how many
+//!   bytes they have in all; `out` is as it was. No clause says that the next call has as many, so
+//!   nobody is to try for ever.
+//! - 2: memory ran out, also before it could be told whether this is a call, or the store of
+//!   [`page_night`] refused; and nothing is given. `out` has the line that says so, as far as it
+//!   has room, and `parts` how many bytes of it lie there.
+//! - 3: what is given is no call, by its sizes or its number, since a text is not in UTF-8, or
+//!   since `parts` has no room for two numbers. Nothing is written.
 #![tactic(auto)]
 
-ghost use Rattle.std.specs.Prelude.{IfOk, map, string_bytes};
-ghost use Rattle.edf_page_exports.specs.Laid.{IsAnswer, LieFiles, ComeOfFiles};
-ghost use Rattle.edf_page_exports.specs.Laid.{IsProgram, IsRan, LieWords, ComeOfWords};
+ghost use Rattle.std.specs.Prelude.{◌≡◌, ◌⊎◌, ◌≤◌, IfOk, IsOkAnd, length};
+ghost use Rattle.edf_page.specs.Programs.{RunsDone, pieces_of_ran};
+ghost use Rattle.edf_page_exports.specs.Asked.{Asks, asked_by};
+ghost use Rattle.edf_page_exports.specs.Laid.{IsAnswer, LieFiles, ComeOfFiles, AnyStop, IsMemory};
+ghost use Rattle.edf_page_exports.specs.Laid.{LieRuns, ComeOfRuns, LieValues, ComeOfValues};
+ghost use Rattle.edf_page_exports.specs.Laid.{AreLaid, HaveNoRoom, TellsWhy};
 
+mod asked;
 mod given;
 pub mod laws;
 mod laying;
 mod pieces;
+#[cfg(test)]
+mod tests;
 
+use asked::{MOST, command_by, values_of};
 use edf_page::{GivenFile, Ran, Stopped, give_night, run_edfmend, run_edfruns};
-use given::{files_in, words_in};
+use given::{files_in, texts_in};
 use laying::{NO_CALL, give, refuse, tell};
 use pieces::{pieces_of_night, pieces_of_ran};
-use std::alloc::Global;
+use std::alloc::{AllocError, Global};
 
 /// What comes of files that are taken in turn.
 ///
@@ -49,7 +58,7 @@ pub extern "C" fn page_night(
 ) -> u32
     ensures { IsAnswer out.old out.new parts.old parts.new
         (LieFiles names.now name_sizes.now bytes.now sizes.now)
-        (ComeOfFiles names.now name_sizes.now bytes.now sizes.now) result }
+        (ComeOfFiles names.now name_sizes.now bytes.now sizes.now) AnyStop result }
 {
     if parts.len() < 2 {
         return NO_CALL;
@@ -68,61 +77,102 @@ pub extern "C" fn page_night(
     }
 }
 
-/// What the program of this number does.
-fn run_program(
-    alloc: Global,
-    which: u32,
-    words: &[String],
-    name: &str,
-    bytes: &[u8],
-) -> Result<Ran, Stopped>
-    requires { IsProgram which }
-    ensures { IfOk result (IsRan which (map string_bytes words.now) bytes.now) }
+/// Gives what a program did, if memory was enough for that.
+fn give_ran(alloc: Global, ran: &Result<Ran, AllocError>, out: &mut [u8], parts: &mut [u64]) -> u32
+    requires { 2 ≤ length parts.old }
+    ensures { ((result ≡ 2) × TellsWhy out.old out.new parts.old parts.new Stopped.Memory)
+        ⊎ IsOkAnd ran.now (λ ran.
+        ((result ≡ 0) × AreLaid out.old out.new parts.old parts.new (pieces_of_ran ran))
+        ⊎ ((result ≡ 1) × HaveNoRoom out.old out.new parts.old parts.new (pieces_of_ran ran))) }
 {
-    let file = GivenFile { name, bytes };
-    if which == 0 {
-        run_edfruns(alloc, words, &file)
-    } else {
-        run_edfmend(alloc, words, &file)
+    let Ok(ran) = ran else {
+        return tell(Stopped::Memory, out, parts);
+    };
+    let status = [ran.status.code()];
+    match pieces_of_ran(alloc, &status, ran) {
+        Ok(pieces) => give(pieces.as_slice(), out, parts),
+        Err(_) => tell(Stopped::Memory, out, parts),
     }
 }
 
-/// What a program does with one file: `edfruns` where `which` is 0, `edfmend` where it is 1.
+/// What `edfruns` does by this number.
+fn runs_by(alloc: Global, which: u32, prefix: &str, file: &GivenFile<'_>) -> Result<Ran, AllocError>
+    requires { Asks which }
+    ensures { IfOk result (RunsDone file.now.name.now file.now.bytes.now
+        (asked_by which file.now.name.now prefix.now)) }
+{
+    let command = command_by(alloc, which, file.name, prefix)?;
+    run_edfruns(alloc, &command, file)
+}
+
+/// What `edfruns` does by this number with one file, whose name is IN: 0 is `list IN`, 1
+/// `canonical --by-onset IN`, 2 `picture --without-code IN`, 3 `split IN PREFIX` and 4
+/// `split --by-onset IN PREFIX`. The first three have no use for `prefix`.
 ///
-/// `words` has the words after the program's name one after another, in UTF-8, and `word_sizes` how
-/// many bytes each has. Every name of a file to read, and `-`, stands for `bytes`; `name` is that of
-/// the file, which no file that is made gets. The pieces are: the number of the program's status,
-/// in one byte; what it wrote to standard output; what it wrote to standard error; and for each file
-/// that it made and that is there, in turn, its name and its bytes.
+/// The pieces are: the number of the program's status, in one byte; what it wrote to standard
+/// output; what it wrote to standard error; and for each file that it made and that is there, in
+/// turn, its name and its bytes. With status 3 what it wrote may be a front of it.
 #[unsafe(no_mangle)]
-pub extern "C" fn page_program(
+pub extern "C" fn page_runs(
     alloc: Global,
     which: u32,
-    words: &[u8],
-    word_sizes: &[u64],
+    prefix: &[u8],
     name: &[u8],
     bytes: &[u8],
     out: &mut [u8],
     parts: &mut [u64],
 ) -> u32
     ensures { IsAnswer out.old out.new parts.old parts.new
-        (LieWords which words.now word_sizes.now name.now)
-        (ComeOfWords which words.now word_sizes.now name.now bytes.now) result }
+        (LieRuns which prefix.now name.now)
+        (ComeOfRuns which prefix.now name.now bytes.now) IsMemory result }
+{
+    if parts.len() < 2 || which > MOST {
+        return NO_CALL;
+    }
+    let Ok(prefix) = std::str::from_utf8(prefix) else {
+        return NO_CALL;
+    };
+    let Ok(name) = std::str::from_utf8(name) else {
+        return NO_CALL;
+    };
+    let file = GivenFile { name, bytes };
+    let ran = runs_by(alloc, which, prefix, &file);
+    give_ran(alloc, &ran, out, parts)
+}
+
+/// What `edfmend` does with one file, whose name is IN.
+///
+/// `values` has just seven texts one after another, in UTF-8, and `value_sizes` how many bytes each
+/// has: OUT, and what `--patient`, `--set-patient`, `--deidentify`, `--startdate`, `--starttime`
+/// and `--as` have. An empty one is none; without OUT it is `--dry-run`. The pieces are as those of
+/// [`page_runs`].
+#[unsafe(no_mangle)]
+pub extern "C" fn page_mend(
+    alloc: Global,
+    values: &[u8],
+    value_sizes: &[u64],
+    name: &[u8],
+    bytes: &[u8],
+    out: &mut [u8],
+    parts: &mut [u64],
+) -> u32
+    ensures { IsAnswer out.old out.new parts.old parts.new
+        (LieValues values.now value_sizes.now name.now)
+        (ComeOfValues values.now value_sizes.now name.now bytes.now) IsMemory result }
 {
     if parts.len() < 2 {
         return NO_CALL;
     }
-    let given = match words_in(alloc, which, words, word_sizes, name) {
-        Ok(given) => given,
+    let Ok(name) = std::str::from_utf8(name) else {
+        return NO_CALL;
+    };
+    let texts = match texts_in(alloc, values, value_sizes) {
+        Ok(texts) => texts,
         Err(fault) => return refuse(fault, out, parts),
     };
-    let ran = match run_program(alloc, which, given.words.as_slice(), given.name, bytes) {
-        Ok(ran) => ran,
-        Err(stopped) => return tell(stopped, out, parts),
+    let Some(values) = values_of(name, texts.as_slice()) else {
+        return NO_CALL;
     };
-    let status = [ran.status.code()];
-    match pieces_of_ran(alloc, &status, &ran) {
-        Ok(pieces) => give(pieces.as_slice(), out, parts),
-        Err(_) => tell(Stopped::Memory, out, parts),
-    }
+    let ran = run_edfmend(alloc, &values, &GivenFile { name, bytes });
+    give_ran(alloc, &ran, out, parts)
 }

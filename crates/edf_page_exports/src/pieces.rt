@@ -6,7 +6,7 @@ ghost use Rattle.edf_program.specs.Status.{exit_code};
 ghost use Rattle.edf_page.specs.Night.{pieces_of, pieces_of_one, taken_lines};
 ghost use Rattle.edf_page.specs.Programs.{pieces_of_file, pieces_of_ran};
 
-use edf_page::{NamedFile, Night, Ran, Recording};
+use edf_page::{GivenNight, NamedFile, Ran, Recording};
 use std::alloc::{AllocError, Global};
 
 /// Adds the lines of files.
@@ -35,7 +35,7 @@ fn push_recording<'n>(
 }
 
 /// The pieces of what comes of files.
-pub(crate) fn pieces_of_night(alloc: Global, night: &Night) -> Result<Vec<&[u8]>, AllocError>
+pub(crate) fn pieces_of_night(alloc: Global, night: &GivenNight) -> Result<Vec<&[u8]>, AllocError>
     ensures { IfOk result (λ all. map (λ piece. piece.now) all.items ≡ pieces_of night.now) }
 {
     let mut pieces = Vec::new(alloc);

@@ -1,7 +1,7 @@
 -- What the words after the program's name ask for: IN OUT or IN --dry-run, and options. clap reads
 -- the words; this is what is made of what it found.
 use Rattle.std.specs.Prelude.{◌≡◌, ◌≢◌, ◌⊎◌, ℕ, ◌==◌, ◌≤◌, List, [], codes, Option, Some, length}
-use Rattle.std.specs.Prelude.{None, Bool, true, false, IfSome, take}
+use Rattle.std.specs.Prelude.{None, Bool, true, false, IfSome, Result, IsErrAnd, take}
 use Rattle.std.specs.List.{AllZip, slice_split}
 use Rattle.edf_mend.specs.Code.{IsCode}
 use Rattle.edf_mend.specs.Rules.{rules, named_in}
@@ -11,6 +11,8 @@ use Rattle.edf_mend.specs.Wanted.{AsksRulesAlone}
 use Rattle.edf_mend.specs.declared.rule.Rule.{Rule}
 use Rattle.edf_mend.specs.declared.wanted.Who.{Who}
 use Rattle.edf_mend.specs.declared.wanted.Who.TheVariants.{AsNamed, Given, Replaced, Hidden}
+use Rattle.edf_program.specs.declared.words.CommandFault.{CommandFault}
+use Rattle.edf_program.specs.declared.words.CommandFault.TheVariants.{Usage}
 use Rattle.edfmend_command.specs.Run.{Asked}
 
 -- the values of the words, each once at most: IN, OUT, whether --dry-run, and of --patient,
@@ -68,6 +70,14 @@ pub record Mean (v : Values) (asked : Asked) : Type 0 where
 -- or they ask for nothing that can be done
 abbrev pub MeanNothing : Values → Type 0
 MeanNothing v = (asked : Asked) → ¬ Mean v asked
+
+-- which is answered so, with how the command is used
+abbrev pub IsNothing : CommandFault → Type 0
+IsNothing (Usage text) = Unit {0}
+IsNothing why = ⊥
+
+abbrev pub IsUsage : {A : Type 0} → Result A CommandFault → Type 0
+IsUsage result = IsErrAnd result IsNothing
 
 -- two words that begin with no stroke are IN and OUT, and ask for nothing more
 abbrev pub HasNoStroke : List ℕ → Type 0

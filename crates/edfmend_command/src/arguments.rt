@@ -9,11 +9,10 @@ ghost use Rattle.edf_mend.specs.Code.{IsCode};
 ghost use Rattle.edf_mend.specs.Starts.{HasStarttime};
 ghost use Rattle.edf_program.specs.Output.{growth, Gets};
 ghost use Rattle.edf_program.specs.Words.{IsFaultTold};
-ghost use Rattle.edfmend_command.specs.InsideWords.{IsUsage};
 ghost use Rattle.edfmend_command.specs.Run.{meaning};
 ghost use Rattle.edfmend_command.specs.Words.{Values, NamesRule, is_comma, AreRules, AreCodes};
 ghost use Rattle.edfmend_command.specs.Words.{IsDateWord, AreNames, Mean, MeanNothing};
-ghost use Rattle.edfmend_command.specs.Words.{HasNoStroke, MeansTwo};
+ghost use Rattle.edfmend_command.specs.Words.{HasNoStroke, IsUsage, MeansTwo};
 
 use crate::mend_command::MendCommand;
 use clap::{Arg, ArgAction, ArgMatches, Command};
@@ -136,21 +135,30 @@ fn refuse(alloc: Global, why: &str) -> Result<CommandFault, AllocError> {
     refuse_value(alloc, edfmend_words(alloc, "")?, "edfmend", why)
 }
 
-/// What was found of the words: each value once at most.
-#[derive(Drop)]
-struct Found<'a> {
-    input: &'a str,
-    output: Option<&'a str>,
-    dry: bool,
-    patient: Option<&'a str>,
-    set_patient: Option<&'a str>,
-    deidentify: Option<&'a str>,
-    startdate: Option<&'a str>,
-    starttime: Option<&'a str>,
-    only: Option<&'a str>,
+/// The values of the words, each once at most.
+#[derive(Debug, Drop)]
+pub struct MendValues<'a> {
+    /// IN.
+    pub input: &'a str,
+    /// OUT.
+    pub output: Option<&'a str>,
+    /// Whether `--dry-run` is there.
+    pub dry: bool,
+    /// The code of `--patient`.
+    pub patient: Option<&'a str>,
+    /// The code of `--set-patient`.
+    pub set_patient: Option<&'a str>,
+    /// The code of `--deidentify`.
+    pub deidentify: Option<&'a str>,
+    /// The day of `--startdate`.
+    pub startdate: Option<&'a str>,
+    /// The time of `--starttime`.
+    pub starttime: Option<&'a str>,
+    /// The rules of `--as`, with commas between them.
+    pub only: Option<&'a str>,
 }
 
-impl<'a> Model for Found<'a> {
+impl<'a> Model for MendValues<'a> {
     ghost use Rattle.std.specs.Prelude.{option_map};
     ghost use Rattle.edfmend_command.specs.Words.{Values};
 
@@ -169,8 +177,8 @@ impl<'a> Model for Found<'a> {
     } };
 }
 
-fn found_in<'a>(values: &ArgMatches<'a>) -> Found<'a> {
-    Found {
+fn found_in<'a>(values: &ArgMatches<'a>) -> MendValues<'a> {
+    MendValues {
         input: values.get_str("IN").unwrap_or(""),
         output: values.get_str("OUT"),
         dry: values.get_flag("dry-run"),
@@ -242,7 +250,7 @@ fn code_in(alloc: Global, text: &str) -> Result<Code, CommandFault>
 }
 
 /// Whose the file is.
-fn who_in(alloc: Global, found: &Found<'_>) -> Result<Who, CommandFault>
+fn who_in(alloc: Global, found: &MendValues<'_>) -> Result<Who, CommandFault>
     ensures who { IfOk result
         (AreCodes found.now.patient found.now.set_patient found.now.deidentify) }
     ensures nothing { IsUsage result → (who : Who) →
@@ -297,7 +305,7 @@ fn start_in(
 }
 
 /// The new file, if one is to be written. IN is read twice, so it is not `-`.
-fn output_in(alloc: Global, found: &Found<'_>) -> Result<Option<String>, CommandFault>
+fn output_in(alloc: Global, found: &MendValues<'_>) -> Result<Option<String>, CommandFault>
     ensures output { IfOk result
         (λ r. AreNames found.now × (option_map string_bytes r ≡ found.now.output)) }
     ensures nothing { IsUsage result → ¬ AreNames found.now }
@@ -313,17 +321,20 @@ fn output_in(alloc: Global, found: &Found<'_>) -> Result<Option<String>, Command
     }
 }
 
-/// What the values ask for.
-fn command_in(alloc: Global, found: &Found<'_>) -> Result<MendCommand, CommandFault>
-    ensures mean { IfOk result (λ command. Mean found.now (meaning command)) }
-    ensures nothing { IsUsage result → MeanNothing found.now }
+/// What the values of words ask for, where no words are read.
+///
+/// # Errors
+/// `Usage` where they ask for nothing that can be done, `Memory` where memory ran out.
+pub fn command_of(alloc: Global, values: &MendValues<'_>) -> Result<MendCommand, CommandFault>
+    ensures mean { IfOk result (λ command. Mean values.now (meaning command)) }
+    ensures nothing { IsUsage result → MeanNothing values.now }
 {
-    let output = output_in(alloc, found)?;
-    let who = who_in(alloc, found)?;
-    let startdate = start_in(alloc, found.startdate, true)?;
-    let starttime = start_in(alloc, found.starttime, false)?;
-    let rules = rules_in(alloc, found.only)?;
-    let input = String::from_str(alloc, found.input)?;
+    let output = output_in(alloc, values)?;
+    let who = who_in(alloc, values)?;
+    let startdate = start_in(alloc, values.startdate, true)?;
+    let starttime = start_in(alloc, values.starttime, false)?;
+    let rules = rules_in(alloc, values.only)?;
+    let input = String::from_str(alloc, values.input)?;
     Ok(MendCommand {
         input,
         output,
@@ -403,7 +414,7 @@ pub fn parse(alloc: Global, words: &[String]) -> Result<MendCommand, CommandFaul
     let more = more_help(alloc)?;
     let mut command = edfmend_words(alloc, more.as_str())?;
     match command.try_get_matches_from_mut(words) {
-        Ok(matches) => command_in(alloc, &found_in(&matches)),
+        Ok(matches) => command_of(alloc, &found_in(&matches)),
         Err(error) => Err(fault_by(alloc, &error)),
     }
 }

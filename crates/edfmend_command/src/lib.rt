@@ -1,7 +1,8 @@
 //! The command of `edfmend`, over any files and writers.
 //!
 //! - [`read_command`]: the words after the program's name, as a [`MendCommand`]; help and usage are
-//!   written. [`parse`]: the words, read, and nothing else.
+//!   written. [`parse`]: the words, read, and nothing else. [`command_of`]: the same of the values
+//!   of words ([`MendValues`]).
 //! - [`run_mend`]: the command, over what opens files (`edf_program`'s `Inputs`) and what makes
 //!   them (`edf_new_files`' `NewFiles`).
 #![tactic(auto)]
@@ -11,5 +12,5 @@ mod lines;
 mod mend_command;
 mod refusal;
 
-pub use arguments::{parse, read_command};
+pub use arguments::{MendValues, command_of, parse, read_command};
 pub use mend_command::{MendCommand, run_mend};

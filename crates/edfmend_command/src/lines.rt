@@ -13,7 +13,7 @@ ghost use Rattle.edfmend_command.specs.Ledger.{clock_text, clock_line, left_out_
 
 use edf_fragment::Output;
 use edf_mend::{Change, Ledger, RecordChanges, Rule, Step};
-use edf_program::{Status, joined, put_parts, tell_parts};
+use edf_program::{Status, concat, put_parts, tell_parts};
 use edf_time::write_seconds;
 use std::alloc::{AllocError, Global};
 
@@ -46,7 +46,7 @@ fn quoted(alloc: Global, bytes: &[u8]) -> Result<Vec<u8>, AllocError>
     for b in bytes {
         push_quoted_byte(&mut text, *b)?;
     }
-    joined(alloc, &[b"\"", text.as_slice(), b"\""])
+    concat(alloc, &[b"\"", text.as_slice(), b"\""])
 }
 
 /// A field without the spaces at its end.
@@ -68,7 +68,7 @@ fn cut_text(alloc: Global, cut: &[u8]) -> Result<Vec<u8>, AllocError>
         return Ok(Vec::new(alloc));
     }
     let text = quoted(alloc, cut)?;
-    joined(alloc, &[b" cut=", text.as_slice()])
+    concat(alloc, &[b" cut=", text.as_slice()])
 }
 
 /// What comes last in the lines of a step.
@@ -77,7 +77,7 @@ fn step_end(alloc: Global, step: &Step) -> Result<Vec<u8>, AllocError>
 {
     let cut = cut_text(alloc, step.cut())?;
     if step.is_recoded() {
-        return joined(alloc, &[cut.as_slice(), b" sex, birthdate and name stay"]);
+        return concat(alloc, &[cut.as_slice(), b" sex, birthdate and name stay"]);
     }
     Ok(cut)
 }
@@ -99,7 +99,7 @@ fn change_line(alloc: Global, step: &Step, change: &Change) -> Result<Vec<u8>, A
         end.as_slice(),
         b"\n",
     ];
-    joined(alloc, &parts)
+    concat(alloc, &parts)
 }
 
 /// Whether a field is new, which only those of a new annotations signal are.
@@ -230,7 +230,7 @@ fn bytes_text(alloc: Global, name: &str, bytes: &[u8]) -> Result<Vec<u8>, AllocE
         return Ok(zeros.into_bytes());
     }
     let text = quoted(alloc, bytes)?;
-    joined(alloc, &[b" ", name.as_bytes(), b"=", text.as_slice()])
+    concat(alloc, &[b" ", name.as_bytes(), b"=", text.as_slice()])
 }
 
 /// The number of a data record, from 1.
@@ -249,7 +249,7 @@ fn record_line(alloc: Global, rule: Rule, nth: u32, change: &Change) -> Result<V
     let front = format!(in alloc; "{name} record={record} at={at}")?;
     let old = bytes_text(alloc, "old", change.old())?;
     let new = bytes_text(alloc, "new", change.new())?;
-    joined(
+    concat(
         alloc,
         &[front.as_bytes(), old.as_slice(), new.as_slice(), b"\n"],
     )
@@ -315,7 +315,7 @@ fn clock_text(alloc: Global, records: usize, shift: u64) -> Result<Vec<u8>, Allo
 {
     let front = format!(in alloc; "clock records={records} shift=")?;
     let seconds = write_seconds(alloc, shift)?;
-    joined(alloc, &[front.as_bytes(), seconds.as_slice(), b"\n"])
+    concat(alloc, &[front.as_bytes(), seconds.as_slice(), b"\n"])
 }
 
 /// That line, where any were.
@@ -339,8 +339,8 @@ fn left_out_line(alloc: Global, bytes: usize) -> Result<Vec<u8>, AllocError>
     Ok(line.into_bytes())
 }
 
-/// How many texts of annotations nobody looked at, nor at other fields of the header, of a file that
-/// is for others.
+/// How many texts of annotations nobody looked at, nor at other fields of the header, of a file
+/// that is for others.
 fn unread_line(alloc: Global, unread: Option<u64>) -> Result<Vec<u8>, AllocError>
     ensures { IfOk result (λ r. r.items ≡ unread_line unread) }
 {
@@ -371,7 +371,7 @@ fn ledger_text(alloc: Global, ledger: &Ledger) -> Result<Vec<u8>, AllocError>
         left_out.as_slice(),
         unread.as_slice(),
     ];
-    joined(alloc, &parts)
+    concat(alloc, &parts)
 }
 
 /// Writes a text, and answers whether it was written whole.

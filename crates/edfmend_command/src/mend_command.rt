@@ -93,7 +93,8 @@ fn mend_nowhere<I: Inputs>(
     inputs: &mut I,
 ) -> Result<Ledger, MendFault>
     ensures answer { MatchResult result
-        (λ ledger. (new : List ℕ) × IsMendedFile (I.bytes inputs.old file.now) wanted.now ledger new)
+        (λ ledger. (new : List ℕ) × IsMendedFile (I.bytes inputs.old file.now) wanted.now ledger
+        new)
         (IsNotMended (I.bytes inputs.old file.now) wanted.now) }
     ensures opened { MatchResult result
         (λ _. I.opened inputs.new ≡ I.opened inputs.old ++ replicate 2 file.now)
@@ -246,8 +247,8 @@ fn mend_to<I: Inputs, M: NewFiles, O: Output, F: Output>(
 ///
 /// The new file has its name once it is whole; where there is something of that name, nothing is
 /// made. Then the ledger goes to `out`, a line a change. Where that can't be written whole the
-/// answer is `Trouble`, the new file stays, and a line of `err` says so. Why it is not made goes to `err`;
-/// then no part of it is left, or one more line names the part that could not be removed.
+/// answer is `Trouble`, the new file stays, and a line of `err` says so. Why it is not made goes to
+/// `err`; then no part of it is left, or one more line names the part that could not be removed.
 pub fn run_mend<I: Inputs, M: NewFiles, O: Output, F: Output>(
     alloc: Global,
     command: &MendCommand,

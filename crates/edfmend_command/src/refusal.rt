@@ -9,7 +9,7 @@ ghost use Rattle.edfmend_command.specs.Run.{SaysWhy};
 
 use edf_fragment::{FragmentFault, Output, Remark};
 use edf_mend::MendFault;
-use edf_program::{Status, fragment_fault_text, joined, put_parts, status_of_number, tell_parts};
+use edf_program::{Status, concat, fragment_fault_text, put_parts, status_of_number, tell_parts};
 use itoa::Buffer;
 use std::alloc::{AllocError, Global};
 
@@ -86,7 +86,7 @@ fn form_text(alloc: Global, fault: &FragmentFault) -> Result<Vec<u8>, AllocError
     ensures { IfOk result (λ r. r.items ≡ form_text fault.now) }
 {
     let text = fragment_fault_text(alloc, fault)?;
-    joined(alloc, &[b" refused ", text.as_bytes(), b"\n"])
+    concat(alloc, &[b" refused ", text.as_bytes(), b"\n"])
 }
 
 /// Prints that a file still has a fault, or that there is no memory to say which.

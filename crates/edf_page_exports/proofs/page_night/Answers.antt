@@ -1,7 +1,7 @@
 use Rattle.std.proofs.Common.{◌≡◌, ◌≤◌, ◌⊎◌, ℕ, List, map, length, refl, subst, ap, ◌∙◌, rules}
 use Rattle.edf_page.specs.Night.{IsNight, pieces_of}
 use Rattle.edf_page.specs.declared.given.GivenFile.{GivenFile}
-use Rattle.edf_page_exports.specs.Laid.{AreLaid, HaveNoRoom, LieFiles, ComeOfFiles}
+use Rattle.edf_page_exports.specs.Laid.{AreLaid, HaveNoRoom, LieFiles, ComeOfFiles, AnyStop}
 use Rattle.edf_page_exports.proofs.Answering.{gives}
 use Rattle.edf_page_exports.proofs.page_night.Goals as goal
 
@@ -13,7 +13,7 @@ returns-in-Ok-pieces_of_night c =
     ∙ c.in-Ok-pieces_of_night.ensures in
     gives c.args.out.now c.give.new.out c.args.parts.now c.give.new.parts
     (LieFiles c.args.names.now c.args.name_sizes.now c.args.bytes.now c.args.sizes.now)
-    (ComeOfFiles c.args.names.now c.args.name_sizes.now c.args.bytes.now c.args.sizes.now)
+    (ComeOfFiles c.args.names.now c.args.name_sizes.now c.args.bytes.now c.args.sizes.now) AnyStop
     c.give.result (pieces_of night) two (record {
       own_names = map (λ file. file.name.now) c.in-Ok.files.items;
       files = map (λ file. file.bytes.now) c.in-Ok.files.items;

@@ -1,4 +1,4 @@
-use Rattle.std.proofs.Common.{IfOk, List, ℕ, Bor, Some, ap, sym, subst}
+use Rattle.std.proofs.Common.{List, ℕ, Bor, Some, ap, sym, subst}
 use Rattle.std.proofs.lemmas.Result.{IfOk-weaker}
 use Rattle.edf_fragment.specs.Call.{InputState}
 use Rattle.edf_intake.specs.Refusal.{Answer}

@@ -1,17 +1,24 @@
-use Rattle.std.proofs.Common.{◌≡◌, ℕ, List, Some, None, true, ap, refl, subst, rules}
+use Rattle.std.proofs.Common.{◌≡◌, ℕ, List, Some, true, ap, refl, subst, rules}
 use Rattle.edf_new_files.specs.Making.{Making}
 use Rattle.edf_program.specs.Output.{Growth}
 use Rattle.edfmend_command.specs.Run.{IsMendDone, meaning}
+use Rattle.edf_page.specs.InsideFolder.{there_in, unforgotten}
+use Rattle.edf_page.specs.declared.given.GivenFile.{GivenFile}
+use Rattle.edf_page.proofs.There.{fresh-there, unforgotten-none}
 use Rattle.edf_page.proofs.programs.mend_of.Goals as goal
 
 pub returns : goal.returns
 returns c =
+    let file = c.args.file.now in
+    let folder = c.in_ok-folder.folder in
+    let given = c.in_ok-folder.ensures.given in
     let made : Making = record {
       known = true;
-      there = λ _. None;
-      before = c.new-folder.result.files;
-      failed_before = c.new-folder.result.failed;
-      after = c.run_mend-status.new.maker.files;
+      there = there_in folder.given.name.now folder.given.bytes.now folder.names.all.items
+          folder.files;
+      before = unforgotten folder.is_forgotten folder.files;
+      failed_before = folder.failed;
+      after = unforgotten c.run_mend-status.new.maker.is_forgotten c.run_mend-status.new.maker.files;
       failed_after = c.run_mend-status.new.maker.failed;
     } in
     let out : Growth = record {
@@ -35,9 +42,14 @@ returns c =
           c.run_mend-status.ensures.done;
       files = record {
         known = refl;
-        none = c.new-folder.ensures.none;
-        unfailed = c.new-folder.ensures.unfailed;
-        left = c.in_ok-files.ensures;
+        there = fresh-there file.name.now file.bytes.now folder.given.name.now
+            folder.given.bytes.now folder.names.all.items folder.files
+            (ap (λ (g : GivenFile). g.name.now) given) (ap (λ (g : GivenFile). g.bytes.now) given)
+            c.in_ok-folder.ensures.none c.in_ok-folder.ensures.named;
+        none = unforgotten-none folder.is_forgotten folder.files c.in_ok-folder.ensures.none;
+        unfailed = c.in_ok-folder.ensures.unfailed;
+        left = c.in_ok-files.ensures.left;
+        gone = c.in_ok-files.ensures.gone;
       };
       unfailed = (search rules, search rules, search rules);
       written = record {

@@ -1,4 +1,4 @@
-use Rattle.std.proofs.Common.{◌≡◌, ◌≤◌, List, ℕ, map, length, get_or, refl, sym, ◌∙◌, rules}
+use Rattle.std.proofs.Common.{◌≤◌, map, length, get_or, refl, sym, ◌∙◌, rules}
 use Rattle.std.proofs.lemmas.List.{take_all, take_more}
 use Rattle.edf_page_exports.proofs.Cuts.{bytes_of, too-few, too-many}
 use Rattle.edf_page_exports.proofs.given.pieces_in.Goals as goal

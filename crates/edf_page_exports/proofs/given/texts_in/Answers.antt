@@ -1,5 +1,5 @@
-use Rattle.std.proofs.Common.{◌≡◌, ◌+◌, ◌++◌, ◌∷◌, [], ℕ, List, All, Bor, map, length, get_or, take}
-use Rattle.std.proofs.Common.{sym, subst, ap, ◌∙◌, rules, arith}
+use Rattle.std.proofs.Common.{◌≡◌, ◌+◌, ◌++◌, ◌∷◌, [], ℕ, List, All, Bor, map, get_or, take}
+use Rattle.std.proofs.Common.{sym, subst, ap, ◌∙◌, rules}
 use Rattle.std.specs.Str.{IsUtf8}
 use Rattle.std.proofs.lemmas.List.{take_more, map_push}
 use Rattle.edf_page_exports.specs.Laid.{AreCut}

@@ -4,12 +4,12 @@ use Rattle.std.specs.List.{flat_map}
 use Rattle.std.proofs.Common.{get_or, length-append, rules}
 use Rattle.std.proofs.lemmas.List.{take_all, take_more, length-map, length-set, length-take-le}
 use Rattle.std.proofs.lemmas.List.Folds.{flat_map-map, length-flat_map-take}
-use Rattle.edf_page_exports.specs.Laid.{joined}
-use Rattle.edf_page_exports.proofs.Writing.{bytes_of, put-more, set-more, joined-more, sizes-more}
+use Rattle.edf_page_exports.specs.Laid.{laid}
+use Rattle.edf_page_exports.proofs.Writing.{bytes_of, put-more, set-more, laid-more, sizes-more}
 use Rattle.edf_page_exports.proofs.laying.lay_all.Goals as goal
 
 same : (ps : List (Bor (List ℕ))) →
-    length (joined (map bytes_of ps)) ≡ length (flat_map bytes_of ps)
+    length (laid (map bytes_of ps)) ≡ length (flat_map bytes_of ps)
 same ps = ap length (flat_map-map (λ p. p) bytes_of ps)
 
 pub put-end-requires : goal.put-end-requires
@@ -27,9 +27,9 @@ pub returns-clause-lie : goal.returns-clause-lie
 returns-clause-lie c =
     let ps = c.args.pieces.now in
     let all : take c.loop-at.at ps ≡ ps = take_all c.loop-at.at ps c.loop-at-test.false in
-    subst (λ (z : List (Bor (List ℕ))). c.loop-at.out ≡ joined (map bytes_of z)
-    ++ drop (length (joined (map bytes_of z))) c.args.out.now) all
-    (subst (λ (e : ℕ). c.loop-at.out ≡ joined (map bytes_of (take c.loop-at.at ps))
+    subst (λ (z : List (Bor (List ℕ))). c.loop-at.out ≡ laid (map bytes_of z)
+    ++ drop (length (laid (map bytes_of z))) c.args.out.now) all
+    (subst (λ (e : ℕ). c.loop-at.out ≡ laid (map bytes_of (take c.loop-at.at ps))
     ++ drop e c.args.out.now) c.loop-at.invariant.end c.loop-at.invariant.lie)
 
 pub returns-clause-sized : goal.returns-clause-sized
@@ -49,8 +49,8 @@ loop-at-preserved c =
     let i = c.loop-at.at in
     let p : Bor (List ℕ) = get_or ps i (record { ref_ptr = (0, 0); now = [] }) in
     let more : take (i + 1) ps ≡ take i ps ++ p ∷ [] = take_more ps i _ c.loop-at-test.true in
-    let front = joined (map bytes_of (take i ps)) in
-    let all = joined-more ps i p more in
+    let front = laid (map bytes_of (take i ps)) in
+    let all = laid-more ps i p more in
     let end : c.put-end.result ≡ c.loop-at.end + length p.now = c.put-end.ensures.behind in
     let sizes = map length (map bytes_of (take i ps)) in
     let here : length sizes ≡ i = length-map (map bytes_of (take i ps)) length
@@ -61,7 +61,7 @@ loop-at-preserved c =
       lie = put-more c.args.out.now c.loop-at.out front p.now c.put-end.new.out c.loop-at.end
           c.loop-at.invariant.lie c.loop-at.invariant.end c.put-end.ensures.put
           ∙ ap (λ (t : List ℕ). t ++ drop (c.loop-at.end + length p.now) c.args.out.now) (sym all)
-          ∙ ap (λ (n : ℕ). joined (map bytes_of (take (i + 1) ps)) ++ drop n c.args.out.now)
+          ∙ ap (λ (n : ℕ). laid (map bytes_of (take (i + 1) ps)) ++ drop n c.args.out.now)
           (sym end);
       out = search rules;
       sized = set-more c.args.sizes.now c.loop-at.sizes sizes i (length p.now)

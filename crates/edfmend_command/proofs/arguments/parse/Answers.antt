@@ -6,4 +6,4 @@ returns-in-Some-clause-mean c = both-mean c.two_words.result c.in-Some.input.now
     c.in-Some.output.now c.in-Some.ensures.1 c.two_words.ensures
 
 pub returns-in-Ok-clause-mean : goal.returns-in-Ok-clause-mean
-returns-in-Ok-clause-mean c = some-mean c.command_in.result _ c.command_in.ensures.mean
+returns-in-Ok-clause-mean c = some-mean c.command_of.result _ c.command_of.ensures.mean

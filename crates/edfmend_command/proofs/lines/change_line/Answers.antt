@@ -8,7 +8,7 @@ use Rattle.edfmend_command.proofs.lines.change_line.Goals as goal
 
 pub returns : goal.returns
 returns c =
-    IfOk-weaker c.joined.result _ _ (λ r line.
+    IfOk-weaker c.concat.result _ _ (λ r line.
     change-line c.args.step.now c.args.change.now c.as_bytes.result.now c.as_slice.result.now
     c.as_slice-2.result.now c.as_slice-3.result.now r.items
     (c.as_bytes.ensures.value ∙ c.in_ok-front.ensures.ok
@@ -21,4 +21,4 @@ returns c =
     (c.as_slice-2.ensures.value ∙ c.in_ok-new.ensures
     ∙ ap quoted (c.trimmed-2.ensures ∙ ap trimmed c.new.ensures))
     (c.as_slice-3.ensures.value ∙ c.in_ok-end.ensures)
-    line) c.joined.ensures
+    line) c.concat.ensures

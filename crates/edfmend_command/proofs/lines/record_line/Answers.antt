@@ -8,7 +8,7 @@ use Rattle.edfmend_command.proofs.lines.record_line.Goals as goal
 pub returns : goal.returns
 returns c =
     let rule = rule_name c.args.rule in
-    IfOk-weaker c.joined.result _ _ (λ r line.
+    IfOk-weaker c.concat.result _ _ (λ r line.
     record-line c.args.rule c.args.change.now c.as_bytes.result.now c.as_slice.result.now
     c.as_slice-2.result.now r.items c.args.nth
     (c.as_bytes.ensures.value ∙ c.in_ok-front.ensures.ok
@@ -21,4 +21,4 @@ returns c =
     (c.as_slice.ensures.value ∙ c.in_ok-old.ensures ∙ ap (bytes_text (codes "old")) c.old.ensures)
     (c.as_slice-2.ensures.value ∙ c.in_ok-new.ensures
     ∙ ap (bytes_text (codes "new")) c.new.ensures)
-    line) c.joined.ensures
+    line) c.concat.ensures

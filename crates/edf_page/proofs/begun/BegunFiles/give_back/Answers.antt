@@ -1,17 +1,19 @@
 use Rattle.std.proofs.Common.{◌≡◌, ◌<◌, ◌-◌, ◌++◌, ◌∷◌, [], ℕ, List, Bool, ap, ◌∙◌, arith, length}
-use Rattle.std.proofs.Common.{Option, map, string_bytes, length-append}
+use Rattle.std.proofs.Common.{Option, map, string_bytes, length-append, false, sym}
 use Rattle.std.specs.Prelude.{option_map}
-use Rattle.std.proofs.lemmas.List.{length-map}
+use Rattle.std.proofs.lemmas.List.{length-map, map-set, get_or-map}
 use Rattle.edf_new_files.specs.Made.{MadeFile, made_file, begun}
 use Rattle.edf_new_files.specs.declared.new_files.FileStage.{FileStage}
 use Rattle.edf_new_files.specs.declared.new_files.Unfinished.{Unfinished}
 use Rattle.edf_page.specs.declared.begun.BegunFile.{BegunFile}
 use Rattle.edf_page.specs.Programs.{made_of}
+use Rattle.edf_page.specs.InsideFolder.{last_held}
+use Rattle.edf_page.proofs.LastHeld.{held-set}
 use Rattle.edf_page.proofs.Replacing.{replaced, was}
 use Rattle.edf_page.proofs.begun.BegunFiles.give_back.Goals as goal
 
-pub returns-then-eq-clause-files : goal.returns-then-eq-clause-files
-returns-then-eq-clause-files c files name now =
+pub returns-then-is_begun-clause-files : goal.returns-then-is_begun-clause-files
+returns-then-is_begun-clause-files c files name now =
     let f : BegunFile → MadeFile = made_of in
     let entries = c.self.inside.entries.items in
     let k = c.len-count.result - 1 in
@@ -52,3 +54,27 @@ returns-then-eq-clause-files c files name now =
     (option_map (λ bytes. bytes.items) c.args.bytes) w) c.give_back.ensures.why in
     replaced f entries k files [] (begun name) here at e'
     ∙ ap (λ (x : MadeFile). files ++ (x ∷ [])) its
+
+pub returns-then-is_begun-clause-held : goal.returns-then-is_begun-clause-held
+returns-then-is_begun-clause-held c half name other =
+    let entries = c.self.inside.entries.items in
+    let k = c.len-count.result - 1 in
+    let e = c.index.result.now in
+    let e' = c.give_back.new.self in
+    let lt : k < length entries = omega (
+      arith,
+      c.if-count-gt0.true,
+      c.len-count.ensures,
+      c.self.inside.entries.ok.0,
+    ) in
+    let was_half = (c.is_begun.ensures.0 c.if-is_begun.true).1 in
+    let is_half : e'.is_whole ≡ false = c.give_back.ensures.whole ∙ half in
+    ap (λ (l : List MadeFile). last_held l name other) (map-set made_of entries k e')
+    ∙ held-set (map made_of entries) k (made_of e) (made_of e') (omega (
+      arith,
+      lt,
+      length-map
+          entries made_of,
+    )) (ap made_of c.index.ensures ∙ sym (get_or-map made_of entries k e
+    (made_of e) lt)) was_half is_half name other
+    ∙ ap (λ (l : List MadeFile). last_held l name other) c.self.view_is

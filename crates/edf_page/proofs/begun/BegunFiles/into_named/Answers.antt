@@ -1,9 +1,10 @@
-use Rattle.std.proofs.Common.{◌≡◌, List, [], ◌∷◌, ◌++◌, sym, subst, rules, ap, ◌∙◌, append_assoc, map}
+use Rattle.std.proofs.Common.{◌≡◌, List, [], ◌∷◌, ◌++◌, sym, subst, rules, ap, ◌∙◌, append_assoc, map, All}
 use Rattle.std.specs.List.{AllZip}
 use Rattle.std.specs.Vec.Iter.{into_iter_items}
 use Rattle.std.proofs.lemmas.List.{map_push}
+use Rattle.std.proofs.lemmas.List.Elements.{All-push}
 use Rattle.edf_new_files.specs.Made.{MadeFile}
-use Rattle.edf_page.specs.Programs.{IsLeft, finished_of, made_of}
+use Rattle.edf_page.specs.Programs.{IsLeft, IsGone, finished_of, made_of}
 use Rattle.edf_page.specs.declared.begun.NamedFile.{NamedFile}
 use Rattle.edf_page.proofs.Replacing.{finished-more}
 use Rattle.edf_page.proofs.Zips.{zip_append}
@@ -14,7 +15,7 @@ loop-entry-preserved c =
     let ys = c.loop-entry.yielded in
     let rest : into_iter_items c.loop-entry.entry-iterator
     ≡ c.in-Some.entry ∷ into_iter_items c.next.new.self = search rules in
-    let added = c.in_ok-push_finished.ensures in
+    let added = c.in_ok-push_finished.ensures.added in
     record {
       parts = c.loop-entry.invariant.parts ∙ ap (map made_of) (ap (λ l. ys ++ l) rest
           ∙ sym (append_assoc ys (c.in-Some.entry ∷ []) (into_iter_items c.next.new.self)));
@@ -24,4 +25,7 @@ loop-entry-preserved c =
           (subst (λ (files : List NamedFile). AllZip IsLeft (finished_of (map made_of ys)
           ++ finished_of (made_of c.in-Some.entry ∷ [])) files) (sym added.1)
           (zip_append IsLeft _ _ _ _ c.loop-entry.invariant.each added.2));
+      gone = subst (All IsGone) (sym (map_push made_of ys c.in-Some.entry))
+          (All-push IsGone (map made_of ys) (made_of c.in-Some.entry) c.loop-entry.invariant.gone
+          c.in_ok-push_finished.ensures.gone);
     }

@@ -1,5 +1,4 @@
-use Rattle.std.proofs.Common.{◌≡◌, ◌<◌, ◌++◌, ◌∷◌, List, ap, ◌∙◌, arith, length, map, string_bytes}
-use Rattle.std.specs.Prelude.{option_map}
+use Rattle.std.proofs.Common.{◌≡◌, ◌<◌, ◌++◌, ◌∷◌, ap, ◌∙◌, arith, length, map}
 use Rattle.edf_new_files.specs.Made.{MadeFile, removed}
 use Rattle.edf_new_files.specs.declared.new_files.FileStage.TheVariants.{Removed}
 use Rattle.edf_page.specs.declared.begun.BegunFile.{BegunFile}

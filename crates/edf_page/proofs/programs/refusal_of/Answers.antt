@@ -1,5 +1,5 @@
 use Rattle.std.proofs.Common.{Some, ap, refl, rules}
-use Rattle.edf_page.proofs.programs.told.Goals as goal
+use Rattle.edf_page.proofs.programs.refusal_of.Goals as goal
 
 pub returns : goal.returns
 returns c = record {
@@ -16,6 +16,7 @@ returns c = record {
     failed_after = c.tell_fault-status.new.err.failures;
   };
   says = c.tell_fault-status.ensures;
+  unfailed = search rules;
   written = record {
     empty = ap Some c.new-out.ensures.empty;
     unfailed = c.new-out.ensures.counted;

@@ -1,0 +1,23 @@
+use Rattle.std.proofs.Common.{◌≡◌, ◌≤◌, ℕ, List, IfOk, length, refl, subst, rules}
+use Rattle.edf_page.specs.Programs.{RunsDone}
+use Rattle.edf_page_exports.specs.Asked.{asked_by}
+use Rattle.edf_page_exports.specs.Laid.{LieRuns, ComeOfRuns, IsMemory}
+use Rattle.edf_page_exports.proofs.Answering.{ran-gives}
+use Rattle.edf_page_exports.proofs.page_runs.Goals as goal
+
+pub returns : goal.returns
+returns c =
+    let two : 2 ≤ length c.args.parts.now = search rules in
+    let which = c.args.which in
+    let prefix = c.args.prefix.now in
+    let name = c.args.name.now in
+    let bytes = c.args.bytes.now in
+    let ran = c.runs_by-ran.result in
+    ran-gives c.args.out.now c.give_ran.new.out c.args.parts.now c.give_ran.new.parts
+    (LieRuns which prefix name) (ComeOfRuns which prefix name bytes) IsMemory c.give_ran.result
+    (RunsDone name bytes (asked_by which name prefix)) ran two refl
+    (subst (λ (p : List ℕ). IfOk ran (RunsDone name bytes (asked_by which name p)))
+    c.in-Ok.ensures.cases.0
+    (subst (λ (n : List ℕ). IfOk ran (RunsDone n bytes (asked_by which n c.in-Ok.prefix.now)))
+    c.in-Ok-from_utf8.ensures.cases.0 c.runs_by-ran.ensures))
+    (λ r is. record { ran = r; is_ran = is; are_pieces = refl }) c.give_ran.ensures

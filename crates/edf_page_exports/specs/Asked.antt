@@ -1,0 +1,44 @@
+-- What a script may ask of a program, by a number or by values, where the programs have words.
+use Rattle.std.specs.Prelude.{ℕ, ◌==◌, ◌≤◌, if◌then◌else◌, List, [], ◌∷◌, Bool, true, false, Option}
+use Rattle.std.specs.Prelude.{Some, None, is_none}
+use Rattle.edfmend_command.specs.Words.{Values}
+use Rattle.edfruns_command.specs.Run.{Asked}
+use Rattle.edfruns_command.specs.Run.Asked.{list, canonical, split, picture}
+
+-- ---- of `edfruns`
+
+-- the numbers that ask for something
+abbrev pub Asks : ℕ → Type 0
+Asks which = which ≤ 4
+
+-- 0 is `list IN`, 1 `canonical --by-onset IN`, 2 `picture --without-code IN`, 3 `split IN PREFIX`
+-- and 4 `split --by-onset IN PREFIX`
+abbrev pub asked_by : ℕ → List ℕ → List ℕ → Asked
+asked_by which name prefix =
+    if which == 0 then list (name ∷ []) None
+    else (if which == 1 then canonical name true
+    else (if which == 2 then picture name false
+    else split name prefix (which == 4) None))
+
+-- ---- of `edfmend`
+
+-- an empty text is no value
+abbrev pub value_of : List ℕ → Option (List ℕ)
+value_of [] = None
+value_of (b ∷ text) = Some (b ∷ text)
+
+-- seven texts: OUT, and what --patient, --set-patient, --deidentify, --startdate, --starttime and
+-- --as have; without OUT it is --dry-run
+abbrev pub values_of : List ℕ → List (List ℕ) → Option Values
+values_of name (out ∷ patient ∷ set ∷ hidden ∷ date ∷ time ∷ rules ∷ []) = Some (record {
+  input = name;
+  output = value_of out;
+  dry = is_none (value_of out);
+  patient = value_of patient;
+  set_patient = value_of set;
+  deidentify = value_of hidden;
+  startdate = value_of date;
+  starttime = value_of time;
+  only = value_of rules;
+})
+values_of name texts = None

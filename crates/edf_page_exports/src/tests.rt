@@ -1,0 +1,241 @@
+//! Calls over small files. What comes of them is what the documents say of these files.
+
+use crate::{page_mend, page_night, page_runs};
+use edf_sample::named::{file_k, file_n1, file_n2, file_n3, file_p5, file_q, file_u};
+use edf_sample::patched;
+use std::alloc::{AllocError, Global};
+
+/// The lines of the runs of the recording of both files.
+const RUNS: &[u8] = b"\
+1 records=1 first=2002-03-02T23:59:50 seconds=1 gap=14
+2 records=1 first=2002-03-03T00:00:05 seconds=1
+";
+
+/// The line of that recording.
+const LISTED: &[u8] = b"1 records=2 first=2002-03-02T23:59:50 patient=P7 investigation=N1\n";
+
+/// What lies one after another, and the sizes.
+#[derive(Drop)]
+struct Lying {
+    bytes: Vec<u8>,
+    sizes: Vec<u64>,
+}
+
+fn laid(alloc: Global, pieces: &[&[u8]]) -> Result<Lying, AllocError> {
+    let mut bytes = Vec::new(alloc);
+    let mut sizes = Vec::new(alloc);
+    for piece in pieces {
+        bytes.extend_from_slice(piece)?;
+        sizes.push(piece.len() as u64)?;
+    }
+    Ok(Lying { bytes, sizes })
+}
+
+/// Whether bytes have a word of two in them.
+fn has(bytes: &[u8], word: &[u8]) -> bool {
+    bytes.windows(2).any(|part| part == word)
+}
+
+/// What a call answered, in so much room.
+#[derive(Drop)]
+struct Answered {
+    status: u32,
+    out: Vec<u8>,
+    parts: Vec<u64>,
+}
+
+impl Answered {
+    /// The piece at a place, from 0.
+    fn piece(&self, place: usize) -> Option<&[u8]> {
+        let mut from = 0usize;
+        for size in self.parts.iter().skip(1).take(place) {
+            from = from.saturating_add(*size as usize);
+        }
+        let size = *self.parts.get(place.saturating_add(1))? as usize;
+        self.out.get(from..from.saturating_add(size))
+    }
+}
+
+/// Files of these names, in so much room.
+fn night(
+    alloc: Global,
+    names: &[&[u8]],
+    files: &[&[u8]],
+    room: usize,
+    places: usize,
+) -> Result<Answered, AllocError> {
+    let names = laid(alloc, names)?;
+    let files = laid(alloc, files)?;
+    let mut out = vec![in alloc; 7u8; room]?;
+    let mut parts = vec![in alloc; 7u64; places]?;
+    let status = page_night(
+        alloc,
+        names.bytes.as_slice(),
+        names.sizes.as_slice(),
+        files.bytes.as_slice(),
+        files.sizes.as_slice(),
+        out.as_mut_slice(),
+        parts.as_mut_slice(),
+    );
+    Ok(Answered { status, out, parts })
+}
+
+/// What `edfruns` does with file P5 by this number.
+fn runs(alloc: Global, which: u32, prefix: &[u8]) -> Result<Answered, AllocError> {
+    let file = file_p5(alloc)?;
+    let mut out = vec![in alloc; 7u8; 40000]?;
+    let mut parts = vec![in alloc; 7u64; 20]?;
+    let status = page_runs(
+        alloc,
+        which,
+        prefix,
+        b"run-1.edf",
+        file.as_slice(),
+        out.as_mut_slice(),
+        parts.as_mut_slice(),
+    );
+    Ok(Answered { status, out, parts })
+}
+
+/// What `edfmend` does with file P5 by these values.
+fn mend(alloc: Global, values: &[&[u8]]) -> Result<Answered, AllocError> {
+    let values = laid(alloc, values)?;
+    let file = file_p5(alloc)?;
+    let mut out = vec![in alloc; 7u8; 20000]?;
+    let mut parts = vec![in alloc; 7u64; 20]?;
+    let status = page_mend(
+        alloc,
+        values.bytes.as_slice(),
+        values.sizes.as_slice(),
+        b"p5.edf",
+        file.as_slice(),
+        out.as_mut_slice(),
+        parts.as_mut_slice(),
+    );
+    Ok(Answered { status, out, parts })
+}
+
+/// Both files and a text that is none, whose name P5 has too.
+fn three(alloc: Global, room: usize, places: usize) -> Result<Answered, AllocError> {
+    let (p5, q) = (file_p5(alloc)?, file_q(alloc)?);
+    let names = [b"p5.edf".as_slice(), b"q.edf", b"p5.edf"];
+    let files = [p5.as_slice(), q.as_slice(), b"no file"];
+    night(alloc, &names, &files, room, places)
+}
+
+#[test]
+fn a_night_has_a_line_for_each_file_and_all_of_its_recording(
+    rt: HostRuntime,
+) -> Result<(), AllocError> {
+    let all = three(rt.alloc(), 40000, 9)?;
+    assert_eq!(rt; all.status, 0);
+    assert_eq!(rt; all.parts.first().copied(), Some(7));
+    assert!(rt; all.piece(0) == Some(b"p5.edf accepted new=1 known=0\n"));
+    assert!(rt; all.piece(1) == Some(b"q.edf accepted new=1 known=0\n"));
+    assert!(rt; all.piece(2) == Some(b"p5.edf refused E1 Cut\n"));
+    assert!(rt; all.piece(3) == Some(LISTED));
+    assert!(rt; all.piece(5) == Some(RUNS));
+    assert_eq!(rt; all.parts.last().copied(), Some(7));
+    Ok(())
+}
+
+#[test]
+fn just_enough_room_is_enough(rt: HostRuntime) -> Result<(), AllocError> {
+    let less = three(rt.alloc(), 0, 8)?;
+    assert_eq!(rt; less.status, 1);
+    assert_eq!(rt; less.parts.first().copied(), Some(7));
+    let room = less.parts.get(1).copied().unwrap_or(0) as usize;
+    assert_eq!(rt; three(rt.alloc(), room, 8)?.status, 0);
+    assert_eq!(rt; three(rt.alloc(), room.saturating_sub(1), 8)?.status, 1);
+    assert_eq!(rt; three(rt.alloc(), room, 7)?.status, 1);
+    assert_eq!(rt; three(rt.alloc(), room, 1)?.status, 3);
+    Ok(())
+}
+
+#[test]
+fn the_file_is_the_recordings_own(rt: HostRuntime) -> Result<(), AllocError> {
+    let alloc = rt.alloc();
+    let files = [file_n3(alloc)?, file_n1(alloc)?, file_n2(alloc)?];
+    let [n3, n1, n2] = &files;
+    let names = [b"3".as_slice(), b"1", b"2"];
+    let all = night(
+        alloc,
+        &names,
+        &[n3.as_slice(), n1.as_slice(), n2.as_slice()],
+        40000,
+        20,
+    )?;
+    let card = patched(alloc, &file_k(alloc)?, 192, b"EDF+D")?;
+    assert_eq!(rt; all.parts.first().copied(), Some(7));
+    assert!(rt; all.piece(4) == Some(card.as_slice()));
+    assert!(rt; has(all.piece(6).unwrap_or(b""), b"P7"));
+    Ok(())
+}
+
+#[test]
+fn each_recording_has_its_pieces(rt: HostRuntime) -> Result<(), AllocError> {
+    let alloc = rt.alloc();
+    let (q, u) = (file_q(alloc)?, file_u(alloc)?);
+    let all = night(
+        alloc,
+        &[b"u", b"q"],
+        &[u.as_slice(), q.as_slice()],
+        80000,
+        20,
+    )?;
+    assert_eq!(rt; all.parts.first().copied(), Some(9));
+    let is_first = all.piece(3) == Some(q.as_slice());
+    assert!(rt; is_first || all.piece(6) == Some(q.as_slice()));
+    Ok(())
+}
+
+#[test]
+fn what_is_no_call_is_answered_so(rt: HostRuntime) -> Result<(), AllocError> {
+    let alloc = rt.alloc();
+    assert_eq!(rt; night(alloc, &[b"a"], &[], 9, 9)?.status, 3);
+    assert_eq!(rt; night(alloc, &[b"\xff"], &[b""], 9, 9)?.status, 3);
+    assert_eq!(rt; runs(alloc, 5, b"")?.status, 3);
+    assert_eq!(rt; mend(alloc, &[b""])?.status, 3);
+    let none = night(alloc, &[], &[], 9, 9)?;
+    assert_eq!(rt; none.status, 0);
+    assert_eq!(rt; none.parts.first().copied(), Some(1));
+    Ok(())
+}
+
+#[test]
+fn runs_are_what_a_number_asks_for(rt: HostRuntime) -> Result<(), AllocError> {
+    let alloc = rt.alloc();
+    let listed = runs(alloc, 0, b"")?;
+    assert!(rt; listed.piece(0) == Some(b"\0"));
+    assert!(rt; listed.piece(1) == Some(b"1 records=1 first=2002-03-03T00:00:05 seconds=1\n"));
+    let picture = runs(alloc, 2, b"")?;
+    assert!(rt; picture.piece(0) == Some(b"\0"));
+    assert!(rt; !has(picture.piece(1).unwrap_or(b"P7"), b"P7"));
+    let split = runs(alloc, 3, b"one")?;
+    assert!(rt; split.piece(0) == Some(b"\0"));
+    assert!(rt; split.piece(3) == Some(b"one-1.edf"));
+    assert_eq!(rt; split.parts.first().copied(), Some(5));
+    let there = runs(alloc, 4, b"run")?;
+    assert!(rt; there.piece(0) == Some(b"\x01"));
+    assert!(rt; there.piece(2) == Some(b"run-1.edf is there already; nothing was written\n"));
+    Ok(())
+}
+
+#[test]
+fn a_file_is_mended_by_values(rt: HostRuntime) -> Result<(), AllocError> {
+    let alloc = rt.alloc();
+    let dry = mend(alloc, &[b"", b"", b"", b"", b"", b"", b""])?;
+    assert!(rt; dry.piece(0) == Some(b"\0"));
+    assert!(rt; dry.piece(1) == Some(b""));
+    let hidden = mend(alloc, &[b"out.edf", b"", b"", b"S-1", b"", b"", b""])?;
+    assert!(rt; hidden.piece(0) == Some(b"\0"));
+    assert!(rt; hidden.piece(3) == Some(b"out.edf"));
+    assert!(rt; !has(hidden.piece(4).unwrap_or(b"P7"), b"P7"));
+    let there = mend(alloc, &[b"p5.edf", b"", b"", b"", b"", b"", b""])?;
+    assert!(rt; there.piece(0) == Some(b"\x01"));
+    assert!(rt; there.piece(2) == Some(b"p5.edf is there already; nothing was written\n"));
+    let usage = mend(alloc, &[b"out.edf", b"a b", b"", b"", b"", b"", b""])?;
+    assert!(rt; usage.piece(0) == Some(b"\x02"));
+    assert!(rt; usage.piece(1) == Some(b""));
+    Ok(())
+}
