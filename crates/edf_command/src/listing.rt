@@ -15,7 +15,7 @@ ghost use Rattle.edf_command.specs.Listing.{AreHeldBy, AreRecordingsListed};
 
 use edf_fragment::Output;
 use edf_header::Identity;
-use edf_program::{Status, joined, put_line, spelled, tell_refused};
+use edf_program::{Status, concat, put_line, spelled, tell_refused};
 use edf_store::{Store, StoreFault, Summary};
 use sqlite::Alter;
 use std::alloc::{AllocError, Global};
@@ -46,7 +46,7 @@ fn list_line(
         identity.investigation_code(),
         b"\n",
     ];
-    joined(alloc, &parts)
+    concat(alloc, &parts)
 }
 
 /// Writes the line of a recording that is held.

@@ -6,7 +6,7 @@ ghost use Rattle.edf_program.specs.Text.{IsSpelling};
 
 use edf_fragment::Remark;
 use edf_intake::Refusal;
-use edf_program::{fragment_details, joined, spelled};
+use edf_program::{concat, fragment_details, spelled};
 use edf_time::Instant;
 use std::alloc::{AllocError, Global};
 
@@ -23,7 +23,7 @@ fn overlap_details(alloc: Global, start: Instant, stored: Instant) -> Result<Vec
         b" stored=",
         second.as_slice(),
     ];
-    joined(alloc, &parts)
+    concat(alloc, &parts)
 }
 
 /// Where the data records start that differ.
@@ -32,7 +32,7 @@ fn differs_details(alloc: Global, start: Instant) -> Result<Vec<u8>, AllocError>
         r.items ≡ codes " start=" ++ spell start) }
 {
     let first = spelled(alloc, start)?;
-    joined(alloc, &[b" start=".as_slice(), first.as_slice()])
+    concat(alloc, &[b" start=".as_slice(), first.as_slice()])
 }
 
 /// What a refusal names, each after its label.
@@ -78,5 +78,5 @@ pub fn refusal_text(alloc: Global, refusal: &Refusal) -> Result<Vec<u8>, AllocEr
         refusal.name().as_bytes(),
         details.as_slice(),
     ];
-    joined(alloc, &parts)
+    concat(alloc, &parts)
 }

@@ -11,7 +11,7 @@ ghost use Rattle.edf_program.specs.Text.{IsSpelling};
 use crate::refusal::{refusal_text, remark_of};
 use edf_fragment::Output;
 use edf_intake::{Receipt, Refusal, submit_all};
-use edf_program::{Inputs, Status, joined, put_line, status_of_number, tell_memory, worse};
+use edf_program::{Inputs, Status, concat, put_line, status_of_number, tell_memory, worse};
 use edf_store::Store;
 use sqlite::Alter;
 use std::alloc::{AllocError, Global};
@@ -47,7 +47,7 @@ pub fn refused_file_line(
         r.items ≡ refused_file_line spell name.now refusal.now) }
 {
     let text = refusal_text(alloc, refusal)?;
-    joined(
+    concat(
         alloc,
         &[name.as_bytes(), b" refused ", text.as_slice(), b"\n"],
     )

@@ -10,7 +10,7 @@ use Rattle.edf_header.specs.Key.{Key}
 use Rattle.edf_fragment.specs.Fragment.{DataRecord}
 use Rattle.edf_fragment.specs.Told.{Told, Fragment, Fault}
 use Rattle.edf_holdings.specs.Same.{same_record}
-use Rattle.edf_holdings.specs.Rising.{inserted, joined, IsRising}
+use Rattle.edf_holdings.specs.Rising.{inserted, united, IsRising}
 use Rattle.edf_holdings.specs.Holdings.{Holdings, put}
 use Rattle.edf_holdings.specs.Reply.{IsSoundTold, fits, after_one, after, reply, replies}
 use Rattle.edf_holdings.specs.Reply.{IsAccepted}
@@ -38,7 +38,7 @@ inserted_longer r (x ∷ xs) =
     (λ (l : List DataRecord). length (x ∷ xs) ≤ length l)
     (λ _. omega arith) (λ _. omega (arith, inserted_longer r xs)))
 
-joined_longer : (xs rs : List DataRecord) → length xs ≤ length (joined xs rs)
+joined_longer : (xs rs : List DataRecord) → length xs ≤ length (united xs rs)
 joined_longer xs [] = omega arith
 joined_longer xs (r ∷ rs) = omega (arith, inserted_longer r xs, joined_longer (inserted r xs) rs)
 
@@ -130,7 +130,7 @@ MayJoin-from_free cap h key records ts i = record { free = free; room = inr room
     all : List DataRecord
     all = with_all (put key records h) ts key
 
-    up : Within (joined (h key) records) all
+    up : Within (united (h key) records) all
     up y m = all_grows (put key records h) ts key y
         (subst (λ (l : List DataRecord). In y l) (sym (put_here key records h)) m)
 
@@ -140,7 +140,7 @@ MayJoin-from_free cap h key records ts i = record { free = free; room = inr room
         (Contains-from_In all s (up s (joined_keeps (h key) records s n)))
         (Clash-from_test (duration_of key.duration) r s t))
 
-    room : length (joined (h key) records) ≤ cap
+    room : length (united (h key) records) ≤ cap
     room = omega (
       arith,
       i.few key,

@@ -11,7 +11,7 @@ use Rattle.edf_fragment.specs.Fragment.{DataRecord}
 use Rattle.edf_fragment.specs.Told.{Fragment}
 use Rattle.edf_holdings.specs.Same.{same_key}
 use Rattle.edf_holdings.specs.Clash.{clashes}
-use Rattle.edf_holdings.specs.Rising.{joined, new_of, IsApart, IsRising}
+use Rattle.edf_holdings.specs.Rising.{united, new_of, IsApart, IsRising}
 use Rattle.edf_fragment.specs.Sound.{IsSoundRecord, AreSound}
 use Rattle.edf_holdings.specs.Holdings.{Holdings, IsSound, put, nothing_held}
 use Rattle.edf_holdings.specs.Reply.{IsSoundTold, fits, after_one, Accepted, Differs, Overlap}
@@ -65,12 +65,12 @@ holdings_are_sets cap h other s t m =
 
 pub joined_has_both : JoinedHasBoth
 joined_has_both xs rs r = (
-  (λ m. elim (in_joined r xs rs (In-from_Contains (joined xs rs) r m)) [
+  (λ m. elim (in_joined r xs rs (In-from_Contains (united xs rs) r m)) [
     | inl n ↦
         inl (Contains-from_In xs r n)
     | inr n ↦ inr (Contains-from_In rs r n)
   ]),
-  (λ m. Contains-from_In (joined xs rs) r
+  (λ m. Contains-from_In (united xs rs) r
       (elim m [
         | inl n ↦ joined_keeps xs rs r (In-from_Contains xs r n)
         | inr n ↦
@@ -193,9 +193,9 @@ none_held : (cap : ℕ) → IsGood cap nothing_held
 none_held cap = record { rising = λ k. tt; apart = λ k. tt; few = λ k. omega arith }
 
 pub from_nothing : (d low : ℕ) (rs : List DataRecord) → 0 < d → IsApart d low rs → IsApart d 0 rs →
-    joined [] rs ≡ rs
+    united [] rs ≡ rs
 from_nothing d low rs z a b =
-    same_lists d 0 0 (joined [] rs) rs z (apart_joined d low [] rs tt a (λ r x m n. absurd n)) b
+    same_lists d 0 0 (united [] rs) rs z (apart_joined d low [] rs tt a (λ r x m n. absurd n)) b
     (λ y m. elim (in_joined y [] rs m) [ inl n ↦ absurd n | inr n ↦ n ])
     (joined_has [] rs)
 
@@ -241,7 +241,7 @@ own_list cap h k s some = (
     g : IsGood cap h
     g = IsGood-from_sound cap h s
 
-    whole : joined [] (h k) ≡ h k
+    whole : united [] (h k) ≡ h k
     whole = from_nothing (duration_of k.duration) 0 (h k) (lasting k w.0) (g.apart k) (g.apart k)
 
     may : MayJoin cap k (h k) nothing_held

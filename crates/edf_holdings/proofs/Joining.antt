@@ -13,7 +13,7 @@ use Rattle.edf_fragment.specs.Fragment.{DataRecord}
 use Rattle.edf_header.proofs.Cited.{key-duration-some}
 use Rattle.edf_holdings.specs.Same.{same_key}
 use Rattle.edf_holdings.specs.Clash.{clashes}
-use Rattle.edf_holdings.specs.Rising.{joined, IsApart, IsRising}
+use Rattle.edf_holdings.specs.Rising.{united, IsApart, IsRising}
 use Rattle.edf_fragment.specs.Sound.{AreSound}
 use Rattle.edf_holdings.specs.Holdings.{Holdings, IsSound, put}
 use Rattle.edf_holdings.specs.Reply.{is_free_of, fits}
@@ -157,22 +157,22 @@ apart-sound k low (r ∷ rs) s = (s.1, apart-sound k (r.start + duration_of k.du
 
 -- it joins the records of its key
 pub put_here : (key : Key) (records : List DataRecord) (h : Holdings) →
-    put key records h key ≡ joined (h key) records
+    put key records h key ≡ united (h key) records
 put_here key records h = cond-true _ _ _ (same_key-refl key)
 
 -- each key's set is joined with those records, or stays
 pub put_cases : (key : Key) (records : List DataRecord) (h : Holdings) (P : Key → List DataRecord →
-    Type 0) → P key (joined (h key) records) → ((k : Key) → P k (h k)) → (k : Key) →
+    Type 0) → P key (united (h key) records) → ((k : Key) → P k (h k)) → (k : Key) →
     P k (put key records h k)
 put_cases key records h P here there k =
-    cond_both (same_key key k) (joined (h k) records) (h k) (P k)
-    (λ e. subst (λ (q : Key). P q (joined (h q) records)) (same_key-true key k e) here)
+    cond_both (same_key key k) (united (h k) records) (h k) (P k)
+    (λ e. subst (λ (q : Key). P q (united (h q) records)) (same_key-true key k e) here)
     (λ e. there k)
 
 -- it may join: no clash with what its key holds, and all is held or there is room
 pub record MayJoin (cap : ℕ) (key : Key) (records : List DataRecord) (h : Holdings) : Type 0 where
   pub free : AreFree (duration_of key.duration) (h key) records
-  pub room : Within records (h key) ⊎ (length (joined (h key) records) ≤ cap)
+  pub room : Within records (h key) ⊎ (length (united (h key) records) ≤ cap)
 
 pub MayJoin-from_fits : (cap : ℕ) (key : Key) (records : List DataRecord) (h : Holdings) →
     fits cap key records h ≡ true → MayJoin cap key records h
@@ -220,7 +220,7 @@ pub IsGood-put : (cap : ℕ) (key : Key) (records : List DataRecord) (h : Holdin
     IsGood cap (put key records h)
 IsGood-put cap key records h w a g m = record {
   rising = put_cases key records h (λ k l. IsRising l)
-      (rising_from_apart (duration_of key.duration) 0 (joined (h key) records) (lasting key w)
+      (rising_from_apart (duration_of key.duration) 0 (united (h key) records) (lasting key w)
       (apart_joined (duration_of key.duration) 0 (h key) records (g.apart key) a m.free))
       g.rising;
   apart = put_cases key records h (λ k l. IsApart (duration_of k.duration) 0 l)
@@ -253,23 +253,23 @@ MayJoin-smaller cap key records h h' w a g g' up m =
     free : AreFree (duration_of key.duration) (h key) records
     free r s n k = m.free r s n (up key s k)
 
-    apart : IsApart (duration_of key.duration) 0 (joined (h key) records)
+    apart : IsApart (duration_of key.duration) 0 (united (h key) records)
     apart = apart_joined (duration_of key.duration) 0 (h key) records (g.apart key) a free
 
-    held : Within records (h' key) → length (joined (h key) records) ≤ cap
+    held : Within records (h' key) → length (united (h key) records) ≤ cap
     held i = omega (
       arith,
       g'.few key,
-      within_shorter (duration_of key.duration) 0 0 (joined (h key) records) (h' key)
+      within_shorter (duration_of key.duration) 0 0 (united (h key) records) (h' key)
           (lasting key w) apart (g'.apart key)
           (λ y n. elim (in_joined y (h key) records n) [ inl k ↦ up key y k | inr k ↦ i y k ]),
     )
 
-    room : length (joined (h' key) records) ≤ cap → length (joined (h key) records) ≤ cap
+    room : length (united (h' key) records) ≤ cap → length (united (h key) records) ≤ cap
     room l = omega (
       arith,
-      within_shorter (duration_of key.duration) 0 0 (joined (h key) records)
-          (joined (h' key) records) (lasting key w) apart
+      within_shorter (duration_of key.duration) 0 0 (united (h key) records)
+          (united (h' key) records) (lasting key w) apart
           (apart_joined (duration_of key.duration) 0 (h' key) records (g'.apart key) a m.free)
           (λ y n. elim (in_joined y (h key) records n) [
             | inl k ↦

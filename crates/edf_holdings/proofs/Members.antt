@@ -7,7 +7,7 @@ use Rattle.std.proofs.lemmas.Bool.{le-ltb}
 use Rattle.edf_fragment.specs.Fragment.{DataRecord}
 use Rattle.edf_holdings.specs.Same.{same_record}
 use Rattle.edf_holdings.specs.Clash.{clashes}
-use Rattle.edf_holdings.specs.Rising.{contains_record, inserted, joined, new_of, IsApart}
+use Rattle.edf_holdings.specs.Rising.{contains_record, inserted, united, new_of, IsApart}
 use Rattle.edf_holdings.proofs.Same.{same_record-true, same_record-refl, same_record-false}
 use Rattle.edf_holdings.proofs.Same.{same_record_no, clashes-false, clashes-true}
 
@@ -228,7 +228,7 @@ within_shorter d low low' (x ∷ xs) (y ∷ ys) z a b f =
 
 -- many records put in
 
-pub in_joined : (y : DataRecord) (xs rs : List DataRecord) → In y (joined xs rs) → In y xs ⊎ In y rs
+pub in_joined : (y : DataRecord) (xs rs : List DataRecord) → In y (united xs rs) → In y xs ⊎ In y rs
 in_joined y xs [] h = inl h
 in_joined y xs (r ∷ rs) h =
     elim (in_joined y (inserted r xs) rs h) [
@@ -236,11 +236,11 @@ in_joined y xs (r ∷ rs) h =
       | inl k ↦ elim (in_inserted r y xs k) [ inl p ↦ inr (inl p) | inr m ↦ inl m ]
     ]
 
-pub joined_keeps : (xs rs : List DataRecord) → Within xs (joined xs rs)
+pub joined_keeps : (xs rs : List DataRecord) → Within xs (united xs rs)
 joined_keeps xs [] y h = h
 joined_keeps xs (r ∷ rs) y h = joined_keeps (inserted r xs) rs y (inserted_keeps r xs y h)
 
-pub joined_has : (xs rs : List DataRecord) → Within rs (joined xs rs)
+pub joined_has : (xs rs : List DataRecord) → Within rs (united xs rs)
 joined_has xs [] y h = absurd h
 joined_has xs (r ∷ rs) y (inl p) =
     joined_keeps (inserted r xs) rs y (subst (λ (t : DataRecord). In t (inserted r xs)) p
@@ -248,10 +248,10 @@ joined_has xs (r ∷ rs) y (inl p) =
 joined_has xs (r ∷ rs) y (inr h) = joined_has (inserted r xs) rs y h
 
 pub joined_held : (d low : ℕ) (xs rs : List DataRecord) → 0 < d → IsApart d low xs → Within rs xs →
-    joined xs rs ≡ xs
+    united xs rs ≡ xs
 joined_held d low xs [] z a w = refl
 joined_held d low xs (r ∷ rs) z a w =
-    ap (λ l. joined l rs) (inserted_held d low r xs z a (w r (inl refl)))
+    ap (λ l. united l rs) (inserted_held d low r xs z a (w r (inl refl)))
     ∙ joined_held d low xs rs z a (λ y m. w y (inr m))
 
 -- no record of the one list clashes with one of the other
@@ -279,7 +279,7 @@ free_tail d low r xs rs a f s y m n =
     ]
 
 pub apart_joined : (d low : ℕ) (xs rs : List DataRecord) → IsApart d 0 xs → IsApart d low rs →
-    AreFree d xs rs → IsApart d 0 (joined xs rs)
+    AreFree d xs rs → IsApart d 0 (united xs rs)
 apart_joined d low xs [] a b f = a
 apart_joined d low xs (r ∷ rs) a b f =
     apart_joined d (r.start + d) (inserted r xs) rs
@@ -319,12 +319,12 @@ new_tail d low r xs rs z a = new_same xs (inserted r xs) rs
 
 -- the set grows by the number of the records that are new
 pub length_joined : (d low low' : ℕ) (xs rs : List DataRecord) → 0 < d → IsApart d low rs →
-    IsApart d low' xs → AreFree d xs rs → length (joined xs rs) ≡ length xs + new_of xs rs
+    IsApart d low' xs → AreFree d xs rs → length (united xs rs) ≡ length xs + new_of xs rs
 length_joined d low low' xs [] z a b f = omega arith
 length_joined d low low' xs (r ∷ rs) z a b f =
     cond_both (contains_record xs r) (new_of xs rs) (1 + new_of xs rs)
-    (λ n. length (joined (inserted r xs) rs) ≡ length xs + n)
-    (λ e. ap (λ l. length (joined l rs)) (same e)
+    (λ n. length (united (inserted r xs) rs) ≡ length xs + n)
+    (λ e. ap (λ l. length (united l rs)) (same e)
     ∙ length_joined d (r.start + d) low' xs rs z a.1 b (λ s x m n. f s x (inr m) n))
     (λ e. omega (
       arith,

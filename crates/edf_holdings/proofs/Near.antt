@@ -8,7 +8,7 @@ use Rattle.std.specs.Option.{option_or}
 use Rattle.edf_fragment.specs.Fragment.{DataRecord}
 use Rattle.edf_holdings.specs.Same.{same_record}
 use Rattle.edf_holdings.specs.Clash.{clashes, meets, near_of, other_of}
-use Rattle.edf_holdings.specs.Rising.{contains_record, inserted, joined, new_of, IsApart}
+use Rattle.edf_holdings.specs.Rising.{contains_record, inserted, united, new_of, IsApart}
 use Rattle.edf_holdings.specs.Reply.{clash_or, first_clash}
 use Rattle.edf_holdings.proofs.Same.{same_record-true, same_record-refl, same_record_no}
 use Rattle.edf_holdings.proofs.Members.{In, In-from_holds, holds_from_In, in_joined, joined_keeps}
@@ -120,24 +120,24 @@ earliest_inserted d r q (x ∷ xs) e =
 
 pub earliest_joined : (d : ℕ) (r : DataRecord) (xs qs : List DataRecord) →
     ((q : DataRecord) → In q qs → clashes d r q ≡ false) →
-    find (clashes d r) (joined xs qs) ≡ find (clashes d r) xs
+    find (clashes d r) (united xs qs) ≡ find (clashes d r) xs
 earliest_joined d r xs [] w = refl
 earliest_joined d r xs (q ∷ qs) w = earliest_joined d r (inserted q xs) qs (λ p m. w p (inr m))
     ∙ earliest_inserted d r q xs (w q (inl refl))
 
 pub held_joined : (r : DataRecord) (xs qs : List DataRecord) → (In r qs → ⊥) →
-    contains_record (joined xs qs) r ≡ contains_record xs r
-held_joined r xs qs n = same_Bool (contains_record (joined xs qs) r) (contains_record xs r)
-    (λ e. elim (in_joined r xs qs (In-from_holds (joined xs qs) r e)) [
+    contains_record (united xs qs) r ≡ contains_record xs r
+held_joined r xs qs n = same_Bool (contains_record (united xs qs) r) (contains_record xs r)
+    (λ e. elim (in_joined r xs qs (In-from_holds (united xs qs) r e)) [
       | inl m ↦ holds_from_In xs r m
       | inr m ↦ absurd (n m)
     ])
-    (λ e. holds_from_In (joined xs qs) r (joined_keeps xs qs r (In-from_holds xs r e)))
+    (λ e. holds_from_In (united xs qs) r (joined_keeps xs qs r (In-from_holds xs r e)))
 
 -- one more record of the file
 
 pub joined-append : (xs rs : List DataRecord) (r : DataRecord) →
-    joined xs (rs ++ r ∷ []) ≡ inserted r (joined xs rs)
+    united xs (rs ++ r ∷ []) ≡ inserted r (united xs rs)
 joined-append xs [] r = refl
 joined-append xs (q ∷ qs) r = joined-append (inserted q xs) qs r
 

@@ -12,7 +12,7 @@ use Rattle.edf_fragment.specs.Fragment.{DataRecord}
 use Rattle.edf_fragment.specs.Told.{Fragment}
 use Rattle.edf_holdings.specs.Same.{same_key}
 use Rattle.edf_holdings.specs.Clash.{clashes, near_of, other_of}
-use Rattle.edf_holdings.specs.Rising.{contains_record, inserted, joined, new_of, IsApart}
+use Rattle.edf_holdings.specs.Rising.{contains_record, inserted, united, new_of, IsApart}
 use Rattle.edf_holdings.specs.Holdings.{Holdings, put}
 use Rattle.edf_holdings.specs.Reply.{IsSoundTold, after_one, Conflicts, conflict_of_clash, clash_or}
 use Rattle.edf_holdings.specs.Reply.{first_clash, reply_to_counts, reply_to_clash, reply, fits}
@@ -63,17 +63,17 @@ put-append key ps r h = fun_ext (λ k. step k (same_key key k) refl)
     step : (k : Key) (b : Bool) → same_key key k ≡ b →
         put key (r ∷ []) (put key ps h) k ≡ put key (ps ++ r ∷ []) h k
     step k true e =
-        cond-true (same_key key k) (joined (put key ps h k) (r ∷ [])) (put key ps h k) e
-        ∙ (ap (inserted r) (cond-true (same_key key k) (joined (h k) ps) (h k) e)
+        cond-true (same_key key k) (united (put key ps h k) (r ∷ [])) (put key ps h k) e
+        ∙ (ap (inserted r) (cond-true (same_key key k) (united (h k) ps) (h k) e)
         ∙ (sym (joined-append (h k) ps r)
-        ∙ sym (cond-true (same_key key k) (joined (h k) (ps ++ r ∷ [])) (h k) e)))
+        ∙ sym (cond-true (same_key key k) (united (h k) (ps ++ r ∷ [])) (h k) e)))
     step k false e =
-        cond-false (same_key key k) (joined (put key ps h k) (r ∷ [])) (put key ps h k) e
-        ∙ (cond-false (same_key key k) (joined (h k) ps) (h k) e
-        ∙ sym (cond-false (same_key key k) (joined (h k) (ps ++ r ∷ [])) (h k) e))
+        cond-false (same_key key k) (united (put key ps h k) (r ∷ [])) (put key ps h k) e
+        ∙ (cond-false (same_key key k) (united (h k) ps) (h k) e
+        ∙ sym (cond-false (same_key key k) (united (h k) (ps ++ r ∷ [])) (h k) e))
 
 put_same : (key : Key) (ps qs : List DataRecord) (h : Holdings) →
-    joined (h key) ps ≡ joined (h key) qs → put key ps h ≡ put key qs h
+    united (h key) ps ≡ united (h key) qs → put key ps h ≡ put key qs h
 put_same key ps qs h e = fun_ext (λ k. step k (same_key key k) refl)
   where
     step : (k : Key) (b : Bool) → same_key key k ≡ b → put key ps h k ≡ put key qs h k
@@ -81,8 +81,8 @@ put_same key ps qs h e = fun_ext (λ k. step k (same_key key k) refl)
         let p : key ≡ k = same_key-true key k s in
         subst (λ (q : Key). put key ps h q ≡ put key qs h q) p (put_here key ps h
         ∙ (e ∙ sym (put_here key qs h)))
-    step k false s = cond-false (same_key key k) (joined (h k) ps) (h k) s
-        ∙ sym (cond-false (same_key key k) (joined (h k) qs) (h k) s)
+    step k false s = cond-false (same_key key k) (united (h k) ps) (h k) s
+        ∙ sym (cond-false (same_key key k) (united (h k) qs) (h k) s)
 
 put_none : (key : Key) (h : Holdings) → put key [] h ≡ h
 put_none key h = fun_ext (λ k. step k (same_key key k) refl)
@@ -147,7 +147,7 @@ module _ (cap : ℕ) (key : Key) (h : Holdings) (is_key : IsKey key)
     (held : IsApart (duration_of key.duration) 0 (h key)) (rs : List DataRecord) (r : DataRecord)
     (a : IsApart (duration_of key.duration) 0 (rs ++ r ∷ [])) (t : Holdings) (new known : ℕ)
     (k : Taken cap key h rs t new known) where
-  here : t key ≡ joined (h key) k.put_in
+  here : t key ≡ united (h key) k.put_in
   here = ap (λ (z : Holdings). z key) k.table ∙ put_here key k.put_in h
 
   no_clash_with : (q : DataRecord) → In q k.put_in → clashes (duration_of key.duration) r q ≡ false
@@ -217,7 +217,7 @@ module _ (cap : ℕ) (key : Key) (h : Holdings) (is_key : IsKey key)
       there : contains_record (h key) r ≡ true
       there = sym near_holds ∙ there_near
 
-      all_apart : IsApart (duration_of key.duration) 0 (joined (h key) rs)
+      all_apart : IsApart (duration_of key.duration) 0 (united (h key) rs)
       all_apart = apart_joined (duration_of key.duration) 0 (h key) rs held
           (apart_front (duration_of key.duration) 0 rs (r ∷ []) a)
           (AreFree-from_first (duration_of key.duration) (h key) rs k.free)
@@ -225,7 +225,7 @@ module _ (cap : ℕ) (key : Key) (h : Holdings) (is_key : IsKey key)
       same : put key rs h ≡ put key (rs ++ r ∷ []) h
       same = put_same key rs (rs ++ r ∷ []) h
           (sym (joined-append (h key) rs r
-          ∙ inserted_held (duration_of key.duration) 0 r (joined (h key) rs) (lasting key is_key)
+          ∙ inserted_held (duration_of key.duration) 0 r (united (h key) rs) (lasting key is_key)
           all_apart (joined_keeps (h key) rs r (In-from_holds (h key) r there))))
 
   is_new : near_of (duration_of key.duration) r.start (t key) ≡ [] →

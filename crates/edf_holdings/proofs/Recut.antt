@@ -9,7 +9,7 @@ use Rattle.edf_header.specs.Key.{Key}
 use Rattle.edf_fragment.specs.Fragment.{DataRecord}
 use Rattle.edf_fragment.specs.Told.{Told, Fragment, Fault}
 use Rattle.edf_holdings.specs.Clash.{NoClash}
-use Rattle.edf_holdings.specs.Rising.{joined, IsApart, IsRising}
+use Rattle.edf_holdings.specs.Rising.{united, IsApart, IsRising}
 use Rattle.edf_holdings.specs.Holdings.{Holdings, IsSound, put, nothing_held}
 use Rattle.edf_holdings.specs.Reply.{IsSoundTold}
 use Rattle.edf_holdings.specs.Free.{IsFragment, with_one, with_all, IsFree, Has, SameRecords}
@@ -35,7 +35,7 @@ order-one : (h : Holdings) (t : Told) (ts : List Told) → IsSoundTold t →
 order-one h (Fault fault) ts w n o = o
 order-one h (Fragment key records) ts w n o =
     put_cases key records h (λ k l. IsRising l × IsApart (duration_of k.duration) 0 l) (
-      rising_from_apart (duration_of key.duration) 0 (joined (h key) records) (lasting key w.0)
+      rising_from_apart (duration_of key.duration) 0 (united (h key) records) (lasting key w.0)
           apart,
       apart,
     ) o
@@ -43,7 +43,7 @@ order-one h (Fragment key records) ts w n o =
     all : List DataRecord
     all = with_all (put key records h) ts key
 
-    up : Within (joined (h key) records) all
+    up : Within (united (h key) records) all
     up y m = all_grows (put key records h) ts key y
         (subst (λ (l : List DataRecord). In y l) (sym (put_here key records h)) m)
 
@@ -53,7 +53,7 @@ order-one h (Fragment key records) ts w n o =
         (Contains-from_In all s (up s (joined_keeps (h key) records s k)))
         (Clash-from_test (duration_of key.duration) r s t))
 
-    apart : IsApart (duration_of key.duration) 0 (joined (h key) records)
+    apart : IsApart (duration_of key.duration) 0 (united (h key) records)
     apart = apart_joined (duration_of key.duration) 0 (h key) records (o key).1
         (apart-sound key 0 records w.1) free
 
@@ -147,18 +147,18 @@ pub alone_is_free : AloneIsFree
 alone_is_free cap key records w few = record {
   fragments = (tt, tt);
   no_clash = put_cases key records nothing_held (λ k l. NoClash (duration_of k.duration) l)
-      (λ r s m n c. both_ways _ (free_from_apart (duration_of key.duration) 0 (joined [] records)
-      apart r s (In-from_Contains (joined [] records) r m)
-      (In-from_Contains (joined [] records) s n))
+      (λ r s m n c. both_ways _ (free_from_apart (duration_of key.duration) 0 (united [] records)
+      apart r s (In-from_Contains (united [] records) r m)
+      (In-from_Contains (united [] records) s n))
       (test_from_Clash (duration_of key.duration) r s c))
       (λ k r s m n c. absurd (In-from_Contains [] r m));
   few = put_cases key records nothing_held (λ k l. length l ≤ cap)
       (omega (arith, few, ap (λ (l : List DataRecord). length l) whole)) (λ k. omega arith);
 }
   where
-    whole : joined [] records ≡ records
+    whole : united [] records ≡ records
     whole = from_nothing (duration_of key.duration) 0 records (lasting key w.0)
         (apart-sound key 0 records w.1) (apart-sound key 0 records w.1)
 
-    apart : IsApart (duration_of key.duration) 0 (joined [] records)
+    apart : IsApart (duration_of key.duration) 0 (united [] records)
     apart = subst (IsApart (duration_of key.duration) 0) (sym whole) (apart-sound key 0 records w.1)

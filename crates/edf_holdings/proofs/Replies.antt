@@ -10,7 +10,7 @@ use Rattle.edf_fragment.specs.Fragment.{DataRecord}
 use Rattle.edf_fragment.specs.declared.fault.FragmentFault.{FragmentFault}
 use Rattle.edf_fragment.specs.Told.{Told, Fragment, Fault}
 use Rattle.edf_holdings.specs.Clash.{clashes}
-use Rattle.edf_holdings.specs.Rising.{contains_record, joined, new_of}
+use Rattle.edf_holdings.specs.Rising.{contains_record, united, new_of}
 use Rattle.edf_holdings.specs.Holdings.{Holdings, put}
 use Rattle.edf_holdings.specs.Reply.{IsSoundTold, fits, after_one, after, Reply, Form, Conflicts}
 use Rattle.edf_holdings.specs.Reply.{Full, Accepted, IsAccepted, clash_or, first_clash}
@@ -132,7 +132,7 @@ MayJoin-from_clash cap h key records None w g q i = record { free = free; room =
     free : AreFree (duration_of key.duration) (h key) records
     free = AreFree-from_first (duration_of key.duration) (h key) records q
 
-    room : Within records (h key) ⊎ (length (joined (h key) records) ≤ cap)
+    room : Within records (h key) ⊎ (length (united (h key) records) ≤ cap)
     room =
         elim (cases_Bool (is_past cap (length (h key)) (new_of (h key) records))) [
           | inl t ↦ absurd (subst IsAccepted

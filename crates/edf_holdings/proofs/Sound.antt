@@ -8,7 +8,7 @@ use Rattle.edf_header.specs.Key.{Key, IsKey, MayStart}
 use Rattle.edf_fragment.specs.Fragment.{DataRecord}
 use Rattle.edf_fragment.specs.Told.{Told, Fragment, Fault}
 use Rattle.edf_holdings.specs.Same.{same_key, same_record}
-use Rattle.edf_holdings.specs.Rising.{inserted, joined}
+use Rattle.edf_holdings.specs.Rising.{inserted, united}
 use Rattle.edf_fragment.specs.Sound.{IsSoundRecord, AreSound, MayBegin}
 use Rattle.edf_holdings.specs.Holdings.{Holdings, IsSound, put}
 use Rattle.edf_holdings.specs.Reply.{IsSoundTold, fits, after_one}
@@ -60,7 +60,7 @@ inserted-begins k r (x ∷ xs) old first =
     (λ e undated. omega (arith, ltb-true _ _ e, old undated)) (λ _. old))
 
 pub joined-begins : (k : Key) (xs records : List DataRecord) → MayBegin k xs →
-    (xs ≡ [] → MayBegin k records) → MayBegin k (joined xs records)
+    (xs ≡ [] → MayBegin k records) → MayBegin k (united xs records)
 joined-begins k xs [] old first = old
 joined-begins k xs (r ∷ rs) old first =
     joined-begins k (inserted r xs) rs (inserted-begins k r xs old first)
@@ -89,7 +89,7 @@ HasHolders-put key records h is_key sound first p = record {
       p.begins;
   holders = put_cases key records h (λ q l. l ≢ [] → IsKey q) (λ _. is_key) p.holders;
   finite = key ∷ p.finite;
-  all = λ k. cond_both (same_key key k) (joined (h k) records) (h k) (λ (l : List DataRecord).
+  all = λ k. cond_both (same_key key k) (united (h k) records) (h k) (λ (l : List DataRecord).
       l ≢ [] → Contains (key ∷ p.finite) k)
       (λ e _. (0, omega arith, same_key-true key k e))
       (λ _ n. let c = p.all k n in (suc c.0, omega (arith, c.1), c.2));

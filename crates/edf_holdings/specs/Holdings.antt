@@ -5,7 +5,7 @@ use Rattle.edf_header.specs.Key.{Key, IsKey}
 use Rattle.edf_fragment.specs.Fragment.{DataRecord}
 use Rattle.edf_holdings.specs.Same.{same_key}
 use Rattle.edf_holdings.specs.Clash.{NoClash}
-use Rattle.edf_holdings.specs.Rising.{IsRising, joined}
+use Rattle.edf_holdings.specs.Rising.{IsRising, united}
 use Rattle.edf_fragment.specs.Sound.{IsSoundRecord, MayBegin}
 
 -- each key's data records by rising starts, none where nothing is held
@@ -28,4 +28,4 @@ pub record IsSound (cap : ℕ) (h : Holdings) : Type 0 where
 
 -- the holdings with these records under the key beside those that it holds
 abbrev pub put : Key → List DataRecord → Holdings → Holdings
-put key records h = λ k. cond (same_key key k) (joined (h k) records) (h k)
+put key records h = λ k. cond (same_key key k) (united (h k) records) (h k)

@@ -7,7 +7,7 @@ use Rattle.edf_fragment.specs.Fragment.{DataRecord}
 use Rattle.edf_fragment.specs.Told.{Told, Fragment}
 use Rattle.edf_holdings.specs.Same.{same_key, same_record}
 use Rattle.edf_holdings.specs.Clash.{Clash, clashes, near_of}
-use Rattle.edf_holdings.specs.Rising.{IsRising, contains_record, joined, new_of}
+use Rattle.edf_holdings.specs.Rising.{IsRising, contains_record, united, new_of}
 use Rattle.edf_holdings.specs.Holdings.{Holdings, IsSound, nothing_held}
 use Rattle.edf_holdings.specs.Reply.{IsSoundTold, fits, after_one, after, Overlap, Differs, Full}
 use Rattle.edf_holdings.specs.Reply.{Conflicts, Accepted, reply, IsAccepted}
@@ -44,7 +44,7 @@ HoldingsAreSets = (cap : ℕ) (h other : Holdings) → IsSound cap h → IsSound
 -- a joined list has the records of both, and no others
 abbrev pub JoinedHasBoth : Type 0
 JoinedHasBoth = (xs records : List DataRecord) (r : DataRecord) →
-    Contains (joined xs records) r ↔ (Contains xs r ⊎ Contains records r)
+    Contains (united xs records) r ↔ (Contains xs r ⊎ Contains records r)
 
 -- holdings with all that the submissions have: what was held and what they have, and nothing else
 abbrev pub AllHasBoth : Type 0
@@ -59,7 +59,7 @@ IsClear h key records = (r s : DataRecord) → Contains records r → Contains (
 -- so, and joined with them the key has what it had, or at most the cap
 pub record Fits (cap : ℕ) (key : Key) (records : List DataRecord) (h : Holdings) : Type 0 where
   pub clear : IsClear h key records
-  pub room : (joined (h key) records ≡ h key) ⊎ (length (joined (h key) records) ≤ cap)
+  pub room : (united (h key) records ≡ h key) ⊎ (length (united (h key) records) ≤ cap)
 
 abbrev pub FitsIsTold : Type 0
 FitsIsTold = (cap : ℕ) (h : Holdings) (key : Key) (records : List DataRecord) → IsSound cap h →
@@ -119,7 +119,7 @@ CountsAreNamed = (cap : ℕ) (h : Holdings) (key : Key) (records : List DataReco
 abbrev pub NewIsCounted : Type 0
 NewIsCounted = (cap : ℕ) (h : Holdings) (key : Key) (records : List DataRecord) → IsSound cap h →
     IsSoundTold (Fragment key records) →
-    IsClear h key records → length (joined (h key) records) ≡ length (h key) + new_of (h key)
+    IsClear h key records → length (united (h key) records) ≡ length (h key) + new_of (h key)
     records
 
 -- a member of the list that was accepted when it came has the record under the key

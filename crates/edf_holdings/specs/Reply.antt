@@ -10,7 +10,7 @@ use Rattle.edf_fragment.specs.declared.fault.FragmentFault.{FragmentFault}
 use Rattle.edf_fragment.specs.Told.{Told, Fragment, Fault}
 use Rattle.edf_fragment.specs.Sound.{AreSound, MayBegin}
 use Rattle.edf_holdings.specs.Clash.{clashes}
-use Rattle.edf_holdings.specs.Rising.{joined, new_of}
+use Rattle.edf_holdings.specs.Rising.{united, new_of}
 use Rattle.edf_holdings.specs.Holdings.{Holdings, put}
 
 -- a fragment as bytes spell them: by a law bytes amount to nothing else
@@ -27,7 +27,7 @@ is_free_of d xs records = list_all (λ r. list_all (λ s. not (clashes d r s)) x
 abbrev pub fits : ℕ → Key → List DataRecord → Holdings → Bool
 fits cap key records h =
     is_free_of (duration_of key.duration) (h key) records
-    && (nat_eq (new_of (h key) records) 0 || nat_le (length (joined (h key) records)) cap)
+    && (nat_eq (new_of (h key) records) 0 || nat_le (length (united (h key) records)) cap)
 
 -- what one submission leaves: the records of a fragment that fits join those of its key, and
 -- nothing else changes anything

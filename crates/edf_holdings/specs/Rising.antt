@@ -25,9 +25,9 @@ inserted r (x ∷ xs) = cond (same_record x r) (x ∷ xs)
     (cond (nat_lt r.start x.start) (r ∷ x ∷ xs) (x ∷ inserted r xs))
 
 -- the first list with the records of the second: its members are those of both, by a law
-abbrev pub joined : List DataRecord → List DataRecord → List DataRecord
-joined xs [] = xs
-joined xs (r ∷ rs) = joined (inserted r xs) rs
+abbrev pub united : List DataRecord → List DataRecord → List DataRecord
+united xs [] = xs
+united xs (r ∷ rs) = united (inserted r xs) rs
 
 -- how many records of the second list are not in the first
 abbrev pub new_of : List DataRecord → List DataRecord → ℕ

@@ -23,7 +23,7 @@ pub fn tests()
 pub fn sets()
     ensures list { ListIsSet }
     ensures holdings { HoldingsAreSets }
-    ensures joined { JoinedHasBoth }
+    ensures united { JoinedHasBoth }
     ensures all { AllHasBoth }
     ensures keys { KeysAreOne }
 {}

@@ -14,7 +14,7 @@ use Rattle.edf_fragment.specs.declared.advance.Progress.{Progress}
 use Rattle.edf_fragment.specs.declared.advance.ReaderState.TheVariants.{Reading}
 use Rattle.edf_fragment.proofs.Fragments.{reads_none, one_more_read, all_read}
 use Rattle.edf_fragment.proofs.Sound.{read-key, read-sound, read-begins}
-use Rattle.edf_holdings.specs.Rising.{IsApart, joined}
+use Rattle.edf_holdings.specs.Rising.{IsApart, united}
 use Rattle.edf_holdings.specs.Holdings.{Holdings, put}
 use Rattle.edf_holdings.proofs.Members.{In, Within, joined_has}
 use Rattle.edf_holdings.proofs.Joining.{IsGood-from_sound, apart-sound, put_here}
@@ -103,10 +103,10 @@ module _ {S : Type 0} (g : Ghosts S) (first : StoreModel S) (l : Layout)
       findings.known (starts_of o)) none m.2 in
       let held : h ≡ put l.key w.records some.0 = sym (seen_is_one g now m.0 h clean m.1 seen)
       ∙ taken.whole (omega (arith, low, (space (was clean) some.0 start).fits)) in
-      let all : h l.key ≡ joined (some.0 l.key) w.records = ap (λ (z : Holdings). z l.key) held
+      let all : h l.key ≡ united (some.0 l.key) w.records = ap (λ (z : Holdings). z l.key) held
       ∙ put_here l.key w.records some.0 in
       let before_it : w.records ≡ [] =
-      empty_within w.records (joined (some.0 l.key) w.records)
+      empty_within w.records (united (some.0 l.key) w.records)
       (joined_has (some.0 l.key) w.records) (sym all ∙ empty) in
       let read : HasRead l left rest (w.records ++ r ∷ []) q =
       (one_more_read l left mid rest w.records p q r w.read going answer).0 in

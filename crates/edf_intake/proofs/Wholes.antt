@@ -10,7 +10,7 @@ use Rattle.edf_fragment.specs.Told.{Fragment}
 use Rattle.edf_fragment.specs.Reading.{ReadsHeader}
 use Rattle.edf_fragment.specs.Whole.{ReadsFragment}
 use Rattle.edf_fragment.proofs.Sound.{spelled-key, spelled-sound, spelled-begins, spelled-some}
-use Rattle.edf_holdings.specs.Rising.{joined}
+use Rattle.edf_holdings.specs.Rising.{united}
 use Rattle.edf_holdings.specs.Holdings.{Holdings, put}
 use Rattle.edf_holdings.specs.Reply.{IsSoundTold, reply}
 use Rattle.edf_holdings.proofs.Members.{joined_has}
@@ -58,7 +58,7 @@ still_whole g first made last key records some whole running most none was_made 
           (record { key = old.key; there = λ _. old })
           (empty_within (start.0 k) (put key records start.0 k) (put_grows key records start.0 k) e)
       | inr same ↦ subst (λ (q : Key). put key records start.0 q ≢ []) (sym same)
-          (λ e. none_there records some (empty_within records (joined (start.0 key) records)
+          (λ e. none_there records some (empty_within records (united (start.0 key) records)
           (joined_has (start.0 key) records) (sym (put_here key records start.0) ∙ e)))
     ])
 

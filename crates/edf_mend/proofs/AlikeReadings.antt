@@ -32,7 +32,7 @@ use Rattle.edf_mend.proofs.OtherMark.{other-count, without_count}
 use Rattle.edf_mend.proofs.Through.{split}
 use Rattle.edf_mend.proofs.Tracks.{all-sound}
 use Rattle.edf_mend.proofs.Versions.{left-edf}
-use Rattle.edf_mend.proofs.Widths.{IsSound}
+use Rattle.edf_mend.proofs.Widths.{IsFormed}
 
 -- ---- what is asked of the patient and of the start goes by no byte behind the header
 
@@ -97,8 +97,8 @@ module _ (w : Wanted) (G : Type 0) (first : HeaderTexts) (body : List ℕ)
 -- ---- alike
 
 module _ (w : Wanted) (first : HeaderTexts) (body : List ℕ) (wanted : IsWanted w)
-    (sound : IsSound first) (over : IsLeftOver w (IsTrue false) first body) where
-  after-sound : IsSound over.after
+    (sound : IsFormed first) (over : IsLeftOver w (IsTrue false) first body) where
+  after-sound : IsFormed over.after
   after-sound = all-sound w (IsTrue false) first body wanted.startdate wanted.starttime order first
       over.steps over.after over.added over.follows sound
 

@@ -24,14 +24,14 @@ use Rattle.edf_mend.proofs.GoodRecords.{are-cut, cut-one}
 use Rattle.edf_mend.proofs.Grown.{all-grown, size-grown, IsGrown, IsNew}
 use Rattle.edf_mend.proofs.Placed.{one-header, row-fields, field-front}
 use Rattle.edf_mend.proofs.Tracks.{all-sound}
-use Rattle.edf_mend.proofs.Widths.{first-sound, sound-again, IsSound}
+use Rattle.edf_mend.proofs.Widths.{first-sound, sound-again, IsFormed}
 use Rattle.edf_mend.specs.Carried.{AreCarried}
 use Rattle.edf_mend.specs.Counted.{record_size, LeavesOut}
 use Rattle.edf_mend.specs.Header.{SignalTexts, HeaderTexts, HasHeader, row_of}
 use Rattle.edf_mend.specs.Inside.Head.{HasSignalWidths}
 use Rattle.edf_mend.specs.Laws.{EachByteStays}
 use Rattle.edf_mend.specs.Mark.{IsContinuous}
-use Rattle.edf_mend.specs.Mended.{LeavesHeader, LeavesNoHeader, LeavesRecords, joined}
+use Rattle.edf_mend.specs.Mended.{LeavesHeader, LeavesNoHeader, LeavesRecords, concatenated}
 use Rattle.edf_mend.specs.Mended.{IsCut}
 use Rattle.edf_mend.specs.Retimed.{HasGap, IsClockMade, AreRetimed}
 use Rattle.edf_mend.specs.Rewritten.{RecordEdits, AreRewritten}
@@ -305,15 +305,15 @@ keeps-on l added x y z p q = (omega (arith, p.0, q.0), q.1 ∙ p.1)
 
 pub record Ends (retimed : List (List ℕ)) (piece rest : List ℕ) : Type 0 where
   pub tail : List ℕ
-  pub is : rest ≡ joined retimed ++ tail
+  pub is : rest ≡ concatenated retimed ++ tail
   pub less : length tail ≤ length piece
 
 pub ends : (Out : Type 0) (retimed : List (List ℕ)) (piece rest : List ℕ) (out : ℕ) →
-    If Out ((rest ≡ joined retimed) × (out ≡ length piece))
-    ((rest ≡ joined retimed ++ piece) × (out ≡ 0)) → Ends retimed piece rest
+    If Out ((rest ≡ concatenated retimed) × (out ≡ length piece))
+    ((rest ≡ concatenated retimed ++ piece) × (out ≡ 0)) → Ends retimed piece rest
 ends Out retimed piece rest out (inl m) = record {
   tail = [];
-  is = m.1.0 ∙ sym (append-nil (joined retimed));
+  is = m.1.0 ∙ sym (append-nil (concatenated retimed));
   less = omega arith;
 }
 ends Out retimed piece rest out (inr m) =
@@ -327,7 +327,7 @@ all-labelled (s ∷ ss) widths all = All-cons IsLabelled (row_of s) (map row_of 
     ∙ (All-head IsNew s ss all).label)
     (all-labelled ss (All-tail HasSignalWidths s ss widths) (All-tail IsNew s ss all))
 
-adds-block : (first after : HeaderTexts) (h : HeaderRecord) (added : ℕ) → IsSound after →
+adds-block : (first after : HeaderTexts) (h : HeaderRecord) (added : ℕ) → IsFormed after →
     IsGrown (length first.signals) after added → map row_of after.signals ≡ h.signals →
     (old block : List ℕ) → length old ≡ record_size (own_signals first after) →
     length block ≡ added → 0 < added →
@@ -389,7 +389,7 @@ abbrev Reads : Layout → List ℕ → DataRecord → Type 0
 Reads l x r = r.samples ≡ ordinary_bytes l x
 
 record-keeps : (w : Wanted) (first after : HeaderTexts) (h : HeaderRecord) (ledger : Ledger)
-    (body rest : List ℕ) (spelled : List (List ℕ)) → IsSound after →
+    (body rest : List ℕ) (spelled : List (List ℕ)) → IsFormed after →
     IsGrown (length first.signals) after ledger.added → map row_of after.signals ≡ h.signals →
     (r : LeavesRecords w first after (layout_of h) ledger body spelled rest) →
     AllZip (Keeps (layout_of h) ledger.added) r.records r.retimed
@@ -409,11 +409,11 @@ record-keeps w first after h ledger body rest spelled sound g rows r =
 -- **the data records of the mended file are those that the rules left**
 pub fronts-retimed : (w : Wanted) (first after : HeaderTexts) (h : HeaderRecord) (ledger : Ledger)
     (body rest : List ℕ) (spelled : List (List ℕ)) (fronts : List (List ℕ)) →
-    IsLayout (layout_of h) → IsSound after →
+    IsLayout (layout_of h) → IsFormed after →
     IsGrown (length first.signals) after ledger.added → map row_of after.signals ≡ h.signals →
     record_size after ≡ (layout_of h).record_bytes →
     (r : LeavesRecords w first after (layout_of h) ledger body spelled rest) →
-    rest ≡ joined fronts → All (λ x. length x ≡ (layout_of h).record_bytes) fronts →
+    rest ≡ concatenated fronts → All (λ x. length x ≡ (layout_of h).record_bytes) fronts →
     r.retimed ≡ fronts
 fronts-retimed w first after h ledger body rest spelled fronts layout sound g rows size r parts
     sizes =
@@ -428,15 +428,16 @@ fronts-retimed w first after h ledger body rest spelled fronts layout sound g ro
     let some = record-some l layout in
     (cut-one l.record_bytes r.retimed fronts end.tail [] long sizes
     (omega (arith, end.less, r.cut.less, grown, size)) some
-    (sym end.is ∙ parts ∙ sym (append-nil (joined fronts)))).records
+    (sym end.is ∙ parts ∙ sym (append-nil (concatenated fronts)))).records
 
 record-bytes : (w : Wanted) (first after : HeaderTexts) (h : HeaderRecord) (ledger : Ledger)
     (body rest : List ℕ) (spelled : List (List ℕ)) (pieces fronts : List (List ℕ))
-    (piece : List ℕ) (records : List DataRecord) → IsLayout (layout_of h) → IsSound after →
+    (piece : List ℕ) (records : List DataRecord) → IsLayout (layout_of h) → IsFormed after →
     IsGrown (length first.signals) after ledger.added → map row_of after.signals ≡ h.signals →
     record_size after ≡ (layout_of h).record_bytes →
     IsCut (record_size (own_signals first after)) body pieces piece →
-    LeavesRecords w first after (layout_of h) ledger body spelled rest → rest ≡ joined fronts →
+    LeavesRecords w first after (layout_of h) ledger body spelled rest → rest ≡ concatenated fronts
+    →
     All (λ r. length r ≡ (layout_of h).record_bytes) fronts →
     AllZip (Reads (layout_of h)) fronts records → AllZip (Reads (layout_of h)) pieces records
 record-bytes w first after h ledger body rest spelled pieces fronts piece records layout sound g

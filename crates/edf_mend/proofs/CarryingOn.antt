@@ -18,7 +18,7 @@ use Rattle.edf_fragment.specs.declared.advance.ReaderState.TheVariants.{Reading}
 use Rattle.edf_fragment.proofs.Runs.{AreDataRecords-snoc}
 use Rattle.edf_canonical.specs.Output.{Buffered, Writes}
 use Rattle.edf_canonical.proofs.Puts.{writes-then, writes-same}
-use Rattle.edf_mend.specs.Mended.{joined, TellsNoRecords}
+use Rattle.edf_mend.specs.Mended.{concatenated, TellsNoRecords}
 use Rattle.edf_mend.specs.Retimed.{AreRetimed}
 use Rattle.edf_mend.specs.Rewritten.{RecordEdits}
 use Rattle.edf_mend.specs.Inside.Accepted.{RefusesNext}
@@ -34,9 +34,10 @@ use Rattle.edf_mend.specs.declared.records.Shape.{Shape}
 use Rattle.edf_mend.specs.declared.records.Starts.{Starts}
 use Rattle.edf_mend.specs.declared.tally.Tally.{Tally}
 
-pub joined-one : (ps : List (List ℕ)) (p : List ℕ) → joined (ps ++ p ∷ []) ≡ joined ps ++ p
+pub joined-one : (ps : List (List ℕ)) (p : List ℕ) → concatenated (ps ++ p ∷ []) ≡ concatenated ps
+    ++ p
 joined-one ps p = flat_map-append (λ (x : List ℕ). x) ps (p ∷ [])
-    ∙ ap (λ (x : List ℕ). joined ps ++ x) (append-nil p)
+    ∙ ap (λ (x : List ℕ). concatenated ps ++ x) (append-nil p)
 
 -- ---- texts that nobody read
 
@@ -215,7 +216,8 @@ module _ (l : Layout) (shape : Shape) (moves : Bool) where
       are = so.are;
       most = so.most;
       as_many = so.as_many;
-      wrote = subst (λ (x : Buffered). Writes a x (joined so.done) x.held) (sym same) so.wrote;
+      wrote = subst (λ (x : Buffered). Writes a x (concatenated so.done) x.held) (sym same)
+          so.wrote;
       goes = subst (λ (x : Option MendFault). GoesOnFrom l (length so.records) so.last
           (so.later ++ new ∷ []) q x) (sym fault)
           (goes-longer l (length so.records) so.last so.later new p q told.fault some so.goes);
@@ -239,7 +241,7 @@ module _ (l : Layout) (shape : Shape) (moves : Bool) where
           are = so.are;
           most = so.most;
           as_many = so.as_many;
-          wrote = subst (λ (x : Buffered). Writes a x (joined so.done) x.held) (sym one.same)
+          wrote = subst (λ (x : Buffered). Writes a x (concatenated so.done) x.held) (sym one.same)
               so.wrote;
           goes = subst (λ (x : Option MendFault). GoesOnFrom l (length so.records) so.last
               (new ∷ []) q x) (sym (ap (λ (x : Told). x.fault) one.told)) (
@@ -266,7 +268,8 @@ module _ (l : Layout) (shape : Shape) (moves : Bool) where
         subst (λ (x : Progress). IsDataRecord l x.place new r) g.1
         (subst (λ (x : List ℕ). IsDataRecord l p.place x r) whole gives.is_record) in
         let given : p.given ≡ length so.records = ap (λ (x : Progress). x.given) g.1 in
-        let pieces : joined (so.done ++ new ∷ []) ≡ joined so.done ++ new = joined-one so.done new in
+        let pieces : concatenated (so.done ++ new ∷ []) ≡ concatenated so.done ++ new = joined-one
+        so.done new in
         let count : length (so.records ++ r ∷ []) ≡ length so.records + 1 =
         length-append so.records (r ∷ []) in
         let to : q ≡ at_place (length (so.records ++ r ∷ [])) (place_after l r.start) =
@@ -286,11 +289,12 @@ module _ (l : Layout) (shape : Shape) (moves : Bool) where
           last = place_after l r.start;
           are = subst (λ (x : List ℕ). AreDataRecords l First x (so.records ++ r ∷ [])
               (place_after l r.start) []) (sym pieces)
-              (AreDataRecords-snoc l First so.last (joined so.done) new so.records r so.are is);
+              (AreDataRecords-snoc l First so.last (concatenated so.done) new so.records r so.are
+              is);
           most = omega (arith, count, given, gives.may_come);
           as_many = omega (arith, count, so.as_many, length-append so.done (new ∷ []));
           wrote = writes-same a c _ _ c.held (sym pieces)
-              (writes-then a b c (joined so.done) new c.held so.wrote one.wrote);
+              (writes-then a b c (concatenated so.done) new c.held so.wrote one.wrote);
           goes = subst (λ (x : Option MendFault). GoesOnFrom l (length (so.records ++ r ∷ []))
               (place_after l r.start) [] q x)
               (sym (ap (λ (x : Told). x.fault) one.told ∙ fault ∙ none)) (refl, to);
@@ -298,7 +302,7 @@ module _ (l : Layout) (shape : Shape) (moves : Bool) where
               ∙ ap (λ (x : Option ℕ). unread_after x (length r.annotations)) so.unread
               ∙ unread-one before.ledger.unread_texts so.records r zero-texts
               (omega (arith, given, gives.may_come, layout.count.1))
-              (texts-few l First so.last (joined so.done) [] so.records so.are)
+              (texts-few l First so.last (concatenated so.done) [] so.records so.are)
               is.read.limits.count;
         }
 
@@ -395,11 +399,13 @@ module _ (l : Layout) (shape : Shape) (moves : Bool) (left : Option (List ℕ)) 
       (b c : Buffered) (old : List ℕ) (told tells : Told) → IsLayout l →
       IfSome before.ledger.unread_texts (λ n. n ≡ 0) → shape.size + shape.added ≡ l.record_bytes →
       (so : CarriesSoFar l shape moves left mid front t s p a b before told) →
-      Consumes mid rest old → length old ≡ shape.size → IsTally front (joined so.olds ++ old) t' →
+      Consumes mid rest old → length old ≡ shape.size → IsTally front (concatenated so.olds ++ old)
+      t' →
       CarriesOne l shape moves old s s' p q b c told tells →
       CarriesSoFar l shape moves left rest front t' s' q a c before tells
   one-carried t t' s s' p q mid rest b c old told tells layout zero-texts fits so read len tally one =
-      let pieces : joined (so.olds ++ old ∷ []) ≡ joined so.olds ++ old = joined-one so.olds old in
+      let pieces : concatenated (so.olds ++ old ∷ []) ≡ concatenated so.olds ++ old = joined-one
+      so.olds old in
       let kept = kept-steps told tells one.ledger p q b c one.new one.then in
       let all = more-remade l shape moves so.olds so.news old one.new s s' told.ledger one.ledger
       so.remade (omega (arith, len, fits)) one.remade in
@@ -407,7 +413,7 @@ module _ (l : Layout) (shape : Shape) (moves : Bool) (left : Option (List ℕ)) 
         olds = so.olds ++ old ∷ [];
         news = so.news ++ one.new ∷ [];
         read = subst (Consumes left rest) (sym pieces)
-            (Consumes-trans left mid rest (joined so.olds) old so.read read);
+            (Consumes-trans left mid rest (concatenated so.olds) old so.read read);
         tally = subst (λ (x : List ℕ). IsTally front x t') (sym pieces) tally;
         sizes = All-push (λ (r : List ℕ). length r ≡ shape.size) so.olds old so.sizes len;
         remade = same-remade (so.olds ++ old ∷ []) (so.news ++ one.new ∷ []) s' one.ledger

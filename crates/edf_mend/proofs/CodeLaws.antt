@@ -8,7 +8,7 @@ use Rattle.edf_mend.proofs.Spelled.{good-patient}
 use Rattle.edf_mend.proofs.Through.{split}
 use Rattle.edf_mend.proofs.Tracks.{IsPatientStep, IsWalk, patient-step, marked-patient, walk}
 use Rattle.edf_mend.proofs.Tracks.{all-sound}
-use Rattle.edf_mend.proofs.Widths.{IsSound}
+use Rattle.edf_mend.proofs.Widths.{IsFormed}
 use Rattle.edf_mend.specs.Code.{IsCode}
 use Rattle.edf_mend.specs.Laws.{AGivenCodeIsWritten, ACodeStays, IsWanted, IsGivenCode}
 use Rattle.edf_mend.specs.Laws.{FillsField}
@@ -96,7 +96,7 @@ hidden-last = refl
 pub record HiddenStep (w : Wanted) (first after : HeaderTexts) (code : List ℕ) : Type 0 where
   pub old : HeaderTexts
   pub mid : HeaderTexts
-  pub sound : IsSound old
+  pub sound : IsFormed old
   pub made : IsHiddenMade (HasThreeCodes first.fixed.recording) (Hidden code) old mid
   pub marked : IsMarkedIf w first mid after
 
@@ -113,7 +113,7 @@ hidden-step w first after code day time who x =
     by s.gaps s.body h.mid s.mid h.more h.later sound s.marked h.back
   where
     by : (G : Type 0) (body : List ℕ) (old mid : HeaderTexts) (more : List RuleEdits) (later : ℕ) →
-        IsSound old → IsMarkedIf w first mid after →
+        IsFormed old → IsMarkedIf w first mid after →
         Follow w G first body (rule.Deidentify ∷ []) old more mid later →
         HiddenStep w first after code
     by G body old mid more later sound marked (inl f) = absurd (f.0 (code, who))

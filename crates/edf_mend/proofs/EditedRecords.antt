@@ -198,7 +198,7 @@ respelled-edited from (b ∷ bs) old new es (low, more) len r =
     respelled-edited (b.at + b.bytes) bs old new rest more len
     (record { samples = gap.back; each = r.each.1; told = r.told.4 }) in
     let size : length (field old b.at b.bytes) ≡ b.bytes = field-len b.at b.bytes old high in
-    let joined = edited-append b.at (field old b.at b.bytes) (field new b.at b.bytes)
+    let concatenated = edited-append b.at (field old b.at b.bytes) (field new b.at b.bytes)
     (drop (b.at + b.bytes) old) (drop (b.at + b.bytes) new) here rest block
     (subst (λ (n : ℕ). AreEdited (b.at + n) (drop (b.at + b.bytes) old) rest
     (drop (b.at + b.bytes) new)) (sym size) others) in
@@ -209,7 +209,7 @@ respelled-edited from (b ∷ bs) old new es (low, more) len r =
     (field old b.at b.bytes ++ drop (b.at + b.bytes) old)
     (field new b.at b.bytes ++ drop (b.at + b.bytes) new) (here ++ rest)
     (subst (λ (n : ℕ). AreEdited n (field old b.at b.bytes ++ drop (b.at + b.bytes) old)
-    (here ++ rest) (field new b.at b.bytes ++ drop (b.at + b.bytes) new)) place joined) in
+    (here ++ rest) (field new b.at b.bytes ++ drop (b.at + b.bytes) new)) place concatenated) in
     let after : field old from (b.at - from) ++ (field new b.at b.bytes
     ++ drop (b.at + b.bytes) new) ≡ drop from new =
     ap (λ (x : List ℕ). x ++ (field new b.at b.bytes ++ drop (b.at + b.bytes) new)) (sym gap.front)

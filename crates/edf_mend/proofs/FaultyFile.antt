@@ -22,7 +22,7 @@ use Rattle.edf_mend.specs.Counted.{record_size, LeavesOut, piece_len}
 use Rattle.edf_mend.specs.Edits.{RuleEdits}
 use Rattle.edf_mend.specs.Header.{HeaderTexts, header_bytes}
 use Rattle.edf_mend.specs.Mark.{IsContinuous}
-use Rattle.edf_mend.specs.Mended.{joined, IsCut, LeavesRecords}
+use Rattle.edf_mend.specs.Mended.{concatenated, IsCut, LeavesRecords}
 use Rattle.edf_mend.specs.Retimed.{IsClockMade}
 use Rattle.edf_mend.specs.Rewritten.{RecordEdits}
 use Rattle.edf_mend.specs.Steps.{own_signals}
@@ -107,7 +107,7 @@ told-same n (suc added) l p bytes fragment.Failed x = refl
 -- it is the first one of the header, what was put, what comes behind that, and these bytes
 pub record IsFirstMet (l : Layout) (front : List ℕ) (news : List (List ℕ)) (leaves_out : Bool)
     (piece : List ℕ) (why : FragmentFault) : Type 0 where
-  pub met : IsFirstFault (front ++ (joined news ++ tail_of leaves_out piece)) why
+  pub met : IsFirstFault (front ++ (concatenated news ++ tail_of leaves_out piece)) why
   pub same : (n added : ℕ) → IsToldAs n added why why
 
 module _ (front : List ℕ) (h : HeaderRecord) (is_header : IsHeader front h [])
@@ -116,28 +116,30 @@ module _ (front : List ℕ) (h : HeaderRecord) (is_header : IsHeader front h [])
       (leaves_out : Bool) (piece : List ℕ) (p : Progress) (why : FragmentFault)
       (f : Option MendFault) → f ≡ Some (Refused why) → news ≡ done ++ later →
       All (λ r. length r ≡ (layout_of h).record_bytes) news →
-      AreDataRecords (layout_of h) First (joined done) records last [] →
+      AreDataRecords (layout_of h) First (concatenated done) records last [] →
       GoesOnFrom (layout_of h) (length records) last later p f →
       IsFirstMet (layout_of h) front news leaves_out piece why
   in-record news done later records last leaves_out piece p why f is news_are lens are goes =
       let g = subst (λ (x : Option MendFault). GoesOnFrom (layout_of h) (length records) last later p
       x) is goes in
-      let more = joined g.1 ++ tail_of leaves_out piece in
+      let more = concatenated g.1 ++ tail_of leaves_out piece in
       let len : length g.0 ≡ (layout_of h).record_bytes =
       middle done g.0 g.1 (subst (λ (x : List (List ℕ)). All
       (λ r. length r ≡ (layout_of h).record_bytes) x)
       (news_are ∙ ap (λ (x : List (List ℕ)). done ++ x) g.2) lens) in
-      let parts : joined news ++ tail_of leaves_out piece ≡ joined done ++ (g.0 ++ more) =
-      ap (λ (x : List (List ℕ)). joined x ++ tail_of leaves_out piece)
+      let parts : concatenated news ++ tail_of leaves_out piece ≡ concatenated done ++ (g.0 ++ more)
+      =
+      ap (λ (x : List (List ℕ)). concatenated x ++ tail_of leaves_out piece)
       (news_are ∙ ap (λ (x : List (List ℕ)). done ++ x) g.2)
       ∙ ap (λ (x : List ℕ). x ++ tail_of leaves_out piece)
       (flat_map-append (λ (x : List ℕ). x) done (g.0 ∷ g.1))
-      ∙ append_assoc (joined done) (g.0 ++ joined g.1) (tail_of leaves_out piece)
-      ∙ ap (λ (x : List ℕ). joined done ++ x)
-      (append_assoc g.0 (joined g.1) (tail_of leaves_out piece)) in
+      ∙ append_assoc (concatenated done) (g.0 ++ concatenated g.1) (tail_of leaves_out piece)
+      ∙ ap (λ (x : List ℕ). concatenated done ++ x)
+      (append_assoc g.0 (concatenated g.1) (tail_of leaves_out piece)) in
       record {
         met = subst (λ (x : List ℕ). IsFirstFault (front ++ x) why) (sym parts)
-            (fault-whole front h is_header layout (joined done) records last are g.0 more why len
+            (fault-whole front h is_header layout (concatenated done) records last are g.0 more why
+            len
             g.3);
         same = λ n added. told-same n added (layout_of h) (at_place (length records) last) g.0 why
             g.3;
@@ -153,14 +155,16 @@ module _ (front : List ℕ) (h : HeaderRecord) (is_header : IsHeader front h [])
   at-end : (news done : List (List ℕ)) (records : List DataRecord) (last : Place)
       (leaves_out : Bool) (piece bytes : List ℕ) (why : FragmentFault) → news ≡ done →
       tail_of leaves_out piece ≡ bytes → length bytes < (layout_of h).record_bytes →
-      AreDataRecords (layout_of h) First (joined done) records last [] →
+      AreDataRecords (layout_of h) First (concatenated done) records last [] →
       RefusesNext (layout_of h) (at_place (length records) last) bytes (Refused why) →
       IsFirstMet (layout_of h) front news leaves_out piece why
   at-end news done records last leaves_out piece bytes why same tail less are x = record {
-    met = subst (λ (y : List (List ℕ)). IsFirstFault (front ++ (joined y ++ tail_of leaves_out piece))
+    met = subst (λ (y : List (List ℕ)). IsFirstFault (front ++ (concatenated y ++ tail_of leaves_out
+        piece))
         why) (sym same)
-        (subst (λ (y : List ℕ). IsFirstFault (front ++ (joined done ++ y)) why) (sym tail)
-        (fault-piece front h is_header layout (joined done) records last are bytes why less x));
+        (subst (λ (y : List ℕ). IsFirstFault (front ++ (concatenated done ++ y)) why) (sym tail)
+        (fault-piece front h is_header layout (concatenated done) records last are bytes why less
+        x));
     same = λ n added. told-same n added (layout_of h) (at_place (length records) last) bytes why x;
   }
 
@@ -172,7 +176,7 @@ module _ (w : Wanted) (first t : HeaderTexts) (steps : List RuleEdits) (added : 
     (u : CarriesUnder w first t steps added (layout_of h) known moves left rest told s found)
     (is_header : IsHeader (header_bytes t) h []) (layout : IsLayout (layout_of h)) where
   abbrev pub body_met : List ℕ
-  body_met = joined u.carries.all.so.olds ++ u.carries.all.piece
+  body_met = concatenated u.carries.all.so.olds ++ u.carries.all.piece
 
   abbrev pub tail_met : List ℕ
   tail_met = tail_of u.leaves_out u.carries.all.piece
@@ -278,10 +282,10 @@ module _ (w : Wanted) (first t : HeaderTexts) (steps : List RuleEdits) (added : 
   module _ (measures : Measures body_met known) (same : moves ≡ u.carries.retold)
       (some : 0 < u.shape.size) where
     end-met : If (LeavesOut w (told.ledger.added ≢ 0) (record_size (own_signals first t)) body_met)
-        ((joined u.carries.all.so.news ++ tail_met ≡ joined u.carries.all.so.news)
+        ((concatenated u.carries.all.so.news ++ tail_met ≡ concatenated u.carries.all.so.news)
         × (out_of u.leaves_out u.carries.all.piece ≡ length u.carries.all.piece))
-        ((joined u.carries.all.so.news ++ tail_met
-        ≡ joined u.carries.all.so.news ++ u.carries.all.piece)
+        ((concatenated u.carries.all.so.news ++ tail_met
+        ≡ concatenated u.carries.all.so.news ++ u.carries.all.piece)
         × (out_of u.leaves_out u.carries.all.piece ≡ 0))
     end-met = by u.leaves_out refl
       where
@@ -290,16 +294,17 @@ module _ (w : Wanted) (first t : HeaderTexts) (steps : List RuleEdits) (added : 
 
         by : (b : Bool) → u.leaves_out ≡ b →
             If (LeavesOut w (told.ledger.added ≢ 0) (record_size (own_signals first t)) body_met)
-            ((joined u.carries.all.so.news ++ tail_met ≡ joined u.carries.all.so.news)
+            ((concatenated u.carries.all.so.news ++ tail_met ≡ concatenated u.carries.all.so.news)
             × (out_of u.leaves_out u.carries.all.piece ≡ length u.carries.all.piece))
-            ((joined u.carries.all.so.news ++ tail_met
-            ≡ joined u.carries.all.so.news ++ u.carries.all.piece)
+            ((concatenated u.carries.all.so.news ++ tail_met
+            ≡ concatenated u.carries.all.so.news ++ u.carries.all.piece)
             × (out_of u.leaves_out u.carries.all.piece ≡ 0))
         by true is = inl (
           ((says.0 is).0, subst (λ (n : ℕ). 0 < piece_len n body_met) (sym size-same) (says.0 is).1),
           (
-            ap (λ (b : Bool). joined u.carries.all.so.news ++ tail_of b u.carries.all.piece) is
-                ∙ append-nil (joined u.carries.all.so.news),
+            ap (λ (b : Bool). concatenated u.carries.all.so.news ++ tail_of b u.carries.all.piece)
+                is
+                ∙ append-nil (concatenated u.carries.all.so.news),
             ap (λ (b : Bool). out_of b u.carries.all.piece) is,
           ),
         )
@@ -307,14 +312,15 @@ module _ (w : Wanted) (first t : HeaderTexts) (steps : List RuleEdits) (added : 
           λ o. true-not-false u.leaves_out
               (says.1 (o.0, subst (λ (n : ℕ). 0 < piece_len n body_met) size-same o.1)) is,
           (
-            ap (λ (b : Bool). joined u.carries.all.so.news ++ tail_of b u.carries.all.piece) is,
+            ap (λ (b : Bool). concatenated u.carries.all.so.news ++ tail_of b u.carries.all.piece)
+                is,
             ap (λ (b : Bool). out_of b u.carries.all.piece) is,
           ),
         )
 
     pub records-met : added ≡ told.ledger.added →
         LeavesRecords w first t (layout_of h) ledger_met body_met u.carries.all.so.remade.spelled
-        (joined u.carries.all.so.news ++ tail_met)
+        (concatenated u.carries.all.so.news ++ tail_met)
     records-met same_added =
         let l = layout_of h in
         let k = carries l u.shape 0 u.carries.all.so.olds [] u.carries.all.told.ledger.texts.items

@@ -30,7 +30,7 @@ use Rattle.edf_mend.specs.Header.{row_of, fixed_of}
 use Rattle.edf_mend.specs.Inside.Head.{HasSignalWidths}
 use Rattle.edf_mend.specs.Laws.{AFragmentStays, OnceIsEnough}
 use Rattle.edf_mend.specs.Mended.{LeavesHeader, LeavesNoHeader, LeavesRecords, AsksNothing}
-use Rattle.edf_mend.specs.Mended.{TellsNone, joined, IsCut}
+use Rattle.edf_mend.specs.Mended.{TellsNone, concatenated, IsCut}
 use Rattle.edf_mend.specs.Carried.{AreCarried}
 use Rattle.edf_mend.specs.Mark.{IsContinuous}
 use Rattle.edf_mend.specs.Retimed.{HasGap}
@@ -109,7 +109,7 @@ pub record IsFragment (w : Wanted) (a : List ℕ) (t : HeaderTexts) (body : List
   pub whole : IsWhole t
   pub size : record_size (own_signals t t) ≡ (layout_of header).record_bytes
   pub fronts : List (List ℕ)
-  pub parts : body ≡ joined fronts
+  pub parts : body ≡ concatenated fronts
   pub sizes : All (λ r. length r ≡ (layout_of header).record_bytes) fronts
   pub ordered : InOrder (layout_of header) First fronts
   pub right : CountIsRight w t body
@@ -153,7 +153,7 @@ fragment w a t body key records has s =
     let same = same-header a t body h s.rest has i in
     let size : record_size (own_signals t t) ≡ l.record_bytes =
     ap (λ (u : HeaderTexts). record_size u) (own t) ∙ size-is a t body h s.rest has i in
-    let parts : body ≡ joined cut.fronts = same.body_is ∙ cut.parts in
+    let parts : body ≡ concatenated cut.fronts = same.body_is ∙ cut.parts in
     let some : 0 < l.record_bytes = record-some l layout in
     let len : length body ≡ length records * l.record_bytes =
     ap (λ (x : List ℕ). length x) parts ∙ length-joined l.record_bytes cut.fronts cut.sizes
@@ -247,24 +247,24 @@ texts-same Asked l fronts carried spelled told layout ordered e (inl m) =
     }
 
 record SameEnd (fronts : List (List ℕ)) (behind : List ℕ) (out : ℕ) : Type 0 where
-  rest : behind ≡ joined fronts
+  rest : behind ≡ concatenated fronts
   left_out : out ≡ 0
 
 end-same : (Out : Type 0) (retimed fronts : List (List ℕ)) (piece rest : List ℕ) (out : ℕ) →
-    retimed ≡ fronts → piece ≡ [] → If Out ((rest ≡ joined retimed) × (out ≡ length piece))
-    ((rest ≡ joined retimed ++ piece) × (out ≡ 0)) → SameEnd fronts rest out
+    retimed ≡ fronts → piece ≡ [] → If Out ((rest ≡ concatenated retimed) × (out ≡ length piece))
+    ((rest ≡ concatenated retimed ++ piece) × (out ≡ 0)) → SameEnd fronts rest out
 end-same Out retimed fronts piece rest out e none (inl m) = record {
-  rest = m.1.0 ∙ ap (λ (x : List (List ℕ)). joined x) e;
+  rest = m.1.0 ∙ ap (λ (x : List (List ℕ)). concatenated x) e;
   left_out = m.1.1 ∙ ap (λ (x : List ℕ). length x) none;
 }
 end-same Out retimed fronts piece rest out e none (inr m) = record {
-  rest = m.1.0 ∙ ap (λ (x : List (List ℕ)). joined x ++ piece) e
-      ∙ ap (λ (x : List ℕ). joined fronts ++ x) none ∙ append-nil (joined fronts);
+  rest = m.1.0 ∙ ap (λ (x : List (List ℕ)). concatenated x ++ piece) e
+      ∙ ap (λ (x : List ℕ). concatenated fronts ++ x) none ∙ append-nil (concatenated fronts);
   left_out = m.1.1;
 }
 
 record SameRecords (fronts : List (List ℕ)) (l : Ledger) (behind : List ℕ) : Type 0 where
-  rest : behind ≡ joined fronts
+  rest : behind ≡ concatenated fronts
   texts : l.texts.items ≡ []
   retimed : l.retimed.items ≡ []
   shift : l.shift ≡ 0
@@ -272,7 +272,7 @@ record SameRecords (fronts : List (List ℕ)) (l : Ledger) (behind : List ℕ) :
 
 records-same : (w : Wanted) (first after : HeaderTexts) (y : Layout) (l : Ledger)
     (body rest : List ℕ) (spelled fronts : List (List ℕ)) → IsLayout y → InOrder y First fronts →
-    body ≡ joined fronts → All (λ r. length r ≡ y.record_bytes) fronts →
+    body ≡ concatenated fronts → All (λ r. length r ≡ y.record_bytes) fronts →
     record_size (own_signals first after) ≡ y.record_bytes → l.added ≡ 0 →
     LeavesRecords w first after y l body spelled rest → SameRecords fronts l rest
 records-same w first after y l body rest spelled fronts layout ordered parts sizes size none r =

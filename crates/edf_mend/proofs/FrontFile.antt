@@ -19,12 +19,12 @@ use Rattle.edf_mend.proofs.SameWalks.{follow-by}
 use Rattle.edf_mend.proofs.SurveySays.{of-this, same-left}
 use Rattle.edf_mend.proofs.Tracks.{all-sound}
 use Rattle.edf_mend.proofs.UnchangedFile.{survey-finds}
-use Rattle.edf_mend.proofs.Widths.{IsSound, first-sound}
+use Rattle.edf_mend.proofs.Widths.{IsFormed, first-sound}
 use Rattle.edf_mend.specs.Answers.{IsEdf, WritesLeft}
 use Rattle.edf_mend.specs.Edits.{RuleEdits}
 use Rattle.edf_mend.specs.Header.{HeaderTexts, HasHeader, header_bytes}
 use Rattle.edf_mend.specs.Laws.{IsWanted}
-use Rattle.edf_mend.specs.Mended.{LeavesHeader, LeavesNoHeader, LeavesRecords, joined}
+use Rattle.edf_mend.specs.Mended.{LeavesHeader, LeavesNoHeader, LeavesRecords, concatenated}
 use Rattle.edf_mend.specs.Objections.{HasNone}
 use Rattle.edf_mend.specs.Retimed.{HasGap}
 use Rattle.edf_mend.specs.Rules.{order}
@@ -48,7 +48,7 @@ read-of bytes taken (Some more) read = (more, read)
 module _ (w : Wanted) (wanted : IsWanted w) (first : HeaderTexts) (body : List ℕ)
     (survey : Survey) (has : HasHeader (header_bytes first ++ body) first body)
     (is : IsSurveyOf w (header_bytes first ++ body) survey) (unasked : HasNone w first body) where
-  start : IsSound first
+  start : IsFormed first
   start = first-sound (header_bytes first ++ body) first body has
 
   -- what it says of data records is so of those that are left
@@ -70,7 +70,7 @@ module _ (w : Wanted) (wanted : IsWanted w) (first : HeaderTexts) (body : List �
       (follows : Follow w (IsTrue survey.has_gaps) first body order first steps t added)
       (opened : IsHeaderOpen (header_bytes t) o) where
     sound-of : (G : Type 0) (told : List RuleEdits) (after : HeaderTexts) (n : ℕ) →
-        Follow w G first body order first told after n → IsSound after
+        Follow w G first body order first told after n → IsFormed after
     sound-of G told after n f =
         all-sound w G first body wanted.startdate wanted.starttime order first told after n f start
 
@@ -131,13 +131,13 @@ module _ (w : Wanted) (wanted : IsWanted w) (first : HeaderTexts) (body : List �
           ∙ ap (λ (y : List ℕ). y ++ u.rest) x.1 ∙ append_assoc taken x.0 u.rest,
     )
     front-under l c taken u (inr x) =
-        let read = read-of body (joined x.olds) x.mid x.read in
+        let read = read-of body (concatenated x.olds) x.mid x.read in
         let f = front-left w first t added o.header layout-is x.shape x.shaped x.fits.size
         survey.is_retold x.olds x.news x.s x.ledger x.remade x.sizes l body read.0 u.records u.rest
         u.added_is read.1 u.retold u.leaves in (
           x.back ++ f.0,
           u.whole ∙ ap (λ (y : List ℕ). header_bytes t ++ y) f.1
-              ∙ sym (append_assoc (header_bytes t) (joined x.news) f.0)
+              ∙ sym (append_assoc (header_bytes t) (concatenated x.news) f.0)
               ∙ ap (λ (y : List ℕ). y ++ f.0) x.front_is ∙ append_assoc taken x.back f.0,
         )
 

@@ -18,7 +18,7 @@ use Rattle.edf_mend.specs.Carried.{AreCarried}
 use Rattle.edf_mend.specs.Counted.{record_size, LeavesOut}
 use Rattle.edf_mend.specs.Header.{HeaderTexts}
 use Rattle.edf_mend.specs.Mark.{IsContinuous}
-use Rattle.edf_mend.specs.Mended.{joined, LeavesRecords}
+use Rattle.edf_mend.specs.Mended.{concatenated, LeavesRecords}
 use Rattle.edf_mend.specs.Retimed.{AreRetimed, AreInStep, AreToldAnew, IsClockMade}
 use Rattle.edf_mend.specs.Rewritten.{RecordEdits, AreRewritten}
 use Rattle.edf_mend.specs.Steps.{own_signals}
@@ -40,22 +40,23 @@ Begins all front = (more : List (List ℕ)) × (all ≡ front ++ more)
 -- those that were cut off first
 pub cut-front : (size : ℕ) (olds records : List (List ℕ)) (more piece : List ℕ) →
     All (λ r. length r ≡ size) olds → All (λ r. length r ≡ size) records → length piece < size →
-    joined olds ++ more ≡ joined records ++ piece → Begins records olds
+    concatenated olds ++ more ≡ concatenated records ++ piece → Begins records olds
 cut-front size [] records more piece a b less e = (records, refl)
 cut-front size (o ∷ os) [] more piece a b less e =
     absurd (omega (
       arith,
       ap (λ (x : List ℕ). length x) e,
-      length-append (joined (o ∷ os)) more,
-      length-append o (joined os),
+      length-append (concatenated (o ∷ os)) more,
+      length-append o (concatenated os),
       All-head (λ r. length r ≡ size) o os a,
     ))
 cut-front size (o ∷ os) (r ∷ rs) more piece a b less e =
     let la = All-head (λ x. length x ≡ size) o os a in
     let lb = All-head (λ x. length x ≡ size) r rs b in
-    let whole : o ++ (joined os ++ more) ≡ r ++ (joined rs ++ piece) =
-    sym (append_assoc o (joined os) more) ∙ e ∙ append_assoc r (joined rs) piece in
-    let f = same_front (o ++ (joined os ++ more)) o (joined os ++ more) r (joined rs ++ piece) refl
+    let whole : o ++ (concatenated os ++ more) ≡ r ++ (concatenated rs ++ piece) =
+    sym (append_assoc o (concatenated os) more) ∙ e ∙ append_assoc r (concatenated rs) piece in
+    let f = same_front (o ++ (concatenated os ++ more)) o (concatenated os ++ more) r (concatenated
+    rs ++ piece) refl
     whole (la ∙ sym lb) in
     let rest = cut-front size os rs more piece (All-tail (λ x. length x ≡ size) o os a)
     (All-tail (λ x. length x ≡ size) r rs b) less f.back in
@@ -219,13 +220,13 @@ anew-front l olds back told shift news a =
       };
     }
 
-joined-front : (all front : List (List ℕ)) (tail rest : List ℕ) → rest ≡ joined all ++ tail →
-    Begins all front → (back : List ℕ) × (rest ≡ joined front ++ back)
+joined-front : (all front : List (List ℕ)) (tail rest : List ℕ) → rest ≡ concatenated all ++ tail →
+    Begins all front → (back : List ℕ) × (rest ≡ concatenated front ++ back)
 joined-front all front tail rest is b = (
-  joined b.0 ++ tail,
-  is ∙ ap (λ (z : List (List ℕ)). joined z ++ tail) b.1
+  concatenated b.0 ++ tail,
+  is ∙ ap (λ (z : List (List ℕ)). concatenated z ++ tail) b.1
       ∙ ap (λ (z : List ℕ). z ++ tail) (flat_map-append (λ (z : List ℕ). z) front b.0)
-      ∙ append_assoc (joined front) (joined b.0) tail,
+      ∙ append_assoc (concatenated front) (concatenated b.0) tail,
 )
 
 -- ---- those that were carried over are the first of what is left
@@ -300,10 +301,10 @@ module _ (w : Wanted) (first t : HeaderTexts) (added : ℕ) (l : Layout) (lay : 
 
   -- **what was carried over of a body is a front of what is left of it**
   pub front-left : (ledger : Ledger) (body more : List ℕ) (spelled : List (List ℕ))
-      (rest : List ℕ) → added ≡ ledger.added → body ≡ joined olds ++ more →
+      (rest : List ℕ) → added ≡ ledger.added → body ≡ concatenated olds ++ more →
       SaysWhether moves (AreRetold w first l spelled) →
       LeavesRecords w first t l ledger body spelled rest →
-      (back : List ℕ) × (rest ≡ joined news ++ back)
+      (back : List ℕ) × (rest ≡ concatenated news ++ back)
   front-left ledger body more spelled rest grown parts says q =
       let d = duration_of l.key.duration in
       let size : record_size (own_signals first t) ≡ shape.size = sym shaped.size in

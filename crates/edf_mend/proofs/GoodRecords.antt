@@ -22,7 +22,7 @@ use Rattle.edf_mend.proofs.GoodBlocks.{IsGoodBlock, good-blocks, all-same, told-
 use Rattle.edf_mend.proofs.Rebuilt.{rebuilt}
 use Rattle.edf_mend.specs.Carried.{AreCarried}
 use Rattle.edf_mend.specs.Edits.{Edit}
-use Rattle.edf_mend.specs.Mended.{joined, IsCut}
+use Rattle.edf_mend.specs.Mended.{concatenated, IsCut}
 use Rattle.edf_mend.specs.Retimed.{HasOverlap, StartsAt, IsClockMade}
 use Rattle.edf_mend.specs.Rewritten.{RecordEdits, AreRewritten}
 use Rattle.edf_mend.specs.Texts.{IsRespelled, IsToldRespelled, AreBlocksTold}
@@ -36,7 +36,7 @@ InOrder l p (x ∷ xs) = (r : DataRecord) × IsDataRecord l p x r × InOrder l (
 
 pub record AreCut (l : Layout) (p : Place) (bytes : List ℕ) (rs : List DataRecord) : Type 0 where
   pub fronts : List (List ℕ)
-  pub parts : bytes ≡ joined fronts
+  pub parts : bytes ≡ concatenated fronts
   pub sizes : All (λ r. length r ≡ l.record_bytes) fronts
   pub count : length fronts ≡ length rs
   pub order : InOrder l p fronts
@@ -74,30 +74,31 @@ pub record SameCut (rs ss : List (List ℕ)) (p q : List ℕ) : Type 0 where
 
 pub cut-one : (size : ℕ) (rs ss : List (List ℕ)) (p q : List ℕ) → All (λ r. length r ≡ size) rs →
     All (λ r. length r ≡ size) ss → length p < size → length q < size →
-    joined rs ++ p ≡ joined ss ++ q → SameCut rs ss p q
+    concatenated rs ++ p ≡ concatenated ss ++ q → SameCut rs ss p q
 cut-one size [] [] p q a b lp lq e = record { records = refl; piece = e }
 cut-one size [] (s ∷ ss) p q a b lp lq e =
     absurd (omega (
       arith,
       ap (λ (x : List ℕ). length x) e,
-      length-append (joined (s ∷ ss)) q,
-      length-append s (joined ss),
+      length-append (concatenated (s ∷ ss)) q,
+      length-append s (concatenated ss),
       All-head (λ r. length r ≡ size) s ss b,
     ))
 cut-one size (r ∷ rs) [] p q a b lp lq e =
     absurd (omega (
       arith,
       ap (λ (x : List ℕ). length x) e,
-      length-append (joined (r ∷ rs)) p,
-      length-append r (joined rs),
+      length-append (concatenated (r ∷ rs)) p,
+      length-append r (concatenated rs),
       All-head (λ x. length x ≡ size) r rs a,
     ))
 cut-one size (r ∷ rs) (s ∷ ss) p q a b lp lq e =
     let la = All-head (λ x. length x ≡ size) r rs a in
     let lb = All-head (λ x. length x ≡ size) s ss b in
-    let whole : r ++ (joined rs ++ p) ≡ s ++ (joined ss ++ q) =
-    sym (append_assoc r (joined rs) p) ∙ e ∙ append_assoc s (joined ss) q in
-    let f = same_front (r ++ (joined rs ++ p)) r (joined rs ++ p) s (joined ss ++ q) refl whole
+    let whole : r ++ (concatenated rs ++ p) ≡ s ++ (concatenated ss ++ q) =
+    sym (append_assoc r (concatenated rs) p) ∙ e ∙ append_assoc s (concatenated ss) q in
+    let f = same_front (r ++ (concatenated rs ++ p)) r (concatenated rs ++ p) s (concatenated ss ++
+    q) refl whole
     (la ∙ sym lb) in
     let more = cut-one size rs ss p q (All-tail (λ x. length x ≡ size) r rs a)
     (All-tail (λ x. length x ≡ size) s ss b) lp lq f.back in
@@ -109,19 +110,19 @@ pub record IsWholeCut (size : ℕ) (fronts found : List (List ℕ)) (end : List 
 
 -- **the data records of a fragment are those that it is cut into**
 pub one-cut : (size : ℕ) (body : List ℕ) (fronts records : List (List ℕ)) (piece : List ℕ) →
-    0 < size → body ≡ joined fronts → All (λ r. length r ≡ size) fronts →
+    0 < size → body ≡ concatenated fronts → All (λ r. length r ≡ size) fronts →
     IsCut size body records piece → IsWholeCut size fronts records piece
 one-cut size body fronts records piece some parts sizes c =
     let s = cut-one size records fronts piece [] c.sizes sizes c.less some
-    (sym c.parts ∙ parts ∙ sym (append-nil (joined fronts))) in
+    (sym c.parts ∙ parts ∙ sym (append-nil (concatenated fronts))) in
     record { records = s.records; piece = s.piece }
 
 pub length-joined : (size : ℕ) (rs : List (List ℕ)) → All (λ r. length r ≡ size) rs →
-    length (joined rs) ≡ length rs * size
+    length (concatenated rs) ≡ length rs * size
 length-joined size [] all = omega arith
 length-joined size (r ∷ rs) all = omega (
   arith,
-  length-append r (joined rs),
+  length-append r (concatenated rs),
   All-head (λ x. length x ≡ size) r rs all,
   length-joined size rs (All-tail (λ x. length x ≡ size) r rs all),
 )

@@ -18,7 +18,7 @@ use Rattle.edf_mend.proofs.OneRecords.{blocks-one}
 use Rattle.edf_mend.specs.Header.{HeaderTexts}
 use Rattle.edf_mend.specs.Mark.{IsContinuous}
 use Rattle.edf_mend.specs.Mendable.{IsRecord, AreRecords}
-use Rattle.edf_mend.specs.Mended.{joined}
+use Rattle.edf_mend.specs.Mended.{concatenated}
 use Rattle.edf_mend.specs.Retimed.{StartsAt, AreInStep, HasOverlap, AreToldAnew, IsClockMade}
 use Rattle.edf_mend.specs.Rewritten.{RecordEdits, AreRewritten}
 use Rattle.edf_mend.specs.Texts.{IsBlockMade, IsRespelled, IsToldRespelled}
@@ -43,7 +43,7 @@ ReadInOrder l place (r ∷ rs) = (here : ReadsAt l place r)
 pub record AreFragment (l : Layout) (place : Place) (fronts : List (List ℕ)) : Type 0 where
   pub records : List DataRecord
   pub last : Place
-  pub are : AreDataRecords l place (joined fronts) records last []
+  pub are : AreDataRecords l place (concatenated fronts) records last []
   pub count : length records ≡ length fronts
 
 pub in-order : (l : Layout) (place : Place) (fronts : List (List ℕ)) →
@@ -68,7 +68,7 @@ in-order l place (r ∷ rs) sizes order =
     record {
       records = found ∷ more.records;
       last = more.last;
-      are = (r, joined rs, refl, is, more.are);
+      are = (r, concatenated rs, refl, is, more.are);
       count = omega (arith, more.count);
     }
 

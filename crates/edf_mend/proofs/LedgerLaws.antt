@@ -16,14 +16,14 @@ use Rattle.edf_mend.proofs.Placed.{one-header}
 use Rattle.edf_mend.proofs.Rebuilt.{header-is}
 use Rattle.edf_mend.proofs.Tracks.{all-sound}
 use Rattle.edf_mend.proofs.Undone.{undo-all, order-rises}
-use Rattle.edf_mend.proofs.Widths.{IsSound, first-sound, sound-again}
+use Rattle.edf_mend.proofs.Widths.{IsFormed, first-sound, sound-again}
 use Rattle.edf_mend.specs.Carried.{AreCarried}
 use Rattle.edf_mend.specs.Counted.{record_size, LeavesOut}
 use Rattle.edf_mend.specs.Edits.{Edit, AreEdited}
 use Rattle.edf_mend.specs.Header.{HeaderTexts, HasHeader, header_bytes}
 use Rattle.edf_mend.specs.Laws.{TheLedgerUndoes, IsWanted}
 use Rattle.edf_mend.specs.Mark.{IsContinuous}
-use Rattle.edf_mend.specs.Mended.{LeavesHeader, LeavesNoHeader, LeavesRecords, joined}
+use Rattle.edf_mend.specs.Mended.{LeavesHeader, LeavesNoHeader, LeavesRecords, concatenated}
 use Rattle.edf_mend.specs.Retimed.{HasGap, IsClockMade, AreRetimed}
 use Rattle.edf_mend.specs.Rewritten.{RecordEdits, AreRewritten}
 use Rattle.edf_mend.specs.Rules.{order}
@@ -228,27 +228,27 @@ record Kept (size : ℕ) (l : Layout) (ledger : Ledger) (body rest : List ℕ)
     (retimed spelled carried records : List (List ℕ)) : Type 0 where
   tail : List ℕ
   less : length tail < size
-  rest_is : rest ≡ joined retimed ++ tail
-  body_is : take (length body - ledger.left_out) body ≡ joined records ++ tail
+  rest_is : rest ≡ concatenated retimed ++ tail
+  body_is : take (length body - ledger.left_out) body ≡ concatenated records ++ tail
   out : ledger.left_out ≤ length body
 
 kept-by : (Out : Type 0) (size : ℕ) (l : Layout) (ledger : Ledger) (body rest piece : List ℕ)
-    (retimed spelled carried records : List (List ℕ)) → body ≡ joined records ++ piece →
-    length piece < size → If Out ((rest ≡ joined retimed) × (ledger.left_out ≡ length piece))
-    ((rest ≡ joined retimed ++ piece) × (ledger.left_out ≡ 0)) →
+    (retimed spelled carried records : List (List ℕ)) → body ≡ concatenated records ++ piece →
+    length piece < size → If Out ((rest ≡ concatenated retimed) × (ledger.left_out ≡ length piece))
+    ((rest ≡ concatenated retimed ++ piece) × (ledger.left_out ≡ 0)) →
     Kept size l ledger body rest retimed spelled carried records
 kept-by Out size l ledger body rest piece retimed spelled carried records parts less (inl m) =
-    let len = length-append (joined records) piece in
-    let n : length body - ledger.left_out ≡ length (joined records) =
+    let len = length-append (concatenated records) piece in
+    let n : length body - ledger.left_out ≡ length (concatenated records) =
     omega (arith, ap (λ (x : List ℕ). length x) parts, len, m.1.1) in
     record {
       tail = [];
       less = omega (arith, less);
-      rest_is = m.1.0 ∙ sym (append-nil (joined retimed));
+      rest_is = m.1.0 ∙ sym (append-nil (concatenated retimed));
       body_is = ap (λ (k : ℕ). take k body) n
-          ∙ ap (λ (x : List ℕ). take (length (joined records)) x) parts
-          ∙ take_at (joined records) piece (length (joined records)) refl
-          ∙ sym (append-nil (joined records));
+          ∙ ap (λ (x : List ℕ). take (length (concatenated records)) x) parts
+          ∙ take_at (concatenated records) piece (length (concatenated records)) refl
+          ∙ sym (append-nil (concatenated records));
       out = omega (arith, ap (λ (x : List ℕ). length x) parts, len, m.1.1);
     }
 kept-by Out size l ledger body rest piece retimed spelled carried records parts less (inr m) =
@@ -298,8 +298,8 @@ bodies-one w v first after l ledger a b rest s t x y =
     (duration_of l.key.duration) 0 size ledger.added x.records y.records y.carried x.cut.sizes
     y.cut.sizes (subst (λ (r : List (List ℕ)). AreCarried (duration_of l.key.duration) 0 ledger.added
     x.records r) carried x.carries) y.carries in
-    kx.body_is ∙ ap (λ (r : List (List ℕ)). joined r ++ kx.tail) records
-    ∙ ap (λ (p : List ℕ). joined y.records ++ p) cut.piece ∙ sym ky.body_is
+    kx.body_is ∙ ap (λ (r : List (List ℕ)). concatenated r ++ kx.tail) records
+    ∙ ap (λ (p : List ℕ). concatenated y.records ++ p) cut.piece ∙ sym ky.body_is
 
 -- ---- files
 
@@ -331,7 +331,7 @@ record SameAfter (s t : HeaderTexts) (a b : List ℕ) : Type 0 where
   texts : s ≡ t
   body : a ≡ b
 
-after-one : (c : List ℕ) (s t : HeaderTexts) (a b : List ℕ) → IsSound s → IsSound t →
+after-one : (c : List ℕ) (s t : HeaderTexts) (a b : List ℕ) → IsFormed s → IsFormed t →
     c ≡ header_bytes s ++ a → c ≡ header_bytes t ++ b → SameAfter s t a b
 after-one c s t a b p q e f =
     let one = one-header c s t a b

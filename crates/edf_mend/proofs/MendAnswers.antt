@@ -14,7 +14,7 @@ use Rattle.edf_fragment.specs.declared.fault.FragmentFault.{FragmentFault}
 use Rattle.edf_mend.specs.Answers.{IsRefusal, IsEdf, IsLeft}
 use Rattle.edf_mend.specs.Edits.{RuleEdits}
 use Rattle.edf_mend.specs.Header.{HeaderTexts, HasHeader, header_bytes, spaced}
-use Rattle.edf_mend.specs.Mended.{Mends, joined}
+use Rattle.edf_mend.specs.Mended.{Mends, concatenated}
 use Rattle.edf_mend.specs.Inside.Accepted.{RefusesNext}
 use Rattle.edf_mend.specs.Inside.Carrying.{MendsBehind, RefusesBehind, ObjectsBehind, RefusesTexts}
 use Rattle.edf_mend.specs.Inside.Carrying.{RefusesRecords, RefusesMended, CarriesUnder, GoesBy}
@@ -42,10 +42,11 @@ pub mended-of : (w : Wanted) (left mid rest before after : Option (List ℕ)) (f
     MendsBehind w first survey mid rest before after ledger → Mends w left rest before after ledger
 mended-of w left mid rest before after first survey ledger r m =
     let e = m.writes.carries.carries in
-    let known = m.by.knows (joined e.all.so.olds ++ e.all.piece) m.writes.s.has_gaps e.retold e.finds in
+    let known = m.by.knows (concatenated e.all.so.olds ++ e.all.piece) m.writes.s.has_gaps e.retold
+    e.finds in
     mends w left mid rest before after first m.t m.steps m.added m.o m.known survey ledger r m.opened
-    m.writes known (m.texts.unasked (joined e.all.so.olds ++ e.all.piece) known)
-    (m.texts.follows (joined e.all.so.olds ++ e.all.piece) known) m.writes.carries.fits.some
+    m.writes known (m.texts.unasked (concatenated e.all.so.olds ++ e.all.piece) known)
+    (m.texts.follows (concatenated e.all.so.olds ++ e.all.piece) known) m.writes.carries.fits.some
 
 -- ---- or why not
 
@@ -148,8 +149,8 @@ met-refuses : (w : Wanted) (file : List ℕ) (first t : HeaderTexts) (steps : Li
 met-refuses w file first t steps added h known left rest told s survey why edf is_header by texts u
     has is =
     let e = u.carries.all in
-    let body = joined e.so.olds ++ e.piece in
-    let read = Consumes-trans left e.mid rest (joined e.so.olds) e.piece e.so.read e.read in
+    let body = concatenated e.so.olds ++ e.piece in
+    let read = Consumes-trans left e.mid rest (concatenated e.so.olds) e.piece e.so.read e.read in
     let is_known = by.knows body s.has_gaps u.carries.retold u.carries.finds in
     let m = fault-of (layout_of h) e.p u.leaves_out e.piece e.told told
     (length e.so.put.records) e.so.put.last e.so.put.later why e.ends e.so.put.goes is in

@@ -9,7 +9,7 @@ use Rattle.edf_fragment.specs.Fragment.{DataRecord}
 use Rattle.edf_fragment.specs.declared.open_fragment.OpenFragment.{OpenFragment}
 use Rattle.edf_mend.specs.Edits.{RuleEdits}
 use Rattle.edf_mend.specs.Header.{HeaderTexts, HasHeader, header_bytes}
-use Rattle.edf_mend.specs.Mended.{joined, Leaves, LeavesHeader, LeavesRecords, Mends}
+use Rattle.edf_mend.specs.Mended.{concatenated, Leaves, LeavesHeader, LeavesRecords, Mends}
 use Rattle.edf_mend.specs.Mended.{IsUnreadTold}
 use Rattle.edf_mend.specs.Objections.{HasNone}
 use Rattle.edf_mend.specs.Retimed.{HasGap}
@@ -76,7 +76,7 @@ module _ (w : Wanted) (left mid rest before after : Option (List ℕ)) (first t 
     u = m.carries
 
     abbrev pub body_read : List ℕ
-    body_read = joined u.carries.all.so.olds ++ u.carries.all.piece
+    body_read = concatenated u.carries.all.so.olds ++ u.carries.all.piece
 
     abbrev news : List (List ℕ)
     news = u.carries.all.so.news
@@ -122,21 +122,21 @@ module _ (w : Wanted) (left mid rest before after : Option (List ℕ)) (first t 
           )
 
       records-left : LeavesRecords w first t (layout_of opened.header) ledger body_read
-          u.carries.all.so.remade.spelled (joined news)
+          u.carries.all.so.remade.spelled (concatenated news)
       records-left = subst (λ (x : Layout). LeavesRecords w first t x ledger body_read
-          u.carries.all.so.remade.spelled (joined news)) opened.layout_is
+          u.carries.all.so.remade.spelled (concatenated news)) opened.layout_is
           (subst (λ (x : Ledger). LeavesRecords w first t o.header x body_read
-          u.carries.all.so.remade.spelled (joined news)) (sym m.ledger_is)
+          u.carries.all.so.remade.spelled (concatenated news)) (sym m.ledger_is)
           (leaves-records w first t steps added o.header known survey.is_retold mid rest m.told m.s
           survey u m.none is_known.measures u.carries.finds.retold opened.header opened.is_header
           opened.layout_is some (sym added-told)))
 
-      left-header : LeavesHeader w first body_read ledger (header_bytes t ++ joined news)
+      left-header : LeavesHeader w first body_read ledger (header_bytes t ++ concatenated news)
       left-header = record {
         after = t;
         header = opened.header;
         records = u.carries.all.so.remade.spelled;
-        body_after = joined news;
+        body_after = concatenated news;
         is_header = opened.is_header;
         follows = subst (λ (n : ℕ). Follow w (HasGap (layout_of opened.header)
             u.carries.all.so.remade.spelled) first body_read order first ledger.steps.items t n)
@@ -151,7 +151,7 @@ module _ (w : Wanted) (left mid rest before after : Option (List ℕ)) (first t 
       }
 
       pub leaves-file : Leaves w (header_bytes first ++ body_read) ledger
-          (header_bytes t ++ joined news)
+          (header_bytes t ++ concatenated news)
       leaves-file = record {
         first = first;
         body = body_read;
@@ -164,12 +164,13 @@ module _ (w : Wanted) (left mid rest before after : Option (List ℕ)) (first t 
       unfolding leaves-file
       mends = record {
         old = header_bytes first ++ body_read;
-        new = header_bytes t ++ joined news;
+        new = header_bytes t ++ concatenated news;
         read = read-both left mid rest first body_read r
-            (Consumes-trans mid u.carries.all.mid rest (joined u.carries.all.so.olds)
+            (Consumes-trans mid u.carries.all.mid rest (concatenated u.carries.all.so.olds)
             u.carries.all.piece u.carries.all.so.read u.carries.all.read);
         end = u.carries.all.end;
-        wrote = subst (λ (x : List (List ℕ)). Appends before after (header_bytes t ++ joined x))
+        wrote = subst (λ (x : List (List ℕ)). Appends before after (header_bytes t ++ concatenated
+            x))
             all-done m.wrote;
         mended = record {
           leaves = leaves-file;

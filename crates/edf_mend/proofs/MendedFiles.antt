@@ -11,7 +11,7 @@ use Rattle.edf_mend.proofs.Path.{path-from}
 use Rattle.edf_mend.proofs.Placed.{one-header}
 use Rattle.edf_mend.proofs.ReadyTexts.{ready-prints}
 use Rattle.edf_mend.proofs.Tracks.{all-sound}
-use Rattle.edf_mend.proofs.Widths.{IsSound, first-sound}
+use Rattle.edf_mend.proofs.Widths.{IsFormed, first-sound}
 use Rattle.edf_mend.specs.Counted.{record_size}
 use Rattle.edf_mend.specs.Edits.{RuleEdits}
 use Rattle.edf_mend.specs.Header.{HeaderTexts, header_bytes}
@@ -32,11 +32,11 @@ record SpellsSome (new : List ℕ) : Type 0 where
 
 module _ (w : Wanted) (wanted : IsWanted w) (file new : List ℕ) (ledger : Ledger)
     (m : Mendable w file) where
-  start : IsSound m.first
+  start : IsFormed m.first
   start = first-sound file m.first m.body m.has_header
 
   after-sound : (G : Type 0) (steps : List RuleEdits) (after : HeaderTexts) (added : ℕ) →
-      Follow w G m.first m.body order m.first steps after added → IsSound after
+      Follow w G m.first m.body order m.first steps after added → IsFormed after
   after-sound G steps after added f = all-sound w G m.first m.body wanted.startdate
       wanted.starttime order m.first steps after added f start
 

@@ -24,7 +24,7 @@ use Rattle.edf_mend.proofs.Path.{IsPath}
 use Rattle.edf_mend.proofs.PathSteps.{with_signals, with_added}
 use Rattle.edf_mend.proofs.ReadyTexts.{AreReady}
 use Rattle.edf_mend.proofs.SignalLists.{MayBeSignals, AreMade, left-count}
-use Rattle.edf_mend.proofs.Widths.{IsSound}
+use Rattle.edf_mend.proofs.Widths.{IsFormed}
 use Rattle.edf_mend.specs.Answers.{IsEdf}
 use Rattle.edf_mend.specs.Counted.{record_size, IsCountMade}
 use Rattle.edf_mend.specs.Header.{HeaderTexts, HasHeader, header_bytes, row_of, spaced, fitted}
@@ -85,7 +85,7 @@ at-least n A t by (inr u) = by u
 
 module _ (w : Wanted) (wanted : IsWanted w) (file : List ℕ) (m : Mendable w file) (G : Type 0)
     (gets : Type 0) (after : HeaderTexts) (p : IsPath w G m.first m.body m.t after)
-    (widths : HasWidths after) (ts : IsSound m.t) (r : AreReady w m.first m.body m.t) where
+    (widths : HasWidths after) (ts : IsFormed m.t) (r : AreReady w m.first m.body m.t) where
   may : MayBeSignals w m.t m.body
   may = record {
     words = r.signals;

@@ -18,13 +18,13 @@ use Rattle.edf_mend.proofs.GoodRecords.{length-joined}
 use Rattle.edf_mend.proofs.InOrder.{in-order, mended-order}
 use Rattle.edf_mend.proofs.LedgerLaws.{carried-sizes}
 use Rattle.edf_mend.proofs.OneLeft.{whole-size}
-use Rattle.edf_mend.proofs.Widths.{IsSound}
+use Rattle.edf_mend.proofs.Widths.{IsFormed}
 use Rattle.edf_mend.specs.Carried.{AreCarried}
 use Rattle.edf_mend.specs.Counted.{record_size, whole_records, piece_len, LeavesOut}
 use Rattle.edf_mend.specs.Header.{HeaderTexts, header_bytes}
 use Rattle.edf_mend.specs.Mark.{IsContinuous}
 use Rattle.edf_mend.specs.Mendable.{AreRecords}
-use Rattle.edf_mend.specs.Mended.{LeavesHeader, joined, IsCut}
+use Rattle.edf_mend.specs.Mended.{LeavesHeader, concatenated, IsCut}
 use Rattle.edf_mend.specs.Retimed.{HasGap}
 use Rattle.edf_mend.specs.Steps.{own_signals}
 use Rattle.edf_mend.specs.Wanted.{IsAsked, If}
@@ -66,7 +66,7 @@ zip-length R (x ∷ xs) (y ∷ ys) zip = omega (arith, zip-length R xs ys zip.1)
 body-length : (size : ℕ) (body : List ℕ) (records : List (List ℕ)) (piece : List ℕ) →
     IsCut size body records piece → length body ≡ length records * size + length piece
 body-length size body records piece c =
-    ap (λ (x : List ℕ). length x) c.parts ∙ length-append (joined records) piece
+    ap (λ (x : List ℕ). length x) c.parts ∙ length-append (concatenated records) piece
     ∙ ap (λ (n : ℕ). n + length piece) (length-joined size records c.sizes)
 
 pub whole-are : (size : ℕ) (body : List ℕ) (records : List (List ℕ)) (piece : List ℕ) →
@@ -103,17 +103,17 @@ plus-none size xs all =
 whole-end : (w : Wanted) (size : ℕ) (gets : Type 0) (body : List ℕ) (retimed : List (List ℕ))
     (piece rest : List ℕ) (out : ℕ) → piece_len size body ≡ length piece →
     (piece_len size body ≡ 0) ⊎ LeavesOut w gets size body →
-    If (LeavesOut w gets size body) ((rest ≡ joined retimed) × (out ≡ length piece))
-    ((rest ≡ joined retimed ++ piece) × (out ≡ 0)) → rest ≡ joined retimed
+    If (LeavesOut w gets size body) ((rest ≡ concatenated retimed) × (out ≡ length piece))
+    ((rest ≡ concatenated retimed ++ piece) × (out ≡ 0)) → rest ≡ concatenated retimed
 whole-end w size gets body retimed piece rest out len either (inl m) = m.1.0
 whole-end w size gets body retimed piece rest out len (inl none) (inr m) =
-    m.1.0 ∙ ap (λ (x : List ℕ). joined retimed ++ x) (nil-of piece (omega (arith, len, none)))
-    ∙ append-nil (joined retimed)
+    m.1.0 ∙ ap (λ (x : List ℕ). concatenated retimed ++ x) (nil-of piece (omega (arith, len, none)))
+    ∙ append-nil (concatenated retimed)
 whole-end w size gets body retimed piece rest out len (inr leaves) (inr m) = absurd (m.0 leaves)
 
 -- **data records that can be mended**
 pub records-spell : (w : Wanted) (first : HeaderTexts) (body : List ℕ) (ledger : Ledger)
-    (new : List ℕ) (left : LeavesHeader w first body ledger new) → IsSound left.after →
+    (new : List ℕ) (left : LeavesHeader w first body ledger new) → IsFormed left.after →
     AreRecords w first (layout_of left.header) left.leaves.carried left.records →
     CountsAll w (record_size (own_signals first left.after)) body (ledger.added ≢ 0)
     left.header.fixed.count → SpellSome new left.header
@@ -146,7 +146,8 @@ records-spell w first body ledger new left sound records counts =
       carried-length d 0 ledger.added r.records r.carried r.carries,
       whole-are own body r.records r.piece r.cut,
     ) in
-    let end : left.body_after ≡ joined r.retimed = whole-end w own (ledger.added ≢ 0) body r.retimed
+    let end : left.body_after ≡ concatenated r.retimed = whole-end w own (ledger.added ≢ 0) body
+    r.retimed
     r.piece left.body_after ledger.left_out (piece-is own body r.records r.piece r.cut) counts.end
     r.end in
     let is : IsHeader new left.header left.body_after =

@@ -12,7 +12,7 @@ use Rattle.edf_mend.proofs.MendedCounts.{SameLabels, AddsOnce}
 use Rattle.edf_mend.proofs.MendedCounts.AddsOnce.{added, none}
 use Rattle.edf_mend.proofs.SignalLists.{LeftOf, MayBeSignals, AreMade, all-left, left-count}
 use Rattle.edf_mend.proofs.SignalLists.{good-lists, good-added}
-use Rattle.edf_mend.proofs.Widths.{IsSound, ascii-sound}
+use Rattle.edf_mend.proofs.Widths.{IsFormed, ascii-sound}
 use Rattle.edf_mend.specs.Counted.{record_size}
 use Rattle.edf_mend.specs.Header.{HeaderTexts, SignalTexts, row_of}
 use Rattle.edf_mend.specs.Mark.{new_signal}
@@ -22,10 +22,10 @@ use Rattle.edf_mend.specs.declared.wanted.Wanted.{Wanted}
 
 -- ---- as the rules find it
 
-pub ready-sound : (w : Wanted) (first t : HeaderTexts) → IsReady w first t → IsSound first →
-    IsSound t
-ready-sound w first t (inl m) s = subst IsSound (sym m.1) (ascii-sound first s)
-ready-sound w first t (inr m) s = subst IsSound (sym m.1) s
+pub ready-sound : (w : Wanted) (first t : HeaderTexts) → IsReady w first t → IsFormed first →
+    IsFormed t
+ready-sound w first t (inl m) s = subst IsFormed (sym m.1) (ascii-sound first s)
+ready-sound w first t (inr m) s = subst IsFormed (sym m.1) s
 
 pub ready-count : (w : Wanted) (first t : HeaderTexts) → IsReady w first t →
     length t.signals ≡ length first.signals

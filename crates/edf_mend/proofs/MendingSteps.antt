@@ -16,7 +16,7 @@ use Rattle.edf_mend.specs.Counts.{CountsCalls, CountsFault}
 use Rattle.edf_mend.specs.Edits.{RuleEdits}
 use Rattle.edf_mend.specs.Faults.{fault_out}
 use Rattle.edf_mend.specs.Header.{HeaderTexts, header_bytes}
-use Rattle.edf_mend.specs.Mended.{joined}
+use Rattle.edf_mend.specs.Mended.{concatenated}
 use Rattle.edf_mend.specs.Objections.{IsObjection, HasNone}
 use Rattle.edf_mend.specs.Rules.{order}
 use Rattle.edf_mend.specs.Steps.{Follow}
@@ -296,7 +296,7 @@ module _ (w : Wanted) (first t : HeaderTexts) (steps : List RuleEdits) (added : 
       };
       none = none;
       ledger_is = is;
-      wrote = all-out c a b d (header_bytes t) (joined carries.all.so.put.done) held put
+      wrote = all-out c a b d (header_bytes t) (concatenated carries.all.so.put.done) held put
           carries.all.so.put.wrote flushed;
     }
 

@@ -31,7 +31,7 @@ use Rattle.edf_mend.proofs.SameNotes.{short-time, blank-zeros}
 use Rattle.edf_mend.proofs.SampleLabels.{labelled-by}
 use Rattle.edf_mend.proofs.SignalLists.{none-labelled}
 use Rattle.edf_mend.proofs.SpelledBlocks.{same-lists, fill-none}
-use Rattle.edf_mend.proofs.Widths.{IsSound, new-widths}
+use Rattle.edf_mend.proofs.Widths.{IsFormed, new-widths}
 use Rattle.edf_mend.specs.Carried.{IsNewBlock, AreCarried}
 use Rattle.edf_mend.specs.Counted.{record_size}
 use Rattle.edf_mend.specs.Header.{SignalTexts, HeaderTexts, row_of}
@@ -50,7 +50,7 @@ use Rattle.edf_mend.specs.declared.wanted.Wanted.{Wanted}
 
 -- ---- the one block of each
 
-pub new-block : (first after : HeaderTexts) (h : HeaderRecord) → IsSound after →
+pub new-block : (first after : HeaderTexts) (h : HeaderRecord) → IsFormed after →
     map row_of after.signals ≡ h.signals → IsNewLast first after →
     (layout_of h).blocks ≡ record { at = record_size (own_signals first after); bytes = 32 } ∷ []
 new-block first after h sound rows n =

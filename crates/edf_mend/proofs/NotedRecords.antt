@@ -22,7 +22,7 @@ use Rattle.edf_mend.proofs.Moving.{reads-there, starts-as}
 use Rattle.edf_mend.proofs.Placed.{one-header}
 use Rattle.edf_mend.proofs.SameNotes.{SpelledAs, noted-blocks, both-drop, notes-all, tals-all}
 use Rattle.edf_mend.proofs.Tracks.{all-sound}
-use Rattle.edf_mend.proofs.Widths.{IsSound, first-sound, sound-again}
+use Rattle.edf_mend.proofs.Widths.{IsFormed, first-sound, sound-again}
 use Rattle.edf_mend.specs.Carried.{AreCarried}
 use Rattle.edf_mend.specs.Counted.{record_size}
 use Rattle.edf_mend.specs.Edits.{Edit}
@@ -220,7 +220,7 @@ pub record FoundRecords (w : Wanted) (first : HeaderTexts) (ledger : Ledger) (fi
   pub after : HeaderTexts
   pub tail : List ℕ
   pub has : HasHeader file after tail
-  pub sound : IsSound after
+  pub sound : IsFormed after
   pub rows : map row_of after.signals ≡ h.signals
   pub grown : IsGrown (length first.signals) after ledger.added
   pub last : 0 < ledger.added → IsNewLast first after

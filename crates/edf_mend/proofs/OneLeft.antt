@@ -11,7 +11,7 @@ use Rattle.edf_mend.proofs.OneRecords.{records-one}
 use Rattle.edf_mend.proofs.OtherMark.{other-mark}
 use Rattle.edf_mend.proofs.Placed.{one-header}
 use Rattle.edf_mend.proofs.Tracks.{all-sound}
-use Rattle.edf_mend.proofs.Widths.{IsSound, first-sound, sound-again}
+use Rattle.edf_mend.proofs.Widths.{IsFormed, first-sound, sound-again}
 use Rattle.edf_mend.specs.Counted.{record_size}
 use Rattle.edf_mend.specs.Header.{HeaderTexts, header_bytes}
 use Rattle.edf_mend.specs.Laws.{OneIsLeft, IsWanted}
@@ -34,7 +34,7 @@ pub record AreOne (l m : Ledger) (c d : List ℕ) : Type 0 where
   pub left_out : l.left_out ≡ m.left_out
 
 pub whole-size : (first after : HeaderTexts) (h : HeaderRecord) (w : Wanted) (G : Type 0)
-    (body : List ℕ) (l : Ledger) → IsSound after → IsHeader (header_bytes after) h [] →
+    (body : List ℕ) (l : Ledger) → IsFormed after → IsHeader (header_bytes after) h [] →
     Follow w G first body order first l.steps.items after l.added →
     record_size (own_signals first after) + l.added ≡ (layout_of h).record_bytes
 whole-size first after h w G body l sound i f =
@@ -44,9 +44,9 @@ whole-size first after h w G body l sound i f =
     (subst (λ (x : List ℕ). IsHeader x h []) (sym (append-nil (header_bytes after))) i)
 
 module _ (w : Wanted) (wanted : IsWanted w) (first : HeaderTexts) (body : List ℕ)
-    (start : IsSound first) (l m : Ledger) (c d : List ℕ) where
+    (start : IsFormed first) (l m : Ledger) (c d : List ℕ) where
   sound-left : (G : Type 0) (n : Ledger) (after : HeaderTexts) →
-      Follow w G first body order first n.steps.items after n.added → IsSound after
+      Follow w G first body order first n.steps.items after n.added → IsFormed after
   sound-left G n after f = all-sound w G first body wanted.startdate wanted.starttime order first
       n.steps.items after n.added f start
 
@@ -106,7 +106,7 @@ module _ (w : Wanted) (wanted : IsWanted w) (first : HeaderTexts) (body : List �
       }
 
 -- a header and none are no two answers
-one-of-two : (w : Wanted) → IsWanted w → (first : HeaderTexts) (body : List ℕ) → IsSound first →
+one-of-two : (w : Wanted) → IsWanted w → (first : HeaderTexts) (body : List ℕ) → IsFormed first →
     (l m : Ledger) (c d : List ℕ) → LeavesHeader w first body l c →
     LeavesNoHeader w first body m d → ⊥
 one-of-two w wanted first body start l m c d p q =
@@ -117,7 +117,7 @@ one-of-two w wanted first body start l m c d p q =
     m.added p.follows q.follows in
     q.no_header p.header (other-mark p.after q.after p.header sp sq alike.alike p.is_header)
 
-one-answer : (w : Wanted) → IsWanted w → (first : HeaderTexts) (body : List ℕ) → IsSound first →
+one-answer : (w : Wanted) → IsWanted w → (first : HeaderTexts) (body : List ℕ) → IsFormed first →
     (l m : Ledger) (c d : List ℕ) →
     LeavesHeader w first body l c ⊎ LeavesNoHeader w first body l c →
     LeavesHeader w first body m d ⊎ LeavesNoHeader w first body m d → AreOne l m c d

@@ -20,7 +20,7 @@ use Rattle.edf_mend.specs.Carried.{IsNewBlock, AreCarried}
 use Rattle.edf_mend.specs.Counted.{record_size, LeavesOut}
 use Rattle.edf_mend.specs.Header.{HeaderTexts}
 use Rattle.edf_mend.specs.Mark.{IsContinuous}
-use Rattle.edf_mend.specs.Mended.{LeavesRecords, joined}
+use Rattle.edf_mend.specs.Mended.{LeavesRecords, concatenated}
 use Rattle.edf_mend.specs.Retimed.{IsClockMade}
 use Rattle.edf_mend.specs.Rewritten.{RecordEdits, AreRewritten}
 use Rattle.edf_mend.specs.Steps.{own_signals}
@@ -134,10 +134,10 @@ record SameEnd (rest other : List ℕ) (out left : ℕ) : Type 0 where
   out_is : out ≡ left
 
 end-one : (Out : Type 0) (retimed : List (List ℕ)) (piece rest other : List ℕ) (out left : ℕ) →
-    If Out ((rest ≡ joined retimed) × (out ≡ length piece))
-    ((rest ≡ joined retimed ++ piece) × (out ≡ 0)) →
-    If Out ((other ≡ joined retimed) × (left ≡ length piece))
-    ((other ≡ joined retimed ++ piece) × (left ≡ 0)) → SameEnd rest other out left
+    If Out ((rest ≡ concatenated retimed) × (out ≡ length piece))
+    ((rest ≡ concatenated retimed ++ piece) × (out ≡ 0)) →
+    If Out ((other ≡ concatenated retimed) × (left ≡ length piece))
+    ((other ≡ concatenated retimed ++ piece) × (left ≡ 0)) → SameEnd rest other out left
 end-one Out retimed piece rest other out left (inl p) (inl q) =
     record { rest_is = p.1.0 ∙ sym q.1.0; out_is = p.1.1 ∙ sym q.1.1 }
 end-one Out retimed piece rest other out left (inl p) (inr q) = absurd (q.0 p.0)
@@ -187,15 +187,15 @@ module _ (w : Wanted) (first a b : HeaderTexts) (lay : Layout) (l m : Ledger) (b
       let end = end-one (LeavesOut w (l.added ≢ 0) n body) p.retimed p.piece rest other l.left_out
       m.left_out p.end
       (subst (λ (k : ℕ). If (LeavesOut w (l.added ≢ 0) k body)
-      ((other ≡ joined p.retimed) × (m.left_out ≡ length p.piece))
-      ((other ≡ joined p.retimed ++ p.piece) × (m.left_out ≡ 0))) (sym size)
+      ((other ≡ concatenated p.retimed) × (m.left_out ≡ length p.piece))
+      ((other ≡ concatenated p.retimed ++ p.piece) × (m.left_out ≡ 0))) (sym size)
       (subst (λ (x : List ℕ). If (LeavesOut w (l.added ≢ 0) (record_size (own_signals first b)) body)
-      ((other ≡ joined p.retimed) × (m.left_out ≡ length x))
-      ((other ≡ joined p.retimed ++ x) × (m.left_out ≡ 0))) (sym cut.piece)
+      ((other ≡ concatenated p.retimed) × (m.left_out ≡ length x))
+      ((other ≡ concatenated p.retimed ++ x) × (m.left_out ≡ 0))) (sym cut.piece)
       (subst (λ (x : List (List ℕ)). If (LeavesOut w (l.added ≢ 0)
       (record_size (own_signals first b)) body)
-      ((other ≡ joined x) × (m.left_out ≡ length q.piece))
-      ((other ≡ joined x ++ q.piece) × (m.left_out ≡ 0))) (sym clock.news) q.end))) in
+      ((other ≡ concatenated x) × (m.left_out ≡ length q.piece))
+      ((other ≡ concatenated x ++ q.piece) × (m.left_out ≡ 0))) (sym clock.news) q.end))) in
       record {
         spelled = texts.spelled;
         rest_is = end.rest_is;

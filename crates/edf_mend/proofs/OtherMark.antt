@@ -23,7 +23,7 @@ use Rattle.edf_mend.proofs.Heads.{signals-count}
 use Rattle.edf_mend.proofs.OtherBodies.{AreOther}
 use Rattle.edf_mend.proofs.Placed.{fixed-again, length-fixed}
 use Rattle.edf_mend.proofs.Spelled.{field-printable}
-use Rattle.edf_mend.proofs.Widths.{IsSound, sound-again, length-fitted}
+use Rattle.edf_mend.proofs.Widths.{IsFormed, sound-again, length-fitted}
 use Rattle.edf_mend.specs.Header.{FixedTexts, SignalTexts, HeaderTexts, fixed_of, fixed_bytes}
 use Rattle.edf_mend.specs.Header.{header_bytes, fitted}
 use Rattle.edf_mend.specs.Inside.Head.{HasFixedWidths}
@@ -190,7 +190,7 @@ reserved-of a b (inl e) r = subst (λ (x : List ℕ). Reserved x) e r
 reserved-of a b (inr m) r = record { plus = mark-plus b m.1; printable = mark-printable b m.1 }
 
 -- **a header of EDF+ is the same one with the other mark**
-pub other-mark : (a b : HeaderTexts) (h : HeaderRecord) → IsSound a → IsSound b → AreAlike a b →
+pub other-mark : (a b : HeaderTexts) (h : HeaderRecord) → IsFormed a → IsFormed b → AreAlike a b →
     IsHeader (header_bytes a) h [] → IsHeader (header_bytes b) h []
 other-mark a b h sa sb alike i =
     let wa = sa.widths.fixed in
@@ -340,7 +340,7 @@ uncounted-widths f size count w s c = record {
 }
 
 -- how many signals it has
-pub signals-of-header : (a : HeaderTexts) (h : HeaderRecord) → IsSound a →
+pub signals-of-header : (a : HeaderTexts) (h : HeaderRecord) → IsFormed a →
     IsHeader (header_bytes a) h [] → length a.signals ≡ h.fixed.signal_count
 signals-of-header a h sound i =
     let has = sound-again a [] sound in
@@ -351,7 +351,7 @@ signals-of-header a h sound i =
     ∙ signals-count has.header has.n ∙ same.n_is
 
 -- **a header of EDF+ is one too behind other bytes, before its data records are counted**
-pub other-count : (a b : HeaderTexts) (h : HeaderRecord) → IsSound a → IsSound b →
+pub other-count : (a b : HeaderTexts) (h : HeaderRecord) → IsFormed a → IsFormed b →
     AreOther a b → IsHeader (header_bytes a) h [] →
     IsHeader (header_bytes (uncounted b)) (without_count h) []
 other-count a b h sa sb other i =

@@ -5,7 +5,7 @@ use Rattle.std.specs.Io.KnownBytes.{Consumes, IsAtEnd}
 use Rattle.std.proofs.KnownBytes.{Consumes-nil, Consumes-trans}
 use Rattle.std.proofs.lemmas.List.Elements.{All-nil, All-push}
 use Rattle.edf_header.specs.Header.{Layout}
-use Rattle.edf_mend.specs.Mended.{joined}
+use Rattle.edf_mend.specs.Mended.{concatenated}
 use Rattle.edf_mend.specs.Rewritten.{RecordEdits}
 use Rattle.edf_mend.specs.Inside.Followed.{IsSpelledRecord, IsFollowed}
 use Rattle.edf_mend.specs.Inside.Surveyed.{AreSpelledRecords, ReadsSoFar, ReadsStarts}
@@ -73,11 +73,11 @@ module _ (l : Layout) (shape : Shape) where
           olds = so.olds ++ old ∷ [];
           news = so.news ++ new ∷ [];
           read = subst (λ (x : List ℕ). Consumes left rest x) (sym pieces)
-              (Consumes-trans left mid rest (joined so.olds) old so.read read);
+              (Consumes-trans left mid rest (concatenated so.olds) old so.read read);
           tally = λ front body is. subst (λ (x : List ℕ). IsTally front x t')
-              (append_assoc body (joined so.olds) old
+              (append_assoc body (concatenated so.olds) old
               ∙ ap (λ (x : List ℕ). body ++ x) (sym pieces))
-              (tally front (body ++ joined so.olds) (so.tally front body is));
+              (tally front (body ++ concatenated so.olds) (so.tally front body is));
           sizes = All-push (λ (r : List ℕ). length r ≡ shape.size) so.olds old so.sizes len;
           spelled = one-spelled 0 s.records so.olds so.news old new tells so.spelled
               (omega (arith, so.followed.records, spelled-records 0 so.olds so.news so.spelled)) one;
@@ -94,9 +94,10 @@ module _ (l : Layout) (shape : Shape) where
       olds = so.olds;
       piece = piece;
       news = so.news;
-      read = Consumes-trans left mid rest (joined so.olds) piece so.read read;
-      tally = subst (λ (x : List ℕ). IsTally front x t') (append_assoc body (joined so.olds) piece)
-          (tally front (body ++ joined so.olds) (so.tally front body is));
+      read = Consumes-trans left mid rest (concatenated so.olds) piece so.read read;
+      tally = subst (λ (x : List ℕ). IsTally front x t') (append_assoc body (concatenated so.olds)
+          piece)
+          (tally front (body ++ concatenated so.olds) (so.tally front body is));
       sizes = so.sizes;
       less = less;
       end = end;

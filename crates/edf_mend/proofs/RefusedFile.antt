@@ -7,7 +7,7 @@ use Rattle.edf_fragment.specs.declared.fault.FragmentFault.{FragmentFault}
 use Rattle.edf_mend.specs.Answers.{IsLeft}
 use Rattle.edf_mend.specs.Edits.{RuleEdits}
 use Rattle.edf_mend.specs.Header.{HeaderTexts, HasHeader, header_bytes}
-use Rattle.edf_mend.specs.Mended.{joined, LeavesHeader}
+use Rattle.edf_mend.specs.Mended.{concatenated, LeavesHeader}
 use Rattle.edf_mend.specs.Objections.{HasNone}
 use Rattle.edf_mend.specs.Retimed.{HasGap}
 use Rattle.edf_mend.specs.Rules.{order}
@@ -31,7 +31,7 @@ module _ (w : Wanted) (file : List ℕ) (first t : HeaderTexts) (steps : List Ru
     (u : CarriesUnder w first t steps added (layout_of h) known survey.is_retold left rest told s
     survey)
     (is_header : IsHeader (header_bytes t) h []) (layout : IsLayout (layout_of h))
-    (measures : Measures (joined u.carries.all.so.olds ++ u.carries.all.piece) known)
+    (measures : Measures (concatenated u.carries.all.so.olds ++ u.carries.all.piece) known)
     (some : 0 < u.shape.size) where
   kept-ledger : told.ledger ≡ record u.carries.all.told.ledger { left_out = told.ledger.left_out }
   kept-ledger = ends-kept (layout_of h) u.carries.all.p u.leaves_out u.carries.all.piece
@@ -54,30 +54,31 @@ module _ (w : Wanted) (file : List ℕ) (first t : HeaderTexts) (steps : List Ru
       )
 
   pub left-of : Follow w (IsTrue survey.has_gaps) first
-      (joined u.carries.all.so.olds ++ u.carries.all.piece) order first steps t added →
-      LeavesHeader w first (joined u.carries.all.so.olds ++ u.carries.all.piece)
+      (concatenated u.carries.all.so.olds ++ u.carries.all.piece) order first steps t added →
+      LeavesHeader w first (concatenated u.carries.all.so.olds ++ u.carries.all.piece)
       (ledger_met w first t steps added h known survey.is_retold left rest told s survey u is_header
-      layout) (header_bytes t ++ (joined u.carries.all.so.news
+      layout) (header_bytes t ++ (concatenated u.carries.all.so.news
       ++ tail_met w first t steps added h known survey.is_retold left rest told s survey u is_header
       layout))
   left-of follows = record {
     after = t;
     header = h;
     records = u.carries.all.so.remade.spelled;
-    body_after = joined u.carries.all.so.news
+    body_after = concatenated u.carries.all.so.news
         ++ tail_met w first t steps added h known survey.is_retold left rest told s survey u
         is_header layout;
     is_header = is_header;
     follows = subst (λ (n : ℕ). Follow w (HasGap (layout_of h) u.carries.all.so.remade.spelled)
-        first (joined u.carries.all.so.olds ++ u.carries.all.piece) order first
+        first (concatenated u.carries.all.so.olds ++ u.carries.all.piece) order first
         told.ledger.steps.items t n) (sym added-told)
         (subst (λ (x : List RuleEdits). Follow w (HasGap (layout_of h)
         u.carries.all.so.remade.spelled) first
-        (joined u.carries.all.so.olds ++ u.carries.all.piece) order first x t added)
+        (concatenated u.carries.all.so.olds ++ u.carries.all.piece) order first x t added)
         (sym steps-told)
         (follow-by w (IsTrue survey.has_gaps) (HasGap (layout_of h)
         u.carries.all.so.remade.spelled) first
-        (joined u.carries.all.so.olds ++ u.carries.all.piece) gaps-told.0 gaps-told.1 order first
+        (concatenated u.carries.all.so.olds ++ u.carries.all.piece) gaps-told.0 gaps-told.1 order
+        first
         steps t added follows));
     leaves = records-met w first t steps added h known survey.is_retold left rest told s survey u
         is_header layout measures u.carries.finds.retold some (sym added-told);
@@ -87,10 +88,10 @@ module _ (w : Wanted) (file : List ℕ) (first t : HeaderTexts) (steps : List Ru
   -- **it is refused by the first fault of what is left**
   pub refused-left : (why : FragmentFault) → told.fault ≡ Some (Refused why) →
       u.shape.size ≤ (layout_of h).record_bytes →
-      HasHeader file first (joined u.carries.all.so.olds ++ u.carries.all.piece) →
-      HasNone w first (joined u.carries.all.so.olds ++ u.carries.all.piece) →
+      HasHeader file first (concatenated u.carries.all.so.olds ++ u.carries.all.piece) →
+      HasNone w first (concatenated u.carries.all.so.olds ++ u.carries.all.piece) →
       Follow w (IsTrue survey.has_gaps) first
-      (joined u.carries.all.so.olds ++ u.carries.all.piece) order first steps t added →
+      (concatenated u.carries.all.so.olds ++ u.carries.all.piece) order first steps t added →
       IsLeft w file why
   refused-left why faulty within has unasked follows =
       let f = first-met w first t steps added h known survey.is_retold left rest told s survey u
@@ -98,12 +99,12 @@ module _ (w : Wanted) (file : List ℕ) (first t : HeaderTexts) (steps : List Ru
       record {
         ledger = ledger_met w first t steps added h known survey.is_retold left rest told s survey u
             is_header layout;
-        rest = header_bytes t ++ (joined u.carries.all.so.news
+        rest = header_bytes t ++ (concatenated u.carries.all.so.news
             ++ tail_met w first t steps added h known survey.is_retold left rest told s survey u
             is_header layout);
         leaves = record {
           first = first;
-          body = joined u.carries.all.so.olds ++ u.carries.all.piece;
+          body = concatenated u.carries.all.so.olds ++ u.carries.all.piece;
           has_header = has;
           leaves = inl (left-of follows);
         };

@@ -12,7 +12,7 @@ use Rattle.edf_mend.proofs.OneSurvey.{found-is, whether-one}
 use Rattle.edf_mend.proofs.OtherMark.{other-mark}
 use Rattle.edf_mend.proofs.SurveySays.{HasFound, some-header, whether, few-records}
 use Rattle.edf_mend.proofs.Tracks.{all-sound}
-use Rattle.edf_mend.proofs.Widths.{IsSound}
+use Rattle.edf_mend.proofs.Widths.{IsFormed}
 use Rattle.edf_mend.specs.Counted.{record_size}
 use Rattle.edf_mend.specs.Edits.{RuleEdits}
 use Rattle.edf_mend.specs.Header.{HeaderTexts, HasHeader, header_bytes}
@@ -21,7 +21,7 @@ use Rattle.edf_mend.specs.Inside.Followed.{IsSpelledRecord, IsFollowed, MayBeTol
 use Rattle.edf_mend.specs.Inside.Spelled.{IsToldOf}
 use Rattle.edf_mend.specs.Inside.Surveyed.{IsLeftOver, AreSpelledRecords, Finds}
 use Rattle.edf_mend.specs.Laws.{IsWanted}
-use Rattle.edf_mend.specs.Mended.{joined}
+use Rattle.edf_mend.specs.Mended.{concatenated}
 use Rattle.edf_mend.specs.Objections.{HasNone}
 use Rattle.edf_mend.specs.Retimed.{HasGap, HasOverlap}
 use Rattle.edf_mend.specs.Rewritten.{RecordEdits}
@@ -98,11 +98,11 @@ record ReadUnder (l : Layout) (shape : Shape) (olds : List (List ℕ)) (s : Star
   anew : IsTrue retold ↔ (IsTrue shape.clock × HasOverlap l news × MayBeToldAnew l news)
 
 module _ (w : Wanted) (wanted : IsWanted w) (first : HeaderTexts) (body : List ℕ)
-    (start : IsSound first) (G : Type 0) (t : HeaderTexts) (steps : List RuleEdits) (added : ℕ)
+    (start : IsFormed first) (G : Type 0) (t : HeaderTexts) (steps : List RuleEdits) (added : ℕ)
     (h : HeaderRecord) (follows : Follow w G first body order first steps t added)
     (is_header : IsHeader (header_bytes t) h []) where
   sound-of : (H : Type 0) (told : List RuleEdits) (after : HeaderTexts) (n : ℕ) →
-      Follow w H first body order first told after n → IsSound after
+      Follow w H first body order first told after n → IsFormed after
   sound-of H told after n f =
       all-sound w H first body wanted.startdate wanted.starttime order first told after n f start
 
@@ -145,7 +145,7 @@ module _ (w : Wanted) (wanted : IsWanted w) (first : HeaderTexts) (body : List �
   module _ (known : Body) (moves : Bool) (left rest : Option (List ℕ)) (told : Told) (s : Starts)
       (found : Survey)
       (u : CarriesUnder w first t steps added (layout_of h) known moves left rest told s found)
-      (parts : body ≡ joined u.carries.all.so.olds ++ u.carries.all.piece)
+      (parts : body ≡ concatenated u.carries.all.so.olds ++ u.carries.all.piece)
       (small : length body < 2 ^ 64) where
     read-under : ReadUnder (layout_of h) u.shape u.carries.all.so.olds s u.carries.retold
     read-under = record {
@@ -204,7 +204,8 @@ module _ (w : Wanted) (wanted : IsWanted w) (first : HeaderTexts) (body : List �
         (whether-one u.carries.retold survey.is_retold
         (OfRecords (AreRetold w) w (header_bytes first ++ body)) retold is.retold)
       where
-        finds-here : Finds w first (joined u.carries.all.so.olds ++ u.carries.all.piece) s.has_gaps
+        finds-here : Finds w first (concatenated u.carries.all.so.olds ++ u.carries.all.piece)
+            s.has_gaps
             u.carries.retold found → Finds w first body s.has_gaps u.carries.retold found
         finds-here f =
             subst (λ (b : List ℕ). Finds w first b s.has_gaps u.carries.retold found) (sym parts) f

@@ -14,7 +14,7 @@ use Rattle.edf_mend.proofs.CarryingOn.{joined-one, more-remade, goes-none}
 use Rattle.edf_mend.proofs.FittingShapes.{fits}
 use Rattle.edf_mend.proofs.MendingSteps.{few-left}
 use Rattle.edf_mend.specs.Header.{HeaderTexts, header_bytes}
-use Rattle.edf_mend.specs.Mended.{joined}
+use Rattle.edf_mend.specs.Mended.{concatenated}
 use Rattle.edf_mend.specs.Inside.Accepted.{IsHeaderOpen}
 use Rattle.edf_mend.specs.Inside.Carrying.{AreRemade, CarriesSoFar, StopsIn, StopsFile}
 use Rattle.edf_mend.specs.Inside.Grown.{IsGrown}
@@ -55,9 +55,9 @@ module _ (w : Wanted) (first t : HeaderTexts) (added : ℕ) (o : OpenFragment) (
     fitting = fits w first t added shape o widths grown is opened
 
     stops-at : (c : Buffered) (mid : Option (List ℕ)) (olds news : List (List ℕ)) (s : Starts)
-        (ledger : Ledger) (bytes more held : List ℕ) → Consumes left mid (joined olds) →
+        (ledger : Ledger) (bytes more held : List ℕ) → Consumes left mid (concatenated olds) →
         All (λ r. length r ≡ shape.size) olds → AreRemade o.header shape moves olds news s ledger →
-        Writes a c bytes held → joined news ≡ bytes ++ more →
+        Writes a c bytes held → concatenated news ≡ bytes ++ more →
         Stops c
     stops-at c mid olds news s ledger bytes more held read sizes remade wrote parts =
         let x = writes-then z a c header bytes held put wrote in
@@ -89,12 +89,14 @@ module _ (w : Wanted) (first t : HeaderTexts) (added : ℕ) (o : OpenFragment) (
       -- behind these data records
       pub stops-behind : (c : Buffered) → ((held : List ℕ) × Writes b c [] held) →
           Stops c
-      stops-behind c x = stops-at c mid so.olds so.news s told.ledger (joined so.put.done ++ [])
-          (joined so.put.later) x.0 so.read so.sizes so.remade
-          (writes-then a b c (joined so.put.done) [] x.0 so.put.wrote x.1)
-          (ap (λ (y : List (List ℕ)). joined y) so.put.news_are
+      stops-behind c x = stops-at c mid so.olds so.news s told.ledger (concatenated so.put.done ++
+          [])
+          (concatenated so.put.later) x.0 so.read so.sizes so.remade
+          (writes-then a b c (concatenated so.put.done) [] x.0 so.put.wrote x.1)
+          (ap (λ (y : List (List ℕ)). concatenated y) so.put.news_are
           ∙ flat_map-append (λ (y : List ℕ). y) so.put.done so.put.later
-          ∙ ap (λ (y : List ℕ). y ++ joined so.put.later) (sym (append-nil (joined so.put.done))))
+          ∙ ap (λ (y : List ℕ). y ++ concatenated so.put.later) (sym (append-nil (concatenated
+          so.put.done))))
 
       -- in the next one
       stops-in : (c : Buffered) (old : List ℕ) (rest : Option (List ℕ)) → Consumes mid rest old →
@@ -105,18 +107,18 @@ module _ (w : Wanted) (first t : HeaderTexts) (added : ℕ) (o : OpenFragment) (
           told.fault
           x.none so.put.goes).0 in
           stops-at c rest (so.olds ++ old ∷ []) (so.news ++ x.new ∷ []) x.to x.ledger
-          (joined so.put.done ++ x.new) [] x.wrote.0
+          (concatenated so.put.done ++ x.new) [] x.wrote.0
           (subst (Consumes left rest) (sym (joined-one so.olds old))
-          (Consumes-trans left mid rest (joined so.olds) old so.read read))
+          (Consumes-trans left mid rest (concatenated so.olds) old so.read read))
           (All-push (λ (r : List ℕ). length r ≡ shape.size) so.olds old so.sizes len)
           (more-remade o.header shape moves so.olds so.news old x.new s x.to told.ledger x.ledger
           so.remade
           (omega (arith, len, fitting.size)) x.remade)
-          (writes-then a b c (joined so.put.done) x.new x.wrote.0 so.put.wrote x.wrote.1)
+          (writes-then a b c (concatenated so.put.done) x.new x.wrote.0 so.put.wrote x.wrote.1)
           (joined-one so.news x.new
-          ∙ ap (λ (y : List (List ℕ)). joined y ++ x.new) (so.put.news_are
+          ∙ ap (λ (y : List (List ℕ)). concatenated y ++ x.new) (so.put.news_are
           ∙ ap (λ (y : List (List ℕ)). so.put.done ++ y) none ∙ append-nil so.put.done)
-          ∙ sym (append-nil (joined so.put.done ++ x.new)))
+          ∙ sym (append-nil (concatenated so.put.done ++ x.new)))
 
     -- where they are carried over
     pub stops-carrying : (leaves_out : Bool) (rest : Option (List ℕ)) (front : List ℕ)

@@ -12,7 +12,7 @@ use Rattle.edf_mend.specs.Counted.{record_size, LeavesOut, piece_len}
 use Rattle.edf_mend.specs.Edits.{Edit, RuleEdits}
 use Rattle.edf_mend.specs.Header.{HeaderTexts}
 use Rattle.edf_mend.specs.Mark.{IsContinuous}
-use Rattle.edf_mend.specs.Mended.{LeavesRecords, joined, IsCut}
+use Rattle.edf_mend.specs.Mended.{LeavesRecords, concatenated, IsCut}
 use Rattle.edf_mend.specs.Retimed.{AreRetimed, IsClockMade, HasOverlap, HasGap}
 use Rattle.edf_mend.specs.Rewritten.{RecordEdits, AreRewritten}
 use Rattle.edf_mend.specs.Rules.{order}
@@ -315,25 +315,25 @@ some-clock Wants l clock s olds true false eo em asks f = record {
 pub record SomeEnd (Out : Type 0) (retimed : List (List ℕ)) (piece : List ℕ) : Type 0 where
   pub rest : List ℕ
   pub out : ℕ
-  pub end : If Out ((rest ≡ joined retimed) × (out ≡ length piece))
-      ((rest ≡ joined retimed ++ piece) × (out ≡ 0))
+  pub end : If Out ((rest ≡ concatenated retimed) × (out ≡ length piece))
+      ((rest ≡ concatenated retimed ++ piece) × (out ≡ 0))
 
 some-end : (w : Wanted) (wide : Type 0) (size : ℕ) (body : List ℕ) (retimed : List (List ℕ))
     (piece : List ℕ) → SomeEnd (LeavesOut w wide size body) retimed piece
 some-end w wide size body retimed piece = elim (listed-or w) [
   | inr nay ↦ record {
-    rest = joined retimed ++ piece;
+    rest = concatenated retimed ++ piece;
     out = 0;
     end = inr ((λ o. nay o.0), (refl, refl));
   }
   | inl is ↦ elim (cases_lt 0 (piece_len size body)) [
     | inl some ↦ record {
-      rest = joined retimed;
+      rest = concatenated retimed;
       out = length piece;
       end = inl ((is, some), (refl, refl));
     }
     | inr empty ↦ record {
-      rest = joined retimed ++ piece;
+      rest = concatenated retimed ++ piece;
       out = 0;
       end = inr ((λ o. omega (arith, empty, o.1)), (refl, refl));
     }
@@ -379,7 +379,7 @@ module _ (w : Wanted) (first after : HeaderTexts) (l : Layout) (shape : Shape) (
   pub some-left : shape.size ≡ record_size (own_signals first after) → shape.added ≡ added →
       (IsTrue shape.texts ↔ IsAsked w rule.Texts) →
       (IsTrue shape.clock ↔ (IsAsked w rule.Clock × IsContinuous first.fixed.reserved)) →
-      body ≡ joined olds ++ piece → All (λ r. length r ≡ shape.size) olds →
+      body ≡ concatenated olds ++ piece → All (λ r. length r ≡ shape.size) olds →
       length piece < shape.size → AreSpelledRecords l shape 0 olds news →
       FollowsSo l shape.clock news s → length steps < 2 ^ 63 → length olds < 2 ^ 63 → SomeLeft
   some-left size more texts clock parts sizes less spelled followed few low =

@@ -24,13 +24,13 @@ use Rattle.edf_mend.proofs.OneRecords.{records-one}
 use Rattle.edf_mend.proofs.OtherMark.{other-mark}
 use Rattle.edf_mend.proofs.SurveyRecords.{some-left, all-few, FollowsSo, gap-or}
 use Rattle.edf_mend.proofs.Tracks.{all-sound}
-use Rattle.edf_mend.proofs.Widths.{IsSound, sound-again}
+use Rattle.edf_mend.proofs.Widths.{IsFormed, sound-again}
 use Rattle.edf_mend.specs.Counted.{record_size}
 use Rattle.edf_mend.specs.Edits.{RuleEdits}
 use Rattle.edf_mend.specs.Header.{HeaderTexts, HasHeader, header_bytes}
 use Rattle.edf_mend.specs.Laws.{IsWanted}
 use Rattle.edf_mend.specs.Mark.{IsContinuous}
-use Rattle.edf_mend.specs.Mended.{LeavesHeader, LeavesRecords, joined}
+use Rattle.edf_mend.specs.Mended.{LeavesHeader, LeavesRecords, concatenated}
 use Rattle.edf_mend.specs.Retimed.{HasGap}
 use Rattle.edf_mend.specs.Rules.{order}
 use Rattle.edf_mend.specs.Steps.{Follow, own_signals, with_reserved}
@@ -63,13 +63,13 @@ twice (suc n) k le = omega (arith, suc-mul n k, twice n k le, le)
 -- each data record has two bytes or more
 pub few-records : (size half : ℕ) (body : List ℕ) (olds : List (List ℕ)) (piece : List ℕ) →
     size ≡ 2 * half → All (λ r. length r ≡ size) olds → length piece < size →
-    body ≡ joined olds ++ piece → length body < 2 ^ 64 → length olds < 2 ^ 63
+    body ≡ concatenated olds ++ piece → length body < 2 ^ 64 → length olds < 2 ^ 63
 few-records size half body olds piece even sizes less parts small =
     omega (
       arith,
       twice (length olds) size (omega (arith, even, less)),
       length-joined size olds sizes,
-      length-append (joined olds) piece,
+      length-append (concatenated olds) piece,
       ap (λ (l : List ℕ). length l) parts,
       small,
     )
@@ -81,7 +81,7 @@ both-true false b p q = absurd (false≢true p)
 -- ---- a header that was left, by other gaps
 
 module _ (w : Wanted) (wanted : IsWanted w) (first : HeaderTexts) (body : List ℕ)
-    (start : IsSound first) where
+    (start : IsFormed first) where
   pub record Under (G : Type 0) (o : IsLeftOver w (IsTrue false) first body) : Type 0 where
     pub after : HeaderTexts
     pub steps : List RuleEdits
@@ -90,7 +90,7 @@ module _ (w : Wanted) (wanted : IsWanted w) (first : HeaderTexts) (body : List �
     pub size : record_size (own_signals first o.after) ≡ record_size (own_signals first after)
 
   sound-after : (G : Type 0) (steps : List RuleEdits) (after : HeaderTexts) (added : ℕ) →
-      Follow w G first body order first steps after added → IsSound after
+      Follow w G first body order first steps after added → IsFormed after
   sound-after G steps after added f =
       all-sound w G first body wanted.startdate wanted.starttime order first steps after added f start
 
@@ -191,7 +191,7 @@ module _ (w : Wanted) (wanted : IsWanted w) (first : HeaderTexts) (body : List �
       shape.size ≡ record_size (own_signals first o.after) → shape.added ≡ o.added →
       (IsTrue shape.texts ↔ IsAsked w rule.Texts) →
       (IsTrue shape.clock ↔ (IsAsked w rule.Clock × IsContinuous first.fixed.reserved)) →
-      body ≡ joined olds ++ piece → All (λ r. length r ≡ shape.size) olds →
+      body ≡ concatenated olds ++ piece → All (λ r. length r ≡ shape.size) olds →
       length piece < shape.size → AreSpelledRecords (layout_of o.header) shape 0 olds news →
       FollowsSo (layout_of o.header) shape.clock news s → length olds < 2 ^ 63 →
       SomeHeader o news
@@ -241,7 +241,7 @@ module _ (w : Wanted) (wanted : IsWanted w) (first : HeaderTexts) (body : List �
       let l = layout_of o.header in
       let m = f.header in
       let x = r.followed in
-      let parts = ended-all body (joined r.olds ++ r.piece) rest r.read r.end in
+      let parts = ended-all body (concatenated r.olds ++ r.piece) rest r.read r.end in
       let again = says m shape.clock r.news x in
       record {
         news = r.news;

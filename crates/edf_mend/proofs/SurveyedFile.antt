@@ -6,7 +6,7 @@ use Rattle.std.specs.Io.KnownBytes.{IsAtEnd}
 use Rattle.std.proofs.KnownBytes.{Consumes-trans}
 use Rattle.edf_mend.specs.Header.{HeaderTexts, HasHeader, header_bytes}
 use Rattle.edf_mend.specs.Laws.{IsWanted}
-use Rattle.edf_mend.specs.Mended.{joined}
+use Rattle.edf_mend.specs.Mended.{concatenated}
 use Rattle.edf_mend.specs.Survey.{IsSurveyOf}
 use Rattle.edf_mend.specs.Inside.Asking.{IsKnown}
 use Rattle.edf_mend.specs.Inside.Carrying.{SaysRetold}
@@ -32,7 +32,7 @@ all-counted w first left mid rest front body t u s (inl x) more is =
     (Consumes-trans left mid rest [] all.taken x.read all.read) all.end in
     subst (λ (b : List ℕ). IsTally front b u) (sym whole) all.tally
 all-counted w first left mid rest front body t u s (inr x) more is =
-    let b = joined x.reads.olds ++ x.reads.piece in
+    let b = concatenated x.reads.olds ++ x.reads.piece in
     let all = more b x.reads.tally in
     let whole : body ≡ b ++ all.taken = read-whole left rest (b ++ all.taken) body is
     (Consumes-trans left mid rest b all.taken x.reads.read all.read) all.end in
@@ -44,7 +44,7 @@ pub ends-all : (w : Wanted) (first : HeaderTexts) (left mid rest : Option (List 
 ends-all w first left mid rest front t u s (inl x) more =
     let all = more [] x.tally in all.end
 ends-all w first left mid rest front t u s (inr x) more =
-    let all = more (joined x.reads.olds ++ x.reads.piece) x.reads.tally in all.end
+    let all = more (concatenated x.reads.olds ++ x.reads.piece) x.reads.tally in all.end
 
 -- the same ground by other names
 pub moved-left : (w w' : Wanted) (first first' : HeaderTexts) (body : List ℕ) (b : Body)

@@ -23,7 +23,7 @@ use Rattle.edf_mend.proofs.Placed.{field-front, length-header, signals-one, text
 use Rattle.edf_mend.proofs.SameWalks.{follow-by}
 use Rattle.edf_mend.proofs.SurveyRecords.{vec-of, all-few}
 use Rattle.edf_mend.proofs.Tracks.{all-sound}
-use Rattle.edf_mend.proofs.Widths.{IsSound, NamesText, sound-again, first-sound}
+use Rattle.edf_mend.proofs.Widths.{IsFormed, NamesText, sound-again, first-sound}
 use Rattle.edf_mend.specs.Answers.{IsRefusal, IsEdf, IsToldAs}
 use Rattle.edf_mend.specs.Header.{HeaderTexts, HasHeader, HasSignals, header_bytes, spaced}
 use Rattle.edf_mend.specs.Inside.Accepted.{NoHeader, IsLonger}
@@ -44,7 +44,7 @@ use Rattle.edf_header.specs.declared.limits.TheConstants.{MOST_SIGNALS}
 -- ---- a header alone
 
 -- what begins with a header begins with no more of it
-module _ (t : HeaderTexts) (sound : IsSound t) where
+module _ (t : HeaderTexts) (sound : IsFormed t) where
   alone-again : HasHeader (header_bytes t) t []
   alone-again = subst (λ (x : List ℕ). HasHeader x t []) (append-nil (header_bytes t))
       (sound-again t [] sound)
@@ -129,7 +129,7 @@ module _ (t : HeaderTexts) (sound : IsSound t) where
 
 -- ---- the answer
 
-first-of : (t : HeaderTexts) → IsSound t → (fault : FragmentFault) →
+first-of : (t : HeaderTexts) → IsFormed t → (fault : FragmentFault) →
     IsFirstFault (header_bytes t) fault ⊎ IsLonger (header_bytes t) →
     IsFirstFault (header_bytes t) fault
 first-of t sound fault (inl is) = is

@@ -4,7 +4,7 @@ use Rattle.std.proofs.Common.{subst, inl, inr}
 use Rattle.std.specs.List.{AllByRecursion}
 use Rattle.edf_mend.proofs.Placed.{one-header}
 use Rattle.edf_mend.proofs.Through.{follow-keeps, split}
-use Rattle.edf_mend.proofs.Widths.{IsSound, first-sound, sound-again, each-sound}
+use Rattle.edf_mend.proofs.Widths.{IsFormed, first-sound, sound-again, each-sound}
 use Rattle.edf_mend.specs.Edits.{RuleEdits}
 use Rattle.edf_mend.specs.Header.{FixedTexts, HeaderTexts, HasHeader, header_bytes}
 use Rattle.edf_header.specs.Header.{layout_of}
@@ -30,8 +30,8 @@ pub record IsWalk (w : Wanted) (first after : HeaderTexts) : Type 1 where
   pub steps : List RuleEdits
   pub added : ℕ
   pub follows : Follow w gaps first body order first steps after added
-  pub before : IsSound first
-  pub behind : IsSound after
+  pub before : IsFormed first
+  pub behind : IsFormed after
 
 record Left (w : Wanted) (first : HeaderTexts) (c : List ℕ) : Type 1 where
   gaps : Type 0
@@ -77,15 +77,15 @@ any (r ∷ rs) = (tt, any rs)
 
 pub all-sound : (w : Wanted) (G : Type 0) (first : HeaderTexts) (body : List ℕ) →
     FillsField w.startdate → FillsField w.starttime → (rs : List Rule) (old : HeaderTexts) (steps : List RuleEdits) (new : HeaderTexts) (added : ℕ) →
-    Follow w G first body rs old steps new added → IsSound old → IsSound new
+    Follow w G first body rs old steps new added → IsFormed old → IsFormed new
 all-sound w G first body day time rs =
-    follow-keeps w G first body Any IsSound
+    follow-keeps w G first body Any IsFormed
     (λ r old new cut added q asked makes sound.
     each-sound w G first body day time r old new cut added makes sound)
     rs (any rs)
 
 walk-of : (w : Wanted) (first after : HeaderTexts) (c rest : List ℕ) → FillsField w.startdate →
-    FillsField w.starttime → IsSound first → Left w first c → HasHeader c after rest →
+    FillsField w.starttime → IsFormed first → Left w first c → HasHeader c after rest →
     IsWalk w first after
 walk-of w first after c rest day time sound l has =
     let end = all-sound w l.gaps first l.body day time order first l.steps l.after l.added l.follows
@@ -101,7 +101,7 @@ walk-of w first after c rest day time sound l has =
       follows = subst (λ (t : HeaderTexts). Follow w l.gaps first l.body order first l.steps t
           l.added) same.texts l.follows;
       before = sound;
-      behind = subst IsSound same.texts end;
+      behind = subst IsFormed same.texts end;
     }
 
 -- the header that they leave

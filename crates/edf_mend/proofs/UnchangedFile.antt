@@ -13,7 +13,7 @@ use Rattle.edf_mend.proofs.SameSurvey.{survey-same}
 use Rattle.edf_mend.proofs.SurveySays.{of-this}
 use Rattle.edf_mend.proofs.TextsRefused.{told-as-left}
 use Rattle.edf_mend.proofs.Tracks.{all-sound}
-use Rattle.edf_mend.proofs.Widths.{IsSound, first-sound}
+use Rattle.edf_mend.proofs.Widths.{IsFormed, first-sound}
 use Rattle.edf_mend.specs.Answers.{IsEdf}
 use Rattle.edf_mend.specs.Header.{HeaderTexts, HasHeader, header_bytes}
 use Rattle.edf_mend.specs.Inside.Accepted.{RefusesNext}
@@ -24,7 +24,7 @@ use Rattle.edf_mend.specs.Inside.Carrying.{IsCallTrouble}
 use Rattle.edf_mend.specs.Inside.Head.{IsHeaderRead}
 use Rattle.edf_mend.specs.Inside.Surveyed.{Finds}
 use Rattle.edf_mend.specs.Laws.{IsWanted}
-use Rattle.edf_mend.specs.Mended.{LeavesHeader, joined}
+use Rattle.edf_mend.specs.Mended.{LeavesHeader, concatenated}
 use Rattle.edf_mend.specs.Objections.{HasNone, IsObjection}
 use Rattle.edf_mend.specs.Retimed.{HasGap}
 use Rattle.edf_mend.specs.Rules.{order}
@@ -65,7 +65,7 @@ module _ (w : Wanted) (wanted : IsWanted w) (file : List ℕ) (left mid rest : O
     has-here : HasHeader (header_bytes first ++ body) first body
     has-here = subst (λ (x : List ℕ). HasHeader x first body) file_is has
 
-    start-here : IsSound first
+    start-here : IsFormed first
     start-here = first-sound file first body has
 
     pub survey-finds : Finds w first body survey.has_gaps survey.is_retold survey
@@ -168,8 +168,9 @@ module _ (w : Wanted) (wanted : IsWanted w) (file : List ℕ) (left mid rest : O
               let v = under-of w first x.t x.steps x.added x.o.header (layout_of x.opened.header)
               known survey.is_retold mid rest told s found x.opened.layout_is u in
               let e = v.carries.all in
-              let body = joined e.so.olds ++ e.piece in
-              let read = Consumes-trans mid e.mid rest (joined e.so.olds) e.piece e.so.read e.read in
+              let body = concatenated e.so.olds ++ e.piece in
+              let read = Consumes-trans mid e.mid rest (concatenated e.so.olds) e.piece e.so.read
+              e.read in
               let file_is = whole-file w file left mid rest first survey left_is r edf len body read
               e.end in
               let has = file-has w file left mid rest first survey left_is r edf len body read e.end

@@ -5,7 +5,7 @@ use Rattle.std.specs.Prelude.{All}
 use Rattle.std.specs.List.{AllZip}
 use Rattle.std.proofs.lemmas.List.Elements.{All-head, All-tail}
 use Rattle.edf_mend.proofs.Placed.{number-one}
-use Rattle.edf_mend.proofs.Widths.{IsSound, NamesText, each-sound}
+use Rattle.edf_mend.proofs.Widths.{IsFormed, NamesText, each-sound}
 use Rattle.edf_mend.specs.Edits.{RuleEdits}
 use Rattle.edf_mend.specs.Header.{FixedTexts, SignalTexts, HeaderTexts, spaced}
 use Rattle.edf_mend.specs.Inside.Head.{HasSignalWidths}
@@ -324,7 +324,7 @@ undo-0 ones bs ms from u v len e =
     (c.texts, undo-1 ones bs ms c.next u v len c.rest)
 
 -- **a header and its edits tell the header before**
-pub undo : (a b m : HeaderTexts) → IsSound a → IsSound b → edits_of a m ≡ edits_of b m → a ≡ b
+pub undo : (a b m : HeaderTexts) → IsFormed a → IsFormed b → edits_of a m ≡ edits_of b m → a ≡ b
 undo a b m p q e =
     let s0 = front-olds 0 (fixed_pairs a.fixed m.fixed) (fixed_pairs b.fixed m.fixed)
     (from-0 a.signals m.signals) (from-0 b.signals m.signals)
@@ -392,7 +392,7 @@ record Next (w : Wanted) (G : Type 0) (first : HeaderTexts) (body : List ℕ) (r
   more : List RuleEdits
   later : ℕ
   follows : Follow w G first body rs mid more new later
-  sound : IsSound mid
+  sound : IsFormed mid
   told : ((mid ≡ old) × (steps ≡ more))
       ⊎ ((step : RuleEdits) × (step.rule ≡ r) × (step.edits ≡ edits_of old mid)
       × (steps ≡ step ∷ more))
@@ -408,7 +408,7 @@ next-told w G first body r old mid cut steps more (inr t) =
 
 next : (w : Wanted) (G : Type 0) (first : HeaderTexts) (body : List ℕ) (r : Rule)
     (rs : List Rule) (old new : HeaderTexts) (steps : List RuleEdits) (added : ℕ) →
-    FillsField w.startdate → FillsField w.starttime → IsSound old →
+    FillsField w.startdate → FillsField w.starttime → IsFormed old →
     Follow w G first body (r ∷ rs) old steps new added →
     Next w G first body r rs old new steps added
 next w G first body r rs old new steps added day time sound (inl f) = record {
@@ -459,7 +459,7 @@ not-both r step more steps is e f =
 pub undo-all : (w v : Wanted) (G H : Type 0) (fa fb : HeaderTexts) (ba bb : List ℕ) (k : ℕ)
     (rs : List Rule) → Rise k rs → FillsField w.startdate → FillsField w.starttime →
     FillsField v.startdate → FillsField v.starttime → (a b new : HeaderTexts)
-    (steps : List RuleEdits) (added other : ℕ) → IsSound a → IsSound b →
+    (steps : List RuleEdits) (added other : ℕ) → IsFormed a → IsFormed b →
     Follow w G fa ba rs a steps new added → Follow v H fb bb rs b steps new other → a ≡ b
 undo-all w v G H fa fb ba bb k [] rise d1 t1 d2 t2 a b new steps added other p q f g =
     sym f.0 ∙ g.0
@@ -469,7 +469,7 @@ undo-all w v G H fa fb ba bb k (r ∷ rs) rise d1 t1 d2 t2 a b new steps added o
     by (λ ma mb ss ad ot. undo-all w v G H fa fb ba bb (suc (rank r)) rs rise.1 d1 t1 d2 t2 ma mb new
     ss ad ot) x y x.told y.told
   where
-    by : ((ma mb : HeaderTexts) (ss : List RuleEdits) (ad ot : ℕ) → IsSound ma → IsSound mb →
+    by : ((ma mb : HeaderTexts) (ss : List RuleEdits) (ad ot : ℕ) → IsFormed ma → IsFormed mb →
         Follow w G fa ba rs ma ss new ad → Follow v H fb bb rs mb ss new ot → ma ≡ mb) →
         (x : Next w G fa ba r rs a new steps added) (y : Next v H fb bb r rs b new steps other) →
         ((x.mid ≡ a) × (steps ≡ x.more)) ⊎ ((step : RuleEdits) × (step.rule ≡ r)

@@ -21,7 +21,7 @@ use Rattle.edf_mend.specs.Counted.{record_size, LeavesOut, piece_len}
 use Rattle.edf_mend.specs.Edits.{RuleEdits}
 use Rattle.edf_mend.specs.Header.{HeaderTexts, header_bytes}
 use Rattle.edf_mend.specs.Mark.{IsContinuous}
-use Rattle.edf_mend.specs.Mended.{joined, IsCut, LeavesRecords}
+use Rattle.edf_mend.specs.Mended.{concatenated, IsCut, LeavesRecords}
 use Rattle.edf_mend.specs.Retimed.{AreToldAnew, IsClockMade}
 use Rattle.edf_mend.specs.Rewritten.{RecordEdits, AreRewritten}
 use Rattle.edf_mend.specs.Steps.{own_signals}
@@ -161,7 +161,7 @@ module _ (w : Wanted) (first t : HeaderTexts) (steps : List RuleEdits) (added : 
     all_of = u.carries.all
 
     abbrev pub body_of : List ℕ
-    body_of = joined u.carries.all.so.olds ++ u.carries.all.piece
+    body_of = concatenated u.carries.all.so.olds ++ u.carries.all.piece
 
     size-is : record_size (own_signals first t) ≡ u.shape.size
     size-is = sym u.shaped.size
@@ -169,7 +169,8 @@ module _ (w : Wanted) (first t : HeaderTexts) (steps : List RuleEdits) (added : 
     pub piece-is : 0 < u.shape.size → piece_len u.shape.size body_of ≡ length u.carries.all.piece
     piece-is some =
         let len = length-joined u.shape.size u.carries.all.so.olds u.carries.all.so.sizes in
-        ap (λ (n : ℕ). n % u.shape.size) (length-append (joined u.carries.all.so.olds) u.carries.all.piece
+        ap (λ (n : ℕ). n % u.shape.size) (length-append (concatenated u.carries.all.so.olds)
+        u.carries.all.piece
         ∙ ap (λ (n : ℕ). n + length u.carries.all.piece) len)
         ∙ mod-mul-add (length u.carries.all.so.olds) u.shape.size (length u.carries.all.piece)
         u.carries.all.less
@@ -203,20 +204,22 @@ module _ (w : Wanted) (first t : HeaderTexts) (steps : List RuleEdits) (added : 
       enough : least_records l.count ≤ length put_of.records
       enough = omega (arith, ends.least, ap (λ (x : Progress). x.given) goes.1)
 
-      pub are-all : AreDataRecords l First (joined u.carries.all.so.news) put_of.records put_of.last []
-      are-all = subst (λ (x : List (List ℕ)). AreDataRecords l First (joined x) put_of.records
+      pub are-all : AreDataRecords l First (concatenated u.carries.all.so.news) put_of.records
+          put_of.last []
+      are-all = subst (λ (x : List (List ℕ)). AreDataRecords l First (concatenated x) put_of.records
           put_of.last []) done-all put_of.are
 
       -- a fragment
       pub spells : (o : HeaderRecord) → IsHeader (header_bytes t) o [] → l ≡ layout_of o →
-          Spells (header_bytes t ++ joined u.carries.all.so.news) l.key put_of.records
+          Spells (header_bytes t ++ concatenated u.carries.all.so.news) l.key put_of.records
       spells o is_header same_layout = record {
         header = o;
-        rest = joined u.carries.all.so.news;
+        rest = concatenated u.carries.all.so.news;
         last = put_of.last;
-        is_header = IsHeader-more (header_bytes t) (joined u.carries.all.so.news) o is_header;
+        is_header = IsHeader-more (header_bytes t) (concatenated u.carries.all.so.news) o is_header;
         key = ap (λ (x : Layout). x.key) same_layout;
-        are_records = subst (λ (x : Layout). AreDataRecords x First (joined u.carries.all.so.news)
+        are_records = subst (λ (x : Layout). AreDataRecords x First (concatenated
+            u.carries.all.so.news)
             put_of.records put_of.last []) same_layout are-all;
         least = subst (λ (x : Layout). least_records x.count ≤ length put_of.records) same_layout enough;
         most = subst (λ (x : Layout). length put_of.records ≤ most_records x.count) same_layout
@@ -240,11 +243,12 @@ module _ (w : Wanted) (first t : HeaderTexts) (steps : List RuleEdits) (added : 
           told.ledger.left_out ≡ length u.carries.all.piece
       out-where out = ap (λ (x : Ledger). x.left_out) same-ledger
 
-      made-end : (some : 0 < u.shape.size) → (rest' : List ℕ) → rest' ≡ joined u.carries.all.so.news →
+      made-end : (some : 0 < u.shape.size) → (rest' : List ℕ) → rest' ≡ concatenated
+          u.carries.all.so.news →
           If (LeavesOut w (told.ledger.added ≢ 0) (record_size (own_signals first t)) body_of)
-          ((rest' ≡ joined u.carries.all.so.news)
+          ((rest' ≡ concatenated u.carries.all.so.news)
           × (told.ledger.left_out ≡ length u.carries.all.piece))
-          ((rest' ≡ joined u.carries.all.so.news ++ u.carries.all.piece)
+          ((rest' ≡ concatenated u.carries.all.so.news ++ u.carries.all.piece)
           × (told.ledger.left_out ≡ 0))
       made-end some rest' is = by ends.piece_is
         where
@@ -256,9 +260,9 @@ module _ (w : Wanted) (first t : HeaderTexts) (steps : List RuleEdits) (added : 
 
           by : (length u.carries.all.piece ≡ 0) ⊎ (u.leaves_out ≡ true) →
               If (LeavesOut w (told.ledger.added ≢ 0) (record_size (own_signals first t)) body_of)
-              ((rest' ≡ joined u.carries.all.so.news)
+              ((rest' ≡ concatenated u.carries.all.so.news)
               × (told.ledger.left_out ≡ length u.carries.all.piece))
-              ((rest' ≡ joined u.carries.all.so.news ++ u.carries.all.piece)
+              ((rest' ≡ concatenated u.carries.all.so.news ++ u.carries.all.piece)
               × (told.ledger.left_out ≡ 0))
           by (inl empty) = inr (
             λ o. absurd (omega (
@@ -268,8 +272,8 @@ module _ (w : Wanted) (first t : HeaderTexts) (steps : List RuleEdits) (added : 
               subst (λ (n : ℕ). 0 < piece_len n body_of) size-is o.1,
             )),
             (
-              is ∙ sym (append-nil (joined u.carries.all.so.news))
-                  ∙ ap (λ (x : List ℕ). joined u.carries.all.so.news ++ x)
+              is ∙ sym (append-nil (concatenated u.carries.all.so.news))
+                  ∙ ap (λ (x : List ℕ). concatenated u.carries.all.so.news ++ x)
                   (sym (length-zero u.carries.all.piece empty)),
               out ∙ empty,
             ),
@@ -287,7 +291,7 @@ module _ (w : Wanted) (first t : HeaderTexts) (steps : List RuleEdits) (added : 
       pub leaves-records : (o : HeaderRecord) → IsHeader (header_bytes t) o [] → l ≡ layout_of o →
           0 < u.shape.size → added ≡ told.ledger.added →
           LeavesRecords w first t l (record told.ledger { records = s.records }) body_of
-          u.carries.all.so.remade.spelled (joined u.carries.all.so.news)
+          u.carries.all.so.remade.spelled (concatenated u.carries.all.so.news)
       leaves-records o is_header same_layout some same_added =
           let k = carried-of o is_header same_layout in
           let retimed : told.ledger.retimed.items ≡ u.carries.all.told.ledger.retimed.items =
@@ -326,5 +330,5 @@ module _ (w : Wanted) (first t : HeaderTexts) (steps : List RuleEdits) (added : 
                 (subst (λ (n : ℕ). IsClockMade (IsAsked w rule.Clock
                 × IsContinuous first.fixed.reserved) l u.carries.all.so.remade.spelled
                 u.carries.all.told.ledger.retimed.items n u.carries.all.so.news) (sym shift) clock);
-            end = made-end some (joined u.carries.all.so.news) refl;
+            end = made-end some (concatenated u.carries.all.so.news) refl;
           }

@@ -86,7 +86,7 @@ abbrev pub NamesText : List ℕ → ℕ → Type 0
 NamesText text n = (IsNumber (spaced text) n × (n ≤ MOST_SIGNALS))
     ⊎ (((k : ℕ) → IsNumber (spaced text) k × (k ≤ MOST_SIGNALS) → ⊥) × (n ≡ 0))
 
-pub record IsSound (t : HeaderTexts) : Type 0 where
+pub record IsFormed (t : HeaderTexts) : Type 0 where
   pub widths : HasWidths t
   pub names : NamesText t.fixed.signals (length t.signals)
 
@@ -121,7 +121,7 @@ signal-widths header n i len lt = record {
 }
 
 texts-sound : (header : List ℕ) (n : ℕ) → length header ≡ 256 + 256 * n → HasSignals header n →
-    IsSound (texts_of header n)
+    IsFormed (texts_of header n)
 texts-sound header n len names =
     let f = signal_of header n in
     let count : length (map f (range_with_len 0 n)) ≡ n = length-map-range_with_len f 0 n in
@@ -137,12 +137,13 @@ texts-sound header n len names =
     }
 
 pub first-sound : (file : List ℕ) (t : HeaderTexts) (body : List ℕ) → HasHeader file t body →
-    IsSound t
+    IsFormed t
 first-sound file t body h =
-    subst IsSound (sym h.texts_are) (texts-sound h.header h.n h.len h.signals)
+    subst IsFormed (sym h.texts_are) (texts-sound h.header h.n h.len h.signals)
 
 -- a file that begins with a sound header has it
-pub sound-again : (t : HeaderTexts) (body : List ℕ) → IsSound t → HasHeader (header_bytes t ++ body)
+pub sound-again : (t : HeaderTexts) (body : List ℕ) → IsFormed t → HasHeader (header_bytes t ++
+    body)
     t body
 sound-again t body s = header-again t body s.widths
     (subst (λ (x : List ℕ). NamesText x (length t.signals))
@@ -569,12 +570,12 @@ size-after-width t size (inl m) len =
 size-after-width t size (inr m) len = same-width 8 t.fixed.header_bytes size m.1 len
 
 signal-sound : (Wants : Type 0) (old new : HeaderTexts) (added : ℕ) →
-    GetsSignalIf Wants old new added → IsSound old → IsSound new
-signal-sound Wants old new added (inr m) s = subst IsSound (sym m.1) s
+    GetsSignalIf Wants old new added → IsFormed old → IsFormed new
+signal-sound Wants old new added (inr m) s = subst IsFormed (sym m.1) s
 signal-sound Wants old new added (inl m) s =
     let count : length (old.signals ++ new_signal ∷ []) ≡ length old.signals + 1 =
     length-append old.signals (new_signal ∷ []) in
-    subst IsSound (sym m.2.are) (record {
+    subst IsFormed (sym m.2.are) (record {
       widths = record {
         fixed = more-widths old.fixed m.2.size (fitted 4 (decimal (length old.signals + 1)))
             s.widths.fixed
@@ -591,7 +592,7 @@ signal-sound Wants old new added (inl m) s =
 
 zipped-sound : (R : SignalTexts → SignalTexts → Type 0) → ((x y : SignalTexts) → R x y →
     HasSignalWidths x → HasSignalWidths y) → (old new : HeaderTexts) → OfSignals R old new →
-    IsSound old → IsSound new
+    IsFormed old → IsFormed new
 zipped-sound R each old new m s = record {
   widths = record {
     fixed = subst HasFixedWidths (sym m.0) s.widths.fixed;
@@ -605,13 +606,13 @@ zipped-sound R each old new m s = record {
 -- where another text comes into the fixed part, and the number of signals stays
 fixed-sound : (old new : HeaderTexts) (f : FixedTexts) →
     new ≡ record { fixed = f; signals = old.signals } → f.signals ≡ old.fixed.signals →
-    HasFixedWidths f → IsSound old → IsSound new
-fixed-sound old new f e same h s = subst IsSound (sym e) (record {
+    HasFixedWidths f → IsFormed old → IsFormed new
+fixed-sound old new f e same h s = subst IsFormed (sym e) (record {
   widths = record { fixed = h; signals = s.widths.signals };
   names = subst (λ (l : List ℕ). NamesText l (length old.signals)) (sym same) s.names;
 })
 
-pub ascii-sound : (old : HeaderTexts) → IsSound old → IsSound (ascii_texts old)
+pub ascii-sound : (old : HeaderTexts) → IsFormed old → IsFormed (ascii_texts old)
 ascii-sound old s = record {
   widths = record {
     fixed = ascii-fixed-widths old.fixed s.widths.fixed;
@@ -622,8 +623,9 @@ ascii-sound old s = record {
       (names-spaced old.fixed.signals (length old.signals) s.names);
 }
 
-hidden-sound : (K : Type 0) (who : Who) (old new : HeaderTexts) → IsHiddenMade K who old new → IsSound old →
-    IsSound new
+hidden-sound : (K : Type 0) (who : Who) (old new : HeaderTexts) → IsHiddenMade K who old new →
+    IsFormed old →
+    IsFormed new
 hidden-sound K AsNamed old new never s = absurd never
 hidden-sound K (Given code) old new never s = absurd never
 hidden-sound K (Replaced code) old new never s = absurd never
@@ -634,8 +636,8 @@ hidden-sound K (Hidden code) old new m s =
     (hides-width K old.fixed.recording m.0 m.1 s.widths.fixed.recording)) s
 
 marked-sound : (w : Wanted) (first old new : HeaderTexts) → IsMarkedIf w first old new →
-    IsSound old → IsSound new
-marked-sound w first old new (inr m) s = subst IsSound (sym m.1) s
+    IsFormed old → IsFormed new
+marked-sound w first old new (inr m) s = subst IsFormed (sym m.1) s
 marked-sound w first old new (inl m) s =
     fixed-sound old new (record old.fixed { recording = m.1.0 }) m.1.2 refl
     (recording-widths old.fixed m.1.0 s.widths.fixed
@@ -643,10 +645,10 @@ marked-sound w first old new (inl m) s =
 
 pub each-sound : (w : Wanted) (G : Type 0) (first : HeaderTexts) (body : List ℕ) →
     FillsField w.startdate → FillsField w.starttime → (r : Rule) (old new : HeaderTexts)
-    (cut : List ℕ) (added : ℕ) → Makes w G first body r old new cut added → IsSound old →
-    IsSound new
+    (cut : List ℕ) (added : ℕ) → Makes w G first body r old new cut added → IsFormed old →
+    IsFormed new
 each-sound w G first body day time rule.Ascii old new cut added m s =
-    subst IsSound (sym m.0) (ascii-sound old s)
+    subst IsFormed (sym m.0) (ascii-sound old s)
 each-sound w G first body day time rule.Header old new cut added m s =
     fixed-sound old new (record old.fixed { header_bytes = m.0 }) m.2 refl
     (size-widths old.fixed m.0 s.widths.fixed
@@ -694,8 +696,8 @@ each-sound w G first body day time rule.Count old new cut added m s =
     (count-widths old.fixed m.0 s.widths.fixed
     (count-width w (GotSignal first old) (record_size (own_signals first old)) body
     old.fixed.count m.0 m.1 s.widths.fixed.count)) s
-each-sound w G first body day time rule.Texts old new cut added m s = subst IsSound (sym m.0) s
-each-sound w G first body day time rule.Clock old new cut added m s = subst IsSound (sym m.0) s
+each-sound w G first body day time rule.Texts old new cut added m s = subst IsFormed (sym m.0) s
+each-sound w G first body day time rule.Clock old new cut added m s = subst IsFormed (sym m.0) s
 each-sound w G first body day time rule.Deidentify old new cut added m s =
     hidden-sound (HasThreeCodes first.fixed.recording) w.who old new m.0 s
 each-sound w G first body day time rule.Mended old new cut added m s =

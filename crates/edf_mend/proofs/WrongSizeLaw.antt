@@ -9,7 +9,7 @@ use Rattle.edf_mend.proofs.GoodHeaders.{good-header}
 use Rattle.edf_mend.proofs.NumberBytes.{whole-printable}
 use Rattle.edf_mend.proofs.Through.{follow-keeps}
 use Rattle.edf_mend.proofs.Tracks.{walked}
-use Rattle.edf_mend.proofs.Widths.{IsSound, zipped-length, each-sound, ascii-sound}
+use Rattle.edf_mend.proofs.Widths.{IsFormed, zipped-length, each-sound, ascii-sound}
 use Rattle.edf_mend.proofs.WrongSizes.{right-before}
 use Rattle.edf_mend.specs.Edits.{RuleEdits}
 use Rattle.edf_mend.specs.Header.{FixedTexts, SignalTexts, HeaderTexts, spaced}
@@ -84,7 +84,7 @@ IsLater r = Unit {0}
 module _ (w : Wanted) (G : Type 0) (first : HeaderTexts) (body : List ℕ)
     (unasked : ¬ IsAsked w rule.Header) where
   right-step : (r : Rule) (old new : HeaderTexts) (cut : List ℕ) (added : ℕ) → IsLater r →
-      IsAsked w r → Makes w G first body r old new cut added → IsSound old → IsRight new →
+      IsAsked w r → Makes w G first body r old new cut added → IsFormed old → IsRight new →
       IsRight old
   right-step rule.Ascii old new cut added later asked m s = absurd later
   right-step rule.Header old new cut added later asked m s = absurd (unasked asked)
@@ -119,7 +119,7 @@ module _ (w : Wanted) (G : Type 0) (first : HeaderTexts) (body : List ℕ)
 
   -- a sound header whose number is wrong
   record IsWrong (t : HeaderTexts) : Type 0 where
-    sound : IsSound t
+    sound : IsFormed t
     wrong : ¬ IsRight t
 
   abbrev later_rules : List Rule
@@ -141,7 +141,7 @@ module _ (w : Wanted) (G : Type 0) (first : HeaderTexts) (body : List ℕ)
   abbrev IsWrongFilled : HeaderTexts → Type 0
   IsWrongFilled t = ¬ IsNumber (spaced t.fixed.header_bytes) (256 + 256 * length t.signals)
 
-  unfilled-wrong : (t : HeaderTexts) → IsSound t → IsWrongFilled t → IsWrong t
+  unfilled-wrong : (t : HeaderTexts) → IsFormed t → IsWrongFilled t → IsWrong t
   unfilled-wrong t s wrong = record {
     sound = s;
     wrong = λ right. wrong (subst (λ (l : List ℕ). IsNumber l (256 + 256 * length t.signals))
@@ -149,7 +149,7 @@ module _ (w : Wanted) (G : Type 0) (first : HeaderTexts) (body : List ℕ)
         (whole-printable t.fixed.header_bytes (256 + 256 * length t.signals) right))) right);
   }
 
-  ascii-wrong : (t new : HeaderTexts) (cut : List ℕ) (added : ℕ) → IsSound t →
+  ascii-wrong : (t new : HeaderTexts) (cut : List ℕ) (added : ℕ) → IsFormed t →
       IsWrongFilled t → Makes w G first body rule.Ascii t new cut added → IsWrong new
   ascii-wrong t new cut added s wrong m = subst IsWrong (sym m.0) (record {
     sound = ascii-sound t s;
@@ -160,7 +160,7 @@ module _ (w : Wanted) (G : Type 0) (first : HeaderTexts) (body : List ℕ)
 
   behind-ascii : (wanted : IsWanted w) (rs : List Rule) → AllByRecursion IsLater rs →
       (steps : List RuleEdits) (new : HeaderTexts) (added : ℕ) →
-      Follow w G first body (rule.Ascii ∷ rs) first steps new added → IsSound first →
+      Follow w G first body (rule.Ascii ∷ rs) first steps new added → IsFormed first →
       IsWrongFilled first → IsWrong new
   behind-ascii wanted rs later steps new added (inl f) s wrong =
       stays wanted rs later first steps new added f.1 (unfilled-wrong first s wrong)
@@ -176,7 +176,7 @@ module _ (w : Wanted) (G : Type 0) (first : HeaderTexts) (body : List ℕ)
   order-is = refl
 
   all-stays : (wanted : IsWanted w) (steps : List RuleEdits) (new : HeaderTexts) (added : ℕ) →
-      Follow w G first body order first steps new added → IsSound first → IsWrongFilled first →
+      Follow w G first body order first steps new added → IsFormed first → IsWrongFilled first →
       IsWrong new
   all-stays wanted steps new added f =
       behind-ascii wanted later_rules all-later steps new added

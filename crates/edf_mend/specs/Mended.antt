@@ -25,13 +25,13 @@ use Rattle.edf_mend.specs.declared.wanted.Wanted.{Wanted}
 use Rattle.edf_mend.specs.declared.wanted.Who.TheVariants.{AsNamed, Given}
 
 -- pieces, joined
-abbrev pub joined : List (List ℕ) → List ℕ
-joined pieces = flat_map (λ piece. piece) pieces
+abbrev pub concatenated : List (List ℕ) → List ℕ
+concatenated pieces = flat_map (λ piece. piece) pieces
 
 -- a body cut into data records of this size, and a piece that is less than one
 pub record IsCut (size : ℕ) (body : List ℕ) (records : List (List ℕ)) (piece : List ℕ) : Type 0
   where
-    pub parts : body ≡ joined records ++ piece
+    pub parts : body ≡ concatenated records ++ piece
     pub sizes : All (λ r. length r ≡ size) records
     pub less : length piece < size
 
@@ -55,8 +55,8 @@ module _ (w : Wanted) (first after : HeaderTexts) (l : Layout) (ledger : Ledger)
       pub clock : IsClockMade (IsAsked w rule.Clock × IsContinuous first.fixed.reserved) l spelled
           ledger.retimed.items ledger.shift retimed
       pub end : If (LeavesOut w (ledger.added ≢ 0) (record_size (own_signals first after)) body)
-          ((rest ≡ joined retimed) × (ledger.left_out ≡ length piece))
-          ((rest ≡ joined retimed ++ piece) × (ledger.left_out ≡ 0))
+          ((rest ≡ concatenated retimed) × (ledger.left_out ≡ length piece))
+          ((rest ≡ concatenated retimed ++ piece) × (ledger.left_out ≡ 0))
 
 -- nothing is told of data records, not even how many there are
 pub record TellsNoRecords (ledger : Ledger) : Type 0 where

@@ -1,6 +1,7 @@
 //! What is to be written, read before it is written.
 
-ghost use Rattle.std.specs.Prelude.{◌≡◌, ◌≢◌, ◌≤◌, ◌<◌, ◌⊎◌, ◌++◌, ℕ, List, [], length, IfOk, IfErr};
+ghost use Rattle.std.specs.Prelude.{◌≡◌, ◌≢◌, ◌≤◌, ◌<◌, ◌⊎◌, ◌++◌, ℕ, List, [], length, IfOk};
+ghost use Rattle.std.specs.Prelude.{IfErr};
 ghost use Rattle.edf_header.specs.Header.{least_records};
 ghost use Rattle.edf_fragment.specs.Fault.{IsFirstFault};
 ghost use Rattle.edf_fragment.specs.declared.advance.ReaderState.TheVariants.{Reading};

@@ -1,7 +1,8 @@
 //! The data records of a mended file, carried over one after another in a second reading.
 
 ghost use Rattle.std.specs.Prelude.{◌≡◌, ◌≢◌, ◌⊎◌, ◌+◌, ◌^◌, ◌≤◌, ◌<◌, ℕ, List, [], length, None};
-ghost use Rattle.std.specs.Prelude.{IfOk, IfErr, IfSome, OnOk, OnErr, IsTrue, Some, true, false, ◌↔◌};
+ghost use Rattle.std.specs.Prelude.{IfOk, IfErr, IfSome, OnOk, OnErr, IsTrue, Some, true, false};
+ghost use Rattle.std.specs.Prelude.{◌↔◌};
 ghost use Rattle.std.specs.Io.KnownBytes.{Consumes, Appends};
 ghost use Rattle.edf_fragment.specs.Reading.{at_first};
 ghost use Rattle.edf_fragment.specs.declared.advance.ReaderState.TheVariants.{Reading};
@@ -327,7 +328,8 @@ pub(crate) fn carry_file<R: Input, W: Output>(
     requires fresh { TellsNoRecords told.old.ledger }
     requires unread { IfSome told.old.ledger.unread_texts (λ unread. unread ≡ 0) }
     ensures carried { IsTally (header_bytes ground.entry.first.now) [] tally.old → IfOk result
-        (λ starts. CarriesFile ground.entry.wanted.now ground.entry.first.now fragment.old.header shape
+        (λ starts. CarriesFile ground.entry.wanted.now ground.entry.first.now fragment.old.header
+        shape
         survey.now.is_retold leaves_out (R.remaining input.old) (R.remaining input.new)
         (buffered W.Output out.old held.old.bytes.items)
         (buffered W.Output out.new held.new.bytes.items) told.old told.new starts survey.now) }

@@ -1,11 +1,13 @@
 //! The rules `count` and `header`, and another file behind a first one.
 
-ghost use Rattle.std.specs.Prelude.{◌≡◌, ◌≤◌, ◌<◌, ◌+◌, ◌*◌, ◌/◌, ◌%◌, ◌^◌, ◌↔◌, ℕ, List, take, length};
+ghost use Rattle.std.specs.Prelude.{◌≡◌, ◌≤◌, ◌<◌, ◌+◌, ◌*◌, ◌/◌, ◌%◌, ◌^◌, ◌↔◌, ℕ, List, take};
+ghost use Rattle.std.specs.Prelude.{length};
 ghost use Rattle.std.specs.Prelude.{IsTrue, All, pos, neg_ℤ, ◌-◌, ◌⊎◌, MatchOption};
 ghost use Rattle.edf_field.specs.Number.{IsWhole, IsNumber, whole_value, field};
 ghost use Rattle.edf_mend.specs.Counted.{AreZerosFrom, CountStays, IsOpen, IsSearched};
 ghost use Rattle.edf_mend.specs.Counted.{WantsCount, IsGoodSignal, IsMiscounted, IsHeaderFront};
-ghost use Rattle.edf_mend.specs.Counted.{IsUncounted, ShowsNumber, LooksDotted, HasSpaces, GoesWith};
+ghost use Rattle.edf_mend.specs.Counted.{IsUncounted, ShowsNumber, LooksDotted, HasSpaces};
+ghost use Rattle.edf_mend.specs.Counted.{GoesWith};
 ghost use Rattle.edf_mend.specs.Counted.{piece_len as piece_in, whole_records as records_in};
 ghost use Rattle.edf_mend.specs.Counted.{record_size as size_of};
 ghost use Rattle.edf_field.specs.Text.{IsPrintable};
@@ -207,7 +209,8 @@ pub(crate) fn wants_count(
 /// Whether the last data record is not whole, or is all zeros.
 fn ends_oddly(size: u64, body: &Body) -> bool
     requires { 0 < size }
-    ensures { (bytes : List ℕ) → Measures bytes body.now → (IsTrue result ↔ (0 < piece_in size bytes)
+    ensures { (bytes : List ℕ) → Measures bytes body.now → (IsTrue result ↔ (0 < piece_in size
+        bytes)
         ⊎ ((1 ≤ records_in size bytes) × AreZerosFrom ((records_in size bytes - 1) * size) bytes)) }
 {
     if piece_len(size, body) > 0 {

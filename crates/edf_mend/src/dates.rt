@@ -1,11 +1,13 @@
 //! Dates: the header's, a recording field's own, and others that people write.
 
-ghost use Rattle.std.specs.Prelude.{◌≡◌, ◌≢◌, ◌↔◌, ◌⊎◌, ◌∷◌, [], ◌++◌, ◌<◌, ◌≤◌, ◌^◌, ◌+◌, ◌-◌, ◌==◌, ◌||◌, ℕ, List};
+ghost use Rattle.std.specs.Prelude.{◌≡◌, ◌≢◌, ◌↔◌, ◌⊎◌, ◌∷◌, [], ◌++◌, ◌<◌, ◌≤◌, ◌^◌, ◌+◌, ◌-◌};
+ghost use Rattle.std.specs.Prelude.{◌==◌, ◌||◌, ℕ, List};
 ghost use Rattle.std.specs.Prelude.{length, min, codes, IsTrue, IfOk, MatchOption};
 ghost use Rattle.std.specs.Str.Parse.{digits_value, IsNumeral};
 ghost use Rattle.edf_time.specs.Civil.{month_name, two_digits, four_digits};
 ghost use Rattle.edf_field.specs.Number.{IsWhole, whole_value};
-ghost use Rattle.edf_mend.specs.Recording.{IsMonthPart, IsOwnDate, IsOtherDate, Contradicts, IsDated};
+ghost use Rattle.edf_mend.specs.Recording.{IsMonthPart, IsOwnDate, IsOtherDate, Contradicts};
+ghost use Rattle.edf_mend.specs.Recording.{IsDated};
 ghost use Rattle.edf_mend.specs.Inside.Recordings.{IsMonthWord, IsYearIn, IsDateBy, ReadsAs};
 ghost use Rattle.edf_mend.specs.Inside.Recordings.{IsWantedDate, IsWantedReading};
 ghost use Rattle.edf_mend.specs.Inside.Recordings.{date_parts, IsWanted, HasNoDate, HasThisDate};

@@ -287,9 +287,9 @@ fn given_text(
     })
 }
 
-/// What the rule `patient` makes of a patient field: a code that was given comes before a field that
-/// names nobody, or in the place of another code; else the field's own stays, as it stands or in the
-/// letters of EDF+. Where the rule is not listed, a field that has the given code stays.
+/// What the rule `patient` makes of a patient field: a code that was given comes before a field
+/// that names nobody, or in the place of another code; else the field's own stays, as it stands or
+/// in the letters of EDF+. Where the rule is not listed, a field that has the given code stays.
 pub(crate) fn patient_text(
     alloc: Global,
     wanted: &Wanted,

@@ -2,7 +2,8 @@
 //! (additional specifications), whose date is its own or the header's, and whose codes stay.
 
 ghost use Rattle.std.specs.Prelude.{◌≡◌, ◌↔◌, ◌∷◌, [], ◌++◌, ◌≤◌, ℕ, ℤ, List, Option, length, min};
-ghost use Rattle.std.specs.Prelude.{take, drop, codes, IsTrue, IfOk, MatchOption, slice_index_or, ◌-◌, ◌≢◌};
+ghost use Rattle.std.specs.Prelude.{take, drop, codes, IsTrue, IfOk, MatchOption, slice_index_or};
+ghost use Rattle.std.specs.Prelude.{◌-◌, ◌≢◌};
 ghost use Rattle.std.specs.Prelude.{All};
 ghost use Rattle.edf_mend.specs.Patient.{with_spaces};
 ghost use Rattle.edf_field.specs.Text.{subfields, IsPrintable, IsRecording};

@@ -37,8 +37,8 @@ pub(crate) struct Shape {
 /// A second, in nanoseconds.
 const SECOND: u64 = 1_000_000_000;
 
-/// So many durations, in seconds, as the shortest decimal; they may be more nanoseconds than 64 bits
-/// hold.
+/// So many durations, in seconds, as the shortest decimal; they may be more nanoseconds than 64
+/// bits hold.
 fn total_seconds(alloc: Global, nth: u32, duration: u64) -> Result<Vec<u8>, AllocError>
     requires { duration ≤ MOST_DURATION }
     ensures { IfOk result (λ v. v.items ≡ short (nth * duration)) }

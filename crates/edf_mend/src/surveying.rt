@@ -97,7 +97,8 @@ pub(crate) fn body_by(first: &Head, survey: &Survey) -> Body
 /// How data records are read under a header that rules left.
 pub(crate) fn shape_of(ground: Ground<'_>, draft: &Draft) -> Shape
     requires { length ground.first.now.signals ≤ length draft.now.head.signals }
-    ensures { length draft.now.head.signals ≤ 1000 → IsShape ground.entry.wanted.now ground.entry.first.now
+    ensures { length draft.now.head.signals ≤ 1000 → IsShape ground.entry.wanted.now
+        ground.entry.first.now
         draft.now.head draft.now.added result }
 {
     let wanted = ground.wanted;
@@ -219,7 +220,8 @@ fn starts_of<R: Input>(
 fn is_left(alloc: Global, ground: Ground<'_>) -> Result<bool, MendFault>
     ensures left { IfOk result (λ r. (body : List ℕ) →
         IsKnown ground.entry.wanted.now ground.entry.first.now body ground.entry.body →
-        (IsTrue r ↔ IsLeftOver ground.entry.wanted.now (IsTrue ground.entry.has_gaps) ground.entry.first.now
+        (IsTrue r ↔ IsLeftOver ground.entry.wanted.now (IsTrue ground.entry.has_gaps)
+        ground.entry.first.now
         body)) }
     ensures trouble { IfErr result (λ why. why ≡ MendFault.Memory) }
 {

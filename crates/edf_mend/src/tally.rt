@@ -1,6 +1,7 @@
 //! What is counted of a file as it is read, and where another header begins in it.
 
-ghost use Rattle.std.specs.Prelude.{◌≡◌, ◌≤◌, ◌<◌, ◌+◌, ◌^◌, ◌⊎◌, ℕ, List, [], ◌++◌, length, take, drop};
+ghost use Rattle.std.specs.Prelude.{◌≡◌, ◌≤◌, ◌<◌, ◌+◌, ◌^◌, ◌⊎◌, ℕ, List, [], ◌++◌, length, take};
+ghost use Rattle.std.specs.Prelude.{drop};
 ghost use Rattle.std.specs.Prelude.{IfOk, IfErr, OnOk, IsTrue, ◌↔◌, vec_len};
 ghost use Rattle.std.specs.Io.KnownBytes.{Consumes};
 ghost use Rattle.edf_mend.specs.Counted.{HasHeaderAt};

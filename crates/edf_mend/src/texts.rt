@@ -301,8 +301,8 @@ struct SpelledBlock {
     changes: Vec<Change>,
 }
 
-/// The lists at the front of a block, spelled again, and what follows them. The block begins at this
-/// offset of its data record.
+/// The lists at the front of a block, spelled again, and what follows them. The block begins at
+/// this offset of its data record.
 fn spelled_tals(alloc: Global, block: &[u8], at: usize) -> Result<(SpelledBlock, &[u8]), AllocError>
     requires { at + length block.now < 2 ^ 63 }
     ensures spelled { IfOk result (λ r. IsSpelledTo at block.now r.1.now r.0.bytes.items
@@ -356,8 +356,8 @@ fn spelled_block(alloc: Global, block: &[u8], at: usize) -> Result<Option<Spelle
     Ok(Some(SpelledBlock { bytes, changes }))
 }
 
-/// Spells a block of a data record again, where it can be, and tells what changed. It begins at this
-/// offset.
+/// Spells a block of a data record again, where it can be, and tells what changed. It begins at
+/// this offset.
 fn spell_block(
     alloc: Global,
     block: &mut [u8],

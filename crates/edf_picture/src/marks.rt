@@ -47,7 +47,7 @@ impl Mark {
     }
 
     /// The runs of both as one.
-    fn joined(self, next: Mark) -> Mark {
+    fn merged(self, next: Mark) -> Mark {
         Mark {
             whole: Extent {
                 from: self.whole.from,
@@ -95,7 +95,7 @@ impl Marks {
             return Ok(());
         };
         match self.marks.pop() {
-            Some(before) if !before.is_gap() => self.marks.push(before.joined(run))?,
+            Some(before) if !before.is_gap() => self.marks.push(before.merged(run))?,
             Some(before) => {
                 self.marks.push(before)?;
                 self.marks.push(run)?;

@@ -8,7 +8,7 @@
 //! - [`put_line`], [`put_parts`]: writes a line, and answers whether it was written whole;
 //!   [`tell`], [`tell_bytes`], [`tell_parts`]: the same, answered by a status; [`tell_line`]: with
 //!   a remark for a person.
-//! - [`joined`]: a text of its parts; [`spelled`]: that of an instant.
+//! - [`concat`]: a text of its parts; [`spelled`]: that of an instant.
 //! - [`fragment_fault_text`], [`fragment_details`]: why a file was not read as a fragment, as a
 //!   line has it; [`tell_refused`], [`tell_memory`]: a line why something is refused;
 //!   [`tell_there`]: that a file's name is taken.
@@ -27,6 +27,6 @@ pub use inputs::Inputs;
 pub use output::{put_line, put_parts, tell, tell_bytes, tell_line, tell_parts};
 pub use status::{Status, status_of_number, worse};
 pub use text::{
-    fragment_details, fragment_fault_text, joined, spelled, tell_memory, tell_refused, tell_there,
+    concat, fragment_details, fragment_fault_text, spelled, tell_memory, tell_refused, tell_there,
 };
 pub use words::{CommandFault, VERSION, fault_by, refuse_value, tell_fault};

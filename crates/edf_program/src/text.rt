@@ -20,7 +20,7 @@ use std::alloc::{AllocError, Global};
 ///
 /// # Errors
 /// Where memory runs out.
-pub fn joined(alloc: Global, parts: &[&[u8]]) -> Result<Vec<u8>, AllocError>
+pub fn concat(alloc: Global, parts: &[&[u8]]) -> Result<Vec<u8>, AllocError>
     ensures { IfOk result (λ r. r.items ≡ flat_map (λ part. part.now) parts.now) }
 {
     let mut text = Vec::new(alloc);

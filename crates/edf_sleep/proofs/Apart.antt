@@ -6,7 +6,7 @@ use Rattle.std.specs.List.Sorted.{IsPermutation}
 use Rattle.std.proofs.lemmas.List.Elements.{recursion_from_All}
 use Rattle.std.proofs.lemmas.List.Sorted.{All-permutation, IsPermutation-sym}
 use Rattle.edf_sleep.specs.Ends.{epoch}
-use Rattle.edf_sleep.specs.Changes.{IsApart, IsSteady, IsSteadyRun, changes_of, run_changes_of}
+use Rattle.edf_sleep.specs.Changes.{IsOutside, IsSteady, IsSteadyRun, changes_of, run_changes_of}
 use Rattle.edf_sleep.specs.Pieces.{IsPiece, ArePieces}
 use Rattle.edf_sleep.specs.declared.extent.Extent.{Extent}
 use Rattle.edf_sleep.specs.declared.pieces.Piece.{Piece}
@@ -14,8 +14,8 @@ use Rattle.edf_sleep.specs.declared.stages.Lasting.{Lasting}
 
 -- the changes of stages in front of others
 pub steady-from : (at to : ℕ) (all : List Lasting) (rest : List ℕ) →
-    AllByRecursion (IsApart at to) (flat_map changes_of all ++ rest) →
-    AllByRecursion (IsSteady at to) all × AllByRecursion (IsApart at to) rest
+    AllByRecursion (IsOutside at to) (flat_map changes_of all ++ rest) →
+    AllByRecursion (IsSteady at to) all × AllByRecursion (IsOutside at to) rest
 steady-from at to [] rest apart = (tt, apart)
 steady-from at to (a ∷ all) rest apart =
     let more = steady-from at to all rest apart.1.1.1 in (
@@ -24,7 +24,7 @@ steady-from at to (a ∷ all) rest apart =
     )
 
 pub steady-runs : (at to : ℕ) (runs : List Extent) →
-    AllByRecursion (IsApart at to) (flat_map run_changes_of runs) →
+    AllByRecursion (IsOutside at to) (flat_map run_changes_of runs) →
     AllByRecursion (IsSteadyRun at to) runs
 steady-runs at to [] apart = tt
 steady-runs at to (run ∷ runs) apart =
@@ -33,12 +33,12 @@ steady-runs at to (run ∷ runs) apart =
 -- by the changes in any order
 pub steady-by : (at to : ℕ) (all : List Lasting) (runs : List Extent) (changes : List ℕ) →
     IsPermutation (flat_map changes_of all ++ flat_map run_changes_of runs) changes →
-    All (λ c. IsApart at to c) changes →
+    All (λ c. IsOutside at to c) changes →
     AllByRecursion (IsSteady at to) all × AllByRecursion (IsSteadyRun at to) runs
 steady-by at to all runs changes moved apart =
     let parts = steady-from at to all (flat_map run_changes_of runs)
-    (recursion_from_All (IsApart at to) (flat_map changes_of all ++ flat_map run_changes_of runs)
-    (All-permutation (IsApart at to) changes
+    (recursion_from_All (IsOutside at to) (flat_map changes_of all ++ flat_map run_changes_of runs)
+    (All-permutation (IsOutside at to) changes
     (flat_map changes_of all ++ flat_map run_changes_of runs)
     (IsPermutation-sym (flat_map changes_of all ++ flat_map run_changes_of runs) changes moved)
     apart)) in

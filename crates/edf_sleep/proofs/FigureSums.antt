@@ -16,7 +16,7 @@ use Rattle.edf_sleep.specs.Figures.{Figure, unless, and_then, is_scored_twice, i
 use Rattle.edf_sleep.specs.Figures.{is_not_understood, lacks_a_minute, lacks_an_epoch, lack_of}
 use Rattle.edf_sleep.specs.Figures.{none_of, first_from, first_told, known_first, first_known}
 use Rattle.edf_sleep.specs.Figures.{with_lights, sleep_time, efficiency, sleep_onset}
-use Rattle.edf_sleep.specs.FigureLaws.{IsTold, IsAtMostWhole, IsNearlyWhole, IsFirstSleep}
+use Rattle.edf_sleep.specs.FigureLaws.{TellsStage, IsAtMostWhole, IsNearlyWhole, IsFirstSleep}
 use Rattle.edf_sleep.specs.declared.kind.Kind.TheVariants.{Missing, NotScored, Movement}
 use Rattle.edf_sleep.specs.declared.untold.Untold.{Untold}
 use Rattle.edf_sleep.specs.declared.untold.Untold.TheVariants.{TwoScorings, NoneScored}
@@ -29,7 +29,7 @@ use Rattle.edf_sleep.proofs.Anyhow.{told-alike, found-or}
 
 -- ---- what is told of a stage
 
-pub is-told : IsTold
+pub is-told : TellsStage
 is-told all runs stage at once has of_stage on unended recorded =
     let told = and_from (is_stage stage.kind && lasts stage at) (not (is_ended all stage at))
     (and_from (is_stage stage.kind) (lasts stage at) of_stage on)

@@ -12,7 +12,7 @@ use Rattle.std.proofs.lemmas.List.Elements.{All-map, All-weaker, filter_passes}
 use Rattle.std.proofs.lemmas.Bool.{ltb-true}
 use Rattle.edf_time.specs.Civil.{window}
 use Rattle.edf_sleep.specs.Stages.{stage_of_text, is_lights_off, is_lights_on}
-use Rattle.edf_sleep.specs.Night.{AreRising, IsSound, stated_of, scored_of, stages_of, only}
+use Rattle.edf_sleep.specs.Night.{AreRising, AreOfFile, stated_of, scored_of, stages_of, only}
 use Rattle.edf_sleep.specs.Night.{onsets_of}
 use Rattle.edf_sleep.specs.Night.{Night, lights_of, last_end, recording_of, length_of}
 use Rattle.edf_sleep.specs.Figures.{efficiency}
@@ -55,7 +55,7 @@ stages-bounds (note ∷ notes) onsets short =
     with-stage note (stage_of_text (string_bytes note.text)) (stages_of notes) onsets.0 short.0
     (stages-bounds notes onsets.1 short.1)
 
-pub stages-bound : (notes : List Note) (runs : List Extent) → IsSound notes runs →
+pub stages-bound : (notes : List Note) (runs : List Extent) → AreOfFile notes runs →
     All HasBounds (stages_of notes)
 stages-bound notes runs sound = All-from_recursion HasBounds (stages_of notes)
     (stages-bounds notes (recursion_from_All (λ n. n.onset < window) notes sound.onsets)
@@ -180,7 +180,7 @@ span-at : (lights : Option Extent) (recording : Extent) →
 span-at None recording lit bound = bound
 span-at (Some time) recording lit bound = omega (arith, lit)
 
-pub span-bound : (notes : List Note) (runs : List Extent) → IsSound notes runs →
+pub span-bound : (notes : List Note) (runs : List Extent) → AreOfFile notes runs →
     (unwrap_or (lights_of notes) (recording_of runs)).to < 2 ^ 63
 span-bound notes runs sound = span-at (lights_of notes) (recording_of runs)
     (lights-bound notes sound.onsets) (recording-bound runs sound.ends)

@@ -9,7 +9,7 @@ use Rattle.edf_sleep.specs.Stages.{is_kind, is_stage}
 use Rattle.edf_sleep.specs.Ends.{epoch}
 use Rattle.edf_sleep.specs.Told.{differ, has, is_recorded, lasts, is_ended, is_told, is_moved}
 use Rattle.edf_sleep.specs.Told.{scored_at, kind_at, is_carried}
-use Rattle.edf_sleep.specs.Changes.{IsApart, IsSteady, IsSteadyRun}
+use Rattle.edf_sleep.specs.Changes.{IsOutside, IsSteady, IsSteadyRun}
 use Rattle.edf_sleep.specs.declared.extent.Extent.{Extent}
 use Rattle.edf_sleep.specs.declared.kind.Kind.TheVariants.{Missing, NotScored, Movement}
 use Rattle.edf_sleep.specs.declared.stages.Lasting.{Lasting}
@@ -33,12 +33,12 @@ find-alike p q (x ∷ xs) all = rw (all.0, find-alike p q xs all.1) refl
 
 -- ---- instants
 
-le-alike : (at to t c : ℕ) → IsApart at to c → at ≤ t → t < to → nat_le c t ≡ nat_le c at
+le-alike : (at to t c : ℕ) → IsOutside at to c → at ≤ t → t < to → nat_le c t ≡ nat_le c at
 le-alike at to t c (inl low) from until = rw (le-leb c t (omega arith), le-leb c at low) refl
 le-alike at to t c (inr high) from until =
     rw (lt-leb c t (omega arith), lt-leb c at (omega arith)) refl
 
-lt-alike : (at to t c : ℕ) → IsApart at to c → at ≤ t → t < to → nat_lt t c ≡ nat_lt at c
+lt-alike : (at to t c : ℕ) → IsOutside at to c → at ≤ t → t < to → nat_lt t c ≡ nat_lt at c
 lt-alike at to t c (inl low) from until =
     rw (le-ltb t c (omega arith), le-ltb at c low) refl
 lt-alike at to t c (inr high) from until =

@@ -10,7 +10,7 @@ use Rattle.std.proofs.lemmas.List.Sorted.{All-permutation, IsPermutation-map}
 use Rattle.edf_time.specs.Civil.{window}
 use Rattle.edf_sleep.specs.Ends.{lasting_of}
 use Rattle.edf_sleep.specs.Told.{has_two_scorings}
-use Rattle.edf_sleep.specs.Night.{Night, IsSound, stages_of, all_of}
+use Rattle.edf_sleep.specs.Night.{Night, AreOfFile, stages_of, all_of}
 use Rattle.edf_sleep.specs.Figures.{is_scored_twice}
 use Rattle.edf_sleep.specs.Telling.{AreInOrder}
 use Rattle.edf_sleep.specs.Pieces.{ArePieces}
@@ -43,14 +43,14 @@ order-of ordered stages same order =
     subst (λ (l : List Scored). IsNonDecreasingBy (λ s. s.onset) l) (sym same) order
 
 pub onsets-bound : (notes : List Note) (runs : List Extent) (stages : List Scored) →
-    IsSound notes runs → IsPermutation (stages_of notes) stages →
+    AreOfFile notes runs → IsPermutation (stages_of notes) stages →
     All (λ s. s.onset < 2 ^ 63) stages
 onsets-bound notes runs stages sound moved =
     All-weaker HasBounds (λ s. s.onset < 2 ^ 63) (λ s has. omega (arith, has.0)) stages
     (All-permutation HasBounds (stages_of notes) stages moved (stages-bound notes runs sound))
 
 pub lengths-bound : (notes : List Note) (runs : List Extent) (stages : List Scored) →
-    IsSound notes runs → IsPermutation (stages_of notes) stages →
+    AreOfFile notes runs → IsPermutation (stages_of notes) stages →
     All (λ s. IsShort s.stated) stages
 lengths-bound notes runs stages sound moved =
     All-weaker HasBounds (λ s. IsShort s.stated) (λ s has. has.1) stages

@@ -2,7 +2,7 @@
 use Rattle.std.specs.Prelude.{◌≡◌, ℕ, ◌+◌, ◌-◌, ◌^◌, ◌<◌, not, Bool, min, List, [], ◌∷◌, IsFalse}
 use Rattle.std.specs.Prelude.{if◌then◌else◌}
 use Rattle.edf_sleep.specs.Stages.{is_kind, is_sleep, is_scored}
-use Rattle.edf_sleep.specs.Night.{Night, IsSound, all_of, span_of, lights_of, has_several_lights}
+use Rattle.edf_sleep.specs.Night.{Night, AreOfFile, all_of, span_of, lights_of, has_several_lights}
 use Rattle.edf_sleep.specs.Figures.{is_scored_twice}
 use Rattle.edf_sleep.specs.Pieces.{ArePieces}
 use Rattle.edf_sleep.specs.declared.account.Account.{Account}
@@ -26,7 +26,7 @@ night_of a = record { notes = a.notes.now; runs = a.runs.now }
 -- an account is of sound notes and runs, and has the night's span and lights, whether it was scored
 -- twice, and if not its pieces
 pub record IsAccount (a : Account) : Type 0 where
-  pub sound : IsSound a.notes.now a.runs.now
+  pub sound : AreOfFile a.notes.now a.runs.now
   pub span : a.span ≡ span_of (night_of a)
   pub lights : a.lights.span ≡ lights_of a.notes.now
   pub several : a.lights.are_several ≡ has_several_lights a.notes.now

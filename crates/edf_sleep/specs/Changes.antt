@@ -5,18 +5,18 @@ use Rattle.edf_sleep.specs.declared.extent.Extent.{Extent}
 use Rattle.edf_sleep.specs.declared.stages.Lasting.{Lasting}
 
 -- an instant is not one of those after one and before another
-abbrev pub IsApart : ℕ → ℕ → ℕ → Type 0
-IsApart at to change = (change ≤ at) ⊎ (to ≤ change)
+abbrev pub IsOutside : ℕ → ℕ → ℕ → Type 0
+IsOutside at to change = (change ≤ at) ⊎ (to ≤ change)
 
 -- nor are the onset of a stage, its end, and the instant an epoch after its onset
 pub record IsSteady (at to : ℕ) (stage : Lasting) : Type 0 where
-  pub begins : IsApart at to stage.from
-  pub ends : IsApart at to stage.to
-  pub carries : IsApart at to (stage.from + epoch)
+  pub begins : IsOutside at to stage.from
+  pub ends : IsOutside at to stage.to
+  pub carries : IsOutside at to (stage.from + epoch)
 
 -- nor the start and the end of a run
 abbrev pub IsSteadyRun : ℕ → ℕ → Extent → Type 0
-IsSteadyRun at to run = IsApart at to run.from × IsApart at to run.to
+IsSteadyRun at to run = IsOutside at to run.from × IsOutside at to run.to
 
 -- those instants of a stage, and of a run
 abbrev pub changes_of : Lasting → List ℕ

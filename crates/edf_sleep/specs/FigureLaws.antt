@@ -25,8 +25,8 @@ AddUp = (all : List Lasting) (runs : List Extent) (from to : ℕ) →
 
 -- where one person scored, a stage is told wherever it lasts and was recorded, on both sides of any
 -- gap, until one begins that differs
-abbrev pub IsTold : Type 0
-IsTold = (all : List Lasting) (runs : List Extent) (stage : Lasting) (at : ℕ) →
+abbrev pub TellsStage : Type 0
+TellsStage = (all : List Lasting) (runs : List Extent) (stage : Lasting) (at : ℕ) →
     IsFalse (has_two_scorings all) → Contains all stage → IsTrue (is_stage stage.kind) →
     IsTrue (lasts stage at) → IsFalse (is_ended all stage at) → IsTrue (is_recorded runs at) →
     kind_at all runs at ≡ stage.kind

@@ -29,7 +29,7 @@ AreRising runs = (k : ℕ) (d : Extent) → k < length runs →
 
 -- what a file has: onsets and starts in the window, durations and ends below 2 ^ 63, and runs in
 -- order
-pub record IsSound (notes : List Note) (runs : List Extent) : Type 0 where
+pub record AreOfFile (notes : List Note) (runs : List Extent) : Type 0 where
   pub onsets : All (λ n. n.onset < window) notes
   pub durations : All (λ n. IfSome n.duration (λ d. d < 2 ^ 63)) notes
   pub starts : All (λ run. run.from < window) runs

@@ -3,7 +3,7 @@
 ghost use Rattle.std.specs.Prelude.{◌≡◌, ◌↔◌, ◌^◌, ◌<◌, ◌≤◌, IfOk, IfSome, IsFalse, IsTrue, length};
 ghost use Rattle.std.specs.Prelude.{unwrap_or};
 ghost use Rattle.edf_sleep.specs.Account as spec;
-ghost use Rattle.edf_sleep.specs.Night.{Night, AreRising, IsSound, all_of, time_told, time_until};
+ghost use Rattle.edf_sleep.specs.Night.{Night, AreRising, AreOfFile, all_of, time_told, time_until};
 ghost use Rattle.edf_sleep.specs.Night.{time_carried, recording_of};
 ghost use Rattle.edf_sleep.specs.Figures.{first_told, is_scored_twice};
 ghost use Rattle.edf_sleep.specs.Pieces.{ArePieces};
@@ -95,7 +95,7 @@ fn list_told(
     runs: &[Extent],
     span: Extent,
 ) -> Result<(bool, Vec<Piece>), AllocError>
-    requires sound { IsSound notes.now runs.now }
+    requires sound { AreOfFile notes.now runs.now }
     requires span { span.from ≤ span.to }
     ensures twice { let night : Night = record { notes = notes.now; runs = runs.now } in
         IfOk result (λ r. r.0 ≡ is_scored_twice night) }
@@ -129,7 +129,7 @@ impl<'a> Account<'a> {
         notes: &'a [Note],
         runs: &'a [Extent],
     ) -> Result<Account<'a>, AllocError>
-        requires { IsSound notes.now runs.now }
+        requires { AreOfFile notes.now runs.now }
         ensures account { IfOk result (λ a. spec.IsAccount a) }
         ensures night { let night : Night = record { notes = notes.now; runs = runs.now } in
             IfOk result (λ a. spec.night_of a ≡ night) }

@@ -1,6 +1,6 @@
 //! Laws of the figures of sleep: the contract of each function is laws, and its body does nothing.
 
-ghost use Rattle.edf_sleep.specs.FigureLaws.{AddUp, IsTold, EndsByAnEpoch, IsAtMostWhole};
+ghost use Rattle.edf_sleep.specs.FigureLaws.{AddUp, TellsStage, EndsByAnEpoch, IsAtMostWhole};
 ghost use Rattle.edf_sleep.specs.FigureLaws.{IsNearlyWhole, IsSumOfStages, IsFirstSleep, AreOne};
 ghost use Rattle.edf_sleep.specs.Pieces.{PiecesAddUp, CarriedAddUp};
 
@@ -15,7 +15,7 @@ pub fn lengths_add_up()
 /// Where one person scored, a stage is told wherever it lasts and was recorded, until one begins
 /// that differs; and one that states no length ends once nothing was recorded for an epoch.
 pub fn a_stage_is_told()
-    ensures told { IsTold }
+    ensures told { TellsStage }
     ensures ended { EndsByAnEpoch }
 {}
 

@@ -18,7 +18,7 @@ use edf_time::write_seconds;
 use std::alloc::{AllocError, Global};
 
 /// The parts of a text, one after another.
-fn joined(alloc: Global, parts: &[&[u8]]) -> Result<Vec<u8>, AllocError>
+fn concat(alloc: Global, parts: &[&[u8]]) -> Result<Vec<u8>, AllocError>
     ensures { IfOk result (λ r. r.items ≡ flat_map (λ part. part.now) parts.now) }
 {
     let mut text = Vec::new(alloc);
@@ -32,7 +32,7 @@ fn joined(alloc: Global, parts: &[&[u8]]) -> Result<Vec<u8>, AllocError>
 fn line(alloc: Global, name: &[u8], value: &[u8]) -> Result<Vec<u8>, AllocError>
     ensures { IfOk result (λ r. r.items ≡ spec.line name.now value.now) }
 {
-    joined(alloc, &[name, b" ", value, b"\n"])
+    concat(alloc, &[name, b" ", value, b"\n"])
 }
 
 /// A length, in seconds.
@@ -40,7 +40,7 @@ fn seconds(alloc: Global, length: u64) -> Result<Vec<u8>, AllocError>
     ensures { IfOk result (λ r. r.items ≡ spec.seconds length) }
 {
     let text = write_seconds(alloc, length)?;
-    joined(alloc, &[b"seconds=".as_slice(), text.as_slice()])
+    concat(alloc, &[b"seconds=".as_slice(), text.as_slice()])
 }
 
 /// ` of-seconds=` a length.
@@ -48,7 +48,7 @@ fn of_seconds(alloc: Global, length: u64) -> Result<Vec<u8>, AllocError>
     ensures { IfOk result (λ r. r.items ≡ spec.of_seconds length) }
 {
     let text = write_seconds(alloc, length)?;
-    joined(alloc, &[b" of-seconds=".as_slice(), text.as_slice()])
+    concat(alloc, &[b" of-seconds=".as_slice(), text.as_slice()])
 }
 
 /// The word of a reason.
@@ -71,7 +71,7 @@ fn reason(why: Untold) -> &'static [u8]
 fn untold(alloc: Global, why: Untold) -> Result<Vec<u8>, AllocError>
     ensures { IfOk result (λ r. r.items ≡ codes "untold=" ++ spec.reason why) }
 {
-    joined(alloc, &[b"untold=".as_slice(), reason(why)])
+    concat(alloc, &[b"untold=".as_slice(), reason(why)])
 }
 
 /// A figure that is a length, or why it is not told.
@@ -118,7 +118,7 @@ fn share_words(alloc: Global, share: Result<Share, Untold>) -> Result<Vec<u8>, A
             let count = share.counted;
             let counted = format!(in alloc; "{word}={count}")?;
             let time = of_seconds(alloc, share.time)?;
-            joined(alloc, &[counted.as_bytes(), time.as_slice()])
+            concat(alloc, &[counted.as_bytes(), time.as_slice()])
         }
         Err(why) => untold(alloc, why),
     }
@@ -138,7 +138,7 @@ fn rate_line(alloc: Global, rate: &Rate, text: &[u8]) -> Result<Vec<u8>, AllocEr
     let count = count_text(alloc, rate.count)?;
     let share = share_words(alloc, rate.share)?;
     let named = of_text(alloc, text)?;
-    let value = joined(
+    let value = concat(
         alloc,
         &[count.as_bytes(), b" ", share.as_slice(), named.as_slice()],
     )?;
@@ -160,7 +160,7 @@ fn head_words(alloc: Global, of: &[u8], first: &[u8], length: &[u8]) -> Result<V
     ensures { IfOk result (λ r. r.items ≡ codes "of=" ++ (of.now ++ (codes " first="
         ++ (first.now ++ (codes " " ++ length.now))))) }
 {
-    joined(
+    concat(
         alloc,
         &[b"of=".as_slice(), of, b" first=", first, b" ", length],
     )
@@ -199,7 +199,7 @@ impl Account<'_> {
         let stages = self.stage_lines(alloc)?;
         let carried = told(alloc, self.carried_time())?;
         let carried = line(alloc, b"carried", carried.as_slice())?;
-        joined(
+        concat(
             alloc,
             &[unknown.as_slice(), stages.as_slice(), carried.as_slice()],
         )
@@ -214,7 +214,7 @@ impl Account<'_> {
         let missing = self.kind_line(alloc, b"missing", Kind::Missing)?;
         let unscored = self.kind_line(alloc, b"not-scored", Kind::NotScored)?;
         let unread = self.kind_line(alloc, b"not-understood", Kind::NotUnderstood)?;
-        joined(
+        concat(
             alloc,
             &[missing.as_slice(), unscored.as_slice(), unread.as_slice()],
         )
@@ -242,7 +242,7 @@ impl Account<'_> {
             nrem.as_slice(),
             movement.as_slice(),
         ];
-        joined(alloc, &parts)
+        concat(alloc, &parts)
     }
 
     /// The sleep time, or how long it was at least.
@@ -254,7 +254,7 @@ impl Account<'_> {
         match self.sleep_time() {
             Ok(sleep) if self.is_at_least() => {
                 let text = write_seconds(alloc, sleep)?;
-                joined(alloc, &[b"at-least-seconds=".as_slice(), text.as_slice()])
+                concat(alloc, &[b"at-least-seconds=".as_slice(), text.as_slice()])
             }
             Ok(sleep) => seconds(alloc, sleep),
             Err(why) => untold(alloc, why),
@@ -272,7 +272,7 @@ impl Account<'_> {
             Ok(sleep) => {
                 let part = seconds(alloc, sleep)?;
                 let whole = of_seconds(alloc, self.span.to.saturating_sub(self.span.from))?;
-                joined(alloc, &[part.as_slice(), whole.as_slice()])
+                concat(alloc, &[part.as_slice(), whole.as_slice()])
             }
             Err(why) => untold(alloc, why),
         }
@@ -302,7 +302,7 @@ impl Account<'_> {
         let share = line(alloc, b"efficiency", share.as_slice())?;
         let onset = self.onset_words(alloc)?;
         let onset = line(alloc, b"sleep-onset", onset.as_slice())?;
-        joined(
+        concat(
             alloc,
             &[sleep.as_slice(), share.as_slice(), onset.as_slice()],
         )
@@ -319,7 +319,7 @@ impl Account<'_> {
         let rem = line(alloc, b"rem-latency", rem.as_slice())?;
         let wake = told(alloc, self.wake_after_onset())?;
         let wake = line(alloc, b"waso", wake.as_slice())?;
-        joined(
+        concat(
             alloc,
             &[latency.as_slice(), rem.as_slice(), wake.as_slice()],
         )
@@ -332,7 +332,7 @@ impl Account<'_> {
     {
         let count = count_text(alloc, self.rate(text).count)?;
         let named = of_text(alloc, text.as_bytes())?;
-        let value = joined(alloc, &[count.as_bytes(), named.as_slice()])?;
+        let value = concat(alloc, &[count.as_bytes(), named.as_slice()])?;
         line(alloc, b"stages-not-understood", value.as_slice())
     }
 
@@ -403,6 +403,6 @@ impl Account<'_> {
             unread.as_slice(),
             events.as_slice(),
         ];
-        joined(alloc, &parts)
+        concat(alloc, &parts)
     }
 }

@@ -4,7 +4,7 @@ ghost use Rattle.std.specs.Prelude.{◌≡◌, ◌++◌, ◌^◌, ◌<◌, ◌�
 ghost use Rattle.std.specs.Prelude.{IsPermutation};
 ghost use Rattle.std.specs.List.{AllByRecursion};
 ghost use Rattle.std.specs.List.Sorted.{IsNonDecreasing};
-ghost use Rattle.edf_sleep.specs.Changes.{IsApart, IsSteady, IsSteadyRun, changes_of};
+ghost use Rattle.edf_sleep.specs.Changes.{IsOutside, IsSteady, IsSteadyRun, changes_of};
 ghost use Rattle.edf_sleep.specs.Changes.{run_changes_of};
 ghost use Rattle.edf_sleep.specs.Pieces.{IsPiece, ArePieces};
 ghost use Rattle.edf_sleep.specs.Telling.{IsTelling};
@@ -66,7 +66,7 @@ fn next_change(changes: &[u64], at: u64, end: u64) -> u64
     requires end { at < end }
     ensures after { at < result }
     ensures end { result ≤ end }
-    ensures next { All (λ c. IsApart at result c) changes.now }
+    ensures next { All (λ c. IsOutside at result c) changes.now }
 {
     let next = changes.partition_point(
         |change: &u64| -> bool

@@ -1,7 +1,7 @@
 //! What notes and runs of a file have.
 
 ghost use Rattle.std.specs.Prelude.{◌≡◌, ◌↔◌, ◌^◌, ◌<◌, All, IfSome, IsTrue};
-ghost use Rattle.edf_sleep.specs.Night.{AreRising, IsSound};
+ghost use Rattle.edf_sleep.specs.Night.{AreRising, AreOfFile};
 ghost use Rattle.edf_time.specs.Civil.{window};
 
 use crate::extent::Extent;
@@ -65,7 +65,7 @@ fn are_rising(runs: &[Extent]) -> bool
 
 /// Whether notes and runs are as a file has them, which the figures ask for.
 pub fn are_sound(notes: &[Note], runs: &[Extent]) -> bool
-    ensures { IsTrue result ↔ IsSound notes.now runs.now }
+    ensures { IsTrue result ↔ AreOfFile notes.now runs.now }
 {
     are_notes_sound(notes) && are_runs_sound(runs) && are_rising(runs)
 }

@@ -18,7 +18,8 @@ pub(crate) struct SystemClock {
     pub(crate) asked: u64,
     pub(crate) told: Option<Instant>,
     ghost unasked: { asked ≡ 0 → told ≡ None },
-    ghost second: { IfSome told (λ instant. instant / 10 ^ 9 * 10 ^ 9 ≡ instant) } by { Prim.hlevel props },
+    ghost second: { IfSome told (λ instant. instant / 10 ^ 9 * 10 ^ 9 ≡ instant) } by { Prim.hlevel
+        props },
 }
 
 /// What the system's clock tells, UTC, to the second; `None` where it tells no instant of the years

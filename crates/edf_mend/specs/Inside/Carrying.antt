@@ -19,7 +19,7 @@ use Rattle.edf_mend.specs.Answers.{IsToldAs}
 use Rattle.edf_mend.specs.Counts.{CountsCalls, CountsFault}
 use Rattle.edf_mend.specs.Edits.{Edit, RuleEdits}
 use Rattle.edf_mend.specs.Header.{HeaderTexts, header_bytes}
-use Rattle.edf_mend.specs.Mended.{joined, TellsNoRecords}
+use Rattle.edf_mend.specs.Mended.{concatenated, TellsNoRecords}
 use Rattle.edf_mend.specs.Objections.{HasNone, IsObjection}
 use Rattle.edf_mend.specs.Retimed.{AreToldAnew, HasOverlap}
 use Rattle.edf_mend.specs.Rewritten.{RecordEdits}
@@ -195,10 +195,10 @@ pub record ArePut (l : Layout) (news : List (List ℕ)) (p : Progress) (a b : Bu
   pub news_are : news ≡ done ++ later
   pub records : List DataRecord
   pub last : Place
-  pub are : AreDataRecords l First (joined done) records last []
+  pub are : AreDataRecords l First (concatenated done) records last []
   pub most : length records ≤ most_records l.count
   pub as_many : length records ≡ length done
-  pub wrote : Writes a b (joined done) b.held
+  pub wrote : Writes a b (concatenated done) b.held
   pub goes : GoesOnFrom l (length records) last later p after.fault
   pub unread : after.ledger.unread_texts ≡ unread_of before.ledger.unread_texts records
 
@@ -208,8 +208,8 @@ pub record CarriesSoFar (l : Layout) (shape : Shape) (moves : Bool) (left rest :
     (before after : Told) : Type 0 where
   pub olds : List (List ℕ)
   pub news : List (List ℕ)
-  pub read : Consumes left rest (joined olds)
-  pub tally : IsTally front (joined olds) t
+  pub read : Consumes left rest (concatenated olds)
+  pub tally : IsTally front (concatenated olds) t
   pub sizes : All (λ r. length r ≡ shape.size) olds
   pub remade : AreRemade l shape moves olds news s after.ledger
   pub put : ArePut l news p a b before after
@@ -260,7 +260,7 @@ pub record CarriesToEnd (l : Layout) (shape : Shape) (moves leaves_out : Bool)
   pub piece : List ℕ
   pub read : Consumes mid rest piece
   pub end : IsAtEnd rest
-  pub tally : IsTally front (joined so.olds ++ piece) t
+  pub tally : IsTally front (concatenated so.olds ++ piece) t
   pub less : length piece < shape.size
   pub ends : EndsSo l p leaves_out piece told after
 
@@ -288,7 +288,7 @@ pub record CarriesFile (w : Wanted) (first : HeaderTexts) (l : Layout) (shape : 
       before after
   pub retold : Bool
   pub says : SaysRetold s retold
-  pub finds : Finds w first (joined all.so.olds ++ all.piece) s.has_gaps retold found
+  pub finds : Finds w first (concatenated all.so.olds ++ all.piece) s.has_gaps retold found
 
 -- a call failed, or memory ran out
 abbrev pub IsCallTrouble : MendFault → Type 0
@@ -327,7 +327,7 @@ pub record WritesMended (w : Wanted) (first t : HeaderTexts) (steps : List RuleE
   pub carries : CarriesUnder w first t steps added l known survey.is_retold left rest told s survey
   pub none : told.fault ≡ None
   pub ledger_is : ledger ≡ record told.ledger { records = s.records }
-  pub wrote : Appends before after (header_bytes t ++ joined carries.carries.all.so.put.done)
+  pub wrote : Appends before after (header_bytes t ++ concatenated carries.carries.all.so.put.done)
 
 -- or why not: a call failed, the file is another, or a data record has a fault
 abbrev pub RefusesMended : Wanted → HeaderTexts → HeaderTexts → List RuleEdits → ℕ → Layout →

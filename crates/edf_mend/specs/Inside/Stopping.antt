@@ -5,7 +5,7 @@ use Rattle.edf_header.specs.Header.{Layout}
 use Rattle.edf_fragment.specs.declared.open_fragment.OpenFragment.{OpenFragment}
 use Rattle.edf_mend.specs.Edits.{RuleEdits}
 use Rattle.edf_mend.specs.Header.{HeaderTexts, header_bytes}
-use Rattle.edf_mend.specs.Mended.{joined}
+use Rattle.edf_mend.specs.Mended.{concatenated}
 use Rattle.edf_mend.specs.Inside.Accepted.{IsHeaderOpen}
 use Rattle.edf_mend.specs.Inside.Carrying.{AreRemade, GoesBy, LeavesTexts}
 use Rattle.edf_mend.specs.Inside.Surveyed.{IsShape, IsFitting}
@@ -27,11 +27,11 @@ pub record StopsRecords (w : Wanted) (first t : HeaderTexts) (added : ℕ) (l : 
   pub news : List (List ℕ)
   pub s : Starts
   pub ledger : Ledger
-  pub read : Consumes left mid (joined olds)
+  pub read : Consumes left mid (concatenated olds)
   pub sizes : All (λ r. length r ≡ shape.size) olds
   pub remade : AreRemade l shape moves olds news s ledger
   pub back : List ℕ
-  pub front_is : header_bytes t ++ joined news ≡ taken ++ back
+  pub front_is : header_bytes t ++ concatenated news ≡ taken ++ back
 
 -- or of the header alone
 pub record StopsMended (w : Wanted) (first t : HeaderTexts) (added : ℕ) (l : Layout)

@@ -9,7 +9,7 @@ use Rattle.edf_mend.specs.Counted.{record_size}
 use Rattle.edf_mend.specs.Edits.{RuleEdits}
 use Rattle.edf_mend.specs.Header.{HeaderTexts, header_bytes, NamesSignals}
 use Rattle.edf_mend.specs.Mark.{IsContinuous}
-use Rattle.edf_mend.specs.Mended.{joined}
+use Rattle.edf_mend.specs.Mended.{concatenated}
 use Rattle.edf_mend.specs.Objections.{HasNone, HasSecond}
 use Rattle.edf_mend.specs.Rewritten.{RecordEdits}
 use Rattle.edf_mend.specs.Rules.{order}
@@ -49,9 +49,9 @@ pub record ReadsSoFar (l : Layout) (shape : Shape) (left rest : Option (List ℕ
     (s : Starts) : Type 0 where
   pub olds : List (List ℕ)
   pub news : List (List ℕ)
-  pub read : Consumes left rest (joined olds)
+  pub read : Consumes left rest (concatenated olds)
   pub tally : (front body : List ℕ) → IsTally front body from →
-      IsTally front (body ++ joined olds) to
+      IsTally front (body ++ concatenated olds) to
   pub sizes : All (λ r. length r ≡ shape.size) olds
   pub spelled : AreSpelledRecords l shape 0 olds news
   pub followed : IsFollowed l shape.clock news s
@@ -63,8 +63,8 @@ pub record ReadsStarts (l : Layout) (shape : Shape) (left rest : Option (List �
   pub olds : List (List ℕ)
   pub piece : List ℕ
   pub news : List (List ℕ)
-  pub read : Consumes left rest (joined olds ++ piece)
-  pub tally : IsTally front (body ++ (joined olds ++ piece)) t
+  pub read : Consumes left rest (concatenated olds ++ piece)
+  pub tally : IsTally front (body ++ (concatenated olds ++ piece)) t
   pub sizes : All (λ r. length r ≡ shape.size) olds
   pub less : length piece < shape.size
   pub end : IsAtEnd rest

@@ -34,7 +34,7 @@ listed spell place count start k records a b s p v line ea eb ec es ef ep ev is 
 
 pub returns : goal.returns
 returns c =
-    IfOk-weaker c.joined.result _ _ (λ r line spell records is s.
+    IfOk-weaker c.concat.result _ _ (λ r line spell records is s.
     listed spell c.args.place c.args.summary.now.records c.args.summary.now.first
     c.args.identity.now records c.as_bytes.result.now c.as_bytes-2.result.now
     c.as_slice.result.now c.patient_code.result.now c.investigation_code.result.now r.items
@@ -42,4 +42,4 @@ returns c =
     (c.as_bytes-2.ensures.value ∙ c.in_ok-records.ensures.ok) s.0
     (c.as_slice.ensures.value ∙ c.in_ok-first.ensures spell is)
     (first-start records c.args.summary.now.first s.1) c.patient_code.ensures
-    c.investigation_code.ensures line) c.joined.ensures
+    c.investigation_code.ensures line) c.concat.ensures

@@ -2,7 +2,7 @@ use Rattle.std.proofs.Common.{rules, ◌≡◌, ◌≢◌, ◌++◌, subst, inl,
 use Rattle.edf_mend.proofs.CarryingSteps.{on-err}
 use Rattle.edf_canonical.specs.Output.{buffered}
 use Rattle.edf_mend.specs.Header.{header_bytes}
-use Rattle.edf_mend.specs.Mended.{joined}
+use Rattle.edf_mend.specs.Mended.{concatenated}
 use Rattle.edf_mend.specs.Inside.Carrying.{CarriesFile, StopsFile}
 use Rattle.edf_mend.specs.declared.surveying.Survey.{Survey}
 use Rattle.edf_mend.proofs.carrying.carry_file.Goals as goal
@@ -19,7 +19,7 @@ returns-then-not-are_same-clause-changed g c = λ tally _.
         all = all;
         retold = c.is_retold.result;
         says = λ l asked olds f. c.is_retold.ensures l asked olds f;
-        finds = c.in_ok-found.ensures.found (joined all.so.olds ++ all.piece) all.tally
+        finds = c.in_ok-found.ensures.found (concatenated all.so.olds ++ all.piece) all.tally
             c.requires.few;
       },
       other,
@@ -41,7 +41,7 @@ returns-clause-carried g c = λ tally.
       all = all;
       retold = c.is_retold.result;
       says = λ l asked olds f. c.is_retold.ensures l asked olds f;
-      finds = c.in_ok-found.ensures.found (joined all.so.olds ++ all.piece) all.tally
+      finds = c.in_ok-found.ensures.found (concatenated all.so.olds ++ all.piece) all.tally
           c.requires.few;
     })
 

@@ -4,7 +4,7 @@ use Rattle.std.proofs.lemmas.List.{length-take}
 use Rattle.edf_header.specs.Header.{Layout, IsLayout}
 use Rattle.edf_canonical.specs.Output.{buffered}
 use Rattle.edf_fragment.specs.declared.advance.Progress.{Progress}
-use Rattle.edf_mend.specs.Mended.{joined}
+use Rattle.edf_mend.specs.Mended.{concatenated}
 use Rattle.edf_mend.specs.Inside.Carrying.{CarriesOne, EndsSo}
 use Rattle.edf_mend.specs.Inside.Tallied.{IsTally}
 use Rattle.edf_mend.proofs.AnswersOf.{rests, goes-then, reads-more, writes-more}
@@ -68,10 +68,10 @@ loop-nth-preserved g c =
           none;
       so_far = λ front is.
           let so = inv.so_far front is in
-          let tally = subst (λ (x : List ℕ). IsTally front (joined so.olds ++ x)
+          let tally = subst (λ (x : List ℕ). IsTally front (concatenated so.olds ++ x)
           c.fill_counted.new.tally)
           (filled-whole mid rest bytes c.in_ok-n.n shape.size given len c.if-n-shape.false)
-          (c.in_ok-n.ensures.tallied front (joined so.olds) so.tally) in
+          (c.in_ok-n.ensures.tallied front (concatenated so.olds) so.tally) in
           one-carried l shape c.args.is_retold left front a c.args.told.now c.loop-nth.tally
           c.fill_counted.new.tally c.loop-nth.starts c.carry_record.new.starts
           c.loop-nth.fragment.progress c.carry_record.new.fragment.progress mid rest b to bytes
@@ -106,7 +106,7 @@ returns-then-n-shape-clause-carried g c = λ front is.
       piece = take c.in_ok-n.n bytes;
       read = given.read;
       end = given.end (omega (arith, len, c.if-n-shape.true));
-      tally = c.in_ok-n.ensures.tallied front (joined so.olds) so.tally;
+      tally = c.in_ok-n.ensures.tallied front (concatenated so.olds) so.tally;
       less = omega (arith, length-take c.in_ok-n.n bytes, c.if-n-shape.true);
       ends = subst (λ (x : Layout). EndsSo x c.loop-nth.fragment.progress c.args.leaves_out
           (take c.in_ok-n.n bytes) c.loop-nth.told c.carry_end.new.told) inv.header

@@ -2,7 +2,7 @@ use Rattle.std.proofs.Common.{◌≡◌, ◌<◌, ◌++◌, length, take, subst,
 use Rattle.std.proofs.Common.{List, ℕ, [], ◌∷◌, length-take-le}
 use Rattle.std.specs.Io.KnownBytes.{Consumes}
 use Rattle.std.proofs.KnownBytes.{Consumes-trans}
-use Rattle.edf_mend.specs.Mended.{joined}
+use Rattle.edf_mend.specs.Mended.{concatenated}
 use Rattle.std.proofs.lemmas.List.{take_all}
 use Rattle.edf_mend.specs.Rewritten.{RecordEdits}
 use Rattle.edf_mend.specs.Inside.Followed.{IsSpelledRecord, IsFollowed}
@@ -57,9 +57,10 @@ pub returns-in_err-n-clause-further : goal.returns-in_err-n-clause-further
 returns-in_err-n-clause-further g c =
     let i = c.loop-nth.invariant in
     let more = c.fill_counted.ensures.further in (
-      joined i.so_far.olds ++ more.0,
+      concatenated i.so_far.olds ++ more.0,
       Consumes-trans (g.R.Input.remaining c.args.input.now) (g.R.Input.remaining c.loop-nth.input)
-          (g.R.Input.remaining c.fill_counted.new.input) (joined i.so_far.olds) more.0 i.so_far.read
+          (g.R.Input.remaining c.fill_counted.new.input) (concatenated i.so_far.olds) more.0
+          i.so_far.read
           more.1,
     )
 
@@ -67,9 +68,10 @@ pub returns-then-n-shape-clause-further : goal.returns-then-n-shape-clause-furth
 returns-then-n-shape-clause-further g c =
     let i = c.loop-nth.invariant in
     let more = c.fill_counted.ensures.further in (
-      joined i.so_far.olds ++ more.0,
+      concatenated i.so_far.olds ++ more.0,
       Consumes-trans (g.R.Input.remaining c.args.input.now) (g.R.Input.remaining c.loop-nth.input)
-          (g.R.Input.remaining c.fill_counted.new.input) (joined i.so_far.olds) more.0 i.so_far.read
+          (g.R.Input.remaining c.fill_counted.new.input) (concatenated i.so_far.olds) more.0
+          i.so_far.read
           more.1,
     )
 
@@ -77,9 +79,10 @@ pub returns-in_err-record-clause-further : goal.returns-in_err-record-clause-fur
 returns-in_err-record-clause-further g c =
     let i = c.loop-nth.invariant in
     let more = c.fill_counted.ensures.further in (
-      joined i.so_far.olds ++ more.0,
+      concatenated i.so_far.olds ++ more.0,
       Consumes-trans (g.R.Input.remaining c.args.input.now) (g.R.Input.remaining c.loop-nth.input)
-          (g.R.Input.remaining c.fill_counted.new.input) (joined i.so_far.olds) more.0 i.so_far.read
+          (g.R.Input.remaining c.fill_counted.new.input) (concatenated i.so_far.olds) more.0
+          i.so_far.read
           more.1,
     )
 
@@ -87,9 +90,10 @@ pub returns-in_err-follow_start-clause-further : goal.returns-in_err-follow_star
 returns-in_err-follow_start-clause-further g c =
     let i = c.loop-nth.invariant in
     let more = c.fill_counted.ensures.further in (
-      joined i.so_far.olds ++ more.0,
+      concatenated i.so_far.olds ++ more.0,
       Consumes-trans (g.R.Input.remaining c.args.input.now) (g.R.Input.remaining c.loop-nth.input)
-          (g.R.Input.remaining c.fill_counted.new.input) (joined i.so_far.olds) more.0 i.so_far.read
+          (g.R.Input.remaining c.fill_counted.new.input) (concatenated i.so_far.olds) more.0
+          i.so_far.read
           more.1,
     )
 

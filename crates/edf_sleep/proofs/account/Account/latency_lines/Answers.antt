@@ -5,7 +5,7 @@ use Rattle.edf_sleep.proofs.Parts.{three-parts}
 use Rattle.edf_sleep.proofs.account.Account.latency_lines.Goals as goal
 
 pub returns : goal.returns
-returns c = IfOk-weaker c.joined.result _ _ (λ r parts. three-parts r.items
+returns c = IfOk-weaker c.concat.result _ _ (λ r parts. three-parts r.items
     c.as_slice-4.result.now c.as_slice-5.result.now c.as_slice-6.result.now _ _ _ parts
     (c.as_slice-4.ensures.value ∙ c.in_ok-latency-2.ensures
     ∙ ap (line (codes "sleep-latency")) (c.as_slice.ensures.value ∙ c.in_ok-latency.ensures
@@ -16,4 +16,4 @@ returns c = IfOk-weaker c.joined.result _ _ (λ r parts. three-parts r.items
     (c.as_slice-6.ensures.value ∙ c.in_ok-wake-2.ensures
     ∙ ap (line (codes "waso")) (c.as_slice-3.ensures.value ∙ c.in_ok-wake.ensures
     ∙ ap (told seconds) c.wake_after_onset.ensures)))
-    c.joined.ensures
+    c.concat.ensures

@@ -14,7 +14,7 @@ returns c =
     let notes = c.args.self.now.notes.now in
     let runs = c.args.self.now.runs.now in
     let some : 0 < length runs = search rules in
-    IfOk-weaker c.joined.result _ _ (λ r parts. λ spell same.
+    IfOk-weaker c.concat.result _ _ (λ r parts. λ spell same.
     lines-made spell notes runs (map (λ (t : Bor (List ℕ)). t.now) c.in_ok-unread.unread.items)
     (map (λ (t : Bor (List ℕ)). t.now) c.in_ok-events.events.items) r.items
     c.as_slice-3.result.now c.as_slice-4.result.now c.as_slice-5.result.now
@@ -31,4 +31,4 @@ returns c =
     (map (λ (t : Bor (List ℕ)). t.now) ts)) c.as_slice.ensures.value)
     (c.as_slice-8.ensures.value ∙ c.in_ok-events-2.ensures
     ∙ ap (λ (ts : List (Bor (List ℕ))). flat_map (λ text. rate_line (rate_of night text) text)
-    (map (λ (t : Bor (List ℕ)). t.now) ts)) c.as_slice-2.ensures.value)) c.joined.ensures
+    (map (λ (t : Bor (List ℕ)). t.now) ts)) c.as_slice-2.ensures.value)) c.concat.ensures

@@ -3,7 +3,7 @@ use Rattle.std.proofs.Common.{get_or}
 use Rattle.std.specs.List.{flat_map}
 use Rattle.std.proofs.lemmas.List.{take_all}
 use Rattle.edf_program.proofs.Parts.{lines-more}
-use Rattle.edf_program.proofs.text.joined.Goals as goal
+use Rattle.edf_program.proofs.text.concat.Goals as goal
 
 -- one part more
 one_more : {X : Type 0} (f : X → List ℕ) (xs : List X) (i : ℕ) (d : X) (was now : List ℕ) →

@@ -2,7 +2,7 @@ use Rattle.std.proofs.Common.{◌∙◌, ap, arith}
 use Rattle.std.specs.List.{flat_map}
 use Rattle.std.proofs.lemmas.List.{take_all}
 use Rattle.edf_sleep.proofs.Parts.{one-more}
-use Rattle.edf_sleep.proofs.lines.joined.Goals as goal
+use Rattle.edf_sleep.proofs.lines.concat.Goals as goal
 
 pub loop-part-preserved : goal.loop-part-preserved
 loop-part-preserved c = one-more (λ part. part.now) c.args.parts.now c.loop-part.part-index _ _ _
