@@ -259,7 +259,7 @@ def in_sentences(checks: Checks, bare: Bare) -> None:
     checks.same("edfserve", run(asked), (wanted.encode(), b"", 0))
     shown = sessions.sessions(bare.root / SHARED / "docs/REFUSALS.md")
     checks.same("REFUSALS: a cut file", [run(it.script)[1:] for it in shown],
-                [(b"", 0), (b"", 0)])
+                [(b"", 0)])
     checks.same("REFUSALS: what there is of it", run("edfstore take :memory: front.edf")[0],
                 b"front.edf accepted new=59 known=0\n")
     checks.same("edfmend --dry-run", run("edfmend --dry-run in.edf")[2], 0)
