@@ -10,9 +10,11 @@ use Rattle.edf_fragment.specs.Fragment.{DataRecord}
 use Rattle.edf_fragment.specs.Told.{Told, Tells}
 use Rattle.edf_holdings.specs.Holdings.{nothing_held}
 use Rattle.edf_store.specs.Held.{StoreModel}
+use Rattle.edf_store.specs.declared.fault.StoreFault.TheVariants as refused
 use Rattle.edf_program.specs.Output.{Growth}
 use Rattle.edf_program.specs.declared.status.Status.{Status}
 use Rattle.edf_program.specs.declared.status.Status.TheVariants.{Done, Trouble}
+use Rattle.edf_command.specs.Lines.{store_refused_line}
 use Rattle.edf_command.specs.Taking.{IsTaken}
 use Rattle.edf_export.specs.Headline.{IsOnlyFile}
 use Rattle.edf_runs.specs.declared.run_list.Listing.{Listing}
@@ -22,10 +24,11 @@ use Rattle.edfruns_command.specs.Listed.{IsListOut}
 use Rattle.edfruns_command.specs.Listing.{HasRuns}
 use Rattle.edfruns_command.specs.Picturing.{HasNotes, run_time}
 use Rattle.edf_page.specs.Inside.{HasIn}
-use Rattle.edf_page.specs.Night.{AreTaken, AreRunLines, IsNight, taken_lines}
+use Rattle.edf_page.specs.Night.{AreTaken, AreRunLines, IsNight, taken_lines, stopped_line}
 use Rattle.edf_page.specs.Programs.{IsText}
 use Rattle.edf_page.specs.declared.night.GivenNight.{GivenNight}
 use Rattle.edf_page.specs.declared.night.Recording.{Recording}
+use Rattle.edf_page.specs.declared.stopped.Stopped.TheVariants.{Memory, Store}
 
 -- ---- one thing
 
@@ -62,6 +65,11 @@ ListWritesRuns = (out err : Growth) (file name text lines : List ℕ) (k : Key)
     (records : List DataRecord) → IsOnlyFile file k records →
     AreRunLines (duration_of k.duration) records lines → IsText out text →
     IsListOut (λ _. Some file) out err None (name ∷ []) Done → text ≡ lines
+
+-- why nothing is given is told as `edfstore` tells why its store can't be opened
+abbrev pub StoppedAsRefused : Type 0
+StoppedAsRefused = (stopped_line Memory ≡ store_refused_line refused.Memory)
+    × (stopped_line Store ≡ store_refused_line (refused.Store None))
 
 -- ---- figures
 

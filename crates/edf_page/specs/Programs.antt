@@ -1,5 +1,5 @@
 -- What programs do with one file in memory: what they write, and which files they leave.
-use Rattle.std.specs.Prelude.{◌≡◌, ◌≢◌, ◌⊎◌, ◌∷◌, [], ℕ, List, Some, None, All, bytes_eq}
+use Rattle.std.specs.Prelude.{◌≡◌, ◌⊎◌, ◌∷◌, [], ℕ, List, Some, None, All, bytes_eq}
 use Rattle.std.specs.Prelude.{Bool, true, false, if◌then◌else◌, String, string_bytes, option_map}
 use Rattle.std.specs.Global.{Global}
 use Rattle.std.specs.List.{AllZip, flat_map}
@@ -7,7 +7,7 @@ use Rattle.edf_new_files.specs.Made.{MadeFile, made_file}
 use Rattle.edf_new_files.specs.Making.{Making}
 use Rattle.edf_new_files.specs.There.{There}
 use Rattle.edf_new_files.specs.declared.new_files.FileStage.{FileStage}
-use Rattle.edf_new_files.specs.declared.new_files.FileStage.TheVariants.{Finished, Kept}
+use Rattle.edf_new_files.specs.declared.new_files.FileStage.TheVariants.{Finished, Removed}
 use Rattle.edf_program.specs.Output.{Growth}
 use Rattle.edf_program.specs.Status.{exit_code}
 use Rattle.edf_program.specs.Words.{IsFaultTold}
@@ -39,13 +39,13 @@ finished_of (file ∷ files) =
     if is_finished file.stage then file ∷ finished_of files else finished_of files
 
 -- one is given back by its name and its bytes
-pub record IsLeft (made : MadeFile) (file : NamedFile) : Type 0 where
+pub record IsGivenBack (made : MadeFile) (file : NamedFile) : Type 0 where
   pub name : made.name ≡ string_bytes file.name
   pub bytes : made.bytes ≡ Some file.bytes.items
 
--- no part of one is left, as where it could not be removed
-abbrev pub IsGone : MadeFile → Type 0
-IsGone made = made.stage ≢ Kept
+-- it is there whole, or no part of it is: it was removed
+abbrev pub IsWholeOrGone : MadeFile → Type 0
+IsWholeOrGone made = (made.stage ≡ Finished) ⊎ (made.stage ≡ Removed)
 
 -- where a file of this name is given, that is there under it, and nothing under any other
 abbrev pub given_there : List ℕ → List ℕ → There
@@ -53,15 +53,15 @@ given_there name bytes other =
     Some (if bytes_eq name other then Some (Some bytes) else None)
 
 -- no file was made before, and no call failed; just the file that is given was there. The bytes of
--- files are known, those that are there at the end are given back in turn, and of others no part is
--- left.
+-- files are known, those that are there at the end are given back in turn, and the others were
+-- removed.
 pub record MakesInMemory (name bytes : List ℕ) (m : Making) (files : List NamedFile) : Type 0 where
   pub known : m.known ≡ true
   pub there : (other : List ℕ) → m.there other ≡ given_there name bytes other
   pub none : m.before ≡ []
   pub unfailed : m.failed_before ≡ 0
-  pub left : AllZip IsLeft (finished_of m.after) files
-  pub gone : All IsGone m.after
+  pub given_back : AllZip IsGivenBack (finished_of m.after) files
+  pub gone : All IsWholeOrGone m.after
 
 -- ---- what is written
 

@@ -7,7 +7,7 @@ ghost use Rattle.std.specs.List.{AllZip};
 ghost use Rattle.edf_new_files.specs.Made.{MadeFile, made_file, begun, removed, WritesNone};
 ghost use Rattle.edf_new_files.specs.There.{HasName};
 ghost use Rattle.edf_page.specs.InsideFolder.{last_held};
-ghost use Rattle.edf_page.specs.Programs.{IsLeft, IsGone, finished_of, made_of};
+ghost use Rattle.edf_page.specs.Programs.{IsGivenBack, IsWholeOrGone, finished_of, made_of};
 ghost use Rattle.edf_page.specs.declared.begun.NamedFile.{NamedFile};
 
 use edf_new_files::{FileStage, Unfinished};
@@ -72,18 +72,19 @@ impl BegunFile {
     }
 }
 
-/// Adds a file to those that are there, if it is there. None is kept: all can be removed.
+/// Adds a file to those that are there, if it is there; else it was removed. None is left half
+/// written, and none is kept: all can be removed.
 fn push_finished(files: &mut Vec<NamedFile>, file: BegunFile) -> Result<(), AllocError>
     ensures added { OnOk result ((added : List NamedFile)
         × (files.new.items ≡ files.old.items ++ added)
-        × AllZip IsLeft (finished_of (made_of file ∷ [])) added) }
-    ensures gone { OnOk result (IsGone (made_of file)) }
+        × AllZip IsGivenBack (finished_of (made_of file ∷ [])) added) }
+    ensures gone { OnOk result (IsWholeOrGone (made_of file)) }
 {
-    if file.stage == FileStage::Kept {
-        return Err(AllocError);
+    if file.stage == FileStage::Removed {
+        return Ok(());
     }
     if file.stage != FileStage::Finished {
-        return Ok(());
+        return Err(AllocError);
     }
     let BegunFile {
         name,
@@ -216,8 +217,9 @@ impl BegunFiles {
 
     /// Those that are there, in turn.
     pub(crate) fn into_named(self, alloc: Global) -> Result<Vec<NamedFile>, AllocError>
-        ensures left { IfOk result (λ files. AllZip IsLeft (finished_of self) files.items) }
-        ensures gone { IfOk result (λ _. All IsGone self) }
+        ensures given_back { IfOk result (λ files.
+            AllZip IsGivenBack (finished_of self) files.items) }
+        ensures gone { IfOk result (λ _. All IsWholeOrGone self) }
     {
         let BegunFiles { entries } = self;
         let mut files = Vec::new(alloc);

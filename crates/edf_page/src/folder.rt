@@ -5,7 +5,7 @@ ghost use Rattle.std.specs.Prelude.{◌||◌, IfErr, MatchResult, bytes_eq};
 ghost use Rattle.std.specs.List.{AllZip};
 ghost use Rattle.edf_new_files.specs.Made.{MadeFile, begun, WritesNone};
 ghost use Rattle.edf_page.specs.InsideFolder.{is_among, unforgotten};
-ghost use Rattle.edf_page.specs.Programs.{IsLeft, IsGone, finished_of};
+ghost use Rattle.edf_page.specs.Programs.{IsGivenBack, IsWholeOrGone, finished_of};
 
 use crate::begun::{BegunFiles, NamedFile};
 use crate::given::GivenFile;
@@ -86,9 +86,9 @@ impl<'a> Folder<'a> {
 
     /// The files that were made and are there, in turn.
     pub(crate) fn into_named(self, alloc: Global) -> Result<Vec<NamedFile>, AllocError>
-        ensures left { IfOk result (λ files. AllZip IsLeft
+        ensures given_back { IfOk result (λ files. AllZip IsGivenBack
             (finished_of (unforgotten self.entry.is_forgotten self.entry.files)) files.items) }
-        ensures gone { IfOk result (λ _. All IsGone
+        ensures gone { IfOk result (λ _. All IsWholeOrGone
             (unforgotten self.entry.is_forgotten self.entry.files)) }
     {
         if self.is_forgotten {

@@ -3,17 +3,19 @@
 ghost use Rattle.std.specs.Prelude.{ℕ, List};
 ghost use Rattle.edf_program.specs.Text.{IsSpelling};
 ghost use Rattle.edf_page.specs.Laws.{OneNightComes, TakeWritesLines, ListWritesRuns};
-ghost use Rattle.edf_page.specs.Laws.{FilesHaveFigures};
+ghost use Rattle.edf_page.specs.Laws.{FilesHaveFigures, StoppedAsRefused};
 
 /// Of the same files the same comes, but for pictures: the same lines, recordings and runs.
 pub fn one_night_comes()
     ensures { OneNightComes }
 {}
 
-/// What comes of files is what the programs write of them, each of the whole list.
+/// What comes of files is what the programs write of them, each of the whole list; so is the line
+/// where nothing comes.
 pub fn the_programs_write_this()
     ensures take { TakeWritesLines }
     ensures runs { ListWritesRuns }
+    ensures stopped { StoppedAsRefused }
 {}
 
 /// Instants have a spelling, as lines have them.

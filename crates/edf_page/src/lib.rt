@@ -4,8 +4,8 @@
 //! - [`give_night`]: files are taken in turn into an empty store, and this is what comes of them:
 //!   the line of `edfstore take` for each, the lines of `edfstore list`, and of each recording its
 //!   EDF+D file, the lines of `edfruns list` and its picture ([`GivenNight`], [`Recording`]).
-//! - [`run_edfruns`], [`run_edfmend`]: what these programs do with one file where this is asked for:
-//!   what they write, and the files that they make ([`Ran`], [`NamedFile`]).
+//! - [`run_edfruns`], [`run_edfmend`]: what these programs do with one file where this is asked
+//!   for: what they write, and the files that they make ([`Ran`], [`NamedFile`]).
 //! - [`GivenFile`]: a file, by its name and its bytes.
 //! - [`Stopped`]: why nothing is given.
 //! - [`laws`]: what comes of files is one thing, but for pictures, and is what the programs say;

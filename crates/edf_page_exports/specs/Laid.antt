@@ -102,16 +102,17 @@ pub record ComeOfFiles (names name_sizes bytes sizes : List ℕ) (pieces : List 
 
 -- ---- what a program does
 
--- the pieces of what `edfruns` does by this number with a file
-pub record ComeOfRuns (which : ℕ) (prefix name bytes : List ℕ) (pieces : List (List ℕ)) : Type 0
-  where
-    pub ran : Ran
-    pub is_ran : RunsDone name bytes (asked_by which name prefix) ran
-    pub are_pieces : pieces ≡ pieces_of_ran ran
-
 -- a number that asks for something, and texts
 abbrev pub LieRuns : (which : ℕ) → (prefix name : List ℕ) → Type 0
 LieRuns which prefix name = Asks which × IsUtf8 prefix × IsUtf8 name
+
+-- the pieces of what `edfruns` does by this number with a file
+pub record ComeOfRuns (which : ℕ) (prefix name bytes : List ℕ) (pieces : List (List ℕ)) : Type 0
+  where
+    pub lie : LieRuns which prefix name
+    pub ran : Ran
+    pub is_ran : RunsDone name bytes (asked_by which name prefix) ran
+    pub are_pieces : pieces ≡ pieces_of_ran ran
 
 -- values for `edfmend` lie there, and the name of its file is a text
 pub record AreValues (texts sizes name : List ℕ) (values : Values) : Type 0 where

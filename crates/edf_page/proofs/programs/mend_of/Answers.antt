@@ -48,7 +48,7 @@ returns c =
             c.in_ok-folder.ensures.none c.in_ok-folder.ensures.named;
         none = unforgotten-none folder.is_forgotten folder.files c.in_ok-folder.ensures.none;
         unfailed = c.in_ok-folder.ensures.unfailed;
-        left = c.in_ok-files.ensures.left;
+        given_back = c.in_ok-files.ensures.given_back;
         gone = c.in_ok-files.ensures.gone;
       };
       unfailed = (search rules, search rules, search rules);
