@@ -222,15 +222,17 @@ module _ (a b : Making) (known : b.known ≡ a.known) (before : b.before ≡ a.a
 
   -- it was not read to its end
   among : (why : WriteFault) (whole : ℕ) (blank half : Option (List ℕ)) → IsOfReading why →
+      (whole ≡ i) ⊎ ((whole ≡ i + 1) × (why ≡ fault.Memory)) →
       IsNotWrittenByOnset l mid to middle rest blank half run.run (starts_of run) (kept_of run)
       why →
       (ComesByOnset l mid middle run.run (starts_of run) (kept_of run) → why ≢ fault.Changed) →
       StopsAtRuns l left rest runs names (i + 1) whole (stop.Reading why)
-  among why whole blank half is_why unwritten unchanged = (
+  among why whole blank half is_why so_many unwritten unchanged = (
     is_why,
     inl (
       i,
       refl,
+      so_many,
       record {
         run = run;
         from = mid;
@@ -255,7 +257,7 @@ module _ (a b : Making) (known : b.known ≡ a.known) (before : b.before ≡ a.a
         whole = i + 1;
         has = has-made (then a b) names l.key runs (i + 1) more.parts more.files more.made
             more.named more.listed more.held;
-        stops = among fault.Memory (i + 1) None None tt (record {
+        stops = among fault.Memory (i + 1) None None tt (inr (refl, refl)) (record {
           records = one.records;
           mid = to;
           middle = rest;
@@ -290,7 +292,8 @@ module _ (a b : Making) (known : b.known ≡ a.known) (before : b.before ≡ a.a
         count = i + 1;
         whole = i;
         has = has-more half.made;
-        stops = among why i half.blank half.half half.is_why half.unwritten half.unchanged;
+        stops = among why i half.blank half.half half.is_why (inl refl) half.unwritten
+            half.unchanged;
         failed = one.failed ∙ failed ∙ so_far.unfailed;
       }
   stops-each (stop.Output output) got one =

@@ -98,6 +98,7 @@ module _ (m : Making) (bytes : Option (List ℕ)) (plan : OnsetListing) (names :
         no-end ends.answer why ends.is_why,
         inr (
           refl,
+          refl,
           record {
             from = mid;
             left = left;

@@ -94,12 +94,15 @@ pub record ComesToOutput (l : Layout) (start : Option (List ℕ)) (runs : List O
   pub made : (count ≡ whole) ⊎ (count ≡ whole + 1)
 
 -- after the header it stopped, when so many files were made: that of a run is made before the run is
--- read. How many of them are whole is told where an output failed
+-- read. So many of them are whole: those of the runs before; where there was no memory for its line,
+-- that one too; after the last run, all
 abbrev pub StopsAtRuns : Layout → Option (List ℕ) → Option (List ℕ) → List OnsetRun →
     List (List ℕ) → ℕ → ℕ → Stop → Type 0
 StopsAtRuns l start rest runs names count whole (stop.Reading why) = IsOfReading why
-    × (((nth : ℕ) × (count ≡ nth + 1) × StopsAmong l start rest runs nth why)
-    ⊎ ((count ≡ length runs) × StopsAfter l start rest runs why))
+    × (((nth : ℕ) × (count ≡ nth + 1)
+    × ((whole ≡ nth) ⊎ ((whole ≡ nth + 1) × (why ≡ fault.Memory)))
+    × StopsAmong l start rest runs nth why)
+    ⊎ ((count ≡ length runs) × (whole ≡ length runs) × StopsAfter l start rest runs why))
 StopsAtRuns l start rest runs names count whole (stop.Output output) =
     ComesToOutput l start runs names count whole output.now
 

@@ -12,8 +12,8 @@ pub fn each_has_its_groups()
         AreSeen d most runs groups → AreSeen d most runs others → groups ≡ others }
 {}
 
-/// The lines that a picture has as text, and `list` writes where no tolerance is given, are those of
-/// the runs, in their order, each with its number and the gap before the next.
+/// The lines that a picture has as text, and `list` writes where no tolerance is given, are those
+/// of the runs, in their order, each with its number and the gap before the next.
 pub fn each_line_is_of_a_run()
     ensures { EachLineIsOfARun }
 {}

@@ -5,8 +5,8 @@
 //!   written. [`parse`]: the words, read, and nothing else.
 //! - [`run_runs`]: one command, over what opens files (`edf_program`'s `Inputs`) and what makes
 //!   them (`edf_new_files`' `NewFiles`).
-//! - [`laws`]: runs have groups that share a line, and no others; a run alone has its own line. Each
-//!   function does nothing: its contract is a law.
+//! - [`laws`]: runs have groups that share a line, and no others; a run alone has its own line.
+//!   Each function does nothing: its contract is a law.
 //! - [`runs_text`]: the lines of runs that were listed; [`Sight`]: what a picture shows of a
 //!   recording, data record by data record, and the picture.
 #![tactic(auto)]
