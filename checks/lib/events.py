@@ -63,12 +63,14 @@ def bars(events: list, end: int) -> list:
 
 
 def rate_of(night: Night, text: str) -> str:
-    """How many events have the text, and how many in an hour, where that is told."""
+    """How many events have the text, how many count, where not all, and how many in an hour."""
     count, rate = f"{night.count(text):,}", night.rates()[text]
     if isinstance(rate, str):
         return count
     tenths = (rate.counted * 36_000 * SECOND + rate.time // 2) // rate.time
     hour = "hour of sleep" if rate.in_sleep else "recorded hour"
+    if rate.counted != night.count(text):
+        count += f" ({rate.counted:,} counted)"
     return f"{count}, {tenths // 10:,}.{tenths % 10} per {hour}"
 
 

@@ -37,7 +37,7 @@ const CASES: &[Case] = &[
     (
         &[(100, 20, "Apnea"), (110, 30, "Apnea"), (9_000, 10, "Apnea")],
         &[
-            ">3, 0.8 per recorded hour</text><path class='y' d=''/>\
+            ">3 (2 counted), 0.8 per recorded hour</text><path class='y' d=''/>\
             <path class='x' d='M122 23h4'/>",
             "1 outside the recording's time, not drawn",
         ],
@@ -57,7 +57,7 @@ const CASES: &[Case] = &[
             ">1, 0.4 per recorded hour</text><path class='y' d=''/>\
             <path class='x' d='M112 23h1'/>",
             ">The end</text>",
-            ">1, 0.0 per recorded hour</text><path class='y' d='M975 55h1'/>\
+            ">1 (0 counted), 0.0 per recorded hour</text><path class='y' d='M975 55h1'/>\
             <path class='x' d=''/>",
         ],
     ),

@@ -132,7 +132,8 @@ fn others(alloc: Global, rest: &[Group<'_>], events: &[Event<'_>]) -> Result<Lan
     })
 }
 
-/// `212, 26.5 per hour of sleep`: how many there are, and how many in an hour.
+/// `212, 26.5 per hour of sleep`: how many there are, and how many in an hour; where not all of
+/// them count, `212 (198 counted), 24.8 per hour of sleep`.
 fn rate_text(alloc: Global, rate: Rate) -> Result<String, AllocError> {
     let number = thousands(alloc, rate.count)?;
     let Ok(share) = rate.share else {
@@ -150,7 +151,11 @@ fn rate_text(alloc: Global, rate: Rate) -> Result<String, AllocError> {
     } else {
         "recorded hour"
     };
-    format!(in alloc; "{number}, {hourly} per {hour}")
+    if share.counted == rate.count {
+        return format!(in alloc; "{number}, {hourly} per {hour}");
+    }
+    let counted = thousands(alloc, share.counted)?;
+    format!(in alloc; "{number} ({counted} counted), {hourly} per {hour}")
 }
 
 impl Lane {
