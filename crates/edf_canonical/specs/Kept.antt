@@ -8,7 +8,7 @@ with_samples kept r =
     record { start = kept.start; samples = r.samples; annotations = kept.annotations }
 
 -- data records with the starts and annotations that were kept of them, one by one; those of which
--- nothing was kept have their own
+-- nothing was kept have their own, and what is kept of more of them is left out
 abbrev pub annotated : List DataRecord → List DataRecord → List DataRecord
 annotated [] records = records
 annotated (k ∷ ks) [] = []

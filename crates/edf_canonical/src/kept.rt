@@ -12,7 +12,7 @@ use edf_fragment::{Output, Record};
 use edf_time::Instant;
 use std::alloc::Global;
 
-/// The data record whose annotations go out: what was kept of the nth, or itself.
+/// The data record whose start and annotations go out: what was kept of the nth, or itself.
 pub fn kept_or<'a>(kept: &'a [Record], nth: usize, data_record: &'a Record) -> &'a Record
     ensures { result.now ≡ unwrap_or (slice_get kept.now nth) data_record.now }
 {

@@ -5,7 +5,7 @@
 //! - [`samples_of`]: how many samples the block of a data record takes there.
 //! - [`Buffer`], [`put`], [`flush`]: bytes put through 64 KiB, which the caller keeps beside its
 //!   writer; [`OutputFault`]: why they could not be.
-//! - [`send`]: the one writer of data records, those of a [`Source`], which must be those of a
+//! - [`send`]: writes the data records that a [`Source`] gives, which must be those of a
 //!   [`Measure`]; [`SendFault`]: why they did not go out. [`put_annotated`], [`kept_or`]: a data
 //!   record with what was kept of it.
 //! - [`laws`]: sound data records have one canonical file, which is read again. Functions that do

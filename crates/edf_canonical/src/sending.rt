@@ -1,4 +1,4 @@
-//! The one writer of data records: a header, and then what a source gives.
+//! The writer of what a source gives: a header, and then its data records.
 
 ghost use Rattle.std.specs.Prelude.{◌≡◌, List, [], All};
 ghost use Rattle.edf_fragment.specs.Fragment.{DataRecord};
@@ -50,8 +50,8 @@ fn put_next<W: Output>(
     Ok(Some(measure))
 }
 
-/// Puts all data records of a source, with what was kept of them where something was. With this
-/// they must be those that were measured.
+/// Puts all data records of a source, with what was kept of them where something was. What goes
+/// out must be what was measured.
 fn put_all<F, R, S: Source<F, R>, W: Output>(
     alloc: Global,
     source: &mut S,
@@ -93,15 +93,16 @@ fn put_all<F, R, S: Source<F, R>, W: Output>(
     }
 }
 
-/// Writes a header, and then all data records of a source, through a buffer of 64 KiB. Of the nth
-/// go out the start and the annotations that were kept of it, where they were, and its samples; what
-/// is kept has none, and what is kept of more data records than come is left out. With this they
-/// must be those that were measured: of what goes out, not of what the source gave in its place. One
-/// data record is in memory at a time. The writer is not flushed.
+/// Writes a header, and then all data records of a source, through a buffer of 64 KiB. Where
+/// something was kept of the nth, the start and the annotations that were kept go out, with its
+/// samples: just these are the source's, and that it is the same data record is for the source to
+/// see. What is kept has no samples, and what is kept of more data records than come is left out.
+/// What goes out must be what was measured. One data record is in memory at a time. The writer is
+/// not flushed.
 ///
 /// # Errors
-/// `Source` where the source tells a fault; `Unlike` where it gives a data record that can't be among the
-/// first of those that were measured, or no more before the last; `Output` where a write failed or
+/// `Source` where the source has a fault; `Unlike` where what would go out can't be among the first
+/// of what was measured, or the source ends before the last; `Output` where a write failed or
 /// memory ran out. A front of the header and of the data records may have been written then.
 pub fn send<F, R, S: Source<F, R>, W: Output>(
     alloc: Global,

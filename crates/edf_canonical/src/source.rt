@@ -12,7 +12,7 @@ pub trait Source<F, R> {
     type Fault;
 
     // What must hold of the source, the file and the input at a call. It holds after each call,
-    // whatever this answered.
+    // whatever this answered: after the last data record and after a fault, too.
     ghost ready: { Self → F → R → Type 0 };
 
     // What a call answers, and how it leaves the source, the file and the input.

@@ -1,6 +1,7 @@
 //! The file of a run, written data record by data record in a second reading.
 
-ghost use Rattle.std.specs.Prelude.{◌≡◌, ◌≢◌, ◌+◌, ◌*◌, ◌≤◌, ◌↔◌, Err, IfOk, IfErr, [], All, length};
+ghost use Rattle.std.specs.Prelude.{◌≡◌, ◌≢◌, ◌+◌, ◌*◌, ◌≤◌, ◌↔◌, Err, IfOk, IfErr, []};
+ghost use Rattle.std.specs.Prelude.{All, length};
 ghost use Rattle.edf_header.specs.Key.{MayStart};
 ghost use Rattle.edf_runs.specs.File.{marked_continuous};
 ghost use Rattle.edf_runs.specs.Written.{CountsCalls, IsRunHeader};

@@ -1,4 +1,4 @@
--- A whole file that is read again, and its canonical file, as it is sent.
+-- One answer of a whole file that is read again, by which its data records are sent.
 use Rattle.std.specs.Prelude.{◌≡◌, ◌+◌, min, slice_get, unwrap_or}
 use Rattle.std.specs.Prelude.{Option, Some, None, Result, Ok, Err}
 use Rattle.edf_header.specs.declared.limits.TheConstants.{MOST_RECORDS}

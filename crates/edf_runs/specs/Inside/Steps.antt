@@ -1,4 +1,4 @@
--- One step of a second reading, and of the writing beside it.
+-- One step of a second reading.
 use Rattle.std.specs.Prelude.{◌≡◌, ◌≢◌, ℕ, ◌+◌, ◌≤◌, List, [], ◌∷◌, ◌++◌, length, slice_get}
 use Rattle.std.specs.Prelude.{Option, Some, Ok, Result, MatchResult}
 use Rattle.edf_field.specs.Number.{duration_of}
