@@ -8,8 +8,9 @@ that it gives with those of the programs.
 A technician does all by keys alone: gives it a night in pieces with one that was cut, one of other
 letters and a foreign one, sees why, mends, adds the card, and saves the file, its runs and the
 picture; cards of EDFlib by onset; a job that is cancelled; files that change later; files that are
-dropped. Each state is looked at on two screens, light and dark, for pale texts and what has no
-room; `--screenshots` keeps them.
+dropped; files that contradict each other, of which one is taken first or taken out; faulty fields,
+mended files, recordings of the same codes, and work that is not saved. Each state is looked at on
+three screens, light and dark, for pale texts and what has no room; `--screenshots` keeps them.
 
 COUNT files by chance, 2,000 if left out; the page is release/edfstore.html. Files are taken in
 lists: by chance, half of them broken; of each number of refusal that a file of this size can have;
@@ -37,8 +38,8 @@ import time
 from dataclasses import dataclass, field
 from pathlib import Path
 
-from checks.lib import (arguments, measure, modules, night, page_files, printed, sends,
-                        technician)
+from checks.lib import (arguments, measure, modules, night, page_files, printed, second_thoughts,
+                        sends, technician)
 from checks.lib.checks import Lost, compare, end
 from checks.lib.firefox import Firefox
 from checks.lib.hands import ChromiumHands, FirefoxHands
@@ -114,7 +115,7 @@ CHANGED = """(() => {
   compiled = WebAssembly.compile(bytes);
   compiled.catch(() => {});
 })()"""
-ANEW = "document.getElementById('anew').click()"
+ANEW = "[unsaved.clear(), document.getElementById('anew').click()]"
 HELD = """(() => {
   const input = document.querySelector("input[type=file]");
   input.addEventListener("change", (event) => {
@@ -456,6 +457,7 @@ def in_browser(bench: Bench, given, folder: Path, native: Native, expected: dict
     hands = HANDS[bench.name](bench.browser, folder / f"profile-{bench.name}/downloads")
     big = None if given.without_night else folder / "night/card.edf"
     technician.all_of_it(bench, hands, folder, native, big)
+    second_thoughts.all_of_it(bench, hands, folder, native)
     lists(bench, expected)
     programs(bench, folder, native, expected["files of stories"][0])
     no_files(bench)

@@ -1,10 +1,13 @@
-// How files come in: chosen, or dropped with all that is in folders.
+// How files come in: chosen, or dropped with all that is in folders, whose names are in `path`.
 
 const byName = (one, other) => one.name < other.name ? -1 : Number(one.name > other.name);
 
 // All files of a folder that was dropped, or the file itself.
 async function within(entry) {
-  if (entry.isFile) return [await new Promise((done, failed) => entry.file(done, failed))];
+  if (entry.isFile) {
+    const file = await new Promise((done, failed) => entry.file(done, failed));
+    return [Object.assign(file, { path: entry.fullPath.slice(1) })];
+  }
   const reader = entry.createReader(), found = [];
   for (;;) {
     const some = await new Promise((done, failed) => reader.readEntries(done, failed));
@@ -14,11 +17,12 @@ async function within(entry) {
 }
 
 // The same by a handle, which Chromium has where the page was opened as a file.
-async function withinHandle(handle) {
-  if (handle.kind === "file") return [await handle.getFile()];
-  const found = [];
+async function withinHandle(handle, folder = "") {
+  const found = [], path = folder + handle.name;
+  if (handle.kind === "file") return [Object.assign(await handle.getFile(), { path })];
   for await (const one of handle.values()) found.push(one);
-  return (await Promise.all(found.sort(byName).map(withinHandle))).flat();
+  const inner = found.sort(byName).map((it) => withinHandle(it, `${path}/`));
+  return (await Promise.all(inner)).flat();
 }
 
 // What was dropped: all of it must be asked for before the first wait.
@@ -27,7 +31,8 @@ async function dropped({ items, files }) {
   const entries = own.map((item) => item.webkitGetAsEntry());
   if (!entries.some((entry) => entry?.isDirectory)) return plain;
   const handles = own.map((item) => item.getAsFileSystemHandle?.());
-  const all = handles[0] ? (await Promise.all(handles)).map(withinHandle) : entries.map(within);
+  const all = handles[0] ? (await Promise.all(handles)).map((it) => withinHandle(it))
+    : entries.map(within);
   return (await Promise.all(all)).flat();
 }
 

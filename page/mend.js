@@ -1,94 +1,55 @@
-// Mending a refused file: what edfmend would change is shown, with what it asks, before anything
-// is made.
+// Mending a refused file: what would change is shown, with what edfmend asks, before anything is
+// made. The fields for the answers are in page.html, with the lines by which edfmend asks.
 
-// What edfmend asks by its lines, and the field for the answer.
-const QUESTIONS = [
-  { key: "patient", asks: /names no code of a patient|patient unused/,
-    label: "The patient's code",
-    hint: "as the night's other files have it: 1 to 60 letters, digits or signs, no space" },
-  { key: "startdate", asks: /refused E6 |startdate unused/, label: "The day of its start",
-    hint: "as 31.12.23" },
-  { key: "starttime", asks: /refused E7 |starttime unused/, label: "The time of its start",
-    hint: "as 22.15.00" },
-  { key: "recording", asks: /refused E[258] /,
-    label: "Make its recording field anew, with the date of its startdate" },
-  { key: "count", asks: /name count in --as|refused E(10|29) /,
-    label: "All that is there are data records of this file: count them" },
-];
-// What to know before a mended file is taken, by what its ledger has.
-const HINTS = [
-  [/^mended /m, "What names its recording changes, so it belongs to another recording than the " +
-    "good files of its night: mend all of them in the same way."],
-  [/^(plain|annotations) records=/m, "It has no annotations. Beside it the memory card of its " +
-    "night, which has them, is refused with E31."],
-  [/^/, "Is there a memory card of its night? Most often that has all of it: then take the card, " +
-    "and not this file."],
-];
-const isNamed = ({ hint }) => !hint;     // a rule, which does more where --as names it
+const BYTES = String.raw`(="(?:[^"\\]|\\.)*"|_zeros=\d+)`;
+const CHANGE = new RegExp(String.raw`^\w+ (record=\d+ )?at=(\d+) old${BYTES} new${BYTES} ?(.*)$`);
 
 // What edfmend is told: the name of the new file, none where it is to tell alone what would change;
 // then the values of --patient, --set-patient, --deidentify, --startdate, --starttime and --as.
-// Where --as names one of those rules it names all others, but for one that was not chosen.
-function valuesOf({ patient = "", startdate = "", starttime = "", ...answers }, out) {
-  const named = QUESTIONS.filter(isNamed), not = named.filter(({ key }) => !answers[key]);
-  const rules = REFUSALS.rules.filter((rule) => !not.some(({ key }) => key === rule));
-  const as = not.length < named.length ? rules.join(",") : "";
-  return [out, patient, "", "", startdate, starttime, as];
+// Where --as names a rule that was chosen it names all others, but for one that was not.
+function valuesOf({ elements: { patient, startdate, starttime, recording, count } }, out) {
+  const not = [recording, count].filter(({ checked }) => !checked).map(({ name }) => name);
+  const as = not.length < 2 ? REFUSALS.rules.filter((rule) => !not.includes(rule)) : [];
+  const [code, day, time] = [patient, startdate, starttime].map(({ value }) => value.trim());
+  return [out, code, "", "", day, time, as.join(",")];
 }
 
-// The fields of what was asked so far.
-function showQuestions(place, session) {
-  const form = made("form", null, place);
-  for (const it of QUESTIONS.filter(({ key }) => session.asked.has(key))) {
-    if (isNamed(it)) checkbox(it.label, form, { name: it.key, checked: session.answers[it.key] });
-    else {
-      const label = made("label", `${it.label}, ${it.hint} `, made("p", null, form));
-      made("input", null, label, { name: it.key, value: session.answers[it.key] ?? "",
-        type: "text", autocomplete: "off", spellcheck: false });
-    }
-  }
-  made("button", "See what would change", form, { className: "first" });
-  form.addEventListener("submit", (event) => {
-    event.preventDefault();
-    for (const { name, type, value, checked } of form.querySelectorAll("input")) {
-      session.answers[name] = type === "text" ? value.trim() : checked;
-    }
-    look(session);
-  });
-  return form;
-}
-
-// A ledger's line in its parts: the rule, where, and the bytes before and after.
-const BYTES = String.raw`(="(?:[^"\\]|\\.)*"|_zeros=\d+)`;
-const CHANGE = new RegExp(String.raw`^(\w+) (.*?) ?old${BYTES} new${BYTES}(.*)$`);
-
+// A ledger's line in its parts: where, and the texts before and after, with bytes beyond ASCII as
+// Latin-1 has them.
 function readChange(line) {
-  const [, rule, where, old, now, rest] = CHANGE.exec(line) ?? [];
-  const [first, ...others] = line.replace(/left_out=(\d+)/, "$1 bytes at the end, left out")
-    .split(" ");
-  return rule ? [rule, where + rest, old.slice(1), now.slice(1)]
-    : [first, others.join(" "), "", ""];
+  const [, record, at, old, now, rest] = CHANGE.exec(line) ?? [];
+  if (!at) return [inWords("changes", line), "", ""];
+  const where = (!record && calledAt(at)) || `${record?.replace("=", " ") ?? ""}byte ${at}`;
+  const unquoted = (text) => text.slice(2, -1).replace(/\\(?:x(..)|(.))/g, (_, code, letter) =>
+    letter ?? String.fromCharCode(parseInt(code, 16)));
+  const texts = [old, now].map((it) => it.startsWith("=") ? unquoted(it) : `${it.slice(7)} zeros`);
+  const more = rest && `, ${rest.replace(/^cut=/, "without room for ")}`;
+  return [where + more, ...texts.map((it) => it || "empty")];
 }
 
 function showMended(session) {
-  const { box, head, ledger } = session;
-  const body = table(box, "What changes in the mended file", "Rule", "Where", "Before", "After");
+  const { box, title, ledger, at } = session, isOwn = /^mended /m.test(ledger);
+  const body = table(box, "each", "What changes in the mended file", "Where", "Before", "After");
   firstRows(linesOf(ledger), box, "Save the list to see all.",
     (line) => row(body, ...readChange(line)));
-  HINTS.filter(([had]) => had.test(ledger)).forEach(([, words]) => hint(words, box));
+  made("p", wordsAt(isOwn ? "own" : "joins"), box, { className: isOwn ? "bad" : "" });
+  if (/^(plain|annotations) records=/m.test(ledger)) hint(wordsAt("no-annotations"), box);
+  hint(wordsAt("card"), box);
   const buttons = made("p", null, box, { className: "buttons" });
-  button("Take the mended file with the others", buttons, async () => {
-    const blob = await mended(session), name = `${session.name} (mended)`;
-    if (blob) take(held.map((file, at) => at === session.at ? { name, blob } : file));
-  }, head).className = "first";
-  button("Save the mended file", buttons, () => saveMended(session), head);
-  button("Save the list of changes", buttons, () => saveText(ledger, "edfmend-changes.txt"), head);
+  const taking = isOwn ? "Take it, apart from the good files" : "Take it with the others";
+  button(taking, buttons, async () => {
+    const blob = await mended(session), { own, path } = held[at];
+    if (blob) replace(at, { own: `${own} (mended)`, path: `${path} (mended)`, blob });
+  }, title).className = isOwn ? "" : "first";
+  button("Save the mended file", buttons, () => saveMended(session), title);
+  button("Save the list of changes", buttons, () => saveText(`${session.name}\n${ledger}`,
+    `${held[at].own.replace(/\.edf$/i, "")}-changes.txt`), title);
 }
 
 // The mended file, made once; its ledger must be the one that was shown.
 async function mended(session) {
   if (session.made) return session.made;
-  const done = await run(valuesOf(session.answers, "out.edf"), session.name, session.blob);
+  const done = await run(valuesOf(session.form, "out.edf"), session.name, session.blob);
   if (done?.status === 0 && done.made.length === 1 && done.out === session.ledger) {
     session.made = done.made[0].blob;
   } else if (done) say(`${session.name} was not mended. ${done.err}`);
@@ -97,39 +58,48 @@ async function mended(session) {
 
 // Its name is made of its own header, and of its first instant.
 async function saveMended(session) {
-  const blob = await mended(session), fields = await blob?.slice(8, 168).text();
+  const blob = await mended(session), head = blob && await headOf({ blob });
   const runs = blob && await run("list", session.name, blob);
   if (!runs) return;
-  const names = { patient: fields.split(" ")[0], first: valueIn(runs.out, "first"),
-    investigation: fields.slice(80).split(" ")[2] ?? "" };
+  const names = { patient: head.slice(8).split(" ")[0], first: valueIn(runs.out, "first"),
+    investigation: field(head, "recording").split(" ")[2] ?? "" };
   save(blob, `${nameOf([names], 0, byId("codes")?.checked)}-mended.edf`);
 }
 
-// Looks what edfmend would do, by the answers so far, and shows it.
+// Looks what edfmend would do, by the answers so far, and shows it, with the fields of what it asks
+// and asked before.
 async function look(session) {
-  const done = await run(valuesOf(session.answers, ""), session.name, session.blob);
+  const { box, title, form, name, blob } = session;
+  const done = await run(valuesOf(form, ""), name, blob);
   if (!done) return;
-  const { box, head, asked } = session, isGood = done.status === 0;
+  const isGood = done.status === 0, line = done.err.trim().replaceAll(`${IN} `, "");
   [session.ledger, session.made] = [done.out, null];
-  QUESTIONS.filter(({ asks }) => asks.test(done.err)).forEach(({ key }) => asked.add(key));
   box.hidden = false;
-  box.replaceChildren(head);
-  if (!isGood) {
-    const [, number] = /refused (E\d+)/.exec(done.err) ?? [];
-    const line = done.err.trim().replaceAll(IN, session.name).replace(/: (give|name) .*--.*$/, "");
-    made("p", number ? `${line}: ${REFUSALS[number].what}` : `${line}.`, box, { className: "bad" });
-    if (asked.size === 0) made("p", "No rule of edfmend mends it.", box);
-  }
-  const form = asked.size > 0 ? showQuestions(box, session) : null;
+  box.replaceChildren(title);
+  [...form.querySelectorAll("input")].filter((it) => new RegExp(it.dataset.asks).test(line))
+    .forEach((it) => { it.closest("p").hidden = form.hidden = false; });
+  const [, number] = /^refused (E\d+)/.exec(line) ?? [];
+  const why = number ? `${number}: ${REFUSALS[number].what}` : inWords("faults", line);
+  if (!isGood) made("p", sentence(why), box, { className: "bad" });
+  if (!isGood && form.hidden) made("p", wordsAt("no-rule"), box);
+  box.append(form);
   if (isGood) showMended(session);
-  (isGood || !form ? head : form.querySelector("input")).focus();
+  button("Close", made("p", null, box, { className: "buttons" }), () => {
+    box.hidden = true;
+    session.opener.focus();
+  }, title);
+  (isGood || form.hidden ? title : form.querySelector("p:not([hidden]) input")).focus();
   box.scrollIntoView({ block: "nearest" });
 }
 
-function offerMending(buttons, cell, name, at) {
-  const [box, head] = part("section", cell, "h4", `Mending ${name}`), { blob } = held[at];
+function offerMending(buttons, cell, { name, at }) {
+  const [box, title] = part("section", cell, "h4", `Mending ${name}`), { blob } = held[at];
+  const form = byId("questions").content.firstElementChild.cloneNode(true);
+  const session = { name, at, blob, box, title, form, made: null };
   Object.assign(box, { className: "mending", hidden: true });
-  button("Mend it…", buttons, () =>
-    look({ name, at, blob, box, head, answers: {}, asked: new Set(), made: null }))
-    .setAttribute("aria-label", `Mend it: ${name}`);
+  form.addEventListener("submit", (event) => {
+    event.preventDefault();
+    look(session);
+  });
+  session.opener = button("Mend it…", buttons, () => look(session), name);
 }

@@ -22,8 +22,24 @@ POLICY = (
     "script-src {script} 'wasm-unsafe-eval'; style-src {style}; worker-src blob:; img-src blob:"
 )
 # The parts of the page's script, in their order.
-SCRIPT = ("dom", "work", "files", "show", "views", "mend", "page")
+SCRIPT = ("dom", "work", "heads", "files", "show", "views", "mend", "page")
 NUMBER = re.compile(r"^- \*\*(E\d+)\*\*(?: `[^`]*`)?: ")
+SENTENCE = re.compile(r"(?<=[.?]) (?=[A-Z`])")
+# What a sentence has that is for a terminal alone, and words that are others on the page: nobody
+# sends it a file, it has one store, and edfmend is behind a button.
+TERMINAL = re.compile(r"`printf |'edfstore |`--\w|`edfmend` tells|On a terminal")
+OWN_WORDS = (
+    ("send it again", "get it again"),
+    ("edfstore and edfruns take", "this page takes"),
+    (r"(Give it|Take the file into) a store of its own",
+     "Or open this page a second time, and give it this file alone"),
+    ("edfmend", "“Mend it…”"),
+)
+# What the page says of a number beside that.
+OWN_POINTS = {"E8": [
+    "Is it such a piece? “Mend it…” can write the startdate's day into the recording field, but "
+    "the file becomes a recording of its own. Beside the card or good files take it out."
+]}
 
 
 def part(name):
@@ -35,9 +51,13 @@ def part(name):
 
 
 def plain(text):
-    """A text of a document without its marks. Nobody sends a file to the page."""
-    text = re.sub(r"\[([^\]]*)\]\([^)]*\)", r"\1", " ".join(text.split()))
-    return text.replace("`", "").replace("**", "").replace("send it again", "get it again")
+    """A text of a document without its marks, in the words of the page."""
+    sentences = [it for it in SENTENCE.split(" ".join(text.split())) if not TERMINAL.search(it)]
+    text = re.sub(r"\[([^\]]*)\]\([^)]*\)", r"\1", " ".join(sentences))
+    text = text.replace("`", "").replace("**", "")
+    for words, own in OWN_WORDS:
+        text = re.sub(words, own, text)
+    return text
 
 
 def entries(text):
@@ -67,7 +87,8 @@ def refusals():
         more = [point for point in more if not point.startswith("`edfmend`: ")]
         if "one of three things" in what:
             what = more.pop(0)
-        found[number] = {"what": plain(what), "more": list(map(plain, more)), "mends": mends}
+        more = [*filter(None, map(plain, more)), *OWN_POINTS.get(number, ())]
+        found[number] = {"what": plain(what), "more": more, "mends": mends}
     page = (DOCUMENTS / "edfmend.1").read_text("utf-8")
     rules = page[page.index(".SH RULES"):page.index(".SH OUTPUT")]
     found["rules"] = re.findall(r"^\.TP\n\.B (\w+)$", rules, re.M)

@@ -1,7 +1,5 @@
 // One job at a time, in a worker of its own, with its progress and a way to cancel it.
 
-const UNABLE = "This browser can't do the work of this page: it has no 64-bit memory for " +
-  "WebAssembly. Open the page in a current Chrome, Edge or Firefox.";
 const CANCELLED = { message: "Cancelled.", place: null };
 const IN = "in.edf";    // the name of a program's one file, whatever that is called
 const source = URL.createObjectURL(

@@ -13,14 +13,8 @@ const SLACK = 4 << 20;
 const IN = "in.edf";    // the name of a program's one file, whatever that is called
 
 // What stops a job, in words for the person, and the place of the file that is its cause.
-class Stop extends Error {
-  constructor(words, place = null) {
-    super(words);
-    this.place = place;
-  }
-}
-
-const memoryIsOut = () => new Stop("E41 Memory: the memory that the browser gives this page ran " +
+const stop = (words, place = null) => Object.assign(new Error(words), { place });
+const memoryIsOut = () => stop("E41 Memory: the memory that the browser gives this page ran " +
   "out. Take fewer files at once, or use the programs.");
 const textOf = (bytes) => new TextDecoder("utf-8", { ignoreBOM: true }).decode(bytes);
 const blobOf = (bytes) => new Blob([bytes], { type: "application/octet-stream" });
@@ -85,13 +79,10 @@ class Room {
   // Reads a file to its end, where it must have just as many bytes as it said. (A part of a file
   // is read by some browsers although the file is longer by now.)
   async read({ name, blob }, nth, place, told) {
-    const changed = new Stop(`${name} can't be read, or changed since it was chosen.`, nth);
+    const changed = stop(`${name} can't be read, or changed since it was chosen.`, nth);
     let at = 0;
     try {
-      const reader = blob.stream().getReader();
-      for (;;) {
-        const { done, value } = await reader.read();
-        if (done) break;
+      for await (const value of blob.stream()) {
         if (at + value.length > blob.size) throw changed;
         this.bytes(place + BigInt(at), value.length).set(value);
         told(at += value.length);
@@ -126,7 +117,7 @@ class Room {
 // Why the module stopped, by the lines that it wrote: the store refused, or memory ran out.
 function stopped(bytes) {
   const lines = textOf(bytes);
-  return / E42 \w+\n$/.test(lines) ? new Stop(lines) : memoryIsOut();
+  return / E42 \w+\n$/.test(lines) ? stop(lines) : memoryIsOut();
 }
 
 // What edfruns or edfmend does with one file: its status, what it wrote, and the files that it
@@ -142,10 +133,8 @@ async function ran(module, call, file, nth, told) {
     ? room.exports.runs(RUNS.indexOf(call), texts.at, texts.length, ...given, ...answer)
     : room.exports.mend(texts.at, texts.sizes, texts.count, texts.length, ...given, ...answer));
   if (status === 3) throw memoryIsOut();    // a failure: all is read and written in memory
-  const made = [];
-  for (let it = 0; it < rest.length; it += 2) {
-    made.push({ name: textOf(rest[it]), blob: blobOf(rest[it + 1]) });
-  }
+  const made = rest.flatMap((bytes, it) =>
+    it % 2 === 0 ? [] : [{ name: textOf(rest[it - 1]), blob: blobOf(bytes) }]);
   return { status, out: blobOf(out), err: textOf(err), made };
 }
 
@@ -217,7 +206,7 @@ onmessage = async ({ data }) => {
   try {
     postMessage({ done: await { take, run }[data.kind](data) });
   } catch (fault) {
-    const message = fault instanceof Stop ? fault.message
+    const message = fault && "place" in fault ? fault.message
       : `The page failed (${fault?.name}: ${fault?.message}). Try again, or use the programs.`;
     postMessage({ fault: { message, place: fault?.place ?? null } });
   }

@@ -93,7 +93,8 @@ class ChromiumHands(Hands):
         ask("Accessibility.enable")
 
     def press(self, key: str, shift: bool = False) -> None:
-        _, code, text = KEYS.get(key, ("", ord(key.upper()[0]), key))
+        plain = "", ord(key.upper()[0]) if key.isalnum() else 0, key
+        _, code, text = KEYS.get(key, plain)
         words = {"key": key, "code": {" ": "Space"}.get(key, key), "windowsVirtualKeyCode": code,
                  "modifiers": 8 * shift}
         self.browser.ask("Input.dispatchKeyEvent", type="keyDown" if text else "rawKeyDown",

@@ -31,9 +31,9 @@ class Native:
         return [sum_of(data), runs.decode(),
                 sum_of(self.run(self.edfruns, folder, "picture", "export.edf"))]
 
-    def given(self, folder: Path, paths: list) -> list:
-        """The same as the page gives; each file lies in a folder of its own. The last recording's
-        file stays there as export.edf."""
+    def given(self, folder: Path, paths: list, shown: list = ()) -> list:
+        """The same as the page gives; each file lies in a folder of its own, and has its own name
+        in the lines, or that of `shown`. The last recording's file stays there as export.edf."""
         self.seconds = 0.0
         for path in folder.glob("held.db*"):
             path.unlink()
@@ -41,17 +41,18 @@ class Native:
         taken = self.run(self.edfstore, folder, "take", "held.db", *names, statuses=(0, 1))
         listed = self.run(self.edfstore, folder, "list", "held.db").decode()
         count = len(listed.splitlines())
-        return [bare(taken.decode(), names), listed,
+        return [bare(taken.decode(), names, shown), listed,
                 [self.recording(folder, place) for place in range(1, count + 1)]]
 
 
-def bare(lines: str, names: list) -> str:
-    """The lines of files by their own names, without their folders'."""
+def bare(lines: str, names: list, shown: list) -> str:
+    """The lines of files by their own names, without their folders', or by the names shown."""
     made, at = [], 0
-    for name in map(str, names):
+    for nth, name in enumerate(map(str, names)):
         compare("a line of a file", lines[at:at + len(name)], name)
         stop = lines.index("\n", at + len(name)) + 1
-        made.append(lines[at + name.rfind("/") + 1:stop])
+        own = shown[nth] if shown else name[name.rfind("/") + 1:]
+        made.append(own + lines[at + len(name):stop])
         at = stop
     compare("behind the lines", lines[at:], "")
     return "".join(made)

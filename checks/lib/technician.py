@@ -1,7 +1,9 @@
 """A technician and the page, by keyboard alone: a night in pieces with one that was cut, one of
 other letters and a foreign one; why, and mending; the memory card; what is saved; cards of EDFlib;
 cancelling; and files that change later. All that is given and saved must be the programs'."""
+import re
 import time
+from datetime import datetime, timedelta
 from pathlib import Path
 
 from . import looks, page_files, printed
@@ -21,6 +23,15 @@ WATCH = """(() => {
 })()"""
 SECONDS = 60            # that a step may take
 TEXT = "document.getElementById('results').innerText"
+GAPS = """[...document.querySelectorAll("article details tbody tr")].map(({ cells }) =>
+  [...cells].map((it) => it.textContent))"""
+IS_ASKED = "document.getElementById('question').open"
+CODE = ("The patient's code: 1 to 60 letters, digits or signs, no accents, no space, and not X "
+        "alone")
+IN_ITS_FILE = "Put each annotation into the file of the time when it happened"
+JOINS = "What names its recording stays: it joins the good files of its night."
+IS_OWN = ("This file will not join the good files of its night: what names its recording changes, "
+          "so its recording field then ends in “mended”.")
 
 
 def names_file() -> bytes:
@@ -40,11 +51,36 @@ def spread(starts: list, onsets: list) -> bytes:
     return fragment(header, records)
 
 
+def on_page(text: str) -> str:
+    """A sentence of the terminal in the words of the page."""
+    text = text.replace("send it again", "get it again").replace("edfmend", "“Mend it…”")
+    return text[0].upper() + text[1:] + "."
+
+
+def lasting(seconds: float) -> str:
+    """Seconds as a person says them."""
+    parts = (int(seconds // 3600), "h"), (int(seconds // 60 % 60), "min"), (seconds % 60, "s")
+    return " ".join(f"{number:g} {unit}" for number, unit in parts if number)
+
+
+def gaps(runs: str) -> list:
+    """What is missing by the lines of edfruns: from, to and how long."""
+    found = []
+    for line in runs.splitlines():
+        told = dict(re.findall(r"(\w+)=(\S+)", line))
+        if "gap" in told:
+            gap = float(told["gap"])
+            begin = datetime.fromisoformat(told["first"]) + timedelta(0, float(told["seconds"]))
+            at = [it.isoformat() for it in (begin, begin + timedelta(0, gap))]
+            found.append([it.rstrip("0") if "." in it else it for it in at] + [lasting(gap)])
+    return found
+
+
 class Technician:
     def __init__(self, bench, hands, folder: Path, native):
         self.bench, self.hands, self.native = bench, hands, native
         self.folder = folder / f"technician-{bench.name}"
-        self.paths = []
+        self.paths, self.taken = [], ""
 
     def open(self) -> None:
         self.bench.browser.open(self.bench.page)
@@ -73,9 +109,49 @@ class Technician:
     def same(self, what: str, got, expected) -> None:
         self.bench.same(f"technician: {what}", got, expected)
 
-    def gives(self, what: str) -> None:
+    def gives(self, what: str, shown: list = ()) -> None:
         """The page's answer is the programs' of all files that it has."""
-        self.same(what, self.bench.given(), self.native.given(self.folder, self.paths))
+        expected = self.native.given(self.folder, self.paths, shown)
+        self.taken = expected[0]
+        self.same(what, self.bench.given(), expected)
+
+    def came(self, count: int, path: Path) -> None:
+        """What it says of the last so many files, by the programs' lines and the duration of a data
+        record, which is that of this file."""
+        duration, told, sums = float(path.read_bytes()[244:252]), [], [0, 0]
+        for line in self.taken.splitlines()[-count:]:
+            name, new, known = re.fullmatch(
+                r"(.*?) (?:refused .*|accepted new=(\d+) known=(\d+))", line).groups()
+            numbers = [int(new or 0), int(known or 0)]
+            sums = [one + more for one, more in zip(sums, numbers)]
+            told.append(f"{name}, " + (self.records(*numbers, duration) if new else "refused"))
+        if count > 5:
+            told = [f"{count} files, " + self.records(*sums, duration)]
+        self.says(f"Just added: {'; '.join(told)}.")
+
+    @staticmethod
+    def records(new: int, known: int, duration: float) -> str:
+        lasts = f" ({lasting(new * duration)})" if new else ""
+        return f"{new} new data record{'s' * (new != 1)}{lasts}, {known} known"
+
+    def starts_over(self, *asked: str) -> None:
+        """It asks first where it is to name what is not saved."""
+        before = self.bench.given()
+        self.hands.use("button", "Start over")
+        self.same("it asks", self.bench.browser.value(IS_ASKED), bool(asked))
+        if asked:
+            self.same("what is not saved", self.bench.browser.value(
+                "document.getElementById('unsaved').textContent"), "; ".join(asked))
+            self.looks("what is not saved")
+            self.hands.use("button", "Keep it")
+            self.same("it is kept", self.bench.given(), before)
+            self.hands.use("button", "Start over")
+            self.hands.use("button", "Throw it away")
+        self.same("the state", self.bench.browser.value("document.body.dataset.state"), "idle")
+        self.same("nothing is left", self.bench.given(), None)
+        self.same("what has the focus", self.bench.browser.value("document.activeElement.id"),
+                  "choose-files")
+        self.paths = []
 
     def chooses(self, button: str, paths: list) -> None:
         def choose():
@@ -92,6 +168,8 @@ class Technician:
     def looks(self, what: str) -> None:
         """Each state, by its names, and on both screens, light and dark."""
         self.same(f"{what}: controls without a name", self.hands.nameless(), [])
+        self.same(f"{what}: words of a terminal", re.findall(
+            r"edfmend|Usage|printf|--[a-z]+", self.bench.browser.value(TEXT)), [])
         for screen, (width, height) in looks.SIZES.items():
             for is_dark in (False, True):
                 self.hands.screen(width, height, is_dark)
@@ -135,13 +213,14 @@ def night(it: Technician) -> None:
         ("notes.txt", b"no recording\n" * 40), ("names.edf", names_file()),
         ("part6.edf", parts[6]), ("part2.edf", parts[2])]))
     it.says("7 files: 4 accepted, 3 refused. 1 recording.", "E21 CutRecord record=60",
-            *(text[0].upper() + text[1:] + "." for text in (
-                printed.CUT.replace("send", "get"), printed.OTHER_LETTERS, NO_EDF)))
+            *map(on_page, (printed.CUT, printed.OTHER_LETTERS, NO_EDF)))
+    it.came(7, it.paths[0])
     it.looks("refused")
     mends_cut(it, cut)
     mends_names(it)
     it.chooses("Add files", [it.made("card.edf", (OXIMETER / "card.edf").read_bytes())])
     it.says("2 recordings.")
+    it.came(1, it.paths[-1])
     it.looks("with the card")
 
 
@@ -149,43 +228,42 @@ def mends_cut(it: Technician, cut: bytes) -> None:
     """The file that was cut comes to its night."""
     it.same("mending is looked at", it.press("Mend it: cut.edf", key=" "), "done")
     ledger, front = it.mend("front.edf", cut)
-    it.saves("Save the list of changes", "edfmend-changes.txt", ledger)
+    it.says(JOINS)
+    it.saves("Save the list of changes", "cut-changes.txt", b"cut.edf\n" + ledger)
     it.saves("Save the mended file", "OX-7_2023-11-05T00_55_00-mended.edf", front)
     it.looks("mending")
     it.paths[2] = it.made("cut.edf (mended)", front)
-    it.same("it is taken", it.press("Take the mended file with the others"), "done")
+    it.same("it is taken", it.press("Take it with the others"), "done")
     it.gives("with the mended file")
 
 
 def mends_names(it: Technician) -> None:
     """What edfmend asks is asked, and answered with a wrong code first."""
     it.press("Mend it: names.edf")
-    it.says("names.edf names no code of a patient.")
+    it.says("It names no code of a patient: type the code.")
     it.looks("mending asks")
-    field = ("The patient's code, as the night's other files have it: 1 to 60 letters, digits or "
-             "signs, no space")
-    it.hands.go("textbox", field)
+    it.hands.go("textbox", CODE)
     it.hands.write("S 1")
     it.after(lambda: it.hands.press("Enter"))
+    it.says("This is no code as the field wants it.")
     it.same("no mended file", it.hands.has("button", "Save the mended file"), False)
-    it.hands.go("textbox", field)
+    it.hands.go("textbox", CODE)
     for _ in range(3):
         it.hands.press("Backspace")
     it.hands.write("S-9")
     it.after(lambda: it.hands.press("Enter"))
     ledger, mended = it.mend("new.edf", names_file(), "--patient", "S-9")
-    it.saves("Save the list of changes", "edfmend-changes.txt", ledger)
+    it.says("patient field\tMüller Hans\tS-9 X X Mueller_Hans\n", IS_OWN)
+    it.saves("Save the list of changes", "names-changes.txt", b"names.edf\n" + ledger)
     it.saves("Save the mended file", "N1_2002-03-02T23_10_00-mended.edf", mended)
     it.paths[4] = it.made("names.edf (mended)", mended)
-    it.press("Take the mended file with the others")
+    it.press("Take it, apart from the good files")
     it.gives("with both mended files")
 
 
 def saves_all(it: Technician) -> None:
     """The oximeter's night alone: all that may be saved of it."""
-    it.hands.use("button", "Start over")
-    it.same("the state", it.bench.browser.value("document.body.dataset.state"), "idle")
-    it.paths = []
+    it.starts_over("Patient S-0118, investigation OX-7", "Patient S-9, investigation N1")
     it.chooses("Choose files", written(it.folder / "saved", [
         (f"part{nth}.edf", (OXIMETER / f"part{nth}.edf").read_bytes()) for nth in (2, 1, 6)]))
     export = (it.folder / "export.edf").read_bytes()
@@ -196,34 +274,43 @@ def saves_all(it: Technician) -> None:
     size = f"{-(-len(export) // 1000)} kB"
     it.saves(f"Save the EDF+D file ({size})", f"{NAME}.edf", export)
     it.saves("Save the picture", f"{NAME}.svg", picture)
-    it.saves("Save the picture without the code", f"{NAME}-without-code.svg", plain)
-    it.saves("Save the list of gaps", f"{NAME}.txt", listed.encode() + runs)
+    it.saves("Save the picture without the patient's code", f"{NAME}-without-code.svg", plain)
+    missing = gaps(runs.decode())
+    it.same("gaps", it.bench.browser.value(GAPS), [[" ".join(it.split("T")) for it in row]
+                                                   for row in missing])
+    it.saves("Save the list of gaps", f"{NAME}.txt", listed.encode() + runs + "".join(
+        f"missing from {begin} to {end}, {long}\n" for begin, end, long in missing).encode())
     it.saves("Save the list of files", "edfstore-answers.txt",
              "".join(it.bench.given()[:2]).encode())
     it.press("Make 2 EDF+C files")
     it.looks("for viewers")
-    saves_runs(it, NAME)
+    it.says("Without it too no annotation is outside of the time of its file: so it is off at "
+            "first.")
+    saves_runs(it, "OX-7")
     it.hands.use("checkbox", "The patient's code in the names of saved files", " ")
     it.saves(f"Save the EDF+D file ({size})", f"S-0118_{NAME}.edf", export)
-    saves_runs(it, f"S-0118_{NAME}")
+    saves_runs(it, "S-0118_OX-7")
+    it.starts_over()
 
 
 def saves_runs(it: Technician, name: str, *words) -> None:
+    """Each file is named by its own start."""
     folder = it.folder / "runs"
     folder.mkdir(exist_ok=True)
     for path in folder.iterdir():
         path.unlink()
-    it.native.run(it.native.edfruns, it.folder, "split", *words, "export.edf", "runs/run")
-    for nth, path in enumerate(sorted(folder.iterdir()), 1):
-        data = path.read_bytes()
-        it.saves(f"Save file {nth} ({-(-len(data) // 1000)} kB)", f"{name}-{nth}.edf", data)
+    told = it.native.run(it.native.edfruns, it.folder, "split", *words, "export.edf", "runs/run")
+    firsts = re.findall(r" first=(\S+)", told.decode())
+    end = "-by-onset" if words else ""
+    for nth, (first, path) in enumerate(zip(firsts, sorted(folder.iterdir())), 1):
+        data, start = path.read_bytes(), first.replace(":", "_")
+        it.saves(f"Save file {nth} ({-(-len(data) // 1000)} kB)",
+                 f"{name}_{start}-{nth}{end}.edf", data)
 
 
 def by_onset(it: Technician) -> None:
     """A card and a piece whose annotations are spread as EDFlib has them: E31 as they are, and one
     recording by onset. The files for viewers are by onset where an annotation is outside of its."""
-    it.hands.use("button", "Start over")
-    it.paths = []
     starts = [*range(0, 8), *range(20, 26)]
     files = [("card.edf", spread(starts, [2, 5, 6, 22])),
              ("piece.edf", spread(starts[4:8], [5, 6]))]
@@ -234,9 +321,11 @@ def by_onset(it: Technician) -> None:
     it.press("Make 2 EDF+C files")
     it.until("document.body.dataset.state === 'done' && document.querySelector('article input')"
              ".checked")
-    saves_runs(it, "N1_2002-03-02T01_00_00", "--by-onset")
-    it.press("Each annotation in the file of the time when it happened", "checkbox", " ")
-    saves_runs(it, "N1_2002-03-02T01_00_00")
+    it.says("Without it 1 annotation would be outside of the time of the file, where viewers show "
+            "none: so it is on at first.")
+    saves_runs(it, "N1", "--by-onset")
+    it.press(IN_ITS_FILE, "checkbox", " ")
+    saves_runs(it, "N1")
     it.same("it is sorted", it.press("Take all again, annotations by onset first"), "done")
     it.paths = written(it.folder / "sorted", [(path.name, it.native.run(
         it.native.edfruns, path.parent, "canonical", "--by-onset", path.name))
@@ -289,8 +378,10 @@ def drops(it: Technician) -> None:
     it.same("drop", it.after(lambda: it.hands.drop(it.paths)), "done")
     it.gives("dropped files")
     it.after(lambda: it.hands.drop([it.folder / "dropped", it.paths[0]]))
+    inside = [str(path.relative_to(it.folder)) for path in it.paths]
     it.paths = [*it.paths, *it.paths, it.paths[0]]
-    it.gives("a dropped folder of folders, and a file")
+    it.gives("a dropped folder of folders, and a file",
+             ["part1.edf", "part2.edf", *inside, "part1.edf"])
 
 
 def all_of_it(bench, hands, folder: Path, native, big: Path = None) -> None:
