@@ -10,6 +10,7 @@
  *   d  the folder was synced       i  another file, of this name, was opened
  *   o  these bytes were printed
  *
+ * A program that renames, links or removes one of the two files is stopped: no entry would tell it.
  * Random bytes come from ENTROPY, so that the same words make the same calls. */
 #define _GNU_SOURCE
 #include <errno.h>
@@ -17,6 +18,7 @@
 #include <limits.h>
 #include <stdarg.h>
 #include <stdint.h>
+#include <stdio.h>
 #include <stdlib.h>
 #include <string.h>
 #include <sys/syscall.h>
@@ -124,6 +126,28 @@ int ftruncate(int file, off_t size) {
 }
 
 int ftruncate64(int file, off_t size) __attribute__((alias("ftruncate")));
+
+static void must_be_other(const char *path) {
+  char whole[PATH_MAX];
+  if (!realpath(path, whole)) return;
+  if (strcmp(whole, names[STORE]) == 0 || strcmp(whole, names[LOG]) == 0) abort();
+}
+
+int rename(const char *from, const char *to) {
+  must_be_other(from);
+  must_be_other(to);
+  return syscall(SYS_renameat, AT_FDCWD, from, AT_FDCWD, to);
+}
+
+int link(const char *from, const char *to) {
+  must_be_other(from);
+  return syscall(SYS_linkat, AT_FDCWD, from, AT_FDCWD, to, 0);
+}
+
+int unlink(const char *path) {
+  must_be_other(path);
+  return syscall(SYS_unlinkat, AT_FDCWD, path, 0);
+}
 
 static int synced(int file, int status) {
   if (status == 0 && is(file) <= LOG) note('s', is(file), 0, "", 0);

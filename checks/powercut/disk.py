@@ -116,13 +116,15 @@ def some_share(count: int, rng: random.Random) -> float:
 
 
 @dataclass
-class Takes:
-    """The calls of a `take`, from the call `first` on; those before are of one that was killed."""
+class Run:
+    """The calls of a run of a program to which files are given, from the call `first` on; those
+    before are of one that was killed."""
     what: str
+    way: str                # how the files are given
     begun: tuple            # what each file held at the start, or None for no file
     calls: list
     first: int = 0
-    least: int = 0          # how many files of the list are held as the take begins, at least
+    least: int = 0          # how many files of the list are held as the run begins, at least
     most: int = 0           # and at most
 
     def files(self, moment: int) -> list:
@@ -165,7 +167,11 @@ class Takes:
             moment -= 1
         return moment
 
-    def place_of(self, letter: str) -> int:
-        """Where the take made the first call of a kind."""
+    def bounds(self) -> tuple:
+        """Where it begins to open the store, to take files, and to end; and its end. It takes files
+        from the first other one that it opens to what it prints after the last one."""
         places = range(self.first, len(self.calls))
-        return next(at for at in places if self.calls[at].letter == letter)
+        opened = [at for at in places if self.calls[at].letter == "i"]
+        ending = next(at for at in places[opened[-1] - self.first:]
+                      if self.calls[at].letter == "o")
+        return self.first, opened[0], ending, len(self.calls)

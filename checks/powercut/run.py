@@ -1,21 +1,25 @@
-"""Cuts the power of `edfstore take`, by the calls that it makes, and looks at what is held.
+"""Cuts the power of `edfstore take` and of sessions of `edfserve`, by the calls that they make, and
+looks at what is held.
 
-    python3 -m checks.powercut.run [--program PATH] [--seed SEED] [--only N] [COUNT]
+    python3 -m checks.powercut.run [--program PATH] [--edfserve PATH] [--seed SEED] [--only N]
+                                   [COUNT]
 
-1,000 states if left out; needs `cc`. A night of thirty files is taken by the program, and its
-writes, syncs and changes of length are written down (`calls.c`, loaded before the C library): into
-no store, over stores of takes that were killed, and over stores that a cut of power left. At random
-moments, in the opening, while the log is copied and at the end too, the two files are laid out as a
-disk may leave them (`disk.py`). Each such pair is opened by `list` and `export`, and must hold what
-a front of the list leaves, byte for byte by the plain model. It holds no less than where all is
-lost that was not synced, than the files that the program had gone past, and than those that it had
-printed as accepted; and no more than those that it had opened. Then the rest of the list, or all of
-it, is taken: each file is answered as it must be, and the export is the night's.
+1,000 states if left out, half of them of each; needs `cc`. A night of thirty files is taken by a
+`take`, and by a session that gets a line for each file once it has answered the one before. Their
+writes, syncs and changes of length are written down, and what they print (`calls.c`, loaded before
+the C library): into no store, over stores of either that was killed, and over stores that a cut of
+power left. At random moments, in the opening, while the log is copied and at the end too, the two
+files are laid out as a disk may leave them (`disk.py`). Each such pair is opened by `list` and
+`export`, and must hold what a front of the list leaves, byte for byte by the plain model. It holds
+no less than where all is lost that was not synced, than the files that the program had gone past,
+and than those that it had printed as accepted, as a session does after each; and no more than those
+that it had opened. Then the rest of the list, or all of it, is given in the same way: each file is
+answered as it must be, and the export is the night's.
 
-Three controls must fail: a synced sector of the log, of a file that is held, is zeroed or as it was
-before; and a disk does not carry out the syncs of the log, or those of the store's file. The status
-is 1 where a state is wrong, or where half of a control's states are right. A wrong state's files
-are kept, and `--only N` with the same seed lays it out again.
+Three controls must fail, for a `take` and for a session: a synced sector of the log, of a file that
+is held, is zeroed or as it was before; and a disk does not carry out the syncs of the log, or those
+of the store's file. The status is 1 where a state is wrong, or where half of a control's states are
+right. A wrong state's files are kept, and `--only N` with the same seed lays it out again.
 """
 import collections
 import functools
@@ -28,20 +32,21 @@ import tempfile
 from dataclasses import dataclass, replace
 from pathlib import Path
 
-from checks.lib import arguments, measure, model, night, printed
+from checks.lib import anew, arguments, measure, model, night, printed, serving
 from checks.lib.checks import end
 from checks.powercut import disk
 
 # 30 data records a file; after about two thirds of the files the log is long enough to be copied.
 NIGHT = night.Night(records=900, samples=(1600, 1600), fragments=30)
-AGAIN = 8           # takes over a store of a killed one, and as many over one that a cut left
-CONTROLLED = 40     # states of each control
+WAYS = TAKE, SESSION = "take", "session"
+AGAIN = 8           # runs of each way over a store of a killed one, and as many over one of a cut
+CONTROLLED = 40     # states of each control, for each way
 SECONDS = 120       # that a run of the program may take
 PARTS = ("the opening", "the taking", "the end")
 
 
 class Unfit(Exception):
-    """What a take without cuts did that no state can be made of."""
+    """What a run without cuts did that no state can be made of."""
 
 
 @dataclass
@@ -55,9 +60,9 @@ class Found:
 
 
 class Bench:
-    def __init__(self, program: Path, folder: Path, seed: int):
-        self.program = measure.Program(program, most=SECONDS)
-        self.folder, self.seed = folder, seed
+    def __init__(self, given, folder: Path):
+        self.program, self.edfserve = measure.Program(given.program, most=SECONDS), given.edfserve
+        self.folder, self.seed = folder, given.seed
         self.library = measure.library(Path(__file__).resolve().parent / "calls.c", folder)
         self.parts = NIGHT.parts(folder)
         held, nothing = model.Store(), hashlib.sha256(b"").digest()
@@ -66,7 +71,7 @@ class Bench:
             held.take(part.read_bytes())
             self.lists.append(held.lines().encode())
             self.exports.append(hashlib.sha256(held.export(1)).digest())
-        self.takes = []
+        self.runs = []          # a take and a session into no store, then the others
 
     def chance(self, *words) -> random.Random:
         return random.Random(":".join(map(str, (self.seed, *words))))
@@ -82,26 +87,39 @@ class Bench:
         write_pair(self.own_folder(), pair)
         return self.own_folder() / "s.db"
 
-    def taken(self, what: str, pair) -> disk.Takes:
-        """The calls of a take of the whole list over such a store."""
-        store, calls = self.laid(pair), self.own_folder() / "calls"
+    def given(self, way: str, store: Path, parts: list, added: dict = None) -> measure.Ran:
+        """Gives files to a store, one after the other. Of what a session answers it leaves out the
+        statuses of accepted files, so that it is what `take` prints."""
+        if way == TAKE:
+            return self.program.ran("take", store, *parts, added=added)
+        client = serving.Client(self.edfserve, store.parent, added=added)
+        told = "".join(anew.asked(client, f"take {part}") for part in parts)
+        status, err = anew.ended(client)
+        told = told.replace(serving.status(0), "")
+        return measure.Ran(status, told.encode(), err.encode(), seconds=0)
+
+    def recorded(self, way: str, over: str, pair) -> disk.Run:
+        """The calls while the whole list is given to such a store."""
+        what, store, calls = f"{way} {over}", self.laid(pair), self.own_folder() / "calls"
         added = {"LD_PRELOAD": str(self.library), "STORE": str(store), "CALLS": str(calls),
                  "ENTROPY": str(self.chance("entropy", what).getrandbits(63))}
-        ran = self.program.ran("take", store, *self.parts, added=added)
+        ran = self.given(way, store, self.parts, added)
         if ran.status or printed.count_accepted(ran.out) != len(self.parts):
             raise Unfit(f"{what}: {ran}")
-        takes = disk.Takes(what, tuple(pair), disk.read_calls(calls))
-        if takes.seen(len(takes.calls)) != read_pair(store):
+        run = disk.Run(what, way, tuple(pair), disk.read_calls(calls))
+        if run.seen(len(run.calls)) != read_pair(store):
             raise Unfit(f"{what}: the calls that were written down do not make the files there")
-        return takes
+        if self.done(run, len(run.calls)) != (len(self.parts),) * 3:
+            raise Unfit(f"{what}: not all files were written down as opened and accepted")
+        return run
 
-    def done(self, takes: disk.Takes, moment: int) -> tuple:
-        """How many files the take had gone past by then, printed as accepted, and opened."""
-        calls = takes.calls[takes.first:moment]
+    def done(self, run: disk.Run, moment: int) -> tuple:
+        """How many files the run had gone past by then, printed as accepted, and opened."""
+        calls = run.calls[run.first:moment]
         names = {str(part).encode() for part in self.parts}
         opened = sum(call.letter == "i" and call.data in names for call in calls)
-        known = sum(printed.count_accepted(call.data) for call in calls if call.letter == "o")
-        return max(takes.least, opened - 1, known), known, max(takes.most, opened)
+        known = printed.count_accepted(b"".join(call.data for call in calls if call.letter == "o"))
+        return max(run.least, opened - 1, known), known, max(run.most, opened)
 
     def front(self, store: Path, *orders: str) -> Found:
         """Which front `list` and `export` print, run in this order."""
@@ -122,22 +140,23 @@ class Bench:
     def first_held(self, pair) -> Found:
         return self.front(self.laid(pair), "list")
 
-    def taken_again(self, store: Path, front: int, begin: int) -> str:
-        """What is wrong where the list is taken from a place that is not after the held front."""
-        ran = self.program.ran("take", store, *self.parts[begin:])
+    def given_again(self, way: str, store: Path, front: int, begin: int) -> str:
+        """What is wrong where the list is given from a place that is not after the held front."""
+        ran = self.given(way, store, self.parts[begin:])
         records = NIGHT.records // NIGHT.fragments
         answers = (printed.accepted(*((0, records) if nth < front else (records, 0)))
                    for nth in range(begin, len(self.parts)))
         expected = printed.lines(*zip(self.parts[begin:], answers))
         if ran.status or ran.err or ran.out.decode() != expected:
-            return f"taken again: {ran}"
+            return f"given again to a {way}: {ran}"
         found = self.front(store, "export", "list")
         if found.wrong or found.front == len(self.parts):
             return found.wrong
-        return f"taken again: {found.front} files are held"
+        return f"given again to a {way}: {found.front} files are held"
 
-    def judged(self, pair, least: int, most: int, rng: random.Random) -> Found:
-        """What two files come to that must hold so many files, at least and at most."""
+    def judged(self, way: str, pair, least: int, most: int, rng: random.Random) -> Found:
+        """What two files come to that must hold so many files, at least and at most, and are then
+        given the others in that way."""
         store = self.laid(pair)
         found = self.front(store, *rng.choice((("list", "export"), ("export", "list"))))
         if found.wrong:
@@ -147,7 +166,7 @@ class Bench:
         if found.front > most:
             return Found(found.front, f"more files: {found.front} are held, and {most} were opened")
         begin = rng.choice((0, found.front)) if found.front < len(self.parts) else 0
-        return Found(found.front, self.taken_again(store, found.front, begin))
+        return Found(found.front, self.given_again(way, store, found.front, begin))
 
 
 def write_pair(folder: Path, pair) -> None:
@@ -170,31 +189,34 @@ def kept(name, pair) -> Path:
     return folder
 
 
-BENCH: Bench = None     # of this run, and of the processes that are forked from it
+BENCH: Bench = None     # of this check, and of the processes that are forked from it
 
 
 @functools.lru_cache(maxsize=None)
 def least_left(which: int, synced: int) -> Found:
     """What is held where all is lost that was not synced after so many calls."""
-    return BENCH.first_held([file.lasting() for file in BENCH.takes[which].files(synced)])
+    return BENCH.first_held([file.lasting() for file in BENCH.runs[which].files(synced)])
 
 
-def some_moment(takes: disk.Takes, rng: random.Random) -> tuple:
-    """After how many calls the power is cut, and in which part of the take; if ten tries find it,
+def some_moment(run: disk.Run, rng: random.Random) -> tuple:
+    """After how many calls the power is cut, and in which part of the run; if ten tries find it,
     when something is not synced."""
     for _ in range(10):
-        moment, part = any_moment(takes, rng)
-        if takes.has_unsynced(moment):
+        moment, part = any_moment(run, rng)
+        if run.has_unsynced(moment):
             break
     return moment, part
 
 
-def any_moment(takes: disk.Takes, rng: random.Random) -> tuple:
-    """The same at any call, somewhere between two syncs, or just before a sync."""
-    part, how = rng.choices(PARTS, (1, 3, 1))[0], rng.choice(("any", "between", "before"))
-    bounds = (takes.first, takes.place_of("i"), takes.place_of("o"), len(takes.calls))
-    begin, end = bounds[PARTS.index(part):][:2]
-    syncs = [at for at in range(begin, end) if takes.calls[at].letter in "ds"]
+def any_moment(run: disk.Run, rng: random.Random) -> tuple:
+    """The same at any call, somewhere between two syncs, just before a sync, or just after
+    something was printed."""
+    part, how = rng.choices(PARTS, (1, 3, 1))[0], rng.choice(("any", "between", "before", "after"))
+    begin, end = run.bounds()[PARTS.index(part):][:2]
+    syncs, printings = ([at for at in range(begin, end) if run.calls[at].letter in letters]
+                        for letters in ("ds", "o"))
+    if how == "after" and printings:
+        return rng.choice(printings) + 1, part
     if how == "any" or not syncs:
         return rng.randint(begin, end), part
     at = rng.randrange(len(syncs))
@@ -202,63 +224,74 @@ def any_moment(takes: disk.Takes, rng: random.Random) -> tuple:
     return (syncs[at] if how == "before" else rng.randint(before, syncs[at])), part
 
 
+def some_run(number: int, rng: random.Random) -> int:
+    """Which run the power of this state is cut in: a take and a session in turn, half of the times
+    the one into no store."""
+    first = number % len(WAYS)
+    alike = [nth for nth, run in enumerate(BENCH.runs) if run.way == WAYS[first]]
+    return first if rng.random() < 0.5 else rng.choice(alike)
+
+
 def state(number: int) -> tuple:
     """Lays a state out and judges it: what is to be counted, and what is wrong."""
     rng = BENCH.chance("state", number)
-    which = 0 if rng.random() < 0.5 else rng.randrange(len(BENCH.takes))
-    takes = BENCH.takes[which]
-    moment, part = some_moment(takes, rng)
-    files = takes.files(moment)
+    which = some_run(number, rng)
+    run = BENCH.runs[which]
+    moment, part = some_moment(run, rng)
+    files = run.files(moment)
     pair = [file.torn(rng) for file in files]
-    past, accepted, opened = BENCH.done(takes, moment)
-    lost = least_left(which, takes.last_sync(moment))
-    found = lost if lost.wrong else BENCH.judged(pair, max(past, lost.front), opened, rng)
+    past, accepted, opened = BENCH.done(run, moment)
+    lost = least_left(which, run.last_sync(moment))
+    least = max(past, lost.front)
+    found = lost if lost.wrong else BENCH.judged(run.way, pair, least, opened, rng)
     if found.wrong:
-        place = f"{takes.what}, {moment} of {len(takes.calls)} calls, {part}"
+        place = f"{run.what}, {moment} of {len(run.calls)} calls, {part}"
         return None, (f"state {number}, {place}: {found.wrong}; {lost.front} files with all lost, "
                       f"{past} gone past, {accepted} accepted, {opened} opened; "
                       f"{kept(number, pair)} has the two files")
     is_copied = part != "the opening" and bool(files[disk.STORE].versions)
-    return {"take": takes.what.split(",")[0], "part": part, "front": found.front,
+    return {"run": run.what.split(",")[0], "part": part, "front": found.front,
             "copied": is_copied, "lost": pair != [file.now for file in files],
             "missing": None in pair, "more": found.front > lost.front,
-            "fewer": found.front < accepted}, ""
+            "told": accepted > 0}, ""
 
 
-def sector_lost(number: int) -> Found:
+def sector_lost(which: int, number: int) -> Found:
     """A control: after a sync of the log that made a file last, a sector which that sync wrote is
     zeroed, or as it was before."""
-    rng, takes = BENCH.chance("sector", number), BENCH.takes[0]
-    syncs = [at for at in range(takes.place_of("i"), takes.place_of("o"))
-             if takes.calls[at].letter == "s" and takes.calls[at].file == disk.LOG]
+    run = BENCH.runs[which]
+    rng = BENCH.chance("sector", run.way, number)
+    syncs = [at for at in range(*run.bounds()[1:3])
+             if run.calls[at].letter == "s" and run.calls[at].file == disk.LOG]
     rng.shuffle(syncs)
     for at in syncs:
-        held = least_left(0, at + 1).front
-        if held > least_left(0, takes.last_sync(at)).front:
+        held = least_left(which, at + 1).front
+        if held > least_left(which, run.last_sync(at)).front:
             break
-    store, was = takes.files(at)
+    store, was = run.files(at)
     changed = [sector for sector, versions in was.versions.items()
                if any(versions[-1]) and versions[-1] != disk.padded(was.synced, sector)]
     sector, left = rng.choice(changed), bytearray(was.now)
     begin = sector * disk.SECTOR
     lost = rng.choice((bytes(disk.SECTOR), disk.padded(was.synced, sector)))
     left[begin:begin + disk.SECTOR] = lost[:len(left) - begin]
-    return BENCH.judged([store.lasting(), bytes(left)], held, len(BENCH.parts), rng)
+    pair = [store.lasting(), bytes(left)]
+    return BENCH.judged(run.way, pair, held, len(BENCH.parts), rng)
 
 
-def syncs_lost(file: int, number: int) -> Found:
+def syncs_lost(file: int, which: int, number: int) -> Found:
     """A control: from the first of the files on, the disk does not carry out a file's syncs."""
-    rng, takes = BENCH.chance("syncs", file, number), BENCH.takes[0]
-    begin = takes.place_of("i")
-    calls, lost = list(takes.calls), []
-    for at in range(begin, len(calls)):
+    run = BENCH.runs[which]
+    rng = BENCH.chance("syncs", file, run.way, number)
+    calls, lost = list(run.calls), []
+    for at in range(run.bounds()[1], len(calls)):
         if calls[at].letter == "s" and calls[at].file == file:
             lost.append(at)
             calls[at] = replace(calls[at], letter="not done")
     moment = rng.randint(lost[0], lost[-1] + 1)
-    past, _, opened = BENCH.done(takes, moment)
-    files = replace(takes, calls=calls).files(moment)
-    return BENCH.judged([file.torn(rng) for file in files], past, opened, rng)
+    past, _, opened = BENCH.done(run, moment)
+    files = replace(run, calls=calls).files(moment)
+    return BENCH.judged(run.way, [file.torn(rng) for file in files], past, opened, rng)
 
 
 CONTROLS = (("a sector of the log lost", sector_lost),
@@ -266,67 +299,71 @@ CONTROLS = (("a sector of the log lost", sector_lost),
             ("the syncs of the store's file not done", functools.partial(syncs_lost, disk.STORE)))
 
 
-def taken_again(number: int) -> list:
-    """A take over a store of a killed one, and a take over a store that a cut of power left."""
-    rng, first = BENCH.chance("again", number), BENCH.takes[0]
+def recorded_again(number: int) -> list:
+    """A run over the store of a killed one, and a run over the store that a cut of power left."""
+    way, first = WAYS[number % 2], BENCH.runs[number // 2 % 2]
+    rng = BENCH.chance("again", number)
     moment, _ = some_moment(first, rng)
     past, _, opened = BENCH.done(first, moment)
-    killed = BENCH.taken(f"over a killed take, {number}", first.seen(moment))
+    killed = BENCH.recorded(way, f"over a killed {first.way}, {number}", first.seen(moment))
     calls = [call for call in first.calls[:moment] if call.letter not in "io"]
     killed = replace(killed, begun=first.begun, calls=calls + killed.calls, first=len(calls),
                      least=past, most=opened)
     left = tuple(file.torn(rng) for file in first.files(some_moment(first, rng)[0]))
+    over = f"over a cut {first.way}, {number}"
     found = BENCH.first_held(left)
     if found.wrong:
-        raise Unfit(f"over a cut take, {number}: {found.wrong}; "
+        raise Unfit(f"{way} {over}: {found.wrong}; "
                     f"{kept(f'cut-{number}', left)} has the two files")
-    cut = BENCH.taken(f"over a cut take, {number}", left)
+    cut = BENCH.recorded(way, over, left)
     return [killed, replace(cut, least=found.front, most=found.front)]
 
 
 def report(counts: list) -> None:
     """Prints what the states were that are not wrong."""
-    for key, word in (("take", ""), ("part", "in ")):
+    for key, word in (("run", "of a "), ("part", "in ")):
         counted = collections.Counter(count[key] for count in counts)
         print(", ".join(f"{number} {word}{name}" for name, number in sorted(counted.items())))
     many = {key: sum(count[key] for count in counts)
-            for key in ("copied", "lost", "missing", "more", "fewer")}
-    print(f"{many['copied']} while the log was copied, {many['lost']} with something lost, "
-          f"{many['missing']} of them a file")
+            for key in ("copied", "lost", "missing", "more", "told")}
+    print(f"{many['copied']} while the log was copied, {many['told']} after a file was printed as "
+          f"accepted, {many['lost']} with something lost, {many['missing']} of them a file")
     print(f"{len({count['front'] for count in counts})} different fronts were held, "
-          f"{many['more']} times more files than with all lost that was not synced, "
-          f"{many['fewer']} times fewer than were printed as accepted")
+          f"{many['more']} times more files than with all lost that was not synced")
 
 
 def controlled(pool) -> list:
     """How many states of each control are found to be wrong."""
     counts = []
-    for what, control in CONTROLS:
-        found = pool.map(control, range(CONTROLLED))
+    for (which, way), (what, control) in itertools.product(enumerate(WAYS), CONTROLS):
+        found = pool.map(functools.partial(control, which), range(CONTROLLED))
         short, wrong = sum(it.is_short() for it in found), sum(bool(it.wrong) for it in found)
-        print(f"control, {what}: of {CONTROLLED} states {short} hold fewer files than they must, "
-              f"and {wrong - short} no front")
+        print(f"control, {way}, {what}: of {CONTROLLED} states {short} hold fewer files than they "
+              f"must, and {wrong - short} no front", flush=True)
         counts.append(wrong)
     return counts
 
 
 def words() -> arguments.Parser:
-    parser = arguments.Parser(__doc__, count=1_000)
+    parser = arguments.Parser(__doc__, programs=("edfstore", "edfserve"), count=1_000)
     parser.add_argument("--seed", type=int, default=1, help="of the states, 1 if left out")
     parser.add_argument("--only", type=int, metavar="N", help="this state alone")
     return parser
 
 
-def takes(forking) -> list:
-    """The takes whose power is cut."""
-    first = [BENCH.taken("into no store", (None, None))]
-    BENCH.takes = first
+def runs(forking) -> list:
+    """The runs whose power is cut."""
+    first = [BENCH.recorded(way, "into no store", (None, None)) for way in WAYS]
+    BENCH.runs = first
     with forking.Pool() as pool:
-        made = first + list(itertools.chain(*pool.map(taken_again, range(AGAIN))))
-    calls = first[0].calls
-    print(f"{len(made)} takes of {len(BENCH.parts)} files, the first of them with "
-          f"{sum(call.letter in 'wt' for call in calls)} writes and changes of length and "
-          f"{sum(call.letter in 'ds' for call in calls)} syncs", flush=True)
+        again = pool.map(recorded_again, range(len(WAYS) * AGAIN))
+    made = first + list(itertools.chain(*again))
+    print(f"{len(made)} runs with {len(BENCH.parts)} files; into no store", end="")
+    for run in first:
+        print(f", a {run.way} of {sum(call.letter in 'wt' for call in run.calls)} writes and "
+              f"changes of length and {sum(call.letter in 'ds' for call in run.calls)} syncs",
+              end="")
+    print(flush=True)
     return made
 
 
@@ -350,10 +387,10 @@ def main() -> None:
     numbers = range(given.count) if given.only is None else [given.only]
     forking = multiprocessing.get_context("fork")
     with measure.scratch() as name:
-        BENCH = Bench(given.program, Path(name).resolve(), given.seed)
+        BENCH = Bench(given, Path(name).resolve())
         print(f"seed {given.seed}, {measure.machine()}", flush=True)
         try:
-            BENCH.takes = takes(forking)
+            BENCH.runs = runs(forking)
         except Unfit as why:
             print(why)
             end(1, 1)
