@@ -45,7 +45,7 @@ CHECKS = (
     ("fuzz.split", ("edfruns",), (100,)),
     ("split", ("edfstore", "edfruns"), ()),
     ("refused.run", ("edfstore",), (40,)),
-    ("powercut.run", ("edfstore",), (5,)),
+    ("powercut.run", ("edfstore", "edfserve"), (6,)),
     ("kill.run", ("edfstore",), (5,)),
     ("rot", ("edfstore",), (5,)),
     ("hypnogram", ("edfruns",), (5,)),
@@ -96,7 +96,7 @@ def commands(parts: list, card: Path) -> list:
             ("edfruns", "list", *parts),
             ("edfruns", "split", order[0], "night"),
             ("edfruns", "picture", card),
-            ("edfmend", plain, "mended.edf", "--patient", "S-0118"),
+            ("edfmend", plain, "mended.edf", "--set-patient", "S-0118"),
             ("edfstore", "take", "night.db", "mended.edf"),
             ("edfstore", "export", "night.db", "2")]
 
