@@ -17,6 +17,7 @@
 //! - `memory`: memory that runs out, under each budget until one suffices.
 //! - `words`: the version, standard input, that pictures are SVG, and the text of a fault.
 //! - `library`: functions of `edf_runs` and `edf_mend`, each called once.
+//! - `nights`: the figures of nights of sleep.
 //! - `picture`: what pictures say.
 //! - `hypnogram`: where pictures have which stage of sleep.
 //! - `overview`: the lanes of annotations, lights, minutes, tolerance and signals of pictures.
@@ -36,6 +37,8 @@ mod hypnogram;
 mod library;
 #[cfg(test)]
 mod memory;
+#[cfg(test)]
+mod nights;
 #[cfg(test)]
 mod overview;
 #[cfg(test)]

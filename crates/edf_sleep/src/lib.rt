@@ -28,8 +28,6 @@ mod scorings;
 mod sound;
 mod stages;
 mod telling;
-#[cfg(test)]
-mod tests;
 mod text;
 mod texts;
 mod untold;
