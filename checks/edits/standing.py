@@ -8,34 +8,28 @@ follow. The old text must stand once in the file, as the pairs before it leave i
 must be another. A line names each edit of which this is not so. --only looks at the edits of that
 crate alone.
 """
-import re
-
 from checks.lib import arguments
 from checks.lib.checks import end
 
 from .texts import CRATES, Edit, edits
 
-PART = re.compile(r"file: (.+)\n((?:old: .*\nnew: .*\n)+)")
-PAIR = re.compile(r"old: (.*)\nnew: (.*)\n")
-
 
 def fault(edit: Edit) -> str:
     """Why an edit can't be applied, or nothing."""
-    sources = {}
-    if not edit.text or PART.sub("", edit.text):
+    if not edit.is_well_formed:
         return "is not made of lines file:, old: and new:"
-    for name, pairs in PART.findall(edit.text):
+    sources = {}
+    for name, old, new in edit.changes():
         path = CRATES / edit.crate / name
         if not path.is_file():
             return f"changes crates/{edit.crate}/{name}, which is not there"
-        for old, new in PAIR.findall(pairs):
-            source = sources.setdefault(name, path.read_text())
-            count = source.count(old)
-            if count != 1:
-                return f"has an old text that stands {count} times in {name}: {old.strip()}"
-            if old == new:
-                return f"has a new text that is the old one: {old.strip()}"
-            sources[name] = source.replace(old, new)
+        source = sources.setdefault(name, path.read_text())
+        count = source.count(old)
+        if count != 1:
+            return f"has an old text that stands {count} times in {name}: {old.strip()}"
+        if old == new:
+            return f"has a new text that is the old one: {old.strip()}"
+        sources[name] = source.replace(old, new)
     return ""
 
 

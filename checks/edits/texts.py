@@ -14,6 +14,8 @@ from checks.lib import arguments
 
 HERE, CRATES = Path(__file__).resolve().parent, arguments.TOP / "crates"
 HEADING = re.compile(r"^==(.*)\n", re.MULTILINE)
+PART = re.compile(r"file: (.+)\n((?:old: .*\nnew: .*\n)+)")
+PAIR = re.compile(r"old: (.*)\nnew: (.*)\n")
 
 
 @dataclass(frozen=True, order=True)
@@ -26,6 +28,15 @@ class Edit:
 
     def __str__(self) -> str:
         return f"{self.crate}/{self.name}"
+
+    @property
+    def is_well_formed(self) -> bool:
+        return bool(self.text) and not PART.sub("", self.text)
+
+    def changes(self) -> list:
+        """The file, the old text and the new one of each of its pairs of lines."""
+        return [(name, old, new) for name, pairs in PART.findall(self.text)
+                for old, new in PAIR.findall(pairs)]
 
 
 def of_gate() -> list:
