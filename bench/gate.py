@@ -58,6 +58,8 @@ def proved(words: list, folder: str) -> Work:
 def work_of(pid: str) -> Work:
     """What a process works on, by its words and by the folder that it runs in."""
     words = Path("/proc", pid, "cmdline").read_bytes().decode(errors="replace").split("\0")
+    if not words[0]:
+        raise ProcessLookupError(pid)       # it ends, and stays what it was
     folder = os.readlink(f"/proc/{pid}/cwd")
     if Path(words[0]).name == "rattle":
         return proved(words, folder)
