@@ -5,12 +5,12 @@
 2,000 files if left out. A file is a fragment of the fuzzer's or a good one of `mend.run`, spoilt in
 up to four places: fields by texts as recorders write them, bytes of the header and of a block, its
 length, or a fault for which there is a rule. One in ten is joined with another patient's file, of
-which nothing may become samples, but where the first ends within its own header. Half of them are
-mended by some of the rules, with a code or a start, or for others. The plain model accepts each
-mended file. Its samples are those that were there, and mean what they meant; its annotations are
-the same, and its code, unless one is given; its ledger is empty only where nothing changed. A good
-file of which nothing is asked is copied, whatever rules are named. Of the file that fails first the
-fewest places that still fail are looked for, and it is kept in FOLDER with these alone.
+which nothing may become samples. Half of them are mended by some of the rules, with a code or a
+start, or for others. The plain model accepts each mended file. Its samples are those that were
+there, and mean what they meant; its annotations are the same, and its code, unless one is given;
+its ledger is empty only where nothing changed. A good file of which nothing is asked is copied,
+whatever rules are named. Of the file that fails first the fewest places that still fail are looked
+for, and it is kept in FOLDER with these alone.
 """
 import collections
 import random
@@ -137,14 +137,6 @@ def asks_nothing(data: bytes, words: tuple) -> bool:
     return is_own and not value(words, "--startdate", "--starttime", "--deidentify")
 
 
-def is_cut_in_header(of: Case) -> bool:
-    """Whether the first of two files ends within its own header, so that the other's header begins
-    there. That one is not found, as the man page says under LIMITS."""
-    first = of.given().removesuffix(of.behind)
-    count = first[252:256].strip()
-    return bool(of.behind) and (not count.isdigit() or len(first) < 256 + 256 * int(count))
-
-
 def tried(mender: mended.Mender, of: Case) -> str:
     """Mends a file: how it went."""
     data, words = of.given(), of.words
@@ -155,7 +147,7 @@ def tried(mender: mended.Mender, of: Case) -> str:
     made = mender.look(data, ran)
     if made != data and not model.refusal(data) and asks_nothing(data, words):
         raise Lost(f"a good file is not copied with {words}: {ran}")
-    if NAME in made and not is_cut_in_header(of):
+    if NAME in made:
         raise Lost("another patient's file became samples")
     if not made:
         return "refused"

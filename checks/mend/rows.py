@@ -152,11 +152,13 @@ def timed(samples: list, recording: str = NIGHT, reserved: str = "EDF+C") -> byt
     return fragment(header, [(of, keeping(f"+{nth}")) for nth, of in enumerate(samples)])
 
 
-def made_plain(records: int, count: str = "", rule: str = "plain") -> str:
+def made_plain(records: int, count: str = "", rule: str = "plain", signals: int = 2) -> str:
     """The lines of a plain file that becomes one with starts."""
+    size, more = str(256 + 256 * signals), str(512 + 256 * signals)
     marked = change("plain", 192, "", "EDF+C") if rule == "plain" else ""
-    return f"{rule} records={records} block=32\n" + change(rule, 184, "768", "1024") + marked + \
-        change(rule, 252, "2", "3") + (change("count", 236, count, str(records)) if count else "")
+    return f"{rule} records={records} block=32\n" + change(rule, 184, size, more) + marked + \
+        change(rule, 252, str(signals), str(signals + 1)) + \
+        (change("count", 236, count, str(records)) if count else "")
 
 
 SECOND = f"IN has a second header at offset={len(PLAIN)}: split it there\n"
@@ -202,6 +204,19 @@ SHIFTED = (by_hand.HEADER_BYTES, "     768"), (by_hand.SIGNALS, "   2")
 NUMBERLESS = (by_hand.HEADER_BYTES, ""), (by_hand.SIGNALS, "")
 # As many data records are counted as there are bytes for, another file among these
 BOTH = by_hand.field(PLAIN, by_hand.COUNT, str(3 + len(OTHER) // 6))
+# What tells of a header that begins within the first one, beside its number of signals
+BESIDE = (
+    ("no date and no time", spoilt((by_hand.STARTDATE, ""), (by_hand.STARTTIME, ""))),
+    ("a time alone", spoilt((by_hand.HEADER_BYTES, ""), (by_hand.STARTDATE, ""))),
+    ("a date alone, and zeros for spaces", spoilt(
+        AS_ZEROS, (by_hand.HEADER_BYTES, "256"), (by_hand.STARTTIME, bytes(8)))))
+# A good file in whose header 0 and spaces stand twice: by its physical minimum, and by 200 samples.
+# A number of signals would be 252 bytes behind each, where its samples spell one
+ZERO = Signal(physical_minimum="0", samples="200")
+SPELLING = b"\7\0" * 50 + b"1\0\0\0" + b"\7\0" * 55 + b"1\0\0\0" + b"\7\0" * 91
+SMALL = fragment(Header((ZERO,), reserved="", recording=NIGHT), [(SPELLING, [])])
+SMALL_TIMED = fragment(Header((ZERO, annotations_signal(16)), reserved="EDF+C", recording=NIGHT),
+                       [(SPELLING, keeping("+0"))])
 # Three data records of EDF+C are counted, and behind them are two that another night left there
 LATER = [(bytes([nth, 9, 9, 9, 9, nth]), keeping(f"+{nth}")) for nth in (3, 4)]
 LEFT = counted_as("3", RECORDS + LATER)
@@ -243,6 +258,14 @@ JOINED = [
     behind("a count of all its bytes, another file", OTHER, BOTH, ALL),
     behind("the same of EDF+C without starts", OTHER,
            by_hand.field(BOTH, by_hand.RESERVED, "EDF+C")),
+    *(behind(f"{at} of 768 header bytes, another file", OTHER, PLAIN[:at], words)
+      for at in (513, 723, 767) for words in ("", ALL)),
+    *(behind(f"723 of 768 header bytes, another file with {why}", data, PLAIN[:723])
+      for why, data in BESIDE),
+    refused("723 of 768 header bytes, another file without numbers",
+            PLAIN[:723] + spoilt(*NUMBERLESS), TRAILING),
+    Row("a good file whose samples spell numbers of signals", SMALL, "", 0,
+        made_plain(1, signals=1), whole=SMALL_TIMED),
     refused("two plain files in one", PLAIN + OTHER, SECOND),
     refused("two plain files in one, by count", PLAIN + OTHER, SECOND, ALL),
     refused("two plain files in one, whose count is -1", UNCOUNTED + OTHER, SECOND),

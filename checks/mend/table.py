@@ -89,7 +89,9 @@ def others_by_model(row: Row) -> bool:
     """The same of the first signal's limits, of the starts, and of another file behind this one."""
     at = int(row.data[252:256].strip(b"\0 ") or 0)
     begin = 256 + 256 * at
-    second = mending.second_header(row.data, begin)
+    own, rest = row.data[:begin], row.data[begin:]
+    searched = own[:begin - 255] + own[begin - 255:].replace(b" ", b"\0") + rest
+    second = mending.second_header(searched, begin - 255)
     if f"offset={second}:" in row.error or row.status or not row.whole:
         return second is None or f"offset={second}:" in row.error
     columns = [256 + at * width for width in (104, 112, 120, 128)]

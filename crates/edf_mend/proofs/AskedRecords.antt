@@ -1,14 +1,14 @@
 -- What a file is asked by its data records, and by the room for the mark.
-use Rattle.std.proofs.Common.{◌≡◌, ◌⊎◌, ℕ, ◌+◌, ◌*◌, ◌≤◌, ◌<◌, Bool, List, length, ap}
+use Rattle.std.proofs.Common.{◌≡◌, ◌⊎◌, ℕ, ◌+◌, ◌-◌, ◌*◌, ◌≤◌, ◌<◌, Bool, List, length, ap}
 use Rattle.std.proofs.Common.{sym, refl, ◌∙◌, subst, arith, inl, inr, Option, Some, None, take}
 use Rattle.std.proofs.Common.{take_all}
 use Rattle.std.specs.Prelude.{◌↔◌, ◌^◌, IsTrue}
 use Rattle.std.proofs.Common.{true, false}
 use Rattle.std.proofs.lemmas.Bool.{false≢true}
-use Rattle.std.proofs.lemmas.List.{length-map, length-drop}
-use Rattle.edf_mend.specs.Counted.{record_size, IsSecondHeader, IsSearched, WantsCount}
+use Rattle.std.proofs.lemmas.List.{length-map}
+use Rattle.edf_mend.specs.Counted.{record_size, IsSearched, WantsCount, searched_bytes}
 use Rattle.edf_mend.specs.Edits.{RuleEdits}
-use Rattle.edf_mend.specs.Header.{HeaderTexts, trimmed}
+use Rattle.edf_mend.specs.Header.{HeaderTexts, header_bytes, trimmed}
 use Rattle.edf_mend.specs.Objections.{IsReady, Untimed, HasSecond, NeedsCount, LacksRoom}
 use Rattle.edf_mend.specs.Objections.{IsObjection, HasNone}
 use Rattle.edf_mend.specs.Rules.{order, before_mark}
@@ -21,6 +21,7 @@ use Rattle.edf_mend.specs.declared.fault.MendFault.TheVariants as why
 use Rattle.edf_mend.specs.declared.wanted.Wanted.{Wanted}
 use Rattle.edf_mend.proofs.NoGaps.{before-too, wants-too}
 use Rattle.edf_mend.proofs.OneFollow.{follow-one}
+use Rattle.edf_mend.proofs.Searching.{searched-place}
 
 -- ---- behind `ascii`
 
@@ -60,9 +61,9 @@ wants-as w A B size body count to m = (m.0, (to m.1.0, m.1.1), m.2, m.3)
 
 -- ---- the questions
 
--- what is found in the bytes behind a header is where a second one begins
+-- what is found in the bytes that are searched is where a second one begins
 pub sees-found : (w : Wanted) (first : HeaderTexts) (body : List ℕ) (second : Option ℕ) →
-    FindsHeader body second → SeesSecond w first body second
+    FindsHeader (searched_bytes (header_bytes first) body) second → SeesSecond w first body second
 sees-found w first body (Some place) found = found
 sees-found w first body None none = λ at has. none has.place has.second.there
 
@@ -119,7 +120,7 @@ module _ (w : Wanted) (first ready : HeaderTexts) (body : List ℕ) (size : ℕ)
 
     -- where one begins, and is looked for
     pub second-there : (place at : ℕ) → IsPosed w first ready size u → IsKnown w first body b →
-        b.second ≡ Some place → Sought → at ≡ 256 + 256 * length ready.signals + place →
+        b.second ≡ Some place → Sought → at ≡ 256 + 256 * length ready.signals - 255 + place →
         HasSecond w first body at
     second-there place at p known e s at_is = record {
       ready = ready;
@@ -127,18 +128,17 @@ module _ (w : Wanted) (first ready : HeaderTexts) (body : List ℕ) (size : ℕ)
       place = place;
       searched = sought-to p s;
       second = subst (λ (o : Option ℕ). SeesSecond w first body o) e known.second;
-      at_is = at_is ∙ ap (λ (n : ℕ). 256 + 256 * n + place) (ready-length w first ready p.is_ready);
+      at_is = at_is
+          ∙ ap (λ (n : ℕ). 256 + 256 * n - 255 + place) (ready-length w first ready p.is_ready);
     }
 
     -- the place counts from the file's first byte: it is below its length
     place-below : (place : ℕ) → IsKnown w first body b → b.second ≡ Some place → place < length body
-    place-below place known e =
-        let s : IsSecondHeader body place =
-        subst (λ (o : Option ℕ). SeesSecond w first body o) e known.second in
-        omega (arith, s.there.len, length-drop place body)
+    place-below place known e = searched-place (header_bytes first) body place
+        (subst (λ (o : Option ℕ). SeesSecond w first body o) e known.second)
 
     pub at-is : (place at n : ℕ) → IsPosed w first ready size u → IsKnown w first body b →
-        b.second ≡ Some place → n ≡ length ready.signals → 256 + 256 * n + place < 2 ^ 64
+        b.second ≡ Some place → n ≡ length ready.signals → 256 + 256 * n - 255 + place < 2 ^ 64
     at-is place at n p known e n_is = omega (
       arith,
       place-below place known e,

@@ -2,7 +2,7 @@
 use Rattle.std.proofs.Common.{◌≡◌, ℕ, ◌+◌, ◌*◌, ◌-◌, ◌≤◌, ◌<◌, List, ◌++◌, length, refl, sym}
 use Rattle.std.proofs.Common.{subst, arith, length-append, Option, Some, None, Bool}
 use Rattle.std.specs.Prelude.{◌^◌}
-use Rattle.edf_mend.specs.Counted.{IsSecondHeader}
+use Rattle.edf_mend.specs.Counted.{IsSecondHeader, searched_bytes}
 use Rattle.edf_mend.specs.Header.{HeaderTexts, header_bytes}
 use Rattle.edf_mend.specs.Objections.{HasSecond}
 use Rattle.edf_mend.specs.Inside.Asking.{IsKnown, SeesSecond, AsksOfRecords}
@@ -26,8 +26,8 @@ counted-bytes first body bytes widths is few =
 -- by a tally
 pub known-tallied : (w : Wanted) (first : HeaderTexts) (body : List ℕ) (bytes : ℕ) (b : Body) →
     length first.signals ≤ 1000 → HasWidths first → bytes < 2 ^ 64 →
-    bytes ≡ length (header_bytes first ++ body) → Measures body b → FindsHeader body b.second →
-    IsKnown w first body b
+    bytes ≡ length (header_bytes first ++ body) → Measures body b →
+    FindsHeader (searched_bytes (header_bytes first) body) b.second → IsKnown w first body b
 known-tallied w first body bytes b few widths fits is measures found = record {
   measures = measures;
   second = sees-found w first body b.second found;
@@ -37,16 +37,17 @@ known-tallied w first body bytes b few widths fits is measures found = record {
 
 -- by a survey, which counts from the file's first byte
 sees-by : (w : Wanted) (first : HeaderTexts) (body : List ℕ) (at place : ℕ) →
-    HasSecond w first body at → place ≡ at - (256 + 256 * length first.signals) →
-    IsSecondHeader body place
+    HasSecond w first body at → place ≡ at - (256 + 256 * length first.signals - 255) →
+    IsSecondHeader (searched_bytes (header_bytes first) body) place
 sees-by w first body at place second is =
-    subst (λ (n : ℕ). IsSecondHeader body n) (omega (arith, second.at_is, is)) second.second
+    subst (λ (n : ℕ). IsSecondHeader (searched_bytes (header_bytes first) body) n)
+    (omega (arith, second.at_is, is)) second.second
 
 pub known-surveyed : (w : Wanted) (first : HeaderTexts) (body : List ℕ)
     (has_gaps is_retold : Bool) (s : Survey) (b : Body) → length first.signals ≤ 1000 →
     HasWidths first → s.bytes < 2 ^ 64 → Finds w first body has_gaps is_retold s →
     Measures body b → ((at : ℕ) → s.second ≡ Some at →
-    b.second ≡ Some (at - (256 + 256 * length first.signals))) →
+    b.second ≡ Some (at - (256 + 256 * length first.signals - 255))) →
     (s.second ≡ None → b.second ≡ None) → IsKnown w first body b
 known-surveyed w first body has_gaps is_retold s b few widths fits finds measures some none = record {
   measures = measures;
@@ -59,7 +60,7 @@ known-surveyed w first body has_gaps is_retold s b few widths fits finds measure
     by None is = subst (λ (x : Option ℕ). SeesSecond w first body x) (sym (none is))
         (subst (λ (x : Option ℕ). FindsSecondAt w first body x) is finds.second)
     by (Some at) is = subst (λ (x : Option ℕ). SeesSecond w first body x) (sym (some at is))
-        (sees-by w first body at (at - (256 + 256 * length first.signals))
+        (sees-by w first body at (at - (256 + 256 * length first.signals - 255))
         (subst (λ (x : Option ℕ). FindsSecondAt w first body x) is finds.second) refl)
 
 -- ---- where another file begins, by what is asked

@@ -18,11 +18,10 @@ use Rattle.edf_fragment.specs.declared.fault.FragmentFault.{FragmentFault}
 use Rattle.edf_fragment.specs.declared.fault.FragmentFault.TheVariants as fragment
 use Rattle.edf_mend.specs.Answers.{IsEdf, IsCutHeader, IsPlaceBefore, IsToldAs, IsLeft, IsRefusal}
 use Rattle.edf_mend.specs.Answers.{IsTrouble}
-use Rattle.edf_mend.specs.Counted.{IsSecondHeader}
 use Rattle.edf_mend.specs.Header.{HeaderTexts, HasHeader, HasSignals, NamesSignals, spaced}
 use Rattle.edf_mend.specs.Laws.{IsWanted, IsSameAnswer, OneIsLeft, OneRefusal}
 use Rattle.edf_mend.specs.Mended.{IsMended}
-use Rattle.edf_mend.specs.Objections.{Objects, rank, IsObjection, HasSecond, HasNone}
+use Rattle.edf_mend.specs.Objections.{Objects, rank, IsObjection, HasNone}
 use Rattle.edf_mend.specs.Patient.{IsUnused}
 use Rattle.edf_mend.specs.declared.fault.MendFault.{MendFault}
 use Rattle.edf_mend.specs.declared.fault.MendFault.TheVariants as why
@@ -30,6 +29,7 @@ use Rattle.edf_mend.specs.declared.ledger.Ledger.{Ledger}
 use Rattle.edf_mend.specs.declared.wanted.Wanted.{Wanted}
 use Rattle.edf_mend.specs.declared.wanted.Who.{Who}
 use Rattle.edf_mend.specs.declared.wanted.Who.TheVariants.{Given}
+use Rattle.edf_mend.proofs.OneSurvey.{at-one}
 use Rattle.edf_mend.proofs.Placed.{field-front, number-one, one-header}
 use Rattle.edf_mend.proofs.Stays.{names-one as code-one}
 use Rattle.edf_mend.proofs.Versions.{leaves-version}
@@ -176,22 +176,6 @@ told-one n (suc added) met a b p q = p ∙ sym q
 
 -- ---- questions
 
-first-place : (body : List ℕ) (a b : ℕ) → IsSecondHeader body a → IsSecondHeader body b → a ≡ b
-first-place body a b p q = elim (cases_lt a b) [
-  | inl less ↦ absurd (q.first a less p.there)
-  | inr le ↦ elim (cases_lt b a) [
-    | inl more ↦ absurd (p.first b more q.there)
-    | inr ge ↦ omega (arith, le, ge)
-  ]
-]
-
-second-one : (w : Wanted) (first : HeaderTexts) (body : List ℕ) (a b : ℕ) →
-    HasSecond w first body a → HasSecond w first body b → a ≡ b
-second-one w first body a b p q = p.at_is
-    ∙ ap (λ (k : ℕ). 256 + 256 * length first.signals + k)
-    (first-place body p.place q.place p.second q.second)
-    ∙ sym q.at_is
-
 unused-one : (who : Who) (field a b : List ℕ) → IsUnused who field a → IsUnused who field b → a ≡ b
 unused-one (Given given) field a b p q = code-one field a b p.0 q.0
 unused-one who field a b p q = absurd p
@@ -210,7 +194,7 @@ question-one : (w : Wanted) (first : HeaderTexts) (body : List ℕ) (one other :
     IsObjection w first body one → IsObjection w first body other → IsSameAnswer one other
 question-one w first body (why.Refused f) other p q = absurd p.applies
 question-one w first body (why.SecondHeader a) (why.SecondHeader b) p q =
-    second-one w first body a b p.applies q.applies
+    at-one w first body a b p.applies q.applies
 question-one w first body (why.SecondHeader a) other p q =
     rank-one w first body (why.SecondHeader a) other p q
 question-one w first body (why.Unused a) (why.Unused b) p q =

@@ -3,7 +3,7 @@ use Rattle.std.proofs.Common.{◌≡◌, ℕ, List, ◌++◌, refl, sym, ap}
 use Rattle.std.proofs.Common.{◌∙◌, subst, inl, inr, arith, Option, Some, None, Bool}
 use Rattle.std.proofs.Common.{true, false}
 use Rattle.std.proofs.lemmas.Bool.{cases_lt}
-use Rattle.edf_mend.specs.Counted.{IsSecondHeader}
+use Rattle.edf_mend.specs.Counted.{IsSecondHeader, searched_bytes}
 use Rattle.edf_mend.specs.Header.{HeaderTexts, HasHeader, header_bytes}
 use Rattle.edf_mend.specs.Objections.{HasSecond}
 use Rattle.edf_mend.specs.Survey.{IsSurveyOf, FindsSecond, SaysWhether}
@@ -14,8 +14,8 @@ use Rattle.edf_mend.proofs.Placed.{one-header}
 
 -- ---- where another file begins
 
-second-one : (body : List ℕ) (a b : ℕ) → IsSecondHeader body a → IsSecondHeader body b → a ≡ b
-second-one body a b x y = elim (cases_lt a b) [
+second-one : (bytes : List ℕ) (a b : ℕ) → IsSecondHeader bytes a → IsSecondHeader bytes b → a ≡ b
+second-one bytes a b x y = elim (cases_lt a b) [
   | inl lt ↦ absurd (y.first a lt x.there)
   | inr ge ↦ elim (cases_lt b a) [
     | inl lt ↦ absurd (x.first b lt y.there)
@@ -23,10 +23,11 @@ second-one body a b x y = elim (cases_lt a b) [
   ]
 ]
 
-at-one : (w : Wanted) (first : HeaderTexts) (body : List ℕ) (a b : ℕ) →
+pub at-one : (w : Wanted) (first : HeaderTexts) (body : List ℕ) (a b : ℕ) →
     HasSecond w first body a → HasSecond w first body b → a ≡ b
 at-one w first body a b x y =
-    omega (arith, x.at_is, y.at_is, second-one body x.place y.place x.second y.second)
+    let bytes = searched_bytes (header_bytes first) body in
+    omega (arith, x.at_is, y.at_is, second-one bytes x.place y.place x.second y.second)
 
 pub finds-second-one : (w : Wanted) (first : HeaderTexts) (body : List ℕ) (s t : Option ℕ) →
     FindsSecondAt w first body s → FindsSecondAt w first body t → s ≡ t

@@ -2,7 +2,6 @@
 use Rattle.std.proofs.Common.{◌≡◌, ℕ, ◌<◌, List, [], ◌++◌, length, take, Option}
 use Rattle.std.proofs.Common.{arith, sym, subst, append_assoc, append-nil}
 use Rattle.std.proofs.KnownBytes.{Consumes-trans, Consumes-nil}
-use Rattle.std.proofs.lemmas.List.{take_all}
 use Rattle.std.specs.Io.KnownBytes.{Consumes, IsAtEnd}
 use Rattle.edf_mend.specs.Inside.Tallied.{Gives, IsTally, TalliesAll}
 use Rattle.edf_mend.specs.declared.tally.Tally.{Tally}
@@ -49,3 +48,10 @@ tallies-end left rest old new front body so end is = record {
   end = end;
   tally = so.tally front body is;
 }
+
+-- a header was read, and its body begins
+pub body-begins : (header own : List ℕ) (old new : Tally) → own ≡ header →
+    (IsTally [] own old → IsTally own [] new) → IsTally [] header old → IsTally header [] new
+body-begins header own old new same begins is =
+    subst (λ (x : List ℕ). IsTally x [] new) same
+    (begins (subst (λ (x : List ℕ). IsTally [] x old) (sym same) is))

@@ -3,16 +3,18 @@ use Rattle.std.proofs.Common.{◌≡◌, ◌≢◌, ℕ, ◌+◌, ◌-◌, ◌*�
 use Rattle.std.proofs.Common.{length, take, drop, Option, Some, None, arith, refl, sym, ap, ◌∙◌}
 use Rattle.std.proofs.Common.{subst, inl, inr, append_assoc, append-nil, length-append}
 use Rattle.std.proofs.Common.{take-append-drop, length-take-le, drop-drop, drop_at}
-use Rattle.std.proofs.Common.{get_or, ◌^◌, Result}
+use Rattle.std.proofs.Common.{get_or, ◌^◌, Result, map}
 use Rattle.std.proofs.Common.{true, false, true≢false}
 use Rattle.std.specs.Prelude.{OnOk, is_some}
 use Rattle.std.proofs.lemmas.Result.{on_ok_weaker}
 use Rattle.std.specs.Prelude.{codes}
 use Rattle.std.proofs.lemmas.List.{drop-append-le, length-drop, get_or-take, get_or-drop, length-take}
+use Rattle.std.proofs.lemmas.List.{length-map}
 use Rattle.edf_field.specs.Number.{field}
 use Rattle.edf_fragment.proofs.HeaderParts.{field_front}
 use Rattle.edf_mend.specs.Counted.{IsHeaderFront, LooksLikeHeader, LooksDotted, HasHeaderAt}
-use Rattle.edf_mend.specs.Counted.{IsSecondHeader, GoesWith, ShowsNumber}
+use Rattle.edf_mend.specs.Counted.{IsSecondHeader, GoesWith, ShowsNumber, searched_bytes}
+use Rattle.edf_mend.specs.Counted.{zero_for_space}
 use Rattle.edf_mend.specs.Header.{spaced, fill_len}
 use Rattle.edf_mend.specs.Inside.Tallied.{SeeksOn, HasSought, IsSearch}
 use Rattle.edf_mend.specs.declared.tally.Search.{Search}
@@ -403,3 +405,40 @@ pub pass-more : (p x held held' : List ℕ) (gone : ℕ) (found : Option ℕ) �
     HasSought (p ++ x) held' gone found
 pass-more p x held held' gone found s e more =
     pass-held p x held held' gone found found s e more e
+
+-- ---- the bytes that are searched
+
+pub searched-nothing : searched_bytes [] [] ≡ []
+unfolding searched_bytes
+searched-nothing = refl
+
+pub searched-none : (header : List ℕ) →
+    searched_bytes header [] ≡ map zero_for_space (drop (length header - 255) header)
+unfolding searched_bytes
+searched-none header = append-nil (map zero_for_space (drop (length header - 255) header))
+
+pub searched-more : (header body more : List ℕ) →
+    searched_bytes header body ++ more ≡ searched_bytes header (body ++ more)
+unfolding searched_bytes
+searched-more header body more =
+    append_assoc (map zero_for_space (drop (length header - 255) header)) body more
+
+pub length-searched : (header body : List ℕ) →
+    length (searched_bytes header body) ≡ length header - (length header - 255) + length body
+unfolding searched_bytes
+length-searched header body = omega (
+  arith,
+  length-append (map zero_for_space (drop (length header - 255) header)) body,
+  length-map (drop (length header - 255) header) zero_for_space,
+  length-drop (length header - 255) header,
+)
+
+-- a header's first bytes end behind the file's own header
+pub searched-place : (header body : List ℕ) (place : ℕ) →
+    IsSecondHeader (searched_bytes header body) place → place < length body
+searched-place header body place second = omega (
+  arith,
+  second.there.len,
+  length-drop place (searched_bytes header body),
+  length-searched header body,
+)

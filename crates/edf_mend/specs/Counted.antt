@@ -1,6 +1,6 @@
 -- How many data records a file has: those that its header counts, and no other without a word.
-use Rattle.std.specs.Prelude.{◌≡◌, ◌⊎◌, ℕ, ◌+◌, ◌-◌, ◌*◌, ◌/◌, ◌%◌, ◌≤◌, ◌<◌, List}
-use Rattle.std.specs.Prelude.{length, drop, codes, decimal, All}
+use Rattle.std.specs.Prelude.{◌≡◌, ◌⊎◌, ℕ, ◌+◌, ◌-◌, ◌*◌, ◌/◌, ◌%◌, ◌≤◌, ◌<◌, List, ◌++◌}
+use Rattle.std.specs.Prelude.{length, drop, codes, decimal, All, map, ◌==◌, if◌then◌else◌}
 use Rattle.std.specs.Prelude.{sum_by}
 use Rattle.std.specs.Char.{is_ascii_whitespace}
 use Rattle.std.specs.List.{prefix_len}
@@ -34,7 +34,7 @@ AreZerosFrom at body = All (λ b. b ≡ 0) (drop at body)
 
 -- ---- another file behind the first one
 
--- a text that has the form of a date or a time: three numbers of two digits and two separators
+-- a text that looks like a date or a time: three parts of two bytes and two separators
 abbrev pub LooksDotted : List ℕ → Type 0
 LooksDotted text = (dots : List ℕ) × GetsDots text dots
 
@@ -70,12 +70,22 @@ pub record IsHeaderFront (bytes : List ℕ) : Type 0 where
   pub looks : LooksLikeHeader bytes
 
 abbrev pub HasHeaderAt : List ℕ → ℕ → Type 0
-HasHeaderAt body at = IsHeaderFront (drop at body)
+HasHeaderAt bytes at = IsHeaderFront (drop at bytes)
 
 -- the first offset at which one is
-pub record IsSecondHeader (body : List ℕ) (at : ℕ) : Type 0 where
-  pub there : HasHeaderAt body at
-  pub first : (other : ℕ) → other < at → ¬ HasHeaderAt body other
+pub record IsSecondHeader (bytes : List ℕ) (at : ℕ) : Type 0 where
+  pub there : HasHeaderAt bytes at
+  pub first : (other : ℕ) → other < at → ¬ HasHeaderAt bytes other
+
+-- a byte of the file's own header where another is looked for: most spaces there fill fields of the
+-- file itself, so they count as zeros, and alone make no version that is filled by spaces
+abbrev pub zero_for_space : ℕ → ℕ
+zero_for_space b = if b == 32 then 0 else b
+
+-- the bytes in which it is looked for: the last 255 of the file's own header, where another may
+-- begin if the file was cut there, and all that follow that header
+unfoldable pub searched_bytes : List ℕ → List ℕ → List ℕ
+searched_bytes header body = map zero_for_space (drop (length header - 255) header) ++ body
 
 -- ---- the number of data records
 

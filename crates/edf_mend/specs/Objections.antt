@@ -1,8 +1,9 @@
 -- What a file is asked before anything of it is mended. Each of these ends with a line and no file.
-use Rattle.std.specs.Prelude.{◌≡◌, ◌≢◌, ◌⊎◌, ℕ, ◌+◌, ◌*◌, ◌<◌, List, length, Some, None}
+use Rattle.std.specs.Prelude.{◌≡◌, ◌≢◌, ◌⊎◌, ℕ, ◌+◌, ◌-◌, ◌*◌, ◌<◌, List, length, Some, None}
 use Rattle.edf_mend.specs.Counted.{record_size, IsSecondHeader, IsSearched, WantsCount}
+use Rattle.edf_mend.specs.Counted.{searched_bytes}
 use Rattle.edf_mend.specs.Edits.{RuleEdits}
-use Rattle.edf_mend.specs.Header.{HeaderTexts, spaced, trimmed}
+use Rattle.edf_mend.specs.Header.{HeaderTexts, header_bytes, spaced, trimmed}
 use Rattle.edf_mend.specs.Mark.{MayGetSignal, IsContinuous, IsMarkedPlus}
 use Rattle.edf_mend.specs.Patient.{WantsCode, IsUnused, LacksCode}
 use Rattle.edf_mend.specs.Recording.{IsRecordingText, KeepsAfterDate}
@@ -86,8 +87,8 @@ module _ (w : Wanted) (first : HeaderTexts) (body : List ℕ) where
     pub is_ready : IsReady w first ready
     pub place : ℕ
     pub searched : IsSearched w (Untimed w ready) (record_size ready) body
-    pub second : IsSecondHeader body place
-    pub at_is : at ≡ 256 + 256 * length first.signals + place
+    pub second : IsSecondHeader (searched_bytes (header_bytes first) body) place
+    pub at_is : at ≡ 256 + 256 * length first.signals - 255 + place
 
   -- **`count` is to be named**
   pub record NeedsCount : Type 0 where

@@ -34,7 +34,8 @@ pub(crate) struct Body {
     pub(crate) bytes: u64,
     /// How many there are without the zeros at the end.
     pub(crate) filled: u64,
-    /// Where the first header in them begins.
+    /// Where the first header in the bytes that are searched begins, counted from the first of
+    /// these.
     pub(crate) second: Option<u64>,
 }
 
@@ -306,6 +307,14 @@ pub(crate) fn header_size(signals: usize) -> u64
     ensures { result ≡ 256 + 256 * signals }
 {
     256u64.saturating_add(256u64.saturating_mul(signals as u64))
+}
+
+/// The offset from which on another header is looked for, by the length of the file's own: one that
+/// begins in its last 255 bytes does not end there.
+pub(crate) fn searched_from(own: u64) -> u64
+    ensures { result ≡ own - 255 }
+{
+    own.saturating_sub(255)
 }
 
 /// Whether the number of header bytes is that of the signals.

@@ -257,6 +257,6 @@ pub fn mend<R: Input, W: Output>(
     if let Some(objection) = header_objection(alloc, wanted, &first)? {
         return Err(objection);
     }
-    tally.begin_body();
+    tally.begin_body(first.bytes())?;
     mend_behind(alloc, input, &mut tally, out, survey, wanted, &first)
 }

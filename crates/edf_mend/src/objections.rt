@@ -12,7 +12,7 @@ ghost use Rattle.edf_mend.specs.Inside.Asking.{HasNoneBelow, IsKnown, AsksOfReco
 ghost use Rattle.edf_mend.specs.Inside.Tallied.{Measures};
 ghost use Rattle.edf_mend.specs.Wanted.{IsAsked};
 
-use crate::counted::{Body, header_size, is_searched, record_size, wants_count};
+use crate::counted::{Body, header_size, is_searched, record_size, searched_from, wants_count};
 use crate::dates::eight_of;
 use crate::fault::MendFault;
 use crate::field::Field;
@@ -191,7 +191,7 @@ pub(crate) fn header_objection(
     Ok(None)
 }
 
-/// Where another file begins in the bytes behind a header, if one is looked for and is there.
+/// Where another file begins in the bytes that are searched, if one is looked for and is there.
 fn sought(body: &Body, is_searched: bool) -> Option<u64>
     ensures { MatchOption result
         ((body.now.second ≡ None) ⊎ (is_searched ≡ false))
@@ -218,7 +218,8 @@ pub(crate) fn records_objection(
     let count = ready.fixed(Field::Count);
     let is_untimed = is_untimed(wanted, &ready);
     if let Some(place) = sought(body, is_searched(is_untimed, size, body)) {
-        let at = header_size(ready.signals()).saturating_add(place);
+        let begin = searched_from(header_size(ready.signals()));
+        let at = begin.saturating_add(place);
         return Ok(Some(MendFault::SecondHeader(at)));
     }
     if wants_count(wanted, is_untimed, size, body, count) {

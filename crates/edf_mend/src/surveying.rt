@@ -24,7 +24,7 @@ ghost use Rattle.edf_mend.specs.declared.wanted.Wanted.{Wanted};
 ghost use Rattle.edf_mend.specs.Survey.{IsSurveyOf};
 
 use crate::accepting::accept_header;
-use crate::counted::{Body, record_size};
+use crate::counted::{Body, record_size, searched_from};
 use crate::fault::MendFault;
 use crate::field::Field;
 use crate::header::{Head, is_edf, read_header};
@@ -71,13 +71,13 @@ pub(crate) fn body_behind(first: &Head, bytes: u64, filled: u64, second: Option<
     }
 }
 
-/// Where another file begins, counted from the end of the header.
-fn behind_own(second: Option<u64>, own: u64) -> Option<u64>
-    ensures some { (at : ℕ) → second ≡ Some at → result ≡ Some (at - own) }
+/// Where another file begins, counted from an offset.
+fn counted_from(second: Option<u64>, begin: u64) -> Option<u64>
+    ensures some { (at : ℕ) → second ≡ Some at → result ≡ Some (at - begin) }
     ensures none { second ≡ None → result ≡ None }
 {
     match second {
-        Some(at) => Some(at.saturating_sub(own)),
+        Some(at) => Some(at.saturating_sub(begin)),
         None => None,
     }
 }
@@ -90,7 +90,7 @@ pub(crate) fn body_by(first: &Head, survey: &Survey) -> Body
         IsKnown wanted first.now body result }
 {
     let own = first.bytes().len() as u64;
-    let second = behind_own(survey.second, own);
+    let second = counted_from(survey.second, searched_from(own));
     body_behind(first, survey.bytes, survey.filled, second)
 }
 
@@ -339,7 +339,7 @@ fn survey_behind<R: Input>(
     ensures further { (taken : List ℕ) × Consumes (R.remaining input.old) (R.remaining input.new)
         taken }
 {
-    tally.begin_body();
+    tally.begin_body(first.bytes())?;
     let ground = Ground {
         wanted,
         first,

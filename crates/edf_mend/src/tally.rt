@@ -1,15 +1,15 @@
 //! What is counted of a file as it is read, and where another header begins in it.
 
 ghost use Rattle.std.specs.Prelude.{◌≡◌, ◌≤◌, ◌<◌, ◌+◌, ◌^◌, ◌⊎◌, ℕ, List, [], ◌++◌, length, take};
-ghost use Rattle.std.specs.Prelude.{drop};
+ghost use Rattle.std.specs.Prelude.{drop, map};
 ghost use Rattle.std.specs.Prelude.{IfOk, IfErr, OnOk, IsTrue, ◌↔◌, vec_len};
 ghost use Rattle.std.specs.Io.KnownBytes.{Consumes};
-ghost use Rattle.edf_mend.specs.Counted.{HasHeaderAt};
+ghost use Rattle.edf_mend.specs.Counted.{HasHeaderAt, searched_bytes, zero_for_space};
 ghost use Rattle.edf_mend.specs.Counts.{CountsReads};
 ghost use Rattle.edf_mend.specs.Inside.Tallied.{filled_len, FindsHeader, IsSearch, IsTally};
 ghost use Rattle.edf_mend.specs.Inside.Tallied.{Gives, TalliesAll};
 
-use crate::counted::is_header_front;
+use crate::counted::{is_header_front, searched_from};
 use crate::fault::MendFault;
 use edf_fragment::{Filled, Input, fill};
 use std::alloc::{AllocError, Global};
@@ -46,6 +46,24 @@ pub(crate) fn room(alloc: Global, len: usize) -> Result<Vec<u8>, AllocError>
     ensures { IfOk result (λ bytes. length bytes.items ≡ len) }
 {
     vec![in alloc; 0u8; len]
+}
+
+/// A byte of a file's own header as another is looked for there: zero where it is a space.
+fn zero_for_space(b: u8) -> u8
+    ensures { result ≡ zero_for_space b }
+{
+    if b == b' ' { 0 } else { b }
+}
+
+/// Bytes with zeros in place of spaces.
+fn zeros_for_spaces(alloc: Global, bytes: &[u8]) -> Result<Vec<u8>, AllocError>
+    ensures { IfOk result (λ r. r.items ≡ map zero_for_space bytes.now) }
+{
+    let mut changed = Vec::new(alloc);
+    for b in bytes {
+        changed.push(zero_for_space(*b))?;
+    }
+    Ok(changed)
 }
 
 /// Whether a header begins at an offset.
@@ -204,19 +222,24 @@ impl Tally {
         self.filled
     }
 
-    /// Where the first header begins in what was read behind the file's own one.
+    /// Where the first header begins in the bytes that are searched: the last of the file's own
+    /// header, and those behind it.
     pub(crate) fn found(&self) -> Option<u64>
-        ensures { (front body : List ℕ) → IsTally front body self.now → FindsHeader body result }
+        ensures { (front body : List ℕ) → IsTally front body self.now →
+            FindsHeader (searched_bytes front body) result }
     {
         self.search.found()
     }
 
-    /// The header was read; what follows is the body.
-    pub(crate) fn begin_body(&mut self)
-        ensures { (front body : List ℕ) → IsTally front body self.old →
-            IsTally (front ++ body) [] self.new }
+    /// This header was read; what follows is the body. Another header may begin in this one's last
+    /// bytes, whose spaces fill fields of this one.
+    pub(crate) fn begin_body(&mut self, header: &[u8]) -> Result<(), AllocError>
+        ensures { IsTally [] header.now self.old → OnOk result (IsTally header.now [] self.new) }
     {
         self.search = Search::new(self.alloc);
+        let from = searched_from(header.len() as u64) as usize;
+        let last = zeros_for_spaces(self.alloc, &header[from..])?;
+        self.search.pass(last.as_slice())
     }
 
     /// Bytes were read. More than 64 bits count have no room.

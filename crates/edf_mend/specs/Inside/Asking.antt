@@ -1,7 +1,7 @@
 -- What a file is asked, question by question.
 use Rattle.std.specs.Prelude.{◌<◌, ◌≤◌, ◌+◌, ◌*◌, ◌^◌, ℕ, List, length, Option, Some, None}
-use Rattle.edf_mend.specs.Counted.{IsSecondHeader}
-use Rattle.edf_mend.specs.Header.{HeaderTexts}
+use Rattle.edf_mend.specs.Counted.{IsSecondHeader, searched_bytes}
+use Rattle.edf_mend.specs.Header.{HeaderTexts, header_bytes}
 use Rattle.edf_mend.specs.Objections.{Objects, rank, HasSecond, NeedsCount}
 use Rattle.edf_mend.specs.Inside.Tallied.{Measures}
 use Rattle.edf_mend.specs.declared.counted.Body.{Body}
@@ -13,10 +13,11 @@ use Rattle.edf_mend.specs.declared.wanted.Wanted.{Wanted}
 abbrev pub HasNoneBelow : ℕ → Wanted → HeaderTexts → List ℕ → Type 0
 HasNoneBelow r w first body = (why : MendFault) → rank why < r → Objects w first body why → ⊥
 
--- where the first header begins in the bytes behind a header; nowhere where none is there, or none
--- is looked for
+-- where the first header begins in the bytes that are searched; nowhere where none is there, or
+-- where none is looked for
 abbrev pub SeesSecond : Wanted → HeaderTexts → List ℕ → Option ℕ → Type 0
-SeesSecond w first body (Some place) = IsSecondHeader body place
+SeesSecond w first body (Some place) =
+    IsSecondHeader (searched_bytes (header_bytes first) body) place
 SeesSecond w first body None = (at : ℕ) → HasSecond w first body at → ⊥
 
 -- what is known of the bytes behind a header is true of them, in a file of any size that can be

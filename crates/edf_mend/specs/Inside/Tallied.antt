@@ -3,7 +3,7 @@ use Rattle.std.specs.Prelude.{◌≡◌, ◌⊎◌, ℕ, ◌-◌, ◌^◌, ◌==
 use Rattle.std.specs.Prelude.{Option, Some, None}
 use Rattle.std.specs.List.{suffix_len}
 use Rattle.std.specs.Io.KnownBytes.{Consumes, IsAtEnd}
-use Rattle.edf_mend.specs.Counted.{HasHeaderAt, IsSecondHeader}
+use Rattle.edf_mend.specs.Counted.{HasHeaderAt, IsSecondHeader, searched_bytes}
 use Rattle.edf_mend.specs.declared.counted.Body.{Body}
 use Rattle.edf_mend.specs.declared.tally.Search.{Search}
 use Rattle.edf_mend.specs.declared.tally.Tally.{Tally}
@@ -37,12 +37,13 @@ HasSought passed held gone None = SeeksOn passed held gone
 abbrev pub IsSearch : List ℕ → Search → Type 0
 IsSearch passed s = HasSought passed s.held.items s.gone s.found
 
--- these bytes were counted, and a header is looked for in those behind the first ones
+-- these bytes were counted, and a header is looked for in the last of the first ones and in those
+-- behind them
 pub record IsTally (front body : List ℕ) (t : Tally) : Type 0 where
   pub bytes : t.bytes ≡ length (front ++ body)
   pub filled : t.filled ≡ filled_len (front ++ body)
   pub few : length (front ++ body) < 2 ^ 64
-  pub search : IsSearch body t.search
+  pub search : IsSearch (searched_bytes front body) t.search
 
 -- so many bytes of a buffer were read, fewer than it has only where the input ended
 pub record Gives (left rest : Option (List ℕ)) (buffer : List ℕ) (n : ℕ) : Type 0 where

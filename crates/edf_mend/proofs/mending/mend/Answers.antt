@@ -23,6 +23,7 @@ use Rattle.edf_mend.proofs.MendingWhole.{asked-refuses, asked-same, memory-so, m
 use Rattle.edf_mend.proofs.MendingWhole.{memory-trouble}
 use Rattle.edf_mend.proofs.MendingWhole.{mended-last, refused-last, same-last, total-last}
 use Rattle.edf_mend.proofs.MendingWhole.{copied-last}
+use Rattle.edf_mend.proofs.ReadingOn.{body-begins}
 use Rattle.edf_mend.proofs.mending.mend.Goals as goal
 
 -- ---- no header was read
@@ -101,6 +102,11 @@ pub returns-in_err-objection-clause-further : goal.returns-in_err-objection-clau
 returns-in_err-objection-clause-further g c =
     reads-more _ _ _ c.read_header.ensures.further.0 c.read_header.ensures.further.1
 
+pub returns-in_err-objection-clause-counted : goal.returns-in_err-objection-clause-counted
+returns-in_err-objection-clause-counted g c =
+    err-answers _ _ _ _ c.from_residual-in_err-objection.ensures.1
+    (λ why is. memory-counts _ _ _ why is c.in_ok-first.ensures.counted.0)
+
 -- ---- it is no EDF
 
 pub returns-then-not-is_edf : goal.returns-then-not-is_edf
@@ -172,6 +178,38 @@ returns-in-Some g c =
           c.in_ok-first.ensures.counted.0;
     }
 
+-- ---- memory ran out for the search
+
+pub returns-in_err-begin_body-clause-refused : goal.returns-in_err-begin_body-clause-refused
+returns-in_err-begin_body-clause-refused g c =
+    err-gives _ _ _ c.from_residual-in_err-begin_body.ensures.1
+    (λ why is. refused-so _ c.wanted_is.ensures _ why (memory-so _ _ why is))
+
+pub returns-in_err-begin_body-clause-unchanged : goal.returns-in_err-begin_body-clause-unchanged
+returns-in_err-begin_body-clause-unchanged g c = λ file is surveyed.
+    err-gives _ _ _ c.from_residual-in_err-begin_body.ensures.1 memory-same
+
+pub returns-in_err-begin_body-clause-total : goal.returns-in_err-begin_body-clause-total
+returns-in_err-begin_body-clause-total g c = λ file is surveyed m.
+    err-gives _ _ _ c.from_residual-in_err-begin_body.ensures.1 memory-trouble
+
+pub returns-in_err-begin_body-clause-copied : goal.returns-in_err-begin_body-clause-copied
+returns-in_err-begin_body-clause-copied g c = λ file key records texts body is has spells asks.
+    err-answers _ _ _ _ c.from_residual-in_err-begin_body.ensures.1 memory-trouble
+
+pub returns-in_err-begin_body-clause-front : goal.returns-in_err-begin_body-clause-front
+returns-in_err-begin_body-clause-front g c = λ file is surveyed.
+    err-gives _ _ _ c.from_residual-in_err-begin_body.ensures.1 (λ why same. writes-none _ file _)
+
+pub returns-in_err-begin_body-clause-further : goal.returns-in_err-begin_body-clause-further
+returns-in_err-begin_body-clause-further g c =
+    reads-more _ _ _ c.read_header.ensures.further.0 c.read_header.ensures.further.1
+
+pub returns-in_err-begin_body-clause-counted : goal.returns-in_err-begin_body-clause-counted
+returns-in_err-begin_body-clause-counted g c =
+    err-answers _ _ _ _ c.from_residual-in_err-begin_body.ensures.1
+    (λ why is. memory-counts _ _ _ why is c.in_ok-first.ensures.counted.0)
+
 -- ---- behind the header
 
 pub mend_behind-requires : goal.mend_behind-requires
@@ -197,7 +235,8 @@ returns g c =
     let edf : IsEdf (header_bytes first) =
     subst IsEdf c.bytes.ensures.bytes (c.is_edf.ensures.0 (search rules)) in
     let tally : IsTally (header_bytes first) [] c.begin_body.new.self =
-    c.begin_body.ensures [] (header_bytes first)
+    body-begins (header_bytes first) c.bytes-2.result.now c.read_header.new.tally
+    c.begin_body.new.self c.bytes-2.ensures.bytes c.in_ok-begin_body.ensures
     (c.in_ok-first.ensures.tallied [] [] c.new-tally.ensures) in
     let none : AsksNoneYet w first =
     λ body. subst (λ (o : Option MendFault). MatchOption o (HasNoneBelow 5 w first body)

@@ -1,4 +1,4 @@
-use Rattle.std.proofs.Common.{◌≡◌, ℕ, ◌+◌, ◌*◌, List, length, subst, arith}
+use Rattle.std.proofs.Common.{◌≡◌, ℕ, ◌+◌, ◌-◌, ◌*◌, List, length, subst, arith}
 use Rattle.std.specs.Prelude.{◌↔◌, IsTrue}
 use Rattle.edf_mend.specs.Counted.{IsSearched, WantsCount}
 use Rattle.edf_mend.proofs.AskedRecords.{posed-of, IsPosed, second-there, at-is, no-second}
@@ -26,9 +26,10 @@ returns-in-Some-clause-asked c =
     c.is_searched.ensures w body k.measures in
     let fits = at-is w first d.head body size u b place at c.signals-in-Some.result posed k
     c.in-Some.ensures.0 c.signals-in-Some.ensures.count in
-    let at_is : at ≡ 256 + 256 * length d.head.signals + place = omega (
+    let at_is : at ≡ 256 + 256 * length d.head.signals - 255 + place = omega (
       arith,
       c.saturating_add-at.ensures,
+      c.searched_from-begin.ensures,
       c.header_size.ensures,
       c.signals-in-Some.ensures.count,
       fits,

@@ -8,6 +8,7 @@ returns c w body has_gaps is_retold few finds =
     known-surveyed w c.args.first.now body has_gaps is_retold c.args.survey.now
     c.body_behind.result few c.bytes.ensures.widths fits finds
     (c.body_behind.ensures.measures body finds.bytes finds.filled)
-    (λ at is. c.body_behind.ensures.second ∙ c.behind_own-second.ensures.some at is
-    ∙ ap (λ (n : ℕ). Some (at - n)) c.bytes.ensures.len)
-    (λ none. c.body_behind.ensures.second ∙ c.behind_own-second.ensures.none none)
+    (λ at is. c.body_behind.ensures.second ∙ c.counted_from-second.ensures.some at is
+    ∙ ap (λ (n : ℕ). Some (at - n)) (c.searched_from.ensures
+    ∙ ap (λ (n : ℕ). n - 255) c.bytes.ensures.len))
+    (λ none. c.body_behind.ensures.second ∙ c.counted_from-second.ensures.none none)

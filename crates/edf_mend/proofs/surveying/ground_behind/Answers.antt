@@ -1,4 +1,5 @@
 use Rattle.std.proofs.Common.{◌<◌, ◌^◌, ◌∙◌, subst, sym, arith, Option, ℕ}
+use Rattle.edf_mend.specs.Counted.{searched_bytes}
 use Rattle.edf_mend.specs.Header.{header_bytes}
 use Rattle.edf_mend.specs.Inside.Tallied.{FindsHeader}
 use Rattle.edf_mend.proofs.KnownBodies.{known-tallied}
@@ -13,5 +14,5 @@ returns-clause-known c body tally few =
     known-tallied c.args.ground.wanted.now first body c.bytes.result c.body_behind-body.result few
     c.body_behind-body.ensures.widths fits bytes
     (c.body_behind-body.ensures.measures body bytes filled)
-    (subst (λ (x : Option ℕ). FindsHeader body x) (sym c.body_behind-body.ensures.second)
-    (c.found.ensures (header_bytes first) body tally))
+    (subst (λ (x : Option ℕ). FindsHeader (searched_bytes (header_bytes first) body) x)
+    (sym c.body_behind-body.ensures.second) (c.found.ensures (header_bytes first) body tally))

@@ -1,8 +1,9 @@
-use Rattle.std.proofs.Common.{◌++◌, [], refl, arith, ◌≤◌, length}
+use Rattle.std.proofs.Common.{◌++◌, refl, arith, ◌≤◌, length}
 use Rattle.edf_mend.specs.Header.{header_bytes}
 use Rattle.std.proofs.KnownBytes.{Consumes-trans}
 use Rattle.edf_mend.specs.Survey.{IsSurveyOf}
 use Rattle.edf_mend.proofs.LeftOver.{if-ok}
+use Rattle.edf_mend.proofs.ReadingOn.{body-begins}
 use Rattle.edf_mend.proofs.SurveyedBytes.{if-any}
 use Rattle.edf_mend.proofs.SurveyedFile.{all-counted, ends-all, moved-left, surveyed}
 use Rattle.edf_mend.proofs.surveying.survey_behind.Goals as goal
@@ -16,7 +17,8 @@ returns-clause-surveyed g c body tally left_is wanted has =
     let left = g.R.Input.remaining c.args.input.now in
     let mid = g.R.Input.remaining c.starts_of.new.input in
     let rest = g.R.Input.remaining c.read_to_end.new.input in
-    let begun = c.begin_body.ensures [] front tally in
+    let begun = body-begins front c.bytes.result.now c.args.tally.now c.begin_body.new.self
+    c.bytes.ensures.bytes c.in_ok-begin_body.ensures tally in
     let s = c.in_ok-starts.starts in
     let found = c.in_ok-starts.ensures.found c.no_body.ensures refl front begun in
     let all = all-counted w first left mid rest front body c.starts_of.new.tally
@@ -39,7 +41,8 @@ returns-clause-end g c tally =
     let w = c.args.wanted.now in
     let first = c.args.first.now in
     let front = header_bytes first in
-    let begun = c.begin_body.ensures [] front tally in
+    let begun = body-begins front c.bytes.result.now c.args.tally.now c.begin_body.new.self
+    c.bytes.ensures.bytes c.in_ok-begin_body.ensures tally in
     let found = c.in_ok-starts.ensures.found c.no_body.ensures refl front begun in
     if-any c.survey_of.result _ (λ survey. ends-all w first (g.R.Input.remaining c.args.input.now)
     (g.R.Input.remaining c.starts_of.new.input) (g.R.Input.remaining c.read_to_end.new.input) front
