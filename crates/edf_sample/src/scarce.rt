@@ -2,24 +2,39 @@
 
 use std::alloc::{AllocError, Global};
 
-/// The size from which blocks are large: one such block is free where memory is not scarce.
+/// The size of a large block.
 const LARGE: usize = 1 << 24;
+
+/// How many large blocks are free where memory is not scarce. Small blocks that the C library keeps
+/// lie between them, so far more is free than is wanted at once.
+const FREE: usize = 16;
 
 /// All memory that the process can name, but for what is left free.
 #[derive(Drop)]
 pub struct Scarce {
     kept: Vec<Vec<u8>>,
-    large: usize,
+    /// How many blocks were taken before memory became scarce.
+    first: usize,
 }
 
 impl Scarce {
-    /// Takes all large blocks but one.
+    /// Takes all memory but some large blocks of the heap.
+    ///
+    /// How far the heap can grow, and which gaps there are beside it, is another in each run of a
+    /// program. So the heap gives the free blocks before all else is taken. The C library gives a
+    /// block from the heap where it is smaller than one that was freed before.
     pub fn new(alloc: Global) -> Result<Scarce, AllocError> {
-        let kept = Vec::with_capacity(alloc, 200_000)?;
-        let mut scarce = Scarce { kept, large: 0 };
-        scarce.hoard(alloc, 1 << 34, LARGE);
-        drop(scarce.kept.pop());
-        scarce.large = scarce.kept.len();
+        let mut kept = Vec::with_capacity(alloc, 200_000)?;
+        kept.push(Vec::<u8>::with_capacity(alloc, LARGE + LARGE / 2)?)?;
+        drop(kept.pop());
+        let mut free = Vec::with_capacity(alloc, FREE)?;
+        for _ in 0..FREE {
+            free.push(Vec::<u8>::with_capacity(alloc, LARGE)?)?;
+        }
+        let mut scarce = Scarce { kept, first: 0 };
+        scarce.hoard(alloc, 1 << 34, 1);
+        scarce.first = scarce.kept.len();
+        drop(free);
         Ok(scarce)
     }
 
@@ -64,9 +79,9 @@ impl Scarce {
         true
     }
 
-    /// Gives back all that is not large, so that memory is not scarce.
+    /// Gives back what was taken since, so that memory is not scarce.
     pub fn ease(&mut self) {
-        for _ in self.large..self.kept.len() {
+        for _ in self.first..self.kept.len() {
             drop(self.kept.pop());
         }
     }
