@@ -45,17 +45,9 @@ const SECOND_SCORER: &[Told] = &[(1_500, 9_000, "Sleep stage N3")];
 /// An hour of changes: a stage lasts until the next one.
 const CHANGES: &[Told] = &[(0, 0, "Sleep stage N2"), (1_800, 1_800, "Sleep stage W")];
 
-/// With the epoch behind it, the first stage is one of epochs.
+/// With this stage half a minute after the first one, the stages are those of epochs: each lasts half
+/// a minute and no longer.
 const EPOCH: &[Told] = &[(30, 0, "Sleep stage N2")];
-
-/// Notes and more of them, the runs in seconds after the start, a figure, and its seconds.
-type Row = (
-    &'static [Told],
-    &'static [Told],
-    &'static [(u32, u32)],
-    Figure,
-    Result<u64, Untold>,
-);
 
 const WHOLE: &[(u32, u32)] = &[(0, 28_800)];
 
@@ -63,47 +55,54 @@ const WITH_A_GAP: &[(u32, u32)] = &[(0, 5_000), (5_020, 28_800)];
 
 const HOUR: &[(u32, u32)] = &[(0, 3_600)];
 
+/// Figures, and the seconds of each.
+type Figures = &'static [(Figure, Result<u64, Untold>)];
+
+const OF_THE_NIGHT: Figures = &[
+    (Figure::SleepTime, Ok(25_200)),
+    (Figure::Efficiency, Ok(25_200)),
+    (Figure::SleepLatency, Ok(600)),
+    (Figure::RemLatency, Ok(9_300)),
+    (Figure::WakeAfterOnset, Ok(1_800)),
+    (Figure::StageTime(Kind::Two), Ok(21_300)),
+    (Figure::CarriedTime, Ok(0)),
+];
+
+const OF_THE_GAP: Figures = &[
+    (Figure::SleepTime, Ok(25_180)),
+    (Figure::StageTime(Kind::Missing), Ok(20)),
+    (Figure::RemLatency, Ok(9_300)),
+];
+
+const OF_TWO_SCORERS: Figures = &[
+    (Figure::SleepTime, Err(Untold::TwoScorings)),
+    (Figure::SleepOnset, Err(Untold::TwoScorings)),
+];
+
+const OF_CHANGES: Figures = &[
+    (Figure::StageTime(Kind::Two), Ok(1_800)),
+    (Figure::CarriedTime, Ok(1_770)),
+];
+
+const OF_EPOCHS: Figures = &[
+    (Figure::StageTime(Kind::Two), Ok(60)),
+    (Figure::StageTime(Kind::NotScored), Ok(1_740)),
+];
+
+/// Notes and more of them, the runs in seconds after the start, and the figures.
+type Row = (
+    &'static [Told],
+    &'static [Told],
+    &'static [(u32, u32)],
+    Figures,
+);
+
 const ROWS: &[Row] = &[
-    (NIGHT, &[], WHOLE, Figure::SleepTime, Ok(25_200)),
-    (NIGHT, &[], WHOLE, Figure::Efficiency, Ok(25_200)),
-    (NIGHT, &[], WHOLE, Figure::SleepLatency, Ok(600)),
-    (NIGHT, &[], WHOLE, Figure::RemLatency, Ok(9_300)),
-    (NIGHT, &[], WHOLE, Figure::WakeAfterOnset, Ok(1_800)),
-    (NIGHT, &[], WHOLE, Figure::StageTime(Kind::Two), Ok(21_300)),
-    (NIGHT, &[], WHOLE, Figure::CarriedTime, Ok(0)),
-    (NIGHT, &[], WITH_A_GAP, Figure::SleepTime, Ok(25_180)),
-    (
-        NIGHT,
-        &[],
-        WITH_A_GAP,
-        Figure::StageTime(Kind::Missing),
-        Ok(20),
-    ),
-    (NIGHT, &[], WITH_A_GAP, Figure::RemLatency, Ok(9_300)),
-    (
-        NIGHT,
-        SECOND_SCORER,
-        WHOLE,
-        Figure::SleepTime,
-        Err(Untold::TwoScorings),
-    ),
-    (
-        NIGHT,
-        SECOND_SCORER,
-        WHOLE,
-        Figure::SleepOnset,
-        Err(Untold::TwoScorings),
-    ),
-    (CHANGES, &[], HOUR, Figure::StageTime(Kind::Two), Ok(1_800)),
-    (CHANGES, &[], HOUR, Figure::CarriedTime, Ok(1_770)),
-    (CHANGES, EPOCH, HOUR, Figure::StageTime(Kind::Two), Ok(60)),
-    (
-        CHANGES,
-        EPOCH,
-        HOUR,
-        Figure::StageTime(Kind::NotScored),
-        Ok(1_740),
-    ),
+    (NIGHT, &[], WHOLE, OF_THE_NIGHT),
+    (NIGHT, &[], WITH_A_GAP, OF_THE_GAP),
+    (NIGHT, SECOND_SCORER, WHOLE, OF_TWO_SCORERS),
+    (CHANGES, &[], HOUR, OF_CHANGES),
+    (CHANGES, EPOCH, HOUR, OF_EPOCHS),
 ];
 
 /// The instant so many seconds after the start.
@@ -160,19 +159,33 @@ fn told(
     }))
 }
 
-/// Whether a row tells what its figure is.
+/// Whether each figure of these notes and runs is so many seconds, or is not told for this reason.
+fn are_so(
+    alloc: Global,
+    notes: &[Note],
+    runs: &[Extent],
+    figures: Figures,
+) -> Result<bool, AllocError> {
+    for (figure, expected) in figures.iter().copied() {
+        let expected = match expected {
+            Ok(seconds) => Ok(seconds.saturating_mul(SECOND)),
+            Err(why) => Err(why),
+        };
+        if told(alloc, notes, runs, figure)? != Some(expected) {
+            return Ok(false);
+        }
+    }
+    Ok(true)
+}
+
+/// Whether the figures of a row are so.
 fn is_so(alloc: Global, row: Row) -> Result<bool, AllocError> {
-    let (notes, more, runs, figure, expected) = row;
+    let (notes, more, runs, figures) = row;
     let mut all = Vec::new(alloc);
     push_notes(alloc, notes, &mut all)?;
     push_notes(alloc, more, &mut all)?;
     let runs = extents(alloc, runs)?;
-    let told = told(alloc, all.as_slice(), runs.as_slice(), figure)?;
-    let expected = match expected {
-        Ok(seconds) => Ok(seconds.saturating_mul(SECOND)),
-        Err(why) => Err(why),
-    };
-    Ok(told == Some(expected))
+    are_so(alloc, all.as_slice(), runs.as_slice(), figures)
 }
 
 #[test]

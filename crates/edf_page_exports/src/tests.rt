@@ -45,6 +45,11 @@ struct Answered {
 }
 
 impl Answered {
+    /// How many pieces are given.
+    fn count(&self) -> u64 {
+        self.parts.first().copied().unwrap_or(0)
+    }
+
     /// The piece at a place, from 0.
     fn piece(&self, place: usize) -> Option<&[u8]> {
         let mut from = 0usize;
@@ -53,6 +58,15 @@ impl Answered {
         }
         let size = *self.parts.get(place.saturating_add(1))? as usize;
         self.out.get(from..from.saturating_add(size))
+    }
+
+    /// Whether all is given, in so many pieces, and these are at their places.
+    fn gives(&self, count: u64, pieces: &[(usize, &[u8])]) -> bool {
+        let mut is_so = self.status == 0 && self.count() == count;
+        for (place, piece) in pieces.iter().copied() {
+            is_so = is_so && self.piece(place) == Some(piece);
+        }
+        is_so
     }
 }
 
@@ -123,69 +137,127 @@ fn three(alloc: Global, room: usize, places: usize) -> Result<Answered, AllocErr
     night(alloc, &names, &files, room, places)
 }
 
+/// The pieces of these three.
+const OF_THREE: &[(usize, &[u8])] = &[
+    (0, b"p5.edf accepted new=1 known=0\n"),
+    (1, b"q.edf accepted new=1 known=0\n"),
+    (2, b"p5.edf refused E1 Cut\n"),
+    (3, LISTED),
+    (5, RUNS),
+];
+
+/// A number, a prefix, how many pieces come, and some of them by their places.
+type RunsRow = (u32, &'static [u8], u64, &'static [(usize, &'static [u8])]);
+
+const OF_RUNS: &[RunsRow] = &[
+    (
+        0,
+        b"",
+        3,
+        &[
+            (0, b"\0"),
+            (1, b"1 records=1 first=2002-03-03T00:00:05 seconds=1\n"),
+        ],
+    ),
+    (3, b"one", 5, &[(0, b"\0"), (3, b"one-1.edf")]),
+    (
+        4,
+        b"run",
+        3,
+        &[
+            (0, b"\x01"),
+            (2, b"run-1.edf is there already; nothing was written\n"),
+        ],
+    ),
+];
+
+/// The seven values, how many pieces come, and some of them by their places.
+type MendRow = (
+    &'static [&'static [u8]],
+    u64,
+    &'static [(usize, &'static [u8])],
+);
+
+const OF_MENDING: &[MendRow] = &[
+    (
+        &[b"", b"", b"", b"", b"", b"", b""],
+        3,
+        &[(0, b"\0"), (1, b"")],
+    ),
+    (
+        &[b"out.edf", b"", b"", b"S-1", b"", b"", b""],
+        5,
+        &[(0, b"\0"), (3, b"out.edf")],
+    ),
+    (
+        &[b"p5.edf", b"", b"", b"", b"", b"", b""],
+        3,
+        &[
+            (0, b"\x01"),
+            (2, b"p5.edf is there already; nothing was written\n"),
+        ],
+    ),
+    (
+        &[b"out.edf", b"a b", b"", b"", b"", b"", b""],
+        3,
+        &[(0, b"\x02"), (1, b"")],
+    ),
+];
+
 #[test]
 fn a_night_has_a_line_for_each_file_and_all_of_its_recording(
     rt: HostRuntime,
 ) -> Result<(), AllocError> {
     let all = three(rt.alloc(), 40000, 9)?;
-    assert_eq!(rt; all.status, 0);
-    assert_eq!(rt; all.parts.first().copied(), Some(7));
-    assert!(rt; all.piece(0) == Some(b"p5.edf accepted new=1 known=0\n"));
-    assert!(rt; all.piece(1) == Some(b"q.edf accepted new=1 known=0\n"));
-    assert!(rt; all.piece(2) == Some(b"p5.edf refused E1 Cut\n"));
-    assert!(rt; all.piece(3) == Some(LISTED));
-    assert!(rt; all.piece(5) == Some(RUNS));
+    assert!(rt; all.gives(7, OF_THREE));
     assert_eq!(rt; all.parts.last().copied(), Some(7));
     Ok(())
+}
+
+/// What comes of the three with so much room, in so many places.
+fn status_in(alloc: Global, room: usize, places: usize) -> Result<u32, AllocError> {
+    Ok(three(alloc, room, places)?.status)
 }
 
 #[test]
 fn just_enough_room_is_enough(rt: HostRuntime) -> Result<(), AllocError> {
     let less = three(rt.alloc(), 0, 8)?;
-    assert_eq!(rt; less.status, 1);
-    assert_eq!(rt; less.parts.first().copied(), Some(7));
     let room = less.parts.get(1).copied().unwrap_or(0) as usize;
-    assert_eq!(rt; three(rt.alloc(), room, 8)?.status, 0);
-    assert_eq!(rt; three(rt.alloc(), room.saturating_sub(1), 8)?.status, 1);
-    assert_eq!(rt; three(rt.alloc(), room, 7)?.status, 1);
-    assert_eq!(rt; three(rt.alloc(), room, 1)?.status, 3);
+    assert_eq!(rt; (less.status, less.count()), (1, 7));
+    for (given, places, status) in [
+        (room, 8, 0),
+        (room.saturating_sub(1), 8, 1),
+        (room, 7, 1),
+        (room, 1, 3),
+    ] {
+        assert_eq!(rt; status_in(rt.alloc(), given, places)?, status);
+    }
     Ok(())
+}
+
+/// What comes of the card's three pieces.
+fn cards(alloc: Global) -> Result<Answered, AllocError> {
+    let (n3, n1, n2) = (file_n3(alloc)?, file_n1(alloc)?, file_n2(alloc)?);
+    let files = [n3.as_slice(), n1.as_slice(), n2.as_slice()];
+    night(alloc, &[b"3", b"1", b"2"], &files, 40000, 20)
 }
 
 #[test]
 fn the_file_is_the_recordings_own(rt: HostRuntime) -> Result<(), AllocError> {
-    let alloc = rt.alloc();
-    let files = [file_n3(alloc)?, file_n1(alloc)?, file_n2(alloc)?];
-    let [n3, n1, n2] = &files;
-    let names = [b"3".as_slice(), b"1", b"2"];
-    let all = night(
-        alloc,
-        &names,
-        &[n3.as_slice(), n1.as_slice(), n2.as_slice()],
-        40000,
-        20,
-    )?;
-    let card = patched(alloc, &file_k(alloc)?, 192, b"EDF+D")?;
-    assert_eq!(rt; all.parts.first().copied(), Some(7));
-    assert!(rt; all.piece(4) == Some(card.as_slice()));
+    let all = cards(rt.alloc())?;
+    let card = patched(rt.alloc(), &file_k(rt.alloc())?, 192, b"EDF+D")?;
+    assert!(rt; all.gives(7, &[(4, card.as_slice())]));
     assert!(rt; has(all.piece(6).unwrap_or(b""), b"P7"));
     Ok(())
 }
 
 #[test]
 fn each_recording_has_its_pieces(rt: HostRuntime) -> Result<(), AllocError> {
-    let alloc = rt.alloc();
-    let (q, u) = (file_q(alloc)?, file_u(alloc)?);
-    let all = night(
-        alloc,
-        &[b"u", b"q"],
-        &[u.as_slice(), q.as_slice()],
-        80000,
-        20,
-    )?;
-    assert_eq!(rt; all.parts.first().copied(), Some(9));
-    let is_first = all.piece(3) == Some(q.as_slice());
-    assert!(rt; is_first || all.piece(6) == Some(q.as_slice()));
+    let (q, u) = (file_q(rt.alloc())?, file_u(rt.alloc())?);
+    let files = [u.as_slice(), q.as_slice()];
+    let all = night(rt.alloc(), &[b"u", b"q"], &files, 80000, 20)?;
+    let is_first = all.gives(9, &[(3, q.as_slice())]);
+    assert!(rt; is_first || all.gives(9, &[(6, q.as_slice())]));
     Ok(())
 }
 
@@ -196,46 +268,33 @@ fn what_is_no_call_is_answered_so(rt: HostRuntime) -> Result<(), AllocError> {
     assert_eq!(rt; night(alloc, &[b"\xff"], &[b""], 9, 9)?.status, 3);
     assert_eq!(rt; runs(alloc, 5, b"")?.status, 3);
     assert_eq!(rt; mend(alloc, &[b""])?.status, 3);
-    let none = night(alloc, &[], &[], 9, 9)?;
-    assert_eq!(rt; none.status, 0);
-    assert_eq!(rt; none.parts.first().copied(), Some(1));
+    assert!(rt; night(alloc, &[], &[], 9, 9)?.gives(1, &[]));
     Ok(())
 }
 
 #[test]
 fn runs_are_what_a_number_asks_for(rt: HostRuntime) -> Result<(), AllocError> {
-    let alloc = rt.alloc();
-    let listed = runs(alloc, 0, b"")?;
-    assert!(rt; listed.piece(0) == Some(b"\0"));
-    assert!(rt; listed.piece(1) == Some(b"1 records=1 first=2002-03-03T00:00:05 seconds=1\n"));
-    let picture = runs(alloc, 2, b"")?;
-    assert!(rt; picture.piece(0) == Some(b"\0"));
+    for (which, prefix, count, pieces) in OF_RUNS.iter().copied() {
+        assert!(rt;
+            runs(rt.alloc(), which, prefix)?.gives(count, pieces),
+            "{which}"
+        );
+    }
+    let picture = runs(rt.alloc(), 2, b"")?;
+    assert!(rt; picture.gives(3, &[(0, b"\0")]));
     assert!(rt; !has(picture.piece(1).unwrap_or(b"P7"), b"P7"));
-    let split = runs(alloc, 3, b"one")?;
-    assert!(rt; split.piece(0) == Some(b"\0"));
-    assert!(rt; split.piece(3) == Some(b"one-1.edf"));
-    assert_eq!(rt; split.parts.first().copied(), Some(5));
-    let there = runs(alloc, 4, b"run")?;
-    assert!(rt; there.piece(0) == Some(b"\x01"));
-    assert!(rt; there.piece(2) == Some(b"run-1.edf is there already; nothing was written\n"));
     Ok(())
 }
 
 #[test]
 fn a_file_is_mended_by_values(rt: HostRuntime) -> Result<(), AllocError> {
-    let alloc = rt.alloc();
-    let dry = mend(alloc, &[b"", b"", b"", b"", b"", b"", b""])?;
-    assert!(rt; dry.piece(0) == Some(b"\0"));
-    assert!(rt; dry.piece(1) == Some(b""));
-    let hidden = mend(alloc, &[b"out.edf", b"", b"", b"S-1", b"", b"", b""])?;
-    assert!(rt; hidden.piece(0) == Some(b"\0"));
-    assert!(rt; hidden.piece(3) == Some(b"out.edf"));
+    for (number, (values, count, pieces)) in OF_MENDING.iter().copied().enumerate() {
+        assert!(rt;
+            mend(rt.alloc(), values)?.gives(count, pieces),
+            "row {number}"
+        );
+    }
+    let hidden = mend(rt.alloc(), &[b"out.edf", b"", b"", b"S-1", b"", b"", b""])?;
     assert!(rt; !has(hidden.piece(4).unwrap_or(b"P7"), b"P7"));
-    let there = mend(alloc, &[b"p5.edf", b"", b"", b"", b"", b"", b""])?;
-    assert!(rt; there.piece(0) == Some(b"\x01"));
-    assert!(rt; there.piece(2) == Some(b"p5.edf is there already; nothing was written\n"));
-    let usage = mend(alloc, &[b"out.edf", b"a b", b"", b"", b"", b"", b""])?;
-    assert!(rt; usage.piece(0) == Some(b"\x02"));
-    assert!(rt; usage.piece(1) == Some(b""));
     Ok(())
 }

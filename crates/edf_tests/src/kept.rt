@@ -215,14 +215,17 @@ fn near_in<S: Alter + Drop>(mut store: Store<S>, two: &Two) -> Option<i8> {
     other_near(&mut store, two)
 }
 
+fn near_by<D: Disk + Drop>(alloc: Global, disks: Files<D>, two: &Two) -> Option<Option<i8>> {
+    Some(near_in(opened(alloc, disks)?, two))
+}
+
 /// What is seen as the two are put into a store over disks, which are opened again then.
 fn kept_on_disk(alloc: Global) -> Option<Kept> {
     let mut log = Memory::new(alloc);
     let mut db = Memory::new(alloc);
     let two = two_apart(alloc, 2)?;
     let kept = keep_by(alloc, lend(&mut log, &mut db), &two);
-    let store = opened(alloc, lend(&mut log, &mut db))?;
-    Some((kept, near_in(store, &two)))
+    Some((kept, near_by(alloc, lend(&mut log, &mut db), &two)?))
 }
 
 #[test]
