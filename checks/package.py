@@ -7,18 +7,16 @@ same bytes; PACKAGE is looked at instead of these where it is named. It has the 
 their man pages, the documents and the examples, and less than MOST bytes; no link of its documents
 is dead, `lintian` finds no error, and `man` no warning of the installed pages. As root and with
 debootstrap it is installed by `dpkg -i` on a Debian of the least packages, run there, by the
-commands that README, REFUSALS and the examples' READMEs show too, and removed again: the folder of
-examples/receiving gets a file by SFTP and one by `cp`, where packages can be had. FOLDER is such a
-Debian; else one is made, which takes minutes and the network, and is gone at the end. Without root
-or debootstrap it is unpacked here, `ldd` says what it lacks, and it is run here: the last lines say
-which of the ways was taken.
+commands that README, REFUSALS and examples/README show too, and removed again; where packages can
+be had the examples that write by EDFlib run there. FOLDER is such a Debian; else one is made, which
+takes minutes and the network, and is gone at the end. Without root or debootstrap it is unpacked
+here, `ldd` says what it lacks, and it is run here: the last lines say which of the ways was taken.
 
 Three controls must fail: a package without its copyright file has an error by lintian, one that
 needs a library that is not there and one with a byte changed are not installed. It needs dpkg-deb,
 lintian, man and readelf.
 """
 import os
-import re
 import shutil
 from pathlib import Path
 
@@ -29,11 +27,7 @@ MOST = 2_400_000
 SUITE = "bookworm"
 PROGRAMS = ("edfstore", "edfruns", "edfserve", "edfmend")
 SHARED = "usr/share/doc/edfstore"
-SERVICES = {"usr/lib/edfstore/receive": ("examples/receiving/receive", 0o755),
-            installed.UNIT: ("examples/receiving/edfserve@.service", 0o644),
-            "usr/lib/edfstore/overview": ("examples/site/overview", 0o755),
-            installed.PAGE: ("examples/site/edfoverview.service", 0o644),
-            installed.TIMER: ("examples/site/edfoverview.timer", 0o644)}
+SERVICES = ("usr/lib/edfstore", "usr/lib/systemd", "lib/systemd", "etc")      # none has a file
 EXAMPLES = ("edflib.edf", "one-record.edf")
 DOCUMENTS = ("README.md", "copyright", "changelog.gz", "docs/GUIDE.md", "docs/REFUSALS.md",
              "docs/FORMAT.md", "docs/GLOSSARY.md", *(f"examples/{name}" for name in EXAMPLES))
@@ -105,13 +99,7 @@ def contents(checks: Checks, package: Path, folder: Path) -> Path:
         page = text("zcat", root / f"usr/share/man/man1/{name}.1.gz")
         checks.same(f"{name}.1", page == (arguments.TOP / f"docs/{name}.1").read_text(), True)
         rendered(checks, name, root)
-    for name, (source, mode) in SERVICES.items():
-        there = root / name
-        checks.same(name, (there.read_bytes(), there.stat().st_mode & 0o777),
-                    ((arguments.TOP / source).read_bytes(), mode))
-    for unit in (installed.UNIT, installed.PAGE):
-        runs_there = re.search("^ExecStart=.*?/(usr/lib/[^ ]*)", (root / unit).read_text(), re.M)
-        checks.same(f"{unit} runs what is there", (root / runs_there[1]).is_file(), True)
+    checks.same("what runs by itself", [it for it in SERVICES if (root / it).exists()], [])
     missing = [name for name in DOCUMENTS if not (root / SHARED / name).is_file()]
     checks.same("documents that it lacks", missing, [])
     checks.same("dead links", links.dead(sorted((root / SHARED).rglob("*.md")), root / SHARED), [])
@@ -219,7 +207,7 @@ class Bare:
 
     def installed(self) -> list:
         """What of the package is there."""
-        paths = (*(f"usr/bin/{name}" for name in PROGRAMS), *SERVICES, SHARED)
+        paths = (*(f"usr/bin/{name}" for name in PROGRAMS), SHARED)
         return [path for path in paths if (self.root / path).exists()]
 
 

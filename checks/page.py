@@ -41,10 +41,10 @@ from pathlib import Path
 from checks.lib import (arguments, measure, modules, night, page_files, printed, second_thoughts,
                         sends, technician)
 from checks.lib.checks import Lost, compare, end
+from checks.lib.chromium import Chromium
 from checks.lib.firefox import Firefox
 from checks.lib.hands import ChromiumHands, FirefoxHands
 from checks.lib.natively import Native, sum_of, written
-from checks.lib.pages import Chromium
 
 BROWSERS = {"chromium": Chromium, "firefox": Firefox}
 HANDS = {"chromium": ChromiumHands, "firefox": FirefoxHands}

@@ -50,7 +50,6 @@ CHECKS = (
     ("rot", ("edfstore",), (5,)),
     ("hypnogram", ("edfruns",), (5,)),
     ("serve", ("edfstore", "edfruns", "edfserve"), (3,)),
-    ("receiving", ("edfstore", "edfserve", "edfruns", "edfmend"), (1,)),
     ("mend.run", ("edfstore", "edfmend"), ()),
     ("mend.fuzz", ("edfmend",), (100,)),
 )

@@ -1,9 +1,7 @@
-"""A page of HTML as text: read here, and by headless Chromium over a pipe, without packages."""
+"""Drives headless Chromium over a pipe, without packages."""
 import base64
-import html.parser
 import json
 import os
-import re
 import select
 import signal
 import subprocess
@@ -12,54 +10,16 @@ from pathlib import Path
 
 from .checks import Lost
 
-BLOCKS = {"h1", "h2", "h3", "li", "p", "section", "table", "td", "th", "tr", "ul", "img"}
-PICTURE = re.compile(rb"data:image/svg\+xml;base64,([A-Za-z0-9+/=]*)")
 FLAGS = ("--headless=new", "--no-sandbox", "--disable-gpu", "--disable-dev-shm-usage",
          "--no-first-run", "--hide-scrollbars", "--remote-debugging-pipe",
          "--disable-background-networking", "--disable-component-update", "--disable-sync",
          "--window-size=1280,1000")
-SECONDS = 90        # that Chromium may take
+SECONDS = 90        # that it may take
 
 
 def plain(text: str) -> str:
     """A text with one space between its words."""
     return " ".join(text.split())
-
-
-class Texts(html.parser.HTMLParser):
-    """The rows of the table and the sections, as texts, and the names of all elements and
-    attributes."""
-
-    def __init__(self, data: bytes):
-        super().__init__()
-        self.rows, self.sections, self.names = [], [], set()
-        self.into = None
-        self.feed(data.decode())
-        self.rows, self.sections = ([plain(text) for text in texts]
-                                    for texts in (self.rows, self.sections))
-
-    def handle_starttag(self, tag: str, attributes: list) -> None:
-        self.names |= {tag, *(name for name, _ in attributes)}
-        if tag in ("tr", "section"):
-            self.into = self.rows if tag == "tr" else self.sections
-            self.into.append("")
-        if self.into is not None and tag in BLOCKS:
-            self.into[-1] += " "
-
-    def handle_endtag(self, tag: str) -> None:
-        if self.into is not None and tag in BLOCKS:
-            self.into[-1] += " "
-        if tag in ("tr", "section"):
-            self.into = None
-
-    def handle_data(self, data: str) -> None:
-        if self.into is not None:
-            self.into[-1] += data
-
-
-def pictures(data: bytes) -> list:
-    """The pictures of a page, as they are in it."""
-    return [base64.b64decode(found) for found in PICTURE.findall(data)]
 
 
 class Chromium:
@@ -144,10 +104,6 @@ class Chromium:
         return [event["params"]["request"]["url"] for event in self.events
                 if event.get("method") == "Network.requestWillBeSent"
                 and not event["params"]["request"]["url"].startswith("data:")]
-
-    def complaints(self) -> list:
-        return [event["params"]["entry"]["text"] for event in self.events
-                if event.get("method") == "Log.entryAdded"]
 
     def screenshot(self, path: Path) -> None:
         size = self.ask("Page.getLayoutMetrics")["cssContentSize"]
