@@ -198,14 +198,13 @@ def the_package(found: Checks, ours: dict, guests: dict, folder: Path) -> None:
 
 
 def ten_minutes(found: Checks, root: Path, guests: dict, folder: Path) -> None:
-    """README's commands, as printed, by the package's programs; what goes to /tmp goes elsewhere
-    here."""
+    """README's commands, as printed, by the package's programs."""
     place = folder / "tmp"
     place.mkdir()
     path = f"{guests['edfstore'].parent}:{os.environ['PATH']}"
     for shown in sessions.sessions(root / SHARED / "README.md"):
-        script = shown.script.replace("/tmp", str(place))
-        ran = measure.ran("bash", "-c", script, folder=root / SHARED, added={"PATH": path})
+        ran = measure.ran("bash", "-c", shown.script, folder=root / SHARED,
+                          added={"PATH": path, "TMPDIR": str(place)})
         found.same("README: the commands", len(shown.steps) > 5, True)
         found.same("README: what is printed", shown.differences(ran.out.decode()), [])
 
