@@ -1,5 +1,5 @@
-"""Reads the documents, and finds links that name nothing, pages that are too long, long sentences
-and what stands in two pages.
+"""Reads the documents, and finds links that name nothing, pages that are too long, long sentences,
+what stands in two pages, and commands that may do harm.
 
     python3 -m checks.documents [--control] [PAGE]...
 
@@ -7,10 +7,12 @@ Each link of a document names a file or a heading that is there, and each docume
 names, as a man page or a script does, is there. The ten pages of PAGES have no more lines than each
 may have, and MOST_LINES together; no line of a document has more than COLUMNS. In these pages and
 in those of ALSO_READ a sentence has MOST_WORDS at most, and on average those that its page may
-have; and no AGAIN words in a row stand in two, but for what a page quotes, tables and code. Where pages are
-named their lengths, their sentences and what they say twice are looked at alone. A line tells each
-place where it is not so. --control looks at documents that are wrong in one place: each must be
-found, and then the status is 0. It needs git.
+have; and no AGAIN words in a row stand in two, but for what a page quotes, tables and code. No
+document and no man page shows a command that runs what stands in a store, changes the owner of what
+a link names, or writes to a name in /tmp that others know. Where pages are named their lengths,
+their sentences and what they say twice are looked at alone. A line tells each place where it is not
+so. --control looks at documents that are wrong in one place: each must be found, and then the
+status is 0. It needs git.
 """
 import re
 import shutil
@@ -39,6 +41,7 @@ PAGES = (Page("README.md", 95, 20), Page("CONTRIBUTING.md", 100), Page("docs/GUI
 ALSO_READ = ("examples/", "checks/", "bench/")
 # What has no names of documents, or those of earlier ones
 NOT_READ = ("crates/", "release/", "CHANGELOG.md", "checks/edits/", "checks/documents.py")
+HARMFUL = re.compile(r"\.dump \|(?! grep \\?-av '\^\[\.\]' \|)|\bchown (?!\\?-h )[\w:-]+|/tmp/\w+")
 NAMED = re.compile(r"(?<![\w/.-])((?:docs|examples|checks|bench)/(?:\w+/)*\w+\.md)(#[\w-]+)?")
 
 
@@ -69,6 +72,7 @@ class Documents:
         self.links()
         self.mentions()
         self.columns()
+        self.harm()
         self.lengths([page for page in pages if page in PAGES], not named)
         self.sentences(pages)
         self.said_twice(pages)
@@ -99,6 +103,12 @@ class Documents:
             for number, line in enumerate(self.text(name).splitlines(), 1):
                 if len(line) > COLUMNS:
                     self.found.append(f"{name}:{number} has {len(line)} columns")
+
+    def harm(self) -> None:
+        for name in [*self.documents(), *(name for name in self.names
+                                          if re.fullmatch(r"docs/\w+\.1", name))]:
+            self.found += [f"{name} shows what may do harm: {found}"
+                           for found in HARMFUL.findall(self.text(name))]
 
     def lengths(self, pages: list, is_all: bool) -> None:
         total = 0
@@ -151,6 +161,9 @@ WRONG = (
     ("docs/GUIDE.md", f"\n{LONG}", "words: This sentence goes on"),
     ("docs/GUIDE.md", f"\n{LONG}" * 200, "words a sentence"),
     ("docs/FORMAT.md", "\nOne says this of eight beams in a row.\n", "says as"),
+    ("docs/edfstore.1", ".B sqlite3 \\-safe s.db .dump | sqlite3 \\-safe new.db\n", "may do harm"),
+    ("examples/README.md", "\n    chown r01: night.db*\n", "may do harm"),
+    ("README.md", "\n    edfstore export night.db 1 > /tmp/night.edf\n", "may do harm"),
     ("docs/GUIDE.md", None, "is not there"),
 )
 ALSO = {"docs/FORMAT.md": "docs/GLOSSARY.md"}       # gets the same change

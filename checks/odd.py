@@ -6,16 +6,17 @@ rows, as the program meets them.
 Each file is made by the system's SQLite or by hand, given to `list`, and must be answered with the
 number that stands beside it and left as it was, byte for byte. Beside the tables of a store that
 the released 1.1.1 made (data/released_1_1_1.db, the file Q) other tools may write as they please;
-what they may do to a store with page sums is tried too. Where rows are in the log alone and the
-store is refused, they stay there. Then `list` of stores of 250,000,
-500,000 and 1,000,000 rows: time and peak memory. It needs time.
+what they may do to a store with page sums is tried too, and GUIDE's lines that bring such a store
+back, which run nothing that somebody wrote into it. Where rows are in the log alone and the store
+is refused, they stay there. Then `list` of stores of 250,000, 500,000 and 1,000,000 rows: time and
+peak memory. It needs sqlite3 and time.
 """
 import os
 import shutil
 import sqlite3
 from pathlib import Path
 
-from checks.lib import arguments, edf, faults, measure, model, printed
+from checks.lib import arguments, edf, faults, measure, model, printed, sessions
 from checks.lib.checks import end
 
 RELEASED = arguments.TOP / "checks/data/released_1_1_1.db"
@@ -89,10 +90,16 @@ BESIDE = (
     ("VACUUM", ("VACUUM",)),
     ("journal_mode=delete", ("PRAGMA journal_mode=delete",)),
 )
+# GUIDE's lines, over s.db
+BACK = next(block for block in sessions.blocks(arguments.TOP / "docs/GUIDE.md")
+            if " .dump" in block).replace("night.db", "s.db") + "mv $new/new.db .; rm -r $new"
+# Lines that sqlite3 would run: of a table's text, which .dump writes as it is
+WICKED = ("shell touch ran", "trace ran", "testcase ran", "output ran")
 WITH_SUMS = (
     ("a query", "sqlite3 s.db 'SELECT count(*) FROM record'", ""),
     ("cp", "cp s.db new.db", ""),
-    (".dump into a new file", "sqlite3 s.db .dump | sqlite3 new.db", ""),
+    ("GUIDE's way back", BACK, ""),
+    ("GUIDE's way back from ANALYZE", f"sqlite3 s.db ANALYZE; {BACK}", ""),
     ("ANALYZE", "sqlite3 s.db ANALYZE", E42),
     ("VACUUM", "sqlite3 s.db VACUUM", E42),
     ("a view", "sqlite3 s.db 'CREATE VIEW starts AS SELECT start FROM record'", E42),
@@ -255,8 +262,7 @@ def beside(odd: Odd) -> None:
     for what, statements in BESIDE:
         changed(odd.released(), *statements)
         goes_on(odd, what)
-    for what, command in ((".dump into a new file", "sqlite3 s.db .dump | sqlite3 new.db"),
-                          (".backup", "sqlite3 s.db '.backup new.db'")):
+    for what, command in (("GUIDE's way back", BACK), (".backup", "sqlite3 s.db '.backup new.db'")):
         changed(odd.released(), LAB, FILLED, "ANALYZE")
         measure.done("bash", "-c", command, folder=odd.folder)
         moved_in(odd)
@@ -277,6 +283,24 @@ def with_sums(odd: Odd) -> None:
             odd.check(f"{what}, with sums", expected)
         else:
             goes_on(odd, f"{what}, with sums")
+
+
+def wicked(odd: Odd) -> None:
+    """GUIDE's way back runs nothing that stands in a store, which would run without its words."""
+    harmful = BACK.replace(" -safe", "").replace("grep -av '^[.]'", "cat")
+    for line in WICKED:
+        for what, command, expected in (("GUIDE's way back", BACK, 1), ("another", harmful, 2)):
+            changed(odd.held(has_sums=True), "CREATE TABLE other (a)",
+                    "PRAGMA writable_schema = ON; "
+                    f"UPDATE sqlite_schema SET sql = sql || ';\n.{line}\n' "
+                    "WHERE name = 'other'")
+            before = set(odd.folder.iterdir())
+            measure.ran("bash", "-c", command, folder=odd.folder)
+            files = {path.name for path in set(odd.folder.iterdir()) - before}
+            odd.done += 1
+            if len(files) != expected or "new.db" not in files:
+                odd.failed += 1
+                print(f"{what}, of a store with .{line}: {sorted(files)}")
 
 
 def logged(odd: Odd) -> None:
@@ -341,7 +365,8 @@ def main() -> None:
     measure.need("/usr/bin/time", "sqlite3")
     with measure.scratch() as name:
         odd = Odd(given.program, Path(name))
-        for case in (no_stores, made, foreign, beside, with_sums, logged, many_rows):
+        for case in (no_stores, made, foreign, beside, with_sums, wicked, logged,
+                     many_rows):
             case(odd)
     end(odd.done, odd.failed)
 

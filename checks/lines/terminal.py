@@ -96,7 +96,7 @@ def causes(checks: Checks) -> None:
     checks.shell("sqlite3 other.db 'CREATE TABLE night (a)'")
     on_terminal(checks, "list other.db", err=FOREIGN + cause("other.db", printed.OTHER_TABLES),
                 status=3)
-    checks.shell("sqlite3 s.db .dump | sqlite3 rows.db; "
+    checks.shell("sqlite3 -safe s.db .dump | sqlite3 -safe rows.db; "
                  "sqlite3 rows.db 'UPDATE record SET start = start + 1'")
     on_terminal(checks, "list rows.db", err=FOREIGN + cause("rows.db", printed.OTHER_ROWS),
                 status=3)
@@ -104,7 +104,7 @@ def causes(checks: Checks) -> None:
                          ("analyze.db", "echo ANALYZE | sqlite3")):
         checks.shell(f"cp s.db {name}; {change} {name}")
         on_terminal(checks, f"list {name}", err=NO_STORE + cause(name, printed.DAMAGED), status=3)
-    checks.shell("sqlite3 vacuum.db .dump | sqlite3 again.db")
+    checks.shell("sqlite3 -safe vacuum.db .dump | sqlite3 -safe again.db")
     on_terminal(checks, "export again.db 1", Q)
     if os.geteuid() != 0:
         (checks.folder / "rows.db").chmod(0o400)
