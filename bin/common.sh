@@ -69,11 +69,24 @@ sources_digest() {
     LC_ALL=C sort -u | xargs -d '\n' sha256sum) | sha256sum | cut -d ' ' -f 1
 }
 
-# What a package has below its folder of documents: README, the documents and the examples, with
-# `checks/lib`, which the examples' scripts use. Man pages have a place of their own.
+# What a package has below its folder of documents: the licences, README, the documents and the
+# examples, with `checks/lib`, which the examples' scripts use. Man pages have a place of their own.
 document_files() {
-  git -C "$top" ls-files -- '*.md' docs examples checks/__init__.py checks/lib |
+  git -C "$top" ls-files -- 'LICENSE-*' '*.md' docs examples checks/__init__.py checks/lib |
     grep -v '^docs/.*\.1$'
+}
+
+# The version and the day of the newest heading in CHANGELOG, as `## 1.3.3-2, 2026-11-29`. The
+# programs print what stands before the dash; the number behind it is another one where documents
+# alone were changed.
+newest_version() {
+  local line
+  line=$(grep -m 1 '^## ' "$top/CHANGELOG.md")
+  if [[ ! $line =~ ^##\ ([0-9.]+(-[0-9]+)?),\ ([0-9]{4}-[0-9]{2}-[0-9]{2})$ ]]; then
+    echo "CHANGELOG begins with '$line', which is no version with its day" >&2
+    return 3
+  fi
+  echo "${BASH_REMATCH[1]} ${BASH_REMATCH[3]}"
 }
 
 # Whether $1 is there and none of the files that are read is newer.

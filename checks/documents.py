@@ -5,18 +5,20 @@ what stands in two pages, and commands that may do harm.
 
 Each link of a document names a file or a heading that is there, and each document that another file
 names, as a man page or a script does, is there. The ten pages of PAGES have no more lines than each
-may have, and MOST_LINES together; no line of a document has more than COLUMNS. In these pages and
-in those of ALSO_READ a sentence has MOST_WORDS at most, and on average those that its page may
-have; and no AGAIN words in a row stand in two, but for what a page quotes, tables and code. No
-document and no man page shows a command that runs what stands in a store, changes the owner of what
-a link names, or writes to a name in /tmp that others know. Where pages are named their lengths,
-their sentences and what they say twice are looked at alone. A line tells each place where it is not
-so. --control looks at documents that are wrong in one place: each must be found, and then the
-status is 0. It needs git.
+may have, and MOST_LINES together; no line of a document has more than COLUMNS, but for THIRD-PARTY,
+which has lines of others. In these pages and in those of ALSO_READ a sentence has MOST_WORDS at
+most, and on average those that its page may have; and no AGAIN words in a row stand in two, but for
+what a page quotes, tables and code. No document and no man page shows a command that runs what
+stands in a store, changes the owner of what a link names, or writes to a name in /tmp that others
+know. Where pages are named their lengths, their sentences and what they say twice are looked at
+alone. Where the toolchain of the release is here, THIRD-PARTY is what bin/notices prints. A line
+tells each place where it is not so. --control looks at documents that are wrong in one place: each
+must be found, and then the status is 0. It needs git.
 """
 import re
 import shutil
 from dataclasses import dataclass
+from functools import cache
 from pathlib import Path
 
 from checks.lib import arguments, links, measure, prose
@@ -42,12 +44,24 @@ ALSO_READ = ("examples/", "checks/", "bench/")
 # What has no names of documents, or those of earlier ones
 NOT_READ = ("crates/", "release/", "CHANGELOG.md", "checks/edits/", "checks/documents.py")
 HARMFUL = re.compile(r"\.dump \|(?! grep \\?-av '\^\[\.\]' \|)|\bchown (?!\\?-h )[\w:-]+|/tmp/\w+")
+NOTICES = "THIRD-PARTY.md"
 NAMED = re.compile(r"(?<![\w/.-])((?:docs|examples|checks|bench)/(?:\w+/)*\w+\.md)(#[\w-]+)?")
 
 
 def tracked(top: Path) -> list:
     """The files of the repository, by their paths below it."""
     return measure.done("git", "-C", top, "ls-files").out.decode().splitlines()
+
+
+def printed(*words) -> str:
+    return measure.done(*words).out.decode()
+
+
+@cache
+def is_toolchain_here() -> bool:
+    """Whether that of the release is: another may have other crates."""
+    return shutil.which("rt") is not None \
+        and printed("rt", "version") == (TOP / "release/TOOLCHAIN").read_text()
 
 
 class Documents:
@@ -76,6 +90,8 @@ class Documents:
         self.lengths([page for page in pages if page in PAGES], not named)
         self.sentences(pages)
         self.said_twice(pages)
+        if not named:
+            self.notices()
         return self.found
 
     def documents(self) -> list:
@@ -100,6 +116,8 @@ class Documents:
 
     def columns(self) -> None:
         for name in self.documents():
+            if name == NOTICES:
+                continue
             for number, line in enumerate(self.text(name).splitlines(), 1):
                 if len(line) > COLUMNS:
                     self.found.append(f"{name}:{number} has {len(line)} columns")
@@ -109,6 +127,11 @@ class Documents:
                                           if re.fullmatch(r"docs/\w+\.1", name))]:
             self.found += [f"{name} shows what may do harm: {found}"
                            for found in HARMFUL.findall(self.text(name))]
+
+    def notices(self) -> None:
+        """Whether THIRD-PARTY is of these crates, by the toolchain that the release is of."""
+        if is_toolchain_here() and self.text(NOTICES) != printed(self.top / "bin/notices"):
+            self.found.append(f"{NOTICES} is not what bin/notices prints")
 
     def lengths(self, pages: list, is_all: bool) -> None:
         total = 0
@@ -166,6 +189,8 @@ WRONG = (
     ("README.md", "\n    edfstore export night.db 1 > /tmp/night.edf\n", "may do harm"),
     ("docs/GUIDE.md", None, "is not there"),
 )
+OF_NOTICES = ((NOTICES, "\nMore.\n", "is not what bin/notices prints"),
+              ("crates.txt", "edfstore: memchr\n", "is not what bin/notices prints"))
 ALSO = {"docs/FORMAT.md": "docs/GLOSSARY.md"}       # gets the same change
 # What may stand in two pages.
 RIGHT = ("| a row of a table with more than eight words in it |",
@@ -201,7 +226,8 @@ def control(names: list) -> None:
         folder = Path(scratch)
         copied(names, folder)
         known = set(Documents(folder, names).look([]))
-        for name, added, wanted in WRONG:
+        wrong = (*WRONG, *(OF_NOTICES if is_toolchain_here() else ()))
+        for name, added, wanted in wrong:
             if not any(wanted in line for line in said_of(name, added, names, folder) - known):
                 missed += 1
                 print(f"not found in {name}: {wanted}")
@@ -210,7 +236,7 @@ def control(names: list) -> None:
             if any("says as" in line for line in lines):
                 missed += 1
                 print(f"found, though it may stand in two pages: {added}")
-    end(len(WRONG) + len(RIGHT), missed)
+    end(len(wrong) + len(RIGHT), missed)
 
 
 def main() -> None:
