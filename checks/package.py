@@ -4,8 +4,9 @@
 
 bin/package makes it twice, in two places, times, time zones and languages, and both must have the
 same bytes; PACKAGE is looked at instead of these where it is named. It has the released programs,
-their man pages, the documents and the examples, and less than MOST bytes; no link of its documents
-is dead, `lintian` finds no error, and `man` no warning of the installed pages. As root and with
+their man pages, the documents, the examples and the licences, and less than MOST bytes; its
+copyright file names whoever the notices name, and each crate for which there is none; no link of its
+documents is dead, `lintian` finds no error, and `man` no warning of the installed pages. As root and with
 debootstrap it is installed by `dpkg -i` on a Debian of the least packages, run there, by the
 commands that README, REFUSALS and examples/README show too, and removed again; where packages can
 be had the examples that write by EDFlib run there. FOLDER is such a Debian; else one is made, which
@@ -29,7 +30,8 @@ PROGRAMS = ("edfstore", "edfruns", "edfserve", "edfmend")
 SHARED = "usr/share/doc/edfstore"
 SERVICES = ("usr/lib/edfstore", "usr/lib/systemd", "lib/systemd", "etc")      # none has a file
 EXAMPLES = ("edflib.edf", "one-record.edf")
-DOCUMENTS = ("README.md", "copyright", "changelog.gz", "docs/GUIDE.md", "docs/REFUSALS.md",
+LICENCES = ("LICENSE-MIT", "LICENSE-APACHE", "THIRD-PARTY.md")
+DOCUMENTS = ("README.md", "copyright", *LICENCES, "docs/GUIDE.md", "docs/REFUSALS.md",
              "docs/FORMAT.md", "docs/GLOSSARY.md", *(f"examples/{name}" for name in EXAMPLES))
 PLACE = ("PATH=/usr/sbin:/usr/bin:/sbin:/bin", "DEBIAN_FRONTEND=noninteractive")
 EARLIER = 946_684_800       # a time of files, which must not be seen
@@ -95,7 +97,7 @@ def contents(checks: Checks, package: Path, folder: Path) -> Path:
         checks.same(f"{name} has the released bytes",
                     program.read_bytes() == arguments.chosen(name).read_bytes(), True)
         checks.same(f"{name} --version", text(program, "--version"),
-                    printed.version(name, version))
+                    printed.version(name, version.partition("-")[0]))
         page = text("zcat", root / f"usr/share/man/man1/{name}.1.gz")
         checks.same(f"{name}.1", page == (arguments.TOP / f"docs/{name}.1").read_text(), True)
         rendered(checks, name, root)
@@ -103,9 +105,30 @@ def contents(checks: Checks, package: Path, folder: Path) -> Path:
     missing = [name for name in DOCUMENTS if not (root / SHARED / name).is_file()]
     checks.same("documents that it lacks", missing, [])
     checks.same("dead links", links.dead(sorted((root / SHARED).rglob("*.md")), root / SHARED), [])
-    changelog = text("zcat", root / SHARED / "changelog.gz")
+    news = "changelog.Debian.gz" if "-" in version else "changelog.gz"
+    changelog = text("zcat", root / SHARED / news)
     checks.same("the changelog's version", changelog.split(")")[0], f"edfstore ({version}")
+    licences(checks, root / SHARED)
     return root
+
+
+def licences(checks: Checks, shared: Path) -> None:
+    """The licences, and the copyright file in the form of DEP-5."""
+    for name in LICENCES:
+        checks.same(name, (shared / name).read_bytes(), (arguments.TOP / name).read_bytes())
+    notices, said = (shared / "THIRD-PARTY.md").read_text(), (shared / "copyright").read_text()
+    checks.same("the copyright file's form", said.splitlines()[0],
+                "Format: https://www.debian.org/doc/packaging-manuals/copyright-format/1.0/")
+    checks.same("its licences", re.findall("^License: (.*)$", said, re.M),
+                ["Expat or Apache-2.0", "Expat or Apache-2.0, and third-party-notices", "Expat",
+                 "Apache-2.0", "third-party-notices"])
+    holders = re.findall(r"^Copyright (?:\([cC]\)|©) (.*)$", notices, re.M)
+    checks.same("whom it does not name", [it for it in holders if f" {it}\n" not in said], [])
+    without = re.findall(r"^\| `(\w+)` \| no licence file \|", notices, re.M)
+    words = set(re.findall(r"\w+", said[said.rindex("License: "):]))
+    checks.same("the crates without a licence that it does not name", set(without) - words, set())
+    checks.same("there are holders and such crates", (len(holders) > 3, len(without) > 3),
+                (True, True))
 
 
 def tags(package: Path) -> list:

@@ -9,12 +9,16 @@ the build that release/TOOLCHAIN names, and `rt ci` does nothing, or fails. With
 programs where a build leaves them `bin/compare` and `.ci/run` end with status 0. They end with
 another status where one byte of a program is changed, and `.ci/run` where `rt ci` fails; where the
 sources or the toolchain are others, or no program is there, a line says so. Where dpkg-deb is here
-`bin/release` of these programs writes the same release twice, and `bin/release --documents` too; a
-line says whether it is the committed one. It writes none where a verdict does not name arm64. Where
-the machine says that it is one for arm64, the scripts in `bin` take the programs for that.
+`bin/release` of these programs under a version of its own writes the same release twice, and
+`bin/release --documents` too, also once it is committed. With another word it is refused then, and
+written as the next revision; that of the commit before is refused still. As it is committed here it
+is never written with other bytes; a line tells what is done. None is written where a verdict does
+not name arm64. Where the machine says that it is one for arm64, the scripts in `bin` take the
+programs for that.
 """
 import itertools
 import os
+import re
 import shutil
 import sys
 from pathlib import Path
@@ -23,6 +27,7 @@ from checks.lib import arguments, measure, model, printed, runs
 from checks.lib.checks import Checks
 
 SECONDS = 2.0
+REVISION = 901  # no release has it
 TIMES = 3       # clones at most, since others may use the machine
 EXAMPLES = ("examples/edflib.edf", "examples/one-record.edf")
 PROGRAMS = ("edfstore", "edfruns", "edfserve", "edfmend")
@@ -36,6 +41,9 @@ NONE = ("release: no {} lies here to compare: rt ci kept what an earlier run on 
 OTHER_SOURCES = "release: made from other sources than these; bin/release makes it anew\n"
 NO_TOOLCHAIN = ("bin/build: this takes the toolchain of release/TOOLCHAIN, whose command 'rt' is "
                 "not on the path\n")
+REFUSED = ("bin/release: release/edfstore-{0}-aarch64-linux.tar.xz is committed with other bytes, and "
+           "a version has one content: begin CHANGELOG with the next one, as {1}\n")
+COMMIT = ("git", "-c", "user.name=checks", "-c", "user.email=checks@example", "commit", "-qm", "_")
 OTHER_MACHINE = "#!/bin/sh\necho {}\n"
 STUB = """#!/bin/sh
 case $1 in
@@ -175,29 +183,91 @@ def not_named(checks: Checks, clones: Clones, clone: Path) -> None:
     verdict.write_text(NAMED)
 
 
-def written_again(checks: Checks, clones: Clones, clone: Path) -> None:
-    """The release, written by the scripts of the clone from the same programs and documents."""
-    committed, written = release_of(clone), []
+def versioned(release: dict) -> dict:
+    """The archives and the packages, whose names have the version."""
+    return {name: data for name, data in release.items() if name.endswith((".xz", ".deb"))}
+
+
+def as_committed(checks: Checks, clones: Clones, clone: Path) -> None:
+    """The release of the state that is committed here, of which the documents may be others."""
+    committed = release_of(clone)
+    ran = clones.run(clone, "bin/release", "--documents")
+    written = release_of(clone)
+    checks.same("as it is committed here: the status", ran.status in (0, 3), True)
+    checks.same("no name gets other bytes",
+                [name for name, data in versioned(written).items()
+                 if committed.get(name, data) != data], [])
+    if ran.status:
+        checks.same("the release is as it was", written == committed, True)
+        print(ran.err.decode().splitlines()[-1])
+    else:
+        print("bin/release --documents writes "
+              + ("the committed release" if written == committed else "one of another version"))
+
+
+def begin_version(clone: Path, revision: int) -> str:
+    """Gives CHANGELOG's newest heading this revision of the programs' version."""
+    name = next((clone / "release").glob("*-x86_64-linux.tar.xz")).name
+    version = f"{re.split('-', name)[1]}-{revision}"
+    changelog = clone / "CHANGELOG.md"
+    changelog.write_text(re.sub("^## .*", f"## {version}, 2026-11-29", changelog.read_text(),
+                                count=1, flags=re.M))
+    return version
+
+
+def commit(checks: Checks, clones: Clones, clone: Path) -> None:
+    for words in (("git", "add", "-A"), COMMIT):
+        checks.same("git", clones.run(clone, *words).status, 0)
+
+
+def change_a_word(clone: Path) -> None:
+    page = clone / "docs/edfstore.1"
+    page.write_text(page.read_text() + ".\\\" another\n")
+
+
+def written_again(checks: Checks, clones: Clones, clone: Path, version: str) -> None:
+    """The release of this version, written by the scripts of the clone from the same programs and
+    documents."""
+    before, written = release_of(clone), []
     for words in (("bin/release",), ("bin/release",), ("bin/release", "--documents")):
         checks.same(f"{' '.join(words)}: the status", clones.run(clone, *words).status, 0)
         written.append(release_of(clone))
-    checks.same("the release has the same bytes", written[1:] == written[:1] * 2, True)
-    checks.same("its files", [sorted(path.rpartition(".")[2] for path in written[0])],
-                [["SHA256SUMS", "SOURCES", "TOOLCHAIN", "deb", "deb", "html", "xz", "xz"]])
+    commit(checks, clones, clone)
+    checks.same("once it is committed: the status",
+                clones.run(clone, "bin/release", "--documents").status, 0)
+    written.append(release_of(clone))
+    checks.same("the release has the same bytes", written[1:] == written[:1] * 3, True)
+    archives = [f"edfstore-{version}-{machine}-linux.tar.xz" for machine in sorted(MACHINES)]
+    packages = [f"edfstore_{version}_{machine}.deb" for machine in ("amd64", "arm64")]
+    checks.same("its files", sorted(written[0]),
+                sorted(("SHA256SUMS", "SOURCES", "TOOLCHAIN", PAGE, *archives, *packages)))
     for name in ("SOURCES", "TOOLCHAIN"):
-        checks.same(name, written[0][name], committed[name])
-    print("bin/release writes the committed release" if written[0] == committed else
-          "bin/release writes another release than the committed one: the documents are others")
-    page = clone / "docs/edfstore.1"
-    page.write_text(page.read_text() + ".\\\" another\n")
-    checks.same("bin/release --documents: the status",
+        checks.same(name, written[0][name], before[name])
+    checks.same("the page says the version",
+                f"\n<p>edfstore {version}. ".encode() in written[0][PAGE], True)
+    checks.compare("bin/compare", clones.run(clone, "bin/compare"),
+                   "".join(line_of(SAME, it) for it in (*PROGRAMS, PAGE)), "", 0)
+
+
+def one_content(checks: Checks, clones: Clones, clone: Path, version: str, revision: int) -> None:
+    """With another word this version is refused, and the next is written; then this one still is,
+    though it is committed before HEAD alone."""
+    committed, after = release_of(clone), f"{version.partition('-')[0]}-{revision + 1}"
+    change_a_word(clone)
+    for words in (("bin/release",), ("bin/release", "--documents")):
+        checks.compare(f"{' '.join(words)} with another word", clones.run(clone, *words), "",
+                       REFUSED.format(version, after), 3)
+        checks.same("the release is as it was", release_of(clone) == committed, True)
+    begin_version(clone, revision + 1)
+    checks.same("the next revision: the status",
                 clones.run(clone, "bin/release", "--documents").status, 0)
     last = release_of(clone)
-    checks.same("with another page all archives are others",
-                sorted(name for name in last if last[name] != written[0][name]),
-                sorted(name for name in last if name not in ("SOURCES", "TOOLCHAIN", PAGE)))
-    checks.compare("with another page bin/compare", clones.run(clone, "bin/compare"),
-                   "".join(line_of(SAME, it) for it in (*PROGRAMS, PAGE)), "", 0)
+    checks.same("it has other names alone", set(versioned(last)) & set(versioned(committed)), set())
+    commit(checks, clones, clone)
+    begin_version(clone, revision)
+    checks.compare("the revision before", clones.run(clone, "bin/release", "--documents"), "",
+                   REFUSED.format(version, after), 3)
+    checks.same("the release is as it was", release_of(clone) == last, True)
 
 
 def changed(checks: Checks, clones: Clones, clone: Path, name: str) -> None:
@@ -231,8 +301,11 @@ def comparison(checks: Checks, clones: Clones) -> None:
     compared(checks, clones, "what is released", clone,
              "".join(line_of(SAME, it) for it in (*PROGRAMS, PAGE)))
     if shutil.which("dpkg-deb"):
+        as_committed(checks, clones, clone)
+        version = begin_version(clone, REVISION)
         not_named(checks, clones, clone)
-        written_again(checks, clones, clone)
+        written_again(checks, clones, clone, version)
+        one_content(checks, clones, clone, version, REVISION)
     for name in PROGRAMS:
         changed(checks, clones, clone, name)
     clones.toolchain(f"{toolchain} and another")

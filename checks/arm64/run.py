@@ -151,13 +151,13 @@ def held_store(found: Checks, ours: dict, guests: dict) -> None:
 
 # The package
 
-def packed(programs: dict, folder: Path, *version) -> Path:
+def packed(programs: dict, folder: Path) -> Path:
     """The package of these programs."""
     given = folder / "programs"
     given.mkdir(parents=True)
     for name, program in programs.items():
         shutil.copy(program, given / name)
-    told = measure.done(arguments.TOP / "bin/package", given, folder, *version).out
+    told = measure.done(arguments.TOP / "bin/package", given, folder).out
     made = Path(told.decode().strip())
     released = arguments.TOP / "release" / made.name
     same = released.is_file() and released.read_bytes() == made.read_bytes()
@@ -179,9 +179,8 @@ def contents(root: Path) -> dict:
 
 def the_package(found: Checks, ours: dict, guests: dict, folder: Path) -> None:
     found.begin("the package")
-    version = measure.done(ours["edfstore"], "--version").out.decode().split()[1]
     for_it = {name: guest.chosen(name) for name in arguments.PROGRAMS}
-    made = packed(for_it, folder / "arm64", version)
+    made = packed(for_it, folder / "arm64")
     kind = measure.done("dpkg-deb", "-f", made, "Architecture").out
     found.same("the architecture", kind, b"arm64\n")
     if shutil.which("lintian"):
