@@ -4,9 +4,9 @@
 
 bin/package makes it twice, in two places, times, time zones and languages, and both must have the
 same bytes; PACKAGE is looked at instead of these where it is named. It has the released programs,
-their man pages, the documents, the examples and the licences, and less than MOST bytes; its
-copyright file names whoever the notices name, and each crate for which there is none; no link of its
-documents is dead, `lintian` finds no error, and `man` no warning of the installed pages. As root and with
+their man pages, the documents, the examples and the licences, and less than MOST bytes. Its
+copyright file names whom the notices name, and each crate without a licence. No link of its
+documents is dead, `lintian` finds no error, `man` no warning of the pages. As root and with
 debootstrap it is installed by `dpkg -i` on a Debian of the least packages, run there, by the
 commands that README, REFUSALS and examples/README show too, and removed again; where packages can
 be had the examples that write by EDFlib run there. FOLDER is such a Debian; else one is made, which

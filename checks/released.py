@@ -41,8 +41,8 @@ NONE = ("release: no {} lies here to compare: rt ci kept what an earlier run on 
 OTHER_SOURCES = "release: made from other sources than these; bin/release makes it anew\n"
 NO_TOOLCHAIN = ("bin/build: this takes the toolchain of release/TOOLCHAIN, whose command 'rt' is "
                 "not on the path\n")
-REFUSED = ("bin/release: release/edfstore-{0}-aarch64-linux.tar.xz is committed with other bytes, and "
-           "a version has one content: begin CHANGELOG with the next one, as {1}\n")
+REFUSED = ("bin/release: release/edfstore-{}-x86_64-linux.tar.xz is committed with other bytes, "
+           "and a version has one content: begin CHANGELOG with the next one, as {}\n")
 COMMIT = ("git", "-c", "user.name=checks", "-c", "user.email=checks@example", "commit", "-qm", "_")
 OTHER_MACHINE = "#!/bin/sh\necho {}\n"
 STUB = """#!/bin/sh
@@ -255,8 +255,9 @@ def one_content(checks: Checks, clones: Clones, clone: Path, version: str, revis
     committed, after = release_of(clone), f"{version.partition('-')[0]}-{revision + 1}"
     change_a_word(clone)
     for words in (("bin/release",), ("bin/release", "--documents")):
-        checks.compare(f"{' '.join(words)} with another word", clones.run(clone, *words), "",
-                       REFUSED.format(version, after), 3)
+        ran = clones.run(clone, *words)
+        checks.same(f"{' '.join(words)} with another word", (ran.err.decode(), ran.status),
+                    (REFUSED.format(version, after), 3))
         checks.same("the release is as it was", release_of(clone) == committed, True)
     begin_version(clone, revision + 1)
     checks.same("the next revision: the status",
