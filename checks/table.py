@@ -1,5 +1,6 @@
-"""The checks that `checks/run` runs: each is a module of this folder, with the programs that it
-takes, what it needs, and how often it tries."""
+"""The checks that `checks/run` runs: each is a module of this folder, or of another that it names,
+with the programs that it takes, what it needs, and how often it tries."""
+import platform
 import shutil
 from dataclasses import dataclass
 from importlib.util import find_spec
@@ -18,6 +19,8 @@ def is_here(name: str) -> bool:
         return Path("/usr/include/edflib.h").exists()
     if name == "tmpfs":
         return disks.may_mount()
+    if name == "x86-64":
+        return platform.machine() == "x86_64"
     return shutil.which(name) is not None
 
 
@@ -30,13 +33,14 @@ EDFSTORE, EDFRUNS, EDFSERVE, EDFMEND = "program", "edfruns", "edfserve", "edfmen
 
 @dataclass(frozen=True)
 class Check:
-    name: str                   # of its module
+    name: str                   # of its module, below its folder
     tried: str                  # what is counted
     programs: tuple = (EDFSTORE,)
     counts: tuple = ()          # how often, and how often with --long
     needs: tuple = ()
     is_on_disk: bool = False
     is_for_long: bool = False   # with --long alone
+    folder: str = "checks"
 
     def missing(self) -> list:
         """What it needs and is not here."""
@@ -72,6 +76,8 @@ CHECKS = (
           needs=("tmpfs",)),
     Check("room", "what the system says of memory, less and less of it", (EDFSTORE, EDFSERVE),
           needs=("tmpfs", "unshare", "prlimit")),
+    Check("instructions", "commands, by their instructions",
+          (EDFSTORE, EDFRUNS, EDFSERVE, EDFMEND), needs=("valgrind", "x86-64"), folder="bench"),
     Check("fuzz.run", "random files against the model", counts=(20_000, 100_000)),
     Check("fuzz.sizes", "files of the greatest headers and records", needs=("time",)),
     Check("odd", "files that are no stores, foreign rows", needs=("time",)),

@@ -47,7 +47,7 @@ def test_check(check, programs, pytestconfig, record_property):
     given = pytestconfig.option
     folder = Path(tempfile.mkdtemp(prefix=f"checks-{check.name}-",
                                    dir=scratch_place(check.is_on_disk)))
-    words = [sys.executable, "-P", "-m", f"checks.{check.name}",
+    words = [sys.executable, "-P", "-m", f"{check.folder}.{check.name}",
              *[f"--{option}={program}" for option, program in programs.items()],
              *map(str, check.counts[given.long:][:1])]
     status, output = ran(words, folder)

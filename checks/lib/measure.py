@@ -129,16 +129,32 @@ def piped(*words, source: Path) -> float:
     return time.perf_counter() - begun
 
 
-def instructions(*words, out: Path, given=os.devnull) -> int:
-    """The instructions that a run takes, counted by callgrind: the same whatever else the machine
-    does."""
+# What keeps counts of instructions the same on every host: no variable but these, and the C library's
+# plainest copying, sixteen bytes by an instruction. By `rep movsb` each copied byte would count.
+SAME_EVERYWHERE = (
+    "env", "-i", "PATH=/usr/local/bin:/usr/bin:/bin",
+    "GLIBC_TUNABLES=glibc.cpu.hwcaps=-AVX_Fast_Unaligned_Load,-AVX2,-AVX,-ERMS,-FSRM:"
+    "glibc.cpu.x86_non_temporal_threshold=0x10000000")
+
+
+def counted(*words, **options) -> tuple:
+    """What a run did, and the instructions that it took, counted by callgrind: the same whatever
+    else the machine does."""
     with tempfile.NamedTemporaryFile("r") as log:
-        done("valgrind", "--tool=callgrind", "--callgrind-out-file=/dev/null",
-             f"--log-file={log.name}", *words, out=out, given=given)
+        it = ran(*SAME_EVERYWHERE, "valgrind", "--tool=callgrind",
+                 "--callgrind-out-file=/dev/null", f"--log-file={log.name}", *words, **options)
         collected = re.search(r"Collected : (\d+)", log.read())
     if not collected:
-        sys.exit(f"callgrind counted nothing: {' '.join(map(str, words))[:300]}")
-    return int(collected[1])
+        sys.exit(f"callgrind counted nothing: {' '.join(map(str, words))[:300]}\n{it}")
+    return it, int(collected[1])
+
+
+def instructions(*words, **options) -> int:
+    """The same count; the script ends where the program ends with another status than 0."""
+    it, count = counted(*words, **options)
+    if it.status:
+        sys.exit(f"{' '.join(map(str, words))[:300]}\n{it}")
+    return count
 
 
 def remove_store(store: Path) -> None:
