@@ -12,9 +12,10 @@ dropped; files that contradict each other, of which one is taken first or taken 
 mended files, recordings of the same codes, and work that is not saved. Each state is looked at on
 three screens, light and dark, for pale texts and what has no room; `--screenshots` keeps them.
 
-COUNT files by chance, 2,000 if left out; the page is release/edfstore.html. Files are taken in
-lists: by chance, half of them broken; of each number of refusal that a file of this size can have;
-foreign ones; of odd names; several of one name; of 639 signals; none. For each list the lines of
+COUNT files by chance, 2,000 if left out; the page is the one that bin/page built of these sources,
+unless --page names another, as release/edfstore.html. Files are taken in lists: by chance, half of
+them broken; of each number of refusal that a file of this size can have; foreign ones; of odd
+names; several of one name; of 639 signals; none. For each list the lines of
 `edfstore take` and `edfstore list`, and for each recording the file of `edfstore export`, the lines
 of `edfruns list` and the picture of `edfruns picture` must be what the page gives, byte for byte;
 and so what edfruns and edfmend do with some of the files, as the page asks them.
@@ -34,6 +35,7 @@ It needs chromium and firefox-esr, as Debian has them.
 import base64
 import json
 import re
+import sys
 import time
 from dataclasses import dataclass, field
 from pathlib import Path
@@ -51,7 +53,6 @@ HANDS = {"chromium": ChromiumHands, "firefox": FirefoxHands}
 # The same browsers without WebAssembly, since none of them can be had without 64-bit memory alone
 OFF = {"chromium": lambda folder: Chromium(folder, "--js-flags=--jitless"),
        "firefox": lambda folder: Firefox(folder, javascript_options_wasm=False)}
-PAGE = arguments.TOP / "release/edfstore.html"
 MOST_TIMES = {"chromium": 3, "firefox": 6}      # of the programs' time
 MOST_MEMORY = 1_400_000_000                     # bytes, of the module
 MOST_BYTES = 4_000_000                          # of the page
@@ -423,12 +424,21 @@ def control(bench: Bench, folder: Path, page: str, expected: dict) -> None:
 
 def words() -> arguments.Parser:
     parser = arguments.Parser(__doc__, (*arguments.BOTH, "edfmend"), count=2_000)
-    parser.add_argument("--page", metavar="FILE", type=arguments.path, default=PAGE)
+    parser.add_argument("--page", metavar="FILE", type=arguments.path)
     parser.add_argument("--browser", choices=tuple(BROWSERS), action="append")
     parser.add_argument("--without-night", action="store_true")
     parser.add_argument("--screenshots", metavar="FOLDER", type=arguments.path)
     parser.add_argument("--control", action="store_true")
     return parser
+
+
+def built_page() -> Path:
+    """The page that was built here; the script ends where it is stale or not there."""
+    script = '. "$0/bin/common.sh" && is_fresh_page && built_page'
+    built = measure.ran("bash", "-c", script, arguments.TOP)
+    if built.status:
+        sys.exit("no page of these sources was built here: bin/page makes it, or --page names one")
+    return Path(built.out.decode().strip())
 
 
 def expectations(folder: Path, native: Native, given) -> dict:
@@ -472,6 +482,7 @@ def in_browser(bench: Bench, given, folder: Path, native: Native, expected: dict
 
 def main() -> None:
     given = words().read()
+    given.page = given.page or built_page()
     tried, failed = 0, 0
     if given.screenshots:
         given.screenshots.mkdir(parents=True, exist_ok=True)

@@ -6,7 +6,7 @@ from dataclasses import dataclass
 from importlib.util import find_spec
 from pathlib import Path
 
-from checks.lib import disks
+from checks.lib import arguments, disks
 
 
 def is_here(name: str) -> bool:
@@ -21,6 +21,8 @@ def is_here(name: str) -> bool:
         return disks.may_mount()
     if name == "x86-64":
         return platform.machine() == "x86_64"
+    if name == "edfstore.html":
+        return (arguments.TOP / "crates/edf_page_exports/out" / name).exists()
     return shutil.which(name) is not None
 
 
@@ -100,8 +102,8 @@ CHECKS = (
     Check("serve", "answers of edfserve to its clients, kills", (EDFSTORE, EDFRUNS, EDFSERVE),
           counts=(20, 100)),
     Check("page", "answers of the page in two browsers", (EDFSTORE, EDFRUNS, EDFMEND),
-          counts=(2_000, 2_000), needs=("chromium", "firefox-esr"), is_on_disk=True,
-          is_for_long=True),
+          counts=(2_000, 2_000), needs=("chromium", "firefox-esr", "edfstore.html"),
+          is_on_disk=True, is_for_long=True),
     Check("mend.run", "files spoilt by hand, mended", (EDFSTORE, EDFMEND)),
     Check("mend.table", "files where something could be guessed", (EDFMEND,)),
     Check("mend.people", "pairs of patients, mended", (EDFMEND,), counts=(300, 3_000)),
