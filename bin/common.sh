@@ -82,10 +82,10 @@ source_version() {
 }
 
 # What a package has below its folder of documents: the licences, README, the documents and the
-# examples, with `checks/lib`, which the examples' scripts use. Man pages have a place of their own.
+# examples, but for those whose scripts use `checks/lib`. Man pages have a place of their own.
 document_files() {
-  git -C "$top" ls-files -- 'LICENSE-*' '*.md' docs examples checks/__init__.py checks/lib |
-    grep -v '^docs/.*\.1$'
+  git -C "$top" ls-files -- 'LICENSE-*' '*.md' docs examples ':!docs/*.1' ':!examples/night' \
+    ':!examples/oximeter/write.py'
 }
 
 # The version and the day of the newest heading in CHANGELOG, as `## 1.3.3-2, 2026-11-29`. The
@@ -99,6 +99,19 @@ newest_version() {
     return 3
   fi
   echo "${BASH_REMATCH[1]} ${BASH_REMATCH[3]}"
+}
+
+# Those of a package. What is under development has a heading without a day: its package is of the
+# day of docs/edfstore.1, and 2.0.0~dev, which Debian orders before 2.0.0.
+package_version() {
+  local version day
+  version=$(source_version)
+  if [ "$(grep -m 1 '^## ' "$top/CHANGELOG.md")-dev" = "## $version" ]; then
+    day=$(sed -n 's/^\.TH EDFSTORE 1 "\([0-9-]*\)".*/\1/p' "$top/docs/edfstore.1")
+    echo "${version%-dev}~dev $day"
+  else
+    newest_version
+  fi
 }
 
 # Whether $1 is there and none of the files that are read is newer.

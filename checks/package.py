@@ -18,6 +18,7 @@ needs a library that is not there and one with a byte changed are not installed.
 lintian, man and readelf.
 """
 import os
+import re
 import shutil
 from pathlib import Path
 
@@ -97,7 +98,7 @@ def contents(checks: Checks, package: Path, folder: Path) -> Path:
         checks.same(f"{name} has the released bytes",
                     program.read_bytes() == arguments.chosen(name).read_bytes(), True)
         checks.same(f"{name} --version", text(program, "--version"),
-                    printed.version(name, version.partition("-")[0]))
+                    printed.version(name, version.partition("-")[0].replace("~", "-")))
         page = text("zcat", root / f"usr/share/man/man1/{name}.1.gz")
         checks.same(f"{name}.1", page == (arguments.TOP / f"docs/{name}.1").read_text(), True)
         rendered(checks, name, root)

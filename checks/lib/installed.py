@@ -2,9 +2,11 @@
 
 That Debian lies in a folder, and does not boot.
 """
+import shutil
 from pathlib import Path
 
 from checks.lib import measure
+from checks.lib.arguments import TOP
 from checks.lib.checks import Checks
 
 SHARED = "/usr/share/doc/edfstore"
@@ -40,9 +42,12 @@ def written(checks: Checks, machine: Machine) -> None:
 
 
 def from_end_to_end(checks: Checks, machine: Machine) -> None:
-    """The example that takes minutes, first without what it needs."""
+    """The example that takes minutes, first without what it needs, from a folder like the clone,
+    which alone has it."""
     checks.begin("examples/night/run")
-    night = f"{SHARED}/examples/night/run"
+    for name in ("examples/night", "checks/lib", "docs"):
+        shutil.copytree(TOP / name, machine.root / "root/clone" / name)
+    night = "/root/clone/examples/night/run"
     checks.same("what it needs", machine.run(night).outcome(), (b"", NEEDS, 3))
     there = machine.has_installed("gcc", "libc6-dev", "libedf-dev", "python3")
     checks.same("cc, EDFlib and Python", there, True)

@@ -1,8 +1,7 @@
 #!/usr/bin/env python3
 """Writes the files of this folder: a night of an oximeter as its card has it, card.edf, and as it
-was sent, part1.edf to part6.edf of 80 minutes each. It needs Python 3 and checks/lib: PYTHONPATH
-names the folder that has both checks and examples, a clone's, the archive's or
-/usr/share/doc/edfstore. There:
+was sent, part1.edf to part6.edf of 80 minutes each. It needs Python 3 and checks/lib, which the
+clone alone has. There:
 
     PYTHONPATH=. examples/oximeter/write.py [FOLDER]    # the files' folder where none is named
 
