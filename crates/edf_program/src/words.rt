@@ -14,7 +14,7 @@ use edf_fragment::Output;
 use std::alloc::{AllocError, Global};
 
 /// What `--version` prints after a program's name. No other place of the repository has it.
-pub const VERSION: &str = "1.3.3";
+pub const VERSION: &str = "2.0.0-dev";
 
 /// Why a command line asks for nothing.
 #[derive(Debug, Drop, thiserror::Error)]
