@@ -3,7 +3,7 @@ import os
 from pathlib import Path
 
 from bench.table.given import HEAD, RUNS, Bench, Best, best_of, row
-from checks.lib import measure, night, printed
+from checks.lib import measure, night
 from checks.odd import fill
 
 TAKE_MOST, MORE_FOR_EXPORT = 64_000_000, 40_000_000
