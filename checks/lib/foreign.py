@@ -23,19 +23,33 @@ TABLES = ("CREATE TABLE recording (id INTEGER PRIMARY KEY, identity BLOB NOT NUL
           "samples BLOB NOT NULL, block BLOB NOT NULL, PRIMARY KEY (recording, start)) STRICT")
 
 
+FIRST = TABLES[:1]
+
+
 @dataclass(frozen=True)
 class Made:
-    """A store: rows, what is done to it then, and whether its recording has a date. Where it is
-    opened, it holds what this file has, and lists this line."""
+    """A store: rows, what is done to it then, whether its recording has a date, and its tables.
+    Where it is opened, it holds what this file has, and lists this line."""
     rows: tuple
     done: str
     held: str = ""
     line: str = ""
     is_dated: bool = True
+    tables: tuple = TABLES
 
 
 def of_q(done: str, held: str = "", line: str = "") -> Made:
     return Made((Q,), done, held, line)
+
+
+def other(*tables: str) -> Made:
+    """A file of these tables, which are not those of a store."""
+    return Made((), "", tables=tables)
+
+
+def with_columns(columns: str, kind: str = " STRICT") -> Made:
+    """A file of the first of our tables alone, with other columns than ours."""
+    return other(f"CREATE TABLE recording ({columns}){kind}")
 
 
 def over_2084(done: str, held: str = "", line: str = "", is_dated: bool = False) -> Made:
@@ -50,7 +64,23 @@ ON_Q = ("q.edf", listed(1, stories.Q_START))
 MADE = {
     "q": of_q("", *ON_Q),
     "another_table": of_q("CREATE TABLE another (x)", *ON_Q),
+    "a_view": of_q("CREATE VIEW starts AS SELECT start FROM record", *ON_Q),
+    "a_reference": of_q("CREATE TABLE note (of INTEGER REFERENCES recording (id))", *ON_Q),
+    "two_tables": of_q("CREATE TABLE another (x UNIQUE); CREATE INDEX by_x ON another (x); "
+                       "CREATE TABLE third (y)", *ON_Q),
     "an_index": of_q("CREATE INDEX by_block ON record (block)"),
+    "an_index_of_ids": of_q("CREATE UNIQUE INDEX by_id ON recording (id)"),
+    "record_alone": other("CREATE TABLE record (x)"),
+    "other_record": other(*FIRST, "CREATE TABLE record (x)"),
+    "other_second": other(*FIRST, "CREATE TABLE another (x)"),
+    "view_second": other(*FIRST, "CREATE VIEW ids AS SELECT id FROM recording"),
+    "other_first": other("CREATE TABLE another (x)", *TABLES),
+    "view_alone": other("CREATE VIEW one AS SELECT 1"),
+    "not_strict": with_columns("id INTEGER PRIMARY KEY, identity BLOB NOT NULL UNIQUE", ""),
+    "text": with_columns("id INTEGER PRIMARY KEY, identity TEXT NOT NULL UNIQUE"),
+    "column_more": with_columns("id INTEGER PRIMARY KEY, identity BLOB NOT NULL UNIQUE, sex TEXT"),
+    "may_be_null": with_columns("id INTEGER PRIMARY KEY, identity BLOB UNIQUE"),
+    "not_unique": with_columns("id INTEGER PRIMARY KEY, identity BLOB NOT NULL"),
     "no_identity": of_q("INSERT INTO recording (identity) VALUES (x'00')"),
     "no_record": of_q("DELETE FROM record"),
     "no_recording": of_q("DELETE FROM recording"),
@@ -71,18 +101,27 @@ MADE = {
 }
 
 
-def database(is_dated: bool, rows: tuple, done: str = "") -> bytes:
-    """The SQLite file of Q's recording, or of the same without a date."""
+# A table of another tool, which may refer to ours, with an index, a view and rows
+BESIDE = ("CREATE TABLE note (id INTEGER PRIMARY KEY, text TEXT NOT NULL UNIQUE, "
+          "of INTEGER REFERENCES recording (id)); CREATE INDEX by_recording ON note (of); "
+          "CREATE VIEW starts AS SELECT start FROM record; "
+          "INSERT INTO note (text, of) VALUES ('seen by a nurse', 1), ('for the report', NULL)")
+
+
+def database(is_dated: bool, rows: tuple, done: str = "", tables: tuple = TABLES) -> bytes:
+    """The SQLite file of Q's recording, or of the same without a date; of no rows that of tables
+    alone."""
     with tempfile.TemporaryDirectory() as folder:
         path = Path(folder) / "made.db"
         connection = sqlite3.connect(path, isolation_level=None)
         connection.execute("PRAGMA page_size=512")
-        for statement in TABLES:
+        for statement in tables:
             connection.execute(statement)
-        key = model.Layout(FILES["Q" if is_dated else "X"]).key.to_bytes()
-        connection.execute("INSERT INTO recording (identity) VALUES (?)", (key,))
-        connection.executemany("INSERT INTO record VALUES (1, ?, ?, ?)", rows)
-        connection.execute(done)
+        if rows:
+            key = model.Layout(FILES["Q" if is_dated else "X"]).key.to_bytes()
+            connection.execute("INSERT INTO recording (identity) VALUES (?)", (key,))
+            connection.executemany("INSERT INTO record VALUES (1, ?, ?, ?)", rows)
+        connection.executescript(done)
         connection.close()
         return path.read_bytes()
 
@@ -100,8 +139,10 @@ def dump(data: bytes) -> str:
 
 def files() -> dict:
     """Every such store by its name, and a second time under the name of one that stays."""
-    made = {name: database(one.is_dated, one.rows, one.done) for name, one in MADE.items()}
-    made["both"] = database(True, (Q, P5))
+    made = {name: database(one.is_dated, one.rows, one.done, one.tables)
+            for name, one in MADE.items()}
+    made["both"], made["first_table"] = database(True, (Q, P5)), database(True, (), tables=FIRST)
+    made["beside"] = database(True, (Q,), BESIDE)
     refused = [name for name, one in MADE.items() if not one.held] + ["both"]
     return {name_of(name): data for name, data in made.items()} | {
         before(name): made[name] for name in refused}
@@ -132,13 +173,23 @@ def is_opened(script: stories.Script, name: str, held: str, line: str, cap: int 
 
 
 def play(script: stories.Script) -> None:
-    script.title("a store with rows that no files leave is refused and stays, and one with other "
-                 "tables after its own is taken as it is")
+    script.title("a store with rows that no files leave is refused and stays, and so is a file of "
+                 "other tables; one with others after its own is taken as it is")
     for name, one in MADE.items():
         if one.held:
             is_opened(script, name, one.held, one.line)
         else:
             is_refused(script, name)
+    script.title("files are taken where the second table is missing, and beside the tables of "
+                 "another tool")
+    script.over_files(name_of("first_table"))
+    script.list()
+    script.take("q.edf 1 0")
+    script.export("q.edf")
+    script.over_files(name_of("beside"))
+    script.hold("q.edf")
+    script.take("p5.edf 1 0")
+    script.export("q_and_p5.edf")
     script.title("a recording of more data records than the cap is refused and stays")
     is_refused(script, "both", 1)
     is_opened(script, "both", "q_and_p5.edf", listed(2, stories.Q_START), 2)

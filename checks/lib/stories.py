@@ -453,6 +453,9 @@ def of_many_recordings(script: Script) -> None:
     script.list(*(listed(place, 1, Q_START, code, "N1")
                   for place, code in enumerate(named.CODES, 1)))
     script.export(*(f"many/{code}.edf" for code in named.CODES))
+    seventh = f"many/{named.CODES[6]}.edf"
+    script.command(f"export many.db 007 = {seventh}", just(seventh, len(script.files[seventh])),
+                   ended(0))
 
 
 def of_several_signals(script: Script) -> None:

@@ -19,8 +19,7 @@ import sys
 from pathlib import Path
 
 from checks.lib import (arguments, chance, edf, foreign, measure, mend_stories, model, named,
-                        printed, run_stories,
-                        stories)
+                        printed, run_stories, stories, word_stories)
 from checks.lib.by_hand import MARCH_3, OVERLAPS
 from checks.lib.checks import end
 
@@ -104,7 +103,9 @@ def of_the_program() -> list:
     """Words of the program over files, each with what it writes to standard output and its
     status."""
     return [("list held.db", LISTED, 0), ("export held.db 2", exported(), 0),
-            ("convert cut.edf", b"", 1), ("export held.db 0", b"", 2), ("take held.db", b"", 2)]
+            ("convert cut.edf", b"", 1), ("export held.db 0", b"", 2), ("take held.db", b"", 2),
+            ("take :memory: q.edf", f"q.edf {printed.NEW}\n".encode(), 0),
+            ("list :memory:", b"", 0)]
 
 
 def orders_of(script: stories.Script) -> tuple:
@@ -205,6 +206,7 @@ def all_stories() -> stories.Script:
     script = stories.script(named.files() | foreign.files() | chance.files() | run_stories.files())
     foreign.play(script)
     chance.play(script)
+    word_stories.play(script)
     run_stories.play(script)
     mend_stories.play(script)
     return script

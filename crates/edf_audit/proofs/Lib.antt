@@ -1,5 +1,4 @@
 pub mod GivenRows
-pub mod Refusals
 pub mod Shown
 pub mod Parts
 pub mod Standing

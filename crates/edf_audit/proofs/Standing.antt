@@ -1,21 +1,15 @@
 -- Where a walk by `Rows` is, and what it tells when it ends.
-use Rattle.std.proofs.Common.{◌≡◌, ap₂, is_lt, Less, IsSorted, false, true≢false, ℕ, ◌+◌, ◌<◌, ◌≤◌}
+use Rattle.std.proofs.Common.{◌≡◌, IsSorted, ℕ, ◌+◌, ◌<◌, ◌≤◌}
 use Rattle.std.proofs.Common.{inl, inr, ℤ, pos, List, [], ◌∷◌, ◌++◌, map, length, Option, Some}
 use Rattle.std.proofs.Common.{None, refl, sym, ap, subst, ◌∙◌, arith, IsPermutation, append_assoc}
 use Rattle.std.proofs.lemmas.List.{length-append, length-map, map-append, nil_from_length}
 use Rattle.std.proofs.lemmas.List.Sorted.{length_permutation}
 use Rattle.sqlite.specs.declared.types.Value.TheVariants.{Int}
 use Rattle.sqlite.specs.Order.{Row}
-use Rattle.sqlite.specs.declared.error.Error.{Error}
-use Rattle.sqlite_value.specs.Order.{column, value_cmp}
 use Rattle.sqlite_sql.specs.Program.{overlay}
 use Rattle.edf_schema.specs.Columns.{by_column}
-use Rattle.edf_tables.specs.Refused.{IsUnread}
-use Rattle.edf_tables.specs.Refused.IsUnread.{stopped}
-use Rattle.edf_tables.specs.Refused.IsSystemFailure.{no_memory as memory}
 use Rattle.edf_tables.proofs.Queries.{of_recording, start_samples_block}
 use Rattle.edf_tables.proofs.Answers.{in_order}
-use Rattle.edf_tables.proofs.Sorting.{sorted_neighbours}
 use Rattle.sqlite.specs.Effect.{Database}
 use Rattle.sqlite_trees.specs.declared.store.Store.{Ghosts}
 use Rattle.sqlite.specs.Held.{Held, state}
@@ -30,10 +24,9 @@ use Rattle.edf_tables.proofs.QueryTexts.{rows_text, rows_is}
 use Rattle.edf_tables.proofs.Shown.{answer_of, answer_begun}
 use Rattle.edf_rows.specs.Cells.{record_cells, records_in}
 use Rattle.edf_rows.specs.Foreign.{AreBadRecords, bad_row, too_near, too_few, too_many}
-use Rattle.edf_audit.specs.Inside.Records.{IsNextRow, IsWrong, MayComeNext, HasSound, IsRowRefused}
-use Rattle.edf_audit.specs.Inside.Records.{no_memory, unordered}
+use Rattle.edf_audit.specs.Inside.Records.{IsNextRow, IsWrong, MayComeNext, HasSound}
 use Rattle.edf_audit.proofs.GivenRows.{last_start, last_push, last_split, no_last, push_sound}
-use Rattle.edf_audit.proofs.GivenRows.{push_begins, starts_rise, answer_moved, only_sound, by_start}
+use Rattle.edf_audit.proofs.GivenRows.{push_begins, answer_moved, only_sound, by_start}
 use Rattle.edf_audit.proofs.GivenRows.{is_three, given_member, given_two, late_first}
 
 -- these records were given, sound and a duration apart, and this is the last start
@@ -165,30 +158,6 @@ module _ {S : Type 0} (g : Ghosts S) (recording : ℤ) (k : Key) (long : 0 < dur
           late_first cap k rows_there it.0 row late.start (by_start old.now.trees recording)
           (subst (IsSorted (by_column 0)) all it.2) (subst (IsPermutation rows_there) all it.1)
           late.start_is late.late
-
-  -- the rows come in order, so a row is refused only where memory ran out
-  pub refused_row : (count : ℕ) (last : Option ℕ) (row : Row) (was now : Held S) (new : State)
-      (e : Error) → IsUnchanged old (state g now) → Stands g recording k last count was →
-      Advances g was now (Some row) → IsRowRefused last row e → IsUnread old new e
-  refused_row count last row was now new e same stands on (no_memory is) = stopped (memory is)
-  refused_row count last row was now new e same stands on (unordered is out) =
-      let rows = map record_cells stands.records in
-      let it = begun now (rows ++ row ∷ []) same
-      (on rows_text (Int recording ∷ []) rows stands.given) in
-      let split = last_split stands.records out.first (sym stands.last_is ∙ out.last_is) in
-      let front = map record_cells split.0 in
-      let is : rows ≡ front ++ record_cells split.1 ∷ [] = ap (map record_cells) split.2
-      ∙ map-append record_cells split.0 (split.1 ∷ []) in
-      let all : (rows ++ row ∷ []) ++ it.0 ≡ front ++ record_cells split.1 ∷ row ∷ it.0 =
-      append_assoc rows (row ∷ []) it.0 ∙ ap (λ l. l ++ row ∷ it.0) is
-      ∙ append_assoc front (record_cells split.1 ∷ []) (row ∷ it.0) in
-      let apart : is_lt (value_cmp (column row 0) (Int (pos split.1.start))) ≡ false =
-      sorted_neighbours (by_column 0) front it.0 (record_cells split.1) row
-      (subst (IsSorted (by_column 0)) all it.2) in
-      let below : value_cmp (column row 0) (Int (pos split.1.start)) ≡ Less =
-      ap₂ (λ v n. value_cmp v (Int (pos n))) out.start_is split.3
-      ∙ starts_rise out.start out.first out.before in
-      absurd (true≢false (sym (ap is_lt below) ∙ apart))
 
   pub past_cap : (cap count : ℕ) (last : Option ℕ) (h : Held S) → IsUnchanged old (state g h) →
       Stands g recording k last count h → cap < count → AreBadRecords cap k rows_there

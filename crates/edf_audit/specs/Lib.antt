@@ -1,3 +1,2 @@
 pub mod File
-pub mod Refused
 pub mod Inside

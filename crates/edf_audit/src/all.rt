@@ -7,7 +7,6 @@ ghost use Rattle.sqlite.specs.State.{HasCleanDisk};
 ghost use Rattle.edf_schema.specs.Columns.{id_order};
 ghost use Rattle.edf_rows.specs.Cells.{recordings_in};
 ghost use Rattle.edf_audit.specs.Inside.Checked.{OnlyChecks};
-ghost use Rattle.edf_audit.specs.Refused.{IsUnchecked};
 ghost use Rattle.edf_audit.specs.Inside.All.{IsAfter, IsNotAfter, Counts, Answers};
 ghost use Rattle.edf_tables.specs.Statement.{HasBothTables, tables, IfClean, Gives, Leaves};
 
@@ -50,7 +49,7 @@ fn count_owned<S: Alter>(
     requires listed { IfClean S.Store conn.old (λ s.
         IsPermutation (recordings_in s.now.trees) rows.now) }
     requires ordered { HasCleanDisk (state S.Store conn.old) → IsSorted id_order rows.now }
-    ensures checks { OnlyChecks S.Store IsUnchecked conn.old conn.new result }
+    ensures checks { OnlyChecks S.Store conn.old conn.new result }
     ensures counts { Gives S.Store conn.new result (Counts cap (tables S.Store conn.old) rows.now) }
     ensures low { IfOk result (λ o. IfSome o (λ sum. sum < MOST_COUNTED)) }
 {
@@ -84,7 +83,7 @@ pub(crate) fn check_all<S: Alter>(
     cap: u32,
 ) -> Result<bool, Error>
     requires schema { IfClean S.Store conn.old HasBothTables }
-    ensures checks { OnlyChecks S.Store IsUnchecked conn.old conn.new result }
+    ensures checks { OnlyChecks S.Store conn.old conn.new result }
     ensures answers { Gives S.Store conn.new result (Answers cap (tables S.Store conn.old)) }
     ensures is_open { Leaves S.Store conn.old conn.new result (λ _ new. IsTrue new.is_open) }
 {

@@ -1,7 +1,6 @@
 //! One row of the table of recordings, and its records.
 
 ghost use Rattle.std.specs.Prelude.{◌≡◌, IfErr};
-ghost use Rattle.edf_tables.specs.Refused.{IsUnread};
 ghost use Rattle.edf_audit.specs.Inside.Checked.{OnlyChecks, ChecksRow, first_two};
 ghost use Rattle.edf_rows.specs.Rows.{IsRecordingRow};
 ghost use Rattle.edf_tables.specs.Statement.{HasBothTables, tables, IfClean, Gives};
@@ -24,7 +23,7 @@ pub(crate) fn check_recording_row<S: Alter>(
     cap: u32,
 ) -> Result<Option<u32>, Error>
     requires schema { IfClean S.Store conn.old HasBothTables }
-    ensures checks { OnlyChecks S.Store IsUnread conn.old conn.new result }
+    ensures checks { OnlyChecks S.Store conn.old conn.new result }
     ensures other { ¬ IsRecordingRow (first_two row.now) →
         IfErr result (λ e. e ≡ Error.SqliteFailure ErrorCode.OutOfMemory) }
     ensures answers { Gives S.Store conn.new result

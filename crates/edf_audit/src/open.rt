@@ -6,8 +6,7 @@ ghost use Rattle.sqlite.specs.State.{Survives};
 ghost use Rattle.edf_tables.specs.Made.{IsOurs, HasTables, KeepsFile, IsMadeOf};
 ghost use Rattle.edf_audit.specs.Inside.All.{Answers};
 ghost use Rattle.edf_audit.specs.File.{Audits};
-ghost use Rattle.edf_audit.specs.Refused.{IsUnaudited};
-ghost use Rattle.edf_tables.specs.Statement.{tables, IfClean, Gives, Leaves, FailsAs};
+ghost use Rattle.edf_tables.specs.Statement.{tables, IfClean, Gives, Leaves};
 
 use crate::all::check_all;
 use edf_schema::is_ours;
@@ -28,7 +27,6 @@ fn audit_tables<S: Alter>(alloc: Global, conn: &mut Connection<S>, cap: u32) -> 
     ensures is_open { Leaves S.Store conn.old conn.new result (λ _ new. IsTrue new.is_open) }
     ensures settled { Leaves S.Store conn.old conn.new result (λ _ new. new.committed ≡ new.now) }
     ensures idle { Leaves S.Store conn.old conn.new result (λ _ new. new.in_transaction ≡ false) }
-    ensures why { FailsAs S.Store conn.old conn.new result IsUnaudited }
     ensures stays { IfClean S.Store conn.new (KeepsFile (state S.Store conn.old)) }
     ensures survives { Survives (state S.Store conn.old) (state S.Store conn.new)
         (IsMadeOf (state S.Store conn.old).now) }
@@ -62,7 +60,6 @@ pub fn audit<S: Alter>(alloc: Global, conn: &mut Connection<S>, cap: u32) -> Res
         Leaves S.Store conn.old conn.new result (λ old new. HasTables old.now new.now) }
     ensures answers { Gives S.Store conn.new result
         (Audits cap (state S.Store conn.old) (state S.Store conn.new)) }
-    ensures why { FailsAs S.Store conn.old conn.new result IsUnaudited }
     ensures stays { IfClean S.Store conn.new (KeepsFile (state S.Store conn.old)) }
     ensures survives { Survives (state S.Store conn.old) (state S.Store conn.new)
         (IsMadeOf (state S.Store conn.old).now) }

@@ -2,7 +2,6 @@
 
 ghost use Rattle.std.specs.Prelude.{◌<◌, IfOk, IfErr, MatchOption};
 ghost use Rattle.edf_field.specs.Number.{duration_of};
-ghost use Rattle.edf_tables.specs.Refused.{IsUnread};
 ghost use Rattle.edf_rows.specs.Cells.{records_in};
 ghost use Rattle.edf_rows.specs.Foreign.{IsBadRow};
 ghost use Rattle.edf_audit.specs.Inside.Checked.{OnlyChecks};
@@ -89,7 +88,7 @@ pub(crate) fn check_recording<S: Alter>(
 ) -> Result<Option<u32>, Error>
     requires long { 0 < duration_of identity.now.duration }
     requires schema { IfClean S.Store conn.old HasBothTables }
-    ensures checks { OnlyChecks S.Store IsUnread conn.old conn.new result }
+    ensures checks { OnlyChecks S.Store conn.old conn.new result }
     ensures answers { Gives S.Store conn.new result
         (ChecksRecords cap identity.now (records_in (tables S.Store conn.old) recording)) }
 {

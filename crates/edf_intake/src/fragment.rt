@@ -1,22 +1,16 @@
 //! A whole fragment inside a transaction.
 
-ghost use Rattle.std.specs.Prelude.{◌≡◌, List, Some, None, Err, length, IfOk, IfErr, IfSome};
+ghost use Rattle.std.specs.Prelude.{◌≡◌, IfOk, IfErr, IfSome};
 ghost use Rattle.edf_header.specs.Header.{most_records};
-ghost use Rattle.edf_fragment.specs.Fragment.{DataRecord};
-ghost use Rattle.edf_fragment.specs.Told.{Fragment};
-ghost use Rattle.edf_holdings.specs.Holdings.{Holdings};
-ghost use Rattle.edf_holdings.specs.Reply.{reply};
 ghost use Rattle.edf_store.specs.Fault.{HasCause};
 ghost use Rattle.edf_store.specs.Transaction.{EachHasRecord};
 ghost use Rattle.edf_store.specs.StoreTx.{IsRunning, ReadsInside, StaysInside};
-ghost use Rattle.edf_intake.specs.Refusal.{reply_told};
 ghost use Rattle.edf_fragment.specs.Call.{input_state};
 ghost use Rattle.edf_intake.specs.Inside.Transaction.{IsRunningFor, KeepsRunning};
-ghost use Rattle.edf_intake.specs.Inside.Verdict.{IsRoom, IsRoomInside, AreFindings};
-ghost use Rattle.edf_intake.specs.Inside.Taken.{IsConflict, MayBeAccepted, IsDestination};
-ghost use Rattle.edf_intake.specs.Inside.Taken.{IsAcceptedInside, IsStop};
+ghost use Rattle.edf_intake.specs.Inside.Verdict.{IsRoomInside};
+ghost use Rattle.edf_intake.specs.Inside.Taken.{IsDestination, IsAcceptedInside, IsStop};
 
-use crate::answer::{Receipt, Refusal, Stop, conflict};
+use crate::answer::{Receipt, Stop, conflict};
 use crate::data_records::{Destination, Findings, take_records};
 use edf_fragment::{Input, OpenFragment};
 use edf_header::Identity;
@@ -68,34 +62,6 @@ fn find_destination<S: Alter>(
     Ok(Destination { id, room })
 }
 
-/// The answer to a whole fragment.
-fn answer_of(
-    destination: Destination,
-    cap: u32,
-    findings: Findings,
-    identity: Identity,
-) -> Result<Receipt, Refusal>
-    ensures accepted { IfOk result (λ receipt. MayBeAccepted destination.room findings
-        × (receipt
-        ≡ record { identity = identity; new = findings.new; known = findings.known })) }
-    ensures refused { IfErr result IsConflict }
-    ensures answer { IfErr result (λ refusal. (h : Holdings) (records : List DataRecord) →
-        IsRoom cap (length (h identity)) (length records) destination.room →
-        AreFindings identity h records findings →
-        reply_told (Err refusal) ≡ Some (reply cap h (Fragment identity records))) }
-{
-    let new = findings.new;
-    let known = findings.known;
-    match conflict(destination, cap, findings) {
-        None => Ok(Receipt {
-            identity,
-            new,
-            known,
-        }),
-        Some(refusal) => Err(refusal),
-    }
-}
-
 /// Reads a fragment to its end and adds what is new of it, as long as nothing clashes and there is
 /// room.
 pub(crate) fn take_fragment<S: Alter, R: Input>(
@@ -120,8 +86,13 @@ pub(crate) fn take_fragment<S: Alter, R: Input>(
     let destination = find_destination(transaction, cap, header.identity(), header.count())?;
     let findings = take_records(transaction, destination, &mut fragment, input)?;
     let identity = fragment.into_header().into_identity();
-    match answer_of(destination, cap, findings, identity) {
-        Ok(receipt) => Ok(receipt),
-        Err(refusal) => Err(Stop::Input(refusal)),
+    let Findings { new, known, .. } = findings;
+    match conflict(destination, cap, findings) {
+        None => Ok(Receipt {
+            identity,
+            new,
+            known,
+        }),
+        Some(refusal) => Err(Stop::Input(refusal)),
     }
 }

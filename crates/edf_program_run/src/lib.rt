@@ -1,9 +1,8 @@
 //! One run of the program over the two files of a store, and many runs and sessions, one after
 //! another.
 //!
-//! - [`run_opened`], [`run_files`]: a run over files that were opened for it, or over two files
-//!   that it opens: a command is run, and they are closed. [`open_path`] opens those at a path.
-//! - [`leave_files`]: the same, where the files are let go before they are closed, as a crash does.
+//! - [`run_opened`]: a run over files that were opened for it: a command is run, and they are
+//!   closed. [`open_path`] opens those at a path.
 //! - [`close`], [`leave`], [`refuse`]: how the files of a store are let go, and how it is told that
 //!   it was refused, for a session.
 //! - [`EndedRun`], [`Watch`], [`Cap`]: what a run answered, who is told how its opening went, and
@@ -12,9 +11,7 @@
 #![tactic(auto)]
 
 mod cap;
-mod files;
 pub mod laws;
-mod leaving;
 mod opened;
 mod over;
 mod path;
@@ -22,8 +19,6 @@ mod session;
 mod watch;
 
 pub use cap::Cap;
-pub use files::run_files;
-pub use leaving::leave_files;
 pub use opened::run_opened;
 pub use path::open_path;
 pub use session::{EndedRun, close, leave};

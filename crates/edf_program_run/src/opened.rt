@@ -79,7 +79,7 @@ pub fn run_opened<S: Start, I: Inputs, O: Output, F: Output, W: Watch>(
 {
     match opened {
         Ok(conn) => Ok(run_over::<FileFrom<S>, I, O, F, W>(
-            alloc, conn, cap, command, inputs, out, err, watch, true,
+            alloc, conn, cap, command, inputs, out, err, watch,
         )),
         Err((error, left)) => Err((refuse(&StoreFault::from(error), false, err, watch), left)),
     }

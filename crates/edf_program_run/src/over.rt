@@ -1,6 +1,6 @@
 //! One run over an open connection.
 
-ghost use Rattle.std.specs.Prelude.{◌≡◌, ◌≢◌, ◌⊎◌, None, Ok, false};
+ghost use Rattle.std.specs.Prelude.{◌≡◌, ◌≢◌, ◌⊎◌, None, Ok};
 ghost use Rattle.sqlite_wal.specs.Recovery.{Image};
 ghost use Rattle.sqlite.specs.Files.{file_state};
 ghost use Rattle.edfstore_arguments.specs.Arguments.{meaning};
@@ -21,8 +21,8 @@ use sqlite::{Connection, FileStore};
 use sqlite_disk::Disk;
 use std::alloc::Global;
 
-/// Opens the store of a connection, runs a command over it, and closes its files, or lets them go
-/// as they are. Those of a store that is refused are let go: another program's file is not written.
+/// Opens the store of a connection, runs a command over it, and closes its files. Those of a store
+/// that is refused are let go as they are: another program's file is not written.
 pub(crate) fn run_over<D: Disk + Drop, I: Inputs, O: Output, F: Output, W: Watch>(
     alloc: Global,
     conn: Connection<FileStore<D>>,
@@ -32,21 +32,19 @@ pub(crate) fn run_over<D: Disk + Drop, I: Inputs, O: Output, F: Output, W: Watch
     out: &mut O,
     err: &mut F,
     watch: &mut W,
-    closes: bool,
 ) -> EndedRun<D>
     requires idle { (file_state conn).in_transaction ≡ false }
     ensures ran { (start : Image) → IsOpening {g = D.Disk} start (Ok conn) →
-        let r = record (run_of D.Disk cap start (
+        let r = run_of D.Disk cap start (
           meaning command.now,
           I.bytes inputs.old,
           I.opened inputs.old,
           I.opened inputs.new,
           growth O.Output out.old out.new,
         ) (growth F.Output err.old err.new)
-        (IsNoticed (W.noticed watch.old) (W.noticed watch.new)) (inputs.new ≡ inputs.old))
-        { closes = closes } in Ran r result ⊎ IsRefused r result }
+        (IsNoticed (W.noticed watch.old) (W.noticed watch.new)) (inputs.new ≡ inputs.old)
+        in Ran r result ⊎ IsRefused r result }
     ensures closed { result.status ≢ Trouble → result.failure ≡ None }
-    ensures left { closes ≡ false → result.failure ≡ None }
 {
     let has_our_tables = is_ours(conn.schema());
     match Store::open_or_return(alloc, conn, cap.records()) {
@@ -55,11 +53,7 @@ pub(crate) fn run_over<D: Disk + Drop, I: Inputs, O: Output, F: Output, W: Watch
             let status = run(alloc, command, &mut store, inputs, out, err);
             let back = store.into_connection();
             obey(&back);
-            if closes {
-                close(back, status, err)
-            } else {
-                leave(back, status)
-            }
+            close(back, status, err)
         }
         Err((fault, back)) => leave(back, refuse(&fault, has_our_tables, err, watch)),
     }

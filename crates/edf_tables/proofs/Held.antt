@@ -1,24 +1,22 @@
 -- What one row more makes of the sorted rows, in the words of the statements.
-use Rattle.std.proofs.Common.{◌≡◌, ℕ, ℤ, true, false, List, [], ◌∷◌, filter, refl, sym, ap, ◌∙◌}
-use Rattle.std.proofs.Common.{Ordering, Less, Equal, Greater, is_eq, true≢false}
+use Rattle.std.proofs.Common.{◌≡◌, ℕ, ℤ, true, false, List, filter, ap, ◌∙◌}
+use Rattle.std.proofs.Common.{is_eq}
 use Rattle.std.specs.List.{AllByRecursion}
-use Rattle.std.specs.Ordering.{int_cmp, ordering_reverse}
+use Rattle.std.specs.Ordering.{int_cmp}
 use Rattle.std.proofs.lemmas.Cmp.{tied_itself}
 use Rattle.sqlite.specs.declared.types.Value.TheVariants.{Int}
 use Rattle.sqlite.specs.Order.{Row}
 use Rattle.sqlite.specs.State.{State, KeepsCommit}
 use Rattle.sqlite_value.proofs.OrderLemmas.{value_cmp_total, value_cmp-Int}
-use Rattle.sqlite_trees.specs.Tree.{IsAscending}
 use Rattle.sqlite_trees.proofs.ListLemmas.{all-permutation}
 use Rattle.sqlite_keyed.specs.Lists.{insert_sorted}
-use Rattle.sqlite_keyed.proofs.ListLemmas.{all_weaker, all_kept}
+use Rattle.sqlite_keyed.proofs.ListLemmas.{all_kept}
 use Rattle.sqlite_keyed.proofs.SortLemmas.{IsPermutation-sort_by}
 use Rattle.edf_tables.specs.Row.{cells, new_row, IsInside, HasRecord, HasRecording}
 use Rattle.edf_tables.specs.Records.{records_of}
 use Rattle.edf_schema.specs.Columns.{by_column, is_of}
 use Rattle.edf_tables.proofs.Answers.{column_total}
 use Rattle.edf_tables.proofs.Keeping.{shows_keeps}
-use Rattle.edf_tables.proofs.Sorting.{all_insert}
 use Rattle.edf_tables.proofs.Steps.{add_is_step, add_elsewhere}
 
 -- none of the rows has what the new one has in the column
@@ -68,33 +66,3 @@ recording_inside old new row h = record { schema = h.schema; mode = h.shown.mode
 
 pub recording_keeps : (old new : State) (row : Row) → HasRecording old new row → KeepsCommit old new
 recording_keeps old new row h = shows_keeps old new new.now true h.shown
-
--- a list that rises still does with one more in its place
-pub rising_more : (at : ℕ) (new : Row) (rows : List Row) → AreOthers at new rows →
-    IsAscending (λ a b. by_column at a b ≡ Less) rows →
-    IsAscending (λ a b. by_column at a b ≡ Less) (insert_sorted (by_column at) new rows)
-rising_more at new [] others up = (tt, tt)
-rising_more at new (x ∷ xs) others up =
-    go (by_column at new x) refl (rising_more at new xs others.1 up.1)
-  where
-    go : (o : Ordering) → by_column at new x ≡ o →
-        IsAscending (λ a b. by_column at a b ≡ Less) (insert_sorted (by_column at) new xs) →
-        IsAscending (λ a b. by_column at a b ≡ Less) (insert_sorted (by_column at) new (x ∷ xs))
-    go Less e more =
-        rw e (
-          (
-            e,
-            all_weaker _ (λ y. by_column at new y ≡ Less)
-                (λ y. (column_total at).trans new x y e) xs up.0,
-          ),
-          up,
-        )
-    go Equal e more =
-        absurd (true≢false (sym (ap is_eq ((column_total at).antisymm x new
-        ∙ ap ordering_reverse e)) ∙ others.0))
-    go Greater e more =
-        rw e (
-          all_insert (by_column at) (column_total at) (λ y. by_column at x y ≡ Less) new xs
-              ((column_total at).antisymm x new ∙ ap ordering_reverse e) up.0,
-          more,
-        )

@@ -1,4 +1,3 @@
-pub mod AloneTexts
 pub mod Answers
 pub mod Apart
 pub mod Commits
@@ -11,8 +10,6 @@ pub mod Others
 pub mod Queries
 pub mod QueryTexts
 pub mod Reading
-pub mod Refusals
-pub mod Rules
 pub mod SameText
 pub mod Schemas
 pub mod Shown
@@ -21,7 +18,4 @@ pub mod Steps
 pub mod Tables
 pub mod Terms
 pub mod Texts
-pub mod Turns
-pub mod Unadded
-pub mod Unmade
 pub mod Writing

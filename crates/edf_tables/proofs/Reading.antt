@@ -3,16 +3,14 @@ use Rattle.std.proofs.Common.{◌≡◌, inl, inr, List, ℕ, Result, Ok, Err, I
 use Rattle.std.proofs.Common.{None, Vec, Global, sym, subst, arith}
 use Rattle.sqlite.specs.Order.{Row}
 use Rattle.sqlite.specs.declared.error.Error.{Error}
-use Rattle.sqlite_trees.specs.Tree.{Trees}
 use Rattle.sqlite_resolve.specs.declared.compiled.Compiled.{Compiled}
-use Rattle.sqlite.specs.Effect.{Database, RefusesToRead}
+use Rattle.sqlite.specs.Effect.{Database}
 use Rattle.sqlite.specs.Listing.{understood, reads_listing, IsSourceOf}
 use Rattle.sqlite.specs.State.{State, HasCleanDisk, Survives, Shown, FailsToQuery, IsNotRun}
 use Rattle.sqlite.specs.State.{IsUnchanged, KeepsCommit, CommitsShowing, FailsToShow, ShowsRows}
 use Rattle.sqlite.specs.State.{IsStatement}
 use Rattle.sqlite.specs.Clock.{timed}
 use Rattle.sqlite.proofs.StateLemmas.{survives_weaker}
-use Rattle.sqlite.proofs.StreamLemmas.{fails_since}
 use Rattle.sqlite.proofs.Callers.{IsPlain, never_commits, unchanged_then}
 use Rattle.edf_tables.specs.Refused.{IsLeft}
 use Rattle.edf_tables.proofs.Keeping.{left_keeps}
@@ -87,25 +85,4 @@ module _ (sql : List ℕ) (params : Row) (old mid new : State)
         since h.0 h.1,
         subst (ShowsRows old new sql h.0 full rows) (sym none)
             (it.0, source_since it.0 it.1, it.2, unchanged_then old mid new same it.3),
-      )
-
-  pub query_fails_since : (P : Trees → Type 0) → Survives old mid P → (e : Error) →
-      FailsToQuery sql params mid new e → FailsToQuery sql params old new e
-  unfolding FailsToQuery IsNotRun
-  query_fails_since P s e (inl (inl h)) =
-      inl (inl (rw (← same.0.now_is) h.0, unchanged_then old mid new same h.1))
-  query_fails_since P s e (inl (inr h)) = inl (inr (fails_since old mid new same s.counts e h))
-  query_fails_since P s e (inr h) =
-      let none = bare h.0 h.1 in
-      let full = timed params h.0.formats h.1.now in
-      let it = subst (FailsToShow mid new sql h.0 full e) none h.2 in
-      inr (
-        h.0,
-        since h.0 h.1,
-        subst (FailsToShow old new sql h.0 full e) (sym none) (
-          it.0,
-          source_since it.0 it.1,
-          subst (λ l. RefusesToRead l h.0.command it.0 full e) s.limit it.2,
-          unchanged_then old mid new same it.3,
-        ),
       )

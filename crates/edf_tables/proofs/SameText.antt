@@ -1,11 +1,11 @@
 -- What is known of a call's text, said of the text that is meant. Where they are two texts, the
 -- equation fails at once: without it antt opens the reading of SQL to tell them apart.
-use Rattle.std.proofs.Common.{◌≡◌, ℕ, List, Result, IfErr, subst}
+use Rattle.std.proofs.Common.{◌≡◌, ℕ, List, Result, subst}
 use Rattle.sqlite.specs.Order.{Row}
 use Rattle.sqlite.specs.Schema.{Schema}
 use Rattle.sqlite.specs.declared.error.Error.{Error}
 use Rattle.sqlite.specs.Listing.{understood}
-use Rattle.sqlite.specs.State.{State, Executes, Survives, CommitsBy, Shown, FailsToQuery}
+use Rattle.sqlite.specs.State.{State, Executes, Survives, CommitsBy, Shown}
 use Rattle.sqlite.proofs.Callers.{IsPlain}
 
 pub plain_of : (schema : Schema) (mine its : List ℕ) → IsPlain (understood schema mine) →
@@ -16,17 +16,6 @@ pub shown_of : (its mine : List ℕ) (params : Row) (old new : State) (rows : Li
     Shown its params old new rows → its ≡ mine → Shown mine params old new rows
 shown_of its mine params old new rows h same =
     subst (λ (t : List ℕ). Shown t params old new rows) same h
-
-pub unread_of : (its mine : List ℕ) (params : Row) (old new : State) (e : Error) →
-    FailsToQuery its params old new e → its ≡ mine → FailsToQuery mine params old new e
-unread_of its mine params old new e h same =
-    subst (λ (t : List ℕ). FailsToQuery t params old new e) same h
-
-pub if_unread_of : {A : Type 0} (its mine : List ℕ) (params : Row) (old new : State)
-    (r : Result A Error) → IfErr r (FailsToQuery its params old new) → its ≡ mine →
-    IfErr r (FailsToQuery mine params old new)
-if_unread_of its mine params old new r h same =
-    subst (λ (t : List ℕ). IfErr r (FailsToQuery t params old new)) same h
 
 pub runs_of : (its mine : List ℕ) (params : Row) (old new : State) (r : Result ℕ Error) →
     Executes its params old new r → its ≡ mine → Executes mine params old new r

@@ -163,22 +163,6 @@ count_all_shown found old new rows has h first =
     (answer_of count_all_text _ _ count_all_is [] old new rows has h))
     ∙ ap (λ l. min (length l) MOST_COUNTED) (filter_true (old.now.trees 2))
 
--- a count shows a row
-not_none : (m : ℕ) (rows : List Row) → rows ≡ (count m ∷ []) ∷ [] → rows ≢ []
-not_none m rows is none = let e : [] ≡ (count m ∷ []) ∷ [] = sym none ∙ is in cc
-
-pub count_some : (n : ℤ) (old new : State) (rows : List Row) → HasBoth old.now.schema →
-    Shown count_text (Int n ∷ []) old new rows → rows ≢ []
-count_some n old new rows has h =
-    not_none _ rows (counted (of_recording ∷ []) (Int n ∷ []) (overlay old.now.trees []) rows
-    (answer_of count_text _ _ count_is (Int n ∷ []) old new rows has h))
-
-pub count_all_some : (old new : State) (rows : List Row) → HasBoth old.now.schema →
-    Shown count_all_text [] old new rows → rows ≢ []
-count_all_some old new rows has h =
-    not_none _ rows (counted [] [] (overlay old.now.trees []) rows
-    (answer_of count_all_text _ _ count_all_is [] old new rows has h))
-
 head_of : (xs : List Row) → option_map (λ row. column row 0)
     (slice_get (take 1 (map (λ r. column r 2 ∷ []) xs)) 0) ≡ option_map (λ row. column row 2)
     (slice_get xs 0)

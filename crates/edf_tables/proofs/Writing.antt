@@ -1,7 +1,7 @@
 -- What the writes do.
 use Rattle.std.proofs.Common.{◌≡◌, ◌≢◌, ◌⊎◌, inl, inr, ℕ, ℤ, List, [], ◌∷◌, length, Bool, true}
 use Rattle.std.proofs.Common.{false, cond, Option, None, Ok, Err, Result, OnOk, refl, sym, ap}
-use Rattle.std.proofs.Common.{subst, ◌∙◌, arith, is_eq}
+use Rattle.std.proofs.Common.{subst, ◌∙◌, arith}
 use Rattle.sqlite.specs.declared.types.Value.{Value}
 use Rattle.sqlite.specs.declared.types.Value.TheVariants.{Null, Int, Blob}
 use Rattle.sqlite.specs.Order.{Row}
@@ -15,12 +15,7 @@ use Rattle.sqlite.specs.Rowids.TheVariants.{Chosen, Above}
 use Rattle.sqlite.specs.Does.{Tally, Does, WritesRows}
 use Rattle.sqlite.specs.Rows.{Task, Edited, Written, last_id, stamped, rowids_for, count_of}
 use Rattle.sqlite_rules.specs.Action.{Writes}
-use Rattle.sqlite_rules.specs.Edit.{Applies, next_rowid, is_taken}
-use Rattle.sqlite_keyed.proofs.ListLemmas.{none_from_any}
-use Rattle.sqlite_value.specs.Order.{value_cmp}
-use Rattle.sqlite_trees.specs.Tree.{rowid}
-use Rattle.sqlite_schema.specs.declared.schema.Among.TheVariants.{All}
-use Rattle.sqlite_schema.specs.Rules.{Refers}
+use Rattle.sqlite_rules.specs.Edit.{Applies, next_rowid}
 use Rattle.std.proofs.Common.{true≢false, not, ◌&&◌}
 use Rattle.std.specs.Prelude.{unwrap_or, ◌/◌, MatchBool}
 use Rattle.sqlite.specs.Tree.{Trees}
@@ -36,11 +31,20 @@ use Rattle.sqlite_schema.specs.declared.schema.Keys.TheVariants.{Enforced}
 use Rattle.std.specs.List.{AllByRecursion}
 use Rattle.edf_tables.specs.Schema.{recording, records, schema_with, IsOtherTree, HasBoth}
 use Rattle.edf_tables.specs.Others.{KeepsTrees, KeepsOthers}
-use Rattle.edf_tables.proofs.Others.{no_works, others_kept, refers_with}
-use Rattle.edf_tables.specs.Row.{cells, named_cells, new_row, one_row, HasRecord, HasRecording}
+use Rattle.edf_tables.proofs.Others.{no_works, others_kept}
+use Rattle.edf_tables.specs.Row.{cells, named_cells, new_row, HasRecord, HasRecording}
 use Rattle.edf_tables.specs.Row.{IsInside}
 use Rattle.edf_tables.proofs.Texts.{insert_record_text, insert_record_is, record_terms}
 use Rattle.edf_tables.proofs.Texts.{insert_recording_text, insert_recording_is, recording_terms}
+
+-- the edit of a table that adds these cells
+abbrev one_row : Trees → Table → Row → Edit
+one_row trees table cells = record {
+  table = table;
+  gone = [];
+  news =
+      new_row (trees table.tree) cells ∷ [];
+}
 
 either : (b : Bool) (x : Value) → cond b x x ≡ x
 either true x = refl
@@ -231,37 +235,3 @@ recording_added old new identity count inside h =
       w.last_rowid ∙ ap (λ last. unwrap_or last old.last_rowid)
           (ap (λ (p : Tally × Database). p.0.last) told ∙ wrote.1),
     )
-
--- ---- no reference is broken
-
-none_taken : (rows : List Row) (row : Row) → is_taken rows row ≡ false →
-    AllByRecursion (λ (r : Row). is_eq (value_cmp (rowid r) (rowid row)) ≡ false) rows
-none_taken rows row = none_from_any (λ r. is_eq (value_cmp (rowid r) (rowid row))) rows
-
-pub record_refers : (has : Schema) (both : HasBoth has) (limit : Option ℕ) (n start : ℤ)
-    (samples block : List ℕ) (db : Trees) (w : Written) → Refers All has db
-    → WritesOne limit (schema_with both.others) records (cells n start samples block) 1 record_terms
-    5 db w → Refers All (schema_with both.others) w.trees
-record_refers has both limit n start samples block db w refers h =
-    let o = both.others in
-    let params = cells n start samples block in
-    let applied = (row_written limit (schema_with o) records params params 1 record_terms 5 db w
-    refl (record_makes n start samples block db) h).0 in
-    refers_with o 2 db w.trees (new_row (db 2) params)
-    (none_taken (db 2) (new_row (db 2) params) (not_taken _ applied.fresh)) applied.rows
-    others_not_2 both.tables applied.tables
-    (subst (λ (s : Schema). Refers All s db) both.is refers)
-
-pub recording_refers : (has : Schema) (both : HasBoth has) (limit : Option ℕ) (identity : List ℕ)
-    (db : Trees) (w : Written) → Refers All has db
-    → WritesOne limit (schema_with both.others) recording (Blob identity ∷ []) 0 recording_terms 3
-    db w → Refers All (schema_with both.others) w.trees
-recording_refers has both limit identity db w refers h =
-    let o = both.others in
-    let cells = named_cells identity in
-    let applied = (row_written limit (schema_with o) recording (Blob identity ∷ []) cells 0
-    recording_terms 3 db w refl (recording_makes identity db) h).0 in
-    refers_with o 0 db w.trees (new_row (db 0) cells)
-    (none_taken (db 0) (new_row (db 0) cells) (not_taken _ applied.fresh)) applied.rows
-    others_not_0 both.tables applied.tables
-    (subst (λ (s : Schema). Refers All s db) both.is refers)

@@ -1,11 +1,7 @@
 -- What a statement that adds a row makes of the tables.
-use Rattle.std.specs.Prelude.{◌≡◌, ℕ, ◌+◌, ℤ, false, true, List, [], ◌∷◌, length, sum_by, IsTrue}
+use Rattle.std.specs.Prelude.{◌≡◌, ℕ, ℤ, false, true, List, [], ◌∷◌, IsTrue}
 use Rattle.sqlite.specs.declared.types.Value.TheVariants.{Null, Int, Blob}
 use Rattle.sqlite.specs.Order.{Row}
-use Rattle.sqlite.specs.Tree.{Trees}
-use Rattle.sqlite.specs.Edit.{Edit}
-use Rattle.sqlite_value.specs.Order.{bytes}
-use Rattle.sqlite_schema.specs.declared.schema.Table.{Table}
 use Rattle.sqlite_trees.specs.Tree.{put_row}
 use Rattle.sqlite_rules.specs.Edit.{next_rowid, is_taken}
 use Rattle.sqlite.specs.State.{State, Shows}
@@ -19,20 +15,6 @@ new_row rows cells = Int (next_rowid rows) ∷ cells
 
 abbrev pub added : List Row → Row → List Row
 added rows cells = put_row (new_row rows cells) rows
-
--- the edit of a table that adds these cells
-abbrev pub one_row : Trees → Table → Row → Edit
-one_row trees table cells = record {
-  table = table;
-  gone = [];
-  news =
-      new_row (trees table.tree) cells ∷ [];
-}
-
--- the bytes that a row takes at most: those of its cells, and 18 for the type and the number of
--- each
-abbrev pub stored_size : Row → ℕ
-stored_size row = sum_by (λ v. 18 + length (bytes v)) row
 
 -- what is bound for a record, in the order of the columns
 abbrev pub cells : ℤ → ℤ → List ℕ → List ℕ → Row

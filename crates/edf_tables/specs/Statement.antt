@@ -1,6 +1,6 @@
 -- What a statement does to the connection that it runs on. But for the crash, it is said of disks
 -- that return what was written.
-use Rattle.std.specs.Prelude.{Result, IfOk, IfErr, OnOk, OnErr}
+use Rattle.std.specs.Prelude.{Result, IfOk, OnOk, OnErr}
 use Rattle.sqlite_trees.specs.declared.store.Store.{Ghosts}
 use Rattle.sqlite_trees.specs.Tree.{Trees}
 use Rattle.sqlite.specs.Held.{Held, state}
@@ -38,12 +38,6 @@ module _ {S : Type 0} (g : Ghosts S) where
   -- a call that is done changed nothing
   abbrev pub OnlyReads : {X E : Type 0} → Held S → Held S → Result X E → Type 0
   OnlyReads old new result = Leaves old new result IsUnchanged
-
-  -- a call fails for such a reason alone
-  abbrev pub FailsAs : {X E : Type 0} → Held S → Held S → Result X E →
-      (State → State → E → Type 0) → Type 0
-  FailsAs old new result P = HasCleanDisk (state g new) →
-      IfErr result (P (state g old) (state g new))
 
   -- what is committed stays
   abbrev pub KeepsCommitted : Held S → Held S → Type 0

@@ -7,8 +7,7 @@ ghost use Rattle.edf_schema.specs.Columns.{stored_recordings, stored_records};
 ghost use Rattle.edf_tables.specs.Schema.{no_schema, one_schema, both_schema, HasBoth};
 ghost use Rattle.edf_tables.specs.Made.{IsOurs, AreOf, HasFirst, HasTables};
 ghost use Rattle.edf_tables.specs.Made.{KeepsFile, IsMadeOf};
-ghost use Rattle.edf_tables.specs.Refused.{IsUnmade};
-ghost use Rattle.edf_tables.specs.Statement.{IfClean, Leaves, FailsAs, KeepsCommittedOnErr};
+ghost use Rattle.edf_tables.specs.Statement.{IfClean, Leaves, KeepsCommittedOnErr};
 
 use edf_schema::has_both;
 use sqlite::{Alter, Connection, Error};
@@ -22,7 +21,6 @@ fn create_recording<S: Alter>(conn: &mut Connection<S>) -> Result<usize, Error>
     requires { IfClean S.Store conn.old (λ s.
         (s.now.schema ≡ no_schema) ⊎ (s.now.schema ≡ one_schema)) }
     ensures made { Leaves S.Store conn.old conn.new result (λ old new. HasFirst old.now new.now) }
-    ensures why { FailsAs S.Store conn.old conn.new result IsUnmade }
     ensures refused { KeepsCommittedOnErr S.Store conn.old conn.new result }
     ensures stays { IfClean S.Store conn.new (KeepsFile (state S.Store conn.old)) }
     ensures mode { Leaves S.Store conn.old conn.new result (λ old new.
@@ -45,7 +43,6 @@ fn create_recording<S: Alter>(conn: &mut Connection<S>) -> Result<usize, Error>
 fn create_records<S: Alter>(conn: &mut Connection<S>) -> Result<usize, Error>
     requires { IfClean S.Store conn.old (λ s. s.now.schema ≡ one_schema) }
     ensures made { Leaves S.Store conn.old conn.new result (λ old new. HasTables old.now new.now) }
-    ensures why { FailsAs S.Store conn.old conn.new result IsUnmade }
     ensures refused { KeepsCommittedOnErr S.Store conn.old conn.new result }
     ensures stays { IfClean S.Store conn.new (KeepsFile (state S.Store conn.old)) }
     ensures mode { Leaves S.Store conn.old conn.new result (λ old new.
@@ -74,7 +71,6 @@ pub fn create_tables<S: Alter>(conn: &mut Connection<S>) -> Result<(), Error>
     ensures there { HasBoth (state S.Store conn.old).now.schema →
         (result ≡ Ok tt) × (conn.new ≡ conn.old) }
     ensures made { Leaves S.Store conn.old conn.new result (λ old new. HasTables old.now new.now) }
-    ensures why { FailsAs S.Store conn.old conn.new result IsUnmade }
     ensures stays { IfClean S.Store conn.new (KeepsFile (state S.Store conn.old)) }
     ensures mode { Leaves S.Store conn.old conn.new result (λ old new.
         new.in_transaction ≡ old.in_transaction) }

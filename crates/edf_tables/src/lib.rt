@@ -6,7 +6,7 @@
 //!
 //! `sqlite` refuses a statement where memory runs out, the disk fails, or the connection is shut;
 //! some statements also at a limit of steps, inside or outside of a transaction, by a rule of the
-//! tables, or for the size of a row. Clause `why` of each function says for which.
+//! tables, or for the size of a row. No clause says for which.
 //!
 //! - [`create_tables`]: the tables, made where they are missing.
 //! - [`begin`], [`commit`], [`roll_back`]: a transaction.

@@ -4,11 +4,11 @@ ghost use Rattle.std.specs.Prelude.{◌≡◌, IsPermutation, IsSorted, length, 
 ghost use Rattle.sqlite.specs.declared.types.Value.TheVariants.{Blob};
 ghost use Rattle.edf_schema.specs.Columns.{stored_recordings, stored_records};
 ghost use Rattle.edf_schema.specs.Columns.{stored_identity, id_order};
-ghost use Rattle.edf_tables.specs.Refused.{IsUnread, IsUntold, IsLeft};
+ghost use Rattle.edf_tables.specs.Refused.{IsLeft};
 ghost use Rattle.edf_tables.specs.Recordings.{AreNamedApart, IsIdIn, by_identity, named};
 ghost use Rattle.edf_tables.specs.Recordings.{shown_recording};
 ghost use Rattle.edf_tables.specs.Statement.{HasBothTables, tables, IfClean, Gives, OnlyReads};
-ghost use Rattle.edf_tables.specs.Statement.{FailsAs, KeepsCommitted, IsCrashSafe, LeavesOnErr};
+ghost use Rattle.edf_tables.specs.Statement.{KeepsCommitted, IsCrashSafe, LeavesOnErr};
 
 use crate::row::{MOST_COUNTED, first_count, first_number, identities_in, rows_shown};
 use sqlite::{Alter, Connection, Error, Row, params};
@@ -23,7 +23,6 @@ pub fn select_recording<S: Alter>(
     identity: &[u8],
 ) -> Result<Option<i64>, Error>
     requires schema { IfClean S.Store conn.old HasBothTables }
-    ensures why { FailsAs S.Store conn.old conn.new result IsUntold }
     ensures id { Gives S.Store conn.new result
         (IsIdIn (named identity.now (stored_recordings (tables S.Store conn.old)))) }
     ensures same { OnlyReads S.Store conn.old conn.new result }
@@ -45,7 +44,6 @@ pub fn select_recording<S: Alter>(
 /// may be undone.
 pub fn identities<S: Alter>(conn: &mut Connection<S>) -> Result<Vec<Vec<u8>>, Error>
     requires apart { IfClean S.Store conn.old AreNamedApart }
-    ensures why { FailsAs S.Store conn.old conn.new result IsUntold }
     ensures identities { Gives S.Store conn.new result (λ all.
         map (λ b. Blob b.items) all.items ≡
         map (λ row. stored_identity row)
@@ -71,7 +69,6 @@ pub fn identities<S: Alter>(conn: &mut Connection<S>) -> Result<Vec<Vec<u8>>, Er
 /// `sqlite`'s. What is committed stays; an open transaction may be undone.
 pub fn recordings<S: Alter>(conn: &mut Connection<S>) -> Result<Vec<Row>, Error>
     requires schema { IfClean S.Store conn.old HasBothTables }
-    ensures why { FailsAs S.Store conn.old conn.new result IsUnread }
     ensures listed { Gives S.Store conn.new result (λ rows.
         IsPermutation (map shown_recording
         (stored_recordings (tables S.Store conn.old))) rows.items) }
@@ -92,7 +89,6 @@ pub fn recordings<S: Alter>(conn: &mut Connection<S>) -> Result<Vec<Row>, Error>
 /// may be undone.
 pub fn count_all_rows<S: Alter>(conn: &mut Connection<S>) -> Result<u64, Error>
     requires schema { IfClean S.Store conn.old HasBothTables }
-    ensures why { FailsAs S.Store conn.old conn.new result IsUntold }
     ensures count { Gives S.Store conn.new result (λ count.
         count ≡ min (length (stored_records (tables S.Store conn.old))) MOST_COUNTED) }
     ensures same { OnlyReads S.Store conn.old conn.new result }

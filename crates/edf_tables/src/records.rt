@@ -5,11 +5,10 @@ ghost use Rattle.std.specs.Option.{option_map};
 ghost use Rattle.sqlite.specs.declared.types.Value.TheVariants.{Int};
 ghost use Rattle.edf_schema.specs.Columns.{stored_records, stored_start};
 ghost use Rattle.edf_tables.specs.Cells.{cells_of};
-ghost use Rattle.edf_tables.specs.Refused.{IsUntold};
 ghost use Rattle.edf_tables.specs.Records.{IsReady, records_of, shown_record, starts_after};
 ghost use Rattle.edf_tables.specs.Records.{starts_between, starts_from};
 ghost use Rattle.edf_tables.specs.Statement.{HasBothTables, tables, IfClean, Gives, OnlyReads};
-ghost use Rattle.edf_tables.specs.Statement.{FailsAs, KeepsCommitted, IsCrashSafe};
+ghost use Rattle.edf_tables.specs.Statement.{KeepsCommitted, IsCrashSafe};
 
 use crate::row::{MOST_COUNTED, RecordRow, first_count, first_number, records_shown, rows_shown};
 use sqlite::{Alter, Connection, Error, params};
@@ -28,7 +27,6 @@ pub fn near_rows<S: Alter>(
     before: i64,
 ) -> Result<Vec<RecordRow>, Error>
     requires ready { IfClean S.Store conn.old (IsReady recording) }
-    ensures why { FailsAs S.Store conn.old conn.new result IsUntold }
     ensures near { Gives S.Store conn.new result (λ rows.
         map cells_of rows.items ≡ map shown_record
         (filter (starts_between after before)
@@ -59,7 +57,6 @@ pub fn page_rows<S: Alter>(
     limit: u32,
 ) -> Result<Vec<RecordRow>, Error>
     requires ready { IfClean S.Store conn.old (IsReady recording) }
-    ensures why { FailsAs S.Store conn.old conn.new result IsUntold }
     ensures page { Gives S.Store conn.new result (λ rows.
         map cells_of rows.items ≡ map shown_record
         (take limit (filter (starts_after after)
@@ -84,7 +81,6 @@ pub fn page_rows<S: Alter>(
 /// may be undone.
 pub fn count_rows<S: Alter>(conn: &mut Connection<S>, recording: i64) -> Result<u64, Error>
     requires schema { IfClean S.Store conn.old HasBothTables }
-    ensures why { FailsAs S.Store conn.old conn.new result IsUntold }
     ensures count { Gives S.Store conn.new result (λ count.
         count ≡ min (length (records_of recording (stored_records (tables S.Store conn.old))))
         MOST_COUNTED) }
@@ -107,7 +103,6 @@ pub fn count_rows<S: Alter>(conn: &mut Connection<S>, recording: i64) -> Result<
 /// may be undone.
 pub fn first_start<S: Alter>(conn: &mut Connection<S>, recording: i64) -> Result<Option<i64>, Error>
     requires ready { IfClean S.Store conn.old (IsReady recording) }
-    ensures why { FailsAs S.Store conn.old conn.new result IsUntold }
     ensures first { Gives S.Store conn.new result (λ start.
         option_map Int start ≡ option_map (λ row. stored_start row)
         (slice_get (records_of recording (stored_records (tables S.Store conn.old))) 0)) }
@@ -134,7 +129,6 @@ pub fn next_start<S: Alter>(
     from: i64,
 ) -> Result<Option<i64>, Error>
     requires ready { IfClean S.Store conn.old (IsReady recording) }
-    ensures why { FailsAs S.Store conn.old conn.new result IsUntold }
     ensures next { Gives S.Store conn.new result (λ start.
         option_map Int start ≡ option_map (λ row. stored_start row)
         (slice_get (filter (starts_from from)
@@ -158,7 +152,6 @@ pub fn next_start<S: Alter>(
 /// may be undone.
 pub fn last_start<S: Alter>(conn: &mut Connection<S>, recording: i64) -> Result<Option<i64>, Error>
     requires ready { IfClean S.Store conn.old (IsReady recording) }
-    ensures why { FailsAs S.Store conn.old conn.new result IsUntold }
     ensures last { Gives S.Store conn.new result (λ start.
         option_map Int start ≡ option_map (λ row. stored_start row)
         (slice_get (reverse (records_of recording (stored_records (tables S.Store conn.old)))) 0)) }

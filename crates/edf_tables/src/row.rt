@@ -11,9 +11,9 @@ ghost use Rattle.sqlite.specs.Listing.{understood};
 ghost use Rattle.sqlite.specs.State.{Shown, FailsToQuery, IsLive};
 ghost use Rattle.sqlite.specs.Values.{bound};
 ghost use Rattle.edf_tables.specs.Cells.{cells_of, first_three};
-ghost use Rattle.edf_tables.specs.Refused.{IsCellRefused};
-ghost use Rattle.edf_tables.specs.Statement.{IfClean, Gives, OnlyReads, FailsAs, KeepsCommitted};
-ghost use Rattle.edf_tables.specs.Statement.{IsCrashSafe};
+ghost use Rattle.edf_tables.specs.Refused.{IsLeft};
+ghost use Rattle.edf_tables.specs.Statement.{IfClean, Gives, OnlyReads, KeepsCommitted};
+ghost use Rattle.edf_tables.specs.Statement.{IsCrashSafe, LeavesOnErr};
 
 use sqlite::types::ValueRef;
 use sqlite::{Alter, Connection, Error, Row};
@@ -36,7 +36,6 @@ pub const MOST_COUNTED: u64 = 9_223_372_036_854_775_807;
 /// The typed row of a row whose first three columns are a start, samples and a block.
 fn record_row(row: &Row) -> Result<RecordRow, Error>
     ensures value { IfOk result (λ r. cells_of r ≡ first_three row.now) }
-    ensures why { IfErr result IsCellRefused }
 {
     Ok(RecordRow {
         start: row.get(0)?,
@@ -49,7 +48,6 @@ fn record_row(row: &Row) -> Result<RecordRow, Error>
 pub(crate) fn identities_in(rows: Vec<Row>) -> Result<Vec<Vec<u8>>, Error>
     ensures value { IfOk result (λ found.
         map (λ b. Blob b.items) found.items ≡ map (λ row. column row 0) rows.items) }
-    ensures why { IfErr result IsCellRefused }
 {
     let mut found: Vec<Vec<u8>> = Vec::new(*rows.allocator());
     for row in &rows {
@@ -62,7 +60,6 @@ pub(crate) fn identities_in(rows: Vec<Row>) -> Result<Vec<Vec<u8>>, Error>
 pub(crate) fn first_number(rows: Vec<Row>) -> Result<Option<i64>, Error>
     ensures value { IfOk result (λ found.
         option_map Int found ≡ option_map (λ row. column row 0) (slice_get rows.items 0)) }
-    ensures why { IfErr result IsCellRefused }
 {
     match rows.first() {
         Some(row) => Ok(Some(row.get(0)?)),
@@ -74,7 +71,6 @@ pub(crate) fn first_number(rows: Vec<Row>) -> Result<Option<i64>, Error>
 pub(crate) fn first_count(rows: Vec<Row>) -> Result<u64, Error>
     ensures value { IfOk result (λ found.
         option_map (λ row. column row 0) (slice_get rows.items 0) ≡ Some (Int (pos found))) }
-    ensures why { IfErr result (λ e. (rows.items ≡ []) ⊎ IsCellRefused e) }
 {
     match rows.first() {
         Some(row) => row.get(0),
@@ -97,13 +93,12 @@ pub(crate) fn rows_shown<S: Alter>(
     params: &[ValueRef<'_>],
 ) -> Result<Vec<Row>, Error>
     requires { IfClean S.Store conn.old (λ s. IsPlain (understood s.now.schema sql.now)) }
-    ensures why { FailsAs S.Store conn.old conn.new result
-        (FailsToQuery sql.now (bound params.now)) }
     ensures shown { Gives S.Store conn.new result (λ rows.
         Shown sql.now (bound params.now) (state S.Store conn.old)
         (state S.Store conn.new) rows.items) }
     ensures same { OnlyReads S.Store conn.old conn.new result }
     ensures kept { KeepsCommitted S.Store conn.old conn.new }
+    ensures refused { LeavesOnErr S.Store conn.old conn.new result IsLeft }
     ensures survives { IsCrashSafe S.Store conn.old conn.new }
 {
     conn.query_all(sql, params)
@@ -118,8 +113,6 @@ pub(crate) fn records_shown<S: Alter>(
     params: &[ValueRef<'_>],
 ) -> Result<Vec<RecordRow>, Error>
     requires { IfClean S.Store conn.old (λ s. IsPlain (understood s.now.schema sql.now)) }
-    ensures why { FailsAs S.Store conn.old conn.new result (λ old new e.
-        FailsToQuery sql.now (bound params.now) old new e ⊎ IsCellRefused e) }
     ensures shown { Gives S.Store conn.new result (λ found.
         (rows : _) × Shown sql.now (bound params.now) (state S.Store conn.old)
         (state S.Store conn.new) rows × (map cells_of found.items ≡ map first_three rows)) }

@@ -3,8 +3,7 @@
 ghost use Rattle.std.specs.Prelude.{◌≡◌, false, true};
 ghost use Rattle.sqlite.specs.Held.{state};
 ghost use Rattle.sqlite.specs.State.{Shows, Survives, IsRolledBack};
-ghost use Rattle.edf_tables.specs.Refused.{IsTurnRefused};
-ghost use Rattle.edf_tables.specs.Statement.{tables, IfClean, Leaves, FailsAs, KeepsCommitted};
+ghost use Rattle.edf_tables.specs.Statement.{tables, IfClean, Leaves, KeepsCommitted};
 ghost use Rattle.edf_tables.specs.Statement.{KeepsCommittedOnErr, IsCrashSafe};
 
 use sqlite::{Alter, Connection, Error};
@@ -14,7 +13,6 @@ use sqlite::{Alter, Connection, Error};
 /// # Errors
 /// `sqlite`'s, also where a transaction is open; what is committed stays.
 pub fn begin<S: Alter>(conn: &mut Connection<S>) -> Result<(), Error>
-    ensures why { FailsAs S.Store conn.old conn.new result (IsTurnRefused true) }
     ensures begun { Leaves S.Store conn.old conn.new result (λ old new.
         Shows old new old.now old.committed true) }
     ensures refused { KeepsCommittedOnErr S.Store conn.old conn.new result }
@@ -30,7 +28,6 @@ pub fn begin<S: Alter>(conn: &mut Connection<S>) -> Result<(), Error>
 /// `sqlite`'s, also where no transaction is open. What was committed before stays, and the
 /// transaction is over. A crash leaves that, or all of the transaction.
 pub fn commit<S: Alter>(conn: &mut Connection<S>) -> Result<(), Error>
-    ensures why { FailsAs S.Store conn.old conn.new result (IsTurnRefused false) }
     ensures committed { Leaves S.Store conn.old conn.new result (λ old new.
         Shows old new old.now old.now false) }
     ensures refused { KeepsCommittedOnErr S.Store conn.old conn.new result }
@@ -47,7 +44,6 @@ pub fn commit<S: Alter>(conn: &mut Connection<S>) -> Result<(), Error>
 /// # Errors
 /// `sqlite`'s, also where no transaction is open; what is committed stays.
 pub fn roll_back<S: Alter>(conn: &mut Connection<S>) -> Result<(), Error>
-    ensures why { FailsAs S.Store conn.old conn.new result (IsTurnRefused false) }
     ensures undone { Leaves S.Store conn.old conn.new result IsRolledBack }
     ensures kept { KeepsCommitted S.Store conn.old conn.new }
     ensures survives { IsCrashSafe S.Store conn.old conn.new }

@@ -4,13 +4,10 @@ ghost use Rattle.std.specs.Prelude.{◌≡◌};
 ghost use Rattle.sqlite.specs.Held.{state};
 ghost use Rattle.sqlite_rules.specs.Edit.{next_rowid};
 ghost use Rattle.edf_schema.specs.Columns.{stored_recordings};
-ghost use Rattle.edf_tables.specs.Schema.{recording as recording_table, records};
 ghost use Rattle.edf_tables.specs.Row.{cells, named_cells, HasRecord, HasRecording, IsInside};
-ghost use Rattle.edf_tables.specs.Refused.{IsUnadded};
-ghost use Rattle.edf_tables.specs.Statement.{tables, IfClean, Gives, Leaves, FailsAs};
+ghost use Rattle.edf_tables.specs.Statement.{tables, IfClean, Gives, Leaves};
 ghost use Rattle.edf_tables.specs.Statement.{KeepsCommittedOnErr, IsCrashSafe};
 
-use crate::row::obey;
 use sqlite::{Alter, Connection, Error, params};
 
 /// Adds a row to `recording`, and answers its id.
@@ -23,12 +20,9 @@ pub fn insert_recording<S: Alter>(conn: &mut Connection<S>, identity: &[u8]) -> 
     ensures added { Gives S.Store conn.new result (λ id.
         HasRecording (state S.Store conn.old) (state S.Store conn.new) (named_cells identity.now)
         × (id ≡ next_rowid (stored_recordings (tables S.Store conn.old)))) }
-    ensures why { FailsAs S.Store conn.old conn.new result
-        (IsUnadded recording_table (named_cells identity.now)) }
     ensures refused { KeepsCommittedOnErr S.Store conn.old conn.new result }
     ensures survives { IsCrashSafe S.Store conn.old conn.new }
 {
-    obey(conn);
     conn.execute(
         "INSERT INTO recording (identity) VALUES (?1)",
         params![identity],
@@ -52,12 +46,9 @@ pub fn insert_record<S: Alter>(
     requires { IfClean S.Store conn.old IsInside }
     ensures added { Leaves S.Store conn.old conn.new result (λ old new.
         HasRecord old new (cells recording start samples.now block.now)) }
-    ensures why { FailsAs S.Store conn.old conn.new result
-        (IsUnadded records (cells recording start samples.now block.now)) }
     ensures refused { KeepsCommittedOnErr S.Store conn.old conn.new result }
     ensures survives { IsCrashSafe S.Store conn.old conn.new }
 {
-    obey(conn);
     conn.execute(
         "INSERT INTO record VALUES (?1, ?2, ?3, ?4)",
         params![recording, start, samples, block],

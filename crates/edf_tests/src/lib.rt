@@ -1,6 +1,6 @@
 //! Tests of the product beside the stored run `edfstore_stored_run`, which has the lines, exports
-//! and refusals of small named files: answers by value, and hostile use. What was held stays, and
-//! each refusal is the exact one.
+//! and refusals of small named files, the words of a command, and files of other tables: answers by
+//! value, and hostile use. What was held stays, and each refusal is the exact one.
 //!
 //! The tests are in a crate of their own, so that the crates that they test are proved once. Each
 //! expected file is spelled by the builders of files, and by no program.
@@ -8,14 +8,12 @@
 //! The store:
 //!
 //! - `rows`: rows of data records, as they are written and read.
-//! - `schemas`: the tables of a file, which the check makes, leaves or refuses.
 //! - `adding`: data records added, and looked for with room for more.
 //! - `kept`: data records that are added, given up and read again, in memory and on a disk in
 //!   memory.
 //!
-//! Words and answers:
+//! Answers:
 //!
-//! - `words`: words that are read as a command.
 //! - `answers`: lists of no files, receipts, recordings that are not held, refused stores.
 //! - `printed`: what the program prints, each text once.
 //!
@@ -66,14 +64,10 @@ mod readers;
 #[cfg(test)]
 mod rows;
 #[cfg(test)]
-mod schemas;
-#[cfg(test)]
 mod seconds;
 #[cfg(test)]
 mod session;
 #[cfg(test)]
 mod stops;
-#[cfg(test)]
-mod words;
 #[cfg(test)]
 mod writers;

@@ -4,8 +4,7 @@ ghost use Rattle.std.specs.Prelude.{None, map, string_bytes};
 
 use crate::held::{CAP, empty_store, holds_both, store_of_both};
 use crate::printed::{BOTH_NEW, LISTED, NO_EXPORT, NO_PLACE_2};
-use crate::words::command;
-use edf_command::{Inputs, Order, Status, run};
+use edf_command::{Inputs, Order, Status, parse, run};
 use edf_disk_sample::q_and_p5;
 use edf_fragment::Counted;
 use edf_sample::named::{file_p5, file_q};
@@ -45,6 +44,15 @@ impl<'a> Inputs for Shelf<'a> {
         let bytes = if name == "q.edf" { self.q } else { self.p5 };
         Ok(Counted::new(Source::whole(bytes, 300)))
     }
+}
+
+/// The command of a line's words.
+pub(crate) fn command(alloc: Global, line: &str) -> Option<Order> {
+    let mut words = Vec::new(alloc);
+    for word in line.split_whitespace() {
+        words.push(String::from_str(alloc, word).ok()?).ok()?;
+    }
+    parse(alloc, words.as_slice()).ok()
 }
 
 /// The words that take both.

@@ -4,9 +4,8 @@ use crate::held::{
     Answer, CAP, empty_store, held, holds, holds_both, store_of_both, submitted, taken,
 };
 use crate::large::{large_file, store_of_large};
-use crate::lines::{Room, Said, Shelf, TAKE, ran, silence};
+use crate::lines::{Room, Said, Shelf, TAKE, command, ran, silence};
 use crate::printed::{BOTH_NEW, NEW, NO_MEMORY, lines};
-use crate::words::command;
 use edf_command::Status;
 use edf_disk_sample::q_and_p5;
 use edf_export::{ExportFault, export};

@@ -5,10 +5,12 @@ ghost use Rattle.std.specs.Prelude.{None, map, string_bytes};
 use edf_command::{Inputs, Order, Status};
 use edf_disk_sample::{Night, stopping};
 use edf_fragment::{Counted, Output};
-use edf_program_run::{Cap, Watch, leave_files, run_files};
+use edf_header::MOST_RECORDS;
+use edf_program_run::{Watch, close, leave, refuse};
 use edf_sample::{Sink, Source};
-use edf_store::StoreFault;
-use sqlite::{Files, Options};
+use edf_schema::is_ours;
+use edf_store::{Store, StoreFault};
+use sqlite::{Connection, FileStore, Files, Options};
 use sqlite_disk::{Crash, Disk, Memory};
 use std::alloc::{AllocError, Global};
 use std::io;
@@ -197,7 +199,46 @@ pub(crate) fn take(alloc: Global, first: usize, end: usize) -> Option<Order> {
     Some(Order::Take { store, files })
 }
 
-/// One run over two files, which are closed, or let go as they are.
+/// One run of a command over the store of a connection, whose files are closed, or let go as they
+/// are.
+fn run_on<D: Disk + Drop>(
+    alloc: Global,
+    conn: Connection<FileStore<D>>,
+    command: &Order,
+    shelf: &mut Shelf<'_>,
+    closes: bool,
+    ran: &mut Ran,
+) {
+    if !conn.is_autocommit() {
+        return;
+    }
+    let mut out = Counted::new(Sink::whole(&mut ran.out, 1_000));
+    let mut err = Counted::new(Sink::whole(&mut ran.err, 1_000));
+    let has_our_tables = is_ours(conn.schema());
+    let (status, closed) = match Store::open_or_return(alloc, conn, MOST_RECORDS) {
+        Ok(mut store) => {
+            ran.openings.opened(&out);
+            let status = edf_command::run(alloc, command, &mut store, shelf, &mut out, &mut err);
+            if closes {
+                let ended = close(store.into_connection(), status, &mut err);
+                (ended.status, ended.failure.is_none())
+            } else {
+                (leave(store.into_connection(), status).status, false)
+            }
+        }
+        Err((fault, back)) => {
+            let status = refuse(&fault, has_our_tables, &mut err, &mut ran.openings);
+            (leave(back, status).status, closes)
+        }
+    };
+    drop(out);
+    drop(err);
+    ran.status = status;
+    ran.closed = closed;
+}
+
+/// One run over two files, as `edf_program_run::run_opened` does it over those of a path; they are
+/// closed, or let go as they are.
 fn run_over<D: Disk + Drop>(
     alloc: Global,
     files: Files<D>,
@@ -209,31 +250,16 @@ fn run_over<D: Disk + Drop>(
         return None;
     }
     let mut ran = Ran::new(alloc)?;
-    let mut out = Counted::new(Sink::whole(&mut ran.out, 1_000));
-    let mut err = Counted::new(Sink::whole(&mut ran.err, 1_000));
     let mut options = Options::new(1);
     options.checkpoint_frames = end.frames;
-    let cap = Cap::most();
-    let watch = &mut ran.openings;
-    let (status, closed) = if end.closes {
-        match run_files(
-            alloc, files, options, cap, command, shelf, &mut out, &mut err, watch,
-        ) {
-            Ok(session) => (session.status, session.failure.is_none()),
-            Err((status, _left)) => (status, false),
+    match Connection::open_files_with(alloc, files, options, true) {
+        Ok(conn) => run_on(alloc, conn, command, shelf, end.closes, &mut ran),
+        Err((error, _left)) => {
+            let mut err = Counted::new(Sink::whole(&mut ran.err, 1_000));
+            let fault = StoreFault::from(error);
+            ran.status = refuse(&fault, false, &mut err, &mut ran.openings);
         }
-    } else {
-        match leave_files(
-            alloc, files, options, cap, command, shelf, &mut out, &mut err, watch,
-        ) {
-            Ok(session) => (session.status, false),
-            Err((status, _left)) => (status, false),
-        }
-    };
-    drop(out);
-    drop(err);
-    ran.status = status;
-    ran.closed = closed;
+    }
     Some(ran)
 }
 

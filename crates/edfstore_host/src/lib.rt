@@ -33,13 +33,6 @@ use sqlite::Unknown;
 pub use standing::Standing;
 use std::process::ExitCode;
 
-/// The command that words ask for, or the status where there is none.
-fn command_of(rt: &HostRuntime, words: &[String]) -> Result<Order, Status> {
-    let mut out = Counted::new(rt.stdout());
-    let mut err = Counted::new(rt.stderr());
-    read_command(rt.alloc(), words, &mut out, &mut err)
-}
-
 /// The terminal of a command, which shows a person how far `take` is.
 fn terminal_of<'rt>(rt: &'rt HostRuntime, command: &Order) -> Terminal<'rt> {
     match command {
@@ -64,7 +57,9 @@ fn run_command(rt: &HostRuntime, command: &Order) -> Status {
 /// Does what the words after the program's name ask for, and answers the status that the program
 /// ends with: 0 to 3.
 pub fn run_words(rt: &HostRuntime, words: &[String]) -> Status {
-    match command_of(rt, words) {
+    let mut out = Counted::new(rt.stdout());
+    let mut err = Counted::new(rt.stderr());
+    match read_command(rt.alloc(), words, &mut out, &mut err) {
         Ok(command) => run_command(rt, &command),
         Err(status) => status,
     }

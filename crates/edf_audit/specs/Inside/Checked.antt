@@ -7,7 +7,7 @@ use Rattle.sqlite.specs.Order.{Row}
 use Rattle.sqlite.specs.Tree.{Trees}
 use Rattle.sqlite.specs.State.{State, KeepsCommit}
 use Rattle.sqlite_trees.specs.declared.store.Store.{Ghosts}
-use Rattle.edf_tables.specs.Statement.{Leaves, LeavesOnErr, FailsAs, IsCrashSafe}
+use Rattle.edf_tables.specs.Statement.{Leaves, LeavesOnErr, IsCrashSafe}
 use Rattle.edf_schema.specs.Columns.{the_id, the_identity}
 use Rattle.edf_rows.specs.Cells.{recordings_in, records_in}
 use Rattle.edf_rows.specs.Foreign.{IsForeign}
@@ -29,12 +29,11 @@ pub record KeepsShown (old new : State) : Type 0 where
   pub mode : IsTrue new.in_transaction → IsTrue old.in_transaction
 
 -- a part of the check reads and changes no row: where it answers, the rows are as they were; where
--- it fails, it does so for such a reason, and what is committed stays; a crash in it adds nothing
-pub record OnlyChecks {S X : Type 0} (g : Ghosts S) (Why : State → State → Error → Type 0)
-    (old new : Held S) (result : Result X Error) : Type 0 where
+-- it fails, what is committed stays; a crash in it adds nothing
+pub record OnlyChecks {S X : Type 0} (g : Ghosts S) (old new : Held S) (result : Result X Error) :
+    Type 0 where
   pub same : Leaves g old new result KeepsRows
   pub refused : LeavesOnErr g old new result KeepsShown
-  pub why : FailsAs g old new result Why
   pub survives : IsCrashSafe g old new
 
 -- what the check reads of a row

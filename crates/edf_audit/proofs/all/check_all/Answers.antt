@@ -1,4 +1,4 @@
-use Rattle.std.proofs.Common.{rules, inl, ◌≡◌, ◌<◌, IsPermutation, IfSome, refl, subst}
+use Rattle.std.proofs.Common.{rules, ◌≡◌, ◌<◌, IsPermutation, IfSome, refl, subst}
 use Rattle.std.proofs.Common.{◌∙◌, arith}
 use Rattle.std.proofs.lemmas.Result.{err_from_is_err_and}
 use Rattle.sqlite.specs.Effect.{Database}
@@ -9,9 +9,6 @@ use Rattle.edf_rows.specs.Foreign.{IsForeign}
 use Rattle.edf_audit.specs.Inside.All.{AreCounted, Counts}
 use Rattle.edf_tables.proofs.Commits.{quiet_then}
 use Rattle.edf_tables.specs.declared.row.TheConstants.{MOST_COUNTED}
-use Rattle.edf_audit.specs.Refused.{IsUnchecked}
-use Rattle.edf_audit.specs.Refused.IsUnchecked.{untold}
-use Rattle.edf_audit.proofs.Refusals.{unchecked_since, untold_unchecked}
 use Rattle.edf_audit.proofs.AllRows.{told_all}
 use Rattle.edf_audit.proofs.Parts.{done, failed}
 use Rattle.edf_audit.proofs.AllRows.{rows_left, rows_then}
@@ -64,7 +61,7 @@ returns-in_default-clause-checks g c =
     let old = state g.S.Store c.args.conn.now in
     let mid = state g.S.Store c.recordings.new.conn in
     let now = state g.S.Store c.count_owned.new.conn in
-    done g.S.Store IsUnchecked c.args.conn.now c.count_owned.new.conn _ (λ clean.
+    done g.S.Store c.args.conn.now c.count_owned.new.conn _ (λ clean.
     let early : HasCleanDisk mid = omega (arith, c.count_owned.ensures.checks.survives.clean) in
     rows_then old mid now (rows_left old mid (c.in_ok-found.ensures.same early))
     (c.in_ok-sum.ensures.checks.same clean))
@@ -76,7 +73,7 @@ returns-clause-checks g c =
     let mid = state g.S.Store c.recordings.new.conn in
     let was = state g.S.Store c.count_owned.new.conn in
     let now = state g.S.Store c.count_all_rows.new.conn in
-    done g.S.Store IsUnchecked c.args.conn.now c.count_all_rows.new.conn _ (λ clean.
+    done g.S.Store c.args.conn.now c.count_all_rows.new.conn _ (λ clean.
     let late : HasCleanDisk was = omega (arith, c.count_all_rows.ensures.survives.clean) in
     let early : HasCleanDisk mid =
     omega (arith, c.count_owned.ensures.checks.survives.clean, late) in
@@ -88,10 +85,10 @@ returns-clause-checks g c =
 
 pub returns-in_err-found-clause-checks : goal.returns-in_err-found-clause-checks
 returns-in_err-found-clause-checks g c =
-    failed g.S.Store IsUnchecked c.args.conn.now c.recordings.new.conn _ _
+    failed g.S.Store c.args.conn.now c.recordings.new.conn _ _
     (err_from_is_err_and c.from_residual.result c.from_residual.ensures.1)
     (λ clean. shown_left _ _ (c.in_err-found.ensures.refused clean))
-    (λ clean. untold (inl (c.in_err-found.ensures.why clean))) c.recordings.ensures.survives
+    c.recordings.ensures.survives
 
 pub returns-in_err-sum-clause-checks : goal.returns-in_err-sum-clause-checks
 returns-in_err-sum-clause-checks g c =
@@ -100,14 +97,11 @@ returns-in_err-sum-clause-checks g c =
     let now = state g.S.Store c.count_owned.new.conn in
     let same = λ (clean : HasCleanDisk now). c.in_ok-found.ensures.same
     (omega (arith, c.count_owned.ensures.checks.survives.clean)) in
-    failed g.S.Store IsUnchecked c.args.conn.now c.count_owned.new.conn _ _
+    failed g.S.Store c.args.conn.now c.count_owned.new.conn _ _
     (err_from_is_err_and c.from_residual-in_err-sum.result
     c.from_residual-in_err-sum.ensures.1)
     (λ clean. shown_then old mid now (rows_left old mid (same clean))
     (c.in_err-sum.ensures.checks.refused clean))
-    (λ clean. unchecked_since old mid now _ _ _ c.recordings.ensures.survives
-    c.count_owned.ensures.checks.survives clean (same clean).0.now_is
-    (c.in_err-sum.ensures.checks.why clean))
     (quiet_then old mid now _ c.recordings.ensures.survives c.count_owned.ensures.checks.survives)
 
 pub returns-in_err-all-clause-checks : goal.returns-in_err-all-clause-checks
@@ -118,7 +112,7 @@ returns-in_err-all-clause-checks g c =
     let now = state g.S.Store c.count_all_rows.new.conn in
     let before = quiet_then old mid was _ c.recordings.ensures.survives
     c.count_owned.ensures.checks.survives in
-    failed g.S.Store IsUnchecked c.args.conn.now c.count_all_rows.new.conn _ _
+    failed g.S.Store c.args.conn.now c.count_all_rows.new.conn _ _
     (err_from_is_err_and c.from_residual-in_err-all.result
     c.from_residual-in_err-all.ensures.1) (λ clean.
     let late : HasCleanDisk was = omega (arith, c.count_all_rows.ensures.survives.clean) in
@@ -127,6 +121,4 @@ returns-in_err-all-clause-checks g c =
     shown_then old was now (rows_then old mid was
     (rows_left old mid (c.in_ok-found.ensures.same early)) (c.in_ok-sum.ensures.checks.same late))
     (shown_left _ _ (c.in_err-all.ensures.refused clean)))
-    (λ clean. untold_unchecked old was now _ _ _ before c.count_all_rows.ensures.survives clean
-    (c.in_err-all.ensures.why clean))
     (quiet_then old was now _ before c.count_all_rows.ensures.survives)

@@ -1,8 +1,6 @@
 use Rattle.sqlite.specs.Order.{Row}
 use Rattle.sqlite_value.specs.Order.{column}
-use Rattle.std.proofs.Common.{rules, ap, None, Some, w64, arith, subst, refl, take, ◌+◌}
-use Rattle.std.specs.List.{list_any}
-use Rattle.edf_audit.specs.Refused.IsUnchecked.{too_many}
+use Rattle.std.proofs.Common.{rules, ap, None, Some, w64, arith, subst}
 use Rattle.std.proofs.lemmas.Int.{to_z-of_z}
 use Rattle.std.proofs.lemmas.Result.{err_from_is_err_and}
 use Rattle.sqlite.specs.Effect.{Database}
@@ -10,13 +8,11 @@ use Rattle.sqlite.specs.Held.{state}
 use Rattle.sqlite.specs.State.{HasCleanDisk}
 use Rattle.edf_tables.proofs.Commits.{quiet_then, survives_same}
 use Rattle.edf_rows.specs.Cells.{recordings_in}
-use Rattle.edf_audit.specs.Inside.All.{IsAfter, AreCounted, owns}
+use Rattle.edf_audit.specs.Inside.All.{IsAfter}
 use Rattle.edf_audit.specs.Inside.Checked.{ChecksRow}
-use Rattle.edf_audit.proofs.Refusals.{unread_unchecked}
 use Rattle.edf_audit.proofs.Counts.{counted_none}
 use Rattle.edf_audit.proofs.AllRows.{rows_same, rows_then, row_in, up_more, last_more, id_twice}
-use Rattle.edf_audit.proofs.AllRows.{counted_more, shorter}
-use Rattle.edf_audit.specs.Refused.{IsUnchecked}
+use Rattle.edf_audit.proofs.AllRows.{counted_more}
 use Rattle.edf_audit.proofs.Parts.{done, failed}
 use Rattle.edf_audit.proofs.Shown.{shown_rows, shown_then}
 use Rattle.edf_audit.proofs.all.count_owned.Goals as goal
@@ -86,13 +82,11 @@ returns-in_err-count-clause-checks g c =
     let was = state g.S.Store c.loop-row.conn in
     let now = state g.S.Store c.check_recording_row.new.conn in
     let inv = c.loop-row.invariant in
-    failed g.S.Store IsUnchecked c.args.conn.now c.check_recording_row.new.conn _ _
+    failed g.S.Store c.args.conn.now c.check_recording_row.new.conn _ _
     (err_from_is_err_and c.from_residual.result c.from_residual.ensures.1)
     (λ clean. shown_then old was now
     (inv.same (omega (arith, c.check_recording_row.ensures.checks.survives.clean)))
     (c.in_err-count.ensures.checks.refused clean))
-    (λ clean. unread_unchecked old was now _ _ _ inv.crash
-    c.check_recording_row.ensures.checks.survives clean (c.in_err-count.ensures.checks.why clean))
     (quiet_then old was now _ inv.crash c.check_recording_row.ensures.checks.survives)
 
 pub returns-in_default-clause-checks : goal.returns-in_default-clause-checks
@@ -101,7 +95,7 @@ returns-in_default-clause-checks g c =
     let was = state g.S.Store c.loop-row.conn in
     let now = state g.S.Store c.check_recording_row.new.conn in
     let inv = c.loop-row.invariant in
-    done g.S.Store IsUnchecked c.args.conn.now c.check_recording_row.new.conn _
+    done g.S.Store c.args.conn.now c.check_recording_row.new.conn _
     (λ clean. rows_then old was now
     (inv.same (omega (arith, c.check_recording_row.ensures.checks.survives.clean)))
     (c.in_ok-count.ensures.checks.same clean))
@@ -113,7 +107,7 @@ returns-in_default-next_id-clause-checks g c =
     let was = state g.S.Store c.loop-row.conn in
     let now = state g.S.Store c.check_recording_row.new.conn in
     let inv = c.loop-row.invariant in
-    done g.S.Store IsUnchecked c.args.conn.now c.check_recording_row.new.conn _
+    done g.S.Store c.args.conn.now c.check_recording_row.new.conn _
     (λ clean. rows_then old was now
     (inv.same (omega (arith, c.check_recording_row.ensures.checks.survives.clean)))
     (c.in_ok-count.ensures.checks.same clean))
@@ -126,28 +120,11 @@ returns-then-more-ge-MOST_COUNTED-clause-checks g c =
     let was = state g.S.Store c.loop-row.conn in
     let now = state g.S.Store c.check_recording_row.new.conn in
     let inv = c.loop-row.invariant in
-    let after : IsAfter c.loop-row.last c.row-item.result c.in-Some-next_id.id =
-    c.in-Some-next_id.ensures in
     record {
       same = λ clean. tt;
       refused = λ clean. shown_rows old now (rows_then old was now
           (inv.same (omega (arith, c.check_recording_row.ensures.checks.survives.clean)))
           (c.in_ok-count.ensures.checks.same clean));
-      why = λ clean.
-          let late : HasCleanDisk was =
-          omega (arith, c.check_recording_row.ensures.checks.survives.clean) in
-          let early : HasCleanDisk old = omega (arith, late, inv.crash.clean) in
-          let counted : AreCounted c.args.cap old.now.trees
-          (take (c.loop-row.row-index + 1) c.args.rows.now) (c.loop-row.sum + c.from.result) =
-          counted_more c.args.cap old.now was.now c.args.rows.now c.loop-row.row-index
-          c.row-item.result c.loop-row.sum c.in-Some.count c.from.result c.loop-row.last
-          c.in-Some-next_id.id (inv.same late).now_is (c.requires.listed early)
-          (search rules) (search rules) (search rules) (inv.counted late) inv.up_to after
-          (subst (ChecksRow c.args.cap was.now.trees c.row-item.result) c.in-Some.is
-          (c.in_ok-count.ensures.answers clean)) in
-          let all = shorter (λ r. list_any (λ g. owns g r)
-          (take (c.loop-row.row-index + 1) c.args.rows.now)) (old.now.trees 2) in
-          too_many refl (omega (arith, counted.sums, all, c.if-more-ge-MOST_COUNTED.true));
       survives = quiet_then old was now _ inv.crash
           c.check_recording_row.ensures.checks.survives;
     }

@@ -1,18 +1,12 @@
-use Rattle.std.proofs.Common.{rules, inl, inr, map, [], ◌∷◌, ◌≡◌, refl, sym, ap, subst, Ok, None}
+use Rattle.std.proofs.Common.{rules, inl, inr, ◌≡◌, refl, ap, subst, Ok, None}
 use Rattle.std.proofs.Common.{◌∙◌, arith}
 use Rattle.std.proofs.Common.{w64}
 use Rattle.std.proofs.lemmas.Int.{to_z-of_z}
 use Rattle.std.proofs.lemmas.Result.{err_from_is_err_and}
-use Rattle.sqlite.specs.Effect.{Database}
-use Rattle.edf_rows.specs.Cells.{record_cells}
 use Rattle.sqlite.specs.declared.types.Value.TheVariants.{Int}
 use Rattle.sqlite.specs.Held.{Held, state}
 use Rattle.sqlite.specs.State.{HasCleanDisk}
 use Rattle.sqlite.proofs.Callers.{begun_plain, unchanged_then}
-use Rattle.edf_tables.specs.Schema.{HasBoth}
-use Rattle.edf_tables.proofs.AloneTexts.{rows_alone, rows_taken}
-use Rattle.edf_tables.proofs.Refusals.{query_unread, unread_since}
-use Rattle.edf_tables.specs.Refused.{IsUnread}
 use Rattle.edf_tables.proofs.QueryTexts.{rows_text, rows_is}
 use Rattle.edf_tables.proofs.Shown.{plain_at}
 use Rattle.edf_tables.proofs.Reading.{query_quiet, query_left}
@@ -22,7 +16,7 @@ use Rattle.edf_audit.proofs.AllRows.{rows_left}
 use Rattle.edf_audit.proofs.Parts.{done, failed}
 use Rattle.edf_audit.proofs.Shown.{shown_left, unchanged_left}
 use Rattle.edf_tables.proofs.Commits.{quiet_then}
-use Rattle.edf_audit.proofs.Standing.{starts, moves, stops, refused_row, past_cap, ends, ends_empty}
+use Rattle.edf_audit.proofs.Standing.{starts, moves, stops, past_cap, ends, ends_empty}
 use Rattle.edf_audit.proofs.records.check_recording.Goals.{then-count-eq0, else-count-eq0}
 use Rattle.edf_audit.proofs.records.check_recording.Goals as goal
 
@@ -81,14 +75,10 @@ returns-in_err-rows-clause-checks g c =
     let held = rw c.in_err-rows.was at c.query.follows.holds-at-none in
     let there = λ (clean : HasCleanDisk old). plain_at rows_text _ _ rows_is old
     (c.requires.schema clean) in
-    failed g.S.Store IsUnread c.args.conn.now end _ _
+    failed g.S.Store c.args.conn.now end _ _
     (err_from_is_err_and c.from_residual.result c.from_residual.ensures.1)
     (λ clean. shown_left old new (query_left rows_text _ old new
     (there (omega (arith, held.survives.clean))) _ (held.err clean)))
-    (λ clean. query_unread rows_text _ _ rows_is (Int c.args.recording ∷ []) old new _
-    (c.requires.schema (omega (arith, held.survives.clean))) rows_alone
-    (rows_taken c.args.recording) (rw (c.params-to_sql.ensures
-    ∙ ap Int (to_z-of_z w64 c.args.recording c.ranges.recording)) at (held.err clean)))
     (query_quiet rows_text _ old new there held.survives)
 
 pub returns-in-None-clause-answers : goal.returns-in-None-clause-answers
@@ -117,8 +107,8 @@ returns-in-None-clause-checks g c =
     let now = c.next.follows.lender-at-none.conn.now in
     let inv = c.loop-count.invariant in
     let end : now ≡ c.conn-in-None-1.given.0 = search rules in
-    subst (λ (h : Held _). OnlyChecks g.S.Store IsUnread c.args.conn.now h (Ok None)) end
-    (done g.S.Store IsUnread c.args.conn.now now None
+    subst (λ (h : Held _). OnlyChecks g.S.Store c.args.conn.now h (Ok None)) end
+    (done g.S.Store c.args.conn.now now None
     (λ clean. rows_left old (state g.S.Store now)
     (unchanged_then old (state g.S.Store was) (state g.S.Store now)
     (inv.same (omega (arith, moved.survives.clean))) (rw c.in_ok-row.was at (moved.same clean))))
@@ -156,9 +146,9 @@ returns-in_default-clause-checks g c =
     let now = c.next.follows.lender-at-none.conn.now in
     let inv = c.loop-count.invariant in
     let end : now ≡ c.conn-in_default-1.given.0 = search rules in
-    subst (λ (h : Held _). OnlyChecks g.S.Store IsUnread c.args.conn.now h
+    subst (λ (h : Held _). OnlyChecks g.S.Store c.args.conn.now h
     (Ok c.if-count-eq0.result)) end
-    (done g.S.Store IsUnread c.args.conn.now now c.if-count-eq0.result
+    (done g.S.Store c.args.conn.now now c.if-count-eq0.result
     (λ clean. rows_left old (state g.S.Store now)
     (unchanged_then old (state g.S.Store was) (state g.S.Store now)
     (inv.same (omega (arith, moved.survives.clean))) (rw c.in_ok-row.was at (moved.same clean))))
@@ -173,9 +163,9 @@ returns-in_err-row-clause-checks g c =
     let now = state g.S.Store end in
     let inv = c.loop-count.invariant in
     let is : end ≡ c.conn-in_err-row-1.given.0 = search rules in
-    subst (λ (h : Held _). OnlyChecks g.S.Store IsUnread c.args.conn.now h
+    subst (λ (h : Held _). OnlyChecks g.S.Store c.args.conn.now h
     c.from_residual-in_err-row.result) is
-    (failed g.S.Store IsUnread c.args.conn.now end _ _
+    (failed g.S.Store c.args.conn.now end _ _
     (err_from_is_err_and c.from_residual-in_err-row.result
     c.from_residual-in_err-row.ensures.1) (λ clean.
     let early : HasCleanDisk was = omega (arith, moved.survives.clean, clean) in
@@ -184,16 +174,7 @@ returns-in_err-row-clause-checks g c =
       | inr same ↦
           inl same
     ] in
-    unchanged_left old was now (inv.same early) left) (λ clean.
-    let early : HasCleanDisk was = omega (arith, moved.survives.clean, clean) in
-    let there = subst (λ (b : Database). HasBoth b.schema) (sym (inv.same early).0.now_is)
-    (c.requires.schema (omega (arith, inv.crash.clean, early))) in
-    let stands = rw (to_z-of_z w64 c.args.recording c.ranges.recording) at (inv.stands early) in
-    let refused = (rw c.in_err-row.was at (moved.err clean)) rows_text (Int c.args.recording ∷ [])
-    (map record_cells stands.records) stands.given in
-    unread_since old was now _ _ c.in_err-row.field-0.0 inv.crash moved.survives clean
-    (query_unread rows_text _ _ rows_is (Int c.args.recording ∷ []) was now
-    c.in_err-row.field-0.0 there rows_alone (rows_taken c.args.recording) refused))
+    unchanged_left old was now (inv.same early) left)
     (quiet_then old was now _ inv.crash moved.survives))
 
 pub returns-in_err-start-clause-checks : goal.returns-in_err-start-clause-checks
@@ -206,22 +187,14 @@ returns-in_err-start-clause-checks g c =
     let now = state g.S.Store end in
     let inv = c.loop-count.invariant in
     let is : end ≡ c.conn-in_err-start-1.given.0 = search rules in
-    subst (λ (h : Held _). OnlyChecks g.S.Store IsUnread c.args.conn.now h
+    subst (λ (h : Held _). OnlyChecks g.S.Store c.args.conn.now h
     c.from_residual-in_err-start.result) is
-    (failed g.S.Store IsUnread c.args.conn.now end _ _
+    (failed g.S.Store c.args.conn.now end _ _
     (err_from_is_err_and c.from_residual-in_err-start.result
     c.from_residual-in_err-start.ensures.1) (λ clean.
     let early : HasCleanDisk was = omega (arith, moved.survives.clean, clean) in
     unchanged_left old was now (inv.same early)
-    (inl (rw c.in_ok-row.was at (moved.same clean)))) (λ clean.
-    let early : HasCleanDisk was = omega (arith, moved.survives.clean, clean) in
-    refused_row g.S.Store c.args.recording c.args.identity.now c.requires.long old
-    (c.requires.schema (omega (arith, inv.crash.clean, early))) c.loop-count.count c.loop-count.last
-    _ held
-    end _ _ (unchanged_then old was now (inv.same early)
-    (rw c.in_ok-row.was at (moved.same clean)))
-    (rw (to_z-of_z w64 c.args.recording c.ranges.recording) at (inv.stands early))
-    (rw (c.in_ok-row.was, c.in-Some.is) at (moved.ok clean)) c.in_err-start.ensures.why)
+    (inl (rw c.in_ok-row.was at (moved.same clean))))
     (quiet_then old was now _ inv.crash moved.survives))
 
 pub returns-clause-answers : goal.returns-clause-answers
@@ -241,7 +214,7 @@ returns-clause-checks g c =
     let inv = c.loop-count.invariant in
     let now = c.loop-count.rows.conn.now in
     let end : now ≡ c.conn-2-1.given.0 = search rules in
-    subst (λ (h : Held _). OnlyChecks g.S.Store IsUnread c.args.conn.now h (Ok None)) end
-    (done g.S.Store IsUnread c.args.conn.now now None
+    subst (λ (h : Held _). OnlyChecks g.S.Store c.args.conn.now h (Ok None)) end
+    (done g.S.Store c.args.conn.now now None
     (λ clean. rows_left (state g.S.Store c.args.conn.now) (state g.S.Store now) (inv.same clean))
     inv.crash)

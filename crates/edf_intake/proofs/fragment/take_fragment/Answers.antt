@@ -42,22 +42,19 @@ destination_of g first made k l count d named counted there =
     subst (λ (x : Key). IsDestination g first made x (most_records l.count) d) named
     (subst (λ (n : Option ℕ). IsDestination g first made k (most_records n) d) counted there)
 
--- and so is the answer to the whole fragment
-answered : (m n room : ℕ) (k l : Key) (records : List DataRecord) (findings : Findings)
-    (refusal : Refusal) → m ≡ n → k ≡ l
-    → ((h : Holdings) (rs : List DataRecord) → IsRoom m (length (h k)) (length rs) room →
-    AreFindings k h rs findings → reply_told (Err refusal) ≡ Some (reply m h (Fragment k rs)))
-    → (h : Holdings) → IsRoom n (length (h l)) (length records) room →
-    AreFindings l h records findings →
-    reply_told (Err refusal) ≡ Some (reply n h (Fragment l records))
-answered m n room k l records findings refusal capped named answer =
-    subst (λ (x : ℕ). (h : Holdings) → IsRoom x (length (h l)) (length records) room →
-    AreFindings l h records findings →
-    reply_told (Err refusal) ≡ Some (reply x h (Fragment l records))) capped
-    (subst (λ (x : Key). (h : Holdings) → IsRoom m (length (h x)) (length records) room →
-    AreFindings x h records findings →
-    reply_told (Err refusal) ≡ Some (reply m h (Fragment x records))) named
-    (λ h. answer h records))
+-- the answer to the whole fragment, under the cap that the store has
+answered : (m n room : ℕ) (k : Key) (records : List DataRecord) (findings : Findings)
+    (refusal : Refusal) → m ≡ n
+    → ((h : Holdings) → IsRoom m (length (h k)) (length records) room →
+    AreFindings k h records findings →
+    reply_told (Err refusal) ≡ Some (reply m h (Fragment k records)))
+    → (h : Holdings) → IsRoom n (length (h k)) (length records) room →
+    AreFindings k h records findings →
+    reply_told (Err refusal) ≡ Some (reply n h (Fragment k records))
+answered m n room k records findings refusal capped answer =
+    subst (λ (x : ℕ). (h : Holdings) → IsRoom x (length (h k)) (length records) room →
+    AreFindings k h records findings →
+    reply_told (Err refusal) ≡ Some (reply x h (Fragment k records))) capped answer
 
 pub returns-in_err-fragment-clause-leaves : goal.returns-in_err-fragment-clause-leaves
 returns-in_err-fragment-clause-leaves g c =
@@ -129,8 +126,8 @@ take_records-requires-clause-header g c = record {
   none_read = c.in_ok-fragment.ensures.step.1;
 }
 
-pub returns-in-Ok-clause-leaves : goal.returns-in-Ok-clause-leaves
-returns-in-Ok-clause-leaves g c =
+pub returns-in-None-clause-leaves : goal.returns-in-None-clause-leaves
+returns-in-None-clause-leaves g c =
     let p = c.in_ok-destination.ensures.leaves in
     let q = c.in_ok-findings.ensures.leaves in
     record {
@@ -141,8 +138,8 @@ returns-in-Ok-clause-leaves g c =
       running = q.running;
     }
 
-pub returns-in-Ok-clause-accepted : goal.returns-in-Ok-clause-accepted
-returns-in-Ok-clause-accepted g c =
+pub returns-in-None-clause-accepted : goal.returns-in-None-clause-accepted
+returns-in-None-clause-accepted g c =
     let first = c.args.transaction.now in
     let made = c.find_destination.new.transaction in
     let last = c.take_records.new.transaction in
@@ -160,17 +157,16 @@ returns-in-Ok-clause-accepted g c =
     counted c.in_ok-destination.ensures.found in
     let identity : c.into_identity-identity.result ≡ l.key = c.into_identity-identity.ensures
     ∙ ap (λ (x : Layout). x.key) (c.into_header.ensures ∙ c.in_ok-findings.ensures.header) in
-    let accepted = c.in-Ok.ensures.accepted in
-    subst (IsAcceptedInside g.S.Store first last from to) (sym accepted.1)
-    (subst (λ (k : Key). IsAcceptedInside g.S.Store first last from to
+    subst (λ (k : Key). IsAcceptedInside g.S.Store first last from to
     (receipt_of k findings.new findings.known)) (sym identity)
     (is_accepted g.S.Store first made last from mid to l d findings
     c.in_ok-fragment.ensures.step.0 c.in_ok-fragment.ensures.counted
     c.in_ok-destination.ensures.leaves.stays c.in_ok-findings.ensures.leaves.stays there
-    c.in_ok-findings.ensures.taken accepted.0 c.requires.whole c.requires.running.sees))
+    c.in_ok-findings.ensures.taken (c.conflict.ensures.accepted c.in-None.is) c.requires.whole
+    c.requires.running.sees)
 
-pub returns-in-Err-clause-leaves : goal.returns-in-Err-clause-leaves
-returns-in-Err-clause-leaves g c =
+pub returns-in-Some-clause-leaves : goal.returns-in-Some-clause-leaves
+returns-in-Some-clause-leaves g c =
     let p = c.in_ok-destination.ensures.leaves in
     let q = c.in_ok-findings.ensures.leaves in
     record {
@@ -181,8 +177,8 @@ returns-in-Err-clause-leaves g c =
       running = tt;
     }
 
-pub returns-in-Err-clause-stopped : goal.returns-in-Err-clause-stopped
-returns-in-Err-clause-stopped g c =
+pub returns-in-Some-clause-stopped : goal.returns-in-Some-clause-stopped
+returns-in-Some-clause-stopped g c =
     let first = c.args.transaction.now in
     let made = c.find_destination.new.transaction in
     let last = c.take_records.new.transaction in
@@ -199,14 +195,12 @@ returns-in-Err-clause-stopped g c =
     ∙ ap (λ (x : Layout). x.count) c.header-header.ensures in
     let there = destination_of g.S.Store first made c.identity.result.now l c.count.result d named
     counted c.in_ok-destination.ensures.found in
-    let identity : c.into_identity-identity.result ≡ l.key = c.into_identity-identity.ensures
-    ∙ ap (λ (x : Layout). x.key) (c.into_header.ensures ∙ c.in_ok-findings.ensures.header) in
     is_refused g.S.Store first made last from mid to l d findings
     c.in_ok-fragment.ensures.step.0 c.in_ok-fragment.ensures.counted
     c.in_ok-destination.ensures.leaves.stays c.in_ok-findings.ensures.leaves.stays there taken
-    c.in-Err.refusal c.in-Err.ensures.refused
-    (answered c.args.cap first.store.now.cap d.room c.into_identity-identity.result l.key
-    taken.records findings c.in-Err.refusal c.requires.cap identity c.in-Err.ensures.answer)
+    c.in-Some.refusal c.in-Some.ensures.refused
+    (answered c.args.cap first.store.now.cap d.room l.key taken.records findings
+    c.in-Some.refusal c.requires.cap (λ h. c.in-Some.ensures.answer l.key h taken.records))
 
 pub returns-in_err-findings-clause-leaves : goal.returns-in_err-findings-clause-leaves
 returns-in_err-findings-clause-leaves g c =

@@ -1,31 +1,29 @@
-use Rattle.std.proofs.Common.{◌≡◌, ◌↔◌, ◌∙◌, IsTrue, inl, inr, Option, ℕ, refl, sym, subst}
+use Rattle.std.proofs.Common.{◌≡◌, ◌↔◌, ◌∙◌, IsTrue, inl, inr, ℕ, refl, sym, subst, true≢false}
 use Rattle.sqlite.specs.Schema.{Schema}
-use Rattle.sqlite.specs.declared.error.Error.{Error}
 use Rattle.sqlite.specs.Files.{over_files}
 use Rattle.edf_tables.specs.Schema.{AreOurs}
 use Rattle.edf_store.specs.Open.{IsGivenBack}
 use Rattle.edfstore_arguments.specs.Arguments.{meaning}
 use Rattle.edf_program.specs.Output.{growth}
 use Rattle.edf_program.proofs.Puts.{nothing-gets}
-use Rattle.edf_program_run.specs.Close.{IsCloseTold}
 use Rattle.edf_program_run.specs.ProgramRun.{IsNoticed, ProgramRun, Refuses, run_of}
 use Rattle.edf_program_run.proofs.Doing.{turned}
 use Rattle.edf_program_run.proofs.Ending.{ran_back, is_refused, none_failed}
 use Rattle.edf_program_run.proofs.Working.{Works, Returns}
 use Rattle.edf_program_run.proofs.over.run_over.Goals as goal
 
-pub returns-then-closes-clause-ran : goal.returns-then-closes-clause-ran
-returns-then-closes-clause-ran g c start opening =
+pub returns-in-Ok-clause-ran : goal.returns-in-Ok-clause-ran
+returns-in-Ok-clause-ran g c start opening =
     let out = growth g.O.Output c.args.out.now c.run-status.new.out in
     let mid = growth g.F.Output c.args.err.now c.run-status.new.err in
     let asked = meaning c.args.command.now in
     let bytes = g.I.Inputs.bytes c.args.inputs.now in
     let before = g.I.Inputs.opened c.args.inputs.now in
     let after = g.I.Inputs.opened c.run-status.new.inputs in
-    let r : ProgramRun g.D.Disk = record (run_of g.D.Disk c.args.cap start
+    let r : ProgramRun g.D.Disk = run_of g.D.Disk c.args.cap start
     (asked, bytes, before, after, out) (growth g.F.Output c.args.err.now c.close.new.err)
     (IsNoticed (g.W.Watch.noticed c.args.watch.now) (g.W.Watch.noticed c.opened.new.self))
-    (c.run-status.new.inputs ≡ c.args.inputs.now)) { closes = c.args.closes } in
+    (c.run-status.new.inputs ≡ c.args.inputs.now) in
     let t = turned bytes before after out mid asked c.in-Ok.store c.run-status.new.store
     c.run-status.result c.run-status.ensures.done c.run-status.ensures.opened
     c.run-status.ensures.cap in
@@ -46,59 +44,19 @@ returns-then-closes-clause-ran g c start opening =
     c.into_connection-back.ensures c.close.ensures.told c.obey.ensures c.close.ensures.let_go
     (λ closed. c.close.ensures.copied closed.2 closed.0)
     (λ lets. elim lets.1 [
-      | inl open' ↦ absurd (let e = sym c.if-closes.true ∙ open' in cc)
+      | inl open' ↦ absurd (true≢false open')
       | inr shut ↦ c.close.ensures.shut shut lets.0
     ]))
 
-pub returns-then-closes-clause-closed : goal.returns-then-closes-clause-closed
-returns-then-closes-clause-closed g c never =
+pub returns-in-Ok-clause-closed : goal.returns-in-Ok-clause-closed
+returns-in-Ok-clause-closed g c never =
     none_failed _ c.close.result.failure c.run-status.result c.close.result.status
     c.close.ensures.told never
-
-pub returns-else-closes-clause-ran : goal.returns-else-closes-clause-ran
-returns-else-closes-clause-ran g c start opening =
-    let out = growth g.O.Output c.args.out.now c.run-status.new.out in
-    let err = growth g.F.Output c.args.err.now c.run-status.new.err in
-    let asked = meaning c.args.command.now in
-    let bytes = g.I.Inputs.bytes c.args.inputs.now in
-    let before = g.I.Inputs.opened c.args.inputs.now in
-    let after = g.I.Inputs.opened c.run-status.new.inputs in
-    let r : ProgramRun g.D.Disk = record (run_of g.D.Disk c.args.cap start
-    (asked, bytes, before, after, out) err
-    (IsNoticed (g.W.Watch.noticed c.args.watch.now) (g.W.Watch.noticed c.opened.new.self))
-    (c.run-status.new.inputs ≡ c.args.inputs.now)) { closes = c.args.closes } in
-    let t = turned bytes before after out err asked c.in-Ok.store c.run-status.new.store
-    c.run-status.result c.run-status.ensures.done c.run-status.ensures.opened
-    c.run-status.ensures.cap in
-    let works : Works r c.args.conn err c.run-status.result = record {
-      old = c.in-Ok.store;
-      new = c.run-status.new.store;
-      turns = t.turns;
-      cap_is = c.in-Ok.ensures.cap ∙ c.records.ensures.value;
-      opened = c.in-Ok.ensures.opened;
-      noticed = c.opened.ensures;
-      does = t.does;
-      takes = t.takes;
-      live = c.in-Ok.ensures.live;
-    } in
-    let end = growth g.F.Output c.run-status.new.err c.run-status.new.err in
-    let told : IsCloseTold end c.leave.result.failure c.run-status.result c.leave.result.status =
-    subst (λ (f : Option Error). IsCloseTold end f c.run-status.result c.leave.result.status)
-    (sym c.leave.ensures.as_was.1) (
-      nothing-gets end.before end.failed_before,
-      c.leave.ensures.as_was.0,
-    ) in
-    inl (ran_back g.met.D.Disk.seen_may_stay r c.leave.result c.args.conn
-    (λ clean. (opening.1 clean).0) (λ clean. (opening.1 clean).1)
-    c.run-status.result err.after err.failed_after works c.into_connection-back.result
-    c.into_connection-back.ensures told c.obey.ensures c.leave.ensures.let_go
-    (λ closed. absurd (let e = sym c.if-closes.false ∙ closed.1 in cc))
-    (λ lets. c.leave.ensures.each lets.0))
 
 pub returns-in-Err-clause-ran : goal.returns-in-Err-clause-ran
 returns-in-Err-clause-ran g c start opening =
     let out = growth g.O.Output c.args.out.now c.args.out.now in
-    let r : ProgramRun g.D.Disk = record (run_of g.D.Disk c.args.cap start (
+    let r : ProgramRun g.D.Disk = run_of g.D.Disk c.args.cap start (
       meaning c.args.command.now,
       g.I.Inputs.bytes c.args.inputs.now,
       g.I.Inputs.opened c.args.inputs.now,
@@ -107,14 +65,14 @@ returns-in-Err-clause-ran g c start opening =
     )
     (growth g.F.Output c.args.err.now c.refuse.new.err)
     (IsNoticed (g.W.Watch.noticed c.args.watch.now) (g.W.Watch.noticed c.refuse.new.watch))
-    (c.args.inputs.now ≡ c.args.inputs.now)) { closes = c.args.closes } in
+    (c.args.inputs.now ≡ c.args.inputs.now) in
     let ours = c.is_ours-has_our_tables.result in
     let refuses : Refuses r c.in-Err.fault ours c.refuse.result = record {
       line = c.refuse.ensures.said;
       noticed = c.refuse.ensures.noticed;
       untouched = (refl, nothing-gets out.before out.failed_before);
     } in
-    let it : Returns r c.args.conn c.in-Err.back c.leave-in-Err.result.status = record {
+    let it : Returns r c.args.conn c.in-Err.back c.leave.result.status = record {
       fault = c.in-Err.fault;
       back = subst (λ (n : ℕ). IsGivenBack over_files c.args.conn n c.in-Err.fault c.in-Err.back)
           c.records.ensures.value c.in-Err.ensures.given_back;
@@ -122,8 +80,8 @@ returns-in-Err-clause-ran g c start opening =
       ours_is = subst (λ (s : Schema). IsTrue c.is_ours-has_our_tables.result ↔ AreOurs s)
           c.schema.ensures.value c.is_ours-has_our_tables.ensures;
       refuses = subst (Refuses r c.in-Err.fault c.is_ours-has_our_tables.result)
-          (sym c.leave-in-Err.ensures.as_was.0) refuses;
+          (sym c.leave.ensures.as_was.0) refuses;
     } in
-    inr (is_refused g.met.D.Disk.seen_may_stay r c.leave-in-Err.result c.args.conn
+    inr (is_refused g.met.D.Disk.seen_may_stay r c.leave.result c.args.conn
     (λ clean. (opening.1 clean).0) (λ clean. (opening.1 clean).1) c.in-Err.back it
-    c.leave-in-Err.ensures.as_was.1 c.leave-in-Err.ensures.let_go c.leave-in-Err.ensures.each)
+    c.leave.ensures.as_was.1 c.leave.ensures.let_go c.leave.ensures.each)

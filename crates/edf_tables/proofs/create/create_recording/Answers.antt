@@ -3,7 +3,6 @@ use Rattle.sqlite.specs.Held.{state}
 use Rattle.sqlite.proofs.StateLemmas.{survives_weaker}
 use Rattle.edf_tables.proofs.Creating.{first_if, first_crash}
 use Rattle.edf_tables.proofs.Keeping.{write_refused}
-use Rattle.edf_tables.proofs.Unmade.{first_unmade}
 use Rattle.edf_tables.proofs.File.{first_file, first_mode}
 use Rattle.edf_tables.proofs.SameText.{crash_of, runs_of}
 use Rattle.edf_tables.proofs.create.create_recording.Goals as goal
@@ -25,12 +24,6 @@ returns-clause-survives g c =
     (λ clean db. first_crash (state g.S.Store c.args.conn.now) db
     (c.requires (omega (arith, c.execute.ensures.survives.clean))))
     (crash_of _ _ _ _ _ c.execute.ensures.survives refl)
-
-pub returns-clause-why : goal.returns-clause-why
-returns-clause-why g c clean = first_unmade (state g.S.Store c.args.conn.now)
-    (state g.S.Store c.execute.new.self) c.execute.result
-    (c.requires (omega (arith, c.execute.ensures.survives.clean)))
-    (runs_of _ _ _ _ _ _ (c.execute.ensures.runs clean) refl)
 
 pub returns-clause-stays : goal.returns-clause-stays
 returns-clause-stays g c clean =

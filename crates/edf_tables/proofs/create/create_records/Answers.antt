@@ -3,7 +3,6 @@ use Rattle.sqlite.specs.Held.{state}
 use Rattle.sqlite.proofs.StateLemmas.{survives_weaker}
 use Rattle.edf_tables.proofs.Creating.{second_if, second_crash}
 use Rattle.edf_tables.proofs.Keeping.{write_refused}
-use Rattle.edf_tables.proofs.Unmade.{second_unmade}
 use Rattle.edf_tables.proofs.File.{second_file, second_mode}
 use Rattle.edf_tables.proofs.SameText.{crash_of, runs_of}
 use Rattle.edf_tables.proofs.create.create_records.Goals as goal
@@ -25,12 +24,6 @@ pub returns-clause-refused : goal.returns-clause-refused
 returns-clause-refused g c clean =
     write_refused _ _ (state g.S.Store c.args.conn.now) (state g.S.Store c.execute.new.self)
     c.execute.result (c.execute.ensures.runs clean)
-
-pub returns-clause-why : goal.returns-clause-why
-returns-clause-why g c clean = second_unmade (state g.S.Store c.args.conn.now)
-    (state g.S.Store c.execute.new.self) c.execute.result
-    (c.requires (omega (arith, c.execute.ensures.survives.clean)))
-    (runs_of _ _ _ _ _ _ (c.execute.ensures.runs clean) refl)
 
 pub returns-clause-stays : goal.returns-clause-stays
 returns-clause-stays g c clean =

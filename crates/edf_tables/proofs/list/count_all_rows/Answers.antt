@@ -1,16 +1,11 @@
-use Rattle.std.proofs.Common.{arith, inl, [], refl}
-use Rattle.std.proofs.lemmas.Result.{err_from_is_err_and}
+use Rattle.std.proofs.Common.{arith, inl, refl}
 use Rattle.sqlite.specs.Held.{state}
 use Rattle.sqlite_exec.proofs.MarkLemmas.{if_ok_then}
-use Rattle.edf_tables.specs.Refused.{IsUntold}
-use Rattle.edf_tables.proofs.AloneTexts.{count_all_alone, count_all_taken}
 use Rattle.edf_tables.proofs.QueryTexts.{count_all_text, count_all_is}
-use Rattle.edf_tables.proofs.Refusals.{query_unread, untold_if}
-use Rattle.edf_tables.proofs.Shown.{plain_at, count_all_shown, count_all_some}
-use Rattle.edf_tables.proofs.Reading.{query_left}
+use Rattle.edf_tables.proofs.Shown.{plain_at, count_all_shown}
 use Rattle.edf_tables.specs.Refused.{IsLeft}
 use Rattle.edf_tables.proofs.Keeping.{on_err}
-use Rattle.edf_tables.proofs.SameText.{plain_of, shown_of, unread_of}
+use Rattle.edf_tables.proofs.SameText.{plain_of, shown_of}
 use Rattle.edf_tables.proofs.list.count_all_rows.Goals as goal
 
 pub rows_shown-requires : goal.rows_shown-requires
@@ -25,35 +20,9 @@ returns-clause-count g c clean = if_ok_then c.first_count.result c.first_count.e
     (c.requires.schema (omega (arith, c.rows_shown.ensures.survives.clean)))
     (shown_of _ _ _ _ _ _ (c.in_ok-rows.ensures.shown clean) refl) e)
 
-pub returns-in_err-rows-clause-why : goal.returns-in_err-rows-clause-why
-returns-in_err-rows-clause-why g c clean =
-    let old = state g.S.Store c.args.conn.now in
-    let new = state g.S.Store c.rows_shown.new.conn in
-    let why : IsUntold old new c.in_err-rows.field-0.0 =
-    inl (query_unread count_all_text _ _ count_all_is ([]) old new _
-    (c.requires.schema (omega (arith, c.rows_shown.ensures.survives.clean))) count_all_alone
-    count_all_taken (unread_of _ _ _ _ _ _ (c.in_err-rows.ensures.why clean) refl)) in
-    let told = err_from_is_err_and c.from_residual.result c.from_residual.ensures.1 in
-    rw (told.1, told.2) why
-
-pub returns-clause-why : goal.returns-clause-why
-returns-clause-why g c clean =
-    let old = state g.S.Store c.args.conn.now in
-    let new = state g.S.Store c.rows_shown.new.conn in
-    untold_if c.first_count.result old new c.in_ok-rows.rows.items
-    (count_all_some old new c.in_ok-rows.rows.items
-    (c.requires.schema (omega (arith, c.rows_shown.ensures.survives.clean)))
-    (shown_of _ _ _ _ _ _ (c.in_ok-rows.ensures.shown clean) refl)) c.first_count.ensures.why
-
 pub returns-in_err-rows-clause-refused : goal.returns-in_err-rows-clause-refused
 returns-in_err-rows-clause-refused g c clean =
-    let old = state g.S.Store c.args.conn.now in
-    let new = state g.S.Store c.rows_shown.new.conn in
-    let left : IsLeft old new = query_left count_all_text [] old new
-    (plain_at count_all_text _ _ count_all_is old
-    (c.requires.schema (omega (arith, c.rows_shown.ensures.survives.clean)))) _
-    (unread_of _ _ _ _ _ _ (c.in_err-rows.ensures.why clean) refl) in
-    on_err _ left
+    on_err c.from_residual.result (c.in_err-rows.ensures.refused clean)
 
 pub returns-clause-refused : goal.returns-clause-refused
 returns-clause-refused g c clean =

@@ -1,13 +1,11 @@
-use Rattle.std.proofs.Common.{ap, ◌∙◌, w64, arith, [], ◌∷◌, refl}
+use Rattle.std.proofs.Common.{ap, ◌∙◌, w64, arith, refl}
 use Rattle.std.proofs.lemmas.Int.{to_z-of_z}
 use Rattle.sqlite.specs.declared.types.Value.TheVariants.{Int}
 use Rattle.sqlite.specs.Held.{state}
 use Rattle.sqlite_exec.proofs.MarkLemmas.{if_ok_then}
-use Rattle.edf_tables.proofs.AloneTexts.{near_alone, near_taken}
 use Rattle.edf_tables.proofs.QueryTexts.{near_text, near_is}
-use Rattle.edf_tables.proofs.Refusals.{query_unread, untold_from}
 use Rattle.edf_tables.proofs.Shown.{plain_at, typed, near_shown}
-use Rattle.edf_tables.proofs.SameText.{plain_of, shown_of, unread_of}
+use Rattle.edf_tables.proofs.SameText.{plain_of, shown_of}
 use Rattle.edf_tables.proofs.records.near_rows.Goals as goal
 
 pub records_shown-requires : goal.records_shown-requires
@@ -28,18 +26,3 @@ returns-clause-near g c clean = if_ok_then c.records_shown.result
     (state g.S.Store c.records_shown.new.conn) it.0
     (c.requires.ready (omega (arith, c.records_shown.ensures.survives.clean)))
     (shown_of _ _ _ _ _ _ it.1 refl)))
-
-pub returns-clause-why : goal.returns-clause-why
-returns-clause-why g c clean =
-    let old = state g.S.Store c.args.conn.now in
-    let new = state g.S.Store c.records_shown.new.conn in
-    untold_from c.records_shown.result old new _ (λ e it. query_unread near_text _ _ near_is
-    (Int c.args.recording ∷ Int c.args.after ∷ Int c.args.before ∷ []) old new e
-    (c.requires.ready (omega (arith, c.records_shown.ensures.survives.clean))).schema near_alone
-    (near_taken c.args.recording c.args.after c.args.before) (unread_of _ _ _ _ _ _ it refl))
-    (rw (
-      c.params-to_sql.ensures ∙ ap Int (to_z-of_z w64 c.args.recording c.ranges.recording),
-      c.params-to_sql-2.ensures ∙ ap Int (to_z-of_z w64 c.args.after c.ranges.after),
-      c.params-to_sql-3.ensures
-          ∙ ap Int (to_z-of_z w64 c.args.before c.ranges.before),
-    ) at (c.records_shown.ensures.why clean))

@@ -1,6 +1,5 @@
-use Rattle.std.proofs.Common.{◌≡◌, inl, ◌∷◌, ◌++◌, List, [], map, rules, arith, sym, ap, ap₂, ◌∙◌}
+use Rattle.std.proofs.Common.{◌≡◌, ◌∷◌, ◌++◌, List, [], map, rules, arith, sym, ap, ap₂, ◌∙◌}
 use Rattle.std.proofs.lemmas.List.{map-append}
-use Rattle.std.proofs.lemmas.Result.{err_from_is_err_and}
 use Rattle.sqlite.specs.State.{HasCleanDisk, Survives, CommitsShowing}
 use Rattle.sqlite.specs.Held.{state}
 use Rattle.sqlite.specs.Given.{IsRefused}
@@ -10,7 +9,7 @@ use Rattle.sqlite.specs.Order.{Row}
 use Rattle.edf_tables.specs.declared.row.RecordRow.{RecordRow}
 use Rattle.edf_tables.specs.Cells.{cells_of, first_three}
 use Rattle.edf_tables.proofs.Keeping.{left_keeps}
-use Rattle.edf_tables.proofs.Reading.{query_left, query_quiet, shown_since, query_fails_since}
+use Rattle.edf_tables.proofs.Reading.{query_left, query_quiet, shown_since}
 use Rattle.edf_tables.proofs.row.records_shown.Goals as goal
 
 pub returns-in_err-rows-clause-kept : goal.returns-in_err-rows-clause-kept
@@ -30,21 +29,6 @@ returns-in_err-rows-clause-survives g c =
     let kept : Survives old new (CommitsShowing c.args.sql.now (bound c.args.params.now) old) =
     search rules in
     query_quiet c.args.sql.now (bound c.args.params.now) old new c.requires kept
-
-pub returns-in_err-row-clause-why : goal.returns-in_err-row-clause-why
-returns-in_err-row-clause-why g c clean =
-    let old = state g.S.Store c.args.conn.now in
-    let moved = c.next.follows.holds-at-none in
-    let now = c.next.follows.lender-at-none.conn.now in
-    let late : HasCleanDisk (state g.S.Store now) = search rules in
-    let was = c.rows.invariant.2 (omega (arith, moved.survives.clean)) in
-    let fails = (rw c.in_err-row.was at (moved.err late)) c.args.sql.now _ was.0 was.1 in
-    let why = query_fails_since c.args.sql.now _ old _ (state g.S.Store now)
-    (c.requires (omega (arith, c.rows.invariant.1.clean, moved.survives.clean))) was.3 _
-    c.rows.invariant.1 _ fails in
-    let told = err_from_is_err_and c.from_residual-in_err-row.result
-    c.from_residual-in_err-row.ensures.1 in
-    rw (told.1, told.2) (inl (search rules))
 
 pub returns-in_default-clause-shown : goal.returns-in_default-clause-shown
 returns-in_default-clause-shown g c clean =

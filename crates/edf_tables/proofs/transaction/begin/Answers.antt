@@ -1,9 +1,7 @@
 use Rattle.std.proofs.Common.{refl}
-use Rattle.std.proofs.lemmas.Result.{err_from_is_err_and}
 use Rattle.sqlite.specs.Held.{state}
 use Rattle.edf_tables.proofs.Commits.{begun, begin_survives}
 use Rattle.edf_tables.proofs.Keeping.{on_err, write_refused}
-use Rattle.edf_tables.proofs.Turns.{begin_refused}
 use Rattle.edf_tables.proofs.SameText.{crash_of, runs_of}
 use Rattle.edf_tables.proofs.transaction.begin.Goals as goal
 
@@ -25,10 +23,3 @@ pub returns-in_err-execute-clause-refused : goal.returns-in_err-execute-clause-r
 returns-in_err-execute-clause-refused g c clean =
     on_err c.from_residual.result (write_refused _ _ (state g.S.Store c.args.conn.now)
     (state g.S.Store c.execute.new.self) _ (c.in_err-execute.ensures.runs clean))
-
-pub returns-in_err-execute-clause-why : goal.returns-in_err-execute-clause-why
-returns-in_err-execute-clause-why g c clean =
-    let why = begin_refused (state g.S.Store c.args.conn.now) (state g.S.Store c.execute.new.self) _
-    (runs_of _ _ _ _ _ _ (c.in_err-execute.ensures.runs clean) refl) in
-    let told = err_from_is_err_and c.from_residual.result c.from_residual.ensures.1 in
-    rw (told.1, told.2) why

@@ -1,10 +1,8 @@
 use Rattle.std.proofs.Common.{refl}
-use Rattle.std.proofs.lemmas.Result.{err_from_is_err_and}
 use Rattle.sqlite.specs.Held.{state}
 use Rattle.edf_tables.proofs.Commits.{committed, commit_survives}
 use Rattle.edf_tables.proofs.Ends.{commit_ends}
 use Rattle.edf_tables.proofs.Keeping.{on_err, write_refused}
-use Rattle.edf_tables.proofs.Turns.{commit_refused}
 use Rattle.edf_tables.proofs.SameText.{crash_of, runs_of}
 use Rattle.edf_tables.proofs.transaction.commit.Goals as goal
 
@@ -36,10 +34,3 @@ pub returns-in_err-execute-clause-ended : goal.returns-in_err-execute-clause-end
 returns-in_err-execute-clause-ended g c clean =
     commit_ends (state g.S.Store c.args.conn.now) (state g.S.Store c.execute.new.self) _
     (runs_of _ _ _ _ _ _ (c.in_err-execute.ensures.runs clean) refl)
-
-pub returns-in_err-execute-clause-why : goal.returns-in_err-execute-clause-why
-returns-in_err-execute-clause-why g c clean =
-    let why = commit_refused (state g.S.Store c.args.conn.now) (state g.S.Store c.execute.new.self)
-    _ (runs_of _ _ _ _ _ _ (c.in_err-execute.ensures.runs clean) refl) in
-    let told = err_from_is_err_and c.from_residual.result c.from_residual.ensures.1 in
-    rw (told.1, told.2) why

@@ -1,9 +1,7 @@
 use Rattle.std.proofs.Common.{refl}
-use Rattle.std.proofs.lemmas.Result.{err_from_is_err_and}
 use Rattle.sqlite.specs.Held.{state}
 use Rattle.edf_tables.proofs.Commits.{rolled_back, rollback_survives}
 use Rattle.edf_tables.proofs.Keeping.{write_refused, undone_keeps}
-use Rattle.edf_tables.proofs.Turns.{rollback_refused}
 use Rattle.edf_tables.proofs.SameText.{crash_of, runs_of}
 use Rattle.edf_tables.proofs.transaction.roll_back.Goals as goal
 
@@ -31,11 +29,3 @@ returns-clause-kept g c clean =
     undone_keeps (state g.S.Store c.args.conn.now) (state g.S.Store c.execute.new.self)
     (rolled_back (state g.S.Store c.args.conn.now) (state g.S.Store c.execute.new.self) _
     (runs_of _ _ _ _ _ _ (c.in_ok-execute.ensures.runs clean) refl))
-
-pub returns-in_err-execute-clause-why : goal.returns-in_err-execute-clause-why
-returns-in_err-execute-clause-why g c clean =
-    let why = rollback_refused (state g.S.Store c.args.conn.now)
-    (state g.S.Store c.execute.new.self) _
-    (runs_of _ _ _ _ _ _ (c.in_err-execute.ensures.runs clean) refl) in
-    let told = err_from_is_err_and c.from_residual.result c.from_residual.ensures.1 in
-    rw (told.1, told.2) why

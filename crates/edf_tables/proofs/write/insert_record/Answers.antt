@@ -6,7 +6,6 @@ use Rattle.edf_tables.proofs.Texts.{insert_record_text, insert_record_is}
 use Rattle.edf_tables.proofs.Commits.{insert_survives}
 use Rattle.edf_tables.proofs.Keeping.{write_refused}
 use Rattle.edf_tables.proofs.Writing.{record_added_if}
-use Rattle.edf_tables.proofs.Unadded.{record_unadded}
 use Rattle.edf_tables.proofs.SameText.{crash_of, runs_of}
 use Rattle.edf_tables.proofs.write.insert_record.Goals as goal
 
@@ -34,17 +33,3 @@ returns-clause-survives g c =
     insert_survives (state g.S.Store c.args.conn.now) (state g.S.Store c.execute.new.self)
     insert_record_text _ _ _ insert_record_is (λ clean. let was = c.requires clean in
     (was.schema, was.mode)) (crash_of _ _ _ _ _ c.execute.ensures.survives refl)
-
-pub returns-clause-why : goal.returns-clause-why
-returns-clause-why g c clean =
-    record_unadded (state g.S.Store c.args.conn.now) (state g.S.Store c.execute.new.self)
-    c.args.recording c.args.start c.args.samples.now c.args.block.now c.execute.result
-    c.obey.ensures (c.requires (omega (arith, c.execute.ensures.survives.clean)))
-    (runs_of _ _ _ _ _ _ (rw (
-      c.params-to_sql.ensures
-          ∙ ap Int (to_z-of_z w64 c.args.recording c.ranges.recording),
-      c.params-to_sql-2.ensures
-          ∙ ap Int (to_z-of_z w64 c.args.start c.ranges.start),
-      c.params-to_sql-3.ensures,
-      c.params-to_sql-4.ensures,
-    ) at (c.execute.ensures.runs clean)) refl)

@@ -1,4 +1,3 @@
-use Rattle.std.proofs.lemmas.Result.{err_from_is_err_and}
 use Rattle.std.proofs.Common.{arith, ◌∙◌, refl}
 use Rattle.std.proofs.Common.{w64}
 use Rattle.std.proofs.lemmas.Int.{to_z-of_z}
@@ -7,7 +6,6 @@ use Rattle.edf_tables.proofs.Texts.{insert_recording_text, insert_recording_is}
 use Rattle.edf_tables.proofs.Commits.{insert_survives}
 use Rattle.edf_tables.proofs.Keeping.{on_err, write_refused}
 use Rattle.edf_tables.proofs.Writing.{recording_added}
-use Rattle.edf_tables.proofs.Unadded.{recording_unadded}
 use Rattle.edf_tables.proofs.SameText.{crash_of, runs_of}
 use Rattle.edf_tables.proofs.write.insert_recording.Goals as goal
 
@@ -39,13 +37,3 @@ pub returns-in_err-execute-clause-refused : goal.returns-in_err-execute-clause-r
 returns-in_err-execute-clause-refused g c clean =
     on_err c.from_residual.result (write_refused _ _ (state g.S.Store c.args.conn.now)
     (state g.S.Store c.execute.new.self) _ (c.in_err-execute.ensures.runs clean))
-
-pub returns-in_err-execute-clause-why : goal.returns-in_err-execute-clause-why
-returns-in_err-execute-clause-why g c clean =
-    let why = recording_unadded (state g.S.Store c.args.conn.now)
-    (state g.S.Store c.execute.new.self) c.args.identity.now _ c.obey.ensures
-    (c.requires (omega (arith, c.execute.ensures.survives.clean)))
-    (runs_of _ _ _ _ _ _ (rw c.params-to_sql.ensures at (c.in_err-execute.ensures.runs clean))
-    refl) in
-    let told = err_from_is_err_and c.from_residual.result c.from_residual.ensures.1 in
-    rw (told.1, told.2) why
