@@ -1,8 +1,8 @@
 """Draws random nights by `edfruns picture`, reads the pictures back, and compares with plain models
 of the rules: the line of the stages of sleep, half pixel by half pixel; the figures in words and in
 the metadata, line by line (`lib.sleep`, `lib.sleep_words`); the lane of each text, its count, rate
-and bars (`lib.events`); the lights; what a tolerance joins; whose picture it is and when, with the
-patient code and without it (`lib.titles`).
+and bars (`lib.events`); the lights; whose picture it is and when, with the patient code and without
+it (`lib.titles`).
 
     python3 -m checks.hypnogram [--edfruns PATH] [--seed SEED] [COUNT]      200 nights if left out
     python3 -m checks.hypnogram --model [--seed SEED] [COUNT]
@@ -21,30 +21,29 @@ from xml.etree import ElementTree
 
 from checks.lib import arguments, checks, events, measure, model, runs as of_runs, scorings, sleep
 from checks.lib import sleep_words, titles
-from checks.lib.gapped import SECOND, decimal
+from checks.lib.gapped import SECOND
 
 LEFT, COLUMNS = 112, 1_728      # where the line begins, and how many half pixels it has
 MINUTE = 60 * SECOND
 HEIGHTS = {"W": 12, "R": 30, "N1": 48, "N2": 66, "N3": 84, "N": 102}
 
 
-def seen_runs(runs: list, tolerance: int) -> list:
-    """The runs, those as one between which less than half a pixel is missing, or no more than the
-    tolerance."""
-    most, seen = max(tolerance, (runs[-1][1] - runs[0][0]) // COLUMNS - 1), [runs[0]]
+def seen_runs(runs: list) -> list:
+    """The runs, those as one between which less than half a pixel is missing."""
+    most, seen = max(0, (runs[-1][1] - runs[0][0]) // COLUMNS - 1), [runs[0]]
     for start, end in runs[1:]:
         is_seen = start - seen[-1][1] > most
         seen.append((start, end) if is_seen else (seen.pop()[0], end))
     return seen
 
 
-def expected(night: sleep.Night, tolerance: int) -> list:
+def expected(night: sleep.Night) -> list:
     """The height of the line in each half pixel, by what is told at the instant in its middle, or,
     in a gap that is not drawn, before that gap."""
     if night.is_scored_twice:
         return [None] * COLUMNS
     start, end = night.runs[0][0], night.runs[-1][1]
-    view = seen_runs(night.runs, tolerance)
+    view = seen_runs(night.runs)
     pieces = sleep.pieces_of(night.scored, night.runs, start, end)
     heights, before, nth = [], None, 0
     for column in range(COLUMNS):
@@ -83,37 +82,33 @@ def words_in(picture: str) -> list:
     return [html.unescape(text) for text in re.findall(r">([^<]+)</text>", last)]
 
 
-def stands(picture: str, night: sleep.Night, tolerance: int) -> dict:
+def stands(picture: str, night: sleep.Night) -> dict:
     """What a picture has of what the models say."""
-    view, joined = events.joined(night.runs, tolerance)
     has_stages = any(sleep.stage_of(note.text) for note in night.notes)
     lights = [note for note in night.notes if sleep.is_light(note.text)]
-    texts = re.findall(r"<text[^>]*>([^<]*)</text>", picture)
     return {
-        "line": not has_stages or line_of(picture) == expected(night, tolerance),
+        "line": not has_stages or line_of(picture) == expected(night),
         "words": words_in(picture) == (sleep_words.words(night, clock) if has_stages else []),
         "figures": figures_in(picture) == night.lines(instant),
-        "joined": not tolerance or joined in texts,
-        "lanes": events.lanes_of(picture) == events.lanes(night, view),
+        "lanes": events.lanes_of(picture) == events.lanes(night),
         "lights": events.lines_of(picture) == events.within(lights, night.runs[-1][1]),
     }
 
 
-def is_seen(picture: str, night: sleep.Night, tolerance: int) -> bool:
+def is_seen(picture: str, night: sleep.Night) -> bool:
     """Whether a picture has all that the models say."""
     try:
         ElementTree.fromstring(picture)
     except ElementTree.ParseError:
         return False
-    return all(stands(picture, night, tolerance).values())
+    return all(stands(picture, night).values())
 
 
 @dataclass(frozen=True)
 class ScoredNight:
-    """A night that is drawn: its file, its annotations and runs, and the tolerance."""
+    """A night that is drawn: its file, and its annotations and runs."""
     file: bytes
     night: sleep.Night
-    tolerance: int
 
 
 def scored_night(seed: int, nth: int) -> ScoredNight:
@@ -121,9 +116,8 @@ def scored_night(seed: int, nth: int) -> ScoredNight:
     seconds = chance.choice((1, 10, 30))
     runs = scorings.random_runs(chance, seconds)
     notes = scorings.random_notes(chance, runs)
-    tolerance = chance.choice((0, 0, 0, SECOND // 1_000, SECOND, 30 * SECOND))
     data = titles.coded(chance, scorings.file_of(chance, runs, seconds, notes))
-    return ScoredNight(data, sleep.Night(notes, runs), tolerance)
+    return ScoredNight(data, sleep.Night(notes, runs))
 
 
 def instant(at: int) -> str:
@@ -137,7 +131,7 @@ def figures_in(picture: str) -> list:
     return lines[found[0]:-1] if found and not lines[-1] else []
 
 
-def has_figures(picture: str, night: sleep.Night, tolerance: int) -> bool:
+def has_figures(picture: str, night: sleep.Night) -> bool:
     return figures_in(picture) == night.lines(instant)
 
 
@@ -147,12 +141,11 @@ def read_back(data: bytes) -> str:
     return f"<svg><metadata>{of_runs.lines(of_runs.read_runs(data))}{told}</metadata></svg>"
 
 
-def picture_of(given, path: Path, tolerance: int, *options) -> str:
+def picture_of(given, path: Path, *options) -> str:
     """The program's picture of a file; nothing where the program failed."""
     if given.model:
         return read_back(path.read_bytes())
-    words = ("--tolerance", decimal(tolerance)) if tolerance else ()
-    ran = measure.ran(given.edfruns, "picture", *words, *options, path)
+    ran = measure.ran(given.edfruns, "picture", *options, path)
     return "" if ran.status else ran.out.decode()
 
 
@@ -160,7 +153,7 @@ def is_named(given, path: Path, drawn: ScoredNight, picture: str) -> bool:
     """Whether a picture says whose it is and when, and one without the patient code as well."""
     if given.model:
         return True
-    bare = picture_of(given, path, drawn.tolerance, "--without-code")
+    bare = picture_of(given, path, "--without-code")
     return titles.are_named(drawn.file, picture, bare, instant(0), instant(drawn.night.runs[-1][1]))
 
 
@@ -177,8 +170,8 @@ def main() -> None:
     for nth in range(given.count):
         drawn = scored_night(given.seed, nth)
         path.write_bytes(drawn.file)
-        picture = picture_of(given, path, drawn.tolerance)
-        is_drawn = picture and is_good(picture, drawn.night, drawn.tolerance)
+        picture = picture_of(given, path)
+        is_drawn = picture and is_good(picture, drawn.night)
         if not is_drawn or not is_named(given, path, drawn, picture):
             print(f"{path}: night {nth} of seed {given.seed} is drawn otherwise")
             checks.end(nth + 1, 1)

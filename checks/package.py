@@ -194,8 +194,6 @@ def run_there(checks: Checks, where: str, run, folder: Path) -> None:
         checks.compare(f"edfstore export {place}", export, held.export(place), "", 0)
     made_of = runs.read_runs(files[0])
     checks.compare("edfruns list", run("edfruns", "list", paths[0]), runs.lines(made_of), "", 0)
-    checks.compare("edfruns write", run("edfruns", "write", paths[0], "1"),
-                   made_of[0].to_bytes(), made_of[0].told(), 0)
     checks.compare("edfruns split", run("edfruns", "split", paths[0], "part"),
                    runs.split_lines("part", made_of), "", 0)
     checks.same("the file of split", (folder / "part-1.edf").read_bytes(), made_of[0].to_bytes())

@@ -64,7 +64,7 @@ LONGEST = 150                                   # seconds to look for them, and 
 LITTLE = night.Night(records=2_000, fragments=1)        # 13 MB
 MODULE = re.compile(r'(<script type="text/plain" id="module">)([A-Za-z0-9+/=]*)(</script>)')
 # All that the page asks edfruns for; and texts for edfmend: OUT, and what each of these options has
-RUNS = ("list", "canonical --by-onset", "picture --without-code", "split", "split --by-onset")
+RUNS = ("list", "canonical --by-onset", "picture --without-code", "split")
 OPTIONS = ("--patient", "--set-patient", "--deidentify", "--startdate", "--starttime", "--as")
 VALUES = [texts.split("|") for texts in (
     "||||||", "out.edf||||||", "out.edf|S-9|||01.02.03|22.15.00|", "|S 1|||||",
@@ -208,7 +208,7 @@ def lists(bench: Bench, expected: dict) -> None:
 def words_of(call) -> list:
     """The same call as words of the program."""
     if isinstance(call, str):
-        return [*call.split(), "in.edf", *["run"] * call.startswith("split")]
+        return [*call.split(), "in.edf", *["run"] * (call == "split")]
     given = [[option, value] for option, value in zip(OPTIONS, call[1:]) if value]
     return ["in.edf", call[0] or "--dry-run", *sum(given, [])]
 

@@ -1,5 +1,5 @@
-"""Checks `edfruns list`, `write`, `canonical` and `split`: lines, files and statuses on small files
-and on a night with three gaps.
+"""Checks `edfruns list`, `canonical` and `split`: lines, files and statuses on small files and on a
+night with three gaps.
 
     python3 -m checks.split [--program PATH] [--edfruns PATH]
 
@@ -57,10 +57,9 @@ def noted(*records, **fields) -> bytes:
                                  for nth, (onset, *notes) in enumerate(records, 1)])
 
 
-def line(number: int, records: int, first: str, seconds: str, gap: str = "",
-         joined: str = "") -> str:
+def line(number: int, records: int, first: str, seconds: str, gap: str = "") -> str:
     """What `list` says of a run that starts on this day and time of March 2002."""
-    return printed.run(number, records, f"2002-03-{first}", seconds, gap, joined)
+    return printed.run(number, records, f"2002-03-{first}", seconds, gap)
 
 
 def split_line(name: str, of_run: str, annotations: int, outside: int) -> str:
@@ -136,21 +135,14 @@ REFUSED = (
 
 
 def files_of_each(programs: Programs, name: str, data: bytes, listed: str) -> None:
-    """`list`, `write` of each run and `split` of a file, and the runs taken back in two orders."""
+    """`list` and `split` of a file, and the runs taken back in two orders."""
     checks, made = programs.checks, runs.read_runs(data)
     checks.begin(name)
     checks.file("a.edf", data)
     checks.same("the model's lines", runs.lines(made), listed)
     checks.run("list", "a.edf", out=listed)
-    checks.run("list", "-", given=data, out=listed)
-    checks.run("list", "a.edf", "-", given=data, out="".join(
-        f"{file} {line}\n" for file in ("a.edf", "-") for line in listed.splitlines()))
-    for tolerance in sorted({0, *(run.gap for run in made)} | {run.gap - 1 for run in made[:-1]}):
-        checks.run("list", "--tolerance", model.shortest(tolerance).decode(), "a.edf",
-                   out=runs.joined_lines(made, tolerance))
-    for run in made:
-        checks.run("write", "a.edf", str(run.number), out=run.to_bytes(), err=run.told())
-    checks.run("write", "a.edf", str(len(made) + 1), err=printed.no_run(len(made) + 1), status=1)
+    checks.run("list", "a.edf", "a.edf",
+               out=2 * "".join(f"a.edf {line}\n" for line in listed.splitlines()))
     names = runs.split_names("part", made)
     checks.run("split", "a.edf", "part", out=runs.split_lines("part", made))
     for part, run in zip(names, made):
@@ -158,31 +150,29 @@ def files_of_each(programs: Programs, name: str, data: bytes, listed: str) -> No
     checks.same("the files", checks.names(), sorted(["a.edf", *names]))
     converted = programs.converted("a.edf")
     checks.run("canonical", "a.edf", out=converted)
-    checks.run("canonical", "-", given=data, out=converted)
     programs.takes("in order", names, converted)
     programs.takes("backwards, and again", names[::-1] + names, converted)
     for part, run in zip(names, made):      # a run's file has one run, itself
         (alone,) = runs.read_runs(run.to_bytes())
         checks.run("list", part, out=alone.line())
-        checks.run("write", part, "1", out=run.to_bytes(), err=alone.told())
     by_onset_of_each(programs, data, runs.read_by_onset(data))
 
 
 def by_onset_of_each(programs: Programs, data: bytes, made: list) -> None:
-    """`write --by-onset` of each run and `split --by-onset`; and the files, taken back, have the
-    annotations of the whole, each once."""
+    """`split` of what `canonical --by-onset` writes; and the files, taken back, have the annotations
+    of the whole, each once."""
     checks = programs.checks
-    for run in made:
-        checks.run("write", "--by-onset", "a.edf", str(run.number), out=run.to_bytes(),
-                   err=run.told())
-    checks.run("split", "a.edf", "onset", "--by-onset", out=runs.split_lines("onset", made))
+    whole, outside = runs.canonical_by_onset(data)
+    checks.run("canonical", "--by-onset", "a.edf", out=whole, err=printed.outside("a.edf", outside))
+    checks.file("sorted.edf", whole)
+    checks.run("split", "sorted.edf", "onset", out=runs.split_lines("onset", made))
     names = runs.split_names("onset", made)
     for part, run in zip(names, made):
         checks.same(part, checks.content(part), run.to_bytes())
     again = [note for name in names for record in model.read(checks.content(name))[1]
              for note in record.notes]
-    whole = [note for record in model.read(data)[1] for note in record.notes]
-    checks.same("the annotations of all files", sorted(again, key=repr), sorted(whole, key=repr))
+    of_all = [note for record in model.read(data)[1] for note in record.notes]
+    checks.same("the annotations of all files", sorted(again, key=repr), sorted(of_all, key=repr))
 
 
 def where_annotations_happened(programs: Programs) -> None:
@@ -198,7 +188,10 @@ def where_annotations_happened(programs: Programs) -> None:
                                ("+61", in_gap)))
     checks.run("split", "a.edf", "part", out=split_line("part-1.edf", of_runs[0], 3, 3) +
                split_line("part-2.edf", of_runs[1], 3, 3))
-    checks.run("split", "--by-onset", "a.edf", "onset",
+    checks.file("sorted.edf", runs.canonical_by_onset(checks.content("a.edf"))[0])
+    checks.run("canonical", "a.edf", "--by-onset", out=checks.content("sorted.edf"),
+               err=printed.outside("a.edf", 4))
+    checks.run("split", "sorted.edf", "onset",
                out=split_line("onset-1.edf", of_runs[0], 4, 3) +
                split_line("onset-2.edf", of_runs[1], 2, 1))
     checks.file("b.edf", noted(("+0", before, within), ("+1", at_end, in_gap), ("+60", at_start),
@@ -218,8 +211,7 @@ def too_many_in_a_data_record(programs: Programs) -> None:
     checks.begin("too many annotations in a data record by onset")
     checks.file("a.edf", edf.fragment(header, [(b"\0\0\0\0", edf.keeping(onset) + notes)
                                                for onset in ("+0", "+5")]))
-    checks.run("split", "a.edf", "part", "--by-onset", err=printed.crowded(2), status=1)
-    checks.run("write", "--by-onset", "a.edf", "1", err=printed.crowded(2), status=1)
+    checks.run("canonical", "a.edf", "--by-onset", err=printed.crowded(2), status=1)
     checks.same("the files", checks.names(), ["a.edf"])
     checks.run("split", "a.edf", "part", out=runs.split_lines("part", runs.read_runs(
         checks.content("a.edf"))))
@@ -239,11 +231,10 @@ def refused_files(programs: Programs) -> None:
         line = printed.fault("a.edf", fault)
         convert = programs.edfstore.ran("convert", "a.edf")
         checks.same("edfstore convert", (convert.err, convert.status), (line.encode(), 1))
-        for words in (("list", "a.edf"), ("write", "a.edf", "1"), ("write", "a.edf", "9"),
-                      ("canonical", "a.edf"), ("split", "a.edf", "part"), ("picture", "a.edf")):
+        for words in (("list", "a.edf"), ("canonical", "a.edf"),
+                      ("canonical", "--by-onset", "a.edf"), ("split", "a.edf", "part"),
+                      ("picture", "a.edf")):
             checks.run(*words, err=line, status=1)
-        for words in (("list", "-"), ("canonical", "-"), ("canonical", "--by-onset", "-")):
-            checks.run(*words, given=data, err=printed.fault("-", fault), status=1)
         checks.same("the files", checks.names(), ["a.edf"])
 
 
@@ -251,17 +242,17 @@ def words_that_ask_for_nothing(programs: Programs) -> None:
     checks = programs.checks
     checks.begin("words that ask for nothing")
     checks.file("a.edf", FILES["R9"])
-    for words in ((), ("write", "-", "1"), ("split", "-", "part"), ("list",), ("write", "a.edf"),
-                  ("canonical",), ("canonical", "a.edf", "more"), ("canonical", "-", "-"),
-                  ("split", "a.edf"), ("frob", "a.edf"), ("list", "--tolerance", "one", "a.edf"),
-                  ("write", "a.edf", "1", "more"), ("list", "-x"), ("list", "--by-onset", "a.edf"),
-                  ("split", "--by-onset=yes", "a.edf", "part"), ("split", "--by-onset", "a.edf"),
-                  *(("write", "a.edf", number)
-                    for number in ("0", "-1", "+1", "one", "1.0", "4294967296", ""))):
+    for words in ((), ("split", "-", "part"), ("list",), ("list", "-"), ("list", "a.edf", "-"),
+                  ("canonical",), ("canonical", "a.edf", "more"), ("canonical", "-"),
+                  ("canonical", "--by-onset", "-"), ("split", "a.edf"), ("frob", "a.edf"),
+                  ("list", "-x"), ("list", "--by-onset", "a.edf"),
+                  ("canonical", "--by-onset=yes", "a.edf"),
+                  # words that earlier versions had
+                  ("write", "a.edf", "1"), ("split", "--by-onset", "a.edf", "part"),
+                  ("split", "--tolerance", "1", "a.edf", "part"),
+                  ("split", "--shift", "1", "a.edf", "part"), ("list", "--tolerance", "1", "a.edf"),
+                  ("picture", "--tolerance", "1", "a.edf")):
         checks.run(*words, given=FILES["R9"], err=None, status=2)
-    first = runs.read_runs(FILES["R9"])[0]
-    checks.run("write", "a.edf", "001", out=first.to_bytes(), err=first.told())
-    checks.run("write", "a.edf", "4294967295", err=printed.no_run(4294967295), status=1)
     checks.same("the files", checks.names(), ["a.edf"])
 
 
@@ -269,8 +260,8 @@ def trouble(programs: Programs) -> None:
     """What is not there or can't be written."""
     checks = programs.checks
     checks.begin("trouble")
-    for words in (("list", "none.edf"), ("write", "none.edf", "1"), ("canonical", "none.edf"),
-                  ("split", "none.edf", "part"), ("list", ".")):
+    for words in (("list", "none.edf"), ("canonical", "none.edf"), ("split", "none.edf", "part"),
+                  ("list", ".")):
         checks.run(*words, err=printed.line(words[1], printed.UNREAD), status=3)
     checks.file("a.edf", FILES["R9"])
     listed = runs.lines(runs.read_runs(FILES["R9"])).splitlines()
@@ -279,39 +270,11 @@ def trouble(programs: Programs) -> None:
                err=printed.line("none.edf", printed.UNREAD), status=3)
     for names in ("a.edf", "a.edf none.edf"):       # the second is not read
         checks.shell(f"edfruns list {names} > /dev/full", err=printed.UNWRITTEN_OUTPUT, status=3)
-    for words in ("write a.edf 1", "canonical a.edf", "canonical - < a.edf", "split a.edf part"):
+    for words in ("canonical a.edf", "split a.edf part"):
         checks.shell(f"edfruns {words} > /dev/full", err=printed.UNWRITTEN_OUTPUT, status=3)
-    for words in ("canonical -", "canonical --by-onset -"):     # standard input is a folder
-        checks.shell(f"edfruns {words} < .", err=printed.line("-", printed.UNREAD), status=3)
     checks.shell("edfruns split a.edf none/part",
                  err=printed.line("none/part-1.edf", printed.UNWRITTEN), status=3)
     checks.same("the files", checks.names(), ["a.edf"])
-
-
-def pipes(programs: Programs) -> None:
-    """`canonical -` of a pipe that comes in pieces writes what the model has, and refuses one that
-    ends after any number of bytes, or goes on after the end, as the model does. Nothing goes out
-    then, nor while the end is awaited."""
-    checks = programs.checks
-    whole = small("+0", "+1", "+5", "+9.5")
-    key, records = model.read(whole)
-    for name, data in (("a pipe", whole), ("a pipe of an unknown count", unknown(whole))):
-        checks.begin(name)
-        checks.file("a.edf", data)
-        checks.shell("(head -c 300 a.edf; sleep 0.1; tail -c +301 a.edf) | edfruns canonical -",
-                     out=model.canonical(key, records))
-        checks.shell("(cat a.edf; sleep 0.5; test ! -s out && echo nothing > seen) "
-                     "| edfruns canonical - > out")
-        checks.same("what went out", (checks.content("out"), checks.content("seen")),
-                    (model.canonical(key, records), b"nothing\n"))
-        for cut in (*range(0, len(data), 37), *range(len(data) - 60, len(data) + 2)):
-            given = (data + b"x")[:cut]
-            fault = model.refusal(given)
-            for words in (("canonical", "-"), ("canonical", "--by-onset", "-")):
-                if fault:
-                    checks.run(*words, given=given, err=printed.fault("-", fault), status=1)
-                else:
-                    checks.run(*words, given=given, out=model.canonical(*model.read(given)))
 
 
 def files_that_are_there(programs: Programs) -> None:
@@ -364,13 +327,14 @@ def a_file_that_changes(programs: Programs) -> None:
         checks.file("b.edf", second)
         os.mkfifo(checks.folder / "f")
         feed = "(cat a.edf > f; sleep 0.5; cat b.edf > f) &"
-        given = ["write f 2 > out", "split f part"]
+        given = ["split f part"]
         if second != later:     # its first start, its number and its sizes are the same
             given.append("canonical f > out")
         for words in given:
             checks.shell(f"{feed} edfruns {words}; s=$?; kill %1 2> /dev/null; exit $s",
                          err=printed.changed("f"), status=3)
-        checks.same("the files", checks.names(), ["a.edf", "b.edf", "f", "out"])
+        checks.same("the files", checks.names(),
+                    ["a.edf", "b.edf", "f", *["out"] * (second != later)])
 
 
 def a_thousand_runs(programs: Programs) -> None:
@@ -383,9 +347,6 @@ def a_thousand_runs(programs: Programs) -> None:
     checks.same("how many", (len(made), made[-1].line()),
                 (1_000, line(1_000, 1, "02T22:49:57", "1")))
     checks.run("list", "a.edf", out=runs.lines(made))
-    for number in (1, 2, 500, 999, 1_000):
-        run = made[number - 1]
-        checks.run("write", "a.edf", str(number), out=run.to_bytes(), err=run.told())
     checks.run("split", "a.edf", "part", out=runs.split_lines("part", made))
     names = runs.split_names("part", made)
     checks.same("the first and the last", (names[0], names[-1]), ("part-0001.edf", "part-1000.edf"))
@@ -407,11 +368,7 @@ def a_run_that_no_header_can_date(programs: Programs) -> None:
     checks.begin("a run after 2084 in a file without a date")
     checks.file("a.edf", data)
     checks.run("list", "a.edf", out=OVER_2084)
-    first = runs.read_runs(data)[0]
-    checks.run("write", "a.edf", "1", out=first.to_bytes(), err=first.told())
-    for words in (("write", "a.edf", "2"), ("split", "a.edf", "part"),
-                  ("split", "a.edf", "part", "--by-onset")):
-        checks.run(*words, err=printed.undated(2), status=1)
+    checks.run("split", "a.edf", "part", err=printed.undated(2), status=1)
     checks.same("the files", checks.names(), ["a.edf"])
 
 
@@ -437,32 +394,14 @@ def a_night_with_three_gaps(programs: Programs) -> None:
               line(3, 7_070, "03T04:04:16.25", "7070", "7.75") +
               line(4, 3_474, "03T06:02:14", "3474"))
     checks.same("the model's lines", runs.lines(made), listed)
-    alone = " joined=0 missing=0"
-    first = line(1, 9_121, "02T22:30:00", "9121", "1200", alone)
-    second = line(2, 9_135, "03T01:22:01", "9135", "600.25", alone)
-    for tolerance, joined in (
-            ("7.749999999", first + second +
-             line(3, 7_070, "03T04:04:16.25", "7070", "7.75", alone) +
-             line(4, 3_474, "03T06:02:14", "3474", "", alone)),
-            ("7.75", first + second +
-             line(3, 10_544, "03T04:04:16.25", "10551.75", "", " joined=1 missing=7.75")),
-            ("700", first +
-             line(2, 19_679, "03T01:22:01", "20287", "", " joined=2 missing=608"))):
-        checks.run("list", "--tolerance", tolerance, "night.edf", out=joined)
     converted = programs.converted("night.edf")
     checks.file("export.edf", converted)
-    for name, given in (("night.edf", data), ("export.edf", converted)):
+    for name in ("night.edf", "export.edf"):
         checks.run("list", name, out=listed)
-        checks.run("list", "-", given=given, out=listed)
         checks.run("canonical", name, out=converted)
-        checks.run("canonical", "-", given=given, out=converted)
         checks.run("split", name, f"{name}-run", out=runs.split_lines(f"{name}-run", made))
         for run, part in zip(made, runs.split_names(f"{name}-run", made)):
-            checks.run("write", name, str(run.number), out=run.to_bytes(), err=run.told())
             checks.same(part, checks.content(part), run.to_bytes())
-    for run in runs.read_by_onset(data):
-        checks.run("write", "night.edf", str(run.number), "--by-onset", out=run.to_bytes(),
-                   err=run.told())
     one, two, three, four = runs.split_names("night.edf-run", made)
     for order in ([one, two, three, four], [four, three, two, one], [three, one, four, two],
                   [two, two, four, one, two, three, one], [one, "night.edf", three],
@@ -476,7 +415,7 @@ def main() -> None:
         checks = Checks(given.edfruns, Path(name), "edfruns")
         programs = Programs(checks, measure.Program(given.program, checks.folder))
         for case in (each_case, where_annotations_happened, too_many_in_a_data_record,
-                     refused_files, words_that_ask_for_nothing, trouble, pipes, files_that_are_there,
+                     refused_files, words_that_ask_for_nothing, trouble, files_that_are_there,
                      a_file_that_changes, a_run_that_no_header_can_date, digits_of_the_names,
                      a_thousand_runs, a_night_with_three_gaps):
             case(programs)

@@ -70,8 +70,8 @@ function offerViews(card, title, given, name) {
   const box = checkbox("Put each annotation into the file of the time when it happened", choice);
   const why = hint(wordsAt("inside"), choice);
   const fill = async () => {
-    const [call, end] = box.checked ? ["split --by-onset", "-by-onset.edf"] : ["split", ".edf"];
-    const done = await run(call, name(), given.file);
+    const end = box.checked ? "-by-onset.edf" : ".edf";
+    const done = await run("split", name(), given.file, box.checked);
     list.replaceChildren();
     if (done?.status === 0) {
       const firsts = linesOf(done.out).map((line) => valueIn(line, "first"));

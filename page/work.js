@@ -54,13 +54,13 @@ async function work(order, what) {
   }
 }
 
-// What edfruns or edfmend does with one file, as the worker has it; none where that is cancelled or
-// fails, with a word.
-async function run(call, name, blob) {
+// What edfruns or edfmend does with one file, by onset first where `sorts` is so, as the worker has
+// it; none where that is cancelled or fails, with a word.
+async function run(call, name, blob, sorts = false) {
   if (isBusy()) return null;
   const before = document.body.dataset.state;
   try {
-    return await work({ kind: "run", call, file: { name, blob } }, `Reading ${name}`);
+    return await work({ kind: "run", call, file: { name, blob }, sorts }, `Reading ${name}`);
   } catch ({ message, place }) {
     say(place === null ? message : `${message} Nothing is given.`);
     return null;

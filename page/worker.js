@@ -6,8 +6,7 @@
 
 const GIVEN = 0, NO_ROOM = 1, STOPPED = 2;      // the module's answers
 // What edfruns does with a file, by its number for the module; and what names the files of a split.
-const RUNS = ["list", "canonical --by-onset", "picture --without-code", "split",
-  "split --by-onset"];
+const RUNS = ["list", "canonical --by-onset", "picture --without-code", "split"];
 const PREFIX = "run";
 const SLACK = 4 << 20;
 const IN = "in.edf";    // the name of a program's one file, whatever that is called
@@ -127,7 +126,7 @@ async function ran(module, call, file, nth, told) {
   room.reserve(4 * size + SLACK);
   const bytes = room.take(size);
   await room.read(file, nth, bytes, told);
-  const texts = room.putTexts(isRun ? [call.startsWith("split") ? PREFIX : ""] : call);
+  const texts = room.putTexts(isRun ? [call === "split" ? PREFIX : ""] : call);
   const name = room.putTexts([IN]), given = [name.at, name.length, bytes, BigInt(size)];
   const [[status], out, err, ...rest] = room.pieces(size + SLACK, 64, (...answer) => isRun
     ? room.exports.runs(RUNS.indexOf(call), texts.at, texts.length, ...given, ...answer)
@@ -138,10 +137,13 @@ async function ran(module, call, file, nth, told) {
   return { status, out: blobOf(out), err: textOf(err), made };
 }
 
-// The same for the page.
-async function run({ module, call, file }) {
+// The same for the page; where `sorts` is so, of what edfruns makes of the file by onset.
+async function run({ module, call, file, sorts }) {
   const told = (at) => tell(`Reading ${file.name}`, at, file.blob.size);
-  const done = await ran(module, call, file, 0, told);
+  const sorted = sorts && await ran(module, "canonical --by-onset", file, 0, told);
+  if (sorted && sorted.status !== 0) return { ...sorted, out: "" };
+  const given = sorted ? { name: file.name, blob: sorted.out } : file;
+  const done = await ran(module, call, given, 0, told);
   return { ...done, out: textOf(await done.out.arrayBuffer()) };
 }
 

@@ -6,13 +6,13 @@ instructions that they take.
 Best of COUNT runs of each, 3 if left out; --short: a night of 12.8 MB.
 
 A night of 195 MB: its card, which is one run, and the same night with three gaps, which is four.
-`list` and `picture` read once, `write`, `canonical` and `split` twice. Each word is run from a
-file, right after a `cat` of that file: into another file for those three, which write as much, and
-to /dev/null for the others. `list`, `picture` and `canonical`, which holds it, read a pipe too,
-right after a `cat` between pipes. From file to file `cat` lets the kernel copy, and no byte passes through it; between pipes it
-reads and writes. What is written is compared with the plain model's, but for the picture. Then the
-same words on a night of 7,200 records of 1.7 kB, whose instructions callgrind counts. It needs time
-and valgrind; about 1.5 GB in TMPDIR.
+`list` and `picture` read once, `canonical` and `split` twice. Each word is run from a file, right
+after a `cat` of that file: into another file for those two, which write as much, and to /dev/null
+for the others. `picture` reads a pipe too, right after a `cat` between pipes. From file to file
+`cat` lets the kernel copy, and no byte passes through it; between pipes it reads and writes. What is
+written is compared with the plain model's, but for the picture. Then the same words on a night of
+7,200 records of 1.7 kB, whose instructions callgrind counts. It needs time and valgrind; about 1.5
+GB in TMPDIR.
 """
 import os
 import sys
@@ -22,8 +22,7 @@ from pathlib import Path
 from checks.lib import arguments, gapped, measure, model, night, runs
 
 # The goals
-LIST_MOST, WRITE_MOST, PEAK_MOST, HELD_MOST = 1.5, 3.0, 16_000_000, 220_000_000
-HELD = "canonical -"        # how the words begin that hold a file
+LIST_MOST, WRITE_MOST, PEAK_MOST = 1.5, 3.0, 16_000_000
 
 
 @dataclass
@@ -47,13 +46,12 @@ class Line:
 
 # The words that write as much as they read: their `cat` writes a file too, and that of the others
 # nothing.
-COPIES = ("write", "canonical", "split")
+COPIES = ("canonical", "split")
 
 
 def words_of(name: str, path: Path, folder: Path) -> dict:
     """Each word's command without the program, and the file for its standard output."""
     return {f"list, {name}": (["list", path], folder / f"{name}.txt"),
-            f"write 1, {name}": (["write", path, "1"], folder / f"{name}-one.edf"),
             f"canonical, {name}": (["canonical", path], folder / f"{name}-canonical.edf"),
             f"split, {name}": (["split", path, folder / f"{name}-run"],
                                folder / f"{name}-split.txt"),
@@ -77,13 +75,9 @@ def one_round(program, files: dict, folder: Path, best: dict) -> None:
             measure.settle()
             done = measure.timed(program, *words, out=out)
             best.setdefault(word, Line(word)).add(done, copied.seconds)
-        for word in ("list", "picture", "canonical"):
-            line = best.setdefault(f"{word} -, {name}", Line(f"{word} -, {name}"))
-            line.copied = min(line.copied, measure.piped("cat", source=path))
-            line.seconds = min(line.seconds, measure.piped(program, word, "-", source=path))
-        held = measure.timed(program, *HELD.split(), given=path, out=folder / f"{name}-held.edf")
-        line = best[f"{HELD}, {name}"]
-        line.peak, line.processor = max(line.peak, held.peak), min(line.processor, held.processor)
+        line = best.setdefault(f"picture -, {name}", Line(f"picture -, {name}"))
+        line.copied = min(line.copied, measure.piped("cat", source=path))
+        line.seconds = min(line.seconds, measure.piped(program, "picture", "-", source=path))
 
 
 def compared(files: dict, folder: Path) -> None:
@@ -94,14 +88,12 @@ def compared(files: dict, folder: Path) -> None:
         expected = [run.to_bytes() for run in made]
         canonical = model.canonical(*model.read(data))
         same = ((folder / f"{name}.txt").read_text() == runs.lines(made),
-                (folder / f"{name}-one.edf").read_bytes() == expected[0],
                 (folder / f"{name}-canonical.edf").read_bytes() == canonical,
-                (folder / f"{name}-held.edf").read_bytes() == canonical,
                 [(folder / part).read_bytes() for part in runs.split_names(f"{name}-run", made)] ==
                 expected)
         if not all(same):
-            sys.exit(f"{name}: lines, the first run, the canonical file, that from a pipe and the "
-                     f"files of the split are as the model's: {same}")
+            sys.exit(f"{name}: lines, the canonical file and the files of the split are as the "
+                     f"model's: {same}")
 
 
 def counted(program, folder: Path) -> None:
@@ -132,13 +124,11 @@ def nights(folder: Path, kind: night.Night, prefix: str = "") -> dict:
 
 def verdict(best: dict) -> None:
     ratios = {word: line.seconds / line.copied for word, line in best.items()}
-    for kind, most in (("list", LIST_MOST), ("write", WRITE_MOST), ("canonical", WRITE_MOST)):
+    for kind, most in (("list", LIST_MOST), ("canonical", WRITE_MOST), ("split", WRITE_MOST)):
         worst = max(ratio for word, ratio in ratios.items() if word.startswith(kind))
         print(f"`{kind}` takes at most {worst:.2f} times `cat` (goal: at most {most})")
-    for what, is_held, most in (("", False, PEAK_MOST), (f" of `{HELD}`", True, HELD_MOST)):
-        peak = max(line.peak for word, line in best.items() if word.startswith(HELD) == is_held)
-        print(f"peak memory{what} at most {measure.mb(peak)} (goal: at most {measure.mb(most)})")
-    print()
+    peak = max(line.peak for line in best.values())
+    print(f"peak memory at most {measure.mb(peak)} (goal: at most {measure.mb(PEAK_MOST)})\n")
 
 
 def main() -> None:

@@ -3,8 +3,8 @@ from bench.runs import run as runs_run
 from bench.table.given import HEAD, RUNS, Bench, Best, row
 from checks.lib import measure, night
 
-RUNS_MOST, HELD_MOST = 16_000_000, 220_000_000
-LEAST = {"list": 1.5, "write": 3.0, "canonical": 3.0, "split": 3.0}
+RUNS_MOST = 16_000_000
+LEAST = {"list": 1.5, "canonical": 3.0, "split": 3.0}
 
 
 def between_pipes(runs: int, *words, source) -> Best:
@@ -23,12 +23,8 @@ def convert(bench: Bench) -> None:
     ours = between_pipes(RUNS, bench.program, "convert", "-", source=card)
     plain = between_pipes(RUNS, bench.plain, "convert", source=card)
     cat = between_pipes(RUNS, "cat", source=card).seconds
-    held = between_pipes(RUNS, bench.edfruns, "canonical", "-", source=card)
-    wanted = (bench.goals.at_most("`convert` by pipes", ours.seconds / cat, 6, " cat"),
-              bench.goals.at_most("`edfruns canonical -` by pipes", held.seconds / cat, 3, " cat"))
-    bench.goals.at_most("`edfruns canonical -`, peak", held.peak / 1e6, HELD_MOST / 1e6, " MB")
-    measure.table(HEAD, [row("`convert` of the card, by pipes", ours, plain, cat, wanted[0]),
-                         row("`edfruns canonical -`, by pipes", held, None, cat, wanted[1])])
+    wanted = bench.goals.at_most("`convert` by pipes", ours.seconds / cat, 6, " cat")
+    measure.table(HEAD, [row("`convert` of the card, by pipes", ours, plain, cat, wanted)])
 
 
 def runs(bench: Bench) -> None:
@@ -39,7 +35,7 @@ def runs(bench: Bench) -> None:
     rows = []
     for word, line in best.items():
         kind, most = word.split()[0].rstrip(","), ""
-        if kind in LEAST and " - " not in f"{word} ".replace("-,", "- "):
+        if kind in LEAST:
             most = bench.goals.at_most(f"`edfruns` {word}", line.seconds / line.copied,
                                        LEAST[kind], " cat")
             bench.goals.at_most(f"`edfruns` {word}, peak", line.peak / 1e6, RUNS_MOST / 1e6, " MB")

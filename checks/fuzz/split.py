@@ -1,14 +1,13 @@
-"""Gives random files to `edfruns list`, `write`, `canonical` and `split` and checks each line, file
-and status against a plain model.
+"""Gives random files to `edfruns list`, `canonical` and `split` and checks each line, file and
+status against a plain model.
 
     python3 -m checks.fuzz.split [--edfruns PATH] [--seed SEED] [COUNT]    1,000 files if left out
 
 The files are those of fuzz/run.py (cases.py), about half of them broken. Of each, `list` and
-`canonical` from standard input are what the model has, `list` with a tolerance too; of a file with
-runs, `write` writes the first, the last and one between as the model has them, and every eighth is
-split too, and again with `--by-onset`. Then the model's store takes the runs' files in any order, some twice, and must accept
-each and export the canonical file of the whole. The first that fails is left in the folder that is
-named.
+`canonical` are what the model has; of those with runs, every eighth is split, and what
+`canonical --by-onset` writes of it is split too. Then the model's store takes the runs' files in any
+order, some twice, and must accept each and export the canonical file of the whole. The first that
+fails is left in the folder that is named.
 """
 import collections
 import random
@@ -26,30 +25,25 @@ def is_undated(run: runs.Run) -> bool:
     return run.key.dated == b"X" and run.first() // model.DAY in model.LETTERS
 
 
-def written(program: measure.Program, made: list, chance: random.Random) -> None:
-    for run in {run.number: run for run in (made[0], made[-1], chance.choice(made))}.values():
-        undated = (b"", printed.undated(run.number).encode(), 1)
-        compare(f"run {run.number}", program.ran("write", "a.edf", run.number).outcome(),
-                undated if is_undated(run) else (run.to_bytes(), run.told().encode(), 0))
-
-
-def listed_joined(program: measure.Program, data: bytes, made: list, chance: random.Random) -> None:
-    """The list with a tolerance of one of its gaps, or a nanosecond less."""
-    tolerance = max(chance.choice(made).gap - chance.randint(0, 1), 0)
-    words = "list", "--tolerance", model.shortest(tolerance).decode(), "-"
-    compare("list with a tolerance", program.ran(*words, given=data).outcome(),
-            (runs.joined_lines(made, tolerance).encode(), b"", 0))
-
-
-def was_split(program: measure.Program, made: list, *words: str) -> None:
+def was_split(program: measure.Program, name: str, made: list) -> None:
     names = runs.split_names("part", made)
-    compare("split", program.ran("split", "a.edf", "part", *words).outcome(),
+    compare("split", program.ran("split", name, "part").outcome(),
             (runs.split_lines("part", made).encode(), b"", 0))
     compare("the files of split",
             {path.name: path.read_bytes() for path in program.folder.glob("part-*")},
             {name: run.to_bytes() for name, run in zip(names, made)})
     for name in names:
         (program.folder / name).unlink()
+
+
+def by_onset(program: measure.Program, data: bytes) -> None:
+    """What `canonical --by-onset` writes, split."""
+    whole, outside = runs.canonical_by_onset(data)
+    compare("canonical --by-onset", program.ran("canonical", "--by-onset", "a.edf").outcome(),
+            (whole, printed.outside("a.edf", outside).encode(), 0))
+    (program.folder / "sorted.edf").write_bytes(whole)
+    was_split(program, "sorted.edf", runs.read_by_onset(data))
+    (program.folder / "sorted.edf").unlink()
 
 
 def taken_back(data: bytes, made: list, chance: random.Random) -> None:
@@ -70,24 +64,21 @@ def checked(program: measure.Program, data: bytes, chance: random.Random) -> str
     try:
         made = runs.read_runs(data)
     except model.Refused as fault:
-        answer = printed.refused(str(fault))
-        for word in ("list", "canonical"):
-            compare(word, program.ran(word, "-", given=data).outcome(),
-                    (b"", printed.line("-", answer).encode(), 1))
-        compare("write", program.ran("write", "a.edf", "1").outcome(),
-                (b"", printed.line("a.edf", answer).encode(), 1))
+        line = printed.line("a.edf", printed.refused(str(fault))).encode()
+        for words in (("list", "a.edf"), ("canonical", "a.edf"), ("split", "a.edf", "part")):
+            compare(words[0], program.ran(*words).outcome(), (b"", line, 1))
         return "refused"
-    compare("list", program.ran("list", "-", given=data).outcome(),
-            (runs.lines(made).encode(), b"", 0))
-    listed_joined(program, data, made, chance)
-    compare("canonical", program.ran("canonical", "-", given=data).outcome(),
+    compare("list", program.ran("list", "a.edf").outcome(), (runs.lines(made).encode(), b"", 0))
+    compare("canonical", program.ran("canonical", "a.edf").outcome(),
             (model.canonical(*model.read(data)), b"", 0))
-    written(program, made, chance)
-    if not any(map(is_undated, made)):
-        taken_back(data, made, chance)
-        if chance.random() < 0.125:
-            was_split(program, made)
-            was_split(program, runs.read_by_onset(data), "--by-onset")
+    if undated := [run.number for run in made if is_undated(run)]:
+        compare("split", program.ran("split", "a.edf", "part").outcome(),
+                (b"", printed.undated(undated[0]).encode(), 1))
+        return "of a run that no header can date"
+    taken_back(data, made, chance)
+    if chance.random() < 0.125:
+        was_split(program, "a.edf", made)
+        by_onset(program, data)
     return f"of {len(made)} run{'s' * (len(made) > 1)}"
 
 

@@ -1,14 +1,13 @@
 """Plain models of what a picture shows of annotations that are no stages of sleep: lanes with
-counts, rates and bars, lines of lights; and what a tolerance joins."""
+counts, rates and bars, and lines of lights."""
 import html
 import re
 from collections import Counter
 
-from .gapped import SECOND, decimal
+from .gapped import SECOND
 from .sleep import Night, is_event, is_recorded
 
 LEFT, RIGHT = 11_200, 97_600        # the scale's ends, in hundredths of a pixel
-MINUTE = 60 * SECOND
 LIGHTS = ("Lights off", "Lights on")
 
 
@@ -20,30 +19,6 @@ def within(events: list, end: int) -> list:
 
 def place(at: int, end: int) -> int:
     return LEFT + min(at * (RIGHT - LEFT) // end, RIGHT - LEFT)
-
-
-def joined(runs: list, tolerance: int) -> tuple:
-    """The runs, those as one between which no more is missing; and how that is told."""
-    view, gaps = [runs[0]], []
-    for start, end in runs[1:]:
-        gap = start - view[-1][1]
-        if gap > tolerance:
-            view.append((start, end))
-        else:
-            gaps.append(gap)
-            view.append((view.pop()[0], end))
-    most = f"of at most {decimal(tolerance)} s"
-    if not gaps:
-        return view, f"No gap {most} to join"
-    sums = f"{span(sum(gaps))} in {len(gaps):,} gap{'s' if len(gaps) > 1 else ''}"
-    return view, f"Joined for this view, gaps {most}: {sums}, longest {span(max(gaps))}"
-
-
-def span(nanoseconds: int) -> str:
-    """A time of less than an hour, as a picture tells it."""
-    if nanoseconds < MINUTE:
-        return f"{decimal(nanoseconds)} s"
-    return f"{nanoseconds // MINUTE} min {nanoseconds // SECOND % 60:02} s"
 
 
 def bars(events: list, end: int) -> list:
@@ -74,10 +49,9 @@ def rate_of(night: Night, text: str) -> str:
     return f"{count}, {tenths // 10:,}.{tenths % 10} per {hour}"
 
 
-def lanes(night: Night, view: list) -> list:
-    """The label, the count and the bars of each lane: first those whose onset is in no run that is
-    drawn."""
-    happened, end = [note for note in night.notes if is_event(note.text)], view[-1][1]
+def lanes(night: Night) -> list:
+    """The label, the count and the bars of each lane: first those whose onset is in no run."""
+    happened, end = [note for note in night.notes if is_event(note.text)], night.runs[-1][1]
     counts = Counter(note.text for note in happened)
     order = sorted(counts, key=lambda text: (-counts[text], text.encode()))
     rest = set(order[8:])
@@ -89,8 +63,8 @@ def lanes(night: Night, view: list) -> list:
     found = []
     for label, rate, texts in groups:
         chosen = [note for note in happened if note.text in texts]
-        seen = [note for note in chosen if is_recorded(view, note.onset)]
-        others = [note for note in chosen if not is_recorded(view, note.onset)]
+        seen = [note for note in chosen if is_recorded(night.runs, note.onset)]
+        others = [note for note in chosen if not is_recorded(night.runs, note.onset)]
         found.append((label, rate, bars(others, end), bars(seen, end)))
     return found
 

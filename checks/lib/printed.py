@@ -106,15 +106,14 @@ def counts_listed(text: str) -> list:
     return [(int(one[1]), int(one[2])) for one in found] if all(found) else []
 
 
-def run(number: int, records: int, first: str, seconds: str, gap: str = "",
-        joined: str = "") -> str:
-    """A line of `edfruns list`; the last run has no gap, and a line without a tolerance no end."""
+def run(number: int, records: int, first: str, seconds: str, gap: str = "") -> str:
+    """A line of `edfruns list`; the last run has no gap."""
     rest = f" gap={gap}" if gap else ""
-    return f"{number} records={records} first={first} seconds={seconds}{rest}{joined}\n"
+    return f"{number} records={records} first={first} seconds={seconds}{rest}\n"
 
 
 def counted(of_run: str, annotations: int, outside: int) -> str:
-    """The same of a file of `edfruns split` or `write`, with its annotations."""
+    """The same of a file of `edfruns split`, with its annotations."""
     return f"{of_run.rstrip()} annotations={annotations} outside={outside}\n"
 
 
@@ -129,10 +128,6 @@ def version(program: str, number: str) -> str:
 
 def no_recording(place) -> str:
     return f"no recording at place {place}\n"
-
-
-def no_run(number) -> str:
-    return f"no run {number}\n"
 
 
 def is_there(name: str) -> str:
@@ -150,10 +145,10 @@ def outside(name: str, count: int) -> str:
     return f"{name} outside={count}\n" if count else ""
 
 
-def crowded(number: int, part: str = "run") -> str:
-    """What `edfruns` prints of a run, or a file of data records that are joined, that by onset
-    would have a data record with too many annotations."""
-    return f"{part} {number} would have too many annotations in a data record\n"
+def crowded(number: int) -> str:
+    """What `edfruns canonical --by-onset` prints of a run that would have a data record with too
+    many annotations."""
+    return f"run {number} would have too many annotations in a data record\n"
 
 
 def undated(number: int) -> str:
@@ -210,8 +205,8 @@ OVERLAPS = ("it overlaps what is stored, which stays, as where a clock was set b
 STORED_OTHERWISE = ("other samples or annotations are stored for this start, and stay: keep the "
                     "file; where a clock was set back, or EDFlib wrote a card beside its pieces, a "
                     "store of its own takes it")
-LEFT_OUT = ("readers may leave out annotations that lie outside of the run; with --by-onset only "
-            "those do whose onsets lie in no run")
+LEFT_OUT = ("readers may leave out annotations that lie outside of the run; split what "
+            "'canonical --by-onset' writes, and only those do whose onsets lie in no run")
 NOT_WHOLE = "remove the cause and run it again: what standard output got is not whole"
 NOTHING_LEFT = "remove the cause and run it again: no part of it is left, unless a line says so"
 

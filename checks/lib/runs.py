@@ -8,7 +8,6 @@ before ends, to the nanosecond.
     runs.canonical_by_onset(data)       what `canonical --by-onset` writes, and how many annotations
                                         lie outside of all data records
     made[0].line()                      its line, as text
-    runs.joined_lines(made, tolerance)  the lines of `list --tolerance`, of so many nanoseconds
     made[0].told()                      the same, with how many annotations it has
     made[0].to_bytes()                  its file
     runs.split_lines("night", made)     what `split` prints
@@ -118,33 +117,6 @@ def runs_of(key: model.Key, records: list) -> list:
 
 def lines(runs: list) -> str:
     return "".join(run.line() for run in runs)
-
-
-def groups_of(runs: list, tolerance: int) -> list:
-    """The runs that have a line together: each gap between them is no longer than that."""
-    groups = [[runs[0]]]
-    for before, run in zip(runs, runs[1:]):
-        if before.gap <= tolerance:
-            groups[-1].append(run)
-        else:
-            groups.append([run])
-    return groups
-
-
-def joined_line(number: int, group: list) -> str:
-    """The line of these runs, whose gaps are told together."""
-    gaps = [run.gap for run in group[:-1]]
-    records = sum(len(run.records) for run in group)
-    nanoseconds = sum(run.length() for run in group) + sum(gaps), group[-1].gap, sum(gaps)
-    seconds, gap, missing = (model.shortest(nanos).decode() for nanos in nanoseconds)
-    return printed.run(number, records, model.instant_text(group[0].first()), seconds,
-                       gap if group[-1].gap else "", f" joined={len(gaps)} missing={missing}")
-
-
-def joined_lines(runs: list, tolerance: int) -> str:
-    """What `list` with a tolerance prints."""
-    return "".join(joined_line(number, group)
-                   for number, group in enumerate(groups_of(runs, tolerance), 1))
 
 
 def split_names(prefix: str, runs: list) -> list:

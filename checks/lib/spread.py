@@ -25,16 +25,13 @@ def happened(key: model.Key, records: list, piece: list) -> list:
 
 
 def made_by_onset(programs: Programs, name: str, data: bytes) -> tuple:
-    """Has the file made anew by onset, under the same name; what is written is as by the model, and
-    the same from a pipe. Answers these bytes, and how many annotations were told as outside."""
+    """Has the file made anew by onset, under the same name; what is written is as by the model.
+    Answers these bytes, and how many annotations were told as outside."""
     path = programs.folder() / name
     path.write_bytes(data)
     expected, outside = runs.canonical_by_onset(data)
     compare(f"{name} by onset", programs.edfruns.ran("canonical", "--by-onset", name).outcome(),
             (expected, printed.outside(name, outside).encode(), 0))
-    compare(f"{name} by onset from a pipe",
-            programs.edfruns.ran("canonical", "--by-onset", "-", given=data).outcome(),
-            (expected, printed.outside("-", outside).encode(), 0))
     path.write_bytes(expected)
     return expected, outside
 

@@ -293,15 +293,20 @@ def saves_all(it: Technician) -> None:
     it.starts_over()
 
 
-def saves_runs(it: Technician, name: str, *words) -> None:
+def saves_runs(it: Technician, name: str, sorts: bool = False) -> None:
     """Each file is named by its own start."""
     folder = it.folder / "runs"
     folder.mkdir(exist_ok=True)
     for path in folder.iterdir():
         path.unlink()
-    told = it.native.run(it.native.edfruns, it.folder, "split", *words, "export.edf", "runs/run")
+    given = "export.edf"
+    if sorts:
+        given = "sorted.edf"
+        (it.folder / given).write_bytes(it.native.run(
+            it.native.edfruns, it.folder, "canonical", "--by-onset", "export.edf"))
+    told = it.native.run(it.native.edfruns, it.folder, "split", given, "runs/run")
     firsts = re.findall(r" first=(\S+)", told.decode())
-    end = "-by-onset" if words else ""
+    end = "-by-onset" if sorts else ""
     for nth, (first, path) in enumerate(zip(firsts, sorted(folder.iterdir())), 1):
         data, start = path.read_bytes(), first.replace(":", "_")
         it.saves(f"Save file {nth} ({-(-len(data) // 1000)} kB)",
@@ -323,7 +328,7 @@ def by_onset(it: Technician) -> None:
              ".checked")
     it.says("Without it 1 annotation would be outside of the time of the file, where viewers show "
             "none: so it is on at first.")
-    saves_runs(it, "N1", "--by-onset")
+    saves_runs(it, "N1", sorts=True)
     it.press(IN_ITS_FILE, "checkbox", " ")
     saves_runs(it, "N1")
     it.same("it is sorted", it.press("Take all again, annotations by onset first"), "done")

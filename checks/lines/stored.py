@@ -126,7 +126,7 @@ def files_of(held: bytes, script: stories.Script) -> dict:
                            "orders": orders}
     return {f"{STORED}/data/{name}": content for name, content in data.items()} | {
         "edfstore/stdin": Q, "edfstore/stdout": Q, f"{STORED}/stdin": long_spelling(),
-        f"{STORED}/stdout": TAKEN + written, "edfruns/stdin": data["loose.edf"],
+        f"{STORED}/stdout": TAKEN + written, "edfruns/data/loose.edf": data["loose.edf"],
         "edfruns/stdout": data["canonical_loose.edf"]}
 
 

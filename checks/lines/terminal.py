@@ -208,7 +208,7 @@ def files_of_runs(checks: Checks) -> None:
                 + cause("part-2.edf.part", printed.THERE) + unwritten)
     checks.same("the files", checks.names(), ["a.edf", "part-2.edf.part"])
     checks.same("the part", checks.content("part-2.edf.part"), b"mine")
-    on_terminal(checks, "write a.edf 1", status=3, into=Path("/dev/full"), err=first + WIPED
+    on_terminal(checks, "canonical a.edf", status=3, into=Path("/dev/full"), err=first + WIPED
                 + second + WIPED + cause("/dev/full", printed.FULL) + printed.UNWRITTEN_OUTPUT
                 + cause("standard output", printed.NOT_WHOLE))
 
@@ -229,13 +229,8 @@ def outside_of_runs(checks: Checks) -> None:
                 [(1, 1), (0, 0), (0, 0), (1, 0)])
     on_terminal(checks, "split a.edf part", runs.split_lines("part", made),
                 above + cause("part-1.edf", printed.LEFT_OUT))
-    on_terminal(checks, "split --by-onset a.edf to-view", runs.split_lines("to-view", by_onset),
-                above)
-    on_terminal(checks, "write a.edf 1", made[0].to_bytes(),
-                above + made[0].told() + cause("standard output", printed.LEFT_OUT))
-    on_terminal(checks, "write a.edf 2", made[1].to_bytes(), above + made[1].told())
-    on_terminal(checks, "write a.edf 2 --by-onset", by_onset[1].to_bytes(),
-                above + by_onset[1].told())
+    checks.file("sorted.edf", runs.canonical_by_onset(STRAY)[0])
+    on_terminal(checks, "split sorted.edf to-view", runs.split_lines("to-view", by_onset), above)
 
 
 def read_again(checks: Checks) -> None:
@@ -247,7 +242,7 @@ def read_again(checks: Checks) -> None:
         first, second = step(1, 2, unit="reading"), step(2, 2, 0, size, "reading")
         above = first + WIPED + cause("f", words) + second + WIPED + printed.changed("f")
         below = first + WIPED + second + WIPED + printed.changed("f")
-        for command in ("split f part", "write f 1"):
+        for command in ("split f part", "canonical f"):
             checks.begin(f"{case}: {command}")
             checks.file("a.edf", R9)
             checks.file("b.edf", Q)

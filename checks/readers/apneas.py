@@ -4,11 +4,11 @@
 
 EDFlib writes a night of three hours with 60 apneas, and puts the n-th into the n-th data record,
 whatever its onset. Of the night the data records of twenty minutes are taken out, as a radio loses
-them; 30 apneas happened before and 30 after. It is split by `edfruns split`, and by `edfruns split
---by-onset`; with --model the files come from the plain model in checks/lib/runs.py. The script ends
-with status 1 where a reader does not read each of the 60, once, in the file of the run in which it
-happened, with its instant and its duration, of the files by onset; or where these have another
-sample than those of `split`.
+them; 30 apneas happened before and 30 after. It is split by `edfruns split`, and so is what `edfruns
+canonical --by-onset` writes of it; with --model the files come from the plain model in
+checks/lib/runs.py. The script ends with status 1 where a reader does not read each of the 60, once,
+in the file of the run in which it happened, with its instant and its duration, of the files by
+onset; or where these have another sample than the others.
 
 It needs Debian's python3-mne, biosig-tools, libedf-dev and cc, and so Debian's own python3.
 """
@@ -50,9 +50,11 @@ def split(given, data: bytes, folder: Path, by_onset: bool) -> list:
         for run, path in zip(listed, paths):
             path.write_bytes(run.to_bytes())
     else:
-        (folder / "night.edf").write_bytes(data)
-        measure.done(given.edfruns or arguments.chosen("edfruns"), "split", folder / "night.edf",
-                     folder / prefix, *(["--by-onset"] if by_onset else []))
+        program, whole = given.edfruns or arguments.chosen("edfruns"), folder / "night.edf"
+        whole.write_bytes(data)
+        if by_onset:
+            whole.write_bytes(measure.ran(program, "canonical", "--by-onset", whole).out)
+        measure.done(program, "split", whole, folder / prefix)
     return list(zip(listed, paths))
 
 
@@ -102,7 +104,7 @@ def main() -> None:
                    ("BioSig", lambda path: reading.by_biosig(path, folder, SAMPLES)))
         as_it_is, by_onset = (split(given, data, folder, each) for each in (False, True))
         lines = (read_all("split", as_it_is, readers)
-                 + read_all("split --by-onset", by_onset, readers))
+                 + read_all("by onset, then split", by_onset, readers))
         samples = [[[record.samples for record in model.read(path.read_bytes())[1]]
                     for _, path in pairs] for pairs in (as_it_is, by_onset)]
         print(runs.split_lines("as-it-is", [run for run, _ in as_it_is])

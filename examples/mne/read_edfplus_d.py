@@ -25,8 +25,12 @@ NOTE = re.compile(rb"([+-][\d.]+)(?:\x15([\d.]+))?\x14([^\0\x14]+)\x14\0")
 
 def runs_of(path, folder) -> list:
     """Each run of a night: its file, the instant of its first sample and its seconds, exactly."""
-    words = [os.environ.get("EDFRUNS", "edfruns"), "split", "--by-onset", os.path.abspath(path)]
-    told = subprocess.run([*words, "run"], cwd=folder, stdout=subprocess.PIPE, check=True).stdout
+    edfruns, whole = os.environ.get("EDFRUNS", "edfruns"), os.path.join(folder, "by-onset.edf")
+    with open(whole, "wb") as out:
+        subprocess.run([edfruns, "canonical", "--by-onset", os.path.abspath(path)], stdout=out,
+                       check=True)
+    told = subprocess.run([edfruns, "split", whole, "run"], cwd=folder, stdout=subprocess.PIPE,
+                          check=True).stdout
     return [(os.path.join(folder, name),
              int(datetime.fromisoformat(f"{second}+00:00").timestamp()) + Fraction(rest or 0),
              Fraction(seconds)) for name, second, rest, seconds in LINE.findall(told.decode())]

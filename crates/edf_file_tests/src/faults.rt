@@ -7,10 +7,8 @@ use crate::stage::{outcome_of, story};
 use edf_program::Status;
 use std::alloc::Global;
 
-/// Two of the commands that read twice.
+/// One of the commands that read twice.
 const BY_ONSET: &str = "edfruns canonical two.edf --by-onset";
-
-const JOINED: &str = "edfruns split two.edf night --tolerance 8 --shift 8";
 
 /// Commands, the file of each and its length, and whether its second reading fails.
 const READINGS: &[(&str, &str, usize, bool)] = &[
@@ -22,10 +20,6 @@ const READINGS: &[(&str, &str, usize, bool)] = &[
     ("edfruns canonical two.edf", "two.edf", 1_008, true),
     (BY_ONSET, "two.edf", 1_008, false),
     (BY_ONSET, "two.edf", 1_008, true),
-    ("edfruns canonical -", "-", 1_008, false),
-    ("edfruns canonical - --by-onset", "-", 1_008, false),
-    (JOINED, "two.edf", 1_008, false),
-    (JOINED, "two.edf", 1_008, true),
     ("edfmend falling.edf out.edf", "falling.edf", 778, false),
     ("edfmend falling.edf out.edf", "falling.edf", 778, true),
 ];
@@ -89,17 +83,12 @@ const CHANGES: &[(&str, &str, &[&str])] = &[
         ],
     ),
     (
-        "edfruns split strays.edf night --by-onset",
+        "edfruns canonical strays.edf --by-onset",
         "strays.edf",
         &["two.edf"],
     ),
     (
         BY_ONSET,
-        "two.edf",
-        &["one.edf", "cut.edf", "loose.edf", "grown.edf"],
-    ),
-    (
-        JOINED,
         "two.edf",
         &["one.edf", "cut.edf", "loose.edf", "grown.edf"],
     ),
@@ -207,10 +196,7 @@ const LISTS: &[(usize, &str)] = &[
 /// does not take them: a mended file stays where its ledger can't be told.
 const WRITERS: &[(&str, usize)] = &[
     ("edfruns list two.edf", 0),
-    ("edfruns write two.edf 2", 0),
     ("edfruns canonical two.edf", 0),
-    ("edfruns canonical -", 0),
-    ("edfruns canonical - --by-onset", 0),
     ("edfruns split two.edf night", 0),
     ("edfruns picture two.edf", 0),
     ("edfmend falling.edf out.edf", 1),

@@ -20,7 +20,7 @@
 //! - `nights`: the figures of nights of sleep.
 //! - `picture`: what pictures say.
 //! - `hypnogram`: where pictures have which stage of sleep.
-//! - `overview`: the lanes of annotations, lights, minutes, tolerance and signals of pictures.
+//! - `overview`: the lanes of annotations, lights, minutes, gaps and signals of pictures.
 #![tactic(auto)]
 
 #[cfg(test)]

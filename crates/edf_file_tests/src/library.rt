@@ -5,9 +5,7 @@ use crate::files::{
 };
 use edf_fragment::{Counted, Input, OpenFragment};
 use edf_mend::{Ledger, MendFault, Rule, Step, Survey, Wanted, Who, mend, survey_file};
-use edf_runs::{
-    OnsetListing, Run, Written, add_record, list_runs, reopen_by_onset, skip_run, write_by_onset,
-};
+use edf_runs::{Run, Written, add_record, list_runs, reopen_listed, write_run};
 use edf_sample::{Sink, Source};
 use std::alloc::Global;
 
@@ -39,50 +37,28 @@ fn gathered(alloc: Global) -> Option<Vec<(u32, u32)>> {
     Some(sizes)
 }
 
-/// A second reading, past the runs before one.
-fn past<R: Input>(
-    alloc: Global,
-    input: &mut R,
-    plan: &OnsetListing,
-    number: u32,
-) -> Option<OpenFragment> {
-    let mut fragment = reopen_by_onset(alloc, input, plan).ok()?;
-    for before in 1..number {
-        skip_run(&mut fragment, input, plan.run(before)?.run()).ok()?;
-    }
-    Some(fragment)
-}
-
-/// What is told of the file of a run that is written, where it is this one.
-fn written(alloc: Global, bytes: &[u8], number: u32, file: &[u8]) -> Option<Written> {
+/// What is told of the file of a run that is written after those before it, where it is this one.
+fn written(alloc: Global, bytes: &[u8], number: usize, file: &[u8]) -> Option<Written> {
     let mut first_reading = Counted::new(Source::whole(bytes, 100));
     let listing = list_runs(alloc, &mut first_reading).ok()?;
-    let plan = OnsetListing::as_read(alloc, listing).ok()?;
-    let mut got = Vec::new(alloc);
     let mut input = Counted::new(Source::whole(bytes, 7));
-    let mut fragment = past(alloc, &mut input, &plan, number)?;
-    let mut out = Counted::new(Sink::whole(&mut got, 100));
-    let told = write_by_onset(
-        alloc,
-        &mut fragment,
-        &mut input,
-        plan.run(number)?,
-        &mut out,
-    )
-    .ok()?;
-    drop(out);
-    if got.as_slice() == file {
-        Some(told)
-    } else {
-        None
+    let mut fragment = reopen_listed(alloc, &mut input, &listing).ok()?;
+    let mut last = None;
+    for run in listing.runs.iter().take(number) {
+        let mut got = Vec::new(alloc);
+        let mut out = Counted::new(Sink::whole(&mut got, 100));
+        let told = write_run(alloc, &mut fragment, &mut input, run, &mut out).ok()?;
+        drop(out);
+        last = Some(told).filter(|_| got.as_slice() == file);
     }
+    last
 }
 
 /// The same of files of the tests.
 fn told(
     alloc: Global,
     bytes: Option<Vec<u8>>,
-    number: u32,
+    number: usize,
     file: Option<Vec<u8>>,
 ) -> Option<(u64, u64, u64)> {
     let told = written(alloc, &bytes?, number, &file?)?;
@@ -97,7 +73,7 @@ fn runs_are_gathered_and_written(rt: HostRuntime) {
     for (bytes, number, file, expected) in [
         (
             two_gaps(alloc),
-            2u32,
+            2usize,
             second_run(alloc),
             (844u64, 2u64, 2u64),
         ),

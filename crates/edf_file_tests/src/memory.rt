@@ -6,7 +6,6 @@ use crate::files::two_gaps;
 use crate::folder::{Folder, free};
 use edf_fragment::Counted;
 use edf_program::{Inputs, Status};
-use edf_runs::Joining;
 use edf_sample::{Scarce, Sink, Source};
 use edfruns_command::{RunsCommand, run_runs};
 use std::alloc::{AllocError, Global};
@@ -117,50 +116,33 @@ fn short_until_whole(alloc: Global, command: &RunsCommand) -> Option<u32> {
     None
 }
 
-/// The command to split two gaps.
-fn split(alloc: Global, is_by_onset: bool, joining: Option<Joining>) -> Option<RunsCommand> {
-    Some(RunsCommand::Split {
-        file: String::from_str(alloc, "two.edf").ok()?,
-        prefix: String::from_str(alloc, "night").ok()?,
+/// A text of the words.
+fn word(alloc: Global, text: &str) -> Option<String> {
+    String::from_str(alloc, text).ok()
+}
+
+/// The command to write the canonical file of two gaps.
+fn canonical(alloc: Global, is_by_onset: bool) -> Option<RunsCommand> {
+    Some(RunsCommand::Canonical {
+        file: word(alloc, "two.edf")?,
         is_by_onset,
-        joining,
     })
 }
 
-/// The first gap, and not the second.
-fn first_gap() -> Option<Joining> {
-    Some(Joining {
-        tolerance: 7_500_000_000,
-        shift: Some(8_000_000_000),
-    })
-}
-
-/// The command to write the canonical file of standard input.
-fn canonical_of_stream(is_by_onset: bool) -> RunsCommand {
-    RunsCommand::CanonicalOfStream { is_by_onset }
-}
-
-/// The commands to list two gaps, to write its canonical file by onset, and that of standard input,
-/// and to split it, as it is, by onset and over its first gap.
-fn commands(alloc: Global) -> Option<[RunsCommand; 7]> {
+/// The commands to list two gaps, to write its canonical file, as it is and by onset, and to split
+/// it.
+fn commands(alloc: Global) -> Option<[RunsCommand; 4]> {
     let mut files = Vec::new(alloc);
-    files.push(String::from_str(alloc, "two.edf").ok()?).ok()?;
-    let list = RunsCommand::List {
-        files,
-        tolerance: Some(7_500_000_000),
-    };
-    let canonical = RunsCommand::Canonical {
-        file: String::from_str(alloc, "two.edf").ok()?,
-        is_by_onset: true,
+    files.push(word(alloc, "two.edf")?).ok()?;
+    let split = RunsCommand::Split {
+        file: word(alloc, "two.edf")?,
+        prefix: word(alloc, "night")?,
     };
     Some([
-        list,
-        canonical,
-        canonical_of_stream(false),
-        canonical_of_stream(true),
-        split(alloc, false, None)?,
-        split(alloc, true, None)?,
-        split(alloc, false, first_gap())?,
+        RunsCommand::List { files },
+        canonical(alloc, false)?,
+        canonical(alloc, true)?,
+        split,
     ])
 }
 

@@ -2,7 +2,7 @@
 //! recording's start to 976 at its end, ten seconds for a pixel.
 
 use crate::picture::{SECOND, account_of, drawn, has_all, note, stretch};
-use edf_picture::{Joined, Recorded, Signal, Stretch, Title, draw};
+use edf_picture::{Recorded, Signal, Stretch, Title, draw};
 use edf_sleep::Note;
 use edf_time::Instant;
 use std::alloc::Global;
@@ -151,13 +151,8 @@ fn have_lanes(alloc: Global, count: u64, others: &str, rate: &str) -> Option<boo
     Some(is_last && has_all(Some(svg), &[">Event 0007</text>", lane.as_str()]))
 }
 
-/// The picture of stretches, with these signals, and gaps that were joined.
-fn viewed(
-    alloc: Global,
-    stretches: &[Stretch],
-    signals: &[Signal<'_>],
-    joined: Option<Joined>,
-) -> Option<String> {
+/// The picture of stretches, with these signals.
+fn viewed(alloc: Global, stretches: &[Stretch], signals: &[Signal<'_>]) -> Option<String> {
     let title = Title {
         patient: Some(b"P7"),
         investigation: b"N1",
@@ -167,35 +162,9 @@ fn viewed(
         stretches,
         times: &[],
         signals,
-        joined,
     };
     let account = account_of(alloc, &[], &[]).ok()?;
     draw(alloc, &title, &recorded, &account, &[]).ok()
-}
-
-/// The longest gap that is joined, how many are, how long together, the longest of them, and what
-/// the heading says.
-const JOINED: &[(u64, u64, u64, u64, &str)] = &[
-    (1, 0, 0, 0, ">No gap of at most 0.000000001 s to join<"),
-    (
-        SECOND / 2,
-        1,
-        SECOND / 2,
-        SECOND / 2,
-        ">Joined for this view, gaps of at most 0.5 s: 0.5 s in 1 gap, longest 0.5 s<",
-    ),
-    (
-        10 * SECOND,
-        2,
-        10 * SECOND + SECOND / 2,
-        10 * SECOND,
-        ">Joined for this view, gaps of at most 10 s: 10.5 s in 2 gaps, longest 10 s<",
-    ),
-];
-
-/// A minute, before which gaps were joined.
-fn with_joined(alloc: Global, joined: Joined) -> Option<String> {
-    viewed(alloc, &[stretch(START * SECOND, 60)?], &[], Some(joined))
 }
 
 /// Three minutes with gaps of half a second and of ten seconds.
@@ -203,7 +172,7 @@ fn with_gaps(alloc: Global) -> Option<String> {
     let first = stretch(START * SECOND, 60)?;
     let second = stretch(START * SECOND + 60 * SECOND + SECOND / 2, 60)?;
     let third = stretch(START * SECOND + 130 * SECOND + SECOND / 2, 60)?;
-    viewed(alloc, &[first, second, third], &[], None)
+    viewed(alloc, &[first, second, third], &[])
 }
 
 /// What the heading says of them.
@@ -224,7 +193,7 @@ fn with_signals(alloc: Global) -> Option<String> {
             })
             .ok()?;
     }
-    viewed(alloc, &[stretch(START * SECOND, 60)?], &signals, None)
+    viewed(alloc, &[stretch(START * SECOND, 60)?], &signals)
 }
 
 /// What it says of them.
@@ -237,7 +206,7 @@ const SIGNALS: &[&str] = &[
 ];
 
 #[test]
-fn a_picture_has_lanes_joined_gaps_and_signals(rt: HostRuntime) {
+fn a_picture_has_lanes_gaps_and_signals(rt: HostRuntime) {
     let alloc = rt.alloc();
     for (events, parts) in CASES.iter().copied() {
         assert!(rt; has_all(of_events(alloc, events), parts), "{parts:?}");
@@ -248,15 +217,6 @@ fn a_picture_has_lanes_joined_gaps_and_signals(rt: HostRuntime) {
             Some(true),
             "{count}"
         );
-    }
-    for (tolerance, gaps, sum, longest, line) in JOINED.iter().copied() {
-        let joined = Joined {
-            tolerance,
-            gaps,
-            sum,
-            longest,
-        };
-        assert!(rt; has_all(with_joined(alloc, joined), &[line]), "{line}");
     }
     assert!(rt; has_all(with_gaps(alloc), GAPS));
     assert!(rt; has_all(with_signals(alloc), SIGNALS));

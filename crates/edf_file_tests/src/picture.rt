@@ -94,7 +94,6 @@ fn drawn_as(
         stretches,
         times: &times,
         signals: &[],
-        joined: None,
     };
     let account = account_of(alloc, notes, &times)?;
     draw(alloc, title, &recorded, &account, b"1 & <2>\n")

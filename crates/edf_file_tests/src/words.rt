@@ -8,24 +8,9 @@ use std::alloc::Global;
 
 /// A line of words, and how what it prints begins and ends.
 const PRINTED: &[(&str, &str, &str)] = &[
-    (
-        "edfruns list -",
-        "1 records=3 first=2002-03-02T23:59:50.25 seconds=3 gap=7.5\n",
-        "3 records=1 first=2002-03-03T01:00:00 seconds=1\nstatus 0, 0 files\n",
-    ),
     ("edfruns picture -", "<svg ", "</svg>\nstatus 0, 0 files\n"),
     (
         "edfruns picture two.edf",
-        "<svg ",
-        "</svg>\nstatus 0, 0 files\n",
-    ),
-    (
-        "edfruns picture two.edf --tolerance 0",
-        "<svg ",
-        "</svg>\nstatus 0, 0 files\n",
-    ),
-    (
-        "edfruns picture --tolerance 1.000000000 tenths.edf",
         "<svg ",
         "</svg>\nstatus 0, 0 files\n",
     ),

@@ -31,11 +31,9 @@ use Rattle.edf_command.specs.Lines.{list_lines, first_list_lines}
 use Rattle.edf_command.specs.Listing.{ListsAll, StopsListing}
 use Rattle.edf_sleep.specs.Night.{AreOfFile}
 use Rattle.edf_sleep.specs.declared.note.Note.{Note}
-use Rattle.edfruns_command.specs.Joining.{each_line}
-use Rattle.edfruns_command.specs.Joining as listed
 use Rattle.edfruns_command.specs.Listed.{IsFileListed, IsListOut, Held, between, held_before}
 use Rattle.edfruns_command.specs.Listed.{held_after}
-use Rattle.edfruns_command.specs.Lines.{unwritten_line, standard_output}
+use Rattle.edfruns_command.specs.Lines.{each_line, unwritten_line, standard_output}
 use Rattle.edfruns_command.specs.Listing.{HasRuns}
 use Rattle.edfruns_command.specs.Picturing.{AreNoted, HasNotes, IsPictureOf, run_time}
 use Rattle.edfruns_command.specs.Picturing as drawn
@@ -145,21 +143,19 @@ module _ (out err : Growth) (file text name : List ℕ) (from : out.before ≡ S
     (to : out.after ≡ Some text) where
   of_one : (mid mid_err : Held) (one : Status) → held_after out ≡ mid → one ≡ Done →
       IsFileListed (between (held_before out) mid) (between (held_before err) mid_err) (Some file) []
-      None name one → ListsFile file text
+      name one → ListsFile file text
   of_one mid mid_err one same done (inl (told, silent, is)) = record {
     listing = told.listing;
     has = told.has;
     lines = λ spell is.
-        let whole = gets-whole (between (held_before out) mid) text _ from
-        (subst (λ (m : Held). m.contents ≡ Some text) same to) (told.told spell is) in
-        whole ∙ ap (listed.group_lines spell None
-        (duration_of told.listing.identity.duration) [] 1) told.seen;
+        gets-whole (between (held_before out) mid) text _ from
+        (subst (λ (m : Held). m.contents ≡ Some text) same to) (told.told spell is);
   }
   of_one mid mid_err one same done (inr (inl refused)) =
       absurd (not-refused _ _ (fragment_fault_number refused.fault) _ done refused.said.1)
   of_one mid mid_err one same done (inr (inr lacks)) = absurd (not-written _ _ _ done lacks.1)
 
-  pub lists-file : IsListOut (λ _. Some file) out err None (name ∷ []) Done → ListsFile file text
+  pub lists-file : IsListOut (λ _. Some file) out err (name ∷ []) Done → ListsFile file text
   lists-file (inl all) =
       let end = all.5 in
       of_one all.0 all.1 all.2 end.0 (worse-done all.2 (all.6 ∙ ap (worse all.2) end.2)) all.4

@@ -3,6 +3,7 @@
 use Rattle.std.proofs.Common.{◌≡◌, ◌≢◌, ℕ, ◌+◌, ◌-◌, ◌*◌, ◌≤◌, List, [], ◌∷◌, ◌++◌, map, length}
 use Rattle.std.proofs.Common.{Option, Some, None, codes, decimal, refl, sym, ap, subst, ◌∙◌, arith}
 use Rattle.std.proofs.Common.{All, take, fold, Ok, Err, inl, inr}
+use Rattle.std.specs.Prelude.{slice_get}
 use Rattle.std.specs.List.{AllZip, zip, flat_map}
 use Rattle.std.proofs.lemmas.List.{take_all}
 use Rattle.std.proofs.lemmas.List.Folds.{flat_map-map}
@@ -40,8 +41,7 @@ use Rattle.edf_program.specs.declared.status.Status.TheVariants.{Done, Refused, 
 use Rattle.edf_command.specs.Lines.{accepted_line, refused_file_line, take_line, take_lines}
 use Rattle.edf_command.specs.Lines.{first_take_lines, answer_status, take_status, list_lines}
 use Rattle.edf_command.specs.Taking.{IsTaken}
-use Rattle.edfruns_command.specs.Lines.{end_of, gap_text}
-use Rattle.edfruns_command.specs.Joining.{each_line, group_line, group_lines, next_run}
+use Rattle.edfruns_command.specs.Lines.{each_line, run_front, run_lines, end_of, gap_text}
 use Rattle.edf_page.specs.Inside.{HasIn}
 use Rattle.edf_page.specs.Laws.{AreAlike, AreNightsAlike, OneNightComes, TakeWritesLines}
 use Rattle.edf_page.specs.Laws.{ListWritesRuns}
@@ -110,7 +110,7 @@ are-alike d records rs others one other =
 
 module _ (spell : ℕ → List ℕ) (d : ℕ) where
   gap : (r o : Run) (rs os : List Run) → IsAlike r o → AllZip IsAlike rs os →
-      gap_text d r (next_run (map (λ r. r ∷ []) rs)) ≡ gap_text d o (next_run (map (λ r. r ∷ []) os))
+      gap_text d r (slice_get rs 0) ≡ gap_text d o (slice_get os 0)
   gap r o [] [] alike all = refl
   gap r o [] (m ∷ os) alike all = absurd all
   gap r o (n ∷ rs) [] alike all = absurd all
@@ -120,28 +120,26 @@ module _ (spell : ℕ → List ℕ) (d : ℕ) where
 
   line : (number : ℕ) (r o : Run) (next other : Option Run) → IsAlike r o →
       gap_text d r next ≡ gap_text d o other →
-      group_line spell None d number (r ∷ []) next ≡ group_line spell None d number (o ∷ []) other
+      run_front spell d number r next ≡ run_front spell d number o other
   line number r o next other alike same =
-      let text : ℕ → ℕ → ℕ → List ℕ → List ℕ = λ records first last g. (decimal number
-      ++ (codes " records=" ++ (decimal (0 + records) ++ (codes " first=" ++ (spell first
-      ++ (codes " seconds=" ++ (short ((last + d) - first) ++ g))))))) ++ (10 ∷ []) in
+      let text : ℕ → ℕ → ℕ → List ℕ → List ℕ = λ records first last g. decimal number
+      ++ (codes " records=" ++ (decimal records ++ (codes " first=" ++ (spell first
+      ++ (codes " seconds=" ++ (short ((last + d) - first) ++ g)))))) in
       ap (λ (n : ℕ). text n r.first r.last (gap_text d r next)) alike.records
       ∙ ap (λ (n : ℕ). text o.records n r.last (gap_text d r next)) alike.first
       ∙ ap (λ (n : ℕ). text o.records o.first n (gap_text d r next)) alike.last
       ∙ ap (text o.records o.first o.last) same
 
   lines : (number : ℕ) (rs os : List Run) → AllZip IsAlike rs os →
-      group_lines spell None d [] number (map (λ r. r ∷ []) rs)
-      ≡ group_lines spell None d [] number (map (λ r. r ∷ []) os)
+      run_lines spell d [] number rs ≡ run_lines spell d [] number os
   lines number [] [] all = refl
   lines number [] (o ∷ os) all = absurd all
   lines number (r ∷ rs) [] all = absurd all
   lines number (r ∷ rs) (o ∷ os) all =
-      ap (λ (l : List ℕ). l ++ group_lines spell None d [] (number + 1) (map (λ r. r ∷ []) rs))
-      (line number r o (next_run (map (λ r. r ∷ []) rs)) (next_run (map (λ r. r ∷ []) os)) all.0
-      (gap r o rs os all.0 all.1))
-      ∙ ap (λ (l : List ℕ). group_line spell None d number (o ∷ []) (next_run (map (λ r. r ∷ []) os))
-      ++ l) (lines (number + 1) rs os all.1)
+      ap (λ (l : List ℕ). l ++ (10 ∷ run_lines spell d [] (number + 1) rs))
+      (line number r o (slice_get rs 0) (slice_get os 0) all.0 (gap r o rs os all.0 all.1))
+      ∙ ap (λ (l : List ℕ). run_front spell d number o (slice_get os 0) ++ (10 ∷ l))
+      (lines (number + 1) rs os all.1)
 
 pub one-run-lines : (d : ℕ) (records : List DataRecord) (lines-of others : List ℕ) →
     AreRunLines d records lines-of → AreRunLines d records others → lines-of ≡ others

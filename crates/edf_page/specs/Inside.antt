@@ -23,7 +23,7 @@ use Rattle.edf_command.specs.Lines.{list_lines}
 use Rattle.edf_export.specs.Headline.{IsOnlyFile}
 use Rattle.edf_runs.specs.declared.run_list.Listing.{Listing}
 use Rattle.edf_sleep.specs.declared.note.Note.{Note}
-use Rattle.edfruns_command.specs.Joining.{each_line}
+use Rattle.edfruns_command.specs.Lines.{each_line}
 use Rattle.edfruns_command.specs.Listing.{HasRuns}
 use Rattle.edfruns_command.specs.Picturing.{HasNotes, IsPictureOf}
 use Rattle.edfruns_command.specs.Run.{Asked, IsDone}

@@ -64,7 +64,7 @@ abbrev pub ListWritesRuns : Type 0
 ListWritesRuns = (out err : Growth) (file name text lines : List ℕ) (k : Key)
     (records : List DataRecord) → IsOnlyFile file k records →
     AreRunLines (duration_of k.duration) records lines → IsText out text →
-    IsListOut (λ _. Some file) out err None (name ∷ []) Done → text ≡ lines
+    IsListOut (λ _. Some file) out err (name ∷ []) Done → text ≡ lines
 
 -- why nothing is given is told as `edfstore` tells why its store can't be opened
 abbrev pub StoppedAsRefused : Type 0

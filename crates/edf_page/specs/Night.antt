@@ -20,7 +20,7 @@ use Rattle.edf_runs.specs.Runs.{AreListed}
 use Rattle.edf_runs.specs.declared.run.Run.{Run}
 use Rattle.edf_sleep.specs.Night.{AreOfFile}
 use Rattle.edf_sleep.specs.declared.note.Note.{Note}
-use Rattle.edfruns_command.specs.Joining.{each_line}
+use Rattle.edfruns_command.specs.Lines.{each_line}
 use Rattle.edfruns_command.specs.Picturing.{AreNoted, IsPictureOf, run_time}
 use Rattle.edf_page.specs.declared.stopped.Stopped.{Stopped}
 use Rattle.edf_page.specs.declared.stopped.Stopped.TheVariants.{Memory, Store}

@@ -1,6 +1,6 @@
 //! The runs of a recording's file, and its picture, as `edfruns` gives them.
 
-ghost use Rattle.std.specs.Prelude.{◌≡◌, ◌∷◌, [], List, None, Some, IfOk, MatchResult, true};
+ghost use Rattle.std.specs.Prelude.{◌≡◌, ◌∷◌, [], List, Some, IfOk, MatchResult, true};
 ghost use Rattle.edfruns_command.specs.Run.{Asked, meaning};
 ghost use Rattle.edfruns_command.specs.Run.Asked.{list, picture};
 ghost use Rattle.edf_page.specs.Inside.{IsWrittenOf, ListsFile, DrawsFile, recording_name};
@@ -40,23 +40,19 @@ fn written_of(
 
 /// What lists runs.
 fn list_of(alloc: Global) -> Result<RunsCommand, AllocError>
-    ensures { IfOk result (λ c. meaning c ≡ list (recording_name ∷ []) None) }
+    ensures { IfOk result (λ c. meaning c ≡ list (recording_name ∷ [])) }
 {
     let mut files = Vec::new(alloc);
     files.push(String::from_str(alloc, NAME)?)?;
-    Ok(RunsCommand::List {
-        files,
-        tolerance: None,
-    })
+    Ok(RunsCommand::List { files })
 }
 
-/// What draws a picture, in which no gap is joined.
+/// What draws a picture.
 fn picture_of(alloc: Global) -> Result<RunsCommand, AllocError>
     ensures { IfOk result (λ c. meaning c ≡ picture recording_name true) }
 {
     Ok(RunsCommand::Picture {
         file: String::from_str(alloc, NAME)?,
-        tolerance: 0,
         has_code: true,
     })
 }

@@ -9,16 +9,16 @@ use Rattle.edfruns_command.specs.Run.Asked.{list, canonical, split, picture}
 
 -- the numbers that ask for something
 abbrev pub Asks : ℕ → Type 0
-Asks which = which ≤ 4
+Asks which = which ≤ 3
 
--- 0 is `list IN`, 1 `canonical --by-onset IN`, 2 `picture --without-code IN`, 3 `split IN PREFIX`
--- and 4 `split --by-onset IN PREFIX`
+-- 0 is `list IN`, 1 `canonical --by-onset IN`, 2 `picture --without-code IN` and 3
+-- `split IN PREFIX`
 abbrev pub asked_by : ℕ → List ℕ → List ℕ → Asked
 asked_by which name prefix =
-    if which == 0 then list (name ∷ []) None
+    if which == 0 then list (name ∷ [])
     else (if which == 1 then canonical name true
     else (if which == 2 then picture name false
-    else split name prefix (which == 4) None))
+    else split name prefix))
 
 -- ---- of `edfmend`
 

@@ -9,7 +9,7 @@ use edfruns_command::RunsCommand;
 use std::alloc::{AllocError, Global};
 
 /// The greatest number that asks `edfruns` for something.
-pub(crate) const MOST: u32 = 4;
+pub(crate) const MOST: u32 = 3;
 
 /// The list of a file.
 fn list_of(alloc: Global, name: &str) -> Result<RunsCommand, AllocError>
@@ -17,10 +17,7 @@ fn list_of(alloc: Global, name: &str) -> Result<RunsCommand, AllocError>
 {
     let mut files = Vec::new(alloc);
     files.push(String::from_str(alloc, name)?)?;
-    Ok(RunsCommand::List {
-        files,
-        tolerance: None,
-    })
+    Ok(RunsCommand::List { files })
 }
 
 /// What a number asks `edfruns` for.
@@ -42,14 +39,11 @@ pub(crate) fn command_by(
         }),
         2 => Ok(RunsCommand::Picture {
             file,
-            tolerance: 0,
             has_code: false,
         }),
         _ => Ok(RunsCommand::Split {
             file,
             prefix: String::from_str(alloc, prefix)?,
-            is_by_onset: which == 4,
-            joining: None,
         }),
     }
 }

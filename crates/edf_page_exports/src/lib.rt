@@ -106,8 +106,8 @@ fn runs_by(alloc: Global, which: u32, prefix: &str, file: &GivenFile<'_>) -> Res
 }
 
 /// What `edfruns` does by this number with one file, whose name is IN: 0 is `list IN`, 1
-/// `canonical --by-onset IN`, 2 `picture --without-code IN`, 3 `split IN PREFIX` and 4
-/// `split --by-onset IN PREFIX`. The first three have no use for `prefix`.
+/// `canonical --by-onset IN`, 2 `picture --without-code IN` and 3 `split IN PREFIX`. The first
+/// three have no use for `prefix`.
 ///
 /// The pieces are: the number of the program's status, in one byte; what it wrote to standard
 /// output; what it wrote to standard error; and for each file that it made and that is there, in

@@ -161,7 +161,7 @@ const OF_RUNS: &[RunsRow] = &[
     ),
     (3, b"one", 5, &[(0, b"\0"), (3, b"one-1.edf")]),
     (
-        4,
+        3,
         b"run",
         3,
         &[
@@ -266,7 +266,7 @@ fn what_is_no_call_is_answered_so(rt: HostRuntime) -> Result<(), AllocError> {
     let alloc = rt.alloc();
     assert_eq!(rt; night(alloc, &[b"a"], &[], 9, 9)?.status, 3);
     assert_eq!(rt; night(alloc, &[b"\xff"], &[b""], 9, 9)?.status, 3);
-    assert_eq!(rt; runs(alloc, 5, b"")?.status, 3);
+    assert_eq!(rt; runs(alloc, 4, b"")?.status, 3);
     assert_eq!(rt; mend(alloc, &[b""])?.status, 3);
     assert!(rt; night(alloc, &[], &[], 9, 9)?.gives(1, &[]));
     Ok(())

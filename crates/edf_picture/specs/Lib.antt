@@ -1,2 +1,4 @@
+pub mod Markup
+pub mod Readable
 pub mod Picture
 pub mod Inside

@@ -4,7 +4,7 @@ use Rattle.std.specs.Prelude.{Bool, is_some, if◌then◌else◌, Option, Some, 
 use Rattle.std.specs.Prelude.{flat_map, length, nat_le}
 use Rattle.std.specs.List.{list_any}
 use Rattle.std.specs.String.{string_bytes}
-use Rattle.edf_markup.specs.Markup.{piece, escaped_text}
+use Rattle.edf_picture.specs.Markup.{piece, escaped_text}
 use Rattle.edf_sleep.specs.Drawn.{drawn_lines}
 use Rattle.edf_sleep.specs.Night.{recording_of}
 use Rattle.edf_sleep.specs.Stages.{stage_of_text}

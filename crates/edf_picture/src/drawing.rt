@@ -5,7 +5,7 @@ ghost use Rattle.edf_sleep.specs.Account.{IsAccount, night_of};
 
 use crate::bars::{write_data_row, write_folded_row, write_row_start};
 use crate::extent::{Extent, Stretch};
-use crate::heading::{Counts, Heading, Joined, Title};
+use crate::heading::{Counts, Heading, Title};
 use crate::legend::{Legend, Shown};
 use crate::lights::{Line, lights_within, list_lights};
 use crate::metadata::with_metadata;
@@ -25,14 +25,12 @@ use std::alloc::{AllocError, Global};
 pub struct Recorded<'a> {
     /// The nanoseconds of a data record.
     pub duration: u64,
-    /// The stretches in the order of their starts, as they are to be drawn.
+    /// The stretches in the order of their starts.
     pub stretches: &'a [Stretch],
     /// The times of all runs.
     pub times: &'a [edf_sleep::Extent],
     /// The ordinary signals, in the order of the header.
     pub signals: &'a [Signal<'a>],
-    /// The gaps between them that are drawn as if nothing were missing, if that was asked for.
-    pub joined: Option<Joined>,
 }
 
 /// What is drawn of a recording's annotations.
@@ -111,14 +109,7 @@ fn heading_of(
 {
     let recording = Recording::new(recorded.stretches, recorded.duration);
     let counts = Counts::of(notes, &recording);
-    Heading::new(
-        alloc,
-        title,
-        recorded.times,
-        &recording,
-        recorded.joined,
-        counts,
-    )
+    Heading::new(alloc, title, recorded.times, &recording, counts)
 }
 
 /// What is drawn below the line of times, without so many lines of figures.

@@ -4,13 +4,12 @@ ghost use Rattle.edf_picture.specs.Picture.{IsTimeLine, ground_text, head_of, is
 ghost use Rattle.edf_picture.specs.Picture.{names_text, opening_tag, patient_words, text_with};
 ghost use Rattle.edf_picture.specs.Picture.{time_text, time_top, title_line, title_texts};
 
-use crate::missing::Missing;
+use crate::escape::escaped;
 use crate::numbers::{counted, thousands};
 use crate::pixels::LEFT;
 use crate::recording::Recording;
 use crate::texts::text_with;
-use crate::times::{instant_label, seconds_text};
-use edf_markup::escaped;
+use crate::times::instant_label;
 use edf_sleep::{Extent, Note, stage_of_text};
 use std::alloc::{AllocError, Global};
 
@@ -33,19 +32,6 @@ pub(crate) struct Counts {
     outside: u64,
 }
 
-/// The gaps that are joined for the view.
-#[derive(Clone, Copy)]
-pub struct Joined {
-    /// The longest that is, in nanoseconds.
-    pub tolerance: u64,
-    /// How many are.
-    pub gaps: u64,
-    /// How long they are together, in nanoseconds.
-    pub sum: u64,
-    /// The longest of them.
-    pub longest: u64,
-}
-
 /// The texts above the picture.
 #[derive(Drop)]
 pub(crate) struct Heading {
@@ -60,8 +46,6 @@ pub(crate) struct Heading {
     /// The first and the last instant.
     time: String,
     summary: String,
-    /// What was joined for the view, if that was asked for.
-    joined: Option<String>,
     annotations: String,
 }
 
@@ -98,7 +82,6 @@ impl Heading {
         title: &Title<'_>,
         times: &[Extent],
         recording: &Recording<'_>,
-        joined: Option<Joined>,
         counts: Counts,
     ) -> Result<Heading, AllocError>
         ensures { IfOk result (λ h. IsHeading (named_by title.now) times.now h) }
@@ -112,15 +95,13 @@ impl Heading {
             time_top: title.height(),
             time: time_line(alloc, times)?,
             summary,
-            joined: joined_line(alloc, joined)?,
             annotations,
         })
     }
 
     /// Its height without the legend, in pixels.
     pub(crate) fn height(&self) -> u64 {
-        let joined = u64::from(self.joined.is_some()).saturating_mul(20);
-        self.time_top.saturating_add(joined).saturating_add(52)
+        self.time_top.saturating_add(52)
     }
 
     /// The start of an SVG of this height, up to the line of times.
@@ -145,14 +126,9 @@ impl Heading {
 
     /// Writes its lines below that of times.
     pub(crate) fn write(&self, svg: &mut String) -> Result<(), AllocError> {
-        let mut y = self.time_top.saturating_add(20);
+        let y = self.time_top.saturating_add(20);
         write_line(svg, y, &self.summary)?;
-        y = y.saturating_add(20);
-        if let Some(joined) = &self.joined {
-            write_line(svg, y, joined)?;
-            y = y.saturating_add(20);
-        }
-        write_line(svg, y, &self.annotations)
+        write_line(svg, y.saturating_add(20), &self.annotations)
     }
 }
 
@@ -264,31 +240,6 @@ fn time_line(alloc: Global, times: &[Extent]) -> Result<String, AllocError>
             let to = instant_label(alloc, times[times.len() - 1].to)?;
             format!(in alloc; "{from} to {to}")
         }
-    }
-}
-
-/// What was joined for the view, if that was asked for.
-fn joined_line(alloc: Global, joined: Option<Joined>) -> Result<Option<String>, AllocError> {
-    match joined {
-        Some(joined) => Ok(Some(joined.line(alloc)?)),
-        None => Ok(None),
-    }
-}
-
-impl Joined {
-    /// `Joined for this view, gaps of at most 1 s: 10.494 s in 95 gaps, longest 0.198 s`.
-    fn line(self, alloc: Global) -> Result<String, AllocError> {
-        let most = seconds_text(alloc, self.tolerance)?;
-        if self.gaps == 0 {
-            return format!(in alloc; "No gap of at most {most} to join");
-        }
-        let missing = Missing {
-            gaps: self.gaps,
-            sum: self.sum,
-            longest: self.longest,
-        };
-        let missing = missing.text(alloc)?;
-        format!(in alloc; "Joined for this view, gaps of at most {most}: {missing}")
     }
 }
 

@@ -1,11 +1,11 @@
 ghost use Rattle.edf_sleep.specs.Account.{IsAccount};
 
+use crate::characters::readable;
 use crate::events::{Event, Group, list_events, list_groups};
 use crate::extent::Extent;
 use crate::numbers::{tenths, thousands};
 use crate::pixels::{LEFT, Pixels, RIGHT};
 use crate::recording::Recording;
-use edf_markup::readable;
 use edf_sleep::{Account, Rate};
 use std::alloc::{AllocError, Global};
 

@@ -3,7 +3,7 @@
 //!
 //! - [`draw`]: the picture; [`Title`]: the codes in the title; [`Recorded`]: the data records and
 //!   their signals; [`Stretch`]: a stretch of data records without a gap; [`Signal`]: an ordinary
-//!   signal; [`Joined`]: the gaps that are drawn as if nothing were missing.
+//!   signal.
 //!
 //! A row shows an hour, and from 36 hours on a day or more, so that at most 40 rows have data. A
 //! recording that ends within ten minutes of its start has one row, from the millisecond of its
@@ -27,8 +27,10 @@
 #![tactic(auto)]
 
 mod bars;
+mod characters;
 mod columns;
 mod drawing;
+mod escape;
 mod events;
 mod extent;
 mod heading;
@@ -54,5 +56,5 @@ mod times;
 
 pub use drawing::{Recorded, draw};
 pub use extent::Stretch;
-pub use heading::{Joined, Title};
+pub use heading::Title;
 pub use signals::Signal;

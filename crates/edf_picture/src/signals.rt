@@ -1,7 +1,7 @@
+use crate::escape::escaped;
 use crate::numbers::{counted, thousands};
 use crate::pixels::LEFT;
 use crate::times::SECOND;
-use edf_markup::escaped;
 use std::alloc::{AllocError, Global};
 
 /// An ordinary signal, as its header has it.

@@ -3,7 +3,7 @@
 ghost use Rattle.std.specs.Prelude.{◌≡◌, ◌++◌, ◌<◌, IfOk, OnOk, string_bytes};
 ghost use Rattle.edf_picture.specs.Picture.{piece_with, text_with};
 
-use edf_markup::push_piece;
+use crate::escape::push_piece;
 use std::alloc::{AllocError, Global};
 
 /// Appends what stands for a byte: `to` for `from`, and for any other what XML has.

@@ -14,8 +14,8 @@ use Rattle.edf_fragment.specs.Whole.{ReadsFragment, IsFragmentFault}
 use Rattle.edf_fragment.specs.declared.fault.FragmentFault.{FragmentFault}
 use Rattle.edf_fragment.specs.declared.fault.FragmentFault.TheVariants.{Memory as NoMemory}
 use Rattle.edf_runs.specs.OnsetRead.{without_samples, IsOnsetFault, CountsOnsetFault}
-use Rattle.edf_runs.specs.declared.onset_listing.OnsetFault.{OnsetFault}
-use Rattle.edf_runs.specs.declared.onset_listing.OnsetFault.TheVariants.{Fragment, TooMany, Memory}
+use Rattle.edf_runs.specs.declared.onset_fault.OnsetFault.{OnsetFault}
+use Rattle.edf_runs.specs.declared.onset_fault.OnsetFault.TheVariants.{Fragment, TooMany, Memory}
 use Rattle.edf_runs.specs.Inside.Assigning.{start_alone}
 use Rattle.edf_runs.specs.Inside.Keeping.{IsKeptFault, fault_by_onset}
 

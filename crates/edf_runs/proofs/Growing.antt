@@ -194,7 +194,7 @@ last_listed d (r ∷ rs) (x ∷ xs) run each =
       listed = later.listed;
     }
 
-none_listed : (d : ℕ) (runs : List (List DataRecord)) → AllZip (IsListed d) runs [] → runs ≡ []
+pub none_listed : (d : ℕ) (runs : List (List DataRecord)) → AllZip (IsListed d) runs [] → runs ≡ []
 none_listed d [] each = refl
 none_listed d (r ∷ rs) each = absurd each
 

@@ -1,5 +1,4 @@
 pub mod Growing
-pub mod StartsAs
 pub mod Next
 pub mod SecondReading
 pub mod Sending
@@ -15,7 +14,6 @@ pub mod Stopping
 pub mod ReadAgain
 pub mod RunAgain
 pub mod Tallies
-pub mod Annotated
 pub mod OneMore
 pub mod KeptRuns
 pub mod Gathering
@@ -31,17 +29,3 @@ pub mod WhereItLies
 pub mod ToldAlike
 pub mod Taken
 pub mod PlannedByOnset
-pub mod LoadedFiles
-pub mod LastStarts
-pub mod Sharing
-pub mod Shifting
-pub mod SoundGroups
-pub mod JoinedGroups
-pub mod MovedFiles
-pub mod Filed
-pub mod AllJoined
-pub mod BareGroups
-pub mod TakenBack
-pub mod FiledFiles
-pub mod MovedInstants
-pub mod KeptMoved

@@ -2,7 +2,7 @@
 use Rattle.std.proofs.Common.{◌≡◌, ◌≢◌, ℕ, ◌+◌, ◌*◌, ◌≤◌, ◌<◌, List, [], ◌∷◌, ◌++◌, length}
 use Rattle.std.proofs.Common.{refl, sym, ap, ◌∙◌, subst, arith, append_assoc, append-nil}
 use Rattle.std.proofs.Common.{length-append, All, Option, None, Some, Ok, Err, Result}
-use Rattle.std.specs.List.{slice_get}
+use Rattle.std.proofs.Math.Nat.{suc-mul}
 use Rattle.std.specs.Io.KnownBytes.{Consumes, IsAtEnd}
 use Rattle.edf_field.specs.Number.{duration_of}
 use Rattle.edf_header.specs.Header.{Layout, IsLayout, most_records}
@@ -29,20 +29,12 @@ use Rattle.edf_canonical.specs.declared.measure.Measure.{Measure}
 use Rattle.edf_runs.specs.Runs.{StartFrom, IsListed}
 use Rattle.edf_runs.specs.Again.{fault_again, IsFaultBy, StopsAt, ComesNext}
 use Rattle.edf_canonical.specs.File.{second_of, block_of, BlocksFit}
-use Rattle.edf_canonical.specs.Kept.{annotated}
-use Rattle.edf_runs.specs.WrittenByOnset.{StartAs, ComesByOnset}
-use Rattle.edf_canonical.specs.Kept.{annotated_one}
 use Rattle.edf_runs.specs.Inside.Steps.{StepsOn, HasOthers, ReadSoFar}
-use Rattle.edf_runs.specs.Inside.Steps.{due}
-use Rattle.edf_runs.specs.Inside.Putting.{IsAsListed}
 use Rattle.edf_runs.specs.declared.run.Run.{Run}
 use Rattle.edf_runs.specs.declared.fault.WriteFault.{WriteFault}
 use Rattle.edf_runs.specs.declared.fault.WriteFault.TheVariants.{Changed, Read, Memory}
-use Rattle.edf_canonical.proofs.Measures.{all_front, all_last, samples_least}
-use Rattle.edf_runs.proofs.Growing.{run_end, starts_front}
-use Rattle.edf_runs.proofs.Growing.{last_start}
-use Rattle.edf_canonical.proofs.Annotated.{annotated-length, annotated-front, annotated-nth}
-use Rattle.edf_runs.proofs.StartsAs.{start-as-of}
+use Rattle.edf_canonical.proofs.Measures.{all_front, all_last}
+use Rattle.edf_runs.proofs.Growing.{run_end}
 use Rattle.edf_fragment.proofs.OneFragment.{one-record}
 
 -- ---- one more data record of known bytes
@@ -153,9 +145,8 @@ reading l from to left rest answer going is =
     a.1
 
 pub has_all : (l : Layout) (from : Progress) (left : Option (List ℕ)) (run : Run)
-    (starts : List ℕ) (kept : List DataRecord) (n : ComesByOnset l from left run starts kept) →
-    HasOthers l from left n.records []
-has_all l from left run starts kept n = record {
+    (n : ComesNext l from left run) → HasOthers l from left n.records []
+has_all l from left run n = record {
   going = n.going;
   others = n.records;
   parts = refl;
@@ -165,22 +156,6 @@ has_all l from left run starts kept n = record {
   after = n.rest;
   are_records = n.are_records;
   within = n.within;
-}
-
--- where nothing is kept, a run that comes next comes so
-pub comes_plain : (l : Layout) (from : Progress) (left : Option (List ℕ)) (run : Run) →
-    ComesNext l from left run → ComesByOnset l from left run [] []
-comes_plain l from left run n = record {
-  going = n.going;
-  bytes = n.bytes;
-  known = n.known;
-  records = n.records;
-  last = n.last;
-  rest = n.rest;
-  are_records = n.are_records;
-  within = n.within;
-  start = n.listed.starts;
-  listed = n.listed;
 }
 
 -- there is another, where fewer were read
@@ -263,46 +238,31 @@ no_stop l from left rest all x xs last after instant (Ok None) layout is are wit
 no_stop l from left rest all x xs last after instant (Err fault) layout is are within start next
     why = form l from left rest all x xs last after fault is are within next (sym why)
 
+-- one of those without a gap starts as late as those before it last
+start_of : (d at : ℕ) (rs xs : List DataRecord) (x : DataRecord) → StartFrom d at (rs ++ x ∷ xs) →
+    x.start ≡ at + length rs * d
+start_of d at [] xs x from = omega (arith, from.0)
+start_of d at (y ∷ ys) xs x from =
+    let e = suc-mul (length ys) d in
+    let later = start_of d (at + d) ys xs x from.1 in
+    omega (arith, later, e)
+
 stop_with : (l : Layout) (from to : Progress) (left rest : Option (List ℕ)) (d at : ℕ)
-    (starts : List ℕ) (all records others : List DataRecord) (bytes : List ℕ) (last : Place)
-    (after : List ℕ) (instant : ℕ)
+    (all records others : List DataRecord) (bytes : List ℕ) (last : Place) (after : List ℕ)
+    (instant : ℕ)
     → IsLayout l → others ≢ [] → all ≡ records ++ others → left ≡ Some bytes →
     AreDataRecords l from.place bytes others last after
     → from.given + length others ≤ most_records l.count → from.state ≡ Reading →
-    StartAs d at starts all →
-    due starts (length records) (at + length records * d) ≡ Some instant →
+    StartFrom d at all → instant ≡ at + length records * d →
     ¬ StopsAt l from to left rest instant Changed
-stop_with l from to left rest d at starts all records [] bytes last after instant layout some
-    parts known are within going start is stop = some refl
-stop_with l from to left rest d at starts all records (x ∷ xs) bytes last after instant layout
-    some parts known are within going start is stop =
-    let e : ◌≡◌ {A = Option ℕ} (Some x.start) (Some instant) =
-    sym (start-as-of d at starts records xs x (subst (StartAs d at starts) parts start)) ∙ is in
-    let same : x.start ≡ instant = cc in
+stop_with l from to left rest d at all records [] bytes last after instant layout some parts known
+    are within going start is stop = some refl
+stop_with l from to left rest d at all records (x ∷ xs) bytes last after instant layout some parts
+    known are within going start is stop =
+    let same : x.start ≡ instant =
+    start_of d at records xs x (subst (StartFrom d at) parts start) ∙ sym is in
     no_stop l from left rest bytes x xs last after instant stop.answer layout known are within
     same (reading l from to left rest stop.answer going stop.is_answer) stop.why
-
--- the next one is there, and starts when it was listed
-pub no_change : (l : Layout) (from to : Progress) (left rest : Option (List ℕ)) (d at : ℕ)
-    (starts : List ℕ) (all records : List DataRecord) (instant : ℕ) → IsLayout l →
-    HasOthers l from left all records
-    → length records < length all → StartAs d at starts all →
-    due starts (length records) (at + length records * d) ≡ Some instant →
-    ¬ StopsAt l from to left rest instant Changed
-no_change l from to left rest d at starts all records instant layout h few start is stop =
-    stop_with l from to left rest d at starts all records h.others h.bytes h.last h.after instant
-    layout (has_next l from left all records h few) h.parts h.known h.are_records h.within
-    h.going start is stop
-
--- and when that is was told
-told_with : (d at : ℕ) (starts : List ℕ) (all records others : List DataRecord) → others ≢ [] →
-    all ≡ records ++ others → StartAs d at starts all →
-    due starts (length records) (at + length records * d) ≢ None
-told_with d at starts all records [] some parts start none = some refl
-told_with d at starts all records (x ∷ xs) some parts start none =
-    let e : ◌≡◌ {A = Option ℕ} (Some x.start) None =
-    sym (start-as-of d at starts records xs x (subst (StartAs d at starts) parts start)) ∙ none in
-    cc
 
 none_more : (xs : List DataRecord) → length xs ≡ 0 → xs ≡ []
 none_more [] none = refl
@@ -332,103 +292,59 @@ listed_measured d (r ∷ rs) run whole is first records samples = record {
 
 -- ---- so far
 
-module _ (l : Layout) (from : Progress) (left : Option (List ℕ)) (run : Run) (starts : List ℕ)
-    (kept : List DataRecord) (n : ComesByOnset l from left run starts kept) where
-  counted : length n.records ≡ run.records
-  counted = sym (annotated-length kept n.records) ∙ sym n.listed.count
-
 module _ (l : Layout) (from mid : Progress) (left middle : Option (List ℕ)) (run : Run)
-    (starts : List ℕ) (kept rs : List DataRecord) (next count : ℕ)
-    (so : ReadSoFar l from mid left middle run starts rs next count)
-    (n : ComesByOnset l from left run starts kept) where
+    (rs : List DataRecord) (next count : ℕ) (so : ReadSoFar l from mid left middle run rs next count)
+    (n : ComesNext l from left run) where
   has_so_far : HasOthers l mid middle n.records rs
-  has_so_far = so.first n.records (has_all l from left run starts kept n)
-      (counted l from left run starts kept n)
+  has_so_far = so.first n.records (has_all l from left run n) (sym n.listed.count)
 
   few_listed : count < run.records → length rs < length n.records
-  few_listed few = omega (arith, so.counted, few, counted l from left run starts kept n)
+  few_listed few = omega (arith, so.counted, few, n.listed.count)
 
-  is_due : due starts count next
-      ≡ due starts (length rs) (run.first + length rs * duration_of l.key.duration)
-  is_due = ap (λ (k : ℕ). due starts k next) (sym so.counted)
-      ∙ ap (λ (k : ℕ). due starts (length rs) k) so.next_is
+  -- the next one is there, and starts when it was listed
+  pub next_as_listed : (to : Progress) (rest : Option (List ℕ)) → IsLayout l →
+      count < run.records → ¬ StopsAt l mid to middle rest next Changed
+  next_as_listed to rest layout few =
+      let h = has_so_far in
+      stop_with l mid to middle rest (duration_of l.key.duration) run.first n.records rs h.others
+      h.bytes h.last h.after next layout (has_next l mid middle n.records rs h (few_listed few))
+      h.parts h.known h.are_records h.within h.going n.listed.starts so.next_is
 
-  -- it was told when the next one starts
-  pub told_as_listed : count < run.records → due starts count next ≢ None
-  told_as_listed few none =
-      told_with (duration_of l.key.duration) run.first starts n.records rs has_so_far.others
-      (has_next l mid middle n.records rs has_so_far (few_listed few)) has_so_far.parts n.start
-      (sym is_due ∙ none)
-
-  pub next_as_listed : (to : Progress) (rest : Option (List ℕ)) (instant : ℕ) → IsLayout l
-      → count < run.records → due starts count next ≡ Some instant →
-      ¬ StopsAt l mid to middle rest instant Changed
-  next_as_listed to rest instant layout few told =
-      no_change l mid to middle rest (duration_of l.key.duration) run.first starts n.records rs
-      instant layout has_so_far (few_listed few) n.start (sym is_due ∙ told)
-
-  has_next_too : (to : Progress) (rest : Option (List ℕ)) (instant : ℕ) (r : DataRecord)
-      → count < run.records → StepsOn l mid to middle rest instant r →
-      HasOthers l to rest n.records (rs ++ r ∷ [])
-  has_next_too to rest instant r few step =
-      has_more l mid to middle rest n.records rs instant r has_so_far (few_listed few) step
-
-  -- what is put of the one that was read is as it was listed
-  pub as_listed : (to : Progress) (rest : Option (List ℕ)) (instant : ℕ) (r : DataRecord)
-      → count < run.records → StepsOn l mid to middle rest instant r →
-      IsAsListed run next (annotated_one (slice_get kept count) r)
-  as_listed to rest instant r few step =
-      let d = duration_of l.key.duration in
-      let q = annotated_one (slice_get kept count) r in
+  -- and its block fits the blocks of the run
+  pub fits_as_listed : (to : Progress) (rest : Option (List ℕ)) (r : DataRecord) →
+      count < run.records → StepsOn l mid to middle rest next r →
+      length (block_of (second_of run.first) r) ≤ 2 * run.block_samples
+  fits_as_listed to rest r few step =
       let fits : DataRecord → Type 0 =
       λ x. length (block_of (second_of run.first) x) ≤ 2 * run.block_samples in
-      let h = has_next_too to rest instant r few step in
-      let front = annotated-front kept (rs ++ r ∷ []) h.others in
-      let same : annotated kept n.records ≡ (annotated kept rs ++ q ∷ []) ++ front.0 =
-      ap (annotated kept) h.parts ∙ front.1
-      ∙ ap (λ (x : List DataRecord). x ++ front.0) (annotated-nth kept rs r count so.counted) in
-      let from_first : StartFrom d run.first ((annotated kept rs ++ q ∷ []) ++ front.0) =
-      subst (λ (x : List DataRecord). StartFrom d run.first x) same n.listed.starts in
-      let all : All fits ((annotated kept rs ++ q ∷ []) ++ front.0) =
-      subst (λ (x : List DataRecord). All fits x) same n.listed.holds in
-      let last = last_start d run.first (annotated kept rs) q
-      (starts_front d run.first (annotated kept rs ++ q ∷ []) front.0 from_first) in
-      let one = all_last fits (annotated kept rs) q
-      (all_front fits (annotated kept rs ++ q ∷ []) front.0 all) in
-      let len : length (annotated kept rs) * d ≡ length rs * d =
-      ap (λ k. k * d) (annotated-length kept rs) in
-      record {
-        start = omega (arith, last, len, so.next_is);
-        fits = samples_least _ run.block_samples one;
-      }
+      let h = has_more l mid to middle rest n.records rs next r has_so_far (few_listed few) step in
+      all_last fits rs r (all_front fits (rs ++ r ∷ []) h.others
+      (subst (λ (x : List DataRecord). All fits x) h.parts n.listed.holds))
 
   all_listed : count ≡ run.records → n.records ≡ rs
   all_listed all =
       let h = has_so_far in
       let len : length n.records ≡ length rs + length h.others =
       ap (λ (z : List DataRecord). length z) h.parts ∙ length-append rs h.others in
-      let same = counted l from left run starts kept n in
       h.parts ∙ ap (λ (x : List DataRecord). rs
-      ++ x) (none_more h.others (omega (arith, len, so.counted, all, same)))
+      ++ x) (none_more h.others (omega (arith, len, so.counted, all, n.listed.count)))
       ∙ append-nil rs
 
   -- they are measured as was listed
   pub run_as_listed : count ≡ run.records → (whole : Measure) → whole.first ≡ run.first →
-      whole.records ≡ run.records → whole.block_samples ≡ run.block_samples →
-      IsMeasured (annotated kept rs) whole
+      whole.records ≡ run.records → whole.block_samples ≡ run.block_samples → IsMeasured rs whole
   run_as_listed all whole first records samples =
-      listed_measured (duration_of l.key.duration) (annotated kept rs) run whole
-      (subst (λ x. IsListed (duration_of l.key.duration) (annotated kept x) run) (all_listed all)
-      n.listed) first records samples
+      listed_measured (duration_of l.key.duration) rs run whole
+      (subst (λ x. IsListed (duration_of l.key.duration) x run) (all_listed all) n.listed) first
+      records samples
 
   -- the run ends where was listed
   pub end_as_listed : count ≡ run.records → next ≡ run.last + duration_of l.key.duration
   end_as_listed all =
       let d = duration_of l.key.duration in
-      let ends = run_end d (annotated kept n.records) run n.listed in
-      let same : length (annotated kept n.records) ≡ length rs =
-      annotated-length kept n.records ∙ ap (λ (z : List DataRecord). length z) (all_listed all) in
-      let len : length (annotated kept n.records) * d ≡ length rs * d = ap (λ z. z * d) same in
+      let ends = run_end d n.records run n.listed in
+      let len : length n.records * d ≡ length rs * d =
+      ap (λ (z : List DataRecord). length z * d) (all_listed all) in
       omega (arith, ends, len, so.next_is)
 
 -- a fault that is handed on

@@ -2,51 +2,40 @@
 use Rattle.std.proofs.Common.{◌≡◌, ℕ, suc, ◌*◌, ◌≤◌, List, [], ◌∷◌, ◌++◌, All, length, map, refl}
 use Rattle.std.proofs.Common.{sym, ap, ◌∙◌, subst, arith, Option}
 use Rattle.std.specs.Prelude.{not, sum_by, cond}
-use Rattle.std.specs.List.{flat_map}
 use Rattle.std.proofs.lemmas.List.Elements.{All-nil, All-cons, All-head, All-tail}
 use Rattle.std.proofs.lemmas.List.Sorted.{sum_by-IsPermutation}
 use Rattle.edf_field.specs.Number.{duration_of}
+use Rattle.edf_header.specs.Header.{Layout}
 use Rattle.edf_header.specs.Key.{Key, MayStart}
 use Rattle.edf_header.specs.declared.limits.TheConstants.{MOST_RECORDS}
 use Rattle.edf_tal.specs.Tal.{Annotation}
 use Rattle.edf_fragment.specs.Fragment.{DataRecord}
 use Rattle.edf_fragment.specs.Sound.{MayBegin}
+use Rattle.edf_fragment.specs.Whole.{ReadsFragment}
 use Rattle.edf_fragment.proofs.Sound.{spelled-begins, spelled-few, spelled-some, spelled-sound}
 use Rattle.edf_canonical.specs.File.{second_of, block_of, BlocksFit}
 use Rattle.edf_runs.specs.ByOnset.{annotations_of, by_onset}
 use Rattle.edf_canonical.specs.Measure.{IsMeasured}
+use Rattle.edf_runs.specs.Inside.Keeping.{AreKeptWithin}
 use Rattle.edf_runs.specs.Inside.Measuring.{outside_here}
 use Rattle.edf_runs.specs.Inside.Spaced.{Spaced}
 use Rattle.edf_runs.specs.OneByOnset.{lies_in, outside_count}
-use Rattle.edf_runs.specs.OnsetRead.{AreKept, ReadsByOnset, kept_of, without_samples}
+use Rattle.edf_runs.specs.OnsetRead.{without_samples}
 use Rattle.edf_runs.specs.Order.{in_order}
 use Rattle.edf_runs.specs.PlanByOnset.{ReadsPlanByOnset}
 use Rattle.edf_runs.specs.declared.canonical_plan.CanonicalPlan.{CanonicalPlan}
 use Rattle.edf_canonical.specs.declared.measure.Measure.{Measure}
-use Rattle.edf_runs.specs.declared.onset_listing.OnsetListing.{OnsetListing}
-use Rattle.edf_runs.specs.declared.onset_run.OnsetRun.{OnsetRun}
 use Rattle.edf_runs.proofs.ByOnset.{once, spaced-sound}
-use Rattle.edf_runs.proofs.Gathering.{by-onset-length}
+use Rattle.edf_runs.proofs.Gathering.{by-onset-length, full-within}
 use Rattle.edf_runs.proofs.Lying.{all-out}
 
--- ---- all that is kept
+-- ---- samples are not measured
 
-joined-of : (runs : List OnsetRun) →
-    flat_map (λ (run : List DataRecord). run) (map kept_of runs) ≡ flat_map kept_of runs
-joined-of [] = refl
-joined-of (run ∷ runs) = ap (λ l. kept_of run ++ l) (joined-of runs)
-
-pub all-kept : (d : ℕ) (records : List DataRecord) (runs : List OnsetRun) → AreKept d records runs →
-    flat_map kept_of runs ≡ records
-all-kept d records runs are = sym (joined-of runs) ∙ are.are_runs.joined
-
-pub bare : (records : List DataRecord) → All (λ r. r.samples ≡ []) (map without_samples records)
+bare : (records : List DataRecord) → All (λ r. r.samples ≡ []) (map without_samples records)
 bare [] = All-nil (λ (r : DataRecord). r.samples ≡ [])
 bare (r ∷ rs) =
     All-cons (λ (x : DataRecord). x.samples ≡ []) (without_samples r) (map without_samples rs) refl
     (bare rs)
-
--- ---- samples are not measured
 
 with-samples : (base n : ℕ) (rs : List DataRecord) → BlocksFit base n (map without_samples rs) →
     BlocksFit base n rs
@@ -75,7 +64,7 @@ first-start (r ∷ rs) = r.start
 not-none : (r : DataRecord) (rs : List DataRecord) → ¬ ([] ≡ r ∷ rs)
 not-none r rs same = cc
 
-pub measured-bare : (rs : List DataRecord) (m : Measure) → IsMeasured (map without_samples rs) m →
+measured-bare : (rs : List DataRecord) (m : Measure) → IsMeasured (map without_samples rs) m →
     IsMeasured rs m
 unfolding first-start
 measured-bare [] m is = absurd (not-none is.first is.others is.parts)
@@ -91,7 +80,7 @@ measured-bare (r ∷ rs) m is = record {
 
 -- ---- outside
 
-pub outside-is : (d : ℕ) (records : List DataRecord) → Spaced d 0 records →
+outside-is : (d : ℕ) (records : List DataRecord) → Spaced d 0 records →
     sum_by (outside_here d) (map without_samples (by_onset records)) ≡ outside_count d records
 outside-is d records spaced =
     let out : Annotation → ℕ = λ a. cond (not (lies_in d records a.onset)) 1 0 in
@@ -100,74 +89,64 @@ outside-is d records spaced =
     ∙ sum_by-IsPermutation out (annotations_of records) (annotations_of (by_onset records))
     (once d records spaced)
 
--- ---- the plan of a listing
+-- ---- the plan
+
+-- what was read and kept of it, where the data records last so long
+pub of-read : (l : Layout) (records : List DataRecord) (left rest : Option (List ℕ))
+    (P : ℕ → Type 0) (d : ℕ) → ReadsFragment left rest l records →
+    d ≡ duration_of l.key.duration →
+    (Spaced d 0 records → length records ≤ MOST_RECORDS → P d) → P (duration_of l.key.duration)
+of-read l records left rest P d read is told =
+    subst P is (told
+    (subst (λ n. Spaced n 0 records) (sym is)
+    (spaced-sound l.key 0 records (spelled-sound read.bytes l.key records read.spells)))
+    (spelled-few read.bytes l.key records read.spells))
 
 begins-by-onset : (k : Key) (records : List DataRecord) → MayBegin k records →
     MayBegin k (by_onset records)
 begins-by-onset k [] begins = tt
 begins-by-onset k (r ∷ rs) begins = begins
 
-module _ (left rest : Option (List ℕ)) (listing : OnsetListing)
-    (read : ReadsByOnset left rest listing) where
+module _ (l : Layout) (records kept : List DataRecord) (left rest : Option (List ℕ))
+    (read : ReadsFragment left rest l records)
+    (all : AreKeptWithin (map without_samples (by_onset records)) kept) where
   abbrev d : ℕ
-  d = duration_of read.layout.key.duration
+  d = duration_of l.key.duration
 
-  abbrev by : List DataRecord
-  by = by_onset read.records
+  kept-length : length kept ≡ length records
+  kept-length = ap (λ (l : List DataRecord). length l) all.same ∙ by-onset-length records
 
-  pub kept-is : flat_map kept_of listing.runs.items ≡ map without_samples by
-  kept-is = all-kept d (map without_samples by) listing.runs.items read.listed
+  pub kept-few : length kept ≤ MOST_RECORDS
+  kept-few = omega (arith, kept-length, spelled-few read.bytes l.key records read.spells)
 
-  kept-length : length (flat_map kept_of listing.runs.items) ≡ length read.records
-  kept-length = ap (λ (l : List DataRecord). length l) kept-is ∙ by-onset-length read.records
+  pub kept-some : 1 ≤ length kept
+  kept-some = omega (arith, kept-length, spelled-some read.bytes l.key records read.spells)
 
-  pub kept-few : length (flat_map kept_of listing.runs.items) ≤ MOST_RECORDS
-  kept-few = omega (
-    arith,
-    kept-length,
-    spelled-few read.read.bytes read.layout.key read.records read.read.spells,
-  )
+  pub kept-bare : All (λ r. r.samples ≡ []) kept
+  kept-bare = subst (All (λ (r : DataRecord). r.samples ≡ [])) (sym all.same)
+      (bare (by_onset records))
 
-  pub kept-some : 1 ≤ length (flat_map kept_of listing.runs.items)
-  kept-some = omega (
-    arith,
-    kept-length,
-    spelled-some read.read.bytes read.layout.key read.records read.read.spells,
-  )
+  kept-measured : (m : Measure) → IsMeasured kept m → IsMeasured (by_onset records) m
+  kept-measured m is = measured-bare (by_onset records) m (subst (λ l. IsMeasured l m) all.same is)
 
-  pub kept-bare : All (λ r. r.samples ≡ []) (flat_map kept_of listing.runs.items)
-  kept-bare = subst (All (λ (r : DataRecord). r.samples ≡ [])) (sym kept-is) (bare by)
-
-  kept-measured : (m : Measure) → IsMeasured (flat_map kept_of listing.runs.items) m →
-      IsMeasured by m
-  kept-measured m is = measured-bare by m (subst (λ l. IsMeasured l m) kept-is is)
-
-  pub kept-starts : (m : Measure) → IsMeasured (flat_map kept_of listing.runs.items) m →
-      MayStart listing.identity m.first
+  pub kept-starts : (m : Measure) → IsMeasured kept m → MayStart l.key m.first
   kept-starts m is =
       let whole = kept-measured m is in
-      let begins : MayBegin read.layout.key by = begins-by-onset read.layout.key read.records
-      (spelled-begins read.read.bytes read.layout.key read.records read.read.spells) in
-      subst (λ k. MayStart k m.first) (sym read.identity)
-      (subst (MayStart read.layout.key) (sym whole.start)
-      (subst (MayBegin read.layout.key) whole.parts begins))
+      let begins : MayBegin l.key (by_onset records) = begins-by-onset l.key records
+      (spelled-begins read.bytes l.key records read.spells) in
+      subst (MayStart l.key) (sym whole.start) (subst (MayBegin l.key) whole.parts begins)
 
-  pub planned : (plan : CanonicalPlan) → plan.identity ≡ listing.identity →
-      plan.kept.items ≡ flat_map kept_of listing.runs.items →
-      IsMeasured (flat_map kept_of listing.runs.items) plan.measure →
-      plan.outside ≡ sum_by (outside_here d) (flat_map kept_of listing.runs.items) →
+  pub planned : (plan : CanonicalPlan) → plan.identity ≡ l.key → plan.kept.items ≡ kept →
+      IsMeasured kept plan.measure → plan.outside ≡ sum_by (outside_here d) kept →
       ReadsPlanByOnset left rest plan
-  planned plan identity kept measured outside = record {
-    layout = read.layout;
-    records = read.records;
-    read = read.read;
-    within = read.within;
-    planned = record {
-      identity = identity ∙ read.identity;
-      measured = kept-measured plan.measure measured;
-    };
-    kept = kept ∙ kept-is;
-    outside = outside ∙ ap (sum_by (outside_here d)) kept-is
-        ∙ outside-is d read.records (spaced-sound read.layout.key 0 read.records
-        (spelled-sound read.read.bytes read.layout.key read.records read.read.spells));
+  planned plan identity same measured outside = record {
+    layout = l;
+    records = records;
+    read = read;
+    within = full-within (by_onset records) all.within;
+    planned = record { identity = identity; measured = kept-measured plan.measure measured };
+    kept = same ∙ all.same;
+    outside = outside ∙ ap (sum_by (outside_here d)) all.same
+        ∙ outside-is d records (spaced-sound l.key 0 records
+        (spelled-sound read.bytes l.key records read.spells));
   }

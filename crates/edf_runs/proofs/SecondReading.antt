@@ -1,6 +1,6 @@
 -- A second reading, data record by data record.
 use Rattle.std.proofs.Common.{◌≡◌, ℕ, suc, ◌+◌, ◌*◌, ◌≤◌, ◌<◌, List, [], ◌∷◌, ◌++◌, length, refl}
-use Rattle.std.proofs.Common.{sym, ap, ◌∙◌, subst, arith, length-append, Option, Some}
+use Rattle.std.proofs.Common.{sym, ap, ◌∙◌, subst, arith, length-append, Option}
 use Rattle.std.proofs.Math.Nat.{suc-mul}
 use Rattle.std.proofs.KnownBytes.{Consumes-nil, Consumes-trans}
 use Rattle.edf_field.specs.Number.{duration_of}
@@ -10,12 +10,10 @@ use Rattle.edf_fragment.specs.Fragment.{DataRecord, AreDataRecords, place_after}
 use Rattle.edf_fragment.specs.declared.advance.Progress.{Progress}
 use Rattle.edf_fragment.proofs.Runs.{AreDataRecords-snoc}
 use Rattle.edf_runs.specs.Read.{ReadsOn}
-use Rattle.edf_runs.specs.Inside.Steps.{StepsOn, ReadSoFar, due}
+use Rattle.edf_runs.specs.Inside.Steps.{StepsOn, ReadSoFar}
 use Rattle.edf_runs.specs.declared.run.Run.{Run}
 use Rattle.edf_runs.proofs.Next.{has_more}
-use Rattle.edf_runs.proofs.StartsAs.{starts-as-none, starts-as-more}
-
--- ---- one data record
+use Rattle.edf_runs.proofs.Growing.{starts_more}
 
 -- ---- one after another
 
@@ -59,49 +57,35 @@ one_more l from mid to left middle rest rs instant r before step =
 
 -- ---- so far
 
-pub none_so_far : (l : Layout) (from : Progress) (left : Option (List ℕ)) (run : Run)
-    (starts : List ℕ) (next : ℕ) → from.given ≤ most_records l.count → next ≡ run.first
-    → ReadSoFar l from from left left run starts [] next 0
-none_so_far l from left run starts next few is =
+pub none_so_far : (l : Layout) (from : Progress) (left : Option (List ℕ)) (run : Run) (next : ℕ) →
+    from.given ≤ most_records l.count → next ≡ run.first →
+    ReadSoFar l from from left left run [] next 0
+none_so_far l from left run next few is =
     record {
       read = none_read l from left few;
-      start = starts-as-none (duration_of l.key.duration) run.first starts;
+      start = tt;
       counted = refl;
       next_is =
           omega (arith, is);
       first = λ all has len. has;
     }
 
--- when the next one is to start
-due-next : (l : Layout) (from mid : Progress) (left middle : Option (List ℕ)) (run : Run)
-    (starts : List ℕ) (rs : List DataRecord) (next count : ℕ) →
-    ReadSoFar l from mid left middle run starts rs next count → due starts count next
-    ≡ due starts (length rs) (run.first + length rs * duration_of l.key.duration)
-due-next l from mid left middle run starts rs next count so =
-    ap (λ (n : ℕ). due starts n next) (sym so.counted)
-    ∙ ap (λ (n : ℕ). due starts (length rs) n) so.next_is
-
 -- one more, after which the next one starts later by a duration
 pub more_so_far : (l : Layout) (from mid to : Progress) (left middle rest : Option (List ℕ))
-    (run : Run) (starts : List ℕ) (rs : List DataRecord) (next later instant count : ℕ)
-    (r : DataRecord)
-    → ReadSoFar l from mid left middle run starts rs next count → count < run.records →
-    due starts count next ≡ Some instant → StepsOn l mid to middle rest instant r →
-    later ≡ next + duration_of l.key.duration
-    → ReadSoFar l from to left rest run starts (rs ++ r ∷ []) later (count + 1)
-more_so_far l from mid to left middle rest run starts rs next later instant count r so few told
-    step after =
+    (run : Run) (rs : List DataRecord) (next later count : ℕ) (r : DataRecord) →
+    ReadSoFar l from mid left middle run rs next count → count < run.records →
+    StepsOn l mid to middle rest next r → later ≡ next + duration_of l.key.duration →
+    ReadSoFar l from to left rest run (rs ++ r ∷ []) later (count + 1)
+more_so_far l from mid to left middle rest run rs next later count r so few step after =
     let d = duration_of l.key.duration in
     let more : length (rs ++ r ∷ []) ≡ suc (length rs) = length-append rs (r ∷ []) ∙ omega arith in
     record {
-      read = one_more l from mid to left middle rest rs instant r so.read step;
-      start = starts-as-more d run.first starts rs r so.start
-          (sym (due-next l from mid left middle run starts rs next count so) ∙ told
-          ∙ ap (λ (n : ℕ). Some n) (sym step.start));
+      read = one_more l from mid to left middle rest rs next r so.read step;
+      start = starts_more d run.first rs r so.start (step.start ∙ so.next_is);
       counted = omega (arith, more, so.counted);
       next_is = let e = suc-mul (length rs) d in
           let m : length (rs ++ r ∷ []) * d ≡ suc (length rs) * d = ap (λ n. n * d) more in
           omega (arith, after, so.next_is, e, m);
-      first = λ all has len. has_more l mid to middle rest all rs instant r
+      first = λ all has len. has_more l mid to middle rest all rs next r
           (so.first all has len) (omega (arith, so.counted, few, len)) step;
     }

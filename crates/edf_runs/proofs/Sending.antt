@@ -15,8 +15,7 @@ use Rattle.edf_header.specs.declared.limits.TheConstants.{MOST_SIGNALS}
 use Rattle.edf_fragment.specs.Fragment.{DataRecord}
 use Rattle.edf_fragment.specs.Sound.{IsSoundRecord, AreSound}
 use Rattle.edf_fragment.specs.declared.advance.Progress.{Progress}
-use Rattle.edf_canonical.specs.File.{second_of, block_of, BlocksFit}
-use Rattle.edf_canonical.proofs.Annotated.{annotated-none}
+use Rattle.edf_canonical.specs.File.{second_of, block_of}
 use Rattle.edf_canonical.specs.Output.{CountsOutputFault}
 use Rattle.edf_canonical.specs.declared.fault.OutputFault.{OutputFault}
 use Rattle.edf_canonical.specs.declared.fault.OutputFault.TheVariants.{Write as FailedWrite}
@@ -27,9 +26,7 @@ use Rattle.edf_canonical.proofs.MeasuredFiles.{file_of, length_of}
 use Rattle.edf_runs.specs.Runs.{StartFrom, IsListed}
 use Rattle.edf_runs.specs.File.{marked_continuous, IsRunFile}
 use Rattle.edf_runs.specs.Again.{CountsRereadFault}
-use Rattle.edf_canonical.specs.Kept.{annotated}
-use Rattle.edf_runs.specs.WrittenByOnset.{StopsByOnset, IsNotWrittenByOnset}
-use Rattle.edf_runs.specs.Written.{CountsFault, run_text, IsRunHeader}
+use Rattle.edf_runs.specs.Written.{CountsFault, run_text, IsRunHeader, StopsInRun, IsRunUnwritten}
 use Rattle.edf_runs.specs.Inside.Steps.{fault_out}
 use Rattle.edf_runs.specs.declared.run.Run.{Run}
 use Rattle.edf_runs.specs.declared.fault.WriteFault.{WriteFault}
@@ -37,7 +34,6 @@ use Rattle.edf_runs.specs.declared.fault.WriteFault.TheVariants.{Undated, Change
 use Rattle.edf_runs.specs.declared.fault.WriteFault.TheVariants.{Write}
 use Rattle.edf_runs.proofs.Growing.{touching_from}
 use Rattle.edf_runs.proofs.SecondReading.{none_read}
-use Rattle.edf_runs.proofs.StartsAs.{starts-as-none}
 use Rattle.edf_runs.proofs.RunFiles.{marked-front, marked-len}
 
 -- ---- what is counted, and what no call tells
@@ -156,31 +152,23 @@ module _ (k : Key) (rs : List DataRecord) (run : Run) (header : List ℕ)
 
 -- ---- what is answered
 
-none_hold : (run : Run) (kept : List DataRecord) →
-    BlocksFit (second_of run.first) run.block_samples (annotated kept [])
-none_hold run kept = subst (BlocksFit (second_of run.first) run.block_samples)
-    (sym (annotated-none kept))
-    (All-nil (λ r. length (block_of (second_of run.first) r) ≤ 2 * run.block_samples))
-
 -- nothing was read or written
-pub not_begun : (l : Layout) (from : Progress) (left before : Option (List ℕ)) (run : Run)
-    (starts : List ℕ) (kept : List DataRecord) → from.given ≤ most_records l.count →
-    StopsByOnset l from from left left before before run starts kept
-not_begun l from left before run starts kept few = record {
+pub not_begun : (l : Layout) (from : Progress) (left before : Option (List ℕ)) (run : Run) →
+    from.given ≤ most_records l.count → StopsInRun l from from left left before before run
+not_begun l from left before run few = record {
   records = [];
   mid = from;
   middle = left;
   read = none_read l from left few;
-  start = starts-as-none (duration_of l.key.duration) run.first starts;
+  start = tt;
   within = omega arith;
-  holds = none_hold run kept;
+  holds = All-nil (λ r. length (block_of (second_of run.first) r) ≤ 2 * run.block_samples);
   front = inl (Keeps-refl before);
   more = inl (refl, refl);
 }
 
 pub not_written : {l : Layout} {from to : Progress} {left rest before after : Option (List ℕ)}
-    {run : Run} {starts : List ℕ} {kept : List DataRecord} (fault : WriteFault) →
-    StopsByOnset l from to left rest before after run starts kept → fault ≢ Undated →
-    IsNotWrittenByOnset l from to left rest before after run starts kept fault
+    {run : Run} (fault : WriteFault) → StopsInRun l from to left rest before after run →
+    fault ≢ Undated → IsRunUnwritten l from to left rest before after run fault
 not_written Undated s dated = absurd (dated refl)
 not_written fault s dated = s

@@ -49,24 +49,6 @@ counted-more d run records r annotations outside more out before more-is out-is 
       );
     }
 
--- annotations alone are counted
-pub tallied-same : (d : ℕ) (run : Run) (rs : List DataRecord) (a q : DataRecord) (tally : Tally) →
-    a.annotations ≡ q.annotations → IsTallied d run (rs ++ a ∷ []) tally →
-    IsTallied d run (rs ++ q ∷ []) tally
-tallied-same d run rs a q tally same is =
-    let p = is_outside run.first (run_end d run) in
-    let notes : annotations_of (rs ++ a ∷ []) ≡ annotations_of (rs ++ q ∷ []) =
-    annotations-more rs a
-    ∙ ap (λ (l : List Annotation). annotations_of rs ++ l) same ∙ sym (annotations-more rs q) in
-    record {
-      first = is.first;
-      end = is.end;
-      counted = record {
-        all = is.counted.all ∙ ap (λ (l : List Annotation). length l) notes;
-        out = is.counted.out ∙ ap (λ (l : List Annotation). count_by p l) notes;
-      };
-    }
-
 -- each has 10,000 at most
 pub few-annotations : (k : Key) (records : List DataRecord) →
     AllByRecursion (IsSoundRecord k) records →

@@ -1,5 +1,5 @@
 -- What a second reading finds of a file whose runs were listed.
-use Rattle.std.specs.Prelude.{◌≡◌, ◌≢◌, ℕ, ◌+◌, ◌*◌, ◌<◌, ◌≤◌, ◌⊎◌, List, length, Option, Some}
+use Rattle.std.specs.Prelude.{◌≡◌, ◌≢◌, ℕ, ◌+◌, ◌*◌, ◌≤◌, ◌⊎◌, List, length, Option, Some}
 use Rattle.std.specs.Prelude.{None}
 use Rattle.std.specs.Prelude.{Result, Ok, Err, MatchResult}
 use Rattle.edf_field.specs.Number.{duration_of}
@@ -17,8 +17,7 @@ use Rattle.edf_fragment.specs.declared.fault.FragmentFault.TheVariants.{Header a
 use Rattle.edf_fragment.specs.declared.fault.FragmentFault.TheVariants.{Read as FailedRead}
 use Rattle.edf_fragment.specs.declared.fault.FragmentFault.TheVariants.{Memory as NoMemory}
 use Rattle.edf_fragment.specs.declared.open_fragment.OpenFragment.{OpenFragment}
-use Rattle.edf_runs.specs.Runs.{StartFrom, IsListed}
-use Rattle.edf_runs.specs.Read.{ReadsOn}
+use Rattle.edf_runs.specs.Runs.{IsListed}
 use Rattle.edf_runs.specs.declared.run.Run.{Run}
 use Rattle.edf_runs.specs.declared.fault.WriteFault.{WriteFault}
 use Rattle.edf_runs.specs.declared.fault.WriteFault.TheVariants.{Undated, Changed, Read, Memory}
@@ -61,26 +60,8 @@ pub record StopsAt (l : Layout) (from to : Progress) (left rest : Option (List �
 abbrev pub next_start : Layout → Run → List DataRecord → ℕ
 next_start l run records = run.first + length records * duration_of l.key.duration
 
--- as many data records as the run has were read, which start as those of the run do
-pub record PassesRun (l : Layout) (from to : Progress) (left rest : Option (List ℕ))
-    (run : Run) : Type 0 where
-  pub records : List DataRecord
-  pub read : ReadsOn l from to left rest records
-  pub starts : StartFrom (duration_of l.key.duration) run.first records
-  pub count : length records ≡ run.records
-
--- fewer were read, and the next was refused
-pub record StopsBefore (l : Layout) (from to : Progress) (left rest : Option (List ℕ)) (run : Run)
-    (fault : WriteFault) : Type 0 where
-  pub records : List DataRecord
-  pub mid : Progress
-  pub middle : Option (List ℕ)
-  pub read : ReadsOn l from mid left middle records
-  pub starts : StartFrom (duration_of l.key.duration) run.first records
-  pub fewer : length records < run.records
-  pub stop : StopsAt l mid to middle rest (next_start l run records) fault
-
--- the run comes next: the input has such data records, whose number the header allows
+-- the run comes next: the input has data records, whose number the header allows, of which just
+-- this was listed
 pub record ComesNext (l : Layout) (from : Progress) (left : Option (List ℕ)) (run : Run) : Type 0
   where
     pub going : from.state ≡ Reading

@@ -5,6 +5,7 @@ use Rattle.std.specs.Prelude.{IsPermutation}
 use Rattle.std.specs.List.{flat_map, AllZip}
 use Rattle.edf_field.specs.Number.{duration_of}
 use Rattle.edf_header.specs.Key.{Key, IsKey}
+use Rattle.edf_tal.specs.Block.{IsWithinLimits}
 use Rattle.edf_tal.specs.Tal.{Annotation}
 use Rattle.edf_fragment.specs.Fragment.{DataRecord, Spells}
 use Rattle.edf_fragment.specs.Sound.{AreSound}
@@ -138,3 +139,8 @@ StayAlike = (k : Key) (records : List DataRecord) → AreSound k 0 records →
 -- those of each data record are in order
 abbrev pub StayInOrder : Type 0
 StayInOrder = (records : List DataRecord) → All (λ r. AreInOrder r.annotations) (by_onset records)
+
+-- where none has too many annotations, data records by onset are sound
+abbrev pub StaySound : Type 0
+StaySound = (k : Key) (records : List DataRecord) → AreSound k 0 records →
+    All (λ r. IsWithinLimits r.annotations) (by_onset records) → AreSound k 0 (by_onset records)

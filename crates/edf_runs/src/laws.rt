@@ -7,11 +7,10 @@ ghost use Rattle.edf_header.specs.Key.{Key, IsKey};
 ghost use Rattle.edf_fragment.specs.Fragment.{DataRecord};
 ghost use Rattle.edf_fragment.specs.Sound.{AreSound, MayBegin};
 ghost use Rattle.edf_runs.specs.ByOnset.{EachInItsRun, EachWhereStarted, EachWhereItLies};
-ghost use Rattle.edf_runs.specs.ByOnset.{StayAlike, StayInOrder};
+ghost use Rattle.edf_runs.specs.ByOnset.{StayAlike, StayInOrder, StaySound};
 ghost use Rattle.edf_runs.specs.Canonical.{LeavesFrontOfFile};
 ghost use Rattle.edf_runs.specs.Counted.{OutsideIsNotCovered};
 ghost use Rattle.edf_runs.specs.File.{IsRunFile, IsContinuous};
-ghost use Rattle.edf_runs.specs.KeptByOnset.{KeptAreByOnset, StaySound};
 ghost use Rattle.edf_runs.specs.OneByOnset.{AreOneByOnset, AreOneHoweverSpread, StaysByOnset};
 ghost use Rattle.edf_runs.specs.OneByOnset.{ToldAlike, PiecesAreOfCard};
 ghost use Rattle.edf_runs.specs.Order.{HaveOneOrder};
@@ -58,12 +57,13 @@ pub fn each_annotation_in_its_run()
 /// Where data records rise in time, each of those by onset has just the annotations for whose
 /// onsets it is the last that starts; one whose onset lies in a data record is in that one alone.
 /// Starts and samples stay, and each annotation is there once; those of one data record are in
-/// order.
+/// order. They are sound, so that their runs have files, where none has too many annotations.
 pub fn by_onset()
     ensures which { EachWhereStarted }
     ensures lies { EachWhereItLies }
     ensures alike { StayAlike }
     ensures order { StayInOrder }
+    ensures sound { StaySound }
 {}
 
 /// Where [`write_canonical`](crate::write_canonical) ends in a fault, and its input spells what was
@@ -115,12 +115,4 @@ pub fn the_canonical_file_by_onset()
     ensures unchanged { StaysAsPlanned }
     ensures file { WritesByOnset }
     ensures alike { WritesAlike }
-{}
-
-/// The runs of a recording, read a second time, with what was kept of them where they were listed
-/// by onset, are the runs of its data records by onset; and these are sound, so that their runs
-/// have files, where none has too many annotations.
-pub fn kept_by_onset()
-    ensures runs { KeptAreByOnset }
-    ensures sound { StaySound }
 {}

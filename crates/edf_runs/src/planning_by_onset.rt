@@ -1,43 +1,25 @@
 //! What is known of a canonical file by onset before its first byte is written.
 
-ghost use Rattle.std.specs.Prelude.{◌≡◌, ◌+◌, ◌≤◌, ℕ, List, Option, IfOk, MatchResult, length};
-ghost use Rattle.std.specs.Prelude.{sum_by};
-ghost use Rattle.std.specs.List.{flat_map};
+ghost use Rattle.std.specs.Prelude.{◌≡◌, ◌+◌, ◌≤◌, List, MatchResult, length, sum_by};
 ghost use Rattle.edf_header.specs.declared.limits.TheConstants.{MOST_RECORDS};
 ghost use Rattle.edf_tal.specs.declared.limits.TheConstants.{MOST_ANNOTATIONS};
-ghost use Rattle.edf_runs.specs.OnsetRead.{ReadsByOnset, IsOnsetFault, CountsOnset, kept_of};
+ghost use Rattle.edf_runs.specs.OnsetRead.{IsOnsetFault, CountsOnset};
 ghost use Rattle.edf_runs.specs.PlanByOnset.{ReadsPlanByOnset};
 ghost use Rattle.edf_canonical.specs.Measure.{IsMeasuredSoFar};
 ghost use Rattle.edf_runs.specs.Inside.Measuring.{outside_here};
 
 use crate::canonical_plan::CanonicalPlan;
 use crate::counting::outside_of;
-use crate::listing_by_onset::list_by_onset;
-use crate::onset_listing::{OnsetFault, OnsetListing};
-use crate::onset_run::OnsetRun;
+use crate::gathered::gather;
+use crate::keeping::kept_by_onset;
+use crate::onset_fault::OnsetFault;
 use edf_canonical::Measure;
 use edf_field::MOST_DURATION;
-use edf_fragment::{Input, Record};
-use std::alloc::{AllocError, Global};
-
-/// The data records that are kept of runs, one after another.
-fn kept_of_all(alloc: Global, runs: Vec<OnsetRun>) -> Result<Vec<Record>, AllocError>
-    ensures { IfOk result (λ kept. kept.items ≡ flat_map kept_of runs.items) }
-{
-    let mut all = Vec::new(alloc);
-    for run in runs {
-        let OnsetRun {
-            run: _,
-            mut kept,
-            starts: _,
-        } = run;
-        all.append(&mut kept)?;
-    }
-    Ok(all)
-}
+use edf_fragment::{Input, OpenFragment, Record};
+use std::alloc::Global;
 
 /// What is measured of data records.
-pub(crate) fn measure_all(data_records: &[Record]) -> Option<Measure>
+fn measure_all(data_records: &[Record]) -> Option<Measure>
     requires { length data_records.now ≤ MOST_RECORDS }
     ensures { IsMeasuredSoFar data_records.now result }
 {
@@ -71,41 +53,35 @@ fn outside_in(kept: &[Record], duration: u64) -> u64
     outside
 }
 
-/// What the canonical file of a file needs whose runs were listed by onset.
-pub(crate) fn plan_listed(alloc: Global, listing: OnsetListing) -> Result<CanonicalPlan, AllocError>
-    requires { (left : Option (List ℕ)) × (rest : Option (List ℕ)) × ReadsByOnset left rest listing }
-    ensures { IfOk result (λ plan. (left rest : Option (List ℕ)) → ReadsByOnset left rest listing →
-        ReadsPlanByOnset left rest plan) }
-{
-    let OnsetListing { identity, runs } = listing;
-    let kept = kept_of_all(alloc, runs)?;
-    let outside = outside_in(kept.as_slice(), identity.duration());
-    match measure_all(kept.as_slice()) {
-        Some(measure) => Ok(CanonicalPlan {
-            identity,
-            measure,
-            kept,
-            outside,
-        }),
-        None => unreachable!(),
-    }
-}
-
 /// Reads a whole file of EDF+C or EDF+D and plans its canonical file by onset: each annotation is
 /// in the last data record that starts at or before its onset, or, where none does, in the first.
-/// The annotations of the whole recording are in memory, and one data record's samples at a time.
+/// Those of one data record are in order: by onset, then by duration, none first, then by the bytes
+/// of the text. The annotations of the whole recording are in memory, and one data record's samples
+/// at a time.
 ///
 /// # Errors
-/// As [`list_by_onset`].
+/// `Fragment`: the first fault of the bytes by the order of the header, the data records and the
+/// end, or `Read` where a read failed. `TooMany` (E28) after the whole file was read, where a data
+/// record would get more annotations than the limits of a data record allow. `Memory` where memory
+/// ran out.
 pub fn plan_by_onset<R: Input>(alloc: Global, input: &mut R) -> Result<CanonicalPlan, OnsetFault>
     ensures answer { MatchResult result
         (ReadsPlanByOnset (R.remaining input.old) (R.remaining input.new))
         (IsOnsetFault (R.remaining input.old) (R.remaining input.new)) }
     ensures counted { CountsOnset (R.failures input.old) (R.failures input.new) result }
 {
-    let listing = list_by_onset(alloc, input)?;
-    match plan_listed(alloc, listing) {
-        Ok(plan) => Ok(plan),
-        Err(_) => Err(OnsetFault::Memory),
-    }
+    let mut fragment = OpenFragment::read(alloc, input)?;
+    let duration = fragment.header().identity().duration();
+    let gathered = gather(alloc, &mut fragment, input)?;
+    let kept = kept_by_onset(alloc, gathered, duration)?;
+    let outside = outside_in(kept.as_slice(), duration);
+    let Some(measure) = measure_all(kept.as_slice()) else {
+        unreachable!();
+    };
+    Ok(CanonicalPlan {
+        identity: fragment.into_header().into_identity(),
+        measure,
+        kept,
+        outside,
+    })
 }

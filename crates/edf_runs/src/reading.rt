@@ -1,20 +1,14 @@
 //! Data records of a file that is read a second time.
 
-ghost use Rattle.std.specs.Prelude.{◌≡◌, List, [], MatchResult};
+ghost use Rattle.std.specs.Prelude.{◌≡◌, MatchResult};
 ghost use Rattle.edf_fragment.specs.Reading.{ReadsHeader, at_first};
-ghost use Rattle.edf_runs.specs.Again.{fault_again, IsNotReopened, PassesRun, StopsBefore, StopsAt};
-ghost use Rattle.edf_fragment.specs.Fragment.{DataRecord};
-ghost use Rattle.edf_runs.specs.Again.{RereadsRun, CountsRereads};
-ghost use Rattle.edf_runs.specs.WrittenByOnset.{RereadsByOnset};
+ghost use Rattle.edf_runs.specs.Again.{fault_again, CountsRereads, IsNotReopened, StopsAt};
 ghost use Rattle.edf_runs.specs.Inside.Steps.{StepsOn};
 
 use crate::fault::WriteFault;
-use crate::onset_listing::OnsetListing;
-use crate::run::Run;
 use crate::run_list::Listing;
 use edf_fragment::{FragmentFault, Input, OpenFragment, Record};
 use edf_header::Identity;
-use edf_header::laws::header_is_layout;
 use std::alloc::Global;
 
 /// Why a second reading stops, by the fault that it met. The file had no fault of form when its
@@ -58,10 +52,10 @@ pub(crate) fn open_again<R: Input>(
 /// # Errors
 /// `Changed` where the header is refused now, or names another recording; `Read` where a read
 /// failed, `Memory` where memory ran out.
-pub fn reopen_by_onset<R: Input>(
+pub fn reopen_listed<R: Input>(
     alloc: Global,
     input: &mut R,
-    listing: &OnsetListing,
+    listing: &Listing,
 ) -> Result<OpenFragment, WriteFault>
     ensures answer { MatchResult result
         (λ fragment. ReadsHeader (R.remaining input.old) (R.remaining input.new) fragment.header
@@ -97,33 +91,4 @@ pub(crate) fn next_at<R: Input>(
         Ok(None) => Err(WriteFault::Changed),
         Err(fault) => Err(fault_again(fault)),
     }
-}
-
-/// Reads past the data records of a run.
-///
-/// # Errors
-/// `Changed` where fewer come, where one starts at another instant, or is refused; `Read` where a
-/// read failed, `Memory` where memory ran out.
-pub fn skip_run<R: Input>(
-    fragment: &mut OpenFragment,
-    input: &mut R,
-    run: &Run,
-) -> Result<(), WriteFault>
-    ensures reread { RereadsRun fragment.old fragment.new (R.remaining input.old) run.now result }
-    ensures by_onset { (kept : List DataRecord) →
-        RereadsByOnset fragment.old fragment.new (R.remaining input.old) run.now [] kept result }
-    ensures answer { MatchResult result
-        (λ _. PassesRun fragment.old.header fragment.old.progress fragment.new.progress
-        (R.remaining input.old) (R.remaining input.new) run.now)
-        (StopsBefore fragment.old.header fragment.old.progress fragment.new.progress
-        (R.remaining input.old) (R.remaining input.new) run.now) }
-    ensures counted { CountsRereads (R.failures input.old) (R.failures input.new) result }
-{
-    header_is_layout(fragment.header());
-    let duration = fragment.header().identity().duration();
-    let mut next = run.first().nanos();
-    for _ in 0..run.records() {
-        next = next_at(fragment, input, next)?.start().nanos() + duration;
-    }
-    Ok(())
 }

@@ -2,7 +2,6 @@
 
 ghost use Rattle.std.specs.Prelude.{◌≡◌, ◌≤◌};
 ghost use Rattle.edf_header.specs.declared.limits.TheConstants.{MOST_RECORDS};
-ghost use Rattle.edf_runs.specs.Inside.Steps.{due};
 
 use crate::fault::WriteFault;
 use crate::reading::{fault_again, next_at};
@@ -11,7 +10,6 @@ use crate::tally::Tally;
 use edf_canonical::{Source, kept_or};
 use edf_fragment::{Input, OpenFragment, Record};
 use edf_header::MOST_RECORDS;
-use edf_time::Instant;
 
 /// Gives them, each of which must start when what was kept of it does, where something was.
 #[derive(Drop)]
@@ -52,32 +50,19 @@ impl<'k, R: Input> Source<OpenFragment, R> for WholeAgain<'k> {
     }
 }
 
-/// When the nth data record is to start: at this instant, or, where some are told, then.
-fn due(starts: &[Instant], nth: usize, next: u64) -> Option<u64>
-    ensures { result ≡ due starts.now nth next }
-{
-    if starts.is_empty() {
-        return Some(next);
-    }
-    let start = starts.get(nth)?;
-    Some(start.nanos())
-}
-
-/// Gives the data records of a run that comes next, each of which must start when it is to, and
-/// counts the annotations that go out.
+/// Gives the data records of a run that comes next, each of which must start where the one before
+/// ends, and counts their annotations.
 #[derive(Drop)]
-pub(crate) struct RunAgain<'k> {
-    pub(crate) run: &'k Run,
-    pub(crate) starts: &'k [Instant],
-    pub(crate) kept: &'k [Record],
+pub(crate) struct RunAgain<'r> {
+    pub(crate) run: &'r Run,
     /// How many came so far.
     pub(crate) nth: u32,
-    /// When the next one starts in the run's file.
+    /// When the next one is to start.
     pub(crate) next: u64,
     pub(crate) tally: Tally,
 }
 
-impl<'k, R: Input> Source<OpenFragment, R> for RunAgain<'k> {
+impl<'r, R: Input> Source<OpenFragment, R> for RunAgain<'r> {
     ghost use Rattle.std.specs.Prelude.{⊤};
     ghost use Rattle.edf_runs.specs.Inside.Putting.{ReadsRun};
 
@@ -99,16 +84,8 @@ impl<'k, R: Input> Source<OpenFragment, R> for RunAgain<'k> {
             }
             return Ok(None);
         }
-        let nth = self.nth as usize;
-        let Some(instant) = due(self.starts, nth, self.next) else {
-            return Err(WriteFault::Changed);
-        };
-        let data_record = next_at(fragment, input, instant)?;
-        let annotated = kept_or(self.kept, nth, &data_record);
-        if annotated.start().nanos() != self.next {
-            return Err(WriteFault::Changed);
-        }
-        self.tally = self.tally.with(annotated);
+        let data_record = next_at(fragment, input, self.next)?;
+        self.tally = self.tally.with(&data_record);
         self.nth += 1;
         self.next += duration;
         Ok(Some(data_record))

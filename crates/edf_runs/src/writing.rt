@@ -1,25 +1,20 @@
 //! The file of a run, written data record by data record in a second reading.
 
-ghost use Rattle.std.specs.Prelude.{◌≡◌, ◌≢◌, ◌+◌, ◌*◌, ◌≤◌, ◌↔◌, Err, IfOk, IfErr, []};
-ghost use Rattle.std.specs.Prelude.{All, length};
+ghost use Rattle.std.specs.Prelude.{◌≡◌, ◌≢◌, ◌+◌, ◌*◌, ◌≤◌, ◌↔◌, Err, IfOk, IfErr, length};
 ghost use Rattle.edf_header.specs.Key.{MayStart};
+ghost use Rattle.edf_runs.specs.Again.{RereadsRun};
 ghost use Rattle.edf_runs.specs.File.{marked_continuous};
-ghost use Rattle.edf_runs.specs.Written.{CountsCalls, IsRunHeader};
-ghost use Rattle.edf_runs.specs.WrittenByOnset.{RereadsByOnset, IsWrittenByOnset};
-ghost use Rattle.edf_runs.specs.WrittenByOnset.{IsNotWrittenByOnset};
-ghost use Rattle.edf_runs.specs.OnsetRead.{kept_of, starts_of};
+ghost use Rattle.edf_runs.specs.Written.{CountsCalls, IsRunHeader, IsRunWritten, IsRunUnwritten};
 
 use crate::fault::WriteFault;
-use crate::onset_run::OnsetRun;
 use crate::rereading::RunAgain;
 use crate::run::Run;
 use crate::tally::Tally;
 use crate::written::Written;
 use edf_canonical::{Measure, send};
-use edf_fragment::{Input, OpenFragment, Output, Record};
+use edf_fragment::{Input, OpenFragment, Output};
 use edf_header::laws::{header_is_layout, identity_is_key};
 use edf_header::{Identity, MOST_SIGNALS, write_header};
-use edf_time::Instant;
 use std::alloc::{AllocError, Global};
 
 /// A header with EDF+C at the front of the reserved field, which begins at byte 192.
@@ -53,29 +48,33 @@ fn run_header(alloc: Global, identity: &Identity, run: &Run) -> Result<Vec<u8>, 
     Ok(header)
 }
 
-/// Writes the file of a run, whose data records start then, as they were kept.
-fn write_annotated<R: Input, W: Output>(
+/// Reads the data records of a run again, which come next in its file, and writes the run's file:
+/// their canonical file, but EDF+C in place of EDF+D. It tells the length in bytes, how many
+/// annotations the file has, and how many of these have an onset outside of the run.
+///
+/// One data record is in memory at a time beside a buffer of 64 KiB. The writer is not flushed.
+///
+/// # Errors
+/// `Undated` where no header can name the run's start; then nothing was read or written. `Changed`
+/// where data records come that start at other instants than were listed, or fewer, or with other
+/// blocks; `Read` (E40) where a read failed, `Memory` (E41) where memory ran out, `Write` (E43)
+/// where a write failed or took none of some bytes. Then a front of the file may have been written.
+pub fn write_run<R: Input, W: Output>(
     alloc: Global,
     fragment: &mut OpenFragment,
     input: &mut R,
     run: &Run,
-    starts: &[Instant],
-    kept: &[Record],
     out: &mut W,
 ) -> Result<Written, WriteFault>
-    requires { All (λ r. r.samples ≡ []) kept.now }
-    ensures reread { RereadsByOnset fragment.old fragment.new (R.remaining input.old) run.now
-        starts.now kept.now result }
+    ensures reread { RereadsRun fragment.old fragment.new (R.remaining input.old) run.now result }
     ensures written { IfOk result
-        (IsWrittenByOnset fragment.old.header fragment.old.progress fragment.new.progress
+        (IsRunWritten fragment.old.header fragment.old.progress fragment.new.progress
         (R.remaining input.old) (R.remaining input.new) (W.contents out.old) (W.contents out.new)
-        run.now starts.now
-        kept.now) }
+        run.now) }
     ensures refused { IfErr result
-        (IsNotWrittenByOnset fragment.old.header fragment.old.progress fragment.new.progress
+        (IsRunUnwritten fragment.old.header fragment.old.progress fragment.new.progress
         (R.remaining input.old) (R.remaining input.new) (W.contents out.old) (W.contents out.new)
-        run.now starts.now
-        kept.now) }
+        run.now) }
     ensures dated { (result ≢ Err WriteFault.Undated)
         ↔ MayStart fragment.old.header.key run.now.first }
     ensures counted { CountsCalls (R.failures input.old) (R.failures input.new)
@@ -93,8 +92,6 @@ fn write_annotated<R: Input, W: Output>(
     let header_bytes = header.as_slice();
     let mut source = RunAgain {
         run,
-        starts,
-        kept,
         nth: 0,
         next: run.first().nanos(),
         tally: Tally::of(run, identity.duration()),
@@ -111,7 +108,7 @@ fn write_annotated<R: Input, W: Output>(
         input,
         header_bytes,
         measure,
-        kept,
+        &[],
         out,
     )?;
     Ok(Written {
@@ -119,54 +116,4 @@ fn write_annotated<R: Input, W: Output>(
         annotations: source.tally.annotations,
         outside: source.tally.outside,
     })
-}
-
-/// Reads the data records of a run again, which come next in its file, and writes the run's file:
-/// their canonical file, but EDF+C in place of EDF+D. It tells the length in bytes, how many
-/// annotations the file has, and how many of these have an onset outside of the run.
-///
-/// Where something was kept of the run, its data records go out as they were listed: with the
-/// annotations that they have by their onsets; or, over short gaps, moved so that each starts where
-/// the one before ends. In both cases the annotations are those of the first reading. What the
-/// second reading has of annotations doesn't matter, and a change of them is not told.
-///
-/// One data record is in memory at a time beside those annotations and a buffer of 64 KiB. The
-/// writer is not flushed.
-///
-/// # Errors
-/// `Undated` where no header can name the run's start; then nothing was read or written. `Changed`
-/// where data records come that start at other instants than were listed, or fewer, or with other
-/// blocks; `Read` (E40) where a read failed, `Memory` (E41) where memory ran out, `Write` (E43)
-/// where a write failed or took none of some bytes. Then a front of the file may have been written.
-pub fn write_by_onset<R: Input, W: Output>(
-    alloc: Global,
-    fragment: &mut OpenFragment,
-    input: &mut R,
-    run: &OnsetRun,
-    out: &mut W,
-) -> Result<Written, WriteFault>
-    ensures reread { RereadsByOnset fragment.old fragment.new (R.remaining input.old) run.now.run
-        (starts_of run.now) (kept_of run.now) result }
-    ensures written { IfOk result
-        (IsWrittenByOnset fragment.old.header fragment.old.progress fragment.new.progress
-        (R.remaining input.old) (R.remaining input.new) (W.contents out.old) (W.contents out.new)
-        run.now.run (starts_of run.now) (kept_of run.now)) }
-    ensures refused { IfErr result
-        (IsNotWrittenByOnset fragment.old.header fragment.old.progress fragment.new.progress
-        (R.remaining input.old) (R.remaining input.new) (W.contents out.old) (W.contents out.new)
-        run.now.run (starts_of run.now) (kept_of run.now)) }
-    ensures dated { (result ≢ Err WriteFault.Undated)
-        ↔ MayStart fragment.old.header.key run.now.run.first }
-    ensures counted { CountsCalls (R.failures input.old) (R.failures input.new)
-        (W.failures out.old) (W.failures out.new) result }
-{
-    write_annotated(
-        alloc,
-        fragment,
-        input,
-        &run.run,
-        run.starts.as_slice(),
-        run.kept.as_slice(),
-        out,
-    )
 }

@@ -9,8 +9,8 @@ use edf_fragment::{FragmentFault, Remark};
 const BY_NAMED: &str = "the rules that --as names do not mend it, so name others too, or leave \
     --as out; where clock is named, a start may be too far from its place";
 
-const LEFT_OUT: &str = "readers may leave out annotations that lie outside of the run; with \
-    --by-onset only those do whose onsets lie in no run";
+const LEFT_OUT: &str = "readers may leave out annotations that lie outside of the run; split \
+    what 'canonical --by-onset' writes, and only those do whose onsets lie in no run";
 
 fn explain_form(terminal: &Terminal<'_>, name: &str, fault: &FragmentFault) {
     let row = row_of(fault);

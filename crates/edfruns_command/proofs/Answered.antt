@@ -1,6 +1,6 @@
 -- What is answered where something is told.
 use Rattle.std.proofs.Common.{◌≡◌, ◌≢◌, ◌⊎◌, ℕ, List, [], Bool, true, false, inl, inr, refl, subst, suc, ◌++◌, ◌∷◌}
-use Rattle.std.proofs.Common.{ap, ◌∙◌, arith, append_assoc, replicate, codes}
+use Rattle.std.proofs.Common.{ap, ◌∙◌, arith, append_assoc, replicate}
 use Rattle.std.specs.Prelude.{Option}
 use Rattle.std.specs.Bool.{MatchBool}
 use Rattle.edf_fragment.specs.declared.fault.FragmentFault.{FragmentFault}
@@ -12,17 +12,13 @@ use Rattle.edf_program.specs.declared.status.Status.TheVariants.{Done, Trouble}
 use Rattle.edf_runs.specs.declared.fault.WriteFault.{WriteFault}
 use Rattle.edf_runs.specs.declared.fault.WriteFault.TheVariants.{Undated}
 use Rattle.edf_runs.specs.Written.{CountsFault}
-use Rattle.edf_runs.specs.declared.onset_listing.OnsetFault.{OnsetFault}
-use Rattle.edf_runs.specs.declared.onset_listing.OnsetFault.TheVariants as onset
+use Rattle.edf_runs.specs.declared.onset_fault.OnsetFault.{OnsetFault}
+use Rattle.edf_runs.specs.declared.onset_fault.OnsetFault.TheVariants as onset
 use Rattle.edf_fragment.specs.Fault.{fragment_fault_number}
 use Rattle.edf_program.proofs.Undone.{undone, refused-undone, trouble-undone, number-undone}
 use Rattle.edfruns_command.specs.Inside.{OpensUpTo, IsPlanRefused}
-use Rattle.edf_runs.specs.declared.joining.Joining.{Joining}
-use Rattle.edfruns_command.specs.JoinedPlan.{HasJoinedFault, LacksJoinedPlan, part_of}
-use Rattle.edfruns_command.specs.Planning.{HasPlanFault, LacksPlan}
-use Rattle.edfruns_command.specs.Writing.{CountsWrite}
+use Rattle.edfruns_command.specs.Canonical.{CountsWrite, HasPlanFault, LacksPlan}
 use Rattle.edfruns_command.specs.Lines.{file_refused_line, file_refused_status, crowded_line}
-use Rattle.edfruns_command.specs.Lines.{run_refused_status}
 use Rattle.edfruns_command.specs.Listing.{HasFault, RefusesFile, LacksMemory, OpensAgain}
 
 -- what was asked for was `Done`, and the answer says whether it came
@@ -92,13 +88,14 @@ opened-then before mid after name status first then = record {
 
 -- ---- a refusal is no success
 
-wanted-undone : (why : WriteFault) → run_refused_status why ≢ Done
-wanted-undone Undated done = cc
-wanted-undone why done = cc
-
-pub run-undone : (w : Growth) (bytes : List ℕ) (why : WriteFault) (status : Status) →
-    IsWritten w bytes (run_refused_status why) status → status ≢ Done
-run-undone w bytes why status = undone w bytes (run_refused_status why) status (wanted-undone why)
+pub file-undone : (err : Growth) (name : List ℕ) (met : FragmentFault) (status : Status) →
+    IsWritten err (file_refused_line name met) (file_refused_status met) status
+    ⊎ IsWritten err (memory_line name) Trouble status → status ≢ Done
+file-undone err name met status (inl said) done =
+    undone err (file_refused_line name met) (file_refused_status met) status
+    (number-undone (fragment_fault_number met)) said done
+file-undone err name met status (inr said) done =
+    trouble-undone err (memory_line name) status said done
 
 -- ---- failed writes
 
@@ -111,7 +108,7 @@ counts-write w old new why counts = counts.1
 
 pub lacks-plan : (out err : Growth) (bytes : Option (List ℕ)) (name : List ℕ) (status : Status)
     (by_onset : Bool) → Gets out [] → (fault : OnsetFault) → HasPlanFault by_onset bytes fault →
-    IsPlanRefused err name (codes "run") fault status →
+    IsPlanRefused err name fault status →
     LacksPlan out err bytes name status by_onset
 lacks-plan out err bytes name status by_onset nothing (onset.Fragment met) has said =
     inr (refused out err bytes name met status nothing has said)
@@ -120,28 +117,12 @@ lacks-plan out err bytes name status by_onset nothing (onset.TooMany number) has
 lacks-plan out err bytes name status by_onset nothing onset.Memory has said =
     inr (inr (nothing, said))
 
-pub lacks-joined-plan : (out err : Growth) (bytes : Option (List ℕ)) (name : List ℕ)
-    (status : Status) (by_onset : Bool) (joining : Option Joining) → Gets out [] →
-    (fault : OnsetFault) → HasJoinedFault joining by_onset bytes fault →
-    IsPlanRefused err name (part_of joining) fault status →
-    LacksJoinedPlan out err bytes name status joining by_onset
-lacks-joined-plan out err bytes name status by_onset joining nothing (onset.Fragment met) has said =
-    inr (refused out err bytes name met status nothing has said)
-lacks-joined-plan out err bytes name status by_onset joining nothing (onset.TooMany number) has said
-    = inl (record { number = number; crowded = has; said = (nothing, said) })
-lacks-joined-plan out err bytes name status by_onset joining nothing onset.Memory has said =
-    inr (inr (nothing, said))
-
-pub plan-undone : (err : Growth) (name part : List ℕ) (fault : OnsetFault) (status : Status) →
-    IsPlanRefused err name part fault status → status ≢ Done
-plan-undone err name part (onset.Fragment met) status (inl said) done =
-    undone err (file_refused_line name met) (file_refused_status met) status
-    (number-undone (fragment_fault_number met)) said done
-plan-undone err name part (onset.Fragment met) status (inr said) done =
-    trouble-undone err (memory_line name) status said done
-plan-undone err name part (onset.TooMany number) status said done =
-    refused-undone err (crowded_line part number) status said done
-plan-undone err name part onset.Memory status said done =
+pub plan-undone : (err : Growth) (name : List ℕ) (fault : OnsetFault) (status : Status) →
+    IsPlanRefused err name fault status → status ≢ Done
+plan-undone err name (onset.Fragment met) status said done = file-undone err name met status said done
+plan-undone err name (onset.TooMany number) status said done =
+    refused-undone err (crowded_line number) status said done
+plan-undone err name onset.Memory status said done =
     trouble-undone err (memory_line name) status said done
 
 pub opened-refused : (before after : List (List ℕ)) (name : List ℕ) (status : Status) →

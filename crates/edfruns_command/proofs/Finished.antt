@@ -6,12 +6,12 @@ use Rattle.std.proofs.lemmas.List.{take_all}
 use Rattle.edf_field.specs.Number.{duration_of}
 use Rattle.edf_header.specs.Key.{Key}
 use Rattle.edf_fragment.specs.Fragment.{DataRecord}
-use Rattle.edf_runs.specs.KeptByOnset.{annotated_runs}
-use Rattle.edf_runs.specs.declared.onset_run.OnsetRun.{OnsetRun}
+use Rattle.edf_runs.specs.declared.run.Run.{Run}
 use Rattle.edf_new_files.specs.Made.{MadeFile, names_of}
 use Rattle.edf_new_files.specs.Making.{Making}
 use Rattle.edfruns_command.specs.Made.{IsHalf}
-use Rattle.edfruns_command.specs.Splitting.{HasMade, HoldsRun, IsKeptRun, WereFinished}
+use Rattle.edf_runs.specs.Runs.{IsListed}
+use Rattle.edfruns_command.specs.Splitting.{HasMade, HoldsRun, WereFinished}
 use Rattle.edfruns_command.specs.InsideSplit.{as_begun}
 
 module _ (known : Bool) (k : Key) where
@@ -55,11 +55,11 @@ module _ (known : Bool) (k : Key) where
       (subst (WereFinished known k runs) (sym same) (forgets runs old were))
 
 -- of so many of the first listed runs files were finished
-pub has-made : (m : Making) (names : List (List ℕ)) (k : Key) (listed : List OnsetRun) (n : ℕ)
+pub has-made : (m : Making) (names : List (List ℕ)) (k : Key) (listed : List Run) (n : ℕ)
     (runs : List (List DataRecord)) (files : List MadeFile) → m.after ≡ m.before ++ files →
     names_of files ≡ take n names →
-    AllZip (IsKeptRun (duration_of k.duration)) runs (take n listed) →
-    AllZip (HoldsRun m.known k) (annotated_runs runs (take n listed)) files →
+    AllZip (IsListed (duration_of k.duration)) runs (take n listed) →
+    AllZip (HoldsRun m.known k) runs files →
     HasMade m names k listed n n
 has-made m names k listed n runs files made named are held = record {
   files = files;
@@ -67,24 +67,22 @@ has-made m names k listed n runs files made named are held = record {
   named = named;
   runs = runs;
   are_listed = are;
-  were = all-finished m.known k (annotated_runs runs (take n listed)) files held;
+  were = all-finished m.known k runs files held;
 }
 
 -- and of all
-pub has-all : (m : Making) (names : List (List ℕ)) (k : Key) (listed : List OnsetRun)
+pub has-all : (m : Making) (names : List (List ℕ)) (k : Key) (listed : List Run)
     (runs : List (List DataRecord)) (files : List MadeFile) → m.after ≡ m.before ++ files →
     names_of files ≡ names → length names ≡ length listed →
-    AllZip (IsKeptRun (duration_of k.duration)) runs listed →
-    AllZip (HoldsRun m.known k) (annotated_runs runs listed) files →
+    AllZip (IsListed (duration_of k.duration)) runs listed →
+    AllZip (HoldsRun m.known k) runs files →
     HasMade m names k listed (length listed) (length listed)
 has-all m names k listed runs files made named fit are held =
     let n = length listed in
     let all : listed ≡ take n listed = sym (take_all n listed (omega arith)) in
     has-made m names k listed n runs files made
     (named ∙ sym (take_all n names (omega (arith, fit))))
-    (subst (λ (ls : List OnsetRun). AllZip (IsKeptRun (duration_of k.duration)) runs ls) all are)
-    (subst (λ (ls : List OnsetRun). AllZip (HoldsRun m.known k) (annotated_runs runs ls) files) all
-    held)
+    (subst (λ (ls : List Run). AllZip (IsListed (duration_of k.duration)) runs ls) all are) held
 
 names-again : (files : List MadeFile) → names_of (map as_begun files) ≡ names_of files
 names-again [] = refl

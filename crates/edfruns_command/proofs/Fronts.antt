@@ -2,25 +2,25 @@
 use Rattle.std.proofs.Common.{◌≡◌, ℕ, ◌-◌, List, [], ◌++◌, ap, ◌∙◌, append-nil, codes, decimal, Option}
 use Rattle.edf_time.specs.Decimal.{short}
 use Rattle.edf_runs.specs.declared.run.Run.{Run}
-use Rattle.edfruns_command.specs.Lines.{end_of, gap_text, line_front}
+use Rattle.edfruns_command.specs.Lines.{end_of, gap_text, run_front}
 use Rattle.edf_program.proofs.Parts.{four-parts}
 
 -- its parts are these
-pub front-of : (spell : ℕ → List ℕ) (d number records : ℕ) (first last : Run) (next : Option Run)
+pub front-of : (spell : ℕ → List ℕ) (d number : ℕ) (run : Run) (next : Option Run)
     (a s t g front : List ℕ)
-    → a ≡ decimal number ++ (codes " records=" ++ (decimal records ++ codes " first=")) →
-    s ≡ spell first.first → t ≡ short (end_of d last - first.first) → g ≡ gap_text d last next →
+    → a ≡ decimal number ++ (codes " records=" ++ (decimal run.records ++ codes " first=")) →
+    s ≡ spell run.first → t ≡ short (end_of d run - run.first) → g ≡ gap_text d run next →
     front ≡ a ++ (s ++ (codes " seconds=" ++ (t ++ (g ++ [])))) →
-    front ≡ line_front spell d number records first last next
-front-of spell d number records first last next a s t g front ea es et eg is =
+    front ≡ run_front spell d number run next
+front-of spell d number run next a s t g front ea es et eg is =
     let parts : List ℕ → List ℕ → List ℕ → List ℕ = λ s t g.
     s ++ (codes " seconds=" ++ (t ++ g)) in
-    let start = spell first.first in
-    let seconds = short (end_of d last - first.first) in
+    let start = spell run.first in
+    let seconds = short (end_of d run - run.first) in
     is
     ∙ ap (λ (x : List ℕ). a ++ parts s t x) (append-nil g ∙ eg)
-    ∙ ap (λ (x : List ℕ). a ++ parts s x (gap_text d last next)) et
-    ∙ ap (λ (x : List ℕ). a ++ parts x seconds (gap_text d last next)) es
-    ∙ ap (λ (x : List ℕ). x ++ parts start seconds (gap_text d last next)) ea
-    ∙ four-parts (decimal number) (codes " records=") (decimal records) (codes " first=")
-    (parts start seconds (gap_text d last next))
+    ∙ ap (λ (x : List ℕ). a ++ parts s x (gap_text d run next)) et
+    ∙ ap (λ (x : List ℕ). a ++ parts x seconds (gap_text d run next)) es
+    ∙ ap (λ (x : List ℕ). x ++ parts start seconds (gap_text d run next)) ea
+    ∙ four-parts (decimal number) (codes " records=") (decimal run.records) (codes " first=")
+    (parts start seconds (gap_text d run next))

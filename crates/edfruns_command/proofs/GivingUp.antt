@@ -6,15 +6,13 @@ use Rattle.std.proofs.lemmas.List.{length-map}
 use Rattle.edf_header.specs.Key.{Key}
 use Rattle.edf_program.specs.Output.{Growth, Gets, GetsFront}
 use Rattle.edf_program.specs.declared.status.Status.{Status}
-use Rattle.edf_runs.specs.KeptByOnset.{annotated_runs}
-use Rattle.edf_runs.specs.declared.joining.Joining.{Joining}
-use Rattle.edf_runs.specs.declared.onset_run.OnsetRun.{OnsetRun}
-use Rattle.edf_runs.specs.declared.onset_listing.OnsetListing.{OnsetListing}
+use Rattle.edf_runs.specs.declared.run.Run.{Run}
+use Rattle.edf_runs.specs.declared.run_list.Listing.{Listing}
 use Rattle.edf_new_files.specs.Made.{MadeFile, names_of}
 use Rattle.edf_new_files.specs.Making.{Making}
 use Rattle.edfruns_command.specs.Lines.{IsSpelling, stop_line, unwritten_line, standard_output}
 use Rattle.edfruns_command.proofs.Finished.{has-all, finished-still, same-names}
-use Rattle.edfruns_command.specs.Splitting.{GivesUp, HasMade, HaveFiles, LacksFiles, LacksLines}
+use Rattle.edfruns_command.specs.Splitting.{GivesUp, HasMade, AreRuns, LacksFiles, LacksLines}
 use Rattle.edfruns_command.specs.Splitting.{MakesRuns, lines_of}
 use Rattle.edfruns_command.specs.InsideMaking.{StopsMaking}
 use Rattle.edfruns_command.specs.InsideSplit.{as_begun, RemovesFrom}
@@ -45,7 +43,7 @@ ended m after failed = record {
 }
 
 module _ (m : Making) (first : ℕ) (is : first ≡ length m.before) (names : List (List ℕ))
-    (k : Key) (runs : List OnsetRun) (count whole : ℕ) (has : HasMade m names k runs count whole)
+    (k : Key) (runs : List Run) (count whole : ℕ) (has : HasMade m names k runs count whole)
   where
     all : length m.after ≡ length m.before + length has.files
     all = ap (λ (fs : List MadeFile). length fs) has.made ∙ length-append m.before has.files
@@ -78,20 +76,20 @@ module _ (m : Making) (first : ℕ) (is : first ≡ length m.before) (names : Li
 
 -- ---- why it was not all
 
-module _ (m : Making) (bytes : Option (List ℕ)) (plan : OnsetListing) (names : List (List ℕ))
-    (joining : Option Joining) (first : ℕ) (is : first ≡ length m.before) (after : List MadeFile)
+module _ (m : Making) (bytes : Option (List ℕ)) (listing : Listing) (names : List (List ℕ))
+    (first : ℕ) (is : first ≡ length m.before) (after : List MadeFile)
     (failed : ℕ) (same : failed ≡ m.failed_after) (out err : Growth) (name : List ℕ)
     (status : Status) where
-  gives-up : (count whole : ℕ) → HasMade m names plan.identity plan.runs.items count whole →
+  gives-up : (count whole : ℕ) → HasMade m names listing.identity listing.runs.items count whole →
       (line : List ℕ) → RemovesFrom first m.after after err line status →
-      LacksLines (ended m after failed) out err bytes name joining plan names status count whole
+      LacksLines (ended m after failed) out err bytes name listing names status count whole
       line
-      ⊎ LacksFiles (ended m after failed) out err bytes name joining plan names status count whole
+      ⊎ LacksFiles (ended m after failed) out err bytes name listing names status count whole
       line →
-      GivesUp (ended m after failed) out err bytes name joining plan names status
+      GivesUp (ended m after failed) out err bytes name listing names status
   gives-up count whole has line from why =
       let same = from.same
-      ∙ ap (map as_begun) (dropped m first is names plan.identity plan.runs.items count whole has)
+      ∙ ap (map as_begun) (dropped m first is names listing.identity listing.runs.items count whole has)
       in
       record {
         count = count;
@@ -99,13 +97,12 @@ module _ (m : Making) (bytes : Option (List ℕ)) (plan : OnsetListing) (names :
         has = record {
           files = from.files;
           made = from.made ∙ ap (λ (fs : List MadeFile). fs ++ from.files)
-              (taken m first is names plan.identity plan.runs.items count whole has);
+              (taken m first is names listing.identity listing.runs.items count whole has);
           named = same-names has.files from.files same ∙ has.named;
           runs = has.runs;
           are_listed = has.are_listed;
-          were = finished-still m.known plan.identity
-              (annotated_runs has.runs (take whole plan.runs.items)) has.files from.files same
-              has.were;
+          were = finished-still m.known listing.identity
+              has.runs has.files from.files same has.were;
         };
         over = from.over;
         line = line;
@@ -113,9 +110,9 @@ module _ (m : Making) (bytes : Option (List ℕ)) (plan : OnsetListing) (names :
         why = why;
       }
 
-  pub stopped : (why : Stop) → StopsMaking m bytes plan names why → Gets out [] →
+  pub stopped : (why : Stop) → StopsMaking m bytes listing names why → Gets out [] →
       RemovesFrom first m.after after err (stop_line name why) status →
-      GivesUp (ended m after failed) out err bytes name joining plan names status
+      GivesUp (ended m after failed) out err bytes name listing names status
   stopped why half none from =
       gives-up half.count half.whole half.has (stop_line name why) from (inr (record {
         why = why;
@@ -125,17 +122,17 @@ module _ (m : Making) (bytes : Option (List ℕ)) (plan : OnsetListing) (names :
         failed = same ∙ half.failed;
       }))
 
-  pub untold : (makes : MakesRuns m bytes plan names) → HaveFiles joining makes.again →
+  pub untold : (makes : MakesRuns m bytes listing names) → AreRuns makes.again →
       ((spell : ℕ → List ℕ) → IsSpelling spell →
-      GetsFront out (lines_of spell plan names makes.again.runs)) →
-      length names ≡ length plan.runs.items →
+      GetsFront out (lines_of spell listing names makes.again.runs)) →
+      length names ≡ length listing.runs.items →
       RemovesFrom first m.after after err (unwritten_line standard_output) status →
-      GivesUp (ended m after failed) out err bytes name joining plan names status
+      GivesUp (ended m after failed) out err bytes name listing names status
   untold makes files said fit from =
-      let n = length plan.runs.items in
-      let has = has-all m names makes.again.layout.key plan.runs.items makes.again.runs makes.files
+      let n = length listing.runs.items in
+      let has = has-all m names makes.again.layout.key listing.runs.items makes.again.runs makes.files
       makes.made makes.named fit makes.again.listed makes.held in
-      gives-up n n (subst (λ (k : Key). HasMade m names k plan.runs.items n n) makes.again.same has)
+      gives-up n n (subst (λ (k : Key). HasMade m names k listing.runs.items n n) makes.again.same has)
       (unwritten_line standard_output) from (inl (record {
         is_line = refl;
         again = makes.again;

@@ -1,6 +1,5 @@
 mod Fronts
-mod GroupLines
-mod Groups
+mod RunLines
 mod Listed
 mod CountedLines
 mod Answered
@@ -9,12 +8,10 @@ mod Walking
 mod MakingFiles
 mod Rereads
 mod SameRuns
-mod SameGroups
 mod Removals
 mod GivingUp
 mod Splits
 mod Finished
 mod Outside
-mod EachLine
 mod Spans
 pub mod Noting

@@ -66,29 +66,25 @@ both_done a b is =
 -- ---- the lines of one file
 
 -- they were sent, or a front of them
-pub sent : (out err : Growth) (bytes : Option (List ℕ)) (label : List ℕ) (most : Option ℕ)
+pub sent : (out err : Growth) (bytes : Option (List ℕ)) (label : List ℕ)
     (name text : List ℕ) (result : Result Status Status) →
-    TellsRuns bytes label most (λ lines. text ≡ lines) →
+    TellsRuns bytes label (λ lines. text ≡ lines) →
     MatchResult result (λ status. Gets out text × Gets err [] × (status ≡ Done))
     (λ status. GetsFront out text × IsWritten err (unwritten_line standard_output) Trouble status) →
-    MatchResult result (IsFileListed out err bytes label most name)
-    (CutsLines out err bytes label most)
-sent out err bytes label most name text (Err status) tells cut = (
+    MatchResult result (IsFileListed out err bytes label name)
+    (CutsLines out err bytes label)
+sent out err bytes label name text (Err status) tells cut = (
   record {
     listing = tells.listing;
     has = tells.has;
-    groups = tells.groups;
-    seen = tells.seen;
     told = λ spell is. subst (GetsFront out) (tells.told spell is) cut.0;
   },
   cut.1,
 )
-sent out err bytes label most name text (Ok status) tells got = inl (
+sent out err bytes label name text (Ok status) tells got = inl (
   record {
     listing = tells.listing;
     has = tells.has;
-    groups = tells.groups;
-    seen = tells.seen;
     told = λ spell is. subst (Gets out) (tells.told spell is) got.0;
   },
   got.1,
@@ -97,18 +93,18 @@ sent out err bytes label most name text (Ok status) tells got = inl (
 
 -- ---- the files
 
-module _ (bytes : List ℕ → Option (List ℕ)) (several : Bool) (most : Option ℕ) where
+module _ (bytes : List ℕ → Option (List ℕ)) (several : Bool) where
   pub listed_more : (out mid out' err mid_err err' : Held) (names : List (List ℕ))
       (name : List ℕ) (status one : Status) →
-      AreListed bytes several most out mid err mid_err names status →
+      AreListed bytes several out mid err mid_err names status →
       IsFileListed (between mid out') (between mid_err err') (bytes name)
-      (file_label several name) most name one →
-      AreListed bytes several most out out' err err' (names ++ (name ∷ [])) (worse status one)
+      (file_label several name) name one →
+      AreListed bytes several out out' err err' (names ++ (name ∷ [])) (worse status one)
   listed_more out mid out' err mid_err err' [] name status one are next =
       let here = subst (λ (o : Held). IsFileListed (between o out') (between mid_err err')
-      (bytes name) (file_label several name) most name one) are.0 next in
+      (bytes name) (file_label several name) name one) are.0 next in
       let there = subst (λ (e : Held). IsFileListed (between out out') (between e err')
-      (bytes name) (file_label several name) most name one) are.1 here in (
+      (bytes name) (file_label several name) name one) are.1 here in (
         out',
         err',
         one,

@@ -11,28 +11,25 @@ use Rattle.edf_fragment.specs.Failures.{one_more}
 use Rattle.edf_fragment.specs.Fragment.{DataRecord}
 use Rattle.edf_fragment.specs.Reading.{at_first}
 use Rattle.edf_fragment.specs.declared.advance.Progress.{Progress}
-use Rattle.edf_runs.specs.AsRead.{runs_of}
-use Rattle.edf_runs.specs.KeptByOnset.{annotated_runs}
-use Rattle.edf_runs.specs.OnsetRead.{kept_of, starts_of}
 use Rattle.edf_runs.specs.Read.{ReadsOn}
-use Rattle.edf_runs.specs.WrittenByOnset.{annotated, ComesByOnset, IsNotWrittenByOnset}
-use Rattle.edf_runs.specs.declared.onset_run.OnsetRun.{OnsetRun}
+use Rattle.edf_runs.specs.Again.{ComesNext}
+use Rattle.edf_runs.specs.Runs.{IsListed}
+use Rattle.edf_runs.specs.declared.run.Run.{Run}
 use Rattle.edf_runs.specs.declared.written.Written.{Written}
 use Rattle.edf_runs.specs.declared.fault.WriteFault.{WriteFault}
-use Rattle.edf_runs.proofs.Annotated.{annotated-length}
 use Rattle.edf_runs.proofs.Growing.{joined_more}
 use Rattle.edf_new_files.specs.Made.{MadeFile, names_of, HasPart, failed_with}
 use Rattle.edf_new_files.specs.Making.{Making}
-use Rattle.edfruns_command.specs.Rereading.{IsAtRun, IsOfReading, ComesToOutput, IsPassedAs}
+use Rattle.edfruns_command.specs.Rereading.{IsAtRun, IsOfReading, ComesToOutput, IsPassed}
 use Rattle.edfruns_command.specs.Rereading.{PassesRuns, StopsAtRuns}
-use Rattle.edfruns_command.specs.Splitting.{HasMade, HoldsRun, IsKeptRun}
+use Rattle.edfruns_command.specs.Splitting.{HasMade, HoldsRun}
 use Rattle.edfruns_command.specs.InsideMaking.{MakesFile, MakesEach, MakesFirst, AreLinesOf}
 use Rattle.edfruns_command.specs.InsideMaking.{IsStopOf, StopsFile, StopsEach}
-use Rattle.edfruns_command.specs.Lines.{IsSpelling}
-use Rattle.edfruns_command.specs.Counting.{file_front, counts_text, file_line, split_lines}
+use Rattle.edfruns_command.specs.Lines.{IsSpelling, run_front}
+use Rattle.edfruns_command.specs.Counting.{counts_text, counted_line, split_lines}
 use Rattle.edfruns_command.specs.declared.stop.Stop.{Stop}
 use Rattle.edfruns_command.specs.declared.stop.Stop.TheVariants as stop
-use Rattle.edf_runs.specs.Written.{CountsFault}
+use Rattle.edf_runs.specs.Written.{CountsFault, IsRunUnwritten}
 use Rattle.edf_runs.specs.declared.fault.WriteFault.TheVariants as fault
 use Rattle.edf_runs.proofs.SecondReading.{none_read}
 use Rattle.edfruns_command.proofs.Rereading.{both, one-more, reads-then}
@@ -51,21 +48,18 @@ then a b = record {
 }
 
 -- the data records of listed runs are those that are passed
-passed : (d : ℕ) (parts : List (List DataRecord)) (runs : List OnsetRun) →
-    AllZip (IsKeptRun d) parts runs → AllZip (IsPassedAs d) parts runs
+passed : (d : ℕ) (parts : List (List DataRecord)) (runs : List Run) →
+    AllZip (IsListed d) parts runs → AllZip (IsPassed d) parts runs
 passed d [] [] each = tt
 passed d (p ∷ ps) [] each = absurd each
 passed d [] (r ∷ rs) each = absurd each
 passed d (p ∷ ps) (r ∷ rs) each = (
-  (
-    each.0.start,
-    sym (annotated-length (kept_of r) p) ∙ sym each.0.listed.count,
-  ),
+  (each.0.starts, sym each.0.count),
   passed d ps rs each.1,
 )
 
 pub passes-made : (m : Making) (names : List (List ℕ)) (l : Layout) (to : Progress)
-    (left rest : Option (List ℕ)) (runs : List OnsetRun) → MakesEach m names l to left rest runs →
+    (left rest : Option (List ℕ)) (runs : List Run) → MakesEach m names l to left rest runs →
     PassesRuns l to left rest runs
 passes-made m names l to left rest runs made = record {
   passed = made.parts;
@@ -82,33 +76,20 @@ names-more files file names i name lt is named before =
     ∙ ap (λ (n : List ℕ). take i names ++ (n ∷ [])) (named ∙ is)
     ∙ sym (take_more names i name lt)
 
--- with one run more, one more goes out, with what was kept of it
-outgoing-more : (P : List DataRecord → OnsetRun → Type 0) (parts : List (List DataRecord))
-    (runs : List OnsetRun) (part : List DataRecord) (run : OnsetRun) → AllZip P parts runs →
-    annotated_runs (parts ++ (part ∷ [])) (runs ++ (run ∷ []))
-    ≡ annotated_runs parts runs ++ (annotated (kept_of run) part ∷ [])
-outgoing-more P [] [] part run each = refl
-outgoing-more P (p ∷ ps) [] part run each = absurd each
-outgoing-more P [] (r ∷ rs) part run each = absurd each
-outgoing-more P (p ∷ ps) (r ∷ rs) part run each =
-    ap (λ (l : List (List DataRecord)). annotated (kept_of r) p ∷ l)
-    (outgoing-more P ps rs part run each.1)
-
-outs-count : (P : List DataRecord → OnsetRun → Type 0) (parts : List (List DataRecord))
-    (runs : List OnsetRun) → AllZip P parts runs →
-    length (annotated_runs parts runs) ≡ length runs
-outs-count P [] [] each = refl
-outs-count P (p ∷ ps) [] each = absurd each
-outs-count P [] (r ∷ rs) each = absurd each
-outs-count P (p ∷ ps) (r ∷ rs) each = ap suc (outs-count P ps rs each.1)
+as-many : (P : List DataRecord → Run → Type 0) (parts : List (List DataRecord))
+    (runs : List Run) → AllZip P parts runs → length parts ≡ length runs
+as-many P [] [] each = refl
+as-many P (p ∷ ps) [] each = absurd each
+as-many P [] (r ∷ rs) each = absurd each
+as-many P (p ∷ ps) (r ∷ rs) each = ap suc (as-many P ps rs each.1)
 
 memory-unchanged : fault.Memory ≢ fault.Changed
 memory-unchanged is = cc
 
 module _ (a b : Making) (known : b.known ≡ a.known) (before : b.before ≡ a.after)
     (failed : b.failed_before ≡ a.failed_after) (names : List (List ℕ)) (l : Layout)
-    (mid to : Progress) (left middle rest : Option (List ℕ)) (runs : List OnsetRun) (i : ℕ)
-    (run : OnsetRun)
+    (mid to : Progress) (left middle rest : Option (List ℕ)) (runs : List Run) (i : ℕ)
+    (run : Run)
     (name : List ℕ) (lt : i < length runs) (is : run ≡ get_or runs i run)
     (named : i < length names) (is_name : name ≡ get_or names i name)
     (so_far : MakesEach a (take i names) l mid left middle (take i runs)) where
@@ -126,8 +107,7 @@ module _ (a b : Making) (known : b.known ≡ a.known) (before : b.before ≡ a.a
     named = names-more so_far.files has.part names i name named is_name has.named so_far.named;
     runs = so_far.parts;
     are_listed = so_far.listed;
-    were = half-more a.known l.key (annotated_runs so_far.parts (take i runs)) so_far.files
-        has.part so_far.held has.is_half;
+    were = half-more a.known l.key so_far.parts so_far.files has.part so_far.held has.is_half;
   }
 
   has-same : b.after ≡ b.before → HasMade (then a b) names l.key runs i i
@@ -138,28 +118,18 @@ module _ (a b : Making) (known : b.known ≡ a.known) (before : b.before ≡ a.a
   at-run = record {
     front = take i runs;
     later = drop (i + 1) runs;
-    parts = sym (take-append-drop i runs) ∙ ap (λ (rs : List OnsetRun). take i runs ++ rs)
-        (drop_more runs i run lt ∙ ap (λ (r : OnsetRun). r ∷ drop (i + 1) runs) (sym is));
+    parts = sym (take-append-drop i runs) ∙ ap (λ (rs : List Run). take i runs ++ rs)
+        (drop_more runs i run lt ∙ ap (λ (r : Run). r ∷ drop (i + 1) runs) (sym is));
     nth_is = sym (length-take-le i runs (omega (arith, lt)));
     passes = passes-made a (take i names) l mid left middle (take i runs) so_far;
   }
-
-  -- the runs that go out, one more
-  pub outs-more : (records : List DataRecord) →
-      annotated_runs (so_far.parts ++ (records ∷ [])) (take (i + 1) runs)
-      ≡ annotated_runs so_far.parts (take i runs) ++ (annotated (kept_of run) records ∷ [])
-  outs-more records =
-      ap (annotated_runs (so_far.parts ++ (records ∷ []))) (take_more runs i run lt
-      ∙ ap (λ (r : OnsetRun). take i runs ++ (r ∷ [])) (sym is))
-      ∙ outgoing-more (IsKeptRun (duration_of l.key.duration)) so_far.parts (take i runs) records
-      run so_far.listed
 
   -- one file more
   pub makes-more : (written : Written) → MakesFile b name l mid to middle rest run written →
       MakesEach (then a b) (take (i + 1) names) l to left rest (take (i + 1) runs)
   makes-more written one = record {
     parts = so_far.parts ++ (one.records ∷ []);
-    listed = one-more (IsKeptRun (duration_of l.key.duration)) so_far.parts runs i one.records run
+    listed = one-more (IsListed (duration_of l.key.duration)) so_far.parts runs i one.records run
         lt is so_far.listed one.listed;
     read = subst (ReadsOn l at_first to left rest)
         (sym (joined_more so_far.parts one.records))
@@ -167,34 +137,28 @@ module _ (a b : Making) (known : b.known ≡ a.known) (before : b.before ≡ a.a
     files = so_far.files ++ (one.file ∷ []);
     made = more-made one.file one.made;
     named = names-more so_far.files one.file names i name named is_name one.named so_far.named;
-    held = subst (λ (rs : List (List DataRecord)). AllZip (HoldsRun a.known l.key) rs
-        (so_far.files ++ (one.file ∷ []))) (sym (outs-more one.records))
-        (both (HoldsRun a.known l.key) (annotated_runs so_far.parts (take i runs)) so_far.files
-        (annotated (kept_of run) one.records) one.file so_far.held
-        (subst (λ known. HoldsRun known l.key (annotated (kept_of run) one.records) one.file) known
-        one.held));
+    held = both (HoldsRun a.known l.key) so_far.parts so_far.files one.records one.file
+        so_far.held (subst (λ known. HoldsRun known l.key one.records one.file) known one.held);
     unfailed = one.unfailed ∙ failed ∙ so_far.unfailed;
   }
 
   -- the line of its file
   abbrev line_of_file : Written → (ℕ → List ℕ) → List ℕ
   line_of_file written spell = name ++ (codes " "
-      ++ (file_front spell (duration_of l.key.duration) (i + 1) run
-      (slice_get (runs_of runs) (i + 1)) ++ counts_text written.annotations written.outside))
+      ++ (run_front spell (duration_of l.key.duration) (i + 1) run (slice_get runs (i + 1))
+      ++ counts_text written.annotations written.outside))
 
   -- and their lines, one more
   pub first-more : (text more : List ℕ) (written : Written) →
-      AreLinesOf (duration_of l.key.duration) names runs
-      (annotated_runs so_far.parts (take i runs)) text →
+      AreLinesOf (duration_of l.key.duration) names runs so_far.parts text →
       MakesFile b name l mid to middle rest run written →
       ((spell : ℕ → List ℕ) → IsSpelling spell → more ≡ text ++ line_of_file written spell) →
       MakesFirst (then a b) names l to left rest runs (i + 1) more
   unfolding makes-more
   first-more text more written lines one grows =
       let d = duration_of l.key.duration in
-      let outs = annotated_runs so_far.parts (take i runs) in
-      let out = annotated (kept_of run) one.records in
-      let count : length outs ≡ i = outs-count (IsKeptRun d) so_far.parts (take i runs)
+      let outs = so_far.parts in
+      let count : length outs ≡ i = as-many (IsListed d) outs (take i runs)
       so_far.listed ∙ length-take-le i runs (omega (arith, lt)) in
       let at_name : name ≡ get_or names (length outs) name =
       subst (λ k. name ≡ get_or names k name) (sym count) is_name in
@@ -205,27 +169,25 @@ module _ (a b : Making) (known : b.known ≡ a.known) (before : b.before ≡ a.a
       record {
         each = makes-more written one;
         lines = λ spell spelled.
-            let line : ℕ → ℕ → List ℕ = λ k n. name ++ (codes " " ++ file_line spell d k run
-            (slice_get (runs_of runs) n) out) in
+            let line : ℕ → ℕ → List ℕ = λ k n. name ++ (codes " "
+            ++ counted_line spell d k run (slice_get runs n) one.records) in
             let told : line_of_file written spell ≡ line (i + 1) (i + 1) =
-            ap (λ (t : List ℕ). name ++ (codes " " ++ (file_front spell d (i + 1) run
-            (slice_get (runs_of runs) (i + 1)) ++ t)))
-            (counted-text d run.run out written.annotations written.outside one.counted) in
+            ap (λ (t : List ℕ). name ++ (codes " "
+            ++ (run_front spell d (i + 1) run (slice_get runs (i + 1)) ++ t)))
+            (counted-text d run one.records written.annotations written.outside one.counted) in
             grows spell spelled
             ∙ ap (λ (t : List ℕ). t ++ line_of_file written spell) (lines spell spelled)
             ∙ ap (λ (t : List ℕ). split_lines spell d 1 names runs outs ++ t)
             (told ∙ ap (λ k. line k (i + 1)) place ∙ ap (line (1 + length outs)) after)
-            ∙ sym (lines-more spell d 1 names runs outs out name run
-            (omega (arith, count, named)) (omega (arith, count, lt)) at_name at_run)
-            ∙ ap (split_lines spell d 1 names runs) (sym (outs-more one.records));
+            ∙ sym (lines-more spell d 1 names runs outs one.records name run
+            (omega (arith, count, named)) (omega (arith, count, lt)) at_name at_run);
       }
 
   -- it was not read to its end
   among : (why : WriteFault) (whole : ℕ) (blank half : Option (List ℕ)) → IsOfReading why →
       (whole ≡ i) ⊎ ((whole ≡ i + 1) × (why ≡ fault.Memory)) →
-      IsNotWrittenByOnset l mid to middle rest blank half run.run (starts_of run) (kept_of run)
-      why →
-      (ComesByOnset l mid middle run.run (starts_of run) (kept_of run) → why ≢ fault.Changed) →
+      IsRunUnwritten l mid to middle rest blank half run why →
+      (ComesNext l mid middle run → why ≢ fault.Changed) →
       StopsAtRuns l left rest runs names (i + 1) whole (stop.Reading why)
   among why whole blank half is_why so_many unwritten unchanged = (
     is_why,
@@ -262,9 +224,9 @@ module _ (a b : Making) (known : b.known ≡ a.known) (before : b.before ≡ a.a
           mid = to;
           middle = rest;
           read = one.read;
-          start = one.listed.start;
-          within = omega (arith, one.listed.listed.count, annotated-length (kept_of run) one.records);
-          holds = one.listed.listed.holds;
+          start = one.listed.starts;
+          within = omega (arith, one.listed.count);
+          holds = one.listed.holds;
           front = inl tt;
           more = inl (refl, refl);
         }) (λ next. memory-unchanged);
@@ -318,7 +280,7 @@ module _ (a b : Making) (known : b.known ≡ a.known) (before : b.before ≡ a.a
 -- ---- no file yet
 
 pub first-none : (m : Making) (names : List (List ℕ)) (l : Layout) (to : Progress)
-    (left : Option (List ℕ)) (runs : List OnsetRun) (text : List ℕ) → to ≡ at_first →
+    (left : Option (List ℕ)) (runs : List Run) (text : List ℕ) → to ≡ at_first →
     m.after ≡ m.before → m.failed_after ≡ m.failed_before → text ≡ [] →
     MakesFirst m names l to left left runs 0 text
 first-none m names l to left runs text first made failed none = record {
@@ -339,14 +301,13 @@ first-none m names l to left runs text first made failed none = record {
 -- ---- one file
 
 module _ (m : Making) (name : List ℕ) (l : Layout) (from to : Progress)
-    (left rest : Option (List ℕ)) (run : OnsetRun) (blank half : Option (List ℕ))
+    (left rest : Option (List ℕ)) (run : Run) (blank half : Option (List ℕ))
     (reads reads' failures failures' : ℕ) (none : failures ≡ 0)
     (made : HasPart m.before name m.after)
     (failed : m.failed_after ≡ failed_with m.failed_before failures') where
   of-reading : (met why : WriteFault) → why ≡ met → IsOfReading met →
-      IsNotWrittenByOnset l from to left rest blank half run.run (starts_of run) (kept_of run)
-      met →
-      (ComesByOnset l from left run.run (starts_of run) (kept_of run) → met ≢ fault.Changed) →
+      IsRunUnwritten l from to left rest blank half run met →
+      (ComesNext l from left run → met ≢ fault.Changed) →
       failures' ≡ failures → StopsFile m name l from to left rest run (stop.Reading why)
   of-reading met why is reading not same counts =
       subst (λ (w : WriteFault). StopsFile m name l from to left rest run (stop.Reading w)) (sym is)
@@ -364,9 +325,8 @@ module _ (m : Making) (name : List ℕ) (l : Layout) (from to : Progress)
 
   -- a run that was not written to its end
   pub half-made : (met : WriteFault) (why : Stop) → IsStopOf met name why →
-      IsNotWrittenByOnset l from to left rest blank half run.run (starts_of run)
-      (kept_of run) met →
-      (ComesByOnset l from left run.run (starts_of run) (kept_of run) → met ≢ fault.Changed) →
+      IsRunUnwritten l from to left rest blank half run met →
+      (ComesNext l from left run → met ≢ fault.Changed) →
       met ≢ fault.Undated →
       CountsFault reads reads' failures failures' met →
       StopsFile m name l from to left rest run why

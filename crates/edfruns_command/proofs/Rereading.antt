@@ -1,23 +1,15 @@
 -- A second reading, run by run.
-use Rattle.std.proofs.Common.{◌≡◌, ℕ, ◌+◌, ◌<◌, List, [], ◌∷◌, ◌++◌, length, take, drop, get_or}
-use Rattle.std.proofs.Common.{refl, sym, ap, ◌∙◌, subst, arith, length-append, Option}
-use Rattle.std.proofs.Common.{append_assoc, take-append-drop}
+use Rattle.std.proofs.Common.{◌≡◌, ℕ, ◌+◌, ◌<◌, List, [], ◌∷◌, ◌++◌, length, take, get_or}
+use Rattle.std.proofs.Common.{sym, ap, ◌∙◌, subst, arith, length-append, Option, append_assoc}
 use Rattle.std.specs.List.{AllZip}
 use Rattle.std.proofs.KnownBytes.{Consumes-trans}
-use Rattle.std.proofs.lemmas.List.{take_more, drop_more}
-use Rattle.edf_field.specs.Number.{duration_of}
+use Rattle.std.proofs.lemmas.List.{take_more}
 use Rattle.edf_header.specs.Header.{Layout}
 use Rattle.edf_tal.specs.declared.place.Place.{Place}
 use Rattle.edf_fragment.specs.Fragment.{DataRecord, AreDataRecords, place_after}
-use Rattle.edf_fragment.specs.Reading.{at_first}
 use Rattle.edf_fragment.specs.declared.advance.Progress.{Progress}
 use Rattle.edf_fragment.specs.declared.advance.ReaderState.TheVariants.{Reading}
-use Rattle.edf_runs.specs.Again.{PassesRun, StopsBefore}
 use Rattle.edf_runs.specs.Read.{ReadsOn}
-use Rattle.edf_runs.specs.declared.run.Run.{Run}
-use Rattle.edf_runs.specs.declared.fault.WriteFault.{WriteFault}
-use Rattle.edf_runs.proofs.Growing.{joined_more}
-use Rattle.edfruns_command.specs.Writing.{IsPassed, SkipsRuns, StopsSkipping}
 
 -- data records, and then others
 records-then : (l : Layout) (p q r : Place) (a b : List ℕ) (xs ys : List DataRecord) →
@@ -68,31 +60,3 @@ one-more P xs ys i x y lt is each more =
     subst (AllZip P (xs ++ (x ∷ [])))
     (ap (λ z. take i ys ++ (z ∷ [])) is ∙ sym (take_more ys i y lt))
     (both P xs (take i ys) x y each more)
-
-module _ (l : Layout) (mid to : Progress) (left middle rest : Option (List ℕ)) (runs : List Run)
-    (i : ℕ) (run : Run) (lt : i < length runs) (is : run ≡ get_or runs i run)
-    (before : SkipsRuns l mid left middle (take i runs)) where
-  pub skips-more : PassesRun l mid to middle rest run → SkipsRuns l to left rest (take (i + 1) runs)
-  skips-more one = record {
-    passed = before.passed ++ (one.records ∷ []);
-    are_passed = one-more (IsPassed (duration_of l.key.duration)) before.passed runs i one.records
-        run lt is before.are_passed (one.starts, one.count);
-    read = subst (ReadsOn l at_first to left rest)
-        (sym (joined_more before.passed one.records))
-        (reads-then l at_first mid to left middle rest _ one.records refl before.read one.read);
-  }
-
-  pub stops-here : (why : WriteFault) → StopsBefore l mid to middle rest run why →
-      StopsSkipping l left rest runs why
-  stops-here why stop = record {
-    front = take i runs;
-    run = run;
-    later = drop (i + 1) runs;
-    parts = sym (take-append-drop i runs) ∙ ap (λ (rs : List Run). take i runs ++ rs)
-        (drop_more runs i run lt ∙ ap (λ (r : Run). r ∷ drop (i + 1) runs) (sym is));
-    middle = middle;
-    from = mid;
-    to = to;
-    skips = before;
-    stop = stop;
-  }

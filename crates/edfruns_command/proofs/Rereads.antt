@@ -18,14 +18,12 @@ use Rattle.edf_fragment.specs.declared.fault.FragmentFault.TheVariants as refuse
 use Rattle.edf_fragment.specs.Inside.Steps.{ReadsRecords}
 use Rattle.edf_fragment.proofs.Fragments.{fragment_read}
 use Rattle.edf_runs.specs.Again.{IsNotReopened}
-use Rattle.edf_runs.specs.KeptByOnset.{annotated_runs}
-use Rattle.edf_runs.specs.declared.onset_run.OnsetRun.{OnsetRun}
-use Rattle.edf_runs.specs.declared.onset_listing.OnsetListing.{OnsetListing}
+use Rattle.edf_runs.specs.declared.run.Run.{Run}
+use Rattle.edf_runs.specs.declared.run_list.Listing.{Listing}
 use Rattle.edf_runs.specs.declared.fault.WriteFault.{WriteFault}
 use Rattle.edf_runs.specs.declared.fault.WriteFault.TheVariants as fault
 use Rattle.edf_new_files.specs.Making.{Making}
-use Rattle.edfruns_command.specs.Writing.{ReadsAgain}
-use Rattle.edfruns_command.specs.Rereading.{IsNotReread, IsOfReading, IsNoEnd}
+use Rattle.edfruns_command.specs.Rereading.{IsNotReread, IsOfReading, IsNoEnd, ReadsAgain}
 use Rattle.edfruns_command.specs.Splitting.{HasMade, MakesRuns}
 use Rattle.edfruns_command.proofs.Finished.{has-made, has-all}
 use Rattle.edfruns_command.specs.InsideMaking.{IsAtEnd, StopsAtEnd, MakesEach, MakesFirst}
@@ -36,14 +34,14 @@ use Rattle.edfruns_command.proofs.MakingFiles.{passes-made}
 
 -- ---- nothing was made
 
-pub not-begun : (m : Making) (bytes : Option (List ℕ)) (plan : OnsetListing)
+pub not-begun : (m : Making) (bytes : Option (List ℕ)) (listing : Listing)
     (names : List (List ℕ)) → m.after ≡ m.before → m.failed_after ≡ m.failed_before →
-    (why : WriteFault) → IsNotReread bytes plan (stop.Reading why) →
-    StopsMaking m bytes plan names (stop.Reading why)
-not-begun m bytes plan names made failed why not = record {
+    (why : WriteFault) → IsNotReread bytes listing (stop.Reading why) →
+    StopsMaking m bytes listing names (stop.Reading why)
+not-begun m bytes listing names made failed why not = record {
   count = 0;
   whole = 0;
-  has = has-made m names plan.identity plan.runs.items 0 [] [] (made ∙ sym (append-nil m.before))
+  has = has-made m names listing.identity listing.runs.items 0 [] [] (made ∙ sym (append-nil m.before))
       refl tt tt;
   stops = inl (refl, not);
   failed = failed;
@@ -59,14 +57,14 @@ of-reading bytes rest key fault.Write not = absurd not
 
 -- ---- after the header
 
-module _ (m : Making) (bytes : Option (List ℕ)) (plan : OnsetListing) (names : List (List ℕ))
-    (l : Layout) (start : Option (List ℕ)) (again : ReadsAgain bytes start plan.identity l) where
+module _ (m : Making) (bytes : Option (List ℕ)) (listing : Listing) (names : List (List ℕ))
+    (l : Layout) (start : Option (List ℕ)) (again : ReadsAgain bytes start listing.identity l) where
   pub stops-making : (rest : Option (List ℕ)) (why : Stop) →
-      StopsEach m names l start rest plan.runs.items why → StopsMaking m bytes plan names why
+      StopsEach m names l start rest listing.runs.items why → StopsMaking m bytes listing names why
   stops-making rest why each = record {
     count = each.count;
     whole = each.whole;
-    has = subst (λ (k : Key). HasMade m names k plan.runs.items each.count each.whole) again.same
+    has = subst (λ (k : Key). HasMade m names k listing.runs.items each.count each.whole) again.same
         each.has;
     stops = inr (l, start, rest, again, each.stops);
     failed = each.failed;
@@ -85,14 +83,14 @@ module _ (m : Making) (bytes : Option (List ℕ)) (plan : OnsetListing) (names :
   no-end (Err refused.Failed) why is = subst IsOfReading (sym is) tt
 
   module _ (mid to : Progress) (left rest : Option (List ℕ)) (fit : length names
-      ≡ length plan.runs.items)
-      (makes : MakesEach m names l mid start left plan.runs.items) where
+      ≡ length listing.runs.items)
+      (makes : MakesEach m names l mid start left listing.runs.items) where
     pub stops-after : (why : WriteFault) → StopsAtEnd l mid to left rest why →
-        StopsMaking m bytes plan names (stop.Reading why)
+        StopsMaking m bytes listing names (stop.Reading why)
     stops-after why ends = stops-making rest (stop.Reading why) (record {
-      count = length plan.runs.items;
-      whole = length plan.runs.items;
-      has = has-all m names l.key plan.runs.items makes.parts makes.files makes.made makes.named
+      count = length listing.runs.items;
+      whole = length listing.runs.items;
+      has = has-all m names l.key listing.runs.items makes.parts makes.files makes.made makes.named
           fit makes.listed makes.held;
       stops = (
         no-end ends.answer why ends.is_why,
@@ -102,7 +100,7 @@ module _ (m : Making) (bytes : Option (List ℕ)) (plan : OnsetListing) (names :
           record {
             from = mid;
             left = left;
-            passes = passes-made m names l mid start left plan.runs.items makes;
+            passes = passes-made m names l mid start left listing.runs.items makes;
             to = to;
             answer = ends.answer;
             is_answer = ends.is_answer;
@@ -138,7 +136,7 @@ module _ (m : Making) (bytes : Option (List ℕ)) (plan : OnsetListing) (names :
           most = omega (arith, end.most, on.given);
         }
 
-    pub rereads-all : IsAtEnd l mid to left rest → MakesRuns m bytes plan names
+    pub rereads-all : IsAtEnd l mid to left rest → MakesRuns m bytes listing names
     rereads-all ends = record {
       again = record {
         layout = l;
@@ -158,29 +156,29 @@ module _ (m : Making) (bytes : Option (List ℕ)) (plan : OnsetListing) (names :
     }
 
     pub rereads-with : (text : List ℕ) → IsAtEnd l mid to left rest →
-        AreLinesOf (duration_of l.key.duration) names plan.runs.items
-        (annotated_runs makes.parts plan.runs.items) text → RereadsWith m bytes plan names text
+        AreLinesOf (duration_of l.key.duration) names listing.runs.items
+        makes.parts text → RereadsWith m bytes listing names text
     unfolding rereads-all
     rereads-with text ends lines = (
       rereads-all ends,
-      subst (λ (k : Key). AreLinesOf (duration_of k.duration) names plan.runs.items
-          (annotated_runs makes.parts plan.runs.items) text) again.same lines,
+      subst (λ (k : Key). AreLinesOf (duration_of k.duration) names listing.runs.items makes.parts
+          text) again.same lines,
     )
 
 -- ---- all of the runs
 
 -- all files with their lines, where so many are all
 pub all-made : (m : Making) (names : List (List ℕ)) (l : Layout) (to : Progress)
-    (left rest : Option (List ℕ)) (runs : List OnsetRun) (text : List ℕ) → length names ≡ length runs →
+    (left rest : Option (List ℕ)) (runs : List Run) (text : List ℕ) → length names ≡ length runs →
     MakesFirst m names l to left rest runs (length runs) text →
     (each : MakesEach m names l to left rest runs)
-    × AreLinesOf (duration_of l.key.duration) names runs (annotated_runs each.parts runs) text
+    × AreLinesOf (duration_of l.key.duration) names runs each.parts text
 all-made m names l to left rest runs text fit made =
     let rs : take (length runs) runs ≡ runs = take_all (length runs) runs (omega arith) in
     let ns : take (length runs) names ≡ names = take_all (length runs) names (omega (arith, fit)) in
-    let Goes : List OnsetRun → List (List ℕ) → Type 0 = λ some those.
+    let Goes : List Run → List (List ℕ) → Type 0 = λ some those.
     (each : MakesEach m those l to left rest some)
-    × AreLinesOf (duration_of l.key.duration) names runs (annotated_runs each.parts some) text in
-    subst (λ (some : List OnsetRun). Goes some names) rs
+    × AreLinesOf (duration_of l.key.duration) names runs each.parts text in
+    subst (λ (some : List Run). Goes some names) rs
     (subst (λ (those : List (List ℕ)). Goes (take (length runs) runs) those) ns
     (made.each, made.lines))

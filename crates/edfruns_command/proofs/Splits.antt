@@ -2,31 +2,29 @@
 use Rattle.std.proofs.Common.{◌≡◌, ℕ, ◌≤◌, List, length, sym, ap, subst}
 use Rattle.std.proofs.Common.{Option, arith, decimal, length-append}
 use Rattle.std.proofs.lemmas.List.FromFn.{length-map-range_with_len}
-use Rattle.std.specs.Prelude.{Bool}
 use Rattle.std.specs.List.{AllZip, flat_map}
 use Rattle.edf_field.specs.Number.{duration_of}
 use Rattle.edf_header.specs.Key.{Key}
 use Rattle.edf_fragment.specs.Fragment.{DataRecord}
-use Rattle.edf_runs.specs.declared.joining.Joining.{Joining}
-use Rattle.edf_runs.specs.declared.onset_listing.OnsetListing.{OnsetListing}
+use Rattle.edf_runs.specs.Runs.{IsRuns, IsListed}
+use Rattle.edf_runs.specs.declared.run_list.Listing.{Listing}
 use Rattle.edf_new_files.specs.Making.{Making}
 use Rattle.edfruns_command.specs.Naming.{run_name, run_names, first_names, asked_names}
-use Rattle.edfruns_command.specs.JoinedPlan.{HasJoinedPlan, AreFiles}
-use Rattle.edfruns_command.specs.Splitting.{RereadsRuns, HaveFiles, IsKeptRun}
-use Rattle.edfruns_command.proofs.SameGroups.{planned-files}
+use Rattle.edfruns_command.specs.Listing.{HasRuns}
+use Rattle.edfruns_command.specs.Splitting.{RereadsRuns, AreRuns}
+use Rattle.edfruns_command.proofs.SameRuns.{listed-runs}
 
-module _ (bytes : Option (List ℕ)) (plan : OnsetListing) (by_onset : Bool)
-    (joining : Option Joining) (has : HasJoinedPlan joining by_onset bytes plan) where
-  -- the files that are read again are those that were planned
-  pub have-files : (again : RereadsRuns bytes plan) → HaveFiles joining again
-  have-files again =
-      let d = duration_of again.layout.key.duration in
-      let e : d ≡ duration_of plan.identity.duration =
-      ap (λ (k : Key). duration_of k.duration) again.same in
-      let each = subst (λ n. AllZip (IsKeptRun n) again.runs plan.runs.items) e again.listed in
-      subst (λ (rs : List DataRecord). AreFiles joining d rs again.runs) again.joined
-      (subst (λ n. AreFiles joining n (flat_map (λ run. run) again.runs) again.runs) (sym e)
-      (planned-files bytes plan again.runs by_onset joining has each))
+-- the runs that are read again are those that were listed
+pub are-runs : (bytes : Option (List ℕ)) (listing : Listing) → HasRuns bytes listing →
+    (again : RereadsRuns bytes listing) → AreRuns again
+are-runs bytes listing has again =
+    let d = duration_of again.layout.key.duration in
+    let e : d ≡ duration_of listing.identity.duration =
+    ap (λ (k : Key). duration_of k.duration) again.same in
+    let each = subst (λ n. AllZip (IsListed n) again.runs listing.runs.items) e again.listed in
+    subst (λ (rs : List DataRecord). IsRuns d rs again.runs) again.joined
+    (subst (λ n. IsRuns n (flat_map (λ run. run) again.runs) again.runs) (sym e)
+    (listed-runs bytes listing again.runs has each))
 
 -- what makes files is as it was, before a file is made
 pub as-before : (a b : Making) → a.known ≡ b.known →

@@ -1,19 +1,21 @@
 -- What `canonical` does: what it writes, and the status that it answers.
 use Rattle.std.specs.Prelude.{◌≡◌, ◌⊎◌, ℕ, zero, suc, List, [], Bool, true, false, Option, Err}
-use Rattle.edf_program.specs.Output.{Growth, Gets, IsWritten}
+use Rattle.edf_fragment.specs.Failures.{one_more}
+use Rattle.edf_fragment.specs.declared.fault.FragmentFault.TheVariants.{Memory as NoMemory}
+use Rattle.edf_program.specs.Output.{Growth, Gets, IsWritten, Explains}
 use Rattle.edf_program.specs.declared.status.Status.{Status}
-use Rattle.edf_program.specs.declared.status.Status.TheVariants.{Done}
+use Rattle.edf_program.specs.declared.status.Status.TheVariants.{Done, Refused, Trouble}
 use Rattle.edf_runs.specs.Canonical.{ReadsPlan, IsCanonicalWritten, IsNotCanonical}
 use Rattle.edf_runs.specs.Canonical.{IsToldUnchanged}
-use Rattle.edf_runs.specs.Loaded.{IsLoaded}
+use Rattle.edf_runs.specs.OnsetRead.{ReadsCrowded}
 use Rattle.edf_runs.specs.PlanByOnset.{ReadsPlanByOnset}
 use Rattle.edf_runs.specs.declared.canonical_plan.CanonicalPlan.{CanonicalPlan}
-use Rattle.edf_runs.specs.declared.loaded.LoadedRecording.{LoadedRecording}
+use Rattle.edf_runs.specs.declared.onset_fault.OnsetFault.{OnsetFault}
+use Rattle.edf_runs.specs.declared.onset_fault.OnsetFault.TheVariants as onset
 use Rattle.edf_runs.specs.declared.fault.WriteFault.{WriteFault}
 use Rattle.edf_runs.specs.declared.fault.WriteFault.TheVariants as fault
-use Rattle.edfruns_command.specs.Lines.{run_refused_line, run_refused_status, outside_line}
-use Rattle.edfruns_command.specs.Planning.{LacksPlan}
-use Rattle.edfruns_command.specs.Writing.{CountsWrite}
+use Rattle.edfruns_command.specs.Lines.{canonical_refused_line, crowded_line, outside_line}
+use Rattle.edfruns_command.specs.Listing.{HasFault, RefusesFile, LacksMemory}
 
 -- the file was read to its end, and this is planned of what it spells: by onset, with each
 -- annotation in the data record that has its onset; else each data record has its own
@@ -21,10 +23,33 @@ abbrev pub HasPlan : Bool → Option (List ℕ) → CanonicalPlan → Type 0
 HasPlan false bytes plan = (rest : Option (List ℕ)) × ReadsPlan bytes rest plan
 HasPlan true bytes plan = (rest : Option (List ℕ)) × ReadsPlanByOnset bytes rest plan
 
--- so it is planned, and its data records are in memory
-abbrev pub Loads : Bool → Option (List ℕ) → LoadedRecording → Type 0
-Loads by_onset bytes loaded =
-    HasPlan by_onset bytes loaded.plan × ((rest : Option (List ℕ)) × IsLoaded bytes rest loaded)
+-- a data record of the run of this number, and none before it, would have too many annotations
+abbrev pub HasCrowded : Bool → Option (List ℕ) → ℕ → Type 0
+HasCrowded by_onset bytes number =
+    (by_onset ≡ true) × ((rest : Option (List ℕ)) × ReadsCrowded bytes rest number)
+
+-- why there is no such plan; memory may run out whatever the file is
+abbrev pub HasPlanFault : Bool → Option (List ℕ) → OnsetFault → Type 0
+HasPlanFault by_onset bytes (onset.Fragment met) = HasFault bytes met ⊎ (met ≡ NoMemory)
+HasPlanFault by_onset bytes (onset.TooMany number) = HasCrowded by_onset bytes number
+HasPlanFault by_onset bytes onset.Memory = Unit {0}
+
+module _ (out err : Growth) (bytes : Option (List ℕ)) (name : List ℕ) (status : Status) where
+  -- by onset a data record would have too many annotations; the line names its run
+  pub record FindsCrowded (by_onset : Bool) : Type 0 where
+    pub number : ℕ
+    pub crowded : HasCrowded by_onset bytes number
+    pub said : Explains out err (crowded_line number) Refused status
+
+  -- nothing is written: for that, for a fault of the file, or for want of memory
+  abbrev pub LacksPlan : Bool → Type 0
+  LacksPlan by_onset = FindsCrowded by_onset
+      ⊎ (RefusesFile out err bytes name status ⊎ LacksMemory out err bytes name status)
+
+-- one more write failed where a failed write is the fault, and none before another
+abbrev pub CountsWrite : Growth → WriteFault → Type 0
+CountsWrite w fault.Write = w.failed_after ≡ one_more w.failed_before
+CountsWrite w why = w.failed_after ≡ w.failed_before
 
 module _ (out : Growth) (bytes : Option (List ℕ)) (plan : CanonicalPlan) where
   -- it was read again and has what was planned, and the canonical file of that went out, the only
@@ -48,11 +73,6 @@ module _ (out : Growth) (bytes : Option (List ℕ)) (plan : CanonicalPlan) where
   abbrev pub StopsAgain : WriteFault → Type 0
   StopsAgain why = StopsInFile why ⊎ (Gets out [] × (why ≡ fault.Memory))
 
--- why it went out no further: as for a run, and no such line names a run's number, since `Undated`
--- never comes
-abbrev pub canonical_refused_line : List ℕ → WriteFault → List ℕ
-canonical_refused_line name why = run_refused_line name 0 why
-
 -- a line tells of how many annotations no data record has the onset, where there are any
 abbrev pub TellsOutside : Growth → List ℕ → ℕ → Status → Type 0
 TellsOutside err name zero status = Gets err [] × (status ≡ Done)
@@ -73,7 +93,7 @@ module _ (out err : Growth) (bytes : Option (List ℕ)) (name : List ℕ) (by_on
     pub has : HasPlan by_onset bytes plan
     pub why : WriteFault
     pub stops : StopsAgain out bytes plan why
-    pub said : IsWritten err (canonical_refused_line name why) (run_refused_status why) status
+    pub said : IsWritten err (canonical_refused_line name why) Trouble status
 
   abbrev pub IsCanonicalOut : Type 0
   IsCanonicalOut = WritesCanonical ⊎ (StopsWriting

@@ -5,7 +5,7 @@ use Rattle.edf_header.specs.Key.{Key}
 use Rattle.edf_runs.specs.declared.run.Run.{Run}
 use Rattle.edf_sleep.specs.FigureLines.{HasFigures}
 use Rattle.edf_sleep.specs.Night.{Night}
-use Rattle.edfruns_command.specs.Joining.{each_line}
+use Rattle.edfruns_command.specs.Lines.{each_line}
 
 -- the lines of these runs, and those of the figures of this night
 abbrev pub HasText : (ℕ → List ℕ) → Key → List Run → Night → List ℕ → Type 0

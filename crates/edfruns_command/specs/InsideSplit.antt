@@ -5,14 +5,13 @@ use Rattle.std.specs.Bool.{MatchBool}
 use Rattle.edf_program.specs.Output.{Growth, Gets, IsPut, IsWritten}
 use Rattle.edf_program.specs.declared.status.Status.{Status}
 use Rattle.edf_program.specs.declared.status.Status.TheVariants.{Trouble}
-use Rattle.edf_runs.specs.declared.joining.Joining.{Joining}
-use Rattle.edf_runs.specs.declared.onset_listing.OnsetListing.{OnsetListing}
+use Rattle.edf_runs.specs.declared.run_list.Listing.{Listing}
 use Rattle.edf_new_files.specs.Made.{MadeFile, made_file}
 use Rattle.edf_new_files.specs.Making.{Making}
 use Rattle.edf_new_files.specs.declared.new_files.FileStage.TheVariants.{Begun}
-use Rattle.edfruns_command.specs.JoinedPlan.{HasJoinedPlan}
+use Rattle.edfruns_command.specs.Listing.{HasRuns}
 use Rattle.edfruns_command.specs.Made.{IsOver, left_text}
-use Rattle.edfruns_command.specs.Splitting.{SplitsPlan}
+use Rattle.edfruns_command.specs.Splitting.{SplitsFiles}
 
 -- ---- what is said, and what is removed
 
@@ -45,8 +44,7 @@ pub record RemovesFrom (first : ℕ) (old new : List MadeFile) (err : Growth) (t
 
 -- ---- all of it, where nothing was there of the names
 
-abbrev pub SplitsListed : Making → Growth → Growth → Option (List ℕ) → List ℕ → OnsetListing →
+abbrev pub SplitsListed : Making → Growth → Growth → Option (List ℕ) → List ℕ → Listing →
     List (List ℕ) → Status → Type 0
-SplitsListed m out err bytes name plan names status = (joining : Option Joining) (by_onset : Bool) →
-    HasJoinedPlan joining by_onset bytes plan →
-    SplitsPlan m out err bytes name joining plan names status
+SplitsListed m out err bytes name listing names status = HasRuns bytes listing →
+    SplitsFiles m out err bytes name listing names status

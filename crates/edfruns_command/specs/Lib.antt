@@ -1,14 +1,10 @@
 pub mod Naming
 pub mod Picturing
 pub mod Lines
-pub mod Joining
 pub mod Made
 pub mod Listing
 pub mod Listed
 pub mod Counting
-pub mod Planning
-pub mod JoinedPlan
-pub mod Writing
 pub mod Canonical
 pub mod Rereading
 pub mod Splitting

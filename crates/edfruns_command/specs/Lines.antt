@@ -1,6 +1,6 @@
 -- The lines that the program writes: functions of names, runs and faults. A line ends with byte 10.
-use Rattle.std.specs.Prelude.{ℕ, ◌+◌, ◌-◌, List, [], ◌∷◌, ◌++◌, codes, decimal, Option}
-use Rattle.std.specs.Prelude.{Some, None}
+use Rattle.std.specs.Prelude.{ℕ, ◌+◌, ◌-◌, List, [], ◌∷◌, ◌++◌, codes, decimal, slice_get}
+use Rattle.std.specs.Prelude.{Option, Some, None}
 use Rattle.edf_time.specs.Decimal.{short}
 use Rattle.edf_fragment.specs.Fault.{fragment_fault_number, fragment_fault_name}
 use Rattle.edf_fragment.specs.declared.fault.FragmentFault.{FragmentFault}
@@ -8,7 +8,6 @@ use Rattle.edf_fragment.specs.declared.fault.FragmentFault.TheVariants as fragme
 use Rattle.edf_program.specs.Status.{status_of_number}
 use Rattle.edf_program.specs.Text.{fault_text, fragment_details, refused_line, memory_line}
 use Rattle.edf_program.specs.declared.status.Status.{Status}
-use Rattle.edf_program.specs.declared.status.Status.TheVariants.{Refused, Trouble}
 use Rattle.edf_runs.specs.declared.run.Run.{Run}
 use Rattle.edf_runs.specs.declared.fault.WriteFault.{WriteFault}
 use Rattle.edf_runs.specs.declared.fault.WriteFault.TheVariants as run
@@ -27,16 +26,21 @@ abbrev pub gap_text : ℕ → Run → Option Run → List ℕ
 gap_text d r None = []
 gap_text d r (Some next) = codes " gap=" ++ short (next.first - end_of d r)
 
--- `N records=K first=I seconds=S gap=S`: how a line begins that tells of runs, of which these are
--- the first and the last, and which have so many data records
-abbrev pub line_front : (ℕ → List ℕ) → ℕ → ℕ → ℕ → Run → Run → Option Run → List ℕ
-line_front spell d number records first last next = decimal number ++ (codes " records="
-    ++ (decimal records ++ (codes " first=" ++ (spell first.first
-    ++ (codes " seconds=" ++ (short (end_of d last - first.first) ++ gap_text d last next))))))
-
--- of one run
+-- `N records=K first=I seconds=S gap=S`: how the line of a run begins
 abbrev pub run_front : (ℕ → List ℕ) → ℕ → ℕ → Run → Option Run → List ℕ
-run_front spell d number r next = line_front spell d number r.records r r next
+run_front spell d number r next = decimal number ++ (codes " records="
+    ++ (decimal r.records ++ (codes " first=" ++ (spell r.first
+    ++ (codes " seconds=" ++ (short (end_of d r - r.first) ++ gap_text d r next))))))
+
+-- a line for each run, in time order, each after the label; the numbers count on from this one
+abbrev pub run_lines : (ℕ → List ℕ) → ℕ → List ℕ → ℕ → List Run → List ℕ
+run_lines spell d label number [] = []
+run_lines spell d label number (r ∷ rs) = label ++ (run_front spell d number r (slice_get rs 0)
+    ++ (10 ∷ run_lines spell d label (number + 1) rs))
+
+-- those of a file alone
+abbrev pub each_line : (ℕ → List ℕ) → ℕ → List Run → List ℕ
+each_line spell d runs = run_lines spell d [] 1 runs
 
 -- ---- why something is not done
 
@@ -49,17 +53,14 @@ file_refused_line name fault = name ++ (codes " refused " ++ fault_text
 abbrev pub file_refused_status : FragmentFault → Status
 file_refused_status fault = status_of_number (fragment_fault_number fault)
 
-abbrev pub no_run_line : ℕ → List ℕ
-no_run_line number = codes "no run " ++ (decimal number ++ (10 ∷ []))
+-- what is numbered is a run
+abbrev pub undated_line : ℕ → List ℕ
+undated_line number = codes "run " ++ (decimal number
+    ++ codes " starts after 2084, which a file without a date can't tell\n")
 
--- what is numbered is a `run`, or a `file` of data records that are joined
-abbrev pub undated_line : List ℕ → ℕ → List ℕ
-undated_line part number = part ++ (codes " " ++ (decimal number
-    ++ codes " starts after 2084, which a file without a date can't tell\n"))
-
-abbrev pub crowded_line : List ℕ → ℕ → List ℕ
-crowded_line part number = part ++ (codes " " ++ (decimal number
-    ++ codes " would have too many annotations in a data record\n"))
+abbrev pub crowded_line : ℕ → List ℕ
+crowded_line number = codes "run " ++ (decimal number
+    ++ codes " would have too many annotations in a data record\n")
 
 abbrev pub unread_line : List ℕ → List ℕ
 unread_line name = refused_line name (fragment_fault_number fragment.Read)
@@ -86,17 +87,10 @@ abbrev pub stop_line : List ℕ → Stop → List ℕ
 stop_line name (stop.Reading why) = reread_line name why
 stop_line name (stop.Output output) = unwritten_line output.now
 
--- why the run of this number is not written to standard output
-abbrev pub run_refused_line : List ℕ → ℕ → WriteFault → List ℕ
-run_refused_line name number run.Undated = undated_line (codes "run") number
-run_refused_line name number run.Changed = changed_line name
-run_refused_line name number run.Read = unread_line name
-run_refused_line name number run.Memory = memory_line name
-run_refused_line name number run.Write = unwritten_line standard_output
-
-abbrev pub run_refused_status : WriteFault → Status
-run_refused_status run.Undated = Refused
-run_refused_status fault = Trouble
+-- why a canonical file is not written to standard output
+abbrev pub canonical_refused_line : List ℕ → WriteFault → List ℕ
+canonical_refused_line name run.Write = unwritten_line standard_output
+canonical_refused_line name why = reread_line name why
 
 -- `FILE outside=N`: of how many annotations no data record has the onset
 abbrev pub outside_line : List ℕ → ℕ → List ℕ

@@ -6,10 +6,8 @@ use Rattle.edf_program.specs.Output.{Growth, Gets, GetsFront, IsWritten}
 use Rattle.edf_program.specs.Status.{worse}
 use Rattle.edf_program.specs.declared.status.Status.{Status}
 use Rattle.edf_program.specs.declared.status.Status.TheVariants.{Done, Trouble}
-use Rattle.edf_runs.specs.declared.run.Run.{Run}
 use Rattle.edf_runs.specs.declared.run_list.Listing.{Listing}
-use Rattle.edfruns_command.specs.Joining.{AreSeen, group_lines}
-use Rattle.edfruns_command.specs.Lines.{IsSpelling, standard_output, unwritten_line}
+use Rattle.edfruns_command.specs.Lines.{IsSpelling, run_lines, standard_output, unwritten_line}
 use Rattle.edfruns_command.specs.Listing.{HasRuns, RefusesFile, LacksMemory}
 
 -- ---- one file
@@ -22,25 +20,22 @@ abbrev pub file_label : Bool → List ℕ → List ℕ
 file_label false name = []
 file_label true name = name ++ codes " "
 
--- the file was read to its end, and this was done with the lines of its runs: each run has its own,
--- or those that are joined have one together
-pub record TellsRuns (bytes : Option (List ℕ)) (label : List ℕ) (most : Option ℕ)
-    (Tells : List ℕ → Type 0) : Type 0 where
-  pub listing : Listing
-  pub has : HasRuns bytes listing
-  pub groups : List (List Run)
-  pub seen : AreSeen (duration_of listing.identity.duration) most listing.runs.items groups
-  pub told : (spell : ℕ → List ℕ) → IsSpelling spell →
-      Tells (group_lines spell most (duration_of listing.identity.duration) label 1 groups)
+-- the file was read to its end, and this was done with the lines of its runs
+pub record TellsRuns (bytes : Option (List ℕ)) (label : List ℕ) (Tells : List ℕ → Type 0) : Type 0
+  where
+    pub listing : Listing
+    pub has : HasRuns bytes listing
+    pub told : (spell : ℕ → List ℕ) → IsSpelling spell →
+        Tells (run_lines spell (duration_of listing.identity.duration) label 1 listing.runs.items)
 
-module _ (out err : Growth) (bytes : Option (List ℕ)) (label : List ℕ) (most : Option ℕ) where
+module _ (out err : Growth) (bytes : Option (List ℕ)) (label : List ℕ) where
   -- its lines went out whole
   abbrev pub ListsRuns : Status → Type 0
-  ListsRuns status = TellsRuns bytes label most (Gets out) × Gets err [] × (status ≡ Done)
+  ListsRuns status = TellsRuns bytes label (Gets out) × Gets err [] × (status ≡ Done)
 
   -- a front of them did, then a write failed, and a line says so
   abbrev pub CutsLines : Status → Type 0
-  CutsLines status = TellsRuns bytes label most (GetsFront out)
+  CutsLines status = TellsRuns bytes label (GetsFront out)
       × IsWritten err (unwritten_line standard_output) Trouble status
 
   -- they went out whole, or the file was refused, or there was no memory for them
@@ -69,7 +64,7 @@ between old new = record {
   failed_after = new.failures;
 }
 
-module _ (bytes : List ℕ → Option (List ℕ)) (several : Bool) (most : Option ℕ) where
+module _ (bytes : List ℕ → Option (List ℕ)) (several : Bool) where
   -- of what the two writers held before and after: each file was listed or refused, in the order of
   -- the words, and the status is the worst
   abbrev pub AreListed : Held → Held → Held → Held → List (List ℕ) → Status → Type 0
@@ -77,7 +72,7 @@ module _ (bytes : List ℕ → Option (List ℕ)) (several : Bool) (most : Optio
   AreListed out out' err err' (name ∷ names) status = (mid : Held) × (mid_err : Held)
       × (one : Status) × (others : Status)
       × IsFileListed (between out mid) (between err mid_err) (bytes name)
-      (file_label several name) most name one
+      (file_label several name) name one
       × AreListed mid out' mid_err err' names others × (status ≡ worse one others)
 
   -- the lines of one file could not be written whole, and nothing was done with those after it
@@ -92,15 +87,15 @@ module _ (bytes : List ℕ → Option (List ℕ)) (several : Bool) (most : Optio
     pub earlier : Status
     pub listed : AreListed out mid err mid_err front earlier
     pub cut : CutsLines (between mid out') (between mid_err err') (bytes name)
-        (file_label several name) most status
+        (file_label several name) status
 
-abbrev pub IsListOut : (List ℕ → Option (List ℕ)) → Growth → Growth → Option ℕ → List (List ℕ) →
-    Status → Type 0
-IsListOut bytes out err most names status =
-    AreListed bytes (are_several names) most (held_before out) (held_after out) (held_before err)
+abbrev pub IsListOut : (List ℕ → Option (List ℕ)) → Growth → Growth → List (List ℕ) → Status →
+    Type 0
+IsListOut bytes out err names status =
+    AreListed bytes (are_several names) (held_before out) (held_after out) (held_before err)
     (held_after err) names status
-    ⊎ StopsListing bytes (are_several names) most (held_before out) (held_after out)
-    (held_before err) (held_after err) names status
+    ⊎ StopsListing bytes (are_several names) (held_before out) (held_after out) (held_before err)
+    (held_after err) names status
 
 -- ---- which files are opened
 

@@ -22,8 +22,8 @@ use Rattle.edf_sleep.specs.Night.{AreOfFile}
 use Rattle.edf_sleep.specs.declared.extent.Extent.{Extent}
 use Rattle.edf_sleep.specs.declared.note.Note.{Note}
 use Rattle.edf_tal.specs.Tal.{Annotation}
-use Rattle.edfruns_command.specs.Joining.{each_line}
-use Rattle.edfruns_command.specs.Lines.{IsSpelling, end_of, unwritten_line, standard_output}
+use Rattle.edfruns_command.specs.Lines.{IsSpelling, each_line, end_of, unwritten_line}
+use Rattle.edfruns_command.specs.Lines.{standard_output}
 use Rattle.edfruns_command.specs.Listing.{HasRuns, RefusesFile, LacksMemory}
 
 -- a note has what an annotation has

@@ -1,80 +1,57 @@
 -- What a command does: what it writes, the status that it answers, and which files it opens.
-use Rattle.std.specs.Prelude.{ℕ, Bool, List, Option, codes, length, map, string_bytes}
+use Rattle.std.specs.Prelude.{ℕ, Bool, List, Option, length, map, string_bytes}
 use Rattle.edf_program.specs.Output.{Growth}
 use Rattle.edf_program.specs.declared.status.Status.{Status}
-use Rattle.edf_runs.specs.declared.joining.Joining.{Joining}
 use Rattle.edf_new_files.specs.Making.{Making, MakesNothing}
 use Rattle.edfruns_command.specs.Listed.{IsListOut, OpensEach}
 use Rattle.edfruns_command.specs.Listing.{OpensAgain}
 use Rattle.edfruns_command.specs.Picturing.{IsPictured}
-use Rattle.edfruns_command.specs.Writing.{IsRunOut}
 use Rattle.edfruns_command.specs.Canonical.{IsCanonicalOut}
 use Rattle.edfruns_command.specs.Splitting.{IsSplit}
 use Rattle.edfruns_command.specs.declared.runs_command.RunsCommand.{RunsCommand}
 use Rattle.edfruns_command.specs.declared.runs_command.RunsCommand.TheVariants as parsed
 
--- what can be asked for, with the values: the files' texts, the tolerance in nanoseconds, the run's
--- number, the prefix's text, whether annotations are to be where their onsets are, which gaps
--- `split` joins, and whether the patient code is shown
+-- what can be asked for, with the values: the files' texts, the prefix's text, whether annotations
+-- are to be where their onsets are, and whether the patient code is shown
 pub data Asked : Type 0 where
-  list : List (List ℕ) → Option ℕ → Asked
-  write : List ℕ → ℕ → Bool → Asked
+  list : List (List ℕ) → Asked
   canonical : List ℕ → Bool → Asked
-  canonical_of_stream : Bool → Asked
-  split : List ℕ → List ℕ → Bool → Option Joining → Asked
+  split : List ℕ → List ℕ → Asked
   picture : List ℕ → Bool → Asked
 
 -- what a command asks for
 abbrev pub meaning : RunsCommand → Asked
-meaning (parsed.List files tolerance) = list (map string_bytes files.items) tolerance
-meaning (parsed.Write file number by_onset) = write (string_bytes file) number by_onset
+meaning (parsed.List files) = list (map string_bytes files.items)
 meaning (parsed.Canonical file by_onset) = canonical (string_bytes file) by_onset
-meaning (parsed.CanonicalOfStream by_onset) = canonical_of_stream by_onset
-meaning (parsed.Split file prefix by_onset joining) =
-    split (string_bytes file) (string_bytes prefix) by_onset joining
-meaning (parsed.Picture file tolerance has_code) = picture (string_bytes file) has_code
-
--- the name of standard input
-abbrev pub stream : List ℕ
-stream = codes "-"
+meaning (parsed.Split file prefix) = split (string_bytes file) (string_bytes prefix)
+meaning (parsed.Picture file has_code) = picture (string_bytes file) has_code
 
 -- by the bytes that names stand for, what makes files and the two writers
 abbrev pub IsDone : (List ℕ → Option (List ℕ)) → Making → Growth → Growth → Asked → Status → Type 0
-IsDone bytes made out err (list files tolerance) status =
-    IsListOut bytes out err tolerance files status
-IsDone bytes made out err (write file number by_onset) status =
-    IsRunOut out err (bytes file) file number by_onset status
+IsDone bytes made out err (list files) status = IsListOut bytes out err files status
 IsDone bytes made out err (canonical file by_onset) status =
     IsCanonicalOut out err (bytes file) file by_onset status
-IsDone bytes made out err (canonical_of_stream by_onset) status =
-    IsCanonicalOut out err (bytes stream) stream by_onset status
-IsDone bytes made out err (split file prefix by_onset joining) status =
-    IsSplit made out err (bytes file) file prefix by_onset joining status
+IsDone bytes made out err (split file prefix) status =
+    IsSplit made out err (bytes file) file prefix status
 IsDone bytes made out err (picture file has_code) status =
     IsPictured out err (bytes file) file has_code status
 
 -- `split` alone makes files
 abbrev pub HasMade : Making → Asked → Type 0
-HasMade made (split file prefix by_onset joining) = Unit {0}
+HasMade made (split file prefix) = Unit {0}
 HasMade made asked = MakesNothing made
 
 -- how often a file is read, where all is done
 abbrev pub readings_of : Asked → ℕ
-readings_of (list files tolerance) = length files
-readings_of (write file number by_onset) = 2
+readings_of (list files) = length files
 readings_of (canonical file by_onset) = 2
-readings_of (canonical_of_stream by_onset) = 1
-readings_of (split file prefix by_onset joining) = 2
+readings_of (split file prefix) = 2
 readings_of (picture file has_code) = 1
 
--- `list` reads each of its files once, `picture` its file and `canonical` standard input once, and
--- `write`, `canonical` and `split` a file twice, where they are done
+-- `list` reads each of its files once, `picture` its file once, and `canonical` and `split` a file
+-- twice, where they are done
 abbrev pub HasOpened : List (List ℕ) → List (List ℕ) → Asked → Status → Type 0
-HasOpened before after (list files tolerance) status = OpensEach before after files status
-HasOpened before after (write file number by_onset) status = OpensAgain before after file 2 status
+HasOpened before after (list files) status = OpensEach before after files status
 HasOpened before after (canonical file by_onset) status = OpensAgain before after file 2 status
-HasOpened before after (canonical_of_stream by_onset) status =
-    OpensAgain before after stream 1 status
-HasOpened before after (split file prefix by_onset joining) status =
-    OpensAgain before after file 2 status
+HasOpened before after (split file prefix) status = OpensAgain before after file 2 status
 HasOpened before after (picture file has_code) status = OpensAgain before after file 1 status

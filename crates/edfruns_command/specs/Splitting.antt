@@ -12,13 +12,9 @@ use Rattle.edf_program.specs.Text.{there_line}
 use Rattle.edf_program.specs.declared.status.Status.{Status}
 use Rattle.edf_program.specs.declared.status.Status.TheVariants.{Done, Refused, Trouble}
 use Rattle.edf_runs.specs.File.{IsRunFile}
-use Rattle.edf_runs.specs.KeptByOnset.{annotated_runs}
-use Rattle.edf_runs.specs.OnsetRead.{kept_of, starts_of}
-use Rattle.edf_runs.specs.Runs.{IsListed}
-use Rattle.edf_runs.specs.WrittenByOnset.{annotated, StartAs}
-use Rattle.edf_runs.specs.declared.joining.Joining.{Joining}
-use Rattle.edf_runs.specs.declared.onset_run.OnsetRun.{OnsetRun}
-use Rattle.edf_runs.specs.declared.onset_listing.OnsetListing.{OnsetListing}
+use Rattle.edf_runs.specs.Runs.{IsRuns, IsListed}
+use Rattle.edf_runs.specs.declared.run.Run.{Run}
+use Rattle.edf_runs.specs.declared.run_list.Listing.{Listing}
 use Rattle.edf_new_files.specs.Made.{MadeFile, names_of}
 use Rattle.edf_new_files.specs.Making.{Making, MakesNothing}
 use Rattle.edf_new_files.specs.There.{There, IsVacant, MayBeThere}
@@ -26,9 +22,9 @@ use Rattle.edf_new_files.specs.declared.new_files.FileStage.TheVariants.{Finishe
 use Rattle.edfruns_command.specs.Naming.{run_names, asked_names}
 use Rattle.edfruns_command.specs.Lines.{IsSpelling, undated_line, stop_line}
 use Rattle.edfruns_command.specs.Lines.{unwritten_line, standard_output}
+use Rattle.edfruns_command.specs.Listing.{HasRuns, RefusesFile, LacksMemory}
 use Rattle.edfruns_command.specs.Counting.{split_lines}
 use Rattle.edfruns_command.specs.Made.{IsHalf, IsOver, left_text}
-use Rattle.edfruns_command.specs.JoinedPlan.{HasJoinedPlan, LacksJoinedPlan, AreFiles, part_of}
 use Rattle.edfruns_command.specs.Rereading.{StopsRereading, failed_by}
 use Rattle.edfruns_command.specs.declared.stop.Stop.{Stop}
 
@@ -51,12 +47,6 @@ pub record HoldsRun (known : Bool) (k : Key) (run : List DataRecord) (made : Mad
 
 -- ---- what was made of a file, whose files of runs are to have these names
 
--- these data records start as those of the run do in the recording; of them, as they were kept,
--- just this was listed
-pub record IsKeptRun (d : ℕ) (records : List DataRecord) (run : OnsetRun) : Type 0 where
-  pub start : StartAs d run.run.first (starts_of run) records
-  pub listed : IsListed d (annotated (kept_of run) records) run.run
-
 -- of each of these runs, in turn, a file was finished, and one more at most was left half written
 abbrev pub WereFinished : Bool → Key → List (List DataRecord) → List MadeFile → Type 0
 WereFinished known k [] [] = Unit {0}
@@ -68,77 +58,74 @@ WereFinished known k (run ∷ runs) (made ∷ files) =
 
 -- files of the first of these names were made, `count` of them; and of the first of the listed runs,
 -- `whole` of them, they were finished in turn
-pub record HasMade (m : Making) (names : List (List ℕ)) (k : Key) (listed : List OnsetRun)
+pub record HasMade (m : Making) (names : List (List ℕ)) (k : Key) (listed : List Run)
     (count whole : ℕ) : Type 0 where
   pub files : List MadeFile
   pub made : m.after ≡ m.before ++ files
   pub named : names_of files ≡ take count names
   pub runs : List (List DataRecord)
-  pub are_listed : AllZip (IsKeptRun (duration_of k.duration)) runs (take whole listed)
-  pub were : WereFinished m.known k (annotated_runs runs (take whole listed)) files
+  pub are_listed : AllZip (IsListed (duration_of k.duration)) runs (take whole listed)
+  pub were : WereFinished m.known k runs files
 
--- the file was read a second time to its end, and of each of these parts just this was listed
-pub record RereadsRuns (bytes : Option (List ℕ)) (plan : OnsetListing) : Type 0 where
+-- the file was read a second time to its end, and of each of these runs of it just this was listed
+pub record RereadsRuns (bytes : Option (List ℕ)) (listing : Listing) : Type 0 where
   pub layout : Layout
   pub records : List DataRecord
   pub rest : Option (List ℕ)
   pub read : ReadsFragment bytes rest layout records
-  pub same : layout.key ≡ plan.identity
+  pub same : layout.key ≡ listing.identity
   pub runs : List (List DataRecord)
   pub joined : flat_map (λ run. run) runs ≡ records
-  pub listed : AllZip (IsKeptRun (duration_of layout.key.duration)) runs plan.runs.items
+  pub listed : AllZip (IsListed (duration_of layout.key.duration)) runs listing.runs.items
 
--- the parts are its runs, or the data records that share a file over short gaps
-abbrev pub HaveFiles : {bytes : Option (List ℕ)} → {plan : OnsetListing} → Option Joining →
-    RereadsRuns bytes plan → Type 0
-HaveFiles joining again =
-    AreFiles joining (duration_of again.layout.key.duration) again.records again.runs
+-- they are its runs
+abbrev pub AreRuns : {bytes : Option (List ℕ)} → {listing : Listing} → RereadsRuns bytes listing →
+    Type 0
+AreRuns again = IsRuns (duration_of again.layout.key.duration) again.records again.runs
 
--- the lines of the files of runs, which go out with the annotations that were kept of them, where
--- any were
-abbrev pub lines_of : (ℕ → List ℕ) → OnsetListing → List (List ℕ) → List (List DataRecord) → List ℕ
-lines_of spell plan names runs = split_lines spell (duration_of plan.identity.duration) 1 names
-    plan.runs.items (annotated_runs runs plan.runs.items)
+-- the lines of the files of runs
+abbrev pub lines_of : (ℕ → List ℕ) → Listing → List (List ℕ) → List (List DataRecord) → List ℕ
+lines_of spell listing names runs =
+    split_lines spell (duration_of listing.identity.duration) 1 names listing.runs.items runs
 
--- of each run, in turn, a file was made that has the run's name, of its data records with the
--- annotations that were kept of them, where any were; no other was made
-pub record MakesRuns (m : Making) (bytes : Option (List ℕ)) (plan : OnsetListing)
+-- of each run, in turn, a file was made that has the run's name, of its data records; no other was
+-- made
+pub record MakesRuns (m : Making) (bytes : Option (List ℕ)) (listing : Listing)
     (names : List (List ℕ)) : Type 0 where
-  pub again : RereadsRuns bytes plan
+  pub again : RereadsRuns bytes listing
   pub files : List MadeFile
   pub made : m.after ≡ m.before ++ files
   pub named : names_of files ≡ names
-  pub held : AllZip (HoldsRun m.known again.layout.key)
-      (annotated_runs again.runs plan.runs.items) files
+  pub held : AllZip (HoldsRun m.known again.layout.key) again.runs files
   pub unfailed : m.failed_after ≡ m.failed_before
 
 module _ (m : Making) (out err : Growth) (bytes : Option (List ℕ)) (name : List ℕ)
-    (joining : Option Joining) (plan : OnsetListing) (names : List (List ℕ)) (status : Status) where
+    (listing : Listing) (names : List (List ℕ)) (status : Status) where
   -- of each run there is a file now, and each has its line
   pub record SplitsFile : Type 0 where
-    pub makes : MakesRuns m bytes plan names
-    pub are_runs : HaveFiles joining makes.again
+    pub makes : MakesRuns m bytes listing names
+    pub are_runs : AreRuns makes.again
     pub said : (spell : ℕ → List ℕ) → IsSpelling spell →
-        Gets out (lines_of spell plan names makes.again.runs)
+        Gets out (lines_of spell listing names makes.again.runs)
     pub silent : Gets err []
     pub done : status ≡ Done
 
   -- all were made, but the lines could not be written whole
   pub record LacksLines (count whole : ℕ) (line : List ℕ) : Type 0 where
     pub is_line : line ≡ unwritten_line standard_output
-    pub again : RereadsRuns bytes plan
-    pub are_runs : HaveFiles joining again
+    pub again : RereadsRuns bytes listing
+    pub are_runs : AreRuns again
     pub said : (spell : ℕ → List ℕ) → IsSpelling spell →
-        GetsFront out (lines_of spell plan names again.runs)
+        GetsFront out (lines_of spell listing names again.runs)
     pub unfailed : m.failed_after ≡ m.failed_before
-    pub all : (count ≡ length plan.runs.items) × (whole ≡ length plan.runs.items)
+    pub all : (count ≡ length listing.runs.items) × (whole ≡ length listing.runs.items)
 
   -- the file could not be read again, or memory ran out; or a file could not be made, written or
   -- ended
   pub record LacksFiles (count whole : ℕ) (line : List ℕ) : Type 0 where
     pub why : Stop
     pub is_line : line ≡ stop_line name why
-    pub stops : StopsRereading bytes plan names count whole why
+    pub stops : StopsRereading bytes listing names count whole why
     pub unsaid : Gets out []
     pub failed : m.failed_after ≡ failed_by why m.failed_before
 
@@ -147,15 +134,15 @@ module _ (m : Making) (out err : Growth) (bytes : Option (List ℕ)) (name : Lis
   pub record GivesUp : Type 0 where
     pub count : ℕ
     pub whole : ℕ
-    pub has : HasMade m names plan.identity plan.runs.items count whole
+    pub has : HasMade m names listing.identity listing.runs.items count whole
     pub over : All (λ (file : MadeFile). IsOver file.stage) has.files
     pub line : List ℕ
     pub said : IsWritten err (line ++ flat_map left_text has.files) Trouble status
     pub why : LacksLines count whole line ⊎ LacksFiles count whole line
 
   -- each run has its file, or none is left but those that are named
-  abbrev pub SplitsPlan : Type 0
-  SplitsPlan = SplitsFile ⊎ GivesUp
+  abbrev pub SplitsFiles : Type 0
+  SplitsFiles = SplitsFile ⊎ GivesUp
 
 -- of some names this one may be taken, and none before it is
 pub record IsTaken (there : There) (names : List (List ℕ)) (found : List ℕ) : Type 0 where
@@ -166,44 +153,44 @@ pub record IsTaken (there : There) (names : List (List ℕ)) (found : List ℕ) 
   pub taken : MayBeThere there found
 
 -- the run of this number is the first whose start no header can name
-pub record IsUndated (plan : OnsetListing) (number : ℕ) : Type 0 where
-  pub front : List OnsetRun
-  pub run : OnsetRun
-  pub later : List OnsetRun
-  pub parts : plan.runs.items ≡ front ++ (run ∷ later)
-  pub dated : All (λ (earlier : OnsetRun). MayStart plan.identity earlier.run.first) front
-  pub undated : ¬ MayStart plan.identity run.run.first
+pub record IsUndated (listing : Listing) (number : ℕ) : Type 0 where
+  pub front : List Run
+  pub run : Run
+  pub later : List Run
+  pub parts : listing.runs.items ≡ front ++ (run ∷ later)
+  pub dated : All (λ (earlier : Run). MayStart listing.identity earlier.first) front
+  pub undated : ¬ MayStart listing.identity run.first
   pub number_is : number ≡ length front + 1
 
 module _ (m : Making) (out err : Growth) (bytes : Option (List ℕ)) (name prefix : List ℕ)
-    (by_onset : Bool) (joining : Option Joining) (status : Status) where
+    (status : Status) where
   -- its runs were listed, each has a start that a header can name, and there was nothing of the
   -- names that were asked for
-  pub record IsReady (plan : OnsetListing) : Type 0 where
-    pub has : HasJoinedPlan joining by_onset bytes plan
-    pub dated : All (λ (run : OnsetRun). MayStart plan.identity run.run.first) plan.runs.items
-    pub free : All (IsVacant m.there) (asked_names prefix (length plan.runs.items))
+  pub record IsReady (listing : Listing) : Type 0 where
+    pub has : HasRuns bytes listing
+    pub dated : All (λ (run : Run). MayStart listing.identity run.first) listing.runs.items
+    pub free : All (IsVacant m.there) (asked_names prefix (length listing.runs.items))
 
   -- each run has a start that a header can name, and there is something of one of the names that
   -- are asked for, and of none before it
   pub record FindsName : Type 0 where
-    pub plan : OnsetListing
-    pub has : HasJoinedPlan joining by_onset bytes plan
-    pub dated : All (λ (run : OnsetRun). MayStart plan.identity run.run.first) plan.runs.items
+    pub listing : Listing
+    pub has : HasRuns bytes listing
+    pub dated : All (λ (run : Run). MayStart listing.identity run.first) listing.runs.items
     pub found : List ℕ
-    pub taken : IsTaken m.there (asked_names prefix (length plan.runs.items)) found
+    pub taken : IsTaken m.there (asked_names prefix (length listing.runs.items)) found
     pub said : Explains out err (there_line found) Refused status
 
   -- no header can name when a run starts, and that is the first such, whatever is there
   pub record LacksDate : Type 0 where
-    pub plan : OnsetListing
-    pub has : HasJoinedPlan joining by_onset bytes plan
+    pub listing : Listing
+    pub has : HasRuns bytes listing
     pub number : ℕ
-    pub undated : IsUndated plan number
-    pub said : Explains out err (undated_line (part_of joining) number) Refused status
+    pub undated : IsUndated listing number
+    pub said : Explains out err (undated_line number) Refused status
 
   abbrev pub IsSplit : Type 0
-  IsSplit = ((plan : OnsetListing) × IsReady plan × SplitsPlan m out err bytes name joining plan
-      (run_names prefix (length plan.runs.items)) status)
+  IsSplit = ((listing : Listing) × IsReady listing × SplitsFiles m out err bytes name listing
+      (run_names prefix (length listing.runs.items)) status)
       ⊎ (MakesNothing m × (FindsName ⊎ (LacksDate
-      ⊎ LacksJoinedPlan out err bytes name status joining by_onset)))
+      ⊎ (RefusesFile out err bytes name status ⊎ LacksMemory out err bytes name status))))

@@ -6,7 +6,6 @@ use crate::list_command::{list_words, read_list};
 use crate::picture_command::{picture_words, read_picture};
 use crate::runs_command::RunsCommand;
 use crate::split_command::{read_split, split_words};
-use crate::write_command::{read_write, write_words};
 use clap::{Arg, ArgMatches, Command};
 use edf_fragment::Output;
 use edf_program::{CommandFault, Status, VERSION, fault_by, refuse_value, tell_fault};
@@ -26,17 +25,16 @@ Example, a night with two gaps:
   edfruns list night.edf
   edfruns split night.edf night
   edfruns picture night.edf > night.svg
-  edfstore export night.db 1 | edfruns list -
 
 Status:
   0  done
-  1  the file was refused, there is no run of that number, or a file is there
+  1  the file was refused, or a file is there
   2  the words ask for nothing that can be done
   3  trouble with a file, standard output or memory";
 
 /// Why words without a command are refused.
 const NO_COMMAND: &str = "\
-a command is wanted: list, write, canonical, split or picture";
+a command is wanted: list, canonical, split or picture";
 
 /// Why `-` is refused where a file is read twice.
 const READ_TWICE: &str = "\
@@ -45,12 +43,6 @@ FILE is read twice, which standard input can't be: write it to a file first";
 /// A value that must be given.
 pub(crate) fn required_value<'a>(alloc: Global, name: &'a str, text: &'a str) -> Arg<'a> {
     Arg::new(alloc, name).help(text).required(true)
-}
-
-/// The FILE of a command that reads it once.
-pub(crate) fn file_value<'a>(alloc: Global) -> Arg<'a> {
-    let text = "A file in EDF+C or EDF+D, or - for standard input";
-    required_value(alloc, "FILE", text)
 }
 
 /// The FILE of a command that reads it twice.
@@ -90,7 +82,6 @@ fn program<'a>(alloc: Global) -> Result<Command<'a>, AllocError> {
 fn edfruns_words<'a>(alloc: Global) -> Result<Command<'a>, AllocError> {
     program(alloc)?
         .subcommand(list_words(alloc)?)?
-        .subcommand(write_words(alloc)?)?
         .subcommand(canonical_words(alloc)?)?
         .subcommand(split_words(alloc)?)?
         .subcommand(picture_words(alloc)?)
@@ -108,7 +99,6 @@ fn command_in(alloc: Global, matches: &ArgMatches<'_>) -> Result<RunsCommand, Co
     };
     match word {
         "list" => read_list(alloc, values),
-        "write" => read_write(alloc, values),
         "canonical" => read_canonical(alloc, values),
         "split" => read_split(alloc, values),
         "picture" => read_picture(alloc, values),
@@ -118,12 +108,10 @@ fn command_in(alloc: Global, matches: &ArgMatches<'_>) -> Result<RunsCommand, Co
 
 /// What the words after the program's name ask for.
 ///
-/// The words are `list FILE..`, `write FILE N`, `canonical FILE`, `split FILE PREFIX` or
-/// `picture FILE`. N is digits, without a sign, with a value from 1 to 4,294,967,295; zeros may
-/// lead. `list`, `picture` and `split` have an option `--tolerance S`, a decimal of seconds, and
-/// `split` beside that `--shift S`. `write`, `canonical` and `split` have an option `--by-onset`,
-/// and `picture` one `--without-code`. The FILE of `write` and `split` is read twice, so it is not
-/// `-`. `--help`, `-h`, `help` and `--version`, `-V` are as `edfstore` has them.
+/// The words are `list FILE..`, `canonical FILE`, `split FILE PREFIX` or `picture FILE`.
+/// `canonical` has an option `--by-onset`, and `picture` one `--without-code`. Standard input is
+/// the FILE `-` of `picture` alone. `--help`, `-h`, `help` and `--version`, `-V` are as `edfstore`
+/// has them.
 ///
 /// # Errors
 /// `Help` where help or the version was asked for, `Usage` where the words ask for nothing that can

@@ -2,19 +2,17 @@
 
 ghost use Rattle.std.specs.Prelude.{◌≡◌, ◌++◌, ℕ, List, MatchResult, replicate};
 ghost use Rattle.edf_program.specs.Output.{growth};
-ghost use Rattle.edfruns_command.specs.Canonical.{HasPlan, IsCanonicalOut, WritesFile, StopsAgain};
-ghost use Rattle.edfruns_command.specs.Inside.{OpensUpTo};
+ghost use Rattle.edfruns_command.specs.Canonical.{HasPlan, HasPlanFault, IsCanonicalOut};
+ghost use Rattle.edfruns_command.specs.Canonical.{WritesFile, StopsAgain};
+ghost use Rattle.edfruns_command.specs.Inside.{IsPlanRefused, OpensUpTo};
 ghost use Rattle.edfruns_command.specs.Listing.{OpensAgain};
-ghost use Rattle.edfruns_command.specs.Planning.{HasPlanFault};
 
-use crate::arguments::{file_value, value_in};
-use crate::planning::{by_onset_option, is_by_onset, refuse_plan};
-use crate::refusal::{RUN, refuse_run, tell_outside};
+use crate::arguments::{refuse_stream, twice_read_file_value, value_in};
+use crate::refusal::{refuse, refuse_canonical, tell_crowded, tell_outside};
 use crate::runs_command::RunsCommand;
-use crate::stream_command::STREAM;
-use clap::{ArgMatches, Command};
+use clap::{Arg, ArgAction, ArgMatches, Command};
 use edf_fragment::{Input, Output};
-use edf_program::{CommandFault, Inputs, Status};
+use edf_program::{CommandFault, Inputs, Status, tell_memory};
 use edf_runs::{
     CanonicalPlan, OnsetFault, WriteFault, plan_by_onset, plan_canonical, write_canonical,
 };
@@ -27,8 +25,7 @@ does. Files with the same data records, annotations and identity have one canoni
 file, whatever their headers leave open.
 
 FILE is read twice, first for the size of its longest annotations and then for its
-data records, one of which is in memory at a time. Where FILE is -, standard input is
-read once, and all its data records are in memory before the first byte goes out.
+data records, one of which is in memory at a time. So it can't be standard input.
 
 With --by-onset each annotation is in the data record in which its onset lies. It is
 for files of EDFlib, which puts the n-th annotation into the n-th data record: then a
@@ -42,8 +39,21 @@ The annotations are those of the first reading, which are all in memory.";
 const CANONICAL_EXAMPLE: &str = "\
 Example:
   edfruns canonical card.edf > night.edf
-  zcat card.edf.gz | edfruns canonical - > night.edf
   edfruns canonical --by-onset card.edf > upload.edf";
+
+/// What usage calls the command.
+const NAME: &str = "edfruns canonical";
+
+/// The word after `--`.
+const BY_ONSET: &str = "by-onset";
+
+/// The option, as `clap` gets it.
+fn by_onset_option<'a>(alloc: Global) -> Arg<'a> {
+    Arg::new(alloc, BY_ONSET)
+        .long(BY_ONSET)
+        .help("Put each annotation where its onset is")
+        .action(ArgAction::SetTrue)
+}
 
 /// The word and its values, as `clap` gets them.
 pub(crate) fn canonical_words<'a>(alloc: Global) -> Result<Command<'a>, AllocError> {
@@ -52,7 +62,7 @@ pub(crate) fn canonical_words<'a>(alloc: Global) -> Result<Command<'a>, AllocErr
         .long_about(CANONICAL_MORE)
         .after_help(CANONICAL_EXAMPLE)
         .arg(by_onset_option(alloc))?
-        .arg(file_value(alloc))
+        .arg(twice_read_file_value(alloc))
 }
 
 /// What its values ask for.
@@ -61,12 +71,14 @@ pub(crate) fn read_canonical(
     values: &ArgMatches<'_>,
 ) -> Result<RunsCommand, CommandFault> {
     let file = value_in(values, "FILE");
-    let is_by_onset = is_by_onset(values);
-    if file == STREAM {
-        return Ok(RunsCommand::CanonicalOfStream { is_by_onset });
+    if file == "-" {
+        return Err(refuse_stream(alloc, canonical_words(alloc), NAME)?);
     }
     let file = String::from_str(alloc, file)?;
-    Ok(RunsCommand::Canonical { file, is_by_onset })
+    Ok(RunsCommand::Canonical {
+        file,
+        is_by_onset: values.get_flag(BY_ONSET),
+    })
 }
 
 /// What the canonical file of what is read needs before its first byte.
@@ -130,6 +142,17 @@ fn write_planned<I: Inputs, O: Output>(
     Ok(())
 }
 
+/// Prints why nothing is written of a file.
+fn refuse_plan<F: Output>(alloc: Global, file: &str, fault: OnsetFault, err: &mut F) -> Status
+    ensures { IsPlanRefused (growth F.Output err.old err.new) file.now fault result }
+{
+    match fault {
+        OnsetFault::Fragment(met) => refuse(alloc, file, met, err),
+        OnsetFault::TooMany(number) => tell_crowded(err, number),
+        OnsetFault::Memory => tell_memory(err, file),
+    }
+}
+
 /// Writes the canonical file of a file, as it is or by onset.
 pub(crate) fn canonical<I: Inputs, O: Output, F: Output>(
     alloc: Global,
@@ -147,10 +170,10 @@ pub(crate) fn canonical<I: Inputs, O: Output, F: Output>(
 {
     let plan = match plan_of(alloc, file, is_by_onset, inputs) {
         Ok(plan) => plan,
-        Err(fault) => return refuse_plan(alloc, file, RUN, fault, err),
+        Err(fault) => return refuse_plan(alloc, file, fault, err),
     };
     match write_planned(alloc, file, &plan, inputs, out) {
         Ok(()) => tell_outside(err, file, plan.outside()),
-        Err(fault) => refuse_run(file, 0, fault, err),
+        Err(fault) => refuse_canonical(file, fault, err),
     }
 }

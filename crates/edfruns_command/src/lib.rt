@@ -5,8 +5,6 @@
 //!   written. [`parse`]: the words, read, and nothing else.
 //! - [`run_runs`]: one command, over what opens files (`edf_program`'s `Inputs`) and what makes
 //!   them (`edf_new_files`' `NewFiles`).
-//! - [`laws`]: runs have groups that share a line, and no others; a run alone has its own line.
-//!   Each function does nothing: its contract is a law.
 //! - [`runs_text`]: the lines of runs that were listed; [`Sight`]: what a picture shows of a
 //!   recording, data record by data record, and the picture.
 #![tactic(auto)]
@@ -14,14 +12,11 @@
 mod arguments;
 mod canonical_command;
 mod counting;
-mod joining;
-pub mod laws;
 mod lines;
 mod list_command;
 mod making;
 mod naming;
 mod picture_command;
-mod planning;
 mod refusal;
 mod removing;
 mod runs_command;
@@ -29,11 +24,8 @@ mod sight;
 mod signals;
 mod split_command;
 mod stop;
-mod stream_command;
-mod tolerance;
-mod write_command;
 
 pub use arguments::{parse, read_command};
-pub use joining::runs_text;
+pub use lines::runs_text;
 pub use runs_command::{RunsCommand, run_runs};
 pub use sight::Sight;

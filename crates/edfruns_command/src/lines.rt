@@ -1,11 +1,13 @@
-//! How a line begins that tells of runs.
+//! The lines of runs.
 
 ghost use Rattle.std.specs.Prelude.{◌≡◌, ◌≤◌, ℕ, List, IfOk, option_map, slice_get};
-ghost use Rattle.edfruns_command.specs.Lines.{IsSpelling, end_of, gap_text, line_front};
+ghost use Rattle.edf_field.specs.Number.{duration_of};
+ghost use Rattle.edfruns_command.specs.Lines.{IsSpelling, each_line, end_of, gap_text, run_front};
+ghost use Rattle.edfruns_command.specs.Lines.{run_lines};
 
 use edf_field::MOST_DURATION;
 use edf_program::{concat, spelled};
-use edf_runs::Run;
+use edf_runs::{Listing, Run};
 use edf_time::write_seconds;
 use std::alloc::{AllocError, Global};
 
@@ -21,27 +23,24 @@ fn gap_text(alloc: Global, end: u64, next: Option<&Run>) -> Result<Vec<u8>, Allo
     concat(alloc, &[b" gap=".as_slice(), seconds.as_slice()])
 }
 
-/// How the line of runs begins, of which these are the first and the last: its number, how many
-/// data records they have, the start of the first, the seconds from there to the end of the last,
-/// and the gap before the next run, if there is one.
+/// How the line of a run begins: its number, how many data records it has, the start of the first,
+/// the seconds from there to the end of the last, and the gap before the next run, if there is one.
 pub(crate) fn line_front(
     alloc: Global,
     duration: u64,
     number: usize,
-    records: u128,
-    first: &Run,
-    last: &Run,
+    run: &Run,
     next: Option<&Run>,
 ) -> Result<Vec<u8>, AllocError>
     requires { duration ≤ MOST_DURATION }
-    ensures { IfOk result (λ r. (spell : ℕ → List ℕ) → IsSpelling spell →
-        r.items ≡ line_front spell duration number records first.now last.now
-        (option_map (λ run. run.now) next.entry)) }
+    ensures { IfOk result (λ r. (spell : ℕ → List ℕ) → IsSpelling spell → r.items
+        ≡ run_front spell duration number run.now (option_map (λ run. run.now) next.entry)) }
 {
-    let end = last.last().nanos() + duration;
+    let end = run.last().nanos() + duration;
+    let records = run.records();
     let counts = format!(in alloc; "{number} records={records} first=")?;
-    let start = spelled(alloc, first.first())?;
-    let seconds = write_seconds(alloc, end.saturating_sub(first.first().nanos()))?;
+    let start = spelled(alloc, run.first())?;
+    let seconds = write_seconds(alloc, end.saturating_sub(run.first().nanos()))?;
     let gap = gap_text(alloc, end, next)?;
     let parts = [
         counts.as_bytes(),
@@ -58,4 +57,34 @@ pub(crate) fn run_at(runs: &[Run], at: usize) -> Option<&Run>
     ensures { option_map (λ run. run.now) result ≡ slice_get runs.now at }
 {
     runs.get(at)
+}
+
+/// A line for each of a file's runs, in time order, each after the label.
+pub(crate) fn list_text(
+    alloc: Global,
+    label: &[u8],
+    listing: &Listing,
+) -> Result<Vec<u8>, AllocError>
+    ensures { IfOk result (λ r. (spell : ℕ → List ℕ) → IsSpelling spell →
+        r.items ≡ run_lines spell (duration_of listing.now.identity.duration) label.now 1
+        listing.now.runs.items) }
+{
+    let duration = listing.identity.duration();
+    let runs = listing.runs.as_slice();
+    let mut text = Vec::new(alloc);
+    for at in 0..runs.len() {
+        let front = line_front(alloc, duration, at + 1, &runs[at], run_at(runs, at + 1))?;
+        text.extend_from_slice(label)?;
+        text.extend_from_slice(front.as_slice())?;
+        text.push(b'\n')?;
+    }
+    Ok(text)
+}
+
+/// A line for each of a file's runs, in time order.
+pub fn runs_text(alloc: Global, listing: &Listing) -> Result<Vec<u8>, AllocError>
+    ensures { IfOk result (λ r. (spell : ℕ → List ℕ) → IsSpelling spell → r.items
+        ≡ each_line spell (duration_of listing.now.identity.duration) listing.now.runs.items) }
+{
+    list_text(alloc, &[], listing)
 }

@@ -1,25 +1,23 @@
-//! `list`: a line for each run, or for those that are joined.
+//! `list`: a line for each run.
 
 ghost use Rattle.std.specs.Prelude.{◌≡◌, ◌⊎◌, ◌++◌, ◌∷◌, [], ℕ, List, Ok, IfOk, MatchResult};
 ghost use Rattle.std.specs.Prelude.{map, replicate, string_bytes};
 ghost use Rattle.edf_field.specs.Number.{duration_of};
 ghost use Rattle.edf_program.specs.Output.{growth, Gets, GetsFront, IsWritten};
-ghost use Rattle.edf_runs.specs.declared.run.Run.{Run};
 ghost use Rattle.edfruns_command.specs.Inside.{OpensUpTo};
-ghost use Rattle.edfruns_command.specs.Joining.{AreSeen, group_lines};
-ghost use Rattle.edfruns_command.specs.Lines.{IsSpelling, standard_output, unwritten_line};
+ghost use Rattle.edfruns_command.specs.Lines.{IsSpelling, run_lines, standard_output};
+ghost use Rattle.edfruns_command.specs.Lines.{unwritten_line};
 ghost use Rattle.edfruns_command.specs.Listed.{CutsLines, IsFileListed, IsListOut, OpensEach};
 ghost use Rattle.edfruns_command.specs.Listed.{are_several, file_label};
 ghost use Rattle.edfruns_command.specs.Listing.{HasRuns, HasFault};
 
 use crate::arguments::required_value;
-use crate::joining::list_text;
+use crate::lines::list_text;
 use crate::refusal::{STANDARD_OUTPUT, refuse, tell_unwritten};
 use crate::runs_command::RunsCommand;
-use crate::tolerance::{read_tolerance, tolerance_option};
 use clap::{Arg, ArgAction, ArgMatches, Command};
 use edf_fragment::{FragmentFault, Output, send};
-use edf_program::{CommandFault, Inputs, Status, concat, tell_memory, worse};
+use edf_program::{CommandFault, Inputs, Status, concat, refuse_value, tell_memory, worse};
 use edf_runs::{Listing, list_runs};
 use std::alloc::{AllocError, Global};
 
@@ -28,29 +26,24 @@ const LIST_MORE: &str = "\
 Lists the runs of a file in time order, a line each: its number, how many data
 records it has, the start of the first, how many seconds it lasts, and, where
 another run follows, how many seconds are missing before that. Where there are
-several files, each line begins with its file's name.
-
-With --tolerance, runs between which at most S seconds are missing share a line,
-which ends with how many gaps it has and how many seconds they are together.
-'edfruns write' never joins runs, and its N counts those of a list without
---tolerance.";
+several files, each line begins with its file's name.";
 
 const LIST_EXAMPLES: &str = "\
 Examples:
   edfruns list night.edf
   1 records=3 first=2002-03-02T23:59:50 seconds=3 gap=7.5
   2 records=2 first=2002-03-03T00:00:00.5 seconds=2
-  edfruns list --tolerance 10 night.edf
-  1 records=5 first=2002-03-02T23:59:50 seconds=12.5 joined=1 missing=7.5
   edfruns list *.edf";
 
 /// What usage calls the command.
 const NAME: &str = "edfruns list";
 
+/// Why `-` is refused.
+const NO_STREAM: &str = "FILE can't be standard input: write it to a file first";
+
 /// The files, each of which is read once.
 fn files_value<'a>(alloc: Global) -> Arg<'a> {
-    let text = "Files in EDF+C or EDF+D, or - for standard input";
-    required_value(alloc, "FILE", text)
+    required_value(alloc, "FILE", "Files in EDF+C or EDF+D")
         .action(ArgAction::Append)
         .num_args(1..)
 }
@@ -61,7 +54,6 @@ pub(crate) fn list_words<'a>(alloc: Global) -> Result<Command<'a>, AllocError> {
         .about("Lists the runs of files")
         .long_about(LIST_MORE)
         .after_help(LIST_EXAMPLES)
-        .arg(tolerance_option(alloc))?
         .arg(files_value(alloc))
 }
 
@@ -81,9 +73,11 @@ pub(crate) fn read_list(
     alloc: Global,
     values: &ArgMatches<'_>,
 ) -> Result<RunsCommand, CommandFault> {
-    let tolerance = read_tolerance(alloc, values, list_words(alloc), NAME)?;
     let files = files_in(alloc, values)?;
-    Ok(RunsCommand::List { files, tolerance })
+    if files.iter().any(|file| file.as_str() == "-") {
+        return Err(refuse_value(alloc, list_words(alloc)?, NAME, NO_STREAM)?);
+    }
+    Ok(RunsCommand::List { files })
 }
 
 /// The runs of a file, which is read once.
@@ -129,16 +123,14 @@ fn text_of(
     alloc: Global,
     file: &str,
     several: bool,
-    tolerance: Option<u64>,
     listing: &Listing,
 ) -> Result<Vec<u8>, AllocError>
     ensures { let d = duration_of listing.now.identity.duration in IfOk result (λ r.
-        (groups : List (List Run)) × AreSeen d tolerance listing.now.runs.items groups
-        × ((spell : ℕ → List ℕ) → IsSpelling spell →
-        r.items ≡ group_lines spell tolerance d (file_label several file.now) 1 groups)) }
+        (spell : ℕ → List ℕ) → IsSpelling spell →
+        r.items ≡ run_lines spell d (file_label several file.now) 1 listing.now.runs.items) }
 {
     let label = file_label(alloc, file, several)?;
-    list_text(alloc, label.as_slice(), tolerance, listing)
+    list_text(alloc, label.as_slice(), listing)
 }
 
 /// Writes lines.
@@ -166,7 +158,6 @@ fn list_file<I: Inputs, O: Output, F: Output>(
     alloc: Global,
     file: &str,
     several: bool,
-    tolerance: Option<u64>,
     inputs: &mut I,
     out: &mut O,
     err: &mut F,
@@ -175,8 +166,8 @@ fn list_file<I: Inputs, O: Output, F: Output>(
         let e = growth F.Output err.old err.new in
         let bytes = I.bytes inputs.old file.now in
         let label = file_label several file.now in
-        MatchResult result (IsFileListed o e bytes label tolerance file.now)
-        (CutsLines o e bytes label tolerance) }
+        MatchResult result (IsFileListed o e bytes label file.now)
+        (CutsLines o e bytes label) }
     ensures opened { OpensUpTo (I.opened inputs.old) (I.opened inputs.new) file.now 1 }
     ensures done { result ≡ Ok Status.Done →
         I.opened inputs.new ≡ I.opened inputs.old ++ (file.now ∷ []) }
@@ -186,7 +177,7 @@ fn list_file<I: Inputs, O: Output, F: Output>(
         Ok(listing) => listing,
         Err(fault) => return Ok(refuse(alloc, file, fault, err)),
     };
-    match text_of(alloc, file, several, tolerance, &listing) {
+    match text_of(alloc, file, several, &listing) {
         Ok(text) => send_lines(text.as_slice(), out, err),
         Err(_) => Ok(tell_memory(err, file)),
     }
@@ -197,13 +188,12 @@ fn list_file<I: Inputs, O: Output, F: Output>(
 pub(crate) fn list<I: Inputs, O: Output, F: Output>(
     alloc: Global,
     files: &[String],
-    tolerance: Option<u64>,
     inputs: &mut I,
     out: &mut O,
     err: &mut F,
 ) -> Status
     ensures listed { IsListOut (I.bytes inputs.old) (growth O.Output out.old out.new)
-        (growth F.Output err.old err.new) tolerance (map string_bytes files.now) result }
+        (growth F.Output err.old err.new) (map string_bytes files.now) result }
     ensures opened { OpensEach (I.opened inputs.old) (I.opened inputs.new)
         (map string_bytes files.now) result }
     ensures same { (name : List ℕ) → I.bytes inputs.new name ≡ I.bytes inputs.old name }
@@ -211,7 +201,7 @@ pub(crate) fn list<I: Inputs, O: Output, F: Output>(
     let several = are_several(files);
     let mut status = Status::Done;
     for file in files {
-        match list_file(alloc, file.as_str(), several, tolerance, inputs, out, err) {
+        match list_file(alloc, file.as_str(), several, inputs, out, err) {
             Ok(one) => status = worse(status, one),
             Err(cut) => return cut,
         }

@@ -5,7 +5,7 @@ ghost use Rattle.std.specs.Prelude.{replicate, string_bytes};
 ghost use Rattle.edf_field.specs.Number.{duration_of};
 ghost use Rattle.edf_header.specs.Key.{MayStart};
 ghost use Rattle.edf_fragment.specs.Reading.{at_first};
-ghost use Rattle.edf_runs.specs.declared.onset_run.OnsetRun.{OnsetRun as PlannedRun};
+ghost use Rattle.edf_runs.specs.declared.run.Run.{Run as ListedRun};
 ghost use Rattle.edf_new_files.specs.Making.{making};
 ghost use Rattle.edfruns_command.specs.Inside.{OpensUpTo};
 ghost use Rattle.edfruns_command.specs.InsideMaking.{MakesFile, StopsFile, MakesFirst, StopsEach};
@@ -18,7 +18,7 @@ use edf_field::MOST_DURATION;
 use edf_fragment::{FragmentFault, Input, OpenFragment};
 use edf_new_files::NewFiles;
 use edf_program::Inputs;
-use edf_runs::{OnsetListing, OnsetRun, WriteFault, Written, reopen_by_onset, write_by_onset};
+use edf_runs::{Listing, Run, WriteFault, Written, reopen_listed, write_run};
 use std::alloc::Global;
 
 /// What is told of files that were made.
@@ -62,11 +62,11 @@ fn make_file<'a, R: Input, P: NewFiles>(
     alloc: Global,
     fragment: &mut OpenFragment,
     reader: &mut R,
-    run: &OnsetRun,
+    run: &Run,
     name: &'a str,
     outputs: &mut P,
 ) -> Result<Written, Stop<'a>>
-    requires dated { MayStart fragment.old.header.key run.now.run.first }
+    requires dated { MayStart fragment.old.header.key run.now.first }
     ensures header { fragment.new.header ≡ fragment.old.header }
     ensures known { P.known outputs.new ≡ P.known outputs.old }
     ensures answer { MatchResult result
@@ -80,7 +80,7 @@ fn make_file<'a, R: Input, P: NewFiles>(
     let Ok(mut writer) = outputs.create(alloc, name) else {
         return Err(Stop::Output(name));
     };
-    match write_by_onset(alloc, fragment, reader, run, &mut writer) {
+    match write_run(alloc, fragment, reader, run, &mut writer) {
         Ok(written) => match outputs.finish(writer) {
             Ok(_) => Ok(written),
             Err(_) => Err(Stop::Output(name)),
@@ -98,7 +98,7 @@ fn make_each<'a, R: Input, P: NewFiles>(
     alloc: Global,
     fragment: &mut OpenFragment,
     reader: &mut R,
-    runs: &[OnsetRun],
+    runs: &[Run],
     names: &'a [String],
     duration: u64,
     outputs: &mut P,
@@ -107,7 +107,7 @@ fn make_each<'a, R: Input, P: NewFiles>(
     requires most { duration ≤ MOST_DURATION }
     requires first { fragment.old.progress ≡ at_first }
     requires names { length names.now ≡ length runs.now }
-    requires dated { All (λ (run : PlannedRun). MayStart fragment.old.header.key run.run.first)
+    requires dated { All (λ (run : ListedRun). MayStart fragment.old.header.key run.first)
         runs.now }
     ensures header { fragment.new.header ≡ fragment.old.header }
     ensures answer { MatchResult result
@@ -137,19 +137,19 @@ fn make_each<'a, R: Input, P: NewFiles>(
 pub(crate) fn make_files<'a, I: Inputs, P: NewFiles>(
     alloc: Global,
     file: &str,
-    plan: &OnsetListing,
+    listing: &Listing,
     names: &'a [String],
     inputs: &mut I,
     outputs: &mut P,
 ) -> Result<MadeLines<'a>, Stop<'a>>
-    requires names { length names.now ≡ length plan.now.runs.items }
-    requires dated { All (λ (run : PlannedRun). MayStart plan.now.identity run.run.first)
-        plan.now.runs.items }
+    requires names { length names.now ≡ length listing.now.runs.items }
+    requires dated { All (λ (run : ListedRun). MayStart listing.now.identity run.first)
+        listing.now.runs.items }
     ensures answer { MatchResult result
         (λ lines. RereadsWith (making P.NewFiles outputs.old outputs.new)
-        (I.bytes inputs.old file.now) plan.now (map string_bytes names.now) lines.text.items)
+        (I.bytes inputs.old file.now) listing.now (map string_bytes names.now) lines.text.items)
         (StopsMaking (making P.NewFiles outputs.old outputs.new) (I.bytes inputs.old file.now)
-        plan.now (map string_bytes names.now)) }
+        listing.now (map string_bytes names.now)) }
     ensures opened { MatchResult result
         (λ _. I.opened inputs.new ≡ I.opened inputs.old ++ replicate 1 file.now)
         (λ _. OpensUpTo (I.opened inputs.old) (I.opened inputs.new) file.now 1) }
@@ -158,7 +158,7 @@ pub(crate) fn make_files<'a, I: Inputs, P: NewFiles>(
     let Ok(mut reader) = inputs.open(alloc, file) else {
         return Err(Stop::Reading(WriteFault::Memory));
     };
-    let mut fragment = match reopen_by_onset(alloc, &mut reader, plan) {
+    let mut fragment = match reopen_listed(alloc, &mut reader, listing) {
         Ok(fragment) => fragment,
         Err(fault) => return Err(Stop::Reading(fault)),
     };
@@ -166,9 +166,9 @@ pub(crate) fn make_files<'a, I: Inputs, P: NewFiles>(
         alloc,
         &mut fragment,
         &mut reader,
-        &plan.runs,
+        &listing.runs,
         names,
-        plan.identity.duration(),
+        listing.identity.duration(),
         outputs,
     )?;
     match expect_end(&mut fragment, &mut reader) {

@@ -15,18 +15,16 @@ ghost use Rattle.edfruns_command.specs.Listing.{HasRuns, HasFault, OpensAgain};
 ghost use Rattle.edfruns_command.specs.Picturing.{AreNoted, HasNotes, IsPictured, ReadsNotes};
 ghost use Rattle.edfruns_command.specs.Picturing.{SendsPicture};
 
-use crate::arguments::{file_value, value_in};
-use crate::refusal::{refuse, refuse_run};
+use crate::arguments::{required_value, value_in};
+use crate::refusal::{STANDARD_OUTPUT, refuse, tell_unwritten};
 use crate::runs_command::RunsCommand;
 use crate::sight::Sight;
-use crate::tolerance::{read_tolerance, tolerance_option};
 use clap::{Arg, ArgAction, ArgMatches, Command};
 use edf_field::MOST_DURATION;
 use edf_fragment::{FragmentFault, Input, OpenFragment, Output, send};
 use edf_header::Identity;
 use edf_header::laws::header_is_layout;
 use edf_program::{CommandFault, Inputs, Status, tell_memory};
-use edf_runs::WriteFault;
 use std::alloc::{AllocError, Global};
 
 /// What the picture shows.
@@ -38,21 +36,14 @@ name sleep stages, with the figures of sleep, and a lane for each text of the
 others; and the signals.
 A file that is refused leaves standard output empty.
 
-With --tolerance, gaps of at most S seconds are drawn as if nothing were missing.
-The picture tells how many they are, their sum and the longest.
-
 With --without-code the patient code is left out, and the title says so. The
 investigation code, the times and the texts of annotations stay as they are.";
 
 const PICTURE_EXAMPLES: &str = "\
 Examples:
   edfruns picture night.edf > night.svg
-  edfruns picture --tolerance 0.5 night.edf > night.svg
   edfruns picture --without-code night.edf > night.svg
   edfstore export night.db 1 | edfruns picture - > night.svg";
-
-/// What usage calls the command.
-const NAME: &str = "edfruns picture";
 
 /// The option for a picture that others are to see.
 const WITHOUT_CODE: &str = "without-code";
@@ -70,9 +61,12 @@ pub(crate) fn picture_words<'a>(alloc: Global) -> Result<Command<'a>, AllocError
         .about("Writes a picture of a file to standard output, as SVG")
         .long_about(PICTURE_MORE)
         .after_help(PICTURE_EXAMPLES)
-        .arg(tolerance_option(alloc))?
         .arg(without_code_option(alloc))?
-        .arg(file_value(alloc))
+        .arg(required_value(
+            alloc,
+            "FILE",
+            "A file in EDF+C or EDF+D, or - for standard input",
+        ))
 }
 
 /// What its values ask for.
@@ -80,11 +74,9 @@ pub(crate) fn read_picture(
     alloc: Global,
     values: &ArgMatches<'_>,
 ) -> Result<RunsCommand, CommandFault> {
-    let tolerance = read_tolerance(alloc, values, picture_words(alloc), NAME)?;
     let file = String::from_str(alloc, value_in(values, "FILE"))?;
     Ok(RunsCommand::Picture {
         file,
-        tolerance: tolerance.unwrap_or(0),
         has_code: !values.get_flag(WITHOUT_CODE),
     })
 }
@@ -170,23 +162,22 @@ fn seen_file<I: Inputs>(
 }
 
 /// Writes a picture, or prints that it could not be written whole.
-fn send_picture<O: Output, F: Output>(file: &str, picture: &str, out: &mut O, err: &mut F) -> Status
+fn send_picture<O: Output, F: Output>(picture: &str, out: &mut O, err: &mut F) -> Status
     ensures { SendsPicture (growth O.Output out.old out.new) (growth F.Output err.old err.new)
         picture.now (unwritten_line standard_output) result }
 {
     if send(out, picture.as_bytes()) {
         Status::Done
     } else {
-        refuse_run(file, 0, WriteFault::Write, err)
+        tell_unwritten(err, STANDARD_OUTPUT, Status::Trouble)
     }
 }
 
-/// Writes a picture of a file, in which gaps of at most so many nanoseconds are joined, with the
-/// code of the patient or without it. Nothing goes to `out` where the file is refused.
+/// Writes a picture of a file, with the code of the patient or without it. Nothing goes to `out`
+/// where the file is refused.
 pub(crate) fn picture<I: Inputs, O: Output, F: Output>(
     alloc: Global,
     file: &str,
-    tolerance: u64,
     has_code: bool,
     inputs: &mut I,
     out: &mut O,
@@ -201,8 +192,8 @@ pub(crate) fn picture<I: Inputs, O: Output, F: Output>(
         Ok(seen) => seen,
         Err(fault) => return refuse(alloc, file, fault, err),
     };
-    match seen.sight.draw(alloc, seen.identity, tolerance, has_code) {
-        Ok(picture) => send_picture(file, picture.as_str(), out, err),
+    match seen.sight.draw(alloc, seen.identity, has_code) {
+        Ok(picture) => send_picture(picture.as_str(), out, err),
         Err(_) => tell_memory(err, file),
     }
 }

@@ -5,11 +5,9 @@ ghost use Rattle.std.specs.Bool.{MatchBool};
 ghost use Rattle.edf_program.specs.Output.{growth, IsPut, IsWritten};
 ghost use Rattle.edf_program.specs.Text.{memory_line};
 ghost use Rattle.edfruns_command.specs.Canonical.{TellsOutside};
+ghost use Rattle.edfruns_command.specs.Lines.{canonical_refused_line, crowded_line, left_line};
 ghost use Rattle.edfruns_command.specs.Lines.{file_refused_line, file_refused_status};
-ghost use Rattle.edfruns_command.specs.Lines.{no_run_line, left_line, undated_line};
-ghost use Rattle.edfruns_command.specs.Lines.{crowded_line};
-ghost use Rattle.edfruns_command.specs.Lines.{run_refused_line, run_refused_status};
-ghost use Rattle.edfruns_command.specs.Lines.{reread_line, stop_line, unwritten_line};
+ghost use Rattle.edfruns_command.specs.Lines.{reread_line, stop_line, undated_line, unwritten_line};
 
 use crate::stop::Stop;
 use edf_fragment::{FragmentFault, Output, Remark};
@@ -22,11 +20,6 @@ use std::alloc::Global;
 
 /// What the line names where standard output can't be written.
 pub(crate) const STANDARD_OUTPUT: &str = "standard output";
-
-/// What a line numbers: runs, or the files of data records that are joined.
-pub(crate) const RUN: &str = "run";
-
-pub(crate) const JOINED_FILE: &str = "file";
 
 /// Whether what answers this status was written whole, where `Done` was asked for.
 fn is_told(status: Status) -> bool
@@ -56,53 +49,36 @@ pub(crate) fn refuse<F: Output>(
     }
 }
 
-/// Prints that the part of that number starts where no file without a date can. Printing takes no
+/// Prints that the run of that number starts where no file without a date can. Printing takes no
 /// memory.
-pub(crate) fn tell_undated<F: Output>(
-    err: &mut F,
-    part: &str,
-    number: usize,
-    status: Status,
-) -> Status
-    ensures { IsWritten (growth F.Output err.old err.new) (undated_line part.now number) status
+pub(crate) fn tell_undated<F: Output>(err: &mut F, number: usize) -> Status
+    ensures { IsWritten (growth F.Output err.old err.new) (undated_line number) Status.Refused
         result }
 {
     let mut buffer = Buffer::new();
     let digits = buffer.format(number);
     let parts = [
-        part.as_bytes(),
-        b" ",
+        b"run ".as_slice(),
         digits.as_bytes(),
         b" starts after 2084, which a file without a date can't tell\n",
-    ];
-    tell_parts(err, &parts, status)
-}
-
-/// Prints that by onset a data record of the part of that number would have more annotations than
-/// one may have. Printing takes no memory.
-pub(crate) fn tell_crowded<F: Output>(err: &mut F, part: &str, number: u64) -> Status
-    ensures { IsWritten (growth F.Output err.old err.new) (crowded_line part.now number)
-        Status.Refused result }
-{
-    let mut buffer = Buffer::new();
-    let digits = buffer.format(number);
-    let parts = [
-        part.as_bytes(),
-        b" ",
-        digits.as_bytes(),
-        b" would have too many annotations in a data record\n",
     ];
     tell_parts(err, &parts, Status::Refused)
 }
 
-/// The status where a run is not written.
-pub(crate) fn run_refused_status(fault: WriteFault) -> Status
-    ensures { result ≡ run_refused_status fault }
+/// Prints that by onset a data record of the run of that number would have more annotations than
+/// one may have. Printing takes no memory.
+pub(crate) fn tell_crowded<F: Output>(err: &mut F, number: u64) -> Status
+    ensures { IsWritten (growth F.Output err.old err.new) (crowded_line number) Status.Refused
+        result }
 {
-    match fault {
-        WriteFault::Undated => Status::Refused,
-        _ => Status::Trouble,
-    }
+    let mut buffer = Buffer::new();
+    let digits = buffer.format(number);
+    let parts = [
+        b"run ".as_slice(),
+        digits.as_bytes(),
+        b" would have too many annotations in a data record\n",
+    ];
+    tell_parts(err, &parts, Status::Refused)
 }
 
 /// Prints why the second reading of a file stopped. Printing takes no memory.
@@ -132,22 +108,14 @@ pub(crate) fn tell_unwritten<F: Output>(err: &mut F, output: &str, status: Statu
     tell_refused(err, output, 43, "Write", status)
 }
 
-/// Prints why the run of that number is not written, and answers the status of that. Printing takes
-/// no memory.
-pub(crate) fn refuse_run<F: Output>(
-    file: &str,
-    number: usize,
-    fault: WriteFault,
-    err: &mut F,
-) -> Status
-    ensures { IsWritten (growth F.Output err.old err.new) (run_refused_line file.now number fault)
-        (run_refused_status fault) result }
+/// Prints why a canonical file is not written. Printing takes no memory.
+pub(crate) fn refuse_canonical<F: Output>(file: &str, fault: WriteFault, err: &mut F) -> Status
+    ensures { IsWritten (growth F.Output err.old err.new) (canonical_refused_line file.now fault)
+        Status.Trouble result }
 {
-    let status = run_refused_status(fault);
     match fault {
-        WriteFault::Undated => tell_undated(err, RUN, number, status),
-        WriteFault::Write => tell_unwritten(err, STANDARD_OUTPUT, status),
-        _ => tell_reread(err, file, fault, status),
+        WriteFault::Write => tell_unwritten(err, STANDARD_OUTPUT, Status::Trouble),
+        _ => tell_reread(err, file, fault, Status::Trouble),
     }
 }
 
@@ -180,17 +148,6 @@ pub(crate) fn tell_outside<F: Output>(err: &mut F, file: &str, outside: u64) -> 
         b"\n",
     ];
     tell_parts(err, &parts, Status::Done)
-}
-
-/// Prints that there is no run of that number. Printing takes no memory.
-pub(crate) fn tell_no_run<F: Output>(err: &mut F, number: u32) -> Status
-    ensures { IsWritten (growth F.Output err.old err.new) (no_run_line number) Status.Refused
-        result }
-{
-    let mut buffer = Buffer::new();
-    let digits = buffer.format(number);
-    let parts = [b"no run ".as_slice(), digits.as_bytes(), b"\n"];
-    tell_parts(err, &parts, Status::Refused)
 }
 
 /// Prints that a file could not be removed, and answers whether that was printed whole.

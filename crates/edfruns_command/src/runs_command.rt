@@ -8,33 +8,19 @@ use crate::canonical_command::canonical;
 use crate::list_command::list;
 use crate::picture_command::picture;
 use crate::split_command::split;
-use crate::stream_command::{STREAM, canonical_of_stream};
-use crate::write_command::write;
 use edf_fragment::Output;
 use edf_new_files::NewFiles;
 use edf_program::{Inputs, Status};
-use edf_runs::Joining;
 use std::alloc::Global;
 
-/// What a command line of `edfruns` asks for. A file is a path, or `-` for standard input where it
-/// is read once. None of them is looked at here.
+/// What a command line of `edfruns` asks for. A file is a path, or `-` for the standard input of
+/// `Picture`. None of them is looked at here.
 #[derive(Debug, Drop)]
 pub enum RunsCommand {
     /// List the runs of files.
     List {
         /// The files, one at least.
         files: Vec<String>,
-        /// The longest gap between runs that share a line, in nanoseconds, if any do.
-        tolerance: Option<u64>,
-    },
-    /// Write the EDF+C file of one run to standard output.
-    Write {
-        /// The file. It is not `-`.
-        file: String,
-        /// The run's number in the list, from 1.
-        number: u32,
-        /// Whether it has the annotations whose onsets lie in it, in place of its own.
-        is_by_onset: bool,
     },
     /// Write the canonical EDF+D file to standard output.
     Canonical {
@@ -43,28 +29,17 @@ pub enum RunsCommand {
         /// Whether each annotation is in the data record that has its onset.
         is_by_onset: bool,
     },
-    /// Write that of standard input, whose data records are all in memory before the first byte.
-    CanonicalOfStream {
-        /// Whether each annotation is in the data record that has its onset.
-        is_by_onset: bool,
-    },
-    /// Write each run to an EDF+C file of its own, or those that are joined to one.
+    /// Write each run to an EDF+C file of its own.
     Split {
         /// The file. It is not `-`.
         file: String,
         /// How the names of the new files begin.
         prefix: String,
-        /// Whether each has the annotations whose onsets lie in it, in place of its own.
-        is_by_onset: bool,
-        /// Which gaps are joined, if any are.
-        joining: Option<Joining>,
     },
     /// Write a picture of the file to standard output.
     Picture {
         /// The file.
         file: String,
-        /// The longest gap that is joined for the view, in nanoseconds; 0 joins none.
-        tolerance: u64,
         /// Whether its title has the code of the patient.
         has_code: bool,
     },
@@ -79,29 +54,14 @@ impl RunsCommand {
         ensures { result ≡ readings_of (meaning self.now) }
     {
         match self {
-            RunsCommand::List {
-                files,
-                tolerance: _,
-            } => files.len(),
-            RunsCommand::Write {
-                file: _,
-                number: _,
-                is_by_onset: _,
-            } => 2,
+            RunsCommand::List { files } => files.len(),
             RunsCommand::Canonical {
                 file: _,
                 is_by_onset: _,
             } => 2,
-            RunsCommand::CanonicalOfStream { is_by_onset: _ } => 1,
-            RunsCommand::Split {
-                file: _,
-                prefix: _,
-                is_by_onset: _,
-                joining: _,
-            } => 2,
+            RunsCommand::Split { file: _, prefix: _ } => 2,
             RunsCommand::Picture {
                 file: _,
-                tolerance: _,
                 has_code: _,
             } => 1,
         }
@@ -111,12 +71,12 @@ impl RunsCommand {
 /// Runs a command.
 ///
 /// Lists, files and pictures go to `out`, and why something is not done, and the line of a file of
-/// `Write` or `Canonical`, to `err`. The list of a file goes out whole, or a front of it where a
-/// write failed, which a line tells, or nothing where memory ran out. `Split` leaves all its files
-/// where it is done, and else none but those that it names as not removed; the lines of files that
-/// were removed may have gone out, where writing them failed. The clauses say what `List`, `Write`,
-/// `Canonical` and `Split` do, and of `Picture` all but what the picture shows beside its title,
-/// its times and its figures.
+/// `Canonical`, to `err`. The list of a file goes out whole, or a front of it where a write failed,
+/// which a line tells, or nothing where memory ran out. `Split` leaves all its files where it is
+/// done, and else none but those that it names as not removed; the lines of files that were removed
+/// may have gone out, where writing them failed. The clauses say what `List`, `Canonical` and
+/// `Split` do, and of `Picture` all but what the picture shows beside its title, its times and its
+/// figures.
 pub fn run_runs<I: Inputs, P: NewFiles, O: Output, F: Output>(
     alloc: Global,
     command: &RunsCommand,
@@ -133,56 +93,21 @@ pub fn run_runs<I: Inputs, P: NewFiles, O: Output, F: Output>(
         (I.opened inputs.old) (I.opened inputs.new) (meaning command.now) result }
 {
     match command {
-        RunsCommand::List { files, tolerance } => {
-            list(alloc, files.as_slice(), *tolerance, inputs, out, err)
-        }
-        RunsCommand::Write {
-            file,
-            number,
-            is_by_onset,
-        } => write(
-            alloc,
-            file.as_str(),
-            *number,
-            *is_by_onset,
-            inputs,
-            out,
-            err,
-        ),
+        RunsCommand::List { files } => list(alloc, files.as_slice(), inputs, out, err),
         RunsCommand::Canonical { file, is_by_onset } => {
             canonical(alloc, file.as_str(), *is_by_onset, inputs, out, err)
         }
-        RunsCommand::CanonicalOfStream { is_by_onset } => {
-            canonical_of_stream(alloc, STREAM, *is_by_onset, inputs, out, err)
-        }
-        RunsCommand::Split {
-            file,
-            prefix,
-            is_by_onset,
-            joining,
-        } => split(
+        RunsCommand::Split { file, prefix } => split(
             alloc,
             file.as_str(),
             prefix.as_str(),
-            *is_by_onset,
-            *joining,
             inputs,
             outputs,
             out,
             err,
         ),
-        RunsCommand::Picture {
-            file,
-            tolerance,
-            has_code,
-        } => picture(
-            alloc,
-            file.as_str(),
-            *tolerance,
-            *has_code,
-            inputs,
-            out,
-            err,
-        ),
+        RunsCommand::Picture { file, has_code } => {
+            picture(alloc, file.as_str(), *has_code, inputs, out, err)
+        }
     }
 }

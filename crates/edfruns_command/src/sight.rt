@@ -15,12 +15,12 @@ ghost use Rattle.edfruns_command.specs.Picturing.{named_of, run_time};
 ghost use Rattle.edf_picture.specs.Picture.{named_by};
 ghost use Rattle.edfruns_command.specs.InsidePicture.{HasText};
 
-use crate::joining::runs_text;
+use crate::lines::runs_text;
 use crate::signals::signals_in;
 use edf_field::MOST_DURATION;
 use edf_fragment::Record;
 use edf_header::Identity;
-use edf_picture::{Joined, Recorded, Stretch, Title, draw};
+use edf_picture::{Recorded, Stretch, Title, draw};
 use edf_program::{concat, spelled};
 use edf_runs::{Listing, Run, add_record};
 use edf_sleep::{Account, Extent, Note, are_sound};
@@ -67,8 +67,7 @@ impl Sight {
     }
 
     /// The picture of the recording of this identity, as one SVG, with the lines of its runs and
-    /// those of its figures as text. Its title has the code of the patient or not. Gaps of at most
-    /// so many nanoseconds are drawn as if nothing were missing.
+    /// those of its figures as text. Its title has the code of the patient or not.
     ///
     /// # Errors
     /// Where memory runs out.
@@ -76,7 +75,6 @@ impl Sight {
         self,
         alloc: Global,
         identity: Identity,
-        tolerance: u64,
         has_code: bool,
     ) -> Result<String, AllocError>
         ensures { IfOk result (λ picture. IsPictureOf identity has_code
@@ -86,7 +84,7 @@ impl Sight {
             identity,
             runs: self.runs,
         };
-        draw_listing(alloc, &listing, &self.notes, tolerance, has_code)
+        draw_listing(alloc, &listing, &self.notes, has_code)
     }
 }
 
@@ -129,68 +127,17 @@ fn times_of(alloc: Global, duration: u64, runs: &[Run]) -> Result<Vec<Extent>, A
     Ok(times)
 }
 
-/// The stretches that a picture draws, and what was joined for it.
-#[derive(Drop)]
-struct View {
-    stretches: Vec<Stretch>,
-    joined: Joined,
-}
-
-impl View {
-    /// The runs, those as one between which no more is missing than a tolerance above 0.
-    fn of(alloc: Global, runs: &[Run], duration: u64, tolerance: u64) -> Result<View, AllocError> {
-        let mut view = View {
-            stretches: Vec::new(alloc),
-            joined: Joined {
-                tolerance,
-                gaps: 0,
-                sum: 0,
-                longest: 0,
-            },
-        };
-        let mut open: Option<Stretch> = None;
-        for run in runs {
-            let stretch = Stretch {
-                first: run.first(),
-                last: run.last(),
-                records: run.records(),
-            };
-            open = Some(view.next(open, stretch, duration)?);
-        }
-        if let Some(last) = open {
-            view.stretches.push(last)?;
-        }
-        Ok(view)
+/// The runs as the stretches that a picture draws.
+fn stretches_of(alloc: Global, runs: &[Run]) -> Result<Vec<Stretch>, AllocError> {
+    let mut stretches = Vec::new(alloc);
+    for run in runs {
+        stretches.push(Stretch {
+            first: run.first(),
+            last: run.last(),
+            records: run.records(),
+        })?;
     }
-
-    /// The two as one where the gap between them is joined; else the first is whole.
-    fn next(
-        &mut self,
-        open: Option<Stretch>,
-        stretch: Stretch,
-        duration: u64,
-    ) -> Result<Stretch, AllocError> {
-        let Some(before) = open else {
-            return Ok(stretch);
-        };
-        let end = before.last.nanos().saturating_add(duration);
-        let gap = stretch.first.nanos().saturating_sub(end);
-        let joined = &mut self.joined;
-        if gap > joined.tolerance || joined.tolerance == 0 {
-            self.stretches.push(before)?;
-            return Ok(stretch);
-        }
-        if gap > 0 {
-            joined.gaps = joined.gaps.saturating_add(1);
-            joined.sum = joined.sum.saturating_add(gap);
-            joined.longest = joined.longest.max(gap);
-        }
-        Ok(Stretch {
-            first: before.first,
-            last: stretch.last,
-            records: before.records.saturating_add(stretch.records),
-        })
-    }
+    Ok(stretches)
 }
 
 /// What notes and the times of runs tell; nothing where they are not as a file has them.
@@ -266,7 +213,6 @@ fn draw_listing(
     alloc: Global,
     listing: &Listing,
     notes: &[Note],
-    tolerance: u64,
     has_code: bool,
 ) -> Result<String, AllocError>
     ensures { IfOk result (λ picture. IsPictureOf listing.now.identity has_code
@@ -276,21 +222,16 @@ fn draw_listing(
     let duration = identity.duration();
     let bytes = identity.to_bytes(alloc)?;
     let signals = signals_in(alloc, &bytes)?;
-    let view = View::of(alloc, &listing.runs, duration, tolerance)?;
+    let stretches = stretches_of(alloc, &listing.runs)?;
     let times = times_of(alloc, duration, &listing.runs)?;
     let account = account_of(alloc, notes, &times)?;
     let lines = text_of(alloc, listing, &account)?;
     let title = title_of(identity, has_code);
     let recorded = Recorded {
         duration,
-        stretches: &view.stretches,
+        stretches: &stretches,
         times: &times,
         signals: &signals,
-        joined: if tolerance > 0 {
-            Some(view.joined)
-        } else {
-            None
-        },
     };
     draw(alloc, &title, &recorded, &account, lines.as_slice())
 }

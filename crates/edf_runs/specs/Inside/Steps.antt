@@ -1,5 +1,5 @@
 -- One step of a second reading.
-use Rattle.std.specs.Prelude.{◌≡◌, ◌≢◌, ℕ, ◌+◌, ◌≤◌, List, [], ◌∷◌, ◌++◌, length, slice_get}
+use Rattle.std.specs.Prelude.{◌≡◌, ◌≢◌, ℕ, ◌+◌, ◌≤◌, List, [], ◌++◌, length}
 use Rattle.std.specs.Prelude.{Option, Some, Ok, Result, MatchResult}
 use Rattle.edf_field.specs.Number.{duration_of}
 use Rattle.edf_header.specs.Header.{Layout, most_records}
@@ -18,7 +18,7 @@ use Rattle.edf_canonical.specs.declared.fault.OutputFault.TheVariants.{Memory as
 use Rattle.edf_runs.specs.Read.{ReadsOn}
 use Rattle.edf_runs.specs.Again.{next_start}
 use Rattle.edf_runs.specs.Written.{CountsFault}
-use Rattle.edf_runs.specs.WrittenByOnset.{StartAs}
+use Rattle.edf_runs.specs.Runs.{StartFrom}
 use Rattle.edf_runs.specs.declared.run.Run.{Run}
 use Rattle.edf_runs.specs.declared.fault.WriteFault.{WriteFault}
 use Rattle.edf_runs.specs.declared.fault.WriteFault.TheVariants.{Undated, Changed, Memory, Write}
@@ -39,11 +39,6 @@ abbrev pub CountsSending : {A : Type 0} → ℕ → ℕ → ℕ → ℕ → Resu
 CountsSending reads reads' writes writes' result =
     MatchResult result (λ _. (reads' ≡ reads) × (writes' ≡ writes))
     (λ fault. CountsFault reads reads' writes writes' fault × (fault ≢ Undated))
-
--- when the data record after so many is to start: at this instant, or, where some are told, then
-abbrev pub due : List ℕ → ℕ → ℕ → Option ℕ
-due [] nth instant = Some instant
-due (s ∷ ss) nth instant = slice_get (s ∷ ss) nth
 
 -- one more data record was read, which starts at this instant
 pub record StepsOn (l : Layout) (from to : Progress) (left rest : Option (List ℕ)) (instant : ℕ)
@@ -69,12 +64,12 @@ pub record HasOthers (l : Layout) (to : Progress) (rest : Option (List ℕ))
   pub are_records : AreDataRecords l to.place bytes others last after
   pub within : to.given + length others ≤ most_records l.count
 
--- the data records that were read so far, as many as `count`; in the file the next one starts at
--- `next`; and where as many data records came next as the run has, they are the first of these
+-- the data records that were read so far, as many as `count`; the next one is to start at `next`;
+-- and where as many data records came next as the run has, they are the first of these
 pub record ReadSoFar (l : Layout) (from to : Progress) (left rest : Option (List ℕ)) (run : Run)
-    (starts : List ℕ) (records : List DataRecord) (next count : ℕ) : Type 0 where
+    (records : List DataRecord) (next count : ℕ) : Type 0 where
   pub read : ReadsOn l from to left rest records
-  pub start : StartAs (duration_of l.key.duration) run.first starts records
+  pub start : StartFrom (duration_of l.key.duration) run.first records
   pub counted : length records ≡ count
   pub next_is : next ≡ next_start l run records
   pub first : (all : List DataRecord) → HasOthers l from left all [] → length all ≡ run.records →

@@ -1,5 +1,6 @@
 use Rattle.edf_runs.proofs.ByOnset.{each-where-started, stay-alike, stay-in-order}
 use Rattle.edf_runs.proofs.WhereItLies.{each-where-it-lies}
+use Rattle.edf_runs.proofs.KeptByOnset.{stay-sound}
 use Rattle.edf_runs.proofs.laws.by_onset.Goals as goal
 
 pub returns-clause-which : goal.returns-clause-which
@@ -13,3 +14,6 @@ returns-clause-alike c = stay-alike
 
 pub returns-clause-order : goal.returns-clause-order
 returns-clause-order c = stay-in-order
+
+pub returns-clause-sound : goal.returns-clause-sound
+returns-clause-sound c = stay-sound

@@ -1,10 +1,11 @@
-use Rattle.std.proofs.Common.{List, ℕ, ◌∙◌, subst, inl, inr, codes}
+use Rattle.std.proofs.Common.{List, ℕ, ◌∙◌, subst, inl, inr}
 use Rattle.std.specs.Prelude.{Option}
 use Rattle.edf_program.specs.Output.{growth}
 use Rattle.edf_program.proofs.Puts.{nothing-gets}
 use Rattle.edfruns_command.specs.Canonical.{WritesFile, StopsAgain, TellsOutside}
-use Rattle.edfruns_command.proofs.Answered.{opened-again, opened-twice, run-undone}
-use Rattle.edfruns_command.proofs.Answered.{lacks-plan, opened-refused, plan-undone}
+use Rattle.edf_program.proofs.Undone.{trouble-undone}
+use Rattle.edfruns_command.proofs.Answered.{opened-again, opened-twice, lacks-plan}
+use Rattle.edfruns_command.proofs.Answered.{opened-refused, plan-undone}
 use Rattle.edfruns_command.proofs.canonical_command.canonical.Goals as goal
 
 pub returns-in-Err-clause-written : goal.returns-in-Err-clause-written
@@ -18,7 +19,7 @@ returns-in-Err-clause-written g c =
 
 pub returns-in-Err-clause-opened : goal.returns-in-Err-clause-opened
 returns-in-Err-clause-opened g c = opened-refused _ _ _ _ c.in-Err.ensures.opened
-    (plan-undone _ _ (codes "run") _ _ c.refuse_plan.ensures)
+    (plan-undone _ _ _ _ c.refuse_plan.ensures)
 
 pub returns-in-Ok-write_planned-clause-written : goal.returns-in-Ok-write_planned-clause-written
 returns-in-Ok-write_planned-clause-written g c = inl (record {
@@ -44,12 +45,12 @@ returns-clause-written g c = inr (inl (record {
       (growth g.O.Output c.args.out.now c.write_planned.new.out) b c.in-Ok.plan
       c.in-Err-write_planned.fault) (c.in-Ok.ensures.same c.args.file.now)
       c.in-Err-write_planned.ensures.answer;
-  said = c.refuse_run.ensures;
+  said = c.refuse_canonical.ensures;
 }))
 
 pub returns-clause-opened : goal.returns-clause-opened
 returns-clause-opened g c = opened-again _ _ _ _ _ c.in-Ok.ensures.opened
-    c.in-Err-write_planned.ensures.opened (run-undone _ _ _ _ c.refuse_run.ensures)
+    c.in-Err-write_planned.ensures.opened (trouble-undone _ _ _ c.refuse_canonical.ensures)
 
 pub returns-in-Ok-write_planned-clause-same : goal.returns-in-Ok-write_planned-clause-same
 returns-in-Ok-write_planned-clause-same g c =

@@ -22,7 +22,6 @@ pub loop-file-preserved : goal.loop-file-preserved
 loop-file-preserved g c =
     let bytes = g.I.Inputs.bytes c.args.inputs.now in
     let several = c.are_several-several.result in
-    let most = c.args.tolerance in
     let files = c.args.files.now in
     let i = c.loop-file.file-index in
     let text = string_bytes {Z = Global} in
@@ -38,19 +37,19 @@ loop-file-preserved g c =
     let after = g.I.Inputs.opened c.list_file.new.inputs in
     let more = names_more text files i c.file-item.result c.loop-file-test.true c.file-item.is in
     let told = subst (λ (b : Option (List ℕ)). IsFileListed mid_out mid_err b
-    (file_label several c.as_str.result.now) most c.as_str.result.now one)
+    (file_label several c.as_str.result.now) c.as_str.result.now one)
     (c.loop-file.invariant.same c.as_str.result.now) c.in-Ok.ensures.listed in
     let listed = subst (λ (n : List ℕ). IsFileListed mid_out mid_err (bytes n)
-    (file_label several n) most n one) c.as_str.ensures.value told in
+    (file_label several n) n one) c.as_str.ensures.value told in
     let opened = subst (λ (n : List ℕ). OpensUpTo mid after n 1) c.as_str.ensures.value
     c.in-Ok.ensures.opened in
     record {
-      listed = subst (λ (l : List (List ℕ)). AreListed bytes several most (held_before out)
+      listed = subst (λ (l : List (List ℕ)). AreListed bytes several (held_before out)
           (held_after out) (held_before err) (held_after err) l c.worse-status.result) (sym more)
-          (subst (λ (s : Status). AreListed bytes several most (held_before out)
+          (subst (λ (s : Status). AreListed bytes several (held_before out)
           (held_after out) (held_before err) (held_after err) (names ++ (name ∷ [])) s)
           (sym c.worse-status.ensures)
-          (listed_more bytes several most (held_before out) (held_before mid_out)
+          (listed_more bytes several (held_before out) (held_before mid_out)
           (held_after out) (held_before err) (held_before mid_err) (held_after err) names name
           c.loop-file.status one c.loop-file.invariant.listed listed));
       opened = subst (λ (l : List (List ℕ)). OpensEach before after l c.worse-status.result)
@@ -67,7 +66,6 @@ pub returns-in-Err-clause-listed : goal.returns-in-Err-clause-listed
 returns-in-Err-clause-listed g c =
     let bytes = g.I.Inputs.bytes c.args.inputs.now in
     let several = c.are_several-several.result in
-    let most = c.args.tolerance in
     let files = c.args.files.now in
     let i = c.loop-file.file-index in
     let text = string_bytes {Z = Global} in
@@ -77,9 +75,9 @@ returns-in-Err-clause-listed g c =
     let mid_err = growth g.F.Output c.loop-file.err c.list_file.new.err in
     let ended = c.in-Err.cut in
     let told = subst (λ (b : Option (List ℕ)). CutsLines mid_out mid_err b
-    (file_label several c.as_str.result.now) most ended)
+    (file_label several c.as_str.result.now) ended)
     (c.loop-file.invariant.same c.as_str.result.now) c.in-Err.ensures.listed in
-    inr (subst (λ (s : Bool). StopsListing bytes s most (held_before out) (held_after out)
+    inr (subst (λ (s : Bool). StopsListing bytes s (held_before out) (held_after out)
     (held_before err) (held_after err) (map text files) ended) c.are_several-several.ensures
     (record {
       front = map text (take i files);
@@ -90,7 +88,7 @@ returns-in-Err-clause-listed g c =
       mid_err = held_before mid_err;
       earlier = c.loop-file.status;
       listed = c.loop-file.invariant.listed;
-      cut = subst (λ (n : List ℕ). CutsLines mid_out mid_err (bytes n) (file_label several n) most
+      cut = subst (λ (n : List ℕ). CutsLines mid_out mid_err (bytes n) (file_label several n)
           ended) c.as_str.ensures.value told;
     }))
 

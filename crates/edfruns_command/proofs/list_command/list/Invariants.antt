@@ -7,7 +7,7 @@ abbrev pub invariant-loop-file : goal.invariant-loop-file
 invariant-loop-file g l =
     let out = growth g.O.Output l.initial.out l.out in
     let err = growth g.F.Output l.initial.err l.err in record {
-      listed : AreListed (g.I.Inputs.bytes l.initial.inputs) l.several l.tolerance
+      listed : AreListed (g.I.Inputs.bytes l.initial.inputs) l.several
           (held_before out) (held_after out) (held_before err) (held_after err)
           (map string_bytes (take l.file-index l.files)) l.status;
       opened : OpensEach (g.I.Inputs.opened l.initial.inputs) (g.I.Inputs.opened l.inputs)

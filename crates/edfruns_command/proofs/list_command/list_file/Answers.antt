@@ -20,14 +20,12 @@ returns-in-Ok-text_of-clause-listed g c =
     sent (growth g.O.Output c.args.out.now c.send_lines.new.out)
     (growth g.F.Output c.args.err.now c.send_lines.new.err)
     (g.I.Inputs.bytes c.args.inputs.now c.args.file.now)
-    (file_label c.args.several c.args.file.now) c.args.tolerance c.args.file.now
+    (file_label c.args.several c.args.file.now) c.args.file.now
     c.as_slice.result.now c.send_lines.result
     (record {
       listing = c.in-Ok.listing;
       has = c.in-Ok.ensures.answer;
-      groups = c.in-Ok-text_of.ensures.0;
-      seen = c.in-Ok-text_of.ensures.1;
-      told = λ spell is. c.as_slice.ensures.value ∙ c.in-Ok-text_of.ensures.2 spell is;
+      told = λ spell is. c.as_slice.ensures.value ∙ c.in-Ok-text_of.ensures spell is;
     })
     c.send_lines.ensures
 

@@ -6,10 +6,9 @@ use Rattle.std.proofs.lemmas.Option.{slice_get-get_or}
 use Rattle.std.proofs.lemmas.Result.{err_from_is_err_and}
 use Rattle.edf_field.specs.Number.{duration_of}
 use Rattle.edf_header.specs.Header.{Layout}
-use Rattle.edf_runs.specs.AsRead.{runs_of}
 use Rattle.edf_new_files.specs.Making.{making}
-use Rattle.edfruns_command.specs.Counting.{file_front, counts_text}
-use Rattle.edfruns_command.specs.Lines.{IsSpelling}
+use Rattle.edfruns_command.specs.Counting.{counts_text}
+use Rattle.edfruns_command.specs.Lines.{IsSpelling, run_front}
 use Rattle.edfruns_command.specs.InsideMaking.{MakesFile, StopsFile, MakesFirst}
 use Rattle.edfruns_command.proofs.MakingFiles.{first-none, first-more, stops-each, stops-telling}
 use Rattle.edfruns_command.proofs.Walking.{mapped}
@@ -110,8 +109,8 @@ loop-at-preserved g c =
     let before = c.loop-at.text.items in
     let longer = c.in-Ok.longer.items in
     let Grows : List ℕ → ℕ → Type 0 = λ n d. (spell : ℕ → List ℕ) → IsSpelling spell →
-    longer ≡ before ++ (n ++ (codes " " ++ (file_front spell d (at + 1) run
-    (slice_get (runs_of runs) (at + 1)) ++ counts_text written.annotations written.outside))) in
+    longer ≡ before ++ (n ++ (codes " " ++ (run_front spell d (at + 1) run
+    (slice_get runs (at + 1)) ++ counts_text written.annotations written.outside))) in
     let grows : Grows name (duration_of l.key.duration) =
     subst (Grows name) c.requires.duration
     (subst (λ (n : List ℕ). Grows n c.args.duration) c.as_str-name.ensures.value c.in-Ok.ensures) in

@@ -8,10 +8,10 @@ use Rattle.edf_header.specs.Key.{Key}
 use Rattle.edf_header.specs.Header.{Layout}
 use Rattle.edf_fragment.specs.Reading.{ReadsHeader}
 use Rattle.edf_runs.specs.Again.{IsNotReopened}
-use Rattle.edf_runs.specs.declared.onset_run.OnsetRun.{OnsetRun}
+use Rattle.edf_runs.specs.declared.run.Run.{Run}
 use Rattle.edf_runs.specs.declared.fault.WriteFault.TheVariants.{Memory}
 use Rattle.edf_new_files.specs.Making.{making}
-use Rattle.edfruns_command.specs.Writing.{ReadsAgain}
+use Rattle.edfruns_command.specs.Rereading.{ReadsAgain}
 use Rattle.edfruns_command.specs.InsideMaking.{MakesFirst, StopsEach, IsAtEnd, StopsAtEnd}
 use Rattle.edf_program.proofs.Opened.{opened-once}
 use Rattle.edfruns_command.proofs.Rereads.{not-begun, of-reading, stops-making, stops-after}
@@ -21,17 +21,17 @@ use Rattle.edfruns_command.proofs.making.make_files.Goals as goal
 pub returns-in_default-clause-answer : goal.returns-in_default-clause-answer
 returns-in_default-clause-answer g c =
     not-begun (making g.P.NewFiles c.args.outputs.now c.args.outputs.now)
-    (g.I.Inputs.bytes c.args.inputs.now c.args.file.now) c.args.plan.now
+    (g.I.Inputs.bytes c.args.inputs.now c.args.file.now) c.args.listing.now
     (map string_bytes c.args.names.now) refl refl Memory (tt, inl refl)
 
 pub returns-in-Err-clause-answer : goal.returns-in-Err-clause-answer
 returns-in-Err-clause-answer g c =
     let bytes = g.I.Inputs.bytes c.args.inputs.now c.args.file.now in
-    let rest = g.I.Reader.Input.remaining c.reopen_by_onset.new.input in
-    let key = c.args.plan.now.identity in
+    let rest = g.I.Reader.Input.remaining c.reopen_listed.new.input in
+    let key = c.args.listing.now.identity in
     let not = subst (λ (b : Option (List ℕ)). IsNotReopened b rest key c.in-Err.fault)
     c.in-Ok.ensures.reader c.in-Err.ensures.answer in
-    not-begun (making g.P.NewFiles c.args.outputs.now c.args.outputs.now) bytes c.args.plan.now
+    not-begun (making g.P.NewFiles c.args.outputs.now c.args.outputs.now) bytes c.args.listing.now
     (map string_bytes c.args.names.now) refl refl c.in-Err.fault
     (of-reading bytes rest key c.in-Err.fault not, inr (rest, not))
 
@@ -40,18 +40,18 @@ returns-in_err-lines-clause-answer g c =
     let p = err_from_is_err_and c.from_residual.result c.from_residual.ensures.1 in
     let m = making g.P.NewFiles c.args.outputs.now c.make_each.new.outputs in
     let bytes = g.I.Inputs.bytes c.args.inputs.now c.args.file.now in
-    let l = c.in-Ok-reopen_by_onset.fragment.header in
-    let start = g.I.Reader.Input.remaining c.reopen_by_onset.new.input in
+    let l = c.in-Ok-reopen_listed.fragment.header in
+    let start = g.I.Reader.Input.remaining c.reopen_listed.new.input in
     let rest = g.I.Reader.Input.remaining c.make_each.new.reader in
     let names = map string_bytes c.args.names.now in
-    let again : ReadsAgain bytes start c.args.plan.now.identity l = record {
+    let again : ReadsAgain bytes start c.args.listing.now.identity l = record {
       header = subst (λ (b : Option (List ℕ)). ReadsHeader b start l) c.in-Ok.ensures.reader
-          c.in-Ok-reopen_by_onset.ensures.answer.0;
-      same = c.in-Ok-reopen_by_onset.ensures.answer.2;
+          c.in-Ok-reopen_listed.ensures.answer.0;
+      same = c.in-Ok-reopen_listed.ensures.answer.2;
     } in
     let why = c.in_err-lines.field-0.0 in
-    rw p.1 (rw p.2 (stops-making m bytes c.args.plan.now names l start again rest why
-    (subst (λ (rs : List OnsetRun). StopsEach m names l start rest rs why) c.deref.ensures.value
+    rw p.1 (rw p.2 (stops-making m bytes c.args.listing.now names l start again rest why
+    (subst (λ (rs : List Run). StopsEach m names l start rest rs why) c.deref.ensures.value
     c.in_err-lines.ensures.answer)))
 
 pub returns-in_err-lines-clause-opened : goal.returns-in_err-lines-clause-opened
@@ -63,24 +63,24 @@ pub returns-in-Ok-expect_end-clause-answer : goal.returns-in-Ok-expect_end-claus
 returns-in-Ok-expect_end-clause-answer g c =
     let m = making g.P.NewFiles c.args.outputs.now c.make_each.new.outputs in
     let bytes = g.I.Inputs.bytes c.args.inputs.now c.args.file.now in
-    let l = c.in-Ok-reopen_by_onset.fragment.header in
-    let start = g.I.Reader.Input.remaining c.reopen_by_onset.new.input in
+    let l = c.in-Ok-reopen_listed.fragment.header in
+    let start = g.I.Reader.Input.remaining c.reopen_listed.new.input in
     let left = g.I.Reader.Input.remaining c.make_each.new.reader in
     let rest = g.I.Reader.Input.remaining c.expect_end.new.input in
     let mid = c.make_each.new.fragment.progress in
     let to = c.expect_end.new.fragment.progress in
     let names = map string_bytes c.args.names.now in
-    let again : ReadsAgain bytes start c.args.plan.now.identity l = record {
+    let again : ReadsAgain bytes start c.args.listing.now.identity l = record {
       header = subst (λ (b : Option (List ℕ)). ReadsHeader b start l) c.in-Ok.ensures.reader
-          c.in-Ok-reopen_by_onset.ensures.answer.0;
-      same = c.in-Ok-reopen_by_onset.ensures.answer.2;
+          c.in-Ok-reopen_listed.ensures.answer.0;
+      same = c.in-Ok-reopen_listed.ensures.answer.2;
     } in
     let text = c.in_ok-lines.lines.text.items in
     let fit = length-map c.args.names.now string_bytes ∙ c.requires.names in
-    let made = all-made m names l mid start left c.args.plan.now.runs.items text fit
-    (subst (λ (rs : List OnsetRun). MakesFirst m names l mid start left rs (length rs) text)
+    let made = all-made m names l mid start left c.args.listing.now.runs.items text fit
+    (subst (λ (rs : List Run). MakesFirst m names l mid start left rs (length rs) text)
     c.deref.ensures.value c.in_ok-lines.ensures.answer) in
-    rereads-with m bytes c.args.plan.now names l start again mid to left rest fit made.0 text
+    rereads-with m bytes c.args.listing.now names l start again mid to left rest fit made.0 text
     (subst (λ (x : Layout). IsAtEnd x mid to left rest) c.in_ok-lines.ensures.header
     c.in-Ok-expect_end.ensures) made.1
 
@@ -88,25 +88,25 @@ pub returns-clause-answer : goal.returns-clause-answer
 returns-clause-answer g c =
     let m = making g.P.NewFiles c.args.outputs.now c.make_each.new.outputs in
     let bytes = g.I.Inputs.bytes c.args.inputs.now c.args.file.now in
-    let l = c.in-Ok-reopen_by_onset.fragment.header in
-    let start = g.I.Reader.Input.remaining c.reopen_by_onset.new.input in
+    let l = c.in-Ok-reopen_listed.fragment.header in
+    let start = g.I.Reader.Input.remaining c.reopen_listed.new.input in
     let left = g.I.Reader.Input.remaining c.make_each.new.reader in
     let rest = g.I.Reader.Input.remaining c.expect_end.new.input in
     let mid = c.make_each.new.fragment.progress in
     let to = c.expect_end.new.fragment.progress in
     let names = map string_bytes c.args.names.now in
     let why = c.in-Err-expect_end.fault in
-    let again : ReadsAgain bytes start c.args.plan.now.identity l = record {
+    let again : ReadsAgain bytes start c.args.listing.now.identity l = record {
       header = subst (λ (b : Option (List ℕ)). ReadsHeader b start l) c.in-Ok.ensures.reader
-          c.in-Ok-reopen_by_onset.ensures.answer.0;
-      same = c.in-Ok-reopen_by_onset.ensures.answer.2;
+          c.in-Ok-reopen_listed.ensures.answer.0;
+      same = c.in-Ok-reopen_listed.ensures.answer.2;
     } in
     let text = c.in_ok-lines.lines.text.items in
     let fit = length-map c.args.names.now string_bytes ∙ c.requires.names in
-    let made = all-made m names l mid start left c.args.plan.now.runs.items text fit
-    (subst (λ (rs : List OnsetRun). MakesFirst m names l mid start left rs (length rs) text)
+    let made = all-made m names l mid start left c.args.listing.now.runs.items text fit
+    (subst (λ (rs : List Run). MakesFirst m names l mid start left rs (length rs) text)
     c.deref.ensures.value c.in_ok-lines.ensures.answer) in
-    stops-after m bytes c.args.plan.now names l start again mid to left rest fit made.0 why
+    stops-after m bytes c.args.listing.now names l start again mid to left rest fit made.0 why
     (subst (λ (x : Layout). StopsAtEnd x mid to left rest why) c.in_ok-lines.ensures.header
     c.in-Err-expect_end.ensures)
 
@@ -115,4 +115,4 @@ returns-clause-opened g c = opened-once _ _ _ c.in-Ok.ensures.names
 
 pub make_each-requires-clause-duration : goal.make_each-requires-clause-duration
 make_each-requires-clause-duration g c = c.duration.ensures.value
-    ∙ ap (λ (k : Key). duration_of k.duration) (sym c.in-Ok-reopen_by_onset.ensures.answer.2)
+    ∙ ap (λ (k : Key). duration_of k.duration) (sym c.in-Ok-reopen_listed.ensures.answer.2)

@@ -14,5 +14,5 @@ returns-else-send g c =
     c.send.result c.send.ensures) in
     inr (
       subst (λ (text : List ℕ). GetsFront out text) c.as_bytes.ensures.value front,
-      c.refuse_run.ensures,
+      c.tell_unwritten.ensures,
     )

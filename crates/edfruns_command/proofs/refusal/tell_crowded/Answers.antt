@@ -9,7 +9,6 @@ returns g c =
     IsWritten (growth g.F.Output c.args.err.now c.tell_parts.new.out) bytes Refused
     c.tell_parts.result in
     let rest = codes " would have too many annotations in a data record\n" in
-    subst IsTold (ap (λ (t : List ℕ). t ++ (codes " " ++ (c.as_bytes-2.result.now ++ rest)))
-    c.as_bytes.ensures.value
-    ∙ ap (λ (t : List ℕ). c.args.part.now ++ (codes " " ++ (t ++ rest)))
-    (c.as_bytes-2.ensures.value ∙ c.format-digits.ensures.text)) c.tell_parts.ensures
+    subst IsTold (ap (λ (t : List ℕ). t ++ (c.as_bytes.result.now ++ rest)) c.as_slice.ensures
+    ∙ ap (λ (t : List ℕ). codes "run " ++ (t ++ rest))
+    (c.as_bytes.ensures.value ∙ c.format-digits.ensures.text)) c.tell_parts.ensures

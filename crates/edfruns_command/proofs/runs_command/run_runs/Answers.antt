@@ -6,7 +6,6 @@ use Rattle.edfruns_command.specs.Run.{IsDone, HasOpened, meaning}
 use Rattle.edfruns_command.specs.Canonical.{IsCanonicalOut}
 use Rattle.edfruns_command.specs.Picturing.{IsPictured}
 use Rattle.edfruns_command.specs.Splitting.{IsSplit}
-use Rattle.edfruns_command.specs.Writing.{IsRunOut}
 use Rattle.edfruns_command.specs.declared.runs_command.RunsCommand.{RunsCommand}
 use Rattle.edfruns_command.proofs.runs_command.run_runs.Goals as goal
 
@@ -19,8 +18,8 @@ returns-in-List-clause-done g c =
     let Does : RunsCommand → Type 0 = λ command.
     IsDone bytes made out err (meaning command) c.list.result in
     subst Does (sym c.in-List.is)
-    (subst (λ files. IsListOut bytes out err c.in-List.tolerance (map string_bytes files)
-    c.list.result) c.as_slice.ensures.value c.list.ensures.listed)
+    (subst (λ files. IsListOut bytes out err (map string_bytes files) c.list.result)
+    c.as_slice.ensures.value c.list.ensures.listed)
 
 pub returns-in-List-clause-opened : goal.returns-in-List-clause-opened
 returns-in-List-clause-opened g c =
@@ -31,19 +30,6 @@ returns-in-List-clause-opened g c =
     subst Opens (sym c.in-List.is)
     (subst (λ files. OpensEach before after (map string_bytes files) c.list.result)
     c.as_slice.ensures.value c.list.ensures.opened)
-
-pub returns-in-Write-clause-done : goal.returns-in-Write-clause-done
-returns-in-Write-clause-done g c =
-    let out = growth g.O.Output c.args.out.now c.write.new.out in
-    let err = growth g.F.Output c.args.err.now c.write.new.err in
-    let bytes = g.I.Inputs.bytes c.args.inputs.now in
-    let made = making g.P.NewFiles c.args.outputs.now c.args.outputs.now in
-    let Does : RunsCommand → Type 0 = λ command.
-    IsDone bytes made out err (meaning command) c.write.result in
-    let Writes : List ℕ → Type 0 = λ name.
-    IsRunOut out err (bytes name) name c.in-Write.number c.in-Write.is_by_onset c.write.result in
-    subst Does (sym c.in-Write.is) (subst Writes c.as_str.ensures.value
-    c.write.ensures.written)
 
 pub returns-in-Canonical-clause-done : goal.returns-in-Canonical-clause-done
 returns-in-Canonical-clause-done g c =
@@ -58,16 +44,6 @@ returns-in-Canonical-clause-done g c =
     subst Does (sym c.in-Canonical.is) (subst Writes c.as_str-in-Canonical.ensures.value
     c.canonical.ensures.written)
 
-pub returns-in-CanonicalOfStream-clause-done : goal.returns-in-CanonicalOfStream-clause-done
-returns-in-CanonicalOfStream-clause-done g c =
-    let out = growth g.O.Output c.args.out.now c.canonical_of_stream.new.out in
-    let err = growth g.F.Output c.args.err.now c.canonical_of_stream.new.err in
-    let bytes = g.I.Inputs.bytes c.args.inputs.now in
-    let made = making g.P.NewFiles c.args.outputs.now c.args.outputs.now in
-    let Does : RunsCommand → Type 0 = λ command.
-    IsDone bytes made out err (meaning command) c.canonical_of_stream.result in
-    subst Does (sym c.in-CanonicalOfStream.is) c.canonical_of_stream.ensures.written
-
 pub returns-in-Split-clause-done : goal.returns-in-Split-clause-done
 returns-in-Split-clause-done g c =
     let out = growth g.O.Output c.args.out.now c.split.new.out in
@@ -78,11 +54,10 @@ returns-in-Split-clause-done g c =
     IsDone bytes made out err (meaning command) c.split.result in
     let prefix = c.as_str-in-Split-2.result.now in
     let Splits : List ℕ → Type 0 = λ name.
-    IsSplit made out err (bytes name) name prefix c.in-Split.is_by_onset c.in-Split.joining
-    c.split.result in
+    IsSplit made out err (bytes name) name prefix c.split.result in
     let Named : List ℕ → Type 0 = λ text.
     IsSplit made out err (bytes (string_bytes c.in-Split.file)) (string_bytes c.in-Split.file) text
-    c.in-Split.is_by_onset c.in-Split.joining c.split.result in
+    c.split.result in
     subst Does (sym c.in-Split.is) (subst Named c.as_str-in-Split-2.ensures.value
     (subst Splits c.as_str-in-Split.ensures.value c.split.ensures.split))
 

@@ -9,7 +9,7 @@ use Rattle.edf_sleep.specs.Night.{Night, AreOfFile}
 use Rattle.edf_sleep.specs.declared.account.Account.{Account}
 use Rattle.edf_sleep.specs.declared.extent.Extent.{Extent}
 use Rattle.edf_sleep.specs.declared.note.Note.{Note}
-use Rattle.edfruns_command.specs.Joining.{each_line}
+use Rattle.edfruns_command.specs.Lines.{each_line}
 use Rattle.edfruns_command.specs.Picturing.{HasFiguresOf, named_of, run_time}
 use Rattle.edfruns_command.proofs.sight.draw_listing.Goals as goal
 

@@ -3,20 +3,16 @@ use Rattle.std.proofs.Common.{length, map, take, string_bytes, decimal, All}
 use Rattle.std.specs.Prelude.{Option}
 use Rattle.std.proofs.lemmas.List.{length-map, length-take-le, take-map}
 use Rattle.std.proofs.lemmas.List.FromFn.{length-map-range_with_len}
-use Rattle.edf_program.specs.Output.{growth, IsWritten}
-use Rattle.edf_program.specs.declared.status.Status.TheVariants.{Refused}
+use Rattle.edf_program.specs.Output.{growth}
 use Rattle.edf_program.proofs.Puts.{nothing-gets}
-use Rattle.edf_runs.specs.declared.onset_run.OnsetRun.{OnsetRun}
+use Rattle.edf_runs.specs.declared.run.Run.{Run}
 use Rattle.edf_new_files.specs.Making.{Making, making}
 use Rattle.edf_new_files.specs.There.{IsVacant}
-use Rattle.edfruns_command.specs.Inside.{IsPlanRefused}
-use Rattle.edfruns_command.specs.Lines.{undated_line}
 use Rattle.edfruns_command.specs.Naming.{run_name, run_names, first_names, asked_names}
 use Rattle.edfruns_command.specs.InsideSplit.{SplitsListed}
 use Rattle.edfruns_command.proofs.Answered.{opened-first, opened-then, opened-refused}
 use Rattle.edf_program.proofs.Undone.{refused-undone, trouble-undone}
-use Rattle.edfruns_command.proofs.Answered.{plan-undone}
-use Rattle.edfruns_command.proofs.Answered.{lacks-joined-plan}
+use Rattle.edfruns_command.proofs.Answered.{file-undone, refused}
 use Rattle.edfruns_command.proofs.GivingUp.{take-front}
 use Rattle.edfruns_command.specs.Splitting.{IsTaken}
 use Rattle.edfruns_command.proofs.Splits.{as-before, names-count}
@@ -26,28 +22,26 @@ pub returns-in-Err-clause-split : goal.returns-in-Err-clause-split
 returns-in-Err-clause-split g c =
     inr (
       (refl, refl),
-      inr (inr (lacks-joined-plan (growth g.O.Output c.args.out.now c.args.out.now)
-          (growth g.F.Output c.args.err.now c.refuse_plan.new.err)
-          (g.I.Inputs.bytes c.args.inputs.now c.args.file.now) c.args.file.now
-          c.refuse_plan.result c.args.is_by_onset c.args.joining
+      inr (inr (refused (growth g.O.Output c.args.out.now c.args.out.now)
+          (growth g.F.Output c.args.err.now c.refuse.new.err)
+          (g.I.Inputs.bytes c.args.inputs.now c.args.file.now) c.args.file.now c.in-Err.fault
+          c.refuse.result
           (nothing-gets (g.O.Output.contents c.args.out.now) (g.O.Output.failures c.args.out.now))
-          c.in-Err.fault c.in-Err.ensures.answer (subst (λ part. IsPlanRefused
-          (growth g.F.Output c.args.err.now c.refuse_plan.new.err) c.args.file.now part
-          c.in-Err.fault c.refuse_plan.result) c.part_of-part.ensures c.refuse_plan.ensures))),
+          c.in-Err.ensures.answer c.refuse.ensures)),
     )
 
 pub returns-in-Err-clause-opened : goal.returns-in-Err-clause-opened
 returns-in-Err-clause-opened g c = opened-refused _ _ _ _ c.in-Err.ensures.opened
-    (plan-undone _ _ c.part_of-part.result.now _ _ c.refuse_plan.ensures)
+    (file-undone _ _ _ _ c.refuse.ensures)
 
 pub returns-in_default-clause-split : goal.returns-in_default-clause-split
 returns-in_default-clause-split g c =
     inr (
       (refl, refl),
-      inr (inr (inr (inr (
+      inr (inr (inr (
         nothing-gets (g.O.Output.contents c.args.out.now) (g.O.Output.failures c.args.out.now),
         c.tell_memory.ensures,
-      )))),
+      ))),
     )
 
 pub returns-in_default-clause-opened : goal.returns-in_default-clause-opened
@@ -59,15 +53,13 @@ returns-in-Some-clause-split g c =
     inr (
       (refl, refl),
       inr (inl (record {
-        plan = c.in-Ok.plan;
+        listing = c.in-Ok.listing;
         has = c.in-Ok.ensures.answer;
         number = c.in-Some.number;
         undated = c.in-Some.ensures;
         said = (
           nothing-gets (g.O.Output.contents c.args.out.now) (g.O.Output.failures c.args.out.now),
-          subst (λ part. IsWritten (growth g.F.Output c.args.err.now c.tell_undated.new.err)
-              (undated_line part c.in-Some.number) Refused c.tell_undated.result)
-              c.part_of-part.ensures c.tell_undated.ensures,
+          c.tell_undated.ensures,
         );
       })),
     )
@@ -81,13 +73,13 @@ returns-in-Some-taken_name-clause-split g c =
     inr (
       (c.in-Some-taken_name.ensures.made, c.in-Some-taken_name.ensures.failed),
       inl (record {
-        plan = c.in-Ok.plan;
+        listing = c.in-Ok.listing;
         has = c.in-Ok.ensures.answer;
         dated = c.in_default-undated_run.ensures;
         found = c.in-Some-taken_name.name.now;
         taken = subst (λ (ns : List (List ℕ)). IsTaken (g.P.NewFiles.there c.args.outputs.now) ns
             c.in-Some-taken_name.name.now) (ap (map string_bytes) c.deref.ensures.value
-            ∙ c.in-Ok-asked_names.ensures ∙ ap (λ (rs : List OnsetRun).
+            ∙ c.in-Ok-asked_names.ensures ∙ ap (λ (rs : List Run).
             asked_names c.args.prefix.now (length rs)) c.as_slice.ensures.value)
             c.in-Some-taken_name.ensures.answer;
         said = (
@@ -104,13 +96,13 @@ returns-in-Some-taken_name-clause-opened g c = opened-first _ _ _ _ c.in-Ok.ensu
 pub front_of-requires : goal.front_of-requires
 front_of-requires g c =
     let asked = c.in-Ok-asked_names.asked.items in
-    let runs = c.in-Ok.plan.runs.items in
+    let runs = c.in-Ok.listing.runs.items in
     omega (
       arith,
-      ap (λ (rs : List OnsetRun). length rs) c.as_slice-2.ensures.value,
+      ap (λ (rs : List Run). length rs) c.as_slice-2.ensures.value,
       ap (λ (ns : List _). length ns) c.deref-2.ensures.value,
       names-count c.args.prefix.now (length runs) (map string_bytes asked)
-          (c.in-Ok-asked_names.ensures ∙ ap (λ (rs : List OnsetRun). asked_names c.args.prefix.now
+          (c.in-Ok-asked_names.ensures ∙ ap (λ (rs : List Run). asked_names c.args.prefix.now
           (length rs)) c.as_slice.ensures.value),
       length-map asked string_bytes,
     )
@@ -118,24 +110,24 @@ front_of-requires g c =
 pub split_listed-requires-clause-names : goal.split_listed-requires-clause-names
 split_listed-requires-clause-names g c =
     let asked = c.in-Ok-asked_names.asked.items in
-    let runs = c.in-Ok.plan.runs.items in
+    let runs = c.in-Ok.listing.runs.items in
     ap (λ (ns : List _). length ns) c.front_of.ensures
     ∙ length-take-le (length c.as_slice-2.result.now) c.deref-2.result.now (omega (
       arith,
-      ap (λ (rs : List OnsetRun). length rs) c.as_slice-2.ensures.value,
+      ap (λ (rs : List Run). length rs) c.as_slice-2.ensures.value,
       ap (λ (ns : List _). length ns) c.deref-2.ensures.value,
       names-count c.args.prefix.now (length runs) (map string_bytes asked)
-          (c.in-Ok-asked_names.ensures ∙ ap (λ (rs : List OnsetRun). asked_names c.args.prefix.now
+          (c.in-Ok-asked_names.ensures ∙ ap (λ (rs : List Run). asked_names c.args.prefix.now
           (length rs)) c.as_slice.ensures.value),
       length-map asked string_bytes,
     ))
-    ∙ ap (λ (rs : List OnsetRun). length rs) c.as_slice-2.ensures.value
+    ∙ ap (λ (rs : List Run). length rs) c.as_slice-2.ensures.value
 
 pub returns-clause-split : goal.returns-clause-split
 returns-clause-split g c =
     let prefix = c.args.prefix.now in
-    let plan = c.in-Ok.plan in
-    let runs = plan.runs.items in
+    let listing = c.in-Ok.listing in
+    let runs = listing.runs.items in
     let n = length runs in
     let out = growth g.O.Output c.args.out.now c.split_listed.new.out in
     let err = growth g.F.Output c.args.err.now c.split_listed.new.err in
@@ -149,7 +141,7 @@ returns-clause-split g c =
     c.in_default-taken_name.ensures.there c.in_default-taken_name.ensures.made
     c.in_default-taken_name.ensures.failed refl refl in
     let count : length c.as_slice-2.result.now ≡ n =
-    ap (λ (rs : List OnsetRun). length rs) c.as_slice-2.ensures.value in
+    ap (λ (rs : List Run). length rs) c.as_slice-2.ensures.value in
     let fit : length (run_names prefix n) ≡ n =
     length-map-range_with_len (run_name prefix (length (decimal n))) 1 n in
     let names : map string_bytes c.front_of.result.now ≡ run_names prefix n =
@@ -157,27 +149,27 @@ returns-clause-split g c =
     ∙ sym (take-map string_bytes (length c.as_slice-2.result.now) c.deref-2.result.now)
     ∙ ap (λ k. take k (map string_bytes c.deref-2.result.now)) count
     ∙ ap (λ (ns : List (List ℕ)). take n ns)
-    (ap (map string_bytes) c.deref-2.ensures.value ∙ (c.in-Ok-asked_names.ensures ∙ ap (λ (rs : List OnsetRun). asked_names c.args.prefix.now
+    (ap (map string_bytes) c.deref-2.ensures.value ∙ (c.in-Ok-asked_names.ensures ∙ ap (λ (rs : List Run). asked_names c.args.prefix.now
     (length rs)) c.as_slice.ensures.value))
     ∙ ap (λ k. take k (run_names prefix n ++ first_names prefix)) (sym fit)
     ∙ take-front (run_names prefix n) (first_names prefix) in
-    let done : SplitsListed m out err bytes name plan (run_names prefix n) status =
-    subst (λ (a : Making). SplitsListed a out err bytes name plan (run_names prefix n) status) same
-    (subst (λ (b : Option (List ℕ)). SplitsListed later out err b name plan (run_names prefix n)
+    let done : SplitsListed m out err bytes name listing (run_names prefix n) status =
+    subst (λ (a : Making). SplitsListed a out err bytes name listing (run_names prefix n) status) same
+    (subst (λ (b : Option (List ℕ)). SplitsListed later out err b name listing (run_names prefix n)
     status) (c.in-Ok.ensures.same name) (subst (λ (ns : List (List ℕ)). SplitsListed later out err
-    (g.I.Inputs.bytes c.plan_joined.new.inputs name) name plan ns status) names
+    (g.I.Inputs.bytes c.listing_of.new.inputs name) name listing ns status) names
     c.split_listed.ensures.split)) in
     inl (
-      plan,
+      listing,
       record {
         has = c.in-Ok.ensures.answer;
         dated = c.in_default-undated_run.ensures;
         free = subst (λ (ns : List (List ℕ)). All (IsVacant (g.P.NewFiles.there c.args.outputs.now))
-            ns) (ap (map string_bytes) c.deref.ensures.value ∙ (c.in-Ok-asked_names.ensures ∙ ap (λ (rs : List OnsetRun). asked_names c.args.prefix.now
+            ns) (ap (map string_bytes) c.deref.ensures.value ∙ (c.in-Ok-asked_names.ensures ∙ ap (λ (rs : List Run). asked_names c.args.prefix.now
             (length rs)) c.as_slice.ensures.value))
             c.in_default-taken_name.ensures.answer;
       },
-      done c.args.joining c.args.is_by_onset c.in-Ok.ensures.answer,
+      done c.in-Ok.ensures.answer,
     )
 
 pub returns-clause-opened : goal.returns-clause-opened

@@ -4,7 +4,7 @@ use Rattle.edf_program.specs.Output.{Gets, GetsFront, growth}
 use Rattle.edf_program.proofs.Puts.{nothing-gets, put-sent, remarked}
 use Rattle.edf_new_files.specs.Making.{making}
 use Rattle.edfruns_command.proofs.GivingUp.{named, stopped, untold}
-use Rattle.edfruns_command.proofs.Splits.{have-files}
+use Rattle.edfruns_command.proofs.Splits.{are-runs}
 use Rattle.edfruns_command.proofs.split_command.split_listed.Goals as goal
 
 pub give_up-requires-clause-named : goal.give_up-requires-clause-named
@@ -12,13 +12,13 @@ give_up-requires-clause-named g c =
     let m = making g.P.NewFiles c.args.outputs.now c.make_files.new.outputs in
     let half = c.in-Err.ensures.answer in
     named m c.count-first.result c.count-first.ensures (map string_bytes c.args.names.now)
-    c.args.plan.now.identity c.args.plan.now.runs.items half.count half.whole half.has
+    c.args.listing.now.identity c.args.listing.now.runs.items half.count half.whole half.has
 
 pub returns-in-Err-clause-split : goal.returns-in-Err-clause-split
-returns-in-Err-clause-split g c joining by_onset planned =
+returns-in-Err-clause-split g c has =
     let m = making g.P.NewFiles c.args.outputs.now c.make_files.new.outputs in
-    inr (stopped m (g.I.Inputs.bytes c.args.inputs.now c.args.file.now) c.args.plan.now
-    (map string_bytes c.args.names.now) joining c.count-first.result c.count-first.ensures
+    inr (stopped m (g.I.Inputs.bytes c.args.inputs.now c.args.file.now) c.args.listing.now
+    (map string_bytes c.args.names.now) c.count-first.result c.count-first.ensures
     (g.P.NewFiles.made c.give_up.new.outputs) (g.P.NewFiles.failed c.give_up.new.outputs)
     c.give_up.ensures.failed (growth g.O.Output c.args.out.now c.args.out.now)
     (growth g.F.Output c.args.err.now c.give_up.new.err) c.args.file.now c.give_up.result
@@ -27,12 +27,12 @@ returns-in-Err-clause-split g c joining by_onset planned =
     c.give_up.ensures.removed)
 
 pub returns-then-send-clause-split : goal.returns-then-send-clause-split
-returns-then-send-clause-split g c joining by_onset planned =
+returns-then-send-clause-split g c has =
     let all = c.in-Ok.ensures.answer in
     inl (record {
       makes = all.0;
-      are_runs = have-files (g.I.Inputs.bytes c.args.inputs.now c.args.file.now) c.args.plan.now
-          by_onset joining planned all.0.again;
+      are_runs = are-runs (g.I.Inputs.bytes c.args.inputs.now c.args.file.now) c.args.listing.now
+          has all.0.again;
       said = λ spell is. subst (Gets (growth g.O.Output c.args.out.now c.remark_outside.new.err))
           (c.as_slice.ensures.value ∙ all.1 spell is)
           (remarked (g.O.Output) c.args.out.now c.send.new.out c.remark_outside.new.err
@@ -47,16 +47,16 @@ returns-then-send-clause-split g c joining by_onset planned =
     })
 
 pub returns-clause-split : goal.returns-clause-split
-returns-clause-split g c joining by_onset planned =
+returns-clause-split g c has =
     let m = making g.P.NewFiles c.args.outputs.now c.make_files.new.outputs in
     let bytes = g.I.Inputs.bytes c.args.inputs.now c.args.file.now in
     let all = c.in-Ok.ensures.answer in
-    inr (untold m bytes c.args.plan.now (map string_bytes c.args.names.now) joining
+    inr (untold m bytes c.args.listing.now (map string_bytes c.args.names.now)
     c.count-first.result c.count-first.ensures (g.P.NewFiles.made c.give_up-2.new.outputs)
     (g.P.NewFiles.failed c.give_up-2.new.outputs) c.give_up-2.ensures.failed
     (growth g.O.Output c.args.out.now c.send.new.out)
     (growth g.F.Output c.args.err.now c.give_up-2.new.err) c.args.file.now c.give_up-2.result all.0
-    (have-files bytes c.args.plan.now by_onset joining planned all.0.again)
+    (are-runs bytes c.args.listing.now has all.0.again)
     (λ spell is. subst (GetsFront (growth g.O.Output c.args.out.now c.send.new.out))
     (c.as_slice.ensures.value ∙ all.1 spell is)
     (put-sent (g.O.Output.contents c.args.out.now) (g.O.Output.failures c.args.out.now)

@@ -2,48 +2,48 @@ use Rattle.std.proofs.Common.{◌≡◌, ◌+◌, ◌<◌, List, ap, ◌∙◌, 
 use Rattle.std.proofs.Common.{length, rules}
 use Rattle.std.proofs.lemmas.List.{take_all, length-take-le}
 use Rattle.edf_header.specs.Key.{MayStart}
-use Rattle.edf_runs.specs.declared.onset_run.OnsetRun.{OnsetRun}
+use Rattle.edf_runs.specs.declared.run.Run.{Run}
 use Rattle.edfruns_command.proofs.Walking.{all-more, around}
 use Rattle.edfruns_command.proofs.split_command.undated_run.Goals as goal
 
 pub returns-then-not-may_start : goal.returns-then-not-may_start
 returns-then-not-may_start c =
-    let runs = c.args.plan.now.runs.items in
+    let runs = c.args.listing.now.runs.items in
     let at = c.loop-at.at in
     let run = c.run-item.result in
-    let within = ap (λ (rs : List OnsetRun). length rs) c.deref-run-items.ensures.value in
+    let within = ap (λ (rs : List Run). length rs) c.deref-run-items.ensures.value in
     let lt : at < length runs = omega (arith, c.loop-at-test.true, within) in
     let is : run ≡ get_or runs at run = c.run-item.is
-    ∙ ap (λ (rs : List OnsetRun). get_or rs at run) c.deref-run-items.ensures.value in
+    ∙ ap (λ (rs : List Run). get_or rs at run) c.deref-run-items.ensures.value in
     record {
       front = take at runs;
       run = run;
       later = drop (at + 1) runs;
       parts = around runs at run lt is;
       dated = c.loop-at.invariant;
-      undated = λ may. let first = c.first.ensures in let own = c.run.ensures in let told = c.if-not-may_start.ensures in
+      undated = λ may. let first = c.first.ensures in let told = c.if-not-may_start.ensures in
           search rules;
       number_is = omega (arith, length-take-le at runs (omega (arith, lt)));
     }
 
 pub loop-at-preserved : goal.loop-at-preserved
 loop-at-preserved c =
-    let runs = c.args.plan.now.runs.items in
+    let runs = c.args.listing.now.runs.items in
     let at = c.loop-at.at in
     let run = c.run-item.result in
-    let within = ap (λ (rs : List OnsetRun). length rs) c.deref-run-items.ensures.value in
+    let within = ap (λ (rs : List Run). length rs) c.deref-run-items.ensures.value in
     let lt : at < length runs = omega (arith, c.loop-at-test.true, within) in
     let is : run ≡ get_or runs at run = c.run-item.is
-    ∙ ap (λ (rs : List OnsetRun). get_or rs at run) c.deref-run-items.ensures.value in
-    let may : MayStart c.args.plan.now.identity run.run.first =
-    let first = c.first.ensures in let own = c.run.ensures in let told = c.if-not-may_start.ensures in search rules in
-    all-more runs at run lt is (λ (r : OnsetRun). MayStart c.args.plan.now.identity r.run.first)
+    ∙ ap (λ (rs : List Run). get_or rs at run) c.deref-run-items.ensures.value in
+    let may : MayStart c.args.listing.now.identity run.first =
+    let first = c.first.ensures in let told = c.if-not-may_start.ensures in search rules in
+    all-more runs at run lt is (λ (r : Run). MayStart c.args.listing.now.identity r.first)
     c.loop-at.invariant may
 
 pub returns : goal.returns
 returns c =
-    let runs = c.args.plan.now.runs.items in
-    let within = ap (λ (rs : List OnsetRun). length rs) c.deref-run-items.ensures.value in
-    subst (All (λ (r : OnsetRun). MayStart c.args.plan.now.identity r.run.first))
+    let runs = c.args.listing.now.runs.items in
+    let within = ap (λ (rs : List Run). length rs) c.deref-run-items.ensures.value in
+    subst (All (λ (r : Run). MayStart c.args.listing.now.identity r.first))
     (take_all c.loop-at.at runs (omega (arith, c.loop-at-test.false, within)))
     c.loop-at.invariant

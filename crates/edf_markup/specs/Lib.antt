@@ -1,2 +1,0 @@
-pub mod Markup
-pub mod Readable
