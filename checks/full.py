@@ -59,24 +59,26 @@ def sizes(count: int) -> list:
     return [LEAST + (MOST - LEAST) * nth // (count - 1) for nth in range(count)]
 
 
-def answers_of(lines: list) -> list:
+def answers_of(lines: list, names: list) -> list:
     """The answers to the files, by their lines."""
-    compare("the files that have a line", [line.split(" ")[0] for line in lines], NAMES)
+    compare("the files that have a line", [line.split(" ")[0] for line in lines], names)
     return [line.split(" ", 1)[1] for line in lines]
 
 
 def taken(program: Path, disk: Path) -> tuple:
     """How a `take` of the night ends, and the answers to its files."""
     ran = measure.ran(program, "take", STORE, *NAMES, folder=disk)
-    return ran, answers_of(ran.out.decode().splitlines())
+    return ran, answers_of(ran.out.decode().splitlines(), NAMES)
 
 
 def served(program: Path, disk: Path) -> tuple:
-    """The same of a session."""
+    """The same of a session, which ends where there is no room for a file."""
     asked = "".join(f"take {name}\n" for name in NAMES).encode()
     ran = measure.ran(program, STORE, given=asked, folder=disk)
     lines = ran.out.decode().splitlines()
-    answers = answers_of(lines[::2])
+    said = [line.split(" ", 1)[1] for line in lines[::2]]
+    count = said.index(NO_ROOM) + 1 if NO_ROOM in said else len(NAMES)
+    answers = answers_of(lines[::2], NAMES[:count])
     compare("the status after each answer", lines[1::2],
             [f"status {3 if answer == NO_ROOM else 0}" for answer in answers])
     return ran, answers

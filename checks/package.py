@@ -263,9 +263,8 @@ def in_sentences(checks: Checks, bare: Bare) -> None:
 
     held = model.Store()
     taken = printed.lines(("part7.edf", held.take(whole)))
-    asked = "printf 'take part7.edf\\nexport 1 so_far.edf\\n' | edfserve night.db"
-    wanted = taken + serving.status(0) + serving.exported("so_far.edf", held.export(1)) \
-        + serving.status(0)
+    asked = "printf 'take part7.edf\\nlist\\n' | edfserve night.db"
+    wanted = taken + serving.status(0) + held.lines() + serving.status(0)
     checks.same("edfserve", run(asked), (wanted.encode(), b"", 0))
     shown = sessions.sessions(bare.root / SHARED / "docs/REFUSALS.md")
     checks.same("REFUSALS: a cut file", [run(it.script)[1:] for it in shown],

@@ -1,18 +1,15 @@
 """Clients of `edfserve`, and what a session answers and leaves, against the plain model.
 
-    python3 -m checks.serve [--program PATH] [--edfruns PATH] [--edfserve PATH] [--seed N] [COUNT]
+    python3 -m checks.serve [--program PATH] [--edfserve PATH] [--seed N] [COUNT]
 
 A client that waits for each answer, one that sends all at once, one that stops reading; names with
-spaces and beyond ASCII, and names that lead out of the folders of --from and --to; lines that are
-none, of the greatest length and longer, cut by the end of the input; names of pipes, folders and
-devices, and of the files that SQLite has beside a store; a store that is refused, that another
-session has, or that is removed, replaced or cut under a session; each read, write, sync and cut
-that fails in turn, after which the store is opened anew or the session ends; a full disk, and room
-again; files without a patient's code and name, of which a warning comes where they begin more than
-8 hours apart; recordings by their codes and first starts, and not by their places; pictures, beside
-those of `edfruns picture`; and what `status` tells. Over a pipe, a named pipe, and by socat a
-socket, where it is installed. Then COUNT sessions (100 if left out) are killed at a random moment
-and begun again: what was answered is held, and in the end all of it is.
+spaces and beyond ASCII, and names that lead out of the folder of --from; lines that are none, of
+the greatest length and longer, cut by the end of the input; names of pipes, folders and devices; a
+store that is refused, that another session has, or that is removed, replaced or cut under a
+session; each read, write, sync and cut that fails in turn, after which another session goes on; a
+full disk, and room again. Over a pipe, a named pipe, and by socat a socket, where it is installed.
+Then COUNT sessions (100 if left out) are killed at a random moment and begun again: what was
+answered is held, and in the end all of it is.
 """
 import os
 import random
@@ -22,21 +19,17 @@ import subprocess
 import tempfile
 import threading
 import time
-from datetime import datetime, timedelta
 from pathlib import Path
 from subprocess import PIPE
 
-from checks.lib import (anew, arguments, by_name, disks, edf, faults, lost, measure, model, named,
-                        night, pictured, printed, runs, serving)
+from checks.lib import (arguments, disks, failing, faults, lost, measure, model, named, night,
+                        printed, serving)
 from checks.lib.checks import Checks, Lost, compare, end
-from checks.lib.serving import NO_COMMAND, Client, exported, status
+from checks.lib.serving import NO_COMMAND, Client, status
 
 MOST_LINE = 65_536
 MOST_GROWTH = 8_000_000     # bytes of memory that a client may cost which does not read
 SMALL = night.Night(records=480, samples=(64, 32), fragments=24)
-NOBODY, SOMEBODY = "X F X X", "P7 F 02-MAY-1951 X"
-EVENING, SECOND = datetime(2002, 3, 2, 22), timedelta(seconds=1)
-DAY, HOUR, PAUSE = timedelta(days=1), timedelta(hours=1), timedelta(hours=8)
 
 
 class Session:
@@ -59,18 +52,6 @@ class Session:
     def list(self) -> str:
         return self.tell(self.held.lines(), 0)
 
-    def runs(self, place: int) -> str:
-        if place not in range(1, len(self.held.held) + 1):
-            return self.tell(printed.no_recording(place), 1)
-        return self.tell(runs.lines(runs.read_runs(self.held.export(place))), 0)
-
-    def export(self, place: int, name: str) -> str:
-        if place not in range(1, len(self.held.held) + 1):
-            return self.tell(printed.no_recording(place), 1)
-        if (self.folder / name).exists():
-            return self.tell(serving.is_there(name), 1)
-        return self.tell(exported(name, self.held.export(place)), 0)
-
     def none(self) -> str:
         return self.tell(NO_COMMAND, 2)
 
@@ -92,23 +73,23 @@ def script(folder: Path) -> list:
     """Lines of each kind, each with its answer by the model."""
     names, told = laid(folder), Session(folder)
     asked = [(f"take {name}", told.take(name)) for name in names[:8]]
-    asked += [("list", told.list()), ("runs 1", told.runs(1))]
+    asked.append(("list", told.list()))
     asked += [(f"take {name}", told.take(name)) for name in (names[12], names[3], "cut.edf",
                                                              "missing.edf", "other.edf")]
-    asked += [("list", told.list()), ("runs 1", told.runs(1)), ("runs 2", told.runs(2)),
-              ("runs 9", told.runs(9)), ("export 1 Nacht ä.edf", told.export(1, "Nacht ä.edf")),
-              ("export 9 none.edf", told.export(9, "none.edf")),
-              ("export 1 cut.edf", told.export(1, "cut.edf"))]
-    for line in ("lists", "take", "take ", "export 1", "export 0 x", "export x y", "runs", "runs 0",
-                 "runs 1 ", "run 1", "", " list", "list ", "LIST", "\ttake part", "take\0"):
+    asked.append(("list", told.list()))
+    for line in ("lists", "take", "take ", "export 1 x.edf", "runs 1", "picture 1 x.svg", "status",
+                 "", " list", "list ", "LIST", "\ttake part", "take\0"):
         asked.append((line, told.none()))
-    asked += [("list", told.list()), ("runs 1", told.runs(1))]
+    asked.append(("list", told.list()))
     return asked
 
 
-def compare_export(checks: Checks, folder: Path, held: model.Store) -> None:
-    checks.same("the exported file", (folder / "Nacht ä.edf").read_bytes(), held.export(1))
-    checks.same("no part of a file is left", list(folder.glob("*.part")), [])
+def compare_store(checks: Checks, given, held: model.Store) -> None:
+    """What `edfstore` finds once the session has ended."""
+    for words, expected in ((("list", "s.db"), held.lines().encode()),
+                            (("export", "s.db", 1), held.export(1))):
+        ran = measure.done(given.program, *words, folder=checks.folder)
+        checks.same(f"edfstore {words[0]}", ran.out == expected, True)
 
 
 def held_by(asked: list, folder: Path) -> model.Store:
@@ -127,7 +108,7 @@ def waits(checks: Checks, given) -> None:
     for line, answer in asked:
         checks.same(line, client.ask(line), answer)
     checks.same("the end", client.end(), (3, "", ""))
-    compare_export(checks, checks.folder, held_by(asked, checks.folder))
+    compare_store(checks, given, held_by(asked, checks.folder))
 
 
 def sends_all(checks: Checks, given, way: str, words) -> None:
@@ -137,7 +118,7 @@ def sends_all(checks: Checks, given, way: str, words) -> None:
     lines = "".join(f"{line}\n" for line, _ in asked).encode()
     ran = words(lines)
     checks.same("the answers", ran.out.decode(), "".join(answer for _, answer in asked))
-    compare_export(checks, checks.folder, held_by(asked, checks.folder))
+    compare_store(checks, given, held_by(asked, checks.folder))
 
 
 def over_a_pipe(checks: Checks, given):
@@ -168,17 +149,15 @@ def over_a_socket(checks: Checks, given):
 
 
 def below_a_folder(checks: Checks, given) -> None:
-    """Names below --from and --to alone are opened and made."""
+    """Names below --from alone are opened."""
     checks.begin("names outside of the folder")
     (checks.folder / "in" / "deep").mkdir(parents=True)
-    (checks.folder / "out").mkdir()
     data = named.files()["p5.edf"]
     for name in ("p.edf", "in/p.edf", "in/deep/p.edf"):
         checks.file(name, data)
     (checks.folder / "in" / "link.edf").symlink_to("../p.edf")
     (checks.folder / "in" / "away").symlink_to("..")
-    (checks.folder / "out" / "away").symlink_to("..")
-    client = Client(given.edfserve, checks.folder, "--from", "in", "--to", "out")
+    client = Client(given.edfserve, checks.folder, "--from", "in")
     for name in ("../p.edf", "/etc/passwd", "deep/../../p.edf", "..", "away/p.edf", "link.edf",
                  str(checks.folder / "in/p.edf")):
         checks.same(f"take {name}", client.ask(f"take {name}"),
@@ -187,16 +166,7 @@ def below_a_folder(checks: Checks, given) -> None:
                          ("./p.edf", printed.KNOWN)):
         checks.same(f"take {name}", client.ask(f"take {name}"),
                     printed.line(name, answer) + status(0))
-    held = model.Store()
-    held.take(data)
-    for name in ("../x.edf", "away/x.edf", str(checks.folder / "x.edf")):
-        checks.same(f"export 1 {name}", client.ask(f"export 1 {name}"),
-                    serving.is_outside(name) + status(1))
-    checks.same("export 1 x.edf", client.ask("export 1 x.edf"),
-                exported("x.edf", held.export(1)) + status(0))
-    checks.same("the exported file", checks.content("out/x.edf"), held.export(1))
-    checks.same("nothing was made elsewhere", (checks.folder / "x.edf").exists(), False)
-    checks.same("the end", client.end()[0], 1)
+    checks.same("the end", client.end(), (1, "", ""))
 
 
 def no_regular_file(checks: Checks, given) -> None:
@@ -212,27 +182,6 @@ def no_regular_file(checks: Checks, given) -> None:
         checks.same(f"take {name}", client.ask(f"take {name}"), told.take(name))
     checks.same("the end", client.end(), (3, "", ""))
     killer.cancel()
-
-
-def beside_the_store(checks: Checks, given) -> None:
-    checks.begin("names of the files that SQLite has beside a store")
-    checks.file("p.edf", named.files()["p5.edf"])
-    (checks.folder / "in").mkdir()
-    (checks.folder / "here").symlink_to(".")
-    client, told = Client(given.edfserve, checks.folder), Session(checks.folder)
-    checks.same("take", client.ask("take p.edf"), told.take("p.edf"))
-    before = checks.names()
-    for name in ("s.db", "s.db-wal", "s.db-journal", "s.db-shm", "./s.db-journal",
-                 "in/../s.db-journal", "here/s.db-journal", f"{checks.folder}/s.db-journal"):
-        checks.same(f"export 1 {name}", client.ask(f"export 1 {name}"),
-                    serving.is_there(name) + status(1))
-    checks.same("nothing was made", checks.names(), before)
-    for name in ("in/s.db-journal", "t.db-journal", "s.db-journal.edf", "s.db-"):
-        answer = told.export(1, name)
-        checks.same(f"export 1 {name}", client.ask(f"export 1 {name}"), answer)
-    checks.same("the end", client.end(), (1, "", ""))
-    ran = measure.done(given.program, "list", "s.db", folder=checks.folder)
-    checks.same("the store opens", ran.out.decode(), told.held.lines())
 
 
 def stops_reading(checks: Checks, given) -> None:
@@ -261,9 +210,11 @@ def lengths(checks: Checks, given) -> None:
     for size, answer in ((MOST_LINE, unread + status(3)), (MOST_LINE + 1, NO_COMMAND + status(2)),
                          (50 * MOST_LINE, NO_COMMAND + status(2))):
         line = b"take ".ljust(size, b"x")
-        for after, more in ((b"\n", ""), (b"\nlist\n", status(0)), (b"", "")):
+        is_last = size > MOST_LINE
+        for after, more in ((b"\n", ""), (b"\nlist\n", "" if is_last else status(0)), (b"", "")):
             ran = run(line + after)
-            checks.same(f"{size} bytes", (ran.out.decode(), ran.err), (answer + more, b""))
+            checks.same(f"{size} bytes", (ran.out.decode(), ran.err, ran.status),
+                        (answer + more, b"", 2 if is_last else 3))
     for line, answer, code in (
             (b"take p.edf", printed.line("p.edf", printed.NEW) + status(0), 0),
             (b"lis", NO_COMMAND + status(2), 2), (b"", "", 0),
@@ -315,106 +266,25 @@ def full_disk(checks: Checks, given) -> None:
             return
         names, held = laid(checks.folder), model.Store()
         client = Client(given.edfserve, disk.place)
-        parts = [f"../{name}" for name in names]
-        client.ask(f"take {parts[0]}"), held.take((checks.folder / names[0]).read_bytes())
+        checks.same("before", client.ask(f"take ../{names[0]}").endswith(status(0)), True)
         disk.fill()
-        answer = client.ask("export 1 x.edf")
-        checks.same("export: its status", answer.endswith(status(3)), True)
-        answer = client.ask(f"take {parts[1]}")
-        if answer.endswith(status(0)):      # the log had room
-            held.take((checks.folder / names[1]).read_bytes())
-        else:
-            checks.same("take: its status", answer.endswith(status(3)), True)
-        checks.same("nothing was made", (disk.place / "x.edf").exists(), False)
-        disk.empty()
-        for name in names[1:]:
-            answer = held.take((checks.folder / name).read_bytes())
-            checks.same(name, client.ask(f"take ../{name}"),
-                        printed.line(f"../{name}", answer) + status(0))
-        checks.same("export", client.ask("export 1 x.edf"),
-                    exported("x.edf", held.export(1)) + status(0))
-        checks.same("the exported file", (disk.place / "x.edf").read_bytes(), held.export(1))
+        answers = [client.try_to_ask(f"take ../{name}") for name in names[1:]]
+        refused = [answer for answer in answers if not answer.endswith(status(0))]
+        no_room = printed.fault(f"../{names[len(answers) - len(refused) + 1]}", faults.store())
+        checks.same("the one that has no room, and none after it", refused,
+                    [no_room + status(3)] + [""] * (len(refused) - 1))
         checks.same("the end", client.end()[0], 3)
-
-
-def dated(clock: datetime, patient: str = NOBODY, onsets=("0", "1")) -> bytes:
-    """A file of a data record of a second for each onset."""
-    day = clock.strftime("%d-%b-%Y").upper()
-    head = edf.Header((edf.Signal(), edf.annotations_signal(8)), clock.strftime("%d.%m.%y"),
-                      clock.strftime("%H.%M.%S"), patient, f"Startdate {day} N1 T3 REC5",
-                      count=str(len(onsets)))
-    rng = random.Random(repr((clock, onsets)))
-    return edf.fragment(head, [(rng.randbytes(4), edf.keeping(f"+{onset}")) for onset in onsets])
-
-
-def files_far_apart() -> list:
-    """Files in the order in which they are taken, and the numbers of those that are warned of."""
-    first, later = dated(EVENING), dated(EVENING + PAUSE + 2 * SECOND)
-    gapped = dated(EVENING, onsets=("0", "1", "2", "3", "50000", "50001", "80000.5"))
-    after_it = EVENING + 80_000 * SECOND + PAUSE
-    return [
-        ("the first file of a recording", [first], []),
-        ("a file a second more than 8 hours later", [first, later], [2]),
-        ("exactly 8 hours later", [first, dated(EVENING + PAUSE + SECOND)], []),
-        ("a second more than 8 hours earlier", [later, first], [2]),
-        ("exactly 8 hours earlier", [dated(EVENING + PAUSE + SECOND), first], []),
-        ("half a second more than 8 hours later",
-         [first, dated(EVENING + PAUSE + SECOND, onsets=("0.5", "2"))], [2]),
-        ("half a second more than 8 hours earlier",
-         [dated(EVENING + PAUSE + SECOND, onsets=("0.5", "2")), first], [2]),
-        ("a patient with a code",
-         [dated(EVENING, SOMEBODY), dated(EVENING + 9 * DAY, SOMEBODY)], []),
-        ("a patient with a name",
-         [dated(EVENING, "X F X Smith"), dated(EVENING + 9 * DAY, "X F X Smith")], []),
-        ("a patient with a code, whose name is X",
-         [dated(EVENING, "XX F X X"), dated(EVENING + 9 * DAY, "XX F X X")], []),
-        ("a birthdate and more beside no code and no name",
-         [dated(EVENING, "X F 02-MAY-1951 X ward"),
-          dated(EVENING + 9 * DAY, "X F 02-MAY-1951 X ward")], [2]),
-        ("a file that is held already", [first, later, later, first], [2]),
-        ("a file between two others", [first, dated(EVENING + 9 * DAY), dated(EVENING + 4 * DAY)],
-         [2, 3]),
-        ("the second file of the next night",
-         [first, dated(EVENING + 16 * HOUR), dated(EVENING + 16 * HOUR + 2 * SECOND)], [2]),
-        ("a file beside the later of two",
-         [first, dated(EVENING + 9 * DAY), dated(EVENING + 9 * DAY + 2 * SECOND)], [2]),
-        ("a file beside the earlier of two",
-         [first, dated(EVENING + 9 * DAY), dated(EVENING + 2 * SECOND)], [2]),
-        ("after a file with gaps", [gapped, dated(after_it, onsets=("0.5",))], []),
-        ("later after a file with gaps", [gapped, dated(after_it + SECOND)], [2]),
-        ("a file with gaps, 8 hours earlier", [dated(after_it, onsets=("0.5",)), gapped], []),
-        ("a file with gaps, more than 8 hours earlier", [dated(after_it + SECOND), gapped], [2]),
-        ("the first day that a header can name",
-         [dated(datetime(1985, 1, 1)), dated(datetime(2002, 1, 1)), dated(datetime(1985, 1, 1, 7))],
-         [2]),
-        ("the first day, after others", [dated(EVENING), dated(datetime(1985, 1, 1))], [2]),
-    ]
-
-
-def people(checks: Checks, given) -> None:
-    """Files of different people that may have become one recording."""
-    for what, files, warned in files_far_apart():
-        checks.begin(what)
-        client, held = Client(given.edfserve, checks.folder), model.Store()
-        for number, data in enumerate(files, 1):
-            name = f"{number}.edf"
-            checks.file(name, data)
-            checks.same(name, client.ask(f"take {name}"),
-                        printed.line(name, held.take(data)) + status(0))
-        lines = "".join(serving.warned(f"{number}.edf") for number in warned)
-        checks.same("the end, and the warnings", client.end(), (0, "", lines))
-    checks.begin("a warning, and the answers after it")
-    folder = checks.folder
-    for number, data in enumerate((dated(EVENING), dated(EVENING + 9 * DAY)), 1):
-        checks.file(f"{number}.edf", data)
-    told = Session(folder)
-    asked = [(f"take {number}.edf", told.take(f"{number}.edf")) for number in (1, 2, 1)]
-    asked += [("list", told.list()), ("runs 1", told.runs(1)),
-              ("export 1 all.edf", told.export(1, "all.edf"))]
-    client = Client(given.edfserve, folder)
-    for line, answer in asked:
-        checks.same(line, client.ask(line), answer)
-    checks.same("the end", client.end(), (0, "", serving.warned("2.edf")))
+        disk.empty()
+        client = Client(given.edfserve, disk.place)
+        for nth, name in enumerate(names):
+            answer = held.take((checks.folder / name).read_bytes())
+            if nth > len(answers) - len(refused):
+                checks.same(name, client.ask(f"take ../{name}"),
+                            printed.line(f"../{name}", answer) + status(0))
+            else:
+                checks.same(name, client.ask(f"take ../{name}").endswith(status(0)), True)
+        checks.same("list", client.ask("list"), held.lines() + status(0))
+        checks.same("the end of another", client.end(), (0, "", ""))
 
 
 def killed_once(program: Path, folder: Path, names: list, rng: random.Random) -> int:
@@ -462,8 +332,7 @@ def kills(given) -> int:
 
 
 def main() -> None:
-    parser = arguments.Parser(__doc__, programs=("edfstore", "edfruns", "edfserve"),
-                              count=100)
+    parser = arguments.Parser(__doc__, programs=("edfstore", "edfserve"), count=100)
     parser.add_argument("--seed", metavar="N", type=int, default=1, help="of the kills; else 1")
     given = parser.read()
     with tempfile.TemporaryDirectory(prefix="edfserve-checks-") as name:
@@ -475,16 +344,12 @@ def main() -> None:
             sends_all(checks, given, "a socket", over_a_socket(checks, given))
         below_a_folder(checks, given)
         no_regular_file(checks, given)
-        beside_the_store(checks, given)
         stops_reading(checks, given)
         lengths(checks, given)
         refused_store(checks, given)
         held_store(checks, given)
         lost.run(checks, given)
-        anew.run(checks, given)
-        people(checks, given)
-        by_name.run(checks, given)
-        pictured.run(checks, given)
+        failing.run(checks, given)
         full_disk(checks, given)
         try:
             count = kills(given)

@@ -96,7 +96,7 @@ CHECKS = (
     Check("hypnogram", "nights with gaps and stages of sleep, drawn", (EDFRUNS,),
           counts=(200, 2_000)),
     Check("lines.stored", "stored runs", (EDFSTORE, EDFRUNS, EDFMEND)),
-    Check("serve", "answers of edfserve to its clients, kills", (EDFSTORE, EDFRUNS, EDFSERVE),
+    Check("serve", "answers of edfserve to its clients, kills", (EDFSTORE, EDFSERVE),
           counts=(20, 100)),
     Check("page", "answers of the page in two browsers", (EDFSTORE, EDFRUNS, EDFMEND),
           counts=(2_000, 2_000), needs=("chromium", "firefox-esr", "edfstore.html"),

@@ -4,13 +4,11 @@
 
 A night of 195 MB in 96 files: each is sent when the one before was answered. The first table has
 the session and one call of `edfstore take` with all files, by processor and clock, with the peak
-memory, and `cat` with a sync a file. The second has the answers: the median and the last. In the
-middle of the night `list` and `export 1 F` are asked for. A session that is begun again over the
-night has some memory left a second after its first answer. Then NIGHTS nights (10 if left out) come
-into one store in one session, by tenths, and it is begun again over these. Exports are compared
-with those of `edfstore`. It needs /usr/bin/time and 5 GB in TMPDIR for ten nights.
+memory, and `cat` with a sync a file. Then the answers: the median and the last, and `list` in the
+middle of the night. A session that is begun again over the night has some memory left a second
+after its first answer. Then NIGHTS nights (10 if left out) come into one store in one session, by
+tenths, and it is begun again over these. It needs /usr/bin/time and 5 GB in TMPDIR for ten nights.
 """
-import filecmp
 import resource
 import shutil
 import statistics
@@ -20,7 +18,7 @@ from dataclasses import dataclass, field
 from pathlib import Path
 
 from checks.lib import arguments, measure, night, printed
-from checks.lib.serving import Client, exported, status
+from checks.lib.serving import Client, status
 
 
 @dataclass
@@ -65,32 +63,18 @@ def by_session(given, folder: Path, parts: list) -> tuple:
     return after - processor, until - clock, peak, served
 
 
-def in_the_middle(given, folder: Path, parts: list) -> list:
-    """What is asked in the middle of a night, each by the clock."""
+def in_the_middle(given, folder: Path, parts: list) -> float:
+    """The seconds that `list` takes in the middle of a night, which then goes on."""
     served = Served(Client(given.edfserve, folder))
     for path in parts[:48]:
         served.take(path)
-    rows = []
-    for line in ("list", "export 1 half.edf"):
-        answer = served.ask(line)
-        if not answer.endswith(status(0)):
-            sys.exit(f"{line}: {answer}")
-        rows.append((line, f"{served.seconds[-1]:.3f} s", f"{served.processor[-1]:.2f} s"))
+    answer, seconds = served.ask("list"), served.seconds[-1]
+    if not answer.endswith(status(0)):
+        sys.exit(f"list: {answer}")
     for path in parts[48:]:
         served.take(path)
-    answer = served.ask("export 1 whole.edf")
-    if answer != exported("whole.edf", (folder / "whole.edf").read_bytes()) + status(0):
-        sys.exit(f"export: {answer}")
-    rows.append(("export 1 of the night", f"{served.seconds[-1]:.3f} s",
-                 f"{served.processor[-1]:.2f} s"))
     served.client.end()
-    return rows
-
-
-def compare_exports(given, folder: Path) -> None:
-    measure.done(given.program, "export", folder / "s.db", "1", out=folder / "by_edfstore.edf")
-    if not filecmp.cmp(folder / "whole.edf", folder / "by_edfstore.edf", shallow=False):
-        sys.exit("the exports differ")
+    return seconds
 
 
 def begun_again(program: Path, folder: Path, store: Path = None) -> tuple:
@@ -171,9 +155,7 @@ def main() -> None:
         parts = night.CLINIC.parts(folder)
         print(f"{measure.machine()}, the loop {measure.loop():.1f} s\n")
         report(given, folder, parts)
-        measure.table(("in the middle of the night", "clock", "processor"),
-                      in_the_middle(given, folder, parts))
-        compare_exports(given, folder)
+        print(f"`list` in the middle of the night: {in_the_middle(given, folder, parts):.3f} s")
         tell_again("begun again over the night", begun_again(given.edfserve, folder))
         measure.remove_store(folder / "s.db")
         for path in parts:

@@ -15,8 +15,8 @@ def answers(bench: Bench) -> None:
     print(f"answers: median {1000 * statistics.median(served.seconds):.1f} ms, at most "
           f"{1000 * max(served.seconds):.1f} ms")
     measure.remove_store(folder / "s.db")
-    measure.table(("in the middle of the night", "clock", "processor"),
-                  serve_run.in_the_middle(bench, folder, parts))
+    print("`list` in the middle of the night: "
+          f"{serve_run.in_the_middle(bench, folder, parts):.3f} s")
     measure.remove_store(folder / "s.db")
 
 

@@ -49,7 +49,7 @@ CHECKS = (
     ("kill.run", ("edfstore",), (5,)),
     ("rot", ("edfstore",), (5,)),
     ("hypnogram", ("edfruns",), (5,)),
-    ("serve", ("edfstore", "edfruns", "edfserve"), (3,)),
+    ("serve", ("edfstore", "edfserve"), (3,)),
     ("mend.run", ("edfstore", "edfmend"), ()),
     ("mend.fuzz", ("edfmend",), (100,)),
 )

@@ -7,7 +7,7 @@ from pathlib import Path
 
 from . import faults, measure, model, night, printed
 from .checks import Checks
-from .serving import Client, exported, status
+from .serving import Client, status
 
 # A file has 180 kB: the log grows by more than it was cut.
 PARTS = night.Night(records=480, samples=(256, 128), fragments=2)
@@ -90,8 +90,7 @@ def a_loss_before_the_end(checks: Checks, given) -> None:
     client, held = Client(given.edfserve, checks.folder), model.Store()
     checks.same("the file", client.ask(f"take {first.name}"), accepted(held, first))
     removed(checks.folder)
-    checks.same("export", client.ask("export 1 all.edf"),
-                exported("all.edf", held.export(1)) + status(0))
+    checks.same("list", client.ask("list"), held.lines() + status(0))
     checks.same("the end", client.end(), (3, "", ENDED))
     checks.same("no store was made", (checks.folder / "s.db").exists(), False)
 

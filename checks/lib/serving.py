@@ -4,41 +4,15 @@ import subprocess
 from pathlib import Path
 from subprocess import PIPE
 
-from . import measure
-
 NO_COMMAND = "no such command\n"
-ANEW = "opened anew, since a call that it refused left it in a transaction"
-UNUSABLE = "the disk could not be read or written"
 
 
 def status(number: int) -> str:
     return f"status {number}\n"
 
 
-def exported(name: str, data: bytes) -> str:
-    return f"{name} exported bytes={len(data)}\n"
-
-
-def drawn(name: str, data: bytes) -> str:
-    return f"{name} drawn bytes={len(data)}\n"
-
-
-def picture_of(edfruns: Path, data: bytes) -> bytes:
-    """The picture of a file, by another program."""
-    return measure.done(edfruns, "picture", "-", given=data).out
-
-
-def is_there(name: str) -> str:
-    return f"{name} is there\n"
-
-
 def is_outside(name: str) -> str:
     return f"{name} is outside of the folder\n"
-
-
-def warned(name: str) -> str:
-    """The line on standard error."""
-    return f"{name} warned: files of different people may have become one recording\n"
 
 
 class Client:
@@ -66,6 +40,13 @@ class Client:
         self.send(line)
         return self.answer()
 
+    def try_to_ask(self, line: str) -> str:
+        """An answer, or none where the session has ended."""
+        try:
+            return self.ask(line)
+        except BrokenPipeError:
+            return ""
+
     def memory(self, name: str) -> int:
         """A line of the system's on its memory, in bytes."""
         text = Path(f"/proc/{self.child.pid}/status").read_text()
@@ -80,6 +61,10 @@ class Client:
         return self.memory("VmRSS")
 
     def end(self) -> tuple:
-        """Ends its input: its status, and what else it wrote."""
-        out, err = self.child.communicate()
+        """Ends its input, if it has not ended itself: its status, and what else it wrote."""
+        try:
+            out, err = self.child.communicate()
+        except BrokenPipeError:
+            out, err = self.child.stdout.read(), self.child.stderr.read()
+            self.child.wait()
         return self.child.returncode, out.decode(), err.decode()

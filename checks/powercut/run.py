@@ -32,7 +32,7 @@ import tempfile
 from dataclasses import dataclass, replace
 from pathlib import Path
 
-from checks.lib import anew, arguments, measure, model, night, printed, serving
+from checks.lib import arguments, measure, model, night, printed, serving
 from checks.lib.checks import end
 from checks.powercut import disk
 
@@ -93,9 +93,9 @@ class Bench:
         if way == TAKE:
             return self.program.ran("take", store, *parts, added=added)
         client = serving.Client(self.edfserve, store.parent, added=added)
-        told = "".join(anew.asked(client, f"take {part}") for part in parts)
-        status, err = anew.ended(client)
-        told = told.replace(serving.status(0), "")
+        told = "".join(client.try_to_ask(f"take {part}") for part in parts)
+        status, out, err = client.end()
+        told = (told + out).replace(serving.status(0), "")
         return measure.Ran(status, told.encode(), err.encode(), seconds=0)
 
     def recorded(self, way: str, over: str, pair) -> disk.Run:

@@ -1,40 +1,36 @@
 -- What is known where a file was accepted.
-use Rattle.std.proofs.Common.{◌≡◌, ℕ, List, Option, Some, None, Ok, Err}
-use Rattle.std.proofs.Common.{sym, subst, inl, inr}
+use Rattle.std.proofs.Common.{◌≡◌, ℕ, List, Option, Some, None, Ok, Err, sym, subst, inl, inr}
 use Rattle.sqlite_trees.specs.declared.store.Store.{Ghosts}
 use Rattle.edf_store.specs.Held.{StoreModel}
 use Rattle.edf_intake.specs.Refusal.{Answer}
 use Rattle.edf_intake.specs.Submitted.{IsSubmitted, IsEnded}
 use Rattle.edf_intake.specs.declared.answer.Receipt.{Receipt}
-use Rattle.edfserve_arguments.specs.Line.{LineAsked}
-use Rattle.edfserve_arguments.specs.Line.LineAsked.{take, list, runs, runs_of, export, export_of}
-use Rattle.edfserve_arguments.specs.Line.LineAsked.{picture, picture_of}
 use Rattle.edf_program.specs.Output.{Growth}
 use Rattle.edf_serve.specs.Client.{HasAccepted, IsIdle}
 use Rattle.edf_serve.specs.Exchange.{IsWorked}
+use Rattle.edf_serve.specs.Line.{LineAsked}
+use Rattle.edf_serve.specs.Line.LineAsked.{take, list}
 use Rattle.edf_serve.specs.Taking.{IsAnswerSaid}
 use Rattle.edf_serve.specs.Work.{Point, Work, Submission, grown}
-use Rattle.edf_serve.specs.declared.files.Folders.{Folders}
 use Rattle.edf_serve.specs.declared.room.Outcome.{Outcome}
 use Rattle.edf_serve.specs.declared.room.Outcome.TheVariants as outcome
 
--- it may be told, over an open store
+-- it may be told
 pub record MayBeTold {S : Type 0} (g : Ghosts S) (store : StoreModel S) (receipt : Receipt) :
     Type 0 where
   pub idle : IsIdle g store
   pub accepted : HasAccepted g store receipt
 
-module _ {S : Type 0} (g : Ghosts S) (folders : Folders) (old new : Point S)
+module _ {S : Type 0} (g : Ghosts S) (folder : Option (List ℕ)) (old new : Point S)
     (submission : Option Submission) where
   abbrev pub done : Outcome → Work S
   done o = record { old = old; new = new; submission = submission; outcome = o }
 
   by-answer : (it : Submission) (answer : Answer) (out : Growth) (name : List ℕ) (given : _)
-      (receipt : Receipt) (start : _) →
-      IsSubmitted g old.store new.store it.from it.to answer → IsEnded g new.store answer →
-      IsAnswerSaid out name answer (outcome.Accepted given receipt start) →
+      (receipt : Receipt) → IsSubmitted g old.store new.store it.from it.to answer →
+      IsEnded g new.store answer → IsAnswerSaid out name answer (outcome.Accepted given receipt) →
       MayBeTold g new.store receipt
-  by-answer it (Ok r) out name given receipt start submitted ended said = record {
+  by-answer it (Ok r) out name given receipt submitted ended said = record {
     idle = λ clean. elim (ended clean) [ inl n ↦ absurd n | inr i ↦ i ];
     accepted = subst (HasAccepted g new.store) (sym said.1) (record {
       old = old.store;
@@ -43,46 +39,21 @@ module _ {S : Type 0} (g : Ghosts S) (folders : Folders) (old new : Point S)
       submitted = submitted;
     });
   }
-  by-answer it (Err refusal) out name given receipt start submitted ended said = absurd said
+  by-answer it (Err refusal) out name given receipt submitted ended said = absurd said
 
-  by-work : (asked : Option LineAsked) (given : _) (receipt : Receipt) (start : _) →
-      IsWorked g folders (done (outcome.Accepted given receipt start)) asked →
+  by-work : (asked : Option LineAsked) (given : _) (receipt : Receipt) →
+      IsWorked g folder (done (outcome.Accepted given receipt)) asked →
       MayBeTold g new.store receipt
-  by-work None given receipt start w = absurd w.1.1
-  by-work (Some (take name)) given receipt start w = elim w.1 [
-    | inl t ↦ by-answer t.2.it t.2.it.answer (grown old.out new.out) name given receipt start
+  by-work None given receipt w = absurd w.1.1.1
+  by-work (Some (take name)) given receipt w = elim w [
+    | inl t ↦ by-answer t.2.it t.2.it.answer (grown old.out new.out) name given receipt
         t.2.submitted t.2.ended t.2.said
-    | inr n ↦ absurd n.1.1
+    | inr n ↦ absurd n.1.1.1
   ]
-  by-work (Some list) given receipt start w = absurd w.1
-  by-work (Some LineAsked.status) given receipt start w = absurd w.1
-  by-work (Some (runs place)) given receipt start w = elim w [
-    | inl d ↦ absurd d.3
-    | inr n ↦ absurd n.1
-  ]
-  by-work (Some (runs_of s)) given receipt start w = elim w [
-    | inl d ↦ absurd d.3
-    | inr n ↦ absurd n.1
-  ]
-  by-work (Some (export place name)) given receipt start w = elim w [
-    | inl d ↦ absurd d.3
-    | inr n ↦ absurd n.1
-  ]
-  by-work (Some (export_of s name)) given receipt start w = elim w [
-    | inl d ↦ absurd d.3
-    | inr n ↦ absurd n.1
-  ]
-  by-work (Some (picture place name)) given receipt start w = elim w [
-    | inl d ↦ absurd d.3
-    | inr n ↦ absurd n.1
-  ]
-  by-work (Some (picture_of s name)) given receipt start w = elim w [
-    | inl d ↦ absurd d.3
-    | inr n ↦ absurd n.1
-  ]
+  by-work (Some list) given receipt w = absurd w.1.1.1
 
-  pub may-be_told : (asked : Option LineAsked) (o : Outcome) (given : _) (receipt : Receipt)
-      (start : _) → o ≡ outcome.Accepted given receipt start →
-      IsWorked g folders (done o) asked → MayBeTold g new.store receipt
-  may-be_told asked o given receipt start e w = by-work asked given receipt start
-      (subst (λ (p : Outcome). IsWorked g folders (done p) asked) e w)
+  pub may-be_told : (asked : Option LineAsked) (o : Outcome) (given : _) (receipt : Receipt) →
+      o ≡ outcome.Accepted given receipt → IsWorked g folder (done o) asked →
+      MayBeTold g new.store receipt
+  may-be_told asked o given receipt e w = by-work asked given receipt
+      (subst (λ (p : Outcome). IsWorked g folder (done p) asked) e w)

@@ -1,27 +1,14 @@
 -- What goes out, and what comes after it.
-use Rattle.std.proofs.Common.{◌≡◌, ℕ, List, [], ◌∷◌, ◌++◌, Bool, true, false, Some, None, refl, sym, codes}
+use Rattle.std.proofs.Common.{◌≡◌, ℕ, List, [], ◌∷◌, ◌++◌, refl, sym, codes}
 use Rattle.std.proofs.Common.{◌∙◌, ap, subst, inl, inr, append_assoc}
-use Rattle.std.specs.Prelude.{cond, decimal}
-use Rattle.sqlite_trees.specs.declared.store.Store.{Ghosts}
-use Rattle.edf_intake.specs.declared.answer.Receipt.{Receipt}
+use Rattle.std.specs.Prelude.{decimal}
 use Rattle.edf_command.specs.Lines.{accepted_line}
 use Rattle.edf_program.specs.Output.{Growth, Gets, GetsFront, IsWritten}
 use Rattle.edf_program.specs.Text.{refused_line}
 use Rattle.edf_program.specs.declared.status.Status.{Status}
 use Rattle.edf_program.specs.declared.status.Status.TheVariants.{Trouble}
-use Rattle.edf_serve.specs.Client.{IsIdle, IsOpenSince, IsNameless}
-use Rattle.edf_serve.specs.Exchange.{Exchange, IsAfterAccepted}
 use Rattle.edf_serve.specs.Lines.{whole_lines}
-use Rattle.edf_serve.specs.Work.{Point}
-use Rattle.edf_serve.specs.declared.answering.End.TheVariants.{Left}
 use Rattle.edf_serve.proofs.Whole.{EndsFed, fed-behind, is-whole}
-
-pub after-accepted : {S : Type 0} (g : Ghosts S) (x : Exchange S) (b : Point S)
-    (receipt : Receipt) (is_left : Bool) → (is_left ≡ true → IsNameless receipt.identity) →
-    (is_left ≡ false → IsIdle g b.store × IsOpenSince g x.work.new.store b.store) →
-    IsAfterAccepted g x b receipt (cond is_left (Some Left) None)
-after-accepted g x b receipt true untold idle = untold refl
-after-accepted g x b receipt false untold idle = idle refl
 
 -- the line of an accepted file is a whole one
 pub accepted-whole : (name : List ℕ) (new known : ℕ) →

@@ -104,14 +104,6 @@ line-front (x ∷ y ∷ ys) tail h some =
           (All-head (λ b. (b == 10) ≡ false) x (y ∷ ys) h) rest.1,
     )
 
--- the others are those that are behind
-pub others : (front tail : List ℕ) → Feedless front → drop 1 (lines_of (front ++ tail)) ≡ drop 1 (lines_of tail)
-others [] tail h = refl
-others (x ∷ xs) tail h = ap (drop 1) (line-front (x ∷ xs) tail h (omega arith)).1
-
-pub others-fed : (front tail : List ℕ) → Feedless front → drop 1 (lines_of (front ++ 10 ∷ tail)) ≡ lines_of tail
-others-fed front tail h = ap (drop 1) (line-feed front tail h)
-
 -- where the first line feed is
 pub record FeedAt (xs : List ℕ) (at : ℕ) : Type 0 where
   pub within : at < length xs
@@ -155,36 +147,37 @@ read-more old mid new F G H x y c e c2 e2 =
     (x ++ y, Consumes-trans old mid new x y c c2, e2 ∙ ap (λ (l : List ℕ). l ++ y) e ∙ append_assoc F x y)
 
 -- the lines of what is left
-abbrev pub lines_left : Bool → Option (List ℕ) → Option (List (List ℕ))
-lines_left i l = option_map (λ bytes. drop (cond i 1 0) (lines_of bytes)) l
+abbrev pub lines_left : Option (List ℕ) → Option (List (List ℕ))
+lines_left l = option_map lines_of l
 
 abbrev pub IsFirstOf : List ℕ → Option (List (List ℕ)) → List (List ℕ) → Type 0
 IsFirstOf line after lines = (whole : List ℕ) × (rest : List (List ℕ)) × (lines ≡ whole ∷ rest)
-    × (line ≡ take 65537 whole) × (after ≡ Some rest)
+    × (line ≡ take 65537 whole) × (length line ≤ 65536 → after ≡ Some rest)
 
 -- the line that is first in what was gathered, and what is behind it
-abbrev pub BeginsWith : List ℕ → List ℕ → List ℕ → Bool → List ℕ → Type 0
-BeginsWith G T line j ys = (whole : List ℕ)
-    × (lines_of (G ++ ys) ≡ whole ∷ drop (cond j 1 0) (lines_of (T ++ ys))) × (line ≡ take 65537 whole)
+abbrev pub BeginsWith : List ℕ → List ℕ → List ℕ → List ℕ → Type 0
+BeginsWith G T line ys = (whole : List ℕ) × (rest : List (List ℕ))
+    × (lines_of (G ++ ys) ≡ whole ∷ rest) × (line ≡ take 65537 whole)
+    × (length line ≤ 65536 → lines_of (T ++ ys) ≡ rest)
 
-pub gives-first : (l k : Option (List ℕ)) (i j : Bool) (line F T G : List ℕ) (old new : Option (List ℕ)) →
-    l ≡ option_map (λ xs. F ++ xs) old → i ≡ false → k ≡ option_map (λ ys. T ++ ys) new →
+pub gives-first : (l k : Option (List ℕ)) (line F T G : List ℕ) (old new : Option (List ℕ)) →
+    l ≡ option_map (λ xs. F ++ xs) old → k ≡ option_map (λ ys. T ++ ys) new →
     ((more : List ℕ) × Consumes old new more × (G ≡ F ++ more)) →
-    ((ys : List ℕ) → new ≡ Some ys → BeginsWith G T line j ys) →
-    IfSome (lines_left i l) (IsFirstOf line (lines_left j k))
-gives-first l k i j line F T G None new el ei ek g h =
-    subst (λ (x : Option (List ℕ)). IfSome (lines_left i x) (IsFirstOf line (lines_left j k))) (sym el) tt
-gives-first l k i j line F T G (Some xs) None el ei ek g h = absurd g.1
-gives-first l k i j line F T G (Some xs) (Some ys) el ei ek g h =
+    ((ys : List ℕ) → new ≡ Some ys → BeginsWith G T line ys) →
+    IfSome (lines_left l) (IsFirstOf line (lines_left k))
+gives-first l k line F T G None new el ek g h =
+    subst (λ (x : Option (List ℕ)). IfSome (lines_left x) (IsFirstOf line (lines_left k))) (sym el) tt
+gives-first l k line F T G (Some xs) None el ek g h = absurd g.1
+gives-first l k line F T G (Some xs) (Some ys) el ek g h =
     let f = h ys refl in
     let same : F ++ xs ≡ G ++ ys = ap (λ (p : List ℕ). F ++ p) g.1 ∙ sym (append_assoc F g.0 ys)
     ∙ ap (λ (p : List ℕ). p ++ ys) (sym g.2) in
-    subst (λ (x : Option (List ℕ)). IfSome (lines_left i x) (IsFirstOf line (lines_left j k))) (sym el) (
+    subst (λ (x : Option (List ℕ)). IfSome (lines_left x) (IsFirstOf line (lines_left k))) (sym el) (
       f.0,
-      drop (cond j 1 0) (lines_of (T ++ ys)),
-      ap (λ (b : Bool). drop (cond b 1 0) (lines_of (F ++ xs))) ei ∙ ap lines_of same ∙ f.1,
-      f.2,
-      ap (lines_left j) ek,
+      f.1,
+      ap lines_of same ∙ f.2,
+      f.3,
+      λ short. ap lines_left ek ∙ ap (λ (l : List (List ℕ)). Some l) (f.4 short),
     )
 
 pub slice-of : (a e : ℕ) (b : List ℕ) → a ≤ e → drop a (take e b) ≡ slice_range b a e
@@ -193,10 +186,10 @@ slice-of a e b low =
     ap (λ (n : ℕ). drop a (take n b)) same ∙ drop-take a (e - a) b
 
 -- a line with its line feed
-pub begins-fed : (B : List ℕ) (e at : ℕ) (line ys : List ℕ) (j : Bool) → position is_feed (take e B) ≡ Some at →
-    e ≤ length B → at < 65537 → line ≡ take at B → j ≡ false →
-    BeginsWith (take e B) (slice_range B (at + 1) e) line j ys
-begins-fed B e at line ys j found within short el ej =
+pub begins-fed : (B : List ℕ) (e at : ℕ) (line ys : List ℕ) → position is_feed (take e B) ≡ Some at →
+    e ≤ length B → at < 65537 → line ≡ take at B →
+    BeginsWith (take e B) (slice_range B (at + 1) e) line ys
+begins-fed B e at line ys found within short el =
     let fa = feed-at (take e B) at found in
     let size : length (take e B) ≡ e = length-take-le e B within in
     let low : at + 1 ≤ e = omega (arith, fa.within, size) in
@@ -207,27 +200,32 @@ begins-fed B e at line ys j found within short el ej =
     let size2 : length line ≡ at = ap (λ (p : List ℕ). length p) (sym line-is)
     ∙ length-take-le at (take e B) (omega (arith, size, low)) in (
       line,
+      lines_of (slice_range B (at + 1) e ++ ys),
       ap (λ (p : List ℕ). lines_of (p ++ ys)) split
           ∙ ap lines_of (append_assoc line (10 ∷ slice_range B (at + 1) e) ys)
-          ∙ line-feed line (slice_range B (at + 1) e ++ ys) (subst Feedless line-is fa.before)
-          ∙ ap (λ (b : Bool). line ∷ drop (cond b 1 0) (lines_of (slice_range B (at + 1) e ++ ys))) (sym ej),
+          ∙ line-feed line (slice_range B (at + 1) e ++ ys) (subst Feedless line-is fa.before),
       sym (take_all 65537 line (omega (arith, size2, short))),
+      λ _. refl,
     )
 
 -- the front of a longer one
-pub begins-long : (B : List ℕ) (e : ℕ) (line ys : List ℕ) (j : Bool) → Feedless (take 65537 (take e B)) →
-    e ≤ length B → 65537 ≤ e → line ≡ take 65537 B → j ≡ true →
-    BeginsWith (take e B) (slice_range B 65537 e) line j ys
-begins-long B e line ys j none within long el ej =
+pub begins-long : (B : List ℕ) (e : ℕ) (T line ys : List ℕ) → Feedless (take 65537 (take e B)) →
+    e ≤ length B → 65537 ≤ e → line ≡ take 65537 B → BeginsWith (take e B) T line ys
+begins-long B e T line ys none within long el =
     let front-is : take 65537 (take e B) ≡ line = take-take 65537 e B long ∙ sym el in
-    let size : length line ≡ 65537 = ap (λ (p : List ℕ). length p) el ∙ length-take-le 65537 B (omega (arith, within, long)) in
+    let size : length line ≡ 65537 = ap (λ (p : List ℕ). length p) el
+    ∙ length-take-le 65537 B (omega (arith, within, long)) in
     let split : take e B ≡ line ++ slice_range B 65537 e =
-    sym (take-append-drop 65537 (take e B)) ∙ ap2 (λ (p q : List ℕ). p ++ q) front-is (slice-of 65537 e B long) in
-    let f = line-front line (slice_range B 65537 e ++ ys) (subst Feedless front-is none) (omega (arith, size)) in (
+    sym (take-append-drop 65537 (take e B))
+    ∙ ap2 (λ (p q : List ℕ). p ++ q) front-is (slice-of 65537 e B long) in
+    let f = line-front line (slice_range B 65537 e ++ ys) (subst Feedless front-is none)
+    (omega (arith, size)) in (
       line ++ f.0,
-      ap (λ (p : List ℕ). lines_of (p ++ ys)) split ∙ ap lines_of (append_assoc line (slice_range B 65537 e) ys) ∙ f.1
-          ∙ ap (λ (b : Bool). (line ++ f.0) ∷ drop (cond b 1 0) (lines_of (slice_range B 65537 e ++ ys))) (sym ej),
+      drop 1 (lines_of (slice_range B 65537 e ++ ys)),
+      ap (λ (p : List ℕ). lines_of (p ++ ys)) split
+          ∙ ap lines_of (append_assoc line (slice_range B 65537 e) ys) ∙ f.1,
       sym (take_at line f.0 65537 size),
+      λ short. absurd (omega (arith, size, short)),
     )
 
 empty-slice : (B : List ℕ) (e : ℕ) → slice_range B e e ≡ []
@@ -237,175 +235,32 @@ pub at-end : (new : Option (List ℕ)) (ys : List ℕ) → IsAtEnd new → new �
 at-end new ys end e = subst IsAtEnd e end
 
 -- the last one
-pub begins-last : (B : List ℕ) (e : ℕ) (line ys : List ℕ) (j : Bool) → Feedless (take e B) → e ≤ length B → 0 < e →
-    e < 65537 → line ≡ take e B → j ≡ false → ys ≡ [] → BeginsWith (take e B) (slice_range B e e) line j ys
-begins-last B e line ys j none within some short el ej ended =
+pub begins-last : (B : List ℕ) (e : ℕ) (line ys : List ℕ) → Feedless (take e B) → e ≤ length B →
+    0 < e → e < 65537 → line ≡ take e B → ys ≡ [] →
+    BeginsWith (take e B) (slice_range B e e) line ys
+begins-last B e line ys none within some short el ended =
     let size : length (take e B) ≡ e = length-take-le e B within in (
       take e B,
+      [],
       ap (λ (p : List ℕ). lines_of (take e B ++ p)) ended ∙ ap lines_of (append-nil (take e B))
-          ∙ line-last (take e B) none (omega (arith, size, some))
-          ∙ ap (λ (p : List (List ℕ)). take e B ∷ p)
-          (ap3-lines j (slice_range B e e) ys ej (empty-slice B e) ended),
+          ∙ line-last (take e B) none (omega (arith, size, some)),
       el ∙ sym (take_all 65537 (take e B) (omega (arith, size, short))),
+      λ _. ap2 (λ (p q : List ℕ). lines_of (p ++ q)) (empty-slice B e) ended,
     )
-  where
-    ap3-lines : (j : Bool) (T ys : List ℕ) → j ≡ false → T ≡ [] → ys ≡ [] → [] ≡ drop (cond j 1 0) (lines_of (T ++ ys))
-    ap3-lines j T ys a b c =
-        sym (ap (λ (b : Bool). drop (cond b 1 0) (lines_of (T ++ ys))) a
-        ∙ ap2 (λ (p q : List ℕ). lines_of (p ++ q)) b c)
 
 -- no line was given, and none was lost
-pub none-lost : (l k : Option (List ℕ)) (i j : Bool) (F T G : List ℕ) (old new : Option (List ℕ)) →
-    l ≡ option_map (λ xs. F ++ xs) old → i ≡ j → k ≡ option_map (λ ys. T ++ ys) new → T ≡ G →
+pub none-lost : (l k : Option (List ℕ)) (F T G : List ℕ) (old new : Option (List ℕ)) →
+    l ≡ option_map (λ xs. F ++ xs) old → k ≡ option_map (λ ys. T ++ ys) new → T ≡ G →
     ((more : List ℕ) × Consumes old new more × (G ≡ F ++ more)) →
-    IfSome (lines_left i l) (λ lines. lines_left j k ≡ Some lines)
-none-lost l k i j F T G None new el ei ek et g =
-    subst (λ (x : Option (List ℕ)). IfSome (lines_left i x) (λ lines. lines_left j k ≡ Some lines)) (sym el) tt
-none-lost l k i j F T G (Some xs) None el ei ek et g = absurd g.1
-none-lost l k i j F T G (Some xs) (Some ys) el ei ek et g =
+    IfSome (lines_left l) (λ lines. lines_left k ≡ Some lines)
+none-lost l k F T G None new el ek et g =
+    subst (λ (x : Option (List ℕ)). IfSome (lines_left x) (λ lines. lines_left k ≡ Some lines)) (sym el) tt
+none-lost l k F T G (Some xs) None el ek et g = absurd g.1
+none-lost l k F T G (Some xs) (Some ys) el ek et g =
     let same : T ++ ys ≡ F ++ xs = ap (λ (p : List ℕ). p ++ ys) (et ∙ g.2) ∙ append_assoc F g.0 ys
     ∙ ap (λ (p : List ℕ). F ++ p) (sym g.1) in
-    subst (λ (x : Option (List ℕ)). IfSome (lines_left i x) (λ lines. lines_left j k ≡ Some lines)) (sym el)
-    (ap (lines_left j) ek ∙ ap (λ (p : List ℕ). lines_left j (Some p)) same
-    ∙ ap (λ (b : Bool). lines_left b (Some (F ++ xs))) (sym ei))
-
--- The rest of a long line was passed over, up to its line feed, or not, and so many bytes.
-abbrev pub IsOver : List ℕ → List ℕ → Option (List ℕ) → List ℕ → Type 0
-IsOver F T new more = (front : List ℕ) × (rest : List ℕ) × (F ++ more ≡ front ++ (10 ∷ rest))
-    × Feedless front × (option_map (λ bytes. T ++ bytes) new ≡ Some rest)
-
-abbrev pub IsPassed : (ℕ → Type 0) → List ℕ → List ℕ → Option (List ℕ) → List ℕ → Type 0
-IsPassed P F T new more = (front : List ℕ) × (rest : List ℕ) × (F ++ more ≡ front ++ rest)
-    × Feedless front × (option_map (λ bytes. T ++ bytes) new ≡ Some rest) × P (length front)
-
-pub passed-over : (l k : Option (List ℕ)) (i j : Bool) (F T : List ℕ) (old new : Option (List ℕ)) →
-    l ≡ option_map (λ xs. F ++ xs) old → i ≡ true → j ≡ false → k ≡ option_map (λ ys. T ++ ys) new →
-    IfSome old (IsOver F T new) →
-    IfSome (lines_left i l) (λ lines. lines_left j k ≡ Some lines)
-passed-over l k i j F T None new el ei ej ek p =
-    subst (λ (x : Option (List ℕ)). IfSome (lines_left i x) (λ lines. lines_left j k ≡ Some lines)) (sym el) tt
-passed-over l k i j F T (Some xs) new el ei ej ek p =
-    subst (λ (x : Option (List ℕ)). IfSome (lines_left i x) (λ lines. lines_left j k ≡ Some lines)) (sym el)
-    (ap2 lines_left ej (ek ∙ p.4)
-    ∙ ap Some (sym (ap (λ (b : Bool). drop (cond b 1 0) (lines_of (F ++ xs))) ei
-    ∙ ap (λ (q : List ℕ). drop 1 (lines_of q)) p.2 ∙ others-fed p.0 p.1 p.3)))
-
-pub passed-on : (P : ℕ → Type 0) (l k : Option (List ℕ)) (i j : Bool) (F T : List ℕ) (old new : Option (List ℕ)) →
-    l ≡ option_map (λ xs. F ++ xs) old → i ≡ true → j ≡ true → k ≡ option_map (λ ys. T ++ ys) new →
-    IfSome old (IsPassed P F T new) →
-    IfSome (lines_left i l) (λ lines. lines_left j k ≡ Some lines)
-passed-on P l k i j F T None new el ei ej ek p =
-    subst (λ (x : Option (List ℕ)). IfSome (lines_left i x) (λ lines. lines_left j k ≡ Some lines)) (sym el) tt
-passed-on P l k i j F T (Some xs) new el ei ej ek p =
-    subst (λ (x : Option (List ℕ)). IfSome (lines_left i x) (λ lines. lines_left j k ≡ Some lines)) (sym el)
-    (ap2 lines_left ej (ek ∙ p.4)
-    ∙ ap Some (sym (ap (λ (b : Bool). drop (cond b 1 0) (lines_of (F ++ xs))) ei
-    ∙ ap (λ (q : List ℕ). drop 1 (lines_of q)) p.2 ∙ others p.0 p.1 p.3)))
-
--- and nothing came behind
-pub passed-all : (P : ℕ → Type 0) (l : Option (List ℕ)) (i : Bool) (F B : List ℕ) (e e2 : ℕ) (old new : Option (List ℕ)) →
-    l ≡ option_map (λ xs. F ++ xs) old → i ≡ true → e ≡ e2 → IsAtEnd new →
-    IfSome old (IsPassed P F (slice_range B e e2) new) →
-    IfSome (lines_left i l) (λ lines. lines ≡ [])
-passed-all P l i F B e e2 None new el ei ee end p =
-    subst (λ (x : Option (List ℕ)). IfSome (lines_left i x) (λ lines. lines ≡ [])) (sym el) tt
-passed-all P l i F B e e2 (Some xs) new el ei ee end p =
-    subst (λ (x : Option (List ℕ)). IfSome (lines_left i x) (λ lines. lines ≡ [])) (sym el)
-    (ap (λ (b : Bool). drop (cond b 1 0) (lines_of (F ++ xs))) ei
-    ∙ ap (λ (q : List ℕ). drop 1 (lines_of q)) p.2 ∙ others p.0 p.1 p.3
-    ∙ ap (λ (q : List ℕ). drop 1 (lines_of q)) (none-behind new (slice_range B e e2) p.1
-    (ap (λ (n : ℕ). slice_range B e n) (sym ee) ∙ empty-slice B e) end p.4))
-  where
-    none-behind : (new : Option (List ℕ)) (T rest : List ℕ) → T ≡ [] → IsAtEnd new →
-        option_map (λ bytes. T ++ bytes) new ≡ Some rest → rest ≡ []
-    none-behind None T rest et end e = absurd (none-some rest e)
-    none-behind (Some ys) T rest et end e =
-        ap (λ (o : Option (List ℕ)). or_rest o rest) (sym e) ∙ ap2 (λ (p q : List ℕ). p ++ q) et end
-      where
-        or_rest : Option (List ℕ) → List ℕ → List ℕ
-        or_rest (Some x) y = x
-        or_rest None y = y
-
--- what a search for the end of a long line passed over
-some-is : (x y : List ℕ) → Some x ≡ Some y → x ≡ y
-some-is x y e = ap (λ (o : Option (List ℕ)). or_else o x) e
-  where
-    or_else : Option (List ℕ) → List ℕ → List ℕ
-    or_else (Some z) w = z
-    or_else None w = w
-
-pub passed-feed : (P : ℕ → Type 0) (F B : List ℕ) (to at : ℕ) (old new : Option (List ℕ)) →
-    position is_feed (take to B) ≡ Some at → to ≤ length B → IfSome old (IsPassed P F (take to B) new) →
-    IfSome old (IsOver F (slice_range B (at + 1) to) new)
-passed-feed P F B to at None new found within p = tt
-passed-feed P F B to at (Some more) None found within p = absurd (none-some p.1 p.4)
-passed-feed P F B to at (Some more) (Some ys) found within p =
-    let fa = feed-at (take to B) at found in
-    let size : length (take to B) ≡ to = length-take-le to B within in
-    let behind-it : drop (at + 1) (take to B) ≡ slice_range B (at + 1) to =
-    slice-of (at + 1) to B (omega (arith, fa.within, size)) in
-    let line = take at (take to B) in
-    let rest-is : p.1 ≡ line ++ 10 ∷ (slice_range B (at + 1) to ++ ys) =
-    sym (some-is (take to B ++ ys) p.1 p.4) ∙ ap (λ (q : List ℕ). q ++ ys) (fa.are
-    ∙ ap (λ (q : List ℕ). line ++ 10 ∷ q) behind-it) ∙ append_assoc line (10 ∷ slice_range B (at + 1) to) ys in (
-      p.0 ++ line,
-      slice_range B (at + 1) to ++ ys,
-      p.2 ∙ ap (λ (q : List ℕ). p.0 ++ q) rest-is
-          ∙ sym (append_assoc p.0 line (10 ∷ (slice_range B (at + 1) to ++ ys))),
-      All-append (λ b. (b == 10) ≡ false) p.0 line p.3 fa.before,
-      refl,
-    )
-
-pub passed-more : (P Q : ℕ → Type 0) (F G x : List ℕ) (old mid new : Option (List ℕ)) → Feedless G →
-    Consumes mid new x → ((n : ℕ) → P n → Q (n + length G)) →
-    IfSome old (IsPassed P F G mid) → IfSome old (IsPassed Q F x new)
-passed-more P Q F G x None mid new none c q p = tt
-passed-more P Q F G x (Some more) None new none c q p = absurd (none-some p.1 p.4)
-passed-more P Q F G x (Some more) (Some ys) None none c q p = absurd c
-passed-more P Q F G x (Some more) (Some ys) (Some zs) none c q p = (
-  p.0 ++ G,
-  x ++ zs,
-  p.2 ∙ ap (λ (q : List ℕ). p.0 ++ q) (sym (some-is (G ++ ys) p.1 p.4) ∙ ap (λ (q : List ℕ). G ++ q) c)
-      ∙ sym (append_assoc p.0 G (x ++ zs)),
-  All-append (λ b. (b == 10) ≡ false) p.0 G p.3 none,
-  refl,
-  subst Q (sym (length-append p.0 G)) (q (length p.0) p.5),
-)
-
--- of a line that does not end
-pub passed-endless : (P Q : ℕ → Type 0) (F T U : List ℕ) (old new : Option (List ℕ)) →
-    ((n : ℕ) → P n → Q n) → U ≡ T →
-    IfSome old (IsPassed P F T new) → IfSome old (IsPassed Q F U new)
-passed-endless P Q F T U None new q same p = tt
-passed-endless P Q F T U (Some more) new q same p = (
-  p.0,
-  p.1,
-  p.2,
-  p.3,
-  ap (λ (t : List ℕ). option_map (λ bytes. t ++ bytes) new) same ∙ p.4,
-  q (length p.0) p.5,
-)
-
--- so many were passed over, of those that were left
-pub passed-least : (P : ℕ → Type 0) (least : ℕ) (l k : Option (List ℕ)) (F T : List ℕ) (old new : Option (List ℕ)) →
-    l ≡ option_map (λ xs. F ++ xs) old → k ≡ option_map (λ ys. T ++ ys) new →
-    ((n : ℕ) → P n → least ≤ n) → IfSome old (IsPassed P F T new) →
-    IfSome l (λ bytes. IfSome k (λ rest. least + length rest ≤ length bytes))
-passed-least P least l k F T None new el ek q p =
-    subst (λ (o : Option (List ℕ)). IfSome o (λ bytes. IfSome k (λ rest. least + length rest ≤ length bytes)))
-    (sym el) tt
-passed-least P least l k F T (Some xs) new el ek q p =
-    let whole : length (F ++ xs) ≡ length p.0 + length p.1 =
-    ap (λ (q : List ℕ). length q) p.2 ∙ length-append p.0 p.1 in
-    let some = q (length p.0) p.5 in
-    subst (λ (o : Option (List ℕ)). IfSome o (λ bytes. IfSome k (λ rest. least + length rest ≤ length bytes)))
-    (sym el) (subst (λ (o : Option (List ℕ)). IfSome o (λ rest. least + length rest ≤ length (F ++ xs)))
-    (sym (ek ∙ p.4)) (omega (arith, whole, some)))
-
--- a read that gave a byte follows on others
-pub one-read : (count to : ℕ) → (count ≡ 0) ⊎ (0 < to) → (count + 1) - 1 ≤ (count - 1) + to
-one-read count to (inl none) = omega (arith, none)
-one-read count to (inr some) = omega (arith, some)
+    subst (λ (x : Option (List ℕ)). IfSome (lines_left x) (λ lines. lines_left k ≡ Some lines)) (sym el)
+    (ap lines_left ek ∙ ap (λ (p : List ℕ). lines_left (Some p)) same)
 
 front-feedless : (n : ℕ) (xs : List ℕ) → Feedless xs → Feedless (take n xs)
 front-feedless n xs h = All-take (λ b. (b == 10) ≡ false) n xs h
@@ -425,9 +280,6 @@ pub long-beyond : (B : List ℕ) (e n : ℕ) → position is_feed (take e B) ≡
 long-beyond B e n found within far =
     let size : length (take e B) ≡ e = length-take-le e B within in
     (omega (arith, size, far), front-feedless n (take e B) (no-feed (take e B) found))
-
-pub false-true : false ≡ true → ⊥
-false-true e = omega (arith, ap {B = ℕ} (λ (b : Bool). cond b 1 0) e)
 
 pub slice-front : (B : List ℕ) (e : ℕ) → slice_range B 0 e ≡ take e B
 slice-front B e = let same : e - 0 ≡ e = omega arith in ap (λ (n : ℕ). take n (drop 0 B)) same

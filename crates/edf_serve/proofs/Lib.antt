@@ -1,11 +1,5 @@
-pub mod Pauses
-pub mod Working
-pub mod Making
-pub mod Runs
+pub mod Forms
 pub mod Whole
-pub mod Matching
-pub mod Found
-pub mod Totalling
 pub mod Accepting
 pub mod After
 pub mod Submitting
@@ -14,4 +8,3 @@ pub mod Sessions
 pub mod Feeds
 pub mod Held
 pub mod Again
-pub mod Canonical

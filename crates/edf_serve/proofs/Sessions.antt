@@ -6,19 +6,17 @@ use Rattle.std.specs.List.{AllByRecursion}
 use Rattle.std.specs.Option.{option_map, option_to_list}
 use Rattle.sqlite_trees.specs.declared.store.Store.{Ghosts}
 use Rattle.edf_store.specs.Held.{StoreModel, Stays}
-use Rattle.edf_export.proofs.Walks.{stays_same}
+use Rattle.edf_store.proofs.Begun.{stays_same}
 use Rattle.edf_intake.proofs.Batches.{none_submitted}
 use Rattle.edf_intake.proofs.Turns.{map-next}
 use Rattle.edf_serve.specs.Exchange.{Exchange, IsAnswered}
-use Rattle.edf_serve.specs.Files.{Paths, opens, from_folder, to_folder, LiesBelow}
-use Rattle.edf_serve.specs.NewFile.{Maker}
+use Rattle.edf_serve.specs.Files.{Paths, opens, LiesBelow}
 use Rattle.edf_serve.specs.Session.{Moment, IsExchange, AreExchanges, IsStep, IsWholeSession}
-use Rattle.edf_serve.specs.Session.{AreSubmittedInTurn, AreMadeBelow, IsSession, submissions}
+use Rattle.edf_serve.specs.Session.{AreSubmittedInTurn, IsSession, submissions}
 use Rattle.edf_serve.specs.Session.{status_at}
 use Rattle.edf_serve.specs.Work.{Point, Submission}
 use Rattle.edf_serve.specs.declared.answering.End.{End}
 use Rattle.edf_serve.specs.declared.answering.End.TheVariants as end
-use Rattle.edf_serve.specs.declared.files.Folders.{Folders}
 use Rattle.edf_serve.specs.declared.room.Outcome.{Outcome}
 use Rattle.edf_serve.specs.declared.room.Outcome.TheVariants as outcome
 use Rattle.edf_serve.proofs.Orderly.{IsOrderly, orderly}
@@ -55,150 +53,120 @@ all-append : {A : Type 0} (P : A → Type 0) (xs ys : List A) → AllByRecursion
 all-append P [] ys a b = b
 all-append P (x ∷ xs) ys a b = (a.0, all-append P xs ys a.1 b)
 
-module _ {S : Type 0} (g : Ghosts S) (folders : Folders) (a : Point S) where
+module _ {S : Type 0} (g : Ghosts S) (folder : Option (List ℕ)) (a : Point S) where
   -- what was submitted since `a`
   pub record Took (b : Point S) (all : List Submission) : Type 0 where
     pub submitted : AreSubmittedInTurn g a.store b.store all
     pub opened : b.paths ≡ opened-with a.paths (map (λ (s : Submission). s.path) all)
     pub given : AllByRecursion (λ (s : Submission). (s.from.left ≡ a.paths.bytes s.path)
-        × LiesBelow (from_folder folders) s.path) all
+        × LiesBelow folder s.path) all
 
-  took-none : (b c : Point S) (all : List Submission) → Took b all →
-      (c.store ≡ b.store) ⊎ Stays g b.store c.store → c.paths ≡ b.paths → Took c all
+  took-same : (b c : Point S) (all : List Submission) → Took b all → c.store ≡ b.store →
+      c.paths ≡ b.paths → Took c all
+  took-same b c all took same paths = record {
+    submitted = subst (λ (s : StoreModel S). AreSubmittedInTurn g a.store s all) (sym same)
+        took.submitted;
+    opened = paths ∙ took.opened;
+    given = took.given;
+  }
+
+  took-none : (b c : Point S) (all : List Submission) → Took b all → Stays g b.store c.store →
+      c.paths ≡ b.paths → Took c all
   took-none b c all took stays paths = record {
-    submitted = elim stays [
-      | inl same ↦ subst (λ (s : StoreModel S). AreSubmittedInTurn g a.store s all) (sym same)
-          took.submitted
-      | inr stays ↦ stays-in_turn g a.store b.store c.store all took.submitted stays
-    ];
+    submitted = stays-in_turn g a.store b.store c.store all took.submitted stays;
     opened = paths ∙ took.opened;
     given = took.given;
   }
 
   took-more : (b c : Point S) (all : List Submission) (s : Submission) → Took b all →
-      c.store.cap ≡ b.store.cap → AreSubmittedInTurn g a.store c.store (all ++ (s ∷ [])) →
-      s.from.left ≡ b.paths.bytes s.path → LiesBelow (from_folder folders) s.path →
+      AreSubmittedInTurn g a.store c.store (all ++ (s ∷ [])) →
+      s.from.left ≡ b.paths.bytes s.path → LiesBelow folder s.path →
       c.paths ≡ opens b.paths s.path → Took c (all ++ (s ∷ []))
-  took-more b c all s took cap submitted given below paths = record {
+  took-more b c all s took submitted given below paths = record {
     submitted = submitted;
     opened = paths ∙ (ap (λ (p : Paths). opens p s.path) took.opened
         ∙ (one-opened a.paths (map (λ (s : Submission). s.path) all) s.path
         ∙ ap (opened-with a.paths) (sym (map-next (λ (s : Submission). s.path) all s))));
     given = all-append (λ (s : Submission). (s.from.left ≡ a.paths.bytes s.path)
-        × LiesBelow (from_folder folders) s.path) all (s ∷ []) took.given
+        × LiesBelow folder s.path) all (s ∷ []) took.given
         ((given ∙ ap (λ (p : Paths). p.bytes s.path) took.opened, below), tt);
   }
 
-module _ {S : Type 0} (g : Ghosts S) (folders : Folders) where
-  -- what the answer left of what the work did
-  left-store : (x : Exchange S) (b : Point S) (o : Outcome) → IsAnswered g x b o →
-      ((b.store ≡ x.work.new.store) ⊎ Stays g x.work.new.store b.store)
-      × (b.paths ≡ x.work.new.paths) × (b.made ≡ x.work.new.made)
-  left-store x b (outcome.Told told is_doubtful) t =
-      (inr t.stays, ap (λ (p : Point S). p.paths) t.same, ap (λ (p : Point S). p.made) t.same)
-  left-store x b (outcome.Accepted name receipt start) (inl t) = (
-    elim t.asked [ inl same ↦ inl same | inr asked ↦ inr asked.1 ],
-    ap (λ (p : Point S). p.paths) t.same,
-    ap (λ (p : Point S). p.made) t.same,
-  )
-  left-store x b (outcome.Accepted name receipt start) (inr t) = (
-    inl (ap (λ (p : Point S). p.store) t.same),
-    ap (λ (p : Point S). p.paths) t.same,
-    ap (λ (p : Point S). p.made) t.same,
-  )
+module _ {S : Type 0} (g : Ghosts S) (folder : Option (List ℕ)) where
+  -- the answer left the store and the paths as the work did
+  answer-same : (x : Exchange S) (b : Point S) (o : Outcome) → IsAnswered g x b o →
+      (b.store ≡ x.work.new.store) × (b.paths ≡ x.work.new.paths)
+  answer-same x b (outcome.Told told is_stopped) t =
+      (ap (λ (p : Point S). p.store) t.same, ap (λ (p : Point S). p.paths) t.same)
+  answer-same x b (outcome.Accepted name receipt) (inl t) =
+      (ap (λ (p : Point S). p.store) t.same, ap (λ (p : Point S). p.paths) t.same)
+  answer-same x b (outcome.Accepted name receipt) (inr t) =
+      (ap (λ (p : Point S). p.store) t.same, ap (λ (p : Point S). p.paths) t.same)
 
   -- one exchange, by what any command does
   worked : (a : Point S) (x : Exchange S) (all : List Submission) →
-      Took g folders a x.work.old all → x.work.new.store.cap ≡ x.work.old.store.cap →
-      IsOrderly g folders x.work →
-      Took g folders a x.work.new (all ++ option_to_list x.work.submission)
-  worked a x all took cap is = elim is.took [
-    | inl none ↦ subst (λ (o : Option Submission).
-        Took g folders a x.work.new (all ++ option_to_list o)) (sym none.none)
-        (subst (Took g folders a x.work.new) (sym (append-nil all))
-        (took-none g folders a x.work.old x.work.new all took none.stays none.paths))
-    | inr one ↦ subst (λ (o : Option Submission).
-        Took g folders a x.work.new (all ++ option_to_list o)) (sym one.is_it)
-        (took-more g folders a x.work.old x.work.new all one.it took cap
-        (more-in_turn g a.store x.work.old.store x.work.new.store all one.it cap took.submitted
-        one.submitted) one.given one.below one.paths)
-  ]
-
-  -- nothing was made meanwhile
-  made-same : (a b c : Maker) (all : List (Exchange S)) → c ≡ b →
-      AreMadeBelow (to_folder folders) a all b → AreMadeBelow (to_folder folders) a all c
-  made-same a b c all same = subst (AreMadeBelow (to_folder folders) a all) (sym same)
-
-  cap-mid : (x : Exchange S) (point : Point S) (o : Outcome) → IsAnswered g x point o →
-      (cap : ℕ) → point.store.cap ≡ cap → x.work.new.store.cap ≡ cap
-  cap-mid x point o is cap same = elim (left-store x point o is).0 [
-    | inl e ↦ sym (ap (λ (s : StoreModel S). s.cap) e) ∙ same
-    | inr stays ↦ sym stays.cap ∙ same
-  ]
+      Took g folder a x.work.old all → x.work.new.store.cap ≡ x.work.old.store.cap →
+      IsOrderly g folder x.work →
+      Took g folder a x.work.new (all ++ option_to_list x.work.submission)
+  worked a x all took cap (inl none) = subst (λ (o : Option Submission).
+      Took g folder a x.work.new (all ++ option_to_list o)) (sym none.none)
+      (subst (Took g folder a x.work.new) (sym (append-nil all))
+      (took-none g folder a x.work.old x.work.new all took none.stays none.paths))
+  worked a x all took cap (inr one) = subst (λ (o : Option Submission).
+      Took g folder a x.work.new (all ++ option_to_list o)) (sym one.is_it)
+      (took-more g folder a x.work.old x.work.new all one.it took
+      (more-in_turn g a.store x.work.old.store x.work.new.store all one.it cap took.submitted
+      one.submitted) one.given one.below one.paths)
 
   -- the answers so far
   pub record SoFar (a b : Moment S) (count : ℕ) : Type 0 where
     pub all : List (Exchange S)
-    pub answered : AreExchanges g folders a all b
+    pub answered : AreExchanges g folder a all b
     pub counted : length all ≡ count
-    pub took : Took g folders a.at b.at (submissions all)
-    pub made : AreMadeBelow (to_folder folders) a.at.made all b.at.made
+    pub took : Took g folder a.at b.at (submissions all)
 
   module _ (a b c : Moment S) (count : ℕ) (so : SoFar a b count) where
-    took-next : (x : Exchange S) → IsExchange g folders b c x →
-        Took g folders a.at c.at (submissions (x ∷ so.all))
+    took-next : (x : Exchange S) → IsExchange g folder b c x →
+        Took g folder a.at c.at (submissions (x ∷ so.all))
     took-next x is =
         let w = x.work in
         let begins = ap (λ (p : Point S). p.store) is.served.begins in
-        let found = took-none g folders a.at b.at w.old (submissions so.all) so.took (inl begins)
+        let found = took-same g folder a.at b.at w.old (submissions so.all) so.took begins
         (ap (λ (p : Point S). p.paths) is.served.begins) in
-        let cap : w.new.store.cap ≡ w.old.store.cap = cap-mid x is.point w.outcome
-        is.served.answered w.old.store.cap
-        (is.served.cap ∙ sym (ap (λ (s : StoreModel S). s.cap) begins)) in
-        let left = left-store x is.point w.outcome is.served.answered in
+        let left = answer-same x is.point w.outcome is.served.answered in
+        let cap : w.new.store.cap ≡ w.old.store.cap =
+        sym (ap (λ (s : StoreModel S). s.cap) left.0)
+        ∙ (is.served.cap ∙ sym (ap (λ (s : StoreModel S). s.cap) begins)) in
         let all = submissions so.all ++ option_to_list w.submission in
         let did = worked a.at x (submissions so.all) found cap
-        (orderly g folders w x.asked is.served.worked) in
-        let told = took-none g folders a.at w.new is.point all did left.0 left.1 in
-        took-none g folders a.at is.point c.at all told
-        (inl (ap (λ (p : Point S). p.store) is.worst)) (ap (λ (p : Point S). p.paths) is.worst)
-
-    made-next : (x : Exchange S) → IsExchange g folders b c x →
-        AreMadeBelow (to_folder folders) a.at.made (x ∷ so.all) c.at.made
-    made-next x is = (
-      made-same a.at.made b.at.made x.work.old.made so.all
-          (ap (λ (p : Point S). p.made) is.served.begins) so.made,
-      (orderly g folders x.work x.asked is.served.worked).made,
-      ap (λ (p : Point S). p.made) is.worst
-          ∙ (left-store x is.point x.work.outcome is.served.answered).2,
-    )
+        (orderly g folder w x.asked is.served.worked) in
+        let told = took-same g folder a.at w.new is.point all did left.0 left.1 in
+        took-same g folder a.at is.point c.at all told
+        (ap (λ (p : Point S). p.store) is.worst) (ap (λ (p : Point S). p.paths) is.worst)
 
     -- the end of a session whose last answer or none came so
     whole : (d : Moment S) (why : End) (all : List (Exchange S)) →
         d ≡ record c { at = record c.at { worst = status_at why c.at.worst } } →
-        Took g folders a.at c.at (submissions all) →
-        AreMadeBelow (to_folder folders) a.at.made all c.at.made → IsSession g folders a d all why →
-        IsWholeSession g folders a d why
-    whole d why all status took made session =
+        Took g folder a.at c.at (submissions all) → IsSession g folder a d all why →
+        IsWholeSession g folder a d why
+    whole d why all status took session =
         let point = ap (λ (m : Moment S). m.at) status in
-        let now = took-none g folders a.at c.at d.at (submissions all) took
-        (inl (ap (λ (p : Point S). p.store) point)) (ap (λ (p : Point S). p.paths) point) in
+        let now = took-same g folder a.at c.at d.at (submissions all) took
+        (ap (λ (p : Point S). p.store) point) (ap (λ (p : Point S). p.paths) point) in
         record {
           all = all;
           session = session;
           submitted = now.submitted;
           opened = now.opened;
           given = now.given;
-          made = made-same a.at.made c.at.made d.at.made all (ap (λ (p : Point S). p.made) point)
-              made;
         }
 
     ends-with : (d : Moment S) (why : End) (x : Option (Exchange S)) →
-        IsStep g folders b c x (Some why) →
+        IsStep g folder b c x (Some why) →
         d ≡ record c { at = record c.at { worst = status_at why c.at.worst } } →
-        IsWholeSession g folders a d why
+        IsWholeSession g folder a d why
     ends-with d why (Some x) step status = whole d why (x ∷ so.all) status (took-next x step.0)
-        (made-next x step.0) (record {
+        (record {
           mid = b;
           before = so.all;
           answered = so.answered;
@@ -207,10 +175,8 @@ module _ {S : Type 0} (g : Ghosts S) (folders : Folders) where
           status = status;
         })
     ends-with d why None step status = whole d why so.all status
-        (took-none g folders a.at b.at c.at (submissions so.all) so.took
-        (inl (ap (λ (p : Point S). p.store) step.3)) (ap (λ (p : Point S). p.paths) step.3))
-        (made-same a.at.made b.at.made c.at.made so.all (ap (λ (p : Point S). p.made) step.3)
-        so.made) (record {
+        (took-same g folder a.at b.at c.at (submissions so.all) so.took
+        (ap (λ (p : Point S). p.store) step.3) (ap (λ (p : Point S). p.paths) step.3)) (record {
           mid = b;
           before = so.all;
           answered = so.answered;
@@ -220,38 +186,33 @@ module _ {S : Type 0} (g : Ghosts S) (folders : Folders) where
         })
 
     pub step-ends : (d : Moment S) (result : Option End) (why : End) → result ≡ Some why →
-        ((x : Option (Exchange S)) × IsStep g folders b c x result) →
+        ((x : Option (Exchange S)) × IsStep g folder b c x result) →
         d ≡ record c { at = record c.at { worst = status_at why c.at.worst } } →
-        IsWholeSession g folders a d why
+        IsWholeSession g folder a d why
     step-ends d result why e step status =
-        ends-with d why step.0 (subst (IsStep g folders b c step.0) e step.1) status
+        ends-with d why step.0 (subst (IsStep g folder b c step.0) e step.1) status
 
     -- it goes on
-    goes-on : (x : Option (Exchange S)) → IsStep g folders b c x None → SoFar a c (count + 1)
+    goes-on : (x : Option (Exchange S)) → IsStep g folder b c x None → SoFar a c (count + 1)
     goes-on (Some x) step = record {
       all = x ∷ so.all;
       answered = (b, so.answered, step);
       counted = omega (arith, so.counted);
       took = took-next x step.0;
-      made = made-next x step.0;
     }
     goes-on None step = absurd (let one = step.1 in cc)
 
     pub step-goes_on : (result : Option End) → result ≡ None →
-        ((x : Option (Exchange S)) × IsStep g folders b c x result) → SoFar a c (count + 1)
-    step-goes_on result e step = goes-on step.0 (subst (IsStep g folders b c step.0) e step.1)
+        ((x : Option (Exchange S)) × IsStep g folder b c x result) → SoFar a c (count + 1)
+    step-goes_on result e step = goes-on step.0 (subst (IsStep g folder b c step.0) e step.1)
 
-  -- as many lines as a session can have
-  pub is-full : (a b : Moment S) (count : ℕ) (so : SoFar a b count) →
+  -- as many lines as can be counted
+  pub all-counted : (a b : Moment S) (count : ℕ) (so : SoFar a b count) →
       count ≡ 18446744073709551615 →
-      IsWholeSession g folders a (record b {
-        at = record b.at {
-          worst = status_at end.Full
-              b.at.worst;
-        };
-      })
-      end.Full
-  is-full a b count so all = record {
+      IsWholeSession g folder a (record b {
+        at = record b.at { worst = status_at end.Stopped b.at.worst };
+      }) end.Stopped
+  all-counted a b count so all = record {
     all = so.all;
     session = record {
       mid = b;
@@ -264,7 +225,6 @@ module _ {S : Type 0} (g : Ghosts S) (folders : Folders) where
     submitted = so.took.submitted;
     opened = so.took.opened;
     given = so.took.given;
-    made = so.made;
   }
 
   -- no line yet
@@ -281,5 +241,4 @@ module _ {S : Type 0} (g : Ghosts S) (folders : Folders) where
       opened = nothing-opened a.at.paths;
       given = tt;
     };
-    made = refl;
   }

@@ -1,19 +1,17 @@
 -- Where names lead, and which files are opened.
-use Rattle.std.specs.Prelude.{◌≡◌, ◌≢◌, ◌⊎◌, ℕ, Bool, false, List, [], ◌∷◌, ◌++◌, Option, Some}
-use Rattle.std.specs.Prelude.{None, IfSome, option_map}
-use Rattle.edfserve_arguments.specs.Below.{IsBelow, IsPathOf}
-use Rattle.edf_serve.specs.declared.files.Folders.{Folders}
+use Rattle.std.specs.Prelude.{◌≡◌, ◌≢◌, ◌⊎◌, ℕ, Bool, false, ◌==◌, List, [], ◌∷◌, ◌++◌, Option, Some}
+use Rattle.std.specs.Prelude.{None, IfSome, option_map, codes, All}
+use Rattle.std.specs.List.{slice_split}
 
--- one more, where all of them are known
-abbrev pub and_one : {A : Type 0} → Option (List A) → A → Option (List A)
-and_one {A} all one = option_map (λ (xs : List A). xs ++ (one ∷ [])) all
+-- the parts of a name, which slashes separate
+abbrev pub parts_of : List ℕ → List (List ℕ)
+parts_of name = slice_split (λ b. b == 47) name
 
--- the folders below which files are opened and made, where there are any
-abbrev pub from_folder : Folders → Option (List ℕ)
-from_folder folders = option_map (λ f. f.now) folders.from
-
-abbrev pub to_folder : Folders → Option (List ℕ)
-to_folder folders = option_map (λ f. f.now) folders.to
+-- it has a byte at least, does not begin with a slash, and none of its parts is `..`
+pub record IsBelow (name : List ℕ) : Type 0 where
+  pub some : name ≢ []
+  pub relative : (rest : List ℕ) → name ≢ 47 ∷ rest
+  pub down : All (λ part. part ≢ codes "..") (parts_of name)
 
 -- where there is a folder, the path is that of a name that leads below it
 abbrev pub LiesBelow : Option (List ℕ) → List ℕ → Type 0
@@ -29,19 +27,16 @@ pub record Paths : Type 0 where
 
 -- after this one was opened too
 abbrev pub opens : Paths → List ℕ → Paths
-opens paths path = record paths { opened = and_one paths.opened path }
+opens paths path = record paths {
+  opened = option_map (λ (all : List (List ℕ)). all ++ (path ∷ [])) paths.opened;
+}
 
 -- Without a folder a name stands for itself. With one it stands for the path below it, if it leads
 -- below it and no part of it is a link; else for nothing. Where links are not known, it may be
 -- either.
 abbrev pub IsPlace : Paths → Option (List ℕ) → List ℕ → Option (List ℕ) → Type 0
 IsPlace paths None name path = path ≡ Some name
-IsPlace paths (Some folder) name (Some path) = IsPathOf (Some folder) name (Some path)
+IsPlace paths (Some folder) name (Some path) = (IsBelow name × (path ≡ folder ++ (47 ∷ name)))
     × IfSome (paths.links folder name) (λ b. b ≡ false)
-IsPlace paths (Some folder) name None = IsPathOf (Some folder) name None
+IsPlace paths (Some folder) name None = (IsBelow name → ⊥)
     ⊎ (paths.links folder name ≢ Some false)
-
--- how often a clock was asked, and what it told when it was asked last: an instant, or none
-pub record Clock : Type 0 where
-  pub asked : ℕ
-  pub told : Option ℕ

@@ -1,14 +1,10 @@
+pub mod Line
+pub mod Lines
 pub mod Client
 pub mod Files
-pub mod NewFile
 pub mod Work
 pub mod Taking
-pub mod Finding
-pub mod Picturing
-pub mod Exporting
-pub mod Running
-pub mod Overview
 pub mod Exchange
-pub mod Lines
 pub mod Session
+pub mod SessionRun
 pub mod Laws

@@ -1,10 +1,10 @@
 -- The lines of an input, which line feeds end.
-use Rattle.std.specs.Prelude.{◌≡◌, ℕ, ◌+◌, ◌<◌, ◌≤◌, Bool, true, cond, ◌==◌, List, [], ◌∷◌}
-use Rattle.std.specs.Prelude.{length, take, drop, Option, Some, IfSome, option_map}
+use Rattle.std.specs.Prelude.{◌≡◌, ℕ, ◌≤◌, cond, ◌==◌, List, [], ◌∷◌, length, take, Option, Some}
+use Rattle.std.specs.Prelude.{IfSome, option_map}
 use Rattle.std.specs.List.{slice_split}
 use Rattle.edf_fragment.specs.Failures.{one_more}
 use Rattle.edf_serve.specs.declared.lines.Next.{Next}
-use Rattle.edf_serve.specs.declared.lines.Next.TheVariants.{Line, Ended, Failed, Endless}
+use Rattle.edf_serve.specs.declared.lines.Next.TheVariants.{Line, Ended, Failed}
 
 -- all parts but the last, which is none where it is empty
 abbrev pub without_empty_last : List (List ℕ) → List (List ℕ)
@@ -27,25 +27,23 @@ abbrev pub whole_lines : List ℕ → List ℕ
 whole_lines [] = []
 whole_lines (byte ∷ bytes) = onto_lines byte (whole_lines bytes)
 
--- what is to come of an input: the bytes that are left, where they are known; whether they begin
--- inside a line that was given as too long; and how many reads failed so far. And the line that was
--- given last
+-- what is to come of an input: the bytes that are left, where they are known; how many reads failed
+-- so far; and the line that was given last
 pub record Coming : Type 0 where
   pub left : Option (List ℕ)
-  pub inside : Bool
   pub failed : ℕ
   pub line : List ℕ
 
 -- the lines that are to come
 abbrev pub lines_in : Coming → Option (List (List ℕ))
-lines_in c = option_map (λ bytes. drop (cond c.inside 1 0) (lines_of bytes)) c.left
+lines_in c = option_map lines_of c.left
 
 -- The first of the lines that were to come was given, and the others are still to come. Of one of
--- more than 65,536 bytes a front of one more is given.
+-- more than 65,536 bytes a front of one more is given, and what is still to come is not said.
 pub record GivesLine (before after : Coming) : Type 0 where
   pub first : IfSome (lines_in before) (λ lines. (whole : List ℕ) × (rest : List (List ℕ))
-      × (lines ≡ whole ∷ rest) × (after.line ≡ take 65537 whole) × (lines_in after ≡ Some rest))
-  pub inside : after.inside ≡ true → 65536 < length after.line
+      × (lines ≡ whole ∷ rest) × (after.line ≡ take 65537 whole)
+      × (length after.line ≤ 65536 → lines_in after ≡ Some rest))
   pub failed : after.failed ≡ before.failed
 
 -- none was given, and so many reads failed by then: all that was to come is still
@@ -53,13 +51,9 @@ pub record GivesNone (before after : Coming) (failures : ℕ) : Type 0 where
   pub same : IfSome (lines_in before) (λ lines. lines_in after ≡ Some lines)
   pub failed : after.failed ≡ failures
 
--- the next line came; or there was none; or a read failed; or a line that was given as too long did
--- not end, in as many reads as can be counted: each but the last gave bytes that were passed over
+-- the next line came; or there was none; or a read failed
 abbrev pub IsNext : Coming → Coming → Next → Type 0
 IsNext before after Line = GivesLine before after
 IsNext before after Ended = GivesNone before after before.failed
     × IfSome (lines_in before) (λ lines. lines ≡ [])
 IsNext before after Failed = GivesNone before after (one_more before.failed)
-IsNext before after Endless = GivesNone before after before.failed × (before.inside ≡ true)
-    × IfSome before.left (λ bytes. IfSome after.left (λ rest.
-    18446744073709551614 + length rest ≤ length bytes))

@@ -9,19 +9,19 @@ use Rattle.edf_intake.specs.Batch.{AreSubmittedAsList}
 use Rattle.edf_program.specs.Status.{worse}
 use Rattle.edf_program.specs.declared.status.Status.{Status}
 use Rattle.edf_program.specs.declared.status.Status.TheVariants.{Trouble}
-use Rattle.edf_serve.specs.Files.{from_folder, to_folder, LiesBelow}
+use Rattle.edf_serve.specs.Files.{LiesBelow}
 use Rattle.edf_serve.specs.Lines.{Coming, IsNext}
 use Rattle.edf_serve.specs.Exchange.{Exchange, IsServed}
-use Rattle.edf_serve.specs.NewFile.{Maker, MakesBelow}
 use Rattle.edf_serve.specs.Work.{Point, Submission}
 use Rattle.edf_serve.specs.declared.answering.End.{End}
 use Rattle.edf_serve.specs.declared.answering.End.TheVariants as end
-use Rattle.edf_serve.specs.declared.files.Folders.{Folders}
 use Rattle.edf_serve.specs.declared.lines.Next.TheVariants as next
 
--- the status of a session that ends so: trouble at every end but that of the input
+-- the status of a session that ends so: trouble, but at the end of the input, and at a line that
+-- was too long
 abbrev pub status_at : End → Status → Status
 status_at end.Ended worst = worst
+status_at end.TooLong worst = worst
 status_at other worst = Trouble
 
 -- what was submitted for lines, of which the last stands first, in their order
@@ -37,19 +37,10 @@ pub record AreSubmittedInTurn {S : Type 0} (g : Ghosts S) (old new : StoreModel 
   pub submitted : AreSubmittedAsList g old new (map (λ (s : Submission). s.from) all)
       (map (λ (s : Submission). s.to) all) (map (λ (s : Submission). s.answer) all)
 
--- what makes files, before and after lines of which the last stands first: the path of each lies
--- below the folder, where there is one, one file was begun for it at most, and none between lines
-abbrev pub AreMadeBelow : {S : Type 0} → Option (List ℕ) → Maker → List (Exchange S) → Maker →
-    Type 0
-AreMadeBelow folder old [] new = new ≡ old
-AreMadeBelow folder old (x ∷ before) new = AreMadeBelow folder old before x.work.old.made
-    × MakesBelow folder x.work.old.made x.work.new.made × (new ≡ x.work.new.made)
-
--- the input ended; or it could not be read, or a line of it does not end
+-- the input ended; or it could not be read
 abbrev pub EndsInput : Coming → Coming → End → Type 0
 EndsInput before after end.Ended = IsNext before after next.Ended
 EndsInput before after end.Unread = IsNext before after next.Failed
-EndsInput before after end.Full = IsNext before after next.Endless
 EndsInput before after other = ⊥
 
 -- a session between two lines, and what is to come of its input
@@ -57,12 +48,12 @@ pub record Moment (S : Type 0) : Type 0 where
   pub at : Point S
   pub coming : Coming
 
-module _ {S : Type 0} (g : Ghosts S) (folders : Folders) where
+module _ {S : Type 0} (g : Ghosts S) (folder : Option (List ℕ)) where
   -- one line was read, its command was done, and it was answered
   pub record IsExchange (a b : Moment S) (x : Exchange S) : Type 0 where
     pub came : IsNext a.coming b.coming next.Line × (x.line ≡ b.coming.line)
     pub point : Point S
-    pub served : IsServed g x point folders a.at
+    pub served : IsServed g x point folder a.at
     pub worst : b.at ≡ record point { worst = worse point.worst x.answered.status }
 
   -- a line is answered, after which the session goes on, or ends so; or no line came, and it ends
@@ -78,8 +69,9 @@ module _ {S : Type 0} (g : Ghosts S) (folders : Folders) where
       × IsStep mid b (Some x) None
 
   -- A whole session, and its lines with their answers, the last first. While the input gives a
-  -- line, the line is answered, up to where an answer did not go out, or the store was left or
-  -- lost, or as many were answered as can be counted. Every end but that of the input is trouble.
+  -- line, the line is answered, up to where an answer did not go out, the session was stopped, the
+  -- store was lost or a line was too long, or as many were answered as can be counted. Every end
+  -- but that of the input, and at a line that was too long, is trouble.
   pub record IsSession (a b : Moment S) (all : List (Exchange S)) (why : End) : Type 0 where
     pub mid : Moment S
     pub before : List (Exchange S)
@@ -87,13 +79,12 @@ module _ {S : Type 0} (g : Ghosts S) (folders : Folders) where
     pub last : Moment S
     pub ends : ((x : Option (Exchange S)) × IsStep mid last x (Some why)
         × (all ≡ option_to_list x ++ before))
-        ⊎ ((why ≡ end.Full) × (last ≡ mid) × (all ≡ before)
+        ⊎ ((why ≡ end.Stopped) × (last ≡ mid) × (all ≡ before)
         × (length before ≡ 18446744073709551615))
     pub status : b ≡ record last { at = record last.at { worst = status_at why last.at.worst } }
 
   -- The files of all lines were submitted as one list, and just those were opened, each with the
-  -- bytes of its path. For each line one file was begun at most, and ended. Where there are
-  -- folders, all paths lie below them.
+  -- bytes of its path. Where there is a folder, all paths lie below it.
   pub record IsWholeSession (a b : Moment S) (why : End) : Type 0 where
     pub all : List (Exchange S)
     pub session : IsSession a b all why
@@ -103,5 +94,4 @@ module _ {S : Type 0} (g : Ghosts S) (folders : Folders) where
           ++ map (λ (s : Submission). s.path) (submissions all)) a.at.paths.opened;
     }
     pub given : AllByRecursion (λ (s : Submission). (s.from.left ≡ a.at.paths.bytes s.path)
-        × LiesBelow (from_folder folders) s.path) (submissions all)
-    pub made : AreMadeBelow (to_folder folders) a.at.made all b.at.made
+        × LiesBelow folder s.path) (submissions all)

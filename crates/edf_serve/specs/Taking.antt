@@ -2,7 +2,6 @@
 use Rattle.std.specs.Prelude.{◌≡◌, ◌⊎◌, ◌↔◌, ℕ, true, List, [], ◌∷◌, ◌++◌, codes, Option, Some, None}
 use Rattle.std.specs.Prelude.{Ok, Err}
 use Rattle.sqlite_trees.specs.declared.store.Store.{Ghosts}
-use Rattle.edf_fragment.specs.Failures.{one_more}
 use Rattle.edf_intake.specs.Refusal.{Answer, IsStopped, refusal_number}
 use Rattle.edf_intake.specs.Submitted.{IsSubmitted, IsEnded}
 use Rattle.edf_command.specs.Lines.{refused_file_line, take_memory_line}
@@ -11,9 +10,8 @@ use Rattle.edf_program.specs.Output.{Growth, Gets, IsWritten, IsTextTold}
 use Rattle.edf_program.specs.Status.{status_of_number}
 use Rattle.edf_program.specs.declared.status.Status.{Status}
 use Rattle.edf_program.specs.declared.status.Status.TheVariants.{Refused, Trouble}
-use Rattle.edf_serve.specs.Files.{Paths, from_folder, opens, IsPlace}
+use Rattle.edf_serve.specs.Files.{Paths, opens, IsPlace}
 use Rattle.edf_serve.specs.Work.{Work, Submission, grown, OnlyWrites}
-use Rattle.edf_serve.specs.declared.files.Folders.{Folders}
 use Rattle.edf_serve.specs.declared.room.Outcome.{Outcome}
 use Rattle.edf_serve.specs.declared.room.Outcome.TheVariants as outcome
 
@@ -21,21 +19,21 @@ use Rattle.edf_serve.specs.declared.room.Outcome.TheVariants as outcome
 abbrev pub outside_line : List ℕ → List ℕ
 outside_line name = name ++ (codes " is outside of the folder" ++ (10 ∷ []))
 
--- a line says that the name stands for no path, or another that there is no memory for one
-abbrev pub HasNoPath : Paths → Option (List ℕ) → List ℕ → List ℕ → Growth → Status → Type 0
-HasNoPath paths folder name memory out status =
+-- a line says that the name stands for no path, or that there is no memory for one
+abbrev pub HasNoPath : Paths → Option (List ℕ) → List ℕ → Growth → Status → Type 0
+HasNoPath paths folder name out status =
     (IsPlace paths folder name None × IsWritten out (outside_line name) Refused status)
-    ⊎ IsWritten out memory Trouble status
+    ⊎ IsWritten out take_memory_line Trouble status
 
--- The answer: accepted, and nothing is written yet; or the line of a refusal. There is doubt just
--- where memory ran out or the store refused.
+-- The answer: accepted, and nothing is written yet; or the line of a refusal. The session is to end
+-- just where memory ran out or the store refused.
 abbrev pub IsAnswerSaid : Growth → List ℕ → Answer → Outcome → Type 0
-IsAnswerSaid out name (Ok receipt) (outcome.Accepted given told start) = (given.now ≡ name)
+IsAnswerSaid out name (Ok receipt) (outcome.Accepted given told) = (given.now ≡ name)
     × (told ≡ receipt) × Gets out []
-IsAnswerSaid out name (Err refusal) (outcome.Told status is_doubtful) = ((spell : ℕ → List ℕ) →
+IsAnswerSaid out name (Err refusal) (outcome.Told status is_stopped) = ((spell : ℕ → List ℕ) →
     IsSpelling spell → IsTextTold out (refused_file_line spell name refusal)
     (status_of_number (refusal_number refusal)) status)
-    × ((is_doubtful ≡ true) ↔ IsStopped (Err refusal))
+    × ((is_stopped ≡ true) ↔ IsStopped (Err refusal))
 IsAnswerSaid out name answer outcome = ⊥
 
 module _ {S : Type 0} (g : Ghosts S) (w : Work S) (name : List ℕ) where
@@ -54,14 +52,6 @@ module _ {S : Type 0} (g : Ghosts S) (w : Work S) (name : List ℕ) where
     }
 
   -- or there is no path, or no memory for it or its reader: a line says so, and that is all
-  abbrev pub IsTakenBelow : Folders → Type 0
-  IsTakenBelow folders =
-      ((path : List ℕ) × IsPlace w.old.paths (from_folder folders) name (Some path)
-      × SubmitsFile path)
-      ⊎ ((w.new.store ≡ w.old.store)
-      × OnlyWrites w (HasNoPath w.old.paths (from_folder folders) name take_memory_line))
-
--- the clock was asked once, and else this was done
-abbrev pub IsTakenNow : {S : Type 0} → Ghosts S → Work S → List ℕ → Folders → Type 0
-IsTakenNow g w name folders = (w.new.clock.asked ≡ one_more w.old.clock.asked)
-    × IsTakenBelow g (record w { old = record w.old { clock = w.new.clock } }) name folders
+  abbrev pub IsTaken : Option (List ℕ) → Type 0
+  IsTaken folder = ((path : List ℕ) × IsPlace w.old.paths folder name (Some path)
+      × SubmitsFile path) ⊎ OnlyWrites w (HasNoPath w.old.paths folder name)

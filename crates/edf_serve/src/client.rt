@@ -1,16 +1,13 @@
 //! Who is answered.
 
-ghost use Rattle.std.specs.Prelude.{◌≡◌, ◌⊎◌, ℕ, true, List, Option, None, ◌∷◌, [], ◌++◌, codes};
+ghost use Rattle.std.specs.Prelude.{◌≡◌, ◌⊎◌, ℕ, true, List, Option, ◌++◌};
 ghost use Rattle.std.specs.Prelude.{OnOk, OnErr};
 ghost use Rattle.std.specs.List.{flat_map};
 ghost use Rattle.edf_fragment.specs.Failures.{one_more};
 ghost use Rattle.edf_command.specs.Lines.{accepted_line};
 ghost use Rattle.edf_program.specs.Output.{IsPut, growth};
 ghost use Rattle.edf_program.specs.declared.status.Status.TheVariants.{Done};
-ghost use Rattle.edf_program.specs.Output.{IsWritten};
-ghost use Rattle.edf_serve.specs.Client.{Heard, GetsAnswer, HasAccepted, IsIdle, MayBeOfTwo};
-ghost use Rattle.edf_serve.specs.Client.{status_line};
-ghost use Rattle.edf_serve.specs.Files.{and_one};
+ghost use Rattle.edf_serve.specs.Client.{Heard, GetsAnswer, HasAccepted, IsIdle, status_line};
 
 use edf_fragment::Output;
 use edf_intake::Receipt;
@@ -48,18 +45,6 @@ pub trait Client {
         requires { IsIdle S.Store store.now ⊎ (status ≡ Status.Trouble) }
         ensures { GetsAnswer (heard self.old) (heard self.new)
             (lines.now ++ (why.now ++ status_line status)) result };
-
-    /// Warns that files of different people may have become one recording: the accepted file of
-    /// this name is of a patient without code and name, all of its data records are new, and
-    /// anywhere in its recording two data records, one after the other, begin more than 8 hours
-    /// apart (that its own are beside that pause is tested, and no clause says so). No transaction
-    /// of the store is open. What was answered is as it was.
-    fn warn<S: Alter>(&mut self, store: &Store<S>, name: &str, receipt: &Receipt)
-        requires idle { IsIdle S.Store store.now }
-        requires apart { MayBeOfTwo S.Store store.now receipt.now }
-        ensures { heard self.new ≡ record (heard self.old) {
-          warned = and_one (heard self.old).warned name.now;
-        } };
 }
 
 /// A writer that may keep what it got back until it is flushed.
@@ -79,34 +64,19 @@ pub trait Flush: Output {
         ensures done { OnOk result (Self.failures self.new ≡ Self.failures self.old) };
 }
 
-/// A client that reads what a writer sends out. Another writer gets the warnings.
+/// A client that reads what a writer sends out.
 #[derive(Drop)]
-pub struct Console<W, E> {
+pub struct Console<W> {
     pub(crate) out: W,
-    pub(crate) warnings: E,
 }
 
-impl<W: Flush, E: Output> Console<W, E> {
-    /// A client that reads what the first writer gets, and whose warnings the second gets.
-    pub fn new(out: W, warnings: E) -> Console<W, E>
-        ensures out { result.out ≡ out }
-        ensures warnings { result.warnings ≡ warnings }
+impl<W: Flush> Console<W> {
+    /// A client that reads what the writer sends out.
+    pub fn new(out: W) -> Console<W>
+        ensures { result.out ≡ out }
     {
-        Console { out, warnings }
+        Console { out }
     }
-}
-
-/// Writes a warning. It takes no memory.
-fn tell_warning<E: Output>(out: &mut E, name: &str) -> Status
-    ensures { IsWritten (growth E.Output out.old out.new) (name.now ++ (codes
-        " warned: files of different people may have become one recording" ++ (10 ∷ [])))
-        Status.Done result }
-{
-    let parts = [
-        name.as_bytes(),
-        b" warned: files of different people may have become one recording\n".as_slice(),
-    ];
-    tell_parts(out, &parts, Status::Done)
 }
 
 /// Writes the parts of an answer and flushes them. `false` where that failed.
@@ -124,12 +94,11 @@ fn send<W: Flush>(out: &mut W, parts: &[&[u8]]) -> bool
     }
 }
 
-impl<W: Flush, E: Output> Client for Console<W, E> {
+impl<W: Flush> Client for Console<W> {
     ghost heard = { λ client. record {
       contents = W.Output.contents client.out;
       sent = W.Flush.sent client.out;
       failed = W.Output.failures client.out;
-      warned = None;
     } };
 
     fn accept<S: Alter>(&mut self, _store: &Store<S>, name: &str, receipt: &Receipt) -> bool {
@@ -164,9 +133,5 @@ impl<W: Flush, E: Output> Client for Console<W, E> {
         let digits = buffer.format(status.code());
         let parts = [lines, why, b"status ".as_slice(), digits.as_bytes(), b"\n"];
         send(&mut self.out, &parts)
-    }
-
-    fn warn<S: Alter>(&mut self, _store: &Store<S>, name: &str, _receipt: &Receipt) {
-        let _ = tell_warning(&mut self.warnings, name);
     }
 }

@@ -1,14 +1,13 @@
 //! The lines of an input.
 
-ghost use Rattle.std.specs.Prelude.{◌≡◌, ◌≢◌, ◌++◌, ◌==◌, ◌≤◌, ◌<◌, ◌∷◌, ℕ, true, false};
-ghost use Rattle.std.specs.Prelude.{All, IfOk, IfSome, Some, None, List, length, position, take};
-ghost use Rattle.std.specs.Prelude.{slice_range, option_map};
+ghost use Rattle.std.specs.Prelude.{◌≡◌, ◌≢◌, ◌++◌, ◌==◌, ◌≤◌, ◌<◌, ℕ, IfOk, Some, None, List};
+ghost use Rattle.std.specs.Prelude.{length, position, take, slice_range, option_map};
 ghost use Rattle.std.specs.Io.KnownBytes.{Consumes, IsAtEnd};
 ghost use Rattle.edf_fragment.specs.Failures.{one_more};
-ghost use Rattle.edf_serve.specs.Lines.{Coming, IsNext, lines_in};
+ghost use Rattle.edf_serve.specs.Lines.{Coming, IsNext};
 
+use crate::line::LONGEST_LINE;
 use edf_fragment::Input;
-use edfserve_arguments::LONGEST_LINE;
 use std::alloc::{AllocError, Global};
 use std::marker::Model;
 
@@ -27,12 +26,11 @@ pub(crate) enum Next {
     Ended,
     /// A read failed.
     Failed,
-    /// A line that was given as too long goes on, for as many reads as can be counted.
-    Endless,
 }
 
 /// The lines of an input, each without its line feed. All bytes behind the last line feed are a
-/// line too. Of one that is longer than [`LONGEST_LINE`] a front is given, which is longer as well.
+/// line too. Of one that is longer than [`LONGEST_LINE`] a front is given, which is longer as well;
+/// what is given behind it is not said.
 ///
 /// Where a read fails no line is lost: what was read of it is kept.
 #[derive(Drop)]
@@ -44,8 +42,6 @@ pub struct Lines<R: Input> {
     line: usize,
     taken: usize,
     end: usize,
-    /// Whether they begin inside a line that was given as too long.
-    is_inside: bool,
 }
 
 impl<R: Input> Model for Lines<R> {
@@ -57,7 +53,6 @@ impl<R: Input> Model for Lines<R> {
     ghost view = { λ s. record {
       left = option_map (λ more. slice_range s.buffer.items s.taken s.end ++ more)
           (R.Input.remaining s.input);
-      inside = s.is_inside;
       failed = R.Input.failures s.input;
       line = take s.line s.buffer.items;
     } };
@@ -73,7 +68,6 @@ impl<R: Input + Drop> Lines<R> {
     /// Where memory ran out.
     pub fn new(alloc: Global, input: R) -> Result<Lines<R>, AllocError>
         ensures left { IfOk result (λ lines. lines.left ≡ R.remaining input) }
-        ensures inside { IfOk result (λ lines. lines.inside ≡ false) }
         ensures failed { IfOk result (λ lines. lines.failed ≡ R.failures input) }
     {
         Ok(Lines {
@@ -82,7 +76,6 @@ impl<R: Input + Drop> Lines<R> {
             line: 0,
             taken: 0,
             end: 0,
-            is_inside: false,
         })
     }
 }
@@ -95,35 +88,8 @@ impl<R: Input> Lines<R> {
         &self.buffer[..self.line]
     }
 
-    /// Goes behind the rest of a line that was given as too long. What comes then, where the rest
-    /// has no end.
-    fn leave_line(&mut self) -> Option<Next>
-        requires { self.old.inside ≡ true }
-        ensures kept { result ≡ None →
-            IfSome (lines_in self.old) (λ lines. lines_in self.new ≡ Some lines) }
-        ensures left { result ≡ None → self.new.inside ≡ false }
-        ensures next { IfSome result (λ next. IsNext self.old self.new next) }
-        ensures failed { result ≡ None → self.new.failed ≡ self.old.failed }
-    {
-        let end = to_front(&mut self.buffer, self.taken, self.end);
-        let (rest, taken, end) = skip(&mut self.input, &mut self.buffer, end);
-        self.line = 0;
-        self.taken = taken;
-        self.end = end;
-        match rest {
-            Rest::Over => {
-                self.is_inside = false;
-                None
-            }
-            Rest::Ended => Some(Next::Ended),
-            Rest::Failed => Some(Next::Failed),
-            Rest::Endless => Some(Next::Endless),
-        }
-    }
-
-    /// Finds the next line: the bytes that are still to be given begin with it.
-    fn find_line(&mut self) -> Next
-        requires { self.old.inside ≡ false }
+    /// Goes to the next line.
+    pub(crate) fn next(&mut self) -> Next
         ensures { IsNext self.old self.new result }
     {
         let end = to_front(&mut self.buffer, self.taken, self.end);
@@ -140,7 +106,6 @@ impl<R: Input> Lines<R> {
             Found::Feed { .. } | Found::Long => {
                 self.line = LONGEST_LINE + 1;
                 self.taken = LONGEST_LINE + 1;
-                self.is_inside = true;
                 Next::Line
             }
             Found::Ended if end == 0 => Next::Ended,
@@ -151,18 +116,6 @@ impl<R: Input> Lines<R> {
             }
             Found::Failed => Next::Failed,
         }
-    }
-
-    /// Goes to the next line.
-    pub(crate) fn next(&mut self) -> Next
-        ensures { IsNext self.old self.new result }
-    {
-        if self.is_inside
-            && let Some(next) = self.leave_line()
-        {
-            return next;
-        }
-        self.find_line()
     }
 }
 
@@ -232,55 +185,4 @@ fn gather<R: Input>(input: &mut R, buffer: &mut [u8], end: usize) -> (Found, usi
         Some(at) => (Found::Feed { at }, to),
         None => (Found::Long, to),
     }
-}
-
-/// How the rest of a line that was given as too long goes on.
-#[derive(Clone, Copy)]
-enum Rest {
-    /// It ended with a line feed.
-    Over,
-    /// The input ended.
-    Ended,
-    /// A read failed.
-    Failed,
-    /// It did not end.
-    Endless,
-}
-
-/// Passes over the first `end` bytes, and those that come, up to the first line feed; from where to
-/// where there are bytes then.
-fn skip<R: Input>(input: &mut R, buffer: &mut [u8], end: usize) -> (Rest, usize, usize)
-    requires end { end ≤ length buffer.old }
-    requires room { length buffer.old ≡ ROOM }
-    ensures bounds { (result.1 ≤ result.2) × (result.2 ≤ length buffer.new)
-        × (length buffer.new ≡ ROOM) }
-    ensures over { result.0 ≡ Rest.Over → IfSome (R.remaining input.old) (λ more.
-        (front : List ℕ) × (rest : List ℕ)
-        × (take end buffer.old ++ more ≡ front ++ (10 ∷ rest))
-        × All (λ b. (b == 10) ≡ false) front
-        × (option_map (λ bytes. slice_range buffer.new result.1 result.2 ++ bytes)
-        (R.remaining input.new) ≡ Some rest)) }
-    ensures passed { result.0 ≢ Rest.Over → IfSome (R.remaining input.old) (λ more.
-        (front : List ℕ) × (rest : List ℕ) × (take end buffer.old ++ more ≡ front ++ rest)
-        × All (λ b. (b == 10) ≡ false) front
-        × (option_map (λ bytes. slice_range buffer.new result.1 result.2 ++ bytes)
-        (R.remaining input.new) ≡ Some rest)
-        × (result.0 ≡ Rest.Endless → 18446744073709551614 ≤ length front)) }
-    ensures ended { result.0 ≡ Rest.Ended → (result.1 ≡ result.2) × IsAtEnd (R.remaining input.new) }
-    ensures failed { result.0 ≡ Rest.Failed →
-        R.failures input.new ≡ one_more (R.failures input.old) }
-    ensures unfailed { result.0 ≢ Rest.Failed → R.failures input.new ≡ R.failures input.old }
-{
-    let mut to = end;
-    for _ in 0..u64::MAX {
-        if let Some(at) = line_feed(&buffer[..to]) {
-            return (Rest::Over, at + 1, to);
-        }
-        match input.read(buffer) {
-            Ok(0) => return (Rest::Ended, 0, 0),
-            Ok(count) => to = count,
-            Err(_) => return (Rest::Failed, 0, 0),
-        }
-    }
-    (Rest::Endless, 0, to)
 }

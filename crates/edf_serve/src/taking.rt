@@ -1,31 +1,29 @@
 //! `take NAME`: a file, submitted.
 
-ghost use Rattle.std.specs.Prelude.{◌≡◌, ◌⊎◌, ◌↔◌, ℕ, true, List, Option, Err};
+ghost use Rattle.std.specs.Prelude.{◌≡◌, ◌⊎◌, ◌↔◌, ℕ, true, List, Option, Err, option_map};
 ghost use Rattle.edf_command.specs.Lines.{refused_file_line, take_memory_line};
 ghost use Rattle.edf_intake.specs.Refusal.{IsStopped, refusal_number};
 ghost use Rattle.edf_program.specs.Output.{growth, IsWritten, IsTextTold};
 ghost use Rattle.edf_program.specs.Status.{status_of_number};
 ghost use Rattle.edf_program.specs.Text.{IsSpelling};
-ghost use Rattle.edf_serve.specs.Taking.{SubmitsFile, IsTakenBelow, IsTakenNow, outside_line};
-ghost use Rattle.edf_serve.specs.Work.{Submission, Work, OnlyWrites, point};
+ghost use Rattle.edf_serve.specs.Taking.{SubmitsFile, IsTaken, outside_line};
+ghost use Rattle.edf_serve.specs.Work.{OnlyWrites, Submission, Work, point};
 
 use crate::client::Client;
-use crate::files::{Folders, Sources};
-use crate::fronted::Fronted;
+use crate::files::Sources;
 use crate::places::place_of;
 use crate::room::{Outcome, Room};
 use crate::standing::StoreFiles;
 use edf_command::refused_file_line;
 use edf_fragment::Output;
 use edf_intake::{Refusal, submit};
-use edf_new_files::NewFiles;
 use edf_program::{Status, status_of_number, tell, tell_memory, tell_parts};
 use edf_store::Store;
 use sqlite::Alter;
 use std::alloc::Global;
 
 /// Prints that a name does not lead below the folder. Printing takes no memory.
-pub(crate) fn tell_outside<O: Output>(out: &mut O, name: &str) -> Status
+fn tell_outside<O: Output>(out: &mut O, name: &str) -> Status
     ensures { IsWritten (growth O.Output out.old out.new) (outside_line name.now) Status.Refused
         result }
 {
@@ -52,98 +50,57 @@ fn is_stopped(refusal: &Refusal) -> bool
 }
 
 /// Submits the file of a path, and writes its line where it is refused.
-fn submit_file<'l, S: Alter, I: Sources, P: NewFiles, C: Client, K: StoreFiles>(
+fn submit_file<'l, S: Alter, I: Sources, C: Client, K: StoreFiles>(
     alloc: Global,
     name: &'l str,
     path: &str,
     store: &mut Store<S>,
-    room: &mut Room<I, P, C, K>,
+    room: &mut Room<I, C, K>,
 ) -> Outcome<'l>
     ensures taken { (submission : Option Submission) × (let w : Work S = (record {
-      old = point I.Sources P.NewFiles C.Client K.StoreFiles store.old room.old;
-      new = point I.Sources P.NewFiles C.Client K.StoreFiles store.new room.new;
+      old = point I.Sources C.Client K.StoreFiles store.old room.old;
+      new = point I.Sources C.Client K.StoreFiles store.new room.new;
       submission = submission;
       outcome = result;
     }) in
         SubmitsFile S.Store w name.now path.now
-        ⊎ ((w.new.store ≡ w.old.store) × OnlyWrites w
-        (λ out status. IsWritten out take_memory_line Status.Trouble status))) }
+        ⊎ OnlyWrites w (λ out status. IsWritten out take_memory_line Status.Trouble status)) }
     ensures cap { store.new.cap ≡ store.old.cap }
 {
     match room.sources.open(alloc, path) {
-        Ok(reader) => {
-            let mut fronted = Fronted::new(alloc, reader);
-            match submit(alloc, store, &mut fronted) {
-                Ok(receipt) => Outcome::Accepted {
-                    name,
-                    receipt,
-                    start: fronted.start(),
-                },
-                Err(refusal) => {
-                    let is_doubtful = is_stopped(&refusal);
-                    let status = tell_refusal(alloc, name, refusal, &mut room.out);
-                    Outcome::Told {
-                        status,
-                        is_doubtful,
-                    }
-                }
+        Ok(mut reader) => match submit(alloc, store, &mut reader) {
+            Ok(receipt) => Outcome::Accepted { name, receipt },
+            Err(refusal) => {
+                let is_stopped = is_stopped(&refusal);
+                let status = tell_refusal(alloc, name, refusal, &mut room.out);
+                Outcome::Told { status, is_stopped }
             }
-        }
-        Err(_) => Outcome::Told {
-            status: tell_memory(&mut room.out, "take"),
-            is_doubtful: false,
         },
+        Err(_) => Outcome::went(tell_memory(&mut room.out, "take")),
     }
 }
 
 /// Submits the file of that name below the folder, where there is one, and writes its line where it
 /// is refused.
-fn take<'l, S: Alter, I: Sources, P: NewFiles, C: Client, K: StoreFiles>(
+pub(crate) fn take<'l, S: Alter, I: Sources, C: Client, K: StoreFiles>(
     alloc: Global,
     name: &'l str,
-    folders: Folders<'_>,
+    folder: Option<&str>,
     store: &mut Store<S>,
-    room: &mut Room<I, P, C, K>,
+    room: &mut Room<I, C, K>,
 ) -> Outcome<'l>
-    ensures taken { (submission : Option Submission) × IsTakenBelow S.Store
+    ensures taken { (submission : Option Submission) × IsTaken S.Store
         (record {
-          old = point I.Sources P.NewFiles C.Client K.StoreFiles store.old room.old;
-          new = point I.Sources P.NewFiles C.Client K.StoreFiles store.new room.new;
+          old = point I.Sources C.Client K.StoreFiles store.old room.old;
+          new = point I.Sources C.Client K.StoreFiles store.new room.new;
           submission = submission;
           outcome = result;
-        }) name.now folders.entry }
+        }) name.now (option_map (λ f. f.now) folder.entry) }
     ensures cap { store.new.cap ≡ store.old.cap }
 {
-    match place_of(alloc, folders.from, name, &room.sources) {
+    match place_of(alloc, folder, name, &room.sources) {
         Ok(Some(path)) => submit_file(alloc, name, path.as_str(), store, room),
-        Ok(None) => Outcome::Told {
-            status: tell_outside(&mut room.out, name),
-            is_doubtful: false,
-        },
-        Err(_) => Outcome::Told {
-            status: tell_memory(&mut room.out, "take"),
-            is_doubtful: false,
-        },
+        Ok(None) => Outcome::went(tell_outside(&mut room.out, name)),
+        Err(_) => Outcome::went(tell_memory(&mut room.out, "take")),
     }
-}
-
-/// Asks the clock, and does so.
-pub(crate) fn take_now<'l, S: Alter, I: Sources, P: NewFiles, C: Client, K: StoreFiles>(
-    alloc: Global,
-    name: &'l str,
-    folders: Folders<'_>,
-    store: &mut Store<S>,
-    room: &mut Room<I, P, C, K>,
-) -> Outcome<'l>
-    ensures taken { (submission : Option Submission) × IsTakenNow S.Store
-        (record {
-          old = point I.Sources P.NewFiles C.Client K.StoreFiles store.old room.old;
-          new = point I.Sources P.NewFiles C.Client K.StoreFiles store.new room.new;
-          submission = submission;
-          outcome = result;
-        }) name.now folders.entry }
-    ensures cap { store.new.cap ≡ store.old.cap }
-{
-    room.sources.ask_clock();
-    take(alloc, name, folders, store, room)
 }

@@ -5,7 +5,6 @@
 //!   [`words`], [`refuse_words`]: the words after a program's name.
 //! - [`Files`]: what opens files and standard input; [`FileReader`]: its readers.
 //! - [`PartFiles`]: what makes files, of which none is written over; [`NewFile`]: its writers.
-//!   [`Barred`]: names that no file gets; [`NoneBarred`]: no such name.
 //! - [`Streams`]: standard output and standard error.
 //! - [`Terminal`]: progress and messages, where standard error is a terminal; [`Clearing`]: a
 //!   stream beside it, below whose lines it explains what they tell. [`Mending`]: what its program
@@ -26,7 +25,7 @@ mod terminal;
 pub use cause::{FULL, tell_system_error};
 pub use clearing::Clearing;
 pub use files::{FileReader, Files};
-pub use new_files::{Barred, NoneBarred, PartFiles};
+pub use new_files::PartFiles;
 pub use parts::NewFile;
 pub use program::{Program, run_program, run_words};
 pub use streams::{Streams, refuse_words, words};

@@ -8,39 +8,21 @@ use edf_new_files::{FileStage, MadeFiles, NewFiles, Unfinished};
 use std::alloc::Global;
 use std::io::{self, ErrorKind};
 
-/// Names that no file gets, as if there were something of them.
-pub trait Barred {
-    /// Whether a name is one.
-    fn is_barred(&self, name: &str) -> bool;
-}
-
-/// No such name.
-#[derive(Drop)]
-pub struct NoneBarred;
-
-impl Barred for NoneBarred {
-    fn is_barred(&self, _name: &str) -> bool {
-        false
-    }
-}
-
 /// Makes new files, and prints why that failed. Each is written as `NAME.part`, and gets its name
 /// once it is whole and on the disk.
 #[derive(Drop)]
-pub struct PartFiles<'rt, B> {
+pub struct PartFiles<'rt> {
     system: Parts<'rt>,
-    barred: B,
     made: MadeFiles,
     /// The other name of each of the files, while it has that.
     parts: Vec<Option<String>>,
 }
 
-impl<'rt, B: Barred> PartFiles<'rt, B> {
+impl<'rt> PartFiles<'rt> {
     /// No file yet.
-    pub fn new(rt: &'rt HostRuntime, terminal: &'rt Terminal<'rt>, barred: B) -> PartFiles<'rt, B> {
+    pub fn new(rt: &'rt HostRuntime, terminal: &'rt Terminal<'rt>) -> PartFiles<'rt> {
         PartFiles {
             system: Parts::new(rt, terminal),
-            barred,
             made: MadeFiles::new(rt.alloc()),
             parts: Vec::new(rt.alloc()),
         }
@@ -51,9 +33,6 @@ impl<'rt, B: Barred> PartFiles<'rt, B> {
         ensures unfailed { IfOk result (λ file. file.failures ≡ 0) }
         ensures made { self.new.made ≡ self.old.made }
     {
-        if self.barred.is_barred(name) {
-            return Err(io::Error::from(ErrorKind::AlreadyExists));
-        }
         let part = format!(in alloc; "{name}.part")?;
         let kept = String::from_str(alloc, part.as_str())?;
         let name = String::from_str(alloc, name)?;
@@ -85,7 +64,7 @@ impl<'rt, B: Barred> PartFiles<'rt, B> {
     }
 }
 
-impl<'rt, B: Barred> NewFiles for PartFiles<'rt, B> {
+impl<'rt> NewFiles for PartFiles<'rt> {
     type Writer = NewFile<'rt>;
 
     ghost known = { λ _. false };
@@ -99,7 +78,7 @@ impl<'rt, B: Barred> NewFiles for PartFiles<'rt, B> {
     ghost failed = { λ files. files.made.failed };
 
     fn is_there(&mut self, name: &str) -> bool {
-        self.system.is_there(name) || self.barred.is_barred(name)
+        self.system.is_there(name)
     }
 
     fn create(&mut self, alloc: Global, name: &str) -> io::Result<NewFile<'rt>> {

@@ -4,7 +4,7 @@
 
 use edf_fragment::Output;
 use edf_program::Status;
-use edf_system::{Files, Mending, NoneBarred, PartFiles, Program, Streams, Terminal, run_program};
+use edf_system::{Files, Mending, PartFiles, Program, Streams, Terminal, run_program};
 use edfmend_command::{MendCommand, read_command, run_mend};
 use std::alloc::Global;
 use std::process::ExitCode;
@@ -34,7 +34,7 @@ fn run_over(
     rt: &HostRuntime,
     command: &MendCommand,
     inputs: &mut Files<'_>,
-    maker: &mut PartFiles<'_, NoneBarred>,
+    maker: &mut PartFiles<'_>,
     streams: &mut Streams<'_>,
 ) -> Status {
     run_mend(
@@ -66,7 +66,7 @@ impl Program for Edfmend {
         let terminal = Terminal::of_mender(rt, "reading", READINGS, mending_of(command));
         let mut streams = Streams::new(rt, &terminal);
         let mut inputs = Files::new(rt, &terminal);
-        let mut maker = PartFiles::new(rt, &terminal, NoneBarred);
+        let mut maker = PartFiles::new(rt, &terminal);
         let status = run_over(rt, command, &mut inputs, &mut maker, &mut streams);
         terminal.wipe_progress();
         if status == Status::Done && !terminal.is_output_begun() {

@@ -5,7 +5,7 @@
 
 use edf_fragment::Output;
 use edf_program::Status;
-use edf_system::{Files, NoneBarred, PartFiles, Program, Streams, Terminal, run_program};
+use edf_system::{Files, PartFiles, Program, Streams, Terminal, run_program};
 use edfruns_command::{RunsCommand, read_command, run_runs};
 use std::alloc::Global;
 use std::process::ExitCode;
@@ -15,7 +15,7 @@ fn run_over(
     rt: &HostRuntime,
     command: &RunsCommand,
     inputs: &mut Files<'_>,
-    outputs: &mut PartFiles<'_, NoneBarred>,
+    outputs: &mut PartFiles<'_>,
     streams: &mut Streams<'_>,
 ) -> Status {
     run_runs(
@@ -47,7 +47,7 @@ impl Program for Edfruns {
         let terminal = Terminal::new(rt, "reading", command.readings());
         let mut streams = Streams::new(rt, &terminal);
         let mut inputs = Files::new(rt, &terminal);
-        let mut outputs = PartFiles::new(rt, &terminal, NoneBarred);
+        let mut outputs = PartFiles::new(rt, &terminal);
         let status = run_over(rt, command, &mut inputs, &mut outputs, &mut streams);
         terminal.wipe_progress();
         status

@@ -11,17 +11,12 @@ use edf_system::Terminal;
 use edfstore_host::{Refused, Standing, tell_cause, tell_failure_of, tell_lost};
 use sqlite_std_file::File;
 
-/// What is said where a store is opened again.
-const OPENED_ANEW: &str = "opened anew, since a call that it refused left it in a transaction";
-
-/// Tells how the openings of a store went, and its close.
+/// Tells how the opening of a store went, and its close.
 #[derive(Drop)]
 pub(crate) struct Journal<'s> {
     rt: &'s HostRuntime,
     terminal: Terminal<'s>,
     standing: &'s Standing<'s>,
-    /// Whether the store was opened before.
-    was_opened: bool,
     refused: Option<Refused>,
 }
 
@@ -31,14 +26,13 @@ impl<'s> Journal<'s> {
             rt,
             terminal: Terminal::journal(rt),
             standing,
-            was_opened: false,
             refused: None,
         }
     }
 
-    /// Tells why the store was refused.
+    /// Tells why the store was refused, if it was.
     pub(crate) fn tell_refusal(&self) {
-        if self.standing.is_lost() || (self.was_opened && !self.standing.has_stood()) {
+        if self.standing.is_lost() {
             return tell_lost(&self.terminal, self.standing.path());
         }
         if let Some(refused) = &self.refused {
@@ -46,9 +40,20 @@ impl<'s> Journal<'s> {
         }
     }
 
+    /// Tells how a session ended whose files were opened, and its status.
+    pub(crate) fn tell_ended<F: Output>(&self, session: &EndedRun<File>, err: &mut F) -> Status
+        ensures { (result ≡ session.now.status) ⊎ (result ≡ Trouble) }
+    {
+        if self.refused.is_none() {
+            return self.tell_close(session, err);
+        }
+        self.tell_refusal();
+        session.status
+    }
+
     /// Tells why the store was not closed, if it was not; and how the session ends: with trouble,
     /// where its files were lost.
-    pub(crate) fn tell_close<F: Output>(&self, session: &EndedRun<File>, err: &mut F) -> Status
+    fn tell_close<F: Output>(&self, session: &EndedRun<File>, err: &mut F) -> Status
         ensures { (result ≡ session.now.status) ⊎ (result ≡ Trouble) }
     {
         if !self.standing.has_stood() {
@@ -68,13 +73,7 @@ impl<'s> Journal<'s> {
 impl Watch for Journal<'_> {
     ghost noticed = { λ _. None };
 
-    fn opened<O: Output>(&mut self, _out: &O) {
-        if self.was_opened {
-            self.terminal.say(self.standing.path(), OPENED_ANEW);
-            self.standing.keep_log();
-        }
-        self.was_opened = true;
-    }
+    fn opened<O: Output>(&mut self, _out: &O) {}
 
     fn refused(&mut self, fault: &StoreFault, has_our_tables: bool) {
         self.refused = Some(Refused {

@@ -1,10 +1,9 @@
-//! Whether the files of the store stand, how often that was asked, and which names are theirs.
+//! Whether the files of the store stand, and how often that was asked.
 
 use edf_fragment::one_more;
 use edf_intake::Receipt;
 use edf_serve::StoreFiles;
 use edf_store::Store;
-use edf_system::Barred;
 use edfstore_host::Standing;
 use sqlite::Alter;
 
@@ -37,23 +36,5 @@ impl StoreFiles for Keeper<'_> {
             self.lost = one_more(self.lost);
             false
         }
-    }
-}
-
-/// The names beside the store that SQLite has for files of its own.
-#[derive(Drop)]
-pub(crate) struct NamesBeside<'rt> {
-    standing: &'rt Standing<'rt>,
-}
-
-impl<'rt> NamesBeside<'rt> {
-    pub(crate) fn new(standing: &'rt Standing<'rt>) -> NamesBeside<'rt> {
-        NamesBeside { standing }
-    }
-}
-
-impl Barred for NamesBeside<'_> {
-    fn is_barred(&self, name: &str) -> bool {
-        self.standing.is_beside(name)
     }
 }

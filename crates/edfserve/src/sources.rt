@@ -2,12 +2,10 @@
 
 ghost use Rattle.std.specs.Prelude.{None};
 
-use crate::clock::SystemClock;
 use edf_fragment::Counted;
 use edf_program::Inputs;
 use edf_serve::Sources;
 use edf_system::{FileReader, Files, Terminal};
-use edf_time::Instant;
 use edfstore_host::Standing;
 use std::alloc::{AllocError, Global};
 use std::fs;
@@ -22,7 +20,6 @@ pub(crate) struct SystemFiles<'rt> {
     rt: &'rt HostRuntime,
     terminal: &'rt Terminal<'rt>,
     standing: &'rt Standing<'rt>,
-    clock: SystemClock,
 }
 
 impl<'rt> SystemFiles<'rt> {
@@ -35,7 +32,6 @@ impl<'rt> SystemFiles<'rt> {
             rt,
             terminal,
             standing,
-            clock: SystemClock::new(),
         }
     }
 }
@@ -71,16 +67,6 @@ impl<'rt> Sources for SystemFiles<'rt> {
       links = λ _ _. None;
       opened = None;
     } };
-
-    ghost clock = { λ files. record { asked = files.clock.asked; told = files.clock.told } };
-
-    fn ask_clock(&mut self) {
-        self.clock.ask(self.rt);
-    }
-
-    fn heard(&self) -> Option<Instant> {
-        self.clock.told()
-    }
 
     fn has_link(&self, folder: &str, name: &str) -> bool {
         match format!(in self.rt.alloc(); "{folder}/{name}") {

@@ -8,10 +8,6 @@ use std::fs::{self, Metadata};
 use std::io::{self, ErrorKind};
 use std::os::unix::fs::MetadataExt;
 
-/// What SQLite's files beside a store's have behind its name: the log, a journal, which the store's
-/// next opening would want played back, and the index of the log.
-const BESIDE: [&str; 3] = ["-wal", "-journal", "-shm"];
-
 const CANNOT_OPEN: Error = Error::SqliteFailure(ErrorCode::CannotOpen);
 
 const NO_MEMORY: Error = Error::SqliteFailure(ErrorCode::OutOfMemory);
@@ -50,15 +46,6 @@ fn regular(found: io::Result<Metadata>) -> Option<Found> {
     })
 }
 
-/// The folder and the name that a path has.
-fn parts_of(path: &str) -> (&str, &str) {
-    match path.rsplit_once('/') {
-        Some(("", name)) => ("/", name),
-        Some((folder, name)) => (folder, name),
-        None => (".", path),
-    }
-}
-
 /// Where a path leads: itself, where it is no link.
 fn end_of(rt: &HostRuntime, path: &str) -> io::Result<String> {
     if fs::symlink_metadata(rt, path)?.is_symlink() {
@@ -71,8 +58,7 @@ fn end_of(rt: &HostRuntime, path: &str) -> io::Result<String> {
 /// The two files of a store that is open.
 #[derive(Drop)]
 struct Held {
-    /// The path of the database file, where that of the store leads, and that of its log.
-    path: String,
+    /// The path of the log, beside the database file, where the path of the store leads.
     log_path: String,
     db: Node,
     log: Node,
@@ -96,7 +82,6 @@ impl Held {
             return Ok(None);
         };
         Ok(Some(Held {
-            path,
             log_path,
             db: db.node,
             log: log.node,
@@ -104,50 +89,20 @@ impl Held {
         }))
     }
 
-    /// How many bytes the log has, where a path still stands for both files.
-    fn log_bytes_at(&self, rt: &HostRuntime, path: &str) -> Option<u64> {
-        let db = regular(fs::metadata(rt, path))?;
-        let log = regular(fs::symlink_metadata(rt, self.log_path.as_str()))?;
-        if db.node == self.db && log.node == self.log {
-            Some(log.bytes)
-        } else {
-            None
-        }
-    }
-
     /// Whether a path still stands for them, and nothing is cut off the log.
     fn stand(&mut self, rt: &HostRuntime, path: &str) -> bool {
-        let Some(bytes) = self.log_bytes_at(rt, path) else {
+        let Some(db) = regular(fs::metadata(rt, path)) else {
             return false;
         };
-        let is_whole = bytes >= self.log_bytes;
-        self.log_bytes = bytes;
+        let Some(log) = regular(fs::symlink_metadata(rt, self.log_path.as_str())) else {
+            return false;
+        };
+        if db.node != self.db || log.node != self.log {
+            return false;
+        }
+        let is_whole = log.bytes >= self.log_bytes;
+        self.log_bytes = log.bytes;
         is_whole
-    }
-
-    /// Keeps how long the log is now. Whether a path still stands for them.
-    fn keep_log(&mut self, rt: &HostRuntime, path: &str) -> bool {
-        let Some(bytes) = self.log_bytes_at(rt, path) else {
-            return false;
-        };
-        self.log_bytes = bytes;
-        true
-    }
-
-    /// Whether a path is that of a file that SQLite has beside them.
-    fn has_beside(&self, rt: &HostRuntime, path: &str) -> bool {
-        let (own_folder, own_name) = parts_of(self.path.as_str());
-        let (folder, name) = parts_of(path);
-        let Some(rest) = name.strip_prefix(own_name) else {
-            return false;
-        };
-        if !BESIDE.contains(&rest) {
-            return false;
-        }
-        match (fs::metadata(rt, folder), fs::metadata(rt, own_folder)) {
-            (Ok(found), Ok(own)) => node_of(&found) == node_of(&own),
-            _ => false,
-        }
     }
 }
 
@@ -221,21 +176,6 @@ impl<'p> Standing<'p> {
         }
     }
 
-    /// Keeps how long the log is, where the same files were opened anew, which may have cut it.
-    /// Where the path does not stand for them, that is found lost.
-    pub fn keep_log(&self) {
-        let is_kept = match self.held.try_borrow_mut() {
-            Ok(mut held) => match held.as_mut() {
-                Some(held) => held.keep_log(self.rt, self.path),
-                None => false,
-            },
-            Err(_) => false,
-        };
-        if !is_kept {
-            self.is_lost.set(true);
-        }
-    }
-
     /// Whether the path stands for the files that are open, and did so whenever this was asked.
     pub fn stands(&self) -> bool {
         let stands = match self.held.try_borrow_mut() {
@@ -271,17 +211,5 @@ impl<'p> Standing<'p> {
     /// Whether it was ever found that the path does not stand for the files.
     pub fn is_lost(&self) -> bool {
         self.is_lost.get()
-    }
-
-    /// Whether a path is that of a file that SQLite has beside the files that are open: its log, a
-    /// journal or an index. A file that is made there shuts the store, or is written over.
-    pub fn is_beside(&self, path: &str) -> bool {
-        match self.held.try_borrow() {
-            Ok(held) => match held.as_ref() {
-                Some(held) => held.has_beside(self.rt, path),
-                None => false,
-            },
-            Err(_) => true,
-        }
     }
 }

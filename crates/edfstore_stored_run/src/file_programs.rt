@@ -3,14 +3,14 @@
 use crate::{Outcome, print_out, print_outcome, words_of};
 use edf_fragment::Counted;
 use edf_sample::Sink;
-use edf_system::{Files, NoneBarred, PartFiles, Terminal};
+use edf_system::{Files, PartFiles, Terminal};
 use std::{fs, io};
 
 /// Does what words ask `edfruns` for.
 fn outcome_of_runs(rt: &HostRuntime, words: &[String]) -> Outcome {
     let terminal = Terminal::new(rt, "file", 0);
     let mut inputs = Files::new(rt, &terminal);
-    let mut folder = PartFiles::new(rt, &terminal, NoneBarred);
+    let mut folder = PartFiles::new(rt, &terminal);
     let mut out_bytes = Vec::new(rt.alloc());
     let mut err_bytes = Vec::new(rt.alloc());
     let mut out = Counted::new(Sink::whole(&mut out_bytes, 1_000));
@@ -38,7 +38,7 @@ fn outcome_of_runs(rt: &HostRuntime, words: &[String]) -> Outcome {
 fn outcome_of_mend(rt: &HostRuntime, words: &[String]) -> Outcome {
     let terminal = Terminal::new(rt, "file", 0);
     let mut inputs = Files::new(rt, &terminal);
-    let mut folder = PartFiles::new(rt, &terminal, NoneBarred);
+    let mut folder = PartFiles::new(rt, &terminal);
     let mut out_bytes = Vec::new(rt.alloc());
     let mut err_bytes = Vec::new(rt.alloc());
     let mut out = Counted::new(Sink::whole(&mut out_bytes, 1_000));

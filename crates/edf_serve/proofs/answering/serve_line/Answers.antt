@@ -1,69 +1,54 @@
-use Rattle.std.proofs.Common.{◌≡◌, ◌∙◌, true, false, cond, Option, Some, None, refl, sym, ap}
-use Rattle.std.proofs.Common.{subst}
-use Rattle.std.proofs.Common.{inl, inr, rules}
+use Rattle.std.proofs.Common.{◌≡◌, ◌∙◌, true, false, refl, sym, ap, subst, inl, inr, rules}
 use Rattle.std.specs.Option.{option_map}
-use Rattle.edfserve_arguments.specs.Line.{asked_by}
-use Rattle.edf_program.specs.declared.status.Status.TheVariants.{Done}
 use Rattle.edf_serve.specs.Client.{Looks, looked}
 use Rattle.edf_serve.specs.Exchange.{Exchange, IsAnswered}
+use Rattle.edf_serve.specs.Line.{asked_by}
 use Rattle.edf_serve.specs.Work.{Point, Work, point}
-use Rattle.edf_serve.specs.declared.answering.End.{End}
-use Rattle.edf_serve.specs.declared.answering.End.TheVariants.{Left, Unwritten}
 use Rattle.edf_serve.proofs.Accepting.{may-be_told}
-use Rattle.edf_serve.proofs.After.{after-accepted, accepted-whole}
+use Rattle.edf_serve.proofs.After.{accepted-whole}
 use Rattle.edf_serve.proofs.answering.serve_line.Goals as goal
 
 pub stand-requires : goal.stand-requires
-stand-requires g c = (may-be_told g.S.Store c.args.folders _ _ _ _ _ _ _ _ c.in-Accepted.is
+stand-requires g c = (may-be_told g.S.Store _ _ _ _ _ _ _ _ c.in-Accepted.is
     c.work.ensures.worked.1).accepted
 
 pub accept-is_out-requires-clause-idle : goal.accept-is_out-requires-clause-idle
-accept-is_out-requires-clause-idle g c = (may-be_told g.S.Store c.args.folders _ _ _ _ _ _ _ _
-    c.in-Accepted.is c.work.ensures.worked.1).idle
+accept-is_out-requires-clause-idle g c = (may-be_told g.S.Store _ _ _ _ _ _ _ _ c.in-Accepted.is
+    c.work.ensures.worked.1).idle
 
 pub accept-is_out-requires-clause-accepted : goal.accept-is_out-requires-clause-accepted
-accept-is_out-requires-clause-accepted g c = (may-be_told g.S.Store c.args.folders _ _ _ _ _ _ _ _
-    c.in-Accepted.is c.work.ensures.worked.1).accepted
-
-pub warn_if_of_two-is_left-requires-clause-idle : goal.warn_if_of_two-is_left-requires-clause-idle
-warn_if_of_two-is_left-requires-clause-idle g c = (may-be_told g.S.Store c.args.folders _ _ _ _ _
-    _ _ _ c.in-Accepted.is c.work.ensures.worked.1).idle
-
-pub warn_if_of_two-is_left-requires-clause-accepted :
-    goal.warn_if_of_two-is_left-requires-clause-accepted
-warn_if_of_two-is_left-requires-clause-accepted g c = (may-be_told g.S.Store c.args.folders _ _ _ _
-    _ _ _ _ c.in-Accepted.is c.work.ensures.worked.1).accepted
+accept-is_out-requires-clause-accepted g c = (may-be_told g.S.Store _ _ _ _ _ _ _ _ c.in-Accepted.is
+    c.work.ensures.worked.1).accepted
 
 pub returns-in-Told : goal.returns-in-Told
 returns-in-Told g c =
     let cleared = record c.args.room.now { out = c.clear.new.self; why = c.clear-2.new.self } in
     let w : Work g.row.S.Denot = record {
-      old = point g.I.Sources g.P.NewFiles g.C.Client g.K.StoreFiles c.args.store.now cleared;
-      new = point g.I.Sources g.P.NewFiles g.C.Client g.K.StoreFiles c.work.new.store
-          c.work.new.room;
+      old = point g.I.Sources g.C.Client g.K.StoreFiles c.args.store.now cleared;
+      new = point g.I.Sources g.C.Client g.K.StoreFiles c.work.new.store c.work.new.room;
       submission = c.work.ensures.worked.0;
       outcome = c.work.result;
     } in
     let x : Exchange g.row.S.Denot = record {
       line = c.args.line.now;
-      asked = option_map asked_by c.parse_line-asked.result;
+      asked = option_map asked_by c.parse_line.result;
       work = w;
       answered = c.tell_all.result;
     } in
-    let b : Point g.row.S.Denot = point g.I.Sources g.P.NewFiles g.C.Client g.K.StoreFiles
-    c.tell_all.new.store c.tell_all.new.room in (
+    let b : Point g.row.S.Denot = point g.I.Sources g.C.Client g.K.StoreFiles
+    c.work.new.store c.tell_all.new.room in (
       x,
       refl,
       refl,
       record {
-        read = c.parse_line-asked.ensures;
+        read = c.parse_line.ensures;
         begins = refl;
         blank = (c.clear.ensures.empty, c.clear-2.ensures.empty);
         unfailed = (c.clear.ensures.counted, c.clear-2.ensures.counted);
         worked = c.work.ensures.worked.1;
         answered = subst (IsAnswered g.S.Store x b) (sym c.in-Told.is)
-            (c.tell_all.ensures.told x c.work.new.room.counts c.counted-room.ensures);
-        cap = c.tell_all.ensures.cap ∙ c.work.ensures.cap;
+            (c.tell_all.ensures x refl);
+        cap = c.work.ensures.cap;
       },
     )
 
@@ -71,19 +56,18 @@ pub returns-then-not-stand : goal.returns-then-not-stand
 returns-then-not-stand g c =
     let cleared = record c.args.room.now { out = c.clear.new.self; why = c.clear-2.new.self } in
     let w : Work g.row.S.Denot = record {
-      old = point g.I.Sources g.P.NewFiles g.C.Client g.K.StoreFiles c.args.store.now cleared;
-      new = point g.I.Sources g.P.NewFiles g.C.Client g.K.StoreFiles c.work.new.store
-          c.work.new.room;
+      old = point g.I.Sources g.C.Client g.K.StoreFiles c.args.store.now cleared;
+      new = point g.I.Sources g.C.Client g.K.StoreFiles c.work.new.store c.work.new.room;
       submission = c.work.ensures.worked.0;
       outcome = c.work.result;
     } in
     let x : Exchange g.row.S.Denot = record {
       line = c.args.line.now;
-      asked = option_map asked_by c.parse_line-asked.result;
+      asked = option_map asked_by c.parse_line.result;
       work = w;
       answered = c.tell_lost.result;
     } in
-    let b : Point g.row.S.Denot = point g.I.Sources g.P.NewFiles g.C.Client g.K.StoreFiles
+    let b : Point g.row.S.Denot = point g.I.Sources g.C.Client g.K.StoreFiles
     c.work.new.store c.tell_lost.new.room in
     let looks = g.K.StoreFiles.looks c.work.new.room.keeper in
     let no : c.stand.result ≡ false = c.if-not-stand.true in (
@@ -91,7 +75,7 @@ returns-then-not-stand g c =
       refl,
       refl,
       record {
-        read = c.parse_line-asked.ensures;
+        read = c.parse_line.ensures;
         begins = refl;
         blank = (c.clear.ensures.empty, c.clear-2.ensures.empty);
         unfailed = (c.clear.ensures.counted, c.clear-2.ensures.counted);
@@ -106,9 +90,8 @@ pub returns-else-not-stand : goal.returns-else-not-stand
 returns-else-not-stand g c =
     let cleared = record c.args.room.now { out = c.clear.new.self; why = c.clear-2.new.self } in
     let w : Work g.row.S.Denot = record {
-      old = point g.I.Sources g.P.NewFiles g.C.Client g.K.StoreFiles c.args.store.now cleared;
-      new = point g.I.Sources g.P.NewFiles g.C.Client g.K.StoreFiles c.work.new.store
-          c.work.new.room;
+      old = point g.I.Sources g.C.Client g.K.StoreFiles c.args.store.now cleared;
+      new = point g.I.Sources g.C.Client g.K.StoreFiles c.work.new.store c.work.new.room;
       submission = c.work.ensures.worked.0;
       outcome = c.work.result;
     } in
@@ -116,15 +99,13 @@ returns-else-not-stand g c =
     let receipt = c.in-Accepted.receipt in
     let x : Exchange g.row.S.Denot = record {
       line = c.args.line.now;
-      asked = option_map asked_by c.parse_line-asked.result;
+      asked = option_map asked_by c.parse_line.result;
       work = w;
-      answered = record { status = Done; after = c.ends_by.result };
+      answered = c.if_out.result;
     } in
-    let warned = c.warn_if_of_two-is_left in
-    let b : Point g.row.S.Denot = point g.I.Sources g.P.NewFiles g.C.Client g.K.StoreFiles
-    warned.new.store (record c.work.new.room {
-      client = warned.new.client;
-      counts = warned.new.counts;
+    let b : Point g.row.S.Denot = point g.I.Sources g.C.Client g.K.StoreFiles
+    c.work.new.store (record c.work.new.room {
+      client = c.accept-is_out.new.self;
       keeper = c.stand.new.self;
     }) in
     let looks = g.K.StoreFiles.looks c.work.new.room.keeper in
@@ -133,32 +114,21 @@ returns-else-not-stand g c =
       refl,
       refl,
       record {
-        read = c.parse_line-asked.ensures;
+        read = c.parse_line.ensures;
         begins = refl;
         blank = (c.clear.ensures.empty, c.clear-2.ensures.empty);
         unfailed = (c.clear.ensures.counted, c.clear-2.ensures.counted);
         worked = c.work.ensures.worked.1;
         answered = subst (IsAnswered g.S.Store x b) (sym c.in-Accepted.is) (inl (record {
-          goes = cond warned.result (Some Left) None;
-          heard = g.C.Client.heard c.accept-is_out.new.self;
           tells = record {
             whole = accepted-whole name receipt.new receipt.known;
             is_out = c.accept-is_out.result;
             went = c.accept-is_out.ensures;
-            answered = ap (λ (o : Option End). record { status = Done; after = o })
-                (c.ends_by.ensures ∙ ap (λ (o : Option End). cond c.accept-is_out.result o
-                (Some Unwritten)) c.left_if.ensures);
+            answered = c.if_out.ensures;
           };
-          warned = warned.ensures.warned;
-          asked = warned.ensures.asked;
-          after = after-accepted g.S.Store x b receipt warned.result warned.ensures.left
-              warned.ensures.idle;
           same = ap (λ (l : Looks). record b { looks = l })
               (c.stand.ensures ∙ ap (looked looks) yes);
         }));
-        cap = elim warned.ensures.asked [
-          | inl same ↦ ap (λ s. s.cap) same ∙ c.work.ensures.cap
-          | inr asked ↦ asked.1.cap ∙ c.work.ensures.cap
-        ];
+        cap = c.work.ensures.cap;
       },
     )

@@ -1,11 +1,10 @@
-use Rattle.std.proofs.Common.{◌∙◌, List, ℕ, None, ap, subst}
+use Rattle.std.proofs.Common.{List, ℕ, None, ap, subst}
 use Rattle.edf_store.specs.Fault.{number, store_fault_name}
 use Rattle.edf_store.specs.declared.fault.StoreFault.TheVariants.{Store}
 use Rattle.edf_program.specs.declared.status.Status.TheVariants.{Trouble}
-use Rattle.edf_serve.specs.Client.{GetsAnswer, Looks, refused_once, status_line}
+use Rattle.edf_serve.specs.Client.{GetsAnswer, Looks, status_line}
 use Rattle.edf_serve.specs.Lines.{whole_lines}
 use Rattle.edf_serve.specs.Work.{Point, grown, point}
-use Rattle.edf_serve.specs.declared.room.Counts.{Counts}
 use Rattle.edf_serve.proofs.After.{sent, as-trouble}
 use Rattle.edf_serve.proofs.Whole.{both-whole}
 use Rattle.edf_serve.proofs.answering.tell_lost.Goals as goal
@@ -15,9 +14,8 @@ returns g c x looks asked =
     let room = record c.args.room.now {
       out = c.tell_refused.new.err;
       client = c.answer-is_out.new.self;
-      counts = c.refused_once-room.result;
     } in
-    let b : Point g.row.S.Denot = point g.I.Sources g.P.NewFiles g.C.Client g.K.StoreFiles
+    let b : Point g.row.S.Denot = point g.I.Sources g.C.Client g.K.StoreFiles
     c.args.store.now room in
     let out = room.out.bytes.items in
     let why = room.why.bytes.items in
@@ -33,11 +31,7 @@ returns g c x looks asked =
         went = subst Went (sent c.lines-out.result.now c.lines-why.result.now (whole_lines out)
             (whole_lines why) (status_line Trouble) c.lines-out.ensures c.lines-why.ensures)
             c.answer-is_out.ensures;
-        answered = ap (λ o. record { status = Trouble; after = o }) c.ends_by.ensures;
+        answered = c.if_out.ensures;
       };
-      same = ap (λ (n : Counts). record b { counts = n }) c.refused_once-room.ensures
-          ∙ ap (λ (l : Looks). record b {
-            looks = l;
-            counts = refused_once c.args.room.now.counts;
-          }) asked;
+      same = ap (λ (l : Looks). record b { looks = l }) asked;
     }

@@ -1,6 +1,6 @@
 use Rattle.std.proofs.Common.{◌≡◌, None, ap, rules, arith}
 use Rattle.edf_serve.specs.Work.{point}
-use Rattle.edf_serve.proofs.Sessions.{step-ends, step-goes_on, is-full, none-yet}
+use Rattle.edf_serve.proofs.Sessions.{step-ends, step-goes_on, all-counted, none-yet}
 use Rattle.edf_serve.proofs.session.serve.Goals as goal
 
 pub loop-init : goal.loop-init
@@ -8,7 +8,7 @@ loop-init g c = none-yet g.S.Store _ _
 
 pub returns-in-Some : goal.returns-in-Some
 returns-in-Some g c =
-    let p = point g.I.Sources g.P.NewFiles g.C.Client g.K.StoreFiles c.serve_next.new.store
+    let p = point g.I.Sources g.C.Client g.K.StoreFiles c.serve_next.new.store
     c.serve_next.new.room in
     step-ends g.S.Store _ _ _ _ _ c.loop.invariant _ c.serve_next.result c.in-Some.end c.in-Some.is
     c.serve_next.ensures (ap (λ w. record {
@@ -22,4 +22,4 @@ loop-preserved g c =
     step-goes_on g.S.Store _ _ _ _ _ c.loop.invariant c.serve_next.result e c.serve_next.ensures
 
 pub returns : goal.returns
-returns g c = is-full g.S.Store _ _ _ _ c.loop.invariant (omega arith)
+returns g c = all-counted g.S.Store _ _ _ _ c.loop.invariant (omega arith)

@@ -12,12 +12,6 @@ returns-in-Ended g c = (
   (end.Ended, refl, subst (IsNext c.args.lines.now c.next.new.self) c.in-Ended.is c.next.ensures, refl),
 )
 
-pub returns-in-Endless : goal.returns-in-Endless
-returns-in-Endless g c = (
-  None,
-  (end.Full, refl, subst (IsNext c.args.lines.now c.next.new.self) c.in-Endless.is c.next.ensures, refl),
-)
-
 pub returns-in-Failed : goal.returns-in-Failed
 returns-in-Failed g c = (
   None,
@@ -28,7 +22,7 @@ pub returns : goal.returns
 returns g c =
     let ens = c.serve_line-answered.ensures in
     let x = ens.0 in
-    let p = point g.I.Sources g.P.NewFiles g.C.Client g.K.StoreFiles c.serve_line-answered.new.store
+    let p = point g.I.Sources g.C.Client g.K.StoreFiles c.serve_line-answered.new.store
     c.serve_line-answered.new.room in (
       Some x,
       (

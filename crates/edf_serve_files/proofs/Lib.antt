@@ -1,4 +1,0 @@
-pub mod Sittings
-pub mod Becoming
-pub mod LettingGo
-pub mod Worst

@@ -1,2 +1,0 @@
-pub mod Sitting
-pub mod Sittings

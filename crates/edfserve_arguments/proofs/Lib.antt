@@ -1,4 +1,0 @@
-pub mod Forms
-pub mod Naming
-pub mod Once
-pub mod Codes

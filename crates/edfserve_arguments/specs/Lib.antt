@@ -1,4 +1,0 @@
-pub mod Below
-pub mod Sought
-pub mod Line
-pub mod Laws
