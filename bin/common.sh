@@ -216,7 +216,7 @@ chosen_program() {
   else
     echo "bin/$1: the programs in release/ are of other sources than these. To run them all the" \
       "same, stop this and unpack $release/$(released_archive x86_64)" >&2
-    # Status 1 says that the released bytes are others: what was proved here is run all the same.
+    # Status 1 says that the kept bytes are others: what was proved here is run all the same.
     "$top/bin/build" "$1" >&2 </dev/null || [ $? = 1 ] || return 3
     built "$1"
   fi
