@@ -3,9 +3,9 @@ use Rattle.std.specs.Prelude.{◌≢◌, String, List, [], Option, Some, None, R
 use Rattle.std.specs.Prelude.{if◌then◌else◌}
 use Rattle.std.specs.Global.{Global}
 use Rattle.std.specs.Str.{bytes_eq}
-use Rattle.edfstore_arguments.specs.Arguments.{Asked, Text, AreValues, AskFor, AskForNothing}
-use Rattle.edfstore_arguments.specs.Arguments.Asked.{take, list, export, convert}
-use Rattle.edfstore_arguments.specs.declared.order.Order.{Order}
+use Rattle.edf_command.specs.Arguments.{Asked, Text, AreValues, AskFor, AskForNothing}
+use Rattle.edf_command.specs.Arguments.Asked.{take, list, export, convert}
+use Rattle.edf_command.specs.declared.order.Order.{Order}
 use Rattle.edf_program.specs.Output.{Growth, Gets}
 use Rattle.edf_program.specs.Words.{IsFaultTold}
 use Rattle.edf_program.specs.declared.status.Status.{Status}

@@ -9,8 +9,8 @@ use Rattle.edf_intake.specs.Refusal.{refusal_number}
 use Rattle.edf_intake.specs.Submitted.{IsSubmitted}
 use Rattle.edf_intake.specs.declared.answer.Receipt.{Receipt}
 use Rattle.edf_intake.specs.declared.answer.Refusal.{Refusal}
-use Rattle.edfstore_arguments.specs.Arguments.{Asked}
-use Rattle.edfstore_arguments.specs.Arguments.Asked.{take, list, export, convert}
+use Rattle.edf_command.specs.Arguments.{Asked}
+use Rattle.edf_command.specs.Arguments.Asked.{take, list, export, convert}
 use Rattle.edf_program.specs.Text.{IsSpelling}
 use Rattle.edf_command.specs.Lines.{refused_file_line}
 use Rattle.edf_command.specs.Taking.{IsTaken}

@@ -11,20 +11,30 @@
 //! - [`parse`], [`Order`], [`CommandFault`]: the words, read, and nothing else.
 //! - [`Status`]: how it went, and the number that the program ends with.
 //! - [`refusal_text`]: a refusal, as a line has it.
+//! - [`parse`]: the words to an [`Order`], by `clap`, or the `CommandFault` that says why they ask
+//!   for nothing.
+//! - [`Order`]: `take`, `list`, `export` or `convert`, with its values. [`read_place`]: the place
+//!   that a text names.
 #![tactic(auto)]
 
+mod command_line;
+mod commands;
 mod converting;
 mod exporting;
+mod help;
 mod listing;
+mod matches;
+mod order;
 mod program;
 mod refusal;
 mod running;
 mod taking;
 
+pub use command_line::parse;
 pub use edf_program::{CommandFault, Inputs, Status};
-pub use edfstore_arguments::{Order, parse};
 pub use exporting::{export_place, tell_no_recording};
 pub use listing::list;
+pub use order::{Order, read_place};
 pub use program::{read_command, refuse_store, store_path, tell_store_not_closed};
 pub use refusal::refusal_text;
 pub use running::run;

@@ -2,15 +2,16 @@
 //! says where a store can't be closed.
 
 ghost use Rattle.std.specs.Prelude.{◌≡◌, option_map};
-ghost use Rattle.edfstore_arguments.specs.Arguments.{meaning};
+ghost use Rattle.edf_command.specs.Arguments.{meaning};
 ghost use Rattle.edf_command.specs.Command.{IsCommandRead, store_path};
 ghost use Rattle.edf_command.specs.Lines.{store_refused_line, store_not_closed_line};
 ghost use Rattle.edf_program.specs.Output.{growth, IsWritten};
 
+use crate::command_line::parse;
+use crate::order::Order;
 use edf_fragment::Output;
 use edf_program::{Status, tell_fault, tell_parts, tell_refused};
 use edf_store::StoreFault;
-use edfstore_arguments::{Order, parse};
 use itoa::Buffer;
 use std::alloc::Global;
 

@@ -1,7 +1,7 @@
 //! A command, run.
 
 ghost use Rattle.std.specs.Prelude.{◌≡◌, ℕ, List};
-ghost use Rattle.edfstore_arguments.specs.Arguments.{meaning};
+ghost use Rattle.edf_command.specs.Arguments.{meaning};
 ghost use Rattle.edf_program.specs.Output.{growth};
 ghost use Rattle.edf_command.specs.Run.{IsDone, files_of};
 ghost use Rattle.edf_command.specs.Taking.{HasOpened};
@@ -9,11 +9,11 @@ ghost use Rattle.edf_command.specs.Taking.{HasOpened};
 use crate::converting::convert;
 use crate::exporting::export_place;
 use crate::listing::list;
+use crate::order::Order;
 use crate::taking::take;
 use edf_fragment::Output;
 use edf_program::{Inputs, Status};
 use edf_store::Store;
-use edfstore_arguments::Order;
 use sqlite::Alter;
 use std::alloc::Global;
 

@@ -22,8 +22,8 @@ use Rattle.edf_intake.specs.Submitted.{IsSubmitted}
 use Rattle.edf_intake.specs.Batch.{Turn, somes, AreUnended, AreLeftBy}
 use Rattle.edf_intake.proofs.Turns.{IsMade, turn_of}
 use Rattle.edf_intake.proofs.Batches.{in_turn}
-use Rattle.edfstore_arguments.specs.Arguments.{Asked}
-use Rattle.edfstore_arguments.specs.Arguments.Asked.{take, list, export, convert}
+use Rattle.edf_command.specs.Arguments.{Asked}
+use Rattle.edf_command.specs.Arguments.Asked.{take, list, export, convert}
 use Rattle.edf_program.specs.Output.{Growth, Explains, AreTold}
 use Rattle.edf_program.specs.Text.{memory_line}
 use Rattle.edf_program.proofs.Undone.{trouble-told}

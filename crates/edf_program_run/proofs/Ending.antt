@@ -22,7 +22,7 @@ use Rattle.sqlite.specs.declared.error.Error.{Error}
 use Rattle.edf_tables.specs.Schema.{HasBoth, AreOurs}
 use Rattle.edf_tables.specs.Made.{IsMadeOf}
 use Rattle.edf_tables.specs.Others.{KeepsTrees}
-use Rattle.edf_audit.specs.File.{IsForeignFile}
+use Rattle.edf_rows.specs.File.{IsForeignFile}
 use Rattle.edf_fragment.specs.Told.{Told}
 use Rattle.edf_holdings.specs.Holdings.{Holdings}
 use Rattle.edf_holdings.specs.Reply.{after, replies}

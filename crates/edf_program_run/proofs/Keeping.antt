@@ -13,14 +13,14 @@ use Rattle.sqlite.specs.State.{State}
 use Rattle.sqlite.specs.Held.{Held, state}
 use Rattle.sqlite.specs.Start.{FindsIn}
 use Rattle.sqlite.specs.Order.{Row}
-use Rattle.edf_schema.specs.Columns.{stored_recordings}
+use Rattle.edf_tables.specs.Columns.{stored_recordings}
 use Rattle.edf_tables.specs.Schema.{no_schema, one_schema, both_schema, HasBoth}
 use Rattle.edf_tables.specs.Made.{HasTables, from_none, from_one, from_both, IsMadeOf, left_first}
 use Rattle.edf_tables.specs.Made.{left_both, left_second}
 use Rattle.edf_tables.specs.Others.{KeepsTrees}
 use Rattle.edf_tables.proofs.Schemas.{none_not_one, none_not_both, one_not_both, made_both}
 use Rattle.edf_holdings.specs.Holdings.{Holdings, nothing_held}
-use Rattle.edf_audit.specs.File.{IsForeignFile, other_schema, foreign_rows, only_recordings}
+use Rattle.edf_rows.specs.File.{IsForeignFile, other_schema, foreign_rows, only_recordings}
 use Rattle.edf_rows.specs.Rows.{AreKept}
 use Rattle.edf_rows.proofs.Rows.{one-holdings, not-foreign}
 use Rattle.edf_store.specs.Held.{StoreModel, at, Holds}

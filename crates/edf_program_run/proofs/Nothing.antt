@@ -23,7 +23,7 @@ use Rattle.sqlite_pool.specs.Stored.{used_size}
 use Rattle.sqlite.specs.Order.{Row}
 use Rattle.sqlite.specs.Tree.{Trees}
 use Rattle.sqlite.specs.Files.{HoldsDatabase, IsNothing, IsEmpty, AreFoundIn}
-use Rattle.edf_schema.specs.Columns.{stored_recordings, stored_id, stored_identity, stored_records}
+use Rattle.edf_tables.specs.Columns.{stored_recordings, stored_id, stored_identity, stored_records}
 use Rattle.edf_header.specs.Key.{Key}
 use Rattle.edf_holdings.specs.Holdings.{nothing_held}
 use Rattle.edf_holdings.proofs.Added.{nothing_is_sound}

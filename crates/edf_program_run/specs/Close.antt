@@ -21,7 +21,7 @@ use Rattle.edf_fragment.specs.Told.{Told}
 use Rattle.edf_tables.specs.Schema.{HasBoth, AreOurs}
 use Rattle.edf_tables.specs.Made.{IsMadeOf}
 use Rattle.edf_tables.specs.Others.{KeepsTrees}
-use Rattle.edf_audit.specs.File.{IsForeignFile}
+use Rattle.edf_rows.specs.File.{IsForeignFile}
 use Rattle.edf_holdings.specs.Holdings.{Holdings, IsSound}
 use Rattle.edf_holdings.specs.Reply.{after}
 use Rattle.edf_store.specs.Fault.{HasCause, HasCauseOrIsForeign, IsRefusalOf}

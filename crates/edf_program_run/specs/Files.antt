@@ -5,7 +5,7 @@ use Rattle.sqlite.specs.Tree.{Trees}
 use Rattle.sqlite.specs.Schema.{Schema}
 use Rattle.sqlite.specs.Effect.{Database, IsDatabase}
 use Rattle.sqlite.specs.Files.{HoldsDatabase, IsNothing, AreFoundIn}
-use Rattle.edf_schema.specs.Columns.{stored_recordings}
+use Rattle.edf_tables.specs.Columns.{stored_recordings}
 use Rattle.edf_tables.specs.Schema.{no_schema, one_schema, HasBoth}
 use Rattle.edf_holdings.specs.Holdings.{Holdings, nothing_held}
 use Rattle.edf_rows.specs.Rows.{AreKept}

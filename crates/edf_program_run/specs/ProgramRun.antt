@@ -20,8 +20,8 @@ use Rattle.edf_store.specs.Fault.{IsRefusalOf}
 use Rattle.edf_store.specs.Held.{StoreModel}
 use Rattle.edf_store.specs.declared.fault.StoreFault.{StoreFault}
 use Rattle.edf_intake.specs.Batch.{Turn}
-use Rattle.edfstore_arguments.specs.Arguments.{Asked}
-use Rattle.edfstore_arguments.specs.Arguments.Asked.{take}
+use Rattle.edf_command.specs.Arguments.{Asked}
+use Rattle.edf_command.specs.Arguments.Asked.{take}
 use Rattle.edf_command.specs.Lines.{first_take_lines, take_status, store_refused_line}
 use Rattle.edf_program.specs.Text.{IsSpelling}
 use Rattle.edf_command.specs.Run.{IsDone, files_of}

@@ -1,3 +1,14 @@
 pub mod RowCells
 pub mod Rows
 pub mod Kept
+pub mod GivenRows
+pub mod Shown
+pub mod Parts
+pub mod Standing
+pub mod Checks
+pub mod Counts
+pub mod DecidedCells
+pub mod DecidedRows
+pub mod Files
+pub mod Apart
+pub mod AllRows

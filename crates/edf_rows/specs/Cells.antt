@@ -4,8 +4,8 @@ use Rattle.sqlite_value.specs.declared.value.Value.TheVariants.{Int, Blob}
 use Rattle.sqlite_value.specs.Order.{Row}
 use Rattle.sqlite_trees.specs.Tree.{Trees}
 use Rattle.sqlite_keyed.specs.Lists.{sort_by}
-use Rattle.edf_schema.specs.Columns.{stored_recordings, stored_id, stored_identity, stored_records}
-use Rattle.edf_schema.specs.Columns.{stored_start, stored_samples, stored_block, start_order, is_of}
+use Rattle.edf_tables.specs.Columns.{stored_recordings, stored_id, stored_identity, stored_records}
+use Rattle.edf_tables.specs.Columns.{stored_start, stored_samples, stored_block, start_order, is_of}
 use Rattle.edf_header.specs.Key.{Key, key_bytes}
 use Rattle.edf_tal.specs.Canonical.{block_text}
 use Rattle.edf_fragment.specs.Fragment.{DataRecord}

@@ -13,8 +13,8 @@ use Rattle.edf_tal.specs.Block.{IsRead}
 use Rattle.edf_tal.specs.declared.place.Place.TheVariants.{Any}
 use Rattle.edf_tal.specs.Canonical.{block_text}
 use Rattle.edf_rows.specs.Cells.{recordings_in, records_in}
-use Rattle.edf_schema.specs.Columns.{the_id, the_identity, the_start, the_samples, the_block}
-use Rattle.edf_schema.specs.Columns.{stored_records, is_of}
+use Rattle.edf_tables.specs.Columns.{the_id, the_identity, the_start, the_samples, the_block}
+use Rattle.edf_tables.specs.Columns.{stored_records, is_of}
 use Rattle.edf_rows.specs.Rows.{IsThere, IsRecordingRow, AreTwoOf}
 
 -- the cell is an instant of the window

@@ -8,7 +8,7 @@ use Rattle.edf_tal.specs.Block.{IsRead}
 use Rattle.edf_tal.specs.declared.place.Place.TheVariants.{Any}
 use Rattle.edf_holdings.specs.Holdings.{Holdings, IsSound}
 use Rattle.edf_rows.specs.Cells.{record_cells, recording_cells, recordings_in, records_in}
-use Rattle.edf_schema.specs.Columns.{the_id, the_identity, stored_records, is_of}
+use Rattle.edf_tables.specs.Columns.{the_id, the_identity, stored_records, is_of}
 use Rattle.edf_fragment.specs.Fragment.{DataRecord, IsWithinSize}
 use Rattle.edf_fragment.specs.Sound.{IsSoundRecord}
 

@@ -9,6 +9,7 @@ ghost use Rattle.edf_holdings.specs.Holdings.{Holdings, IsSound};
 ghost use Rattle.edf_rows.specs.Cells.{record_cells};
 ghost use Rattle.edf_rows.specs.Rows.{StandFor, AreKept};
 ghost use Rattle.edf_rows.specs.Foreign.{IsBadRow, IsForeign};
+ghost use Rattle.std.specs.Prelude.{◌⊎◌};
 
 /// Two sound holdings that the same rows stand for are equal.
 pub fn one_holdings()
@@ -27,4 +28,11 @@ pub fn one_record()
 pub fn kept_is_not_foreign()
     ensures { (cap : ℕ) (trees : Trees) (h : Holdings) → AreKept cap trees h →
         ¬ IsForeign cap trees }
+{}
+
+/// Any rows stand for sound holdings under the cap, each recording with a record, or they are
+/// foreign. That they are never both is the law `kept_is_not_foreign` of `edf_rows`.
+pub fn kept_or_foreign()
+    ensures { (cap : ℕ) (trees : Trees) →
+        ((h : Holdings) × AreKept cap trees h) ⊎ IsForeign cap trees }
 {}

@@ -23,7 +23,7 @@ use Rattle.edf_header.specs.Key.{Key, IsKey, key_bytes}
 use Rattle.edf_holdings.specs.Holdings.{Holdings}
 use Rattle.edf_tables.specs.Row.{named_cells, new_row, HasRecording}
 use Rattle.edf_tables.specs.Records.{records_of, shown_record}
-use Rattle.edf_schema.specs.Columns.{by_column, is_of}
+use Rattle.edf_tables.specs.Columns.{by_column, is_of}
 use Rattle.edf_tables.specs.Recordings.{named}
 use Rattle.edf_tables.proofs.Apart.{equal_of}
 use Rattle.edf_rows.specs.Cells.{record_cells, recording_cells, recordings_in, records_in}

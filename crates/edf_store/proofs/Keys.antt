@@ -21,7 +21,7 @@ use Rattle.edf_header.specs.Key.{Key, IsKey, key_bytes}
 use Rattle.edf_fragment.specs.Fragment.{DataRecord}
 use Rattle.edf_holdings.specs.Holdings.{Holdings}
 use Rattle.edf_holdings.specs.Keys.{key_cmp, AreKeysOf}
-use Rattle.edf_schema.specs.Columns.{by_column}
+use Rattle.edf_tables.specs.Columns.{by_column}
 use Rattle.edf_tables.specs.Recordings.{by_identity}
 use Rattle.edf_tables.proofs.Answers.{column_total}
 use Rattle.edf_tables.proofs.Sorting.{rising_sort}

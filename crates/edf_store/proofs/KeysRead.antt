@@ -14,7 +14,7 @@ use Rattle.sqlite_keyed.proofs.ListLemmas.{all_unmap}
 use Rattle.sqlite_keyed.proofs.SortLemmas.{IsPermutation-sort_by}
 use Rattle.edf_holdings.specs.Holdings.{Holdings}
 use Rattle.edf_holdings.specs.Keys.{AreKeysOf}
-use Rattle.edf_schema.specs.Columns.{by_column}
+use Rattle.edf_tables.specs.Columns.{by_column}
 use Rattle.edf_tables.specs.Recordings.{by_identity}
 use Rattle.edf_tables.proofs.Answers.{column_total}
 use Rattle.edf_rows.specs.Cells.{recordings_in}

@@ -7,7 +7,7 @@ use Rattle.sqlite.specs.State.{State, HasCleanDisk, Survives}
 use Rattle.edf_tables.specs.Made.{HasTables, IsMadeOf}
 use Rattle.edf_header.specs.declared.limits.TheConstants.{MOST_RECORDS}
 use Rattle.edf_rows.specs.Rows.{AreKept}
-use Rattle.edf_audit.specs.File.{PassesAudit}
+use Rattle.edf_rows.specs.File.{PassesAudit}
 use Rattle.edf_tables.specs.Schema.{HasBoth}
 use Rattle.edf_tables.proofs.File.{tables_both}
 use Rattle.edf_store.specs.Held.{IsSoundStore}

@@ -29,7 +29,7 @@ use Rattle.edf_tables.specs.Row.{cells, new_row, HasRecord}
 use Rattle.edf_tables.specs.Records.{records_of, shown_record}
 use Rattle.edf_tables.proofs.Held.{own_records, other_records}
 use Rattle.edf_rows.specs.Cells.{record_cells, recording_cells, recordings_in, records_in}
-use Rattle.edf_schema.specs.Columns.{is_of}
+use Rattle.edf_tables.specs.Columns.{is_of}
 use Rattle.edf_rows.specs.Rows.{IsThere, IsRecordingRow, IsOwned, AreTwoOf, AreOther, StandFor}
 use Rattle.edf_rows.proofs.Rows.{same-recordings}
 use Rattle.edf_store.proofs.StoredRows.{Show, show_from, from_show, NotAt, not_at, show_more}

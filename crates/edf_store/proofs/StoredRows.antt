@@ -20,7 +20,7 @@ use Rattle.edf_holdings.specs.Rising.{inserted, IsApart}
 use Rattle.edf_holdings.specs.Clash.{meets, near_of}
 use Rattle.edf_holdings.proofs.Same.{same_record_no}
 use Rattle.edf_tables.specs.Records.{shown_record}
-use Rattle.edf_schema.specs.Columns.{by_column}
+use Rattle.edf_tables.specs.Columns.{by_column}
 use Rattle.edf_rows.specs.Cells.{record_cells}
 use Rattle.edf_rows.specs.Rows.{AreTwoOf}
 use Rattle.edf_rows.proofs.Rows.{cases_first, no_member}

@@ -6,7 +6,7 @@ use Rattle.sqlite.specs.State.{HasCleanDisk, Survives}
 use Rattle.edf_holdings.specs.Holdings.{Holdings}
 use Rattle.edf_tables.specs.Made.{IsOurs, HasTables, KeepsFile, IsMadeOf}
 use Rattle.edf_rows.specs.Rows.{AreKept}
-use Rattle.edf_audit.specs.File.{IsForeignFile}
+use Rattle.edf_rows.specs.File.{IsForeignFile}
 use Rattle.edf_store.specs.Held.{StoreModel, at}
 use Rattle.edf_store.specs.Fault.{HasCauseOrIsForeign}
 use Rattle.edf_store.specs.declared.fault.StoreFault.{StoreFault}

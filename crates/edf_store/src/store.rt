@@ -5,7 +5,7 @@ ghost use Rattle.std.specs.Borrow.{sem, RestsIfErr};
 ghost use Rattle.sqlite.specs.Held.{state};
 ghost use Rattle.sqlite.specs.State.{IsLive};
 ghost use Rattle.edf_tables.specs.Made.{IsOurs};
-ghost use Rattle.edf_audit.specs.File.{IsForeignFile};
+ghost use Rattle.edf_rows.specs.File.{IsForeignFile};
 ghost use Rattle.edf_store.specs.Held.{Stays, at};
 ghost use Rattle.edf_store.specs.Call.{IsRefusedIfBusy};
 ghost use Rattle.edf_store.specs.StoreTx.{IsBegun};
@@ -14,8 +14,8 @@ ghost use Rattle.edf_store.specs.Open.{IsOpened, IsGivenBack, IsGivenUp, StaysCl
 use crate::ending::begin_all;
 use crate::fault::StoreFault;
 use crate::transaction::StoreTx;
-use edf_audit::audit;
 use edf_header::MOST_RECORDS;
+use edf_rows::audit;
 use edf_tables::obey;
 use sqlite::{Alter, Connection};
 use std::alloc::Global;

@@ -26,7 +26,7 @@ use Rattle.sqlite_keyed.proofs.SortLemmas.{sort_by-map, sorted_unique, IsPermuta
 use Rattle.sqlite.proofs.Callers.{one_permutation}
 use Rattle.std.proofs.lemmas.Cmp.{on_total}
 use Rattle.sqlite_value.proofs.OrderLemmas.{value_cmp_total}
-use Rattle.edf_schema.specs.Columns.{by_column}
+use Rattle.edf_tables.specs.Columns.{by_column}
 use Rattle.edf_tables.proofs.Queries.{plain_query, paged_query, ordered_query, last_query}
 use Rattle.edf_tables.proofs.Queries.{count_query, counting, count_rows, passes, answer_in_order}
 use Rattle.edf_tables.proofs.Sorting.{only_order}

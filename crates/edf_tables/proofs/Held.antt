@@ -14,7 +14,7 @@ use Rattle.sqlite_keyed.proofs.ListLemmas.{all_kept}
 use Rattle.sqlite_keyed.proofs.SortLemmas.{IsPermutation-sort_by}
 use Rattle.edf_tables.specs.Row.{cells, new_row, IsInside, HasRecord, HasRecording}
 use Rattle.edf_tables.specs.Records.{records_of}
-use Rattle.edf_schema.specs.Columns.{by_column, is_of}
+use Rattle.edf_tables.specs.Columns.{by_column, is_of}
 use Rattle.edf_tables.proofs.Answers.{column_total}
 use Rattle.edf_tables.proofs.Keeping.{shows_keeps}
 use Rattle.edf_tables.proofs.Steps.{add_is_step, add_elsewhere}

@@ -19,3 +19,5 @@ pub mod Tables
 pub mod Terms
 pub mod Texts
 pub mod Writing
+pub mod Both
+pub mod Lists

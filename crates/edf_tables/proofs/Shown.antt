@@ -31,7 +31,7 @@ use Rattle.edf_tables.specs.Cells.{cells_of, first_three}
 use Rattle.edf_tables.specs.Schema.{HasBoth}
 use Rattle.edf_tables.specs.Records.{records_of, HaveRisingStarts, IsReady, starts_after}
 use Rattle.edf_tables.specs.Records.{starts_from, starts_between, shown_record}
-use Rattle.edf_schema.specs.Columns.{by_column, is_of}
+use Rattle.edf_tables.specs.Columns.{by_column, is_of}
 use Rattle.edf_tables.specs.Recordings.{named, IsIdIn, by_identity, AreNamedApart, shown_recording}
 use Rattle.edf_tables.proofs.Queries.{passes, paged_query, of_recording, start_samples_block}
 use Rattle.edf_tables.proofs.Queries.{near_terms, after_terms, from_terms, identity_terms}

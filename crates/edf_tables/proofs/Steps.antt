@@ -14,7 +14,7 @@ use Rattle.sqlite_value.proofs.OrderLemmas.{value_cmp_total}
 use Rattle.sqlite_rules.specs.Edit.{is_taken}
 use Rattle.sqlite_keyed.proofs.ListLemmas.{none_from_any}
 use Rattle.edf_tables.specs.Records.{records_of}
-use Rattle.edf_schema.specs.Columns.{by_column, is_of}
+use Rattle.edf_tables.specs.Columns.{by_column, is_of}
 use Rattle.sqlite_keyed.specs.Lists.{insert_sorted, sort_by}
 
 module _ {X : Type 0} (cmp : X → X → Ordering) (total : IsTotalOrder cmp) where

@@ -10,7 +10,7 @@ use Rattle.sqlite_sql.specs.declared.ops.BinaryOp.TheVariants as by
 use Rattle.sqlite_sql.specs.declared.ops.CompareOp.TheVariants.{Eq, Lt, Gt, Ge}
 use Rattle.sqlite_sql.specs.Ops.{binary, is_true, from_truth}
 use Rattle.edf_tables.specs.Records.{starts_after, starts_from, starts_between}
-use Rattle.edf_schema.specs.Columns.{is_of}
+use Rattle.edf_tables.specs.Columns.{is_of}
 use Rattle.edf_tables.proofs.Queries.{passes, of_recording, near_terms, after_terms, from_terms}
 use Rattle.edf_tables.proofs.Queries.{identity_terms}
 

@@ -2,7 +2,7 @@
 use Rattle.std.specs.Prelude.{[], ◌∷◌}
 use Rattle.sqlite.specs.declared.types.Value.TheVariants.{Int, Blob}
 use Rattle.sqlite.specs.Order.{Row}
-use Rattle.edf_schema.specs.Columns.{the_start, the_samples, the_block}
+use Rattle.edf_tables.specs.Columns.{the_start, the_samples, the_block}
 use Rattle.edf_tables.specs.declared.row.RecordRow.{RecordRow}
 
 abbrev pub cells_of : RecordRow → Row

@@ -7,3 +7,5 @@ pub mod Row
 pub mod Refused
 pub mod Schema
 pub mod Statement
+pub mod Inside
+pub mod Columns

@@ -3,7 +3,7 @@ use Rattle.std.specs.Prelude.{◌≡◌, ◌⊎◌, [], false, IsTrue}
 use Rattle.sqlite.specs.Tree.{Trees}
 use Rattle.sqlite.specs.Schema.{Schema}
 use Rattle.sqlite.specs.Effect.{Database, IsDatabase}
-use Rattle.edf_schema.specs.Columns.{stored_recordings, stored_records}
+use Rattle.edf_tables.specs.Columns.{stored_recordings, stored_records}
 use Rattle.sqlite.specs.State.{State}
 use Rattle.edf_tables.specs.Schema.{no_schema, one_schema, both_schema, HasBoth, AreOurs}
 

@@ -8,7 +8,7 @@ use Rattle.sqlite.specs.State.{State}
 use Rattle.sqlite_value.specs.Order.{value_cmp}
 use Rattle.sqlite_trees.specs.Tree.{IsAscending}
 use Rattle.sqlite_keyed.specs.Lists.{sort_by}
-use Rattle.edf_schema.specs.Columns.{stored_recordings, stored_id, stored_identity, identity_order}
+use Rattle.edf_tables.specs.Columns.{stored_recordings, stored_id, stored_identity, identity_order}
 use Rattle.edf_tables.specs.Schema.{HasBoth}
 
 -- the rows with this identity

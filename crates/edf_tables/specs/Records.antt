@@ -8,8 +8,8 @@ use Rattle.sqlite.specs.State.{State}
 use Rattle.sqlite_value.specs.Order.{value_cmp}
 use Rattle.sqlite_trees.specs.Tree.{IsAscending}
 use Rattle.sqlite_keyed.specs.Lists.{sort_by}
-use Rattle.edf_schema.specs.Columns.{stored_records, stored_start, stored_samples, stored_block}
-use Rattle.edf_schema.specs.Columns.{start_order, is_of}
+use Rattle.edf_tables.specs.Columns.{stored_records, stored_start, stored_samples, stored_block}
+use Rattle.edf_tables.specs.Columns.{start_order, is_of}
 use Rattle.edf_tables.specs.Schema.{HasBoth}
 
 -- the rows of a recording, by their starts

@@ -5,7 +5,7 @@ use Rattle.sqlite.specs.Order.{Row}
 use Rattle.sqlite_trees.specs.Tree.{put_row}
 use Rattle.sqlite_rules.specs.Edit.{next_rowid, is_taken}
 use Rattle.sqlite.specs.State.{State, Shows}
-use Rattle.edf_schema.specs.Columns.{stored_recordings, stored_records}
+use Rattle.edf_tables.specs.Columns.{stored_recordings, stored_records}
 use Rattle.edf_tables.specs.Schema.{HasBoth}
 use Rattle.edf_tables.specs.Others.{KeepsOthers}
 

@@ -3,13 +3,13 @@
 ghost use Rattle.std.specs.Prelude.{◌≡◌, ◌⊎◌, [], Ok};
 ghost use Rattle.sqlite.specs.Held.{state};
 ghost use Rattle.sqlite.specs.State.{Survives};
-ghost use Rattle.edf_schema.specs.Columns.{stored_recordings, stored_records};
+ghost use Rattle.edf_tables.specs.Columns.{stored_recordings, stored_records};
 ghost use Rattle.edf_tables.specs.Schema.{no_schema, one_schema, both_schema, HasBoth};
 ghost use Rattle.edf_tables.specs.Made.{IsOurs, AreOf, HasFirst, HasTables};
 ghost use Rattle.edf_tables.specs.Made.{KeepsFile, IsMadeOf};
 ghost use Rattle.edf_tables.specs.Statement.{IfClean, Leaves, KeepsCommittedOnErr};
 
-use edf_schema::has_both;
+use crate::schema::has_both;
 use sqlite::{Alter, Connection, Error};
 
 /// Makes the table `recording` in a file that has nothing, and does nothing where the table is

@@ -16,12 +16,17 @@
 //! - [`select_recording`]: the recording with an identity; [`identities`], [`recordings`]: all of
 //!   them; [`count_all_rows`]: the number of all records.
 //! - [`obey`]: a law, that the rows obey the rules of their schema.
+//! - [`is_ours`]: whether a database is empty, has the first table alone, or has both, with or
+//!   without other tables after them.
+//! - [`has_both`]: whether it has both.
 #![tactic(auto)]
 
 mod create;
 mod list;
 mod records;
 mod row;
+mod schema;
+mod table;
 mod transaction;
 mod write;
 
@@ -29,5 +34,6 @@ pub use create::create_tables;
 pub use list::{count_all_rows, identities, recordings, select_recording};
 pub use records::{count_rows, first_start, last_start, near_rows, next_start, page_rows};
 pub use row::{MOST_COUNTED, RecordRow, obey};
+pub use schema::{has_both, is_ours};
 pub use transaction::{begin, commit, roll_back};
 pub use write::{insert_record, insert_recording};

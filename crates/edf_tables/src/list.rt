@@ -2,8 +2,8 @@
 
 ghost use Rattle.std.specs.Prelude.{◌≡◌, IsPermutation, IsSorted, length, map, min};
 ghost use Rattle.sqlite.specs.declared.types.Value.TheVariants.{Blob};
-ghost use Rattle.edf_schema.specs.Columns.{stored_recordings, stored_records};
-ghost use Rattle.edf_schema.specs.Columns.{stored_identity, id_order};
+ghost use Rattle.edf_tables.specs.Columns.{stored_recordings, stored_records};
+ghost use Rattle.edf_tables.specs.Columns.{stored_identity, id_order};
 ghost use Rattle.edf_tables.specs.Refused.{IsLeft};
 ghost use Rattle.edf_tables.specs.Recordings.{AreNamedApart, IsIdIn, by_identity, named};
 ghost use Rattle.edf_tables.specs.Recordings.{shown_recording};

@@ -3,7 +3,7 @@
 ghost use Rattle.std.specs.Prelude.{◌≡◌, filter, length, map, min, reverse, slice_get, take};
 ghost use Rattle.std.specs.Option.{option_map};
 ghost use Rattle.sqlite.specs.declared.types.Value.TheVariants.{Int};
-ghost use Rattle.edf_schema.specs.Columns.{stored_records, stored_start};
+ghost use Rattle.edf_tables.specs.Columns.{stored_records, stored_start};
 ghost use Rattle.edf_tables.specs.Cells.{cells_of};
 ghost use Rattle.edf_tables.specs.Records.{IsReady, records_of, shown_record, starts_after};
 ghost use Rattle.edf_tables.specs.Records.{starts_between, starts_from};

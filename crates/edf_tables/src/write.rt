@@ -3,7 +3,7 @@
 ghost use Rattle.std.specs.Prelude.{◌≡◌};
 ghost use Rattle.sqlite.specs.Held.{state};
 ghost use Rattle.sqlite_rules.specs.Edit.{next_rowid};
-ghost use Rattle.edf_schema.specs.Columns.{stored_recordings};
+ghost use Rattle.edf_tables.specs.Columns.{stored_recordings};
 ghost use Rattle.edf_tables.specs.Row.{cells, named_cells, HasRecord, HasRecording, IsInside};
 ghost use Rattle.edf_tables.specs.Statement.{tables, IfClean, Gives, Leaves};
 ghost use Rattle.edf_tables.specs.Statement.{KeepsCommittedOnErr, IsCrashSafe};

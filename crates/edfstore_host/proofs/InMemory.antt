@@ -6,7 +6,7 @@ use Rattle.sqlite.specs.Held.{Held, state}
 use Rattle.sqlite.specs.State.{HasCleanDisk}
 use Rattle.sqlite.specs.Steps.{over_memory, IsEmpty}
 use Rattle.edf_header.specs.declared.limits.TheConstants.{MOST_RECORDS}
-use Rattle.edf_audit.specs.File.{IsForeignFile}
+use Rattle.edf_rows.specs.File.{IsForeignFile}
 use Rattle.edf_holdings.specs.Holdings.{nothing_held}
 use Rattle.edf_store.specs.Fault.{HasCause, HasCauseOrIsForeign}
 use Rattle.edf_store.specs.Held.{StoreModel}

@@ -7,8 +7,8 @@ use Rattle.sqlite.specs.Files.{image_of}
 use Rattle.sqlite.specs.Held.{Held}
 use Rattle.sqlite.specs.declared.error.Error.{Error}
 use Rattle.sqlite.specs.declared.file.Leftover.{Leftover}
-use Rattle.edfstore_arguments.specs.Arguments.{Asked}
-use Rattle.edfstore_arguments.specs.Arguments.Asked.{take, list, export, convert}
+use Rattle.edf_command.specs.Arguments.{Asked}
+use Rattle.edf_command.specs.Arguments.Asked.{take, list, export, convert}
 use Rattle.edf_command.specs.Lines.{no_recording_line}
 use Rattle.edf_program.specs.Output.{Growth, Gets, IsWritten}
 use Rattle.edf_program.specs.declared.status.Status.{Status}

@@ -1,7 +1,7 @@
 //! A command over an empty store in memory.
 
 ghost use Rattle.std.specs.Prelude.{◌≡◌, None, IfOk, IfErr};
-ghost use Rattle.edfstore_arguments.specs.Arguments.{meaning};
+ghost use Rattle.edf_command.specs.Arguments.{meaning};
 ghost use Rattle.edf_store.specs.Fault.{HasCause};
 ghost use Rattle.edf_command.specs.Command.{store_path};
 ghost use Rattle.edf_program.specs.Output.{growth};

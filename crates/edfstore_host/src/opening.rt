@@ -3,7 +3,7 @@
 ghost use Rattle.std.specs.Prelude.{◌≡◌, true, Ok, IfOk, IfErr, MatchOption};
 ghost use Rattle.sqlite_wal.specs.Recovery.{Image};
 ghost use Rattle.sqlite_wal.specs.Files.{image_at};
-ghost use Rattle.edfstore_arguments.specs.Arguments.{meaning};
+ghost use Rattle.edf_command.specs.Arguments.{meaning};
 ghost use Rattle.edf_program_run.specs.ProgramRun.{IsOfNoFiles, IsOpening};
 ghost use Rattle.edfstore_host.specs.OnFile.{OnlyReads};
 

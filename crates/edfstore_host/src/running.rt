@@ -2,7 +2,7 @@
 
 ghost use Rattle.std.specs.Prelude.{◌≡◌, Some, None, MatchOption};
 ghost use Rattle.sqlite_wal.specs.Files.{image_at};
-ghost use Rattle.edfstore_arguments.specs.Arguments.{meaning};
+ghost use Rattle.edf_command.specs.Arguments.{meaning};
 ghost use Rattle.edf_command.specs.Command.{store_path};
 ghost use Rattle.edf_header.specs.declared.limits.TheConstants.{MOST_RECORDS};
 ghost use Rattle.edf_program.specs.Output.{growth};

@@ -1,6 +1,6 @@
 use Rattle.std.proofs.Common.{List, ℕ, sym, subst}
-use Rattle.edfstore_arguments.specs.Arguments.{meaning}
-use Rattle.edfstore_arguments.specs.declared.order.Order.{Order}
+use Rattle.edf_command.specs.Arguments.{meaning}
+use Rattle.edf_command.specs.declared.order.Order.{Order}
 use Rattle.edf_program.specs.Output.{growth}
 use Rattle.edf_command.specs.Run.{IsDone, IsConverted}
 use Rattle.edf_command.proofs.running.run.Goals as goal

@@ -3,7 +3,7 @@ use Rattle.sqlite.specs.Schema.{Schema}
 use Rattle.sqlite.specs.Files.{over_files}
 use Rattle.edf_tables.specs.Schema.{AreOurs}
 use Rattle.edf_store.specs.Open.{IsGivenBack}
-use Rattle.edfstore_arguments.specs.Arguments.{meaning}
+use Rattle.edf_command.specs.Arguments.{meaning}
 use Rattle.edf_program.specs.Output.{growth}
 use Rattle.edf_program.proofs.Puts.{nothing-gets}
 use Rattle.edf_program_run.specs.ProgramRun.{IsNoticed, ProgramRun, Refuses, run_of}

@@ -1,4 +1,0 @@
--- Words of private contracts, which no public contract cites.
-pub mod All
-pub mod Records
-pub mod Checked

@@ -1,0 +1,15 @@
+use Rattle.std.proofs.Common.{codes}
+use Rattle.std.proofs.lemmas.Result.{IfOk-weaker}
+use Rattle.clap.specs.Simple.{new_app}
+use Rattle.edf_command.specs.Inside.Commands.{required_rule}
+use Rattle.edf_command.proofs.Made.{arg_reads, told_reads}
+use Rattle.edf_command.proofs.commands.list_command.Goals as goal
+
+pub returns : goal.returns
+returns c =
+    let start = told_reads c.new.result c.about.result c.long_about.result c.after_help.result
+    (new_app (codes "list")) _ _ _ (c.new.ensures.app, c.new.ensures.local)
+    c.about.ensures c.long_about.ensures c.after_help.ensures in
+    IfOk-weaker c.arg.result _ _ (λ r h. arg_reads c.after_help.result r _ c.required_value.result
+    (required_rule (codes "STORE")) start c.required_value.ensures.local
+    c.required_value.ensures.rule h) c.arg.ensures

@@ -1,0 +1,120 @@
+-- What the words after the program's name ask for.
+use Rattle.std.specs.Prelude.{◌≡◌, ◌⊎◌, ◌&&◌, ◌||◌, ◌==◌, ◌++◌, ℕ, false, Bool, true, not, List, []}
+use Rattle.std.specs.Prelude.{◌∷◌, Option, Some, None, codes}
+use Rattle.std.specs.Global.{Global}
+use Rattle.std.specs.Prelude.{String, if◌then◌else◌, length, map, nat_lt, option_map, string_bytes}
+use Rattle.std.specs.Char.{digit_value}
+use Rattle.std.specs.List.{list_all}
+use Rattle.std.specs.Str.{bytes_eq}
+use Rattle.std.specs.Str.Parse.{digits_value}
+use Rattle.edf_command.specs.declared.order.Order.{Order}
+use Rattle.edf_command.specs.declared.order.Order.TheVariants as parsed
+
+abbrev pub Text : Type 0
+Text = List ℕ
+
+-- a word is a value: it is `-` alone, or does not begin with `-`
+abbrev pub is_value : Text → Bool
+is_value [] = true
+is_value (x ∷ rest) = not (x == 45) || length rest == 0
+
+-- what can be asked for, with the values: the store's text, the files' texts in order, the place
+pub data Asked : Type 0 where
+  take : Text → List Text → Asked
+  list : Text → Asked
+  export : Text → ℕ → Asked
+  convert : Text → Asked
+
+-- digits with a value from 1 to 4,294,967,295
+abbrev pub is_place : Text → Bool
+is_place text = nat_lt 0 (length text) && (list_all (λ d. nat_lt (digit_value d) 10) text
+    && (nat_lt 0 (digits_value 10 text) && nat_lt (digits_value 10 text) 4294967296))
+
+-- the place that a text names
+abbrev pub place_of : Text → Option ℕ
+place_of text = if is_place text then Some (digits_value 10 text) else None
+
+-- what is asked for by the values after each word that may come first
+abbrev pub asked_of_take : List Text → Option Asked
+asked_of_take (store ∷ file ∷ files) = Some (take store (file ∷ files))
+asked_of_take _ = None
+
+abbrev pub asked_of_list : List Text → Option Asked
+asked_of_list (store ∷ []) = Some (list store)
+asked_of_list _ = None
+
+abbrev pub asked_of_export : List Text → Option Asked
+asked_of_export (store ∷ place ∷ []) = option_map (export store) (place_of place)
+asked_of_export _ = None
+
+abbrev pub asked_of_convert : List Text → Option Asked
+asked_of_convert (file ∷ []) = Some (convert file)
+asked_of_convert _ = None
+
+-- what the words ask for; no word asks to convert standard input
+abbrev pub asked : List Text → Option Asked
+asked [] = Some (convert (codes "-"))
+asked (word ∷ values) = if bytes_eq word (codes "take") then asked_of_take values
+    else (if bytes_eq word (codes "list") then asked_of_list values
+    else (if bytes_eq word (codes "export") then asked_of_export values
+    else (if bytes_eq word (codes "convert") then asked_of_convert values else None)))
+
+-- what a command asks for
+abbrev pub meaning : Order → Asked
+meaning (parsed.Take store files) = take (string_bytes store) (map string_bytes files.items)
+meaning (parsed.List store) = list (string_bytes store)
+meaning (parsed.Export store place) = export (string_bytes store) place
+meaning (parsed.Convert file) = convert (string_bytes file)
+
+-- ---- help and the version
+
+-- the word `help` comes first
+abbrev pub begin_with_help : List Text → Bool
+begin_with_help [] = false
+begin_with_help (word ∷ _) = bytes_eq word (codes "help")
+
+abbrev pub help_flags : List Text
+help_flags = codes "--help" ∷ codes "-h" ∷ []
+
+abbrev pub version_flags : List Text
+version_flags = codes "--version" ∷ codes "-V" ∷ []
+
+abbrev pub commands : List Text
+commands = codes "take" ∷ codes "list" ∷ codes "export" ∷ codes "convert" ∷ []
+
+abbrev pub IsOneOf : List Text → Text → Type 0
+IsOneOf [] word = ⊥
+IsOneOf (name ∷ names) word = (word ≡ name) ⊎ IsOneOf names word
+
+abbrev pub BeginWithHelpFlag : List Text → Type 0
+BeginWithHelpFlag [] = ⊥
+BeginWithHelpFlag (word ∷ _) = IsOneOf help_flags word
+
+-- a flag that asks for help or for the version comes first, or one for help comes after a command
+abbrev pub BeginWithRequest : List Text → Type 0
+BeginWithRequest [] = ⊥
+BeginWithRequest (word ∷ rest) = IsOneOf (help_flags ++ version_flags) word
+    ⊎ (IsOneOf commands word × BeginWithHelpFlag rest)
+
+-- ---- the same of Rust's words
+
+-- the bytes of the words
+abbrev pub texts : List (String Global) → List Text
+texts words = map string_bytes words
+
+-- none is a flag
+abbrev pub AreValues : List (String Global) → Type 0
+AreValues words = list_all is_value (texts words) ≡ true
+
+abbrev pub AskFor : List (String Global) → Order → Type 0
+AskFor words parsed = asked (texts words) ≡ Some (meaning parsed)
+
+abbrev pub AskForNothing : List (String Global) → Type 0
+AskForNothing words = asked (texts words) ≡ None
+
+-- none is a flag, and the first is not `help`
+abbrev pub AskForNoHelp : List (String Global) → Type 0
+AskForNoHelp words = AreValues words × (begin_with_help (texts words) ≡ false)
+
+abbrev pub AskForHelp : List (String Global) → Type 0
+AskForHelp words = BeginWithRequest (texts words)

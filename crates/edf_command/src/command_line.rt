@@ -1,0 +1,80 @@
+//! The reading of a command line.
+
+ghost use Rattle.std.specs.Prelude.{◌≢◌, ◌<◌, IfErr, IfOk, IsErrAnd, length};
+ghost use Rattle.edf_command.specs.Inside.Commands.{Reads, edfstore_app};
+ghost use Rattle.edf_command.specs.Inside.Read.{AreWordsRead};
+ghost use Rattle.edf_command.specs.Arguments.{AreValues, AskFor, AskForHelp, AskForNoHelp};
+ghost use Rattle.edf_command.specs.Arguments.{AskForNothing};
+ghost use Rattle.edf_program.specs.Words.{IsNoHelp, IsNoUsage};
+
+use clap::Command;
+use crate::commands::{edfstore_command, export_command};
+use crate::help::BAD_PLACE;
+use crate::matches::order_in;
+use crate::order::Order;
+use edf_program::{CommandFault, fault_by, refuse_value};
+use std::alloc::{AllocError, Global};
+
+/// What the words ask for. `None` where all is well but a PLACE, which `clap` takes as text.
+fn read<'a>(
+    alloc: Global,
+    command: &mut Command<'a>,
+    words: &'a [String],
+) -> Result<Option<Order>, CommandFault>
+    requires command { Reads command.old edfstore_app }
+    requires some { 0 < length words.now }
+    ensures { AreWordsRead words.now result }
+{
+    let matches = match command.try_get_matches_from_mut(words) {
+        Ok(matches) => matches,
+        Err(error) => return Err(fault_by(alloc, &error)),
+    };
+    Ok(order_in(alloc, &matches)?)
+}
+
+/// What some words ask for. `None` where all is well but a PLACE.
+fn read_words(alloc: Global, words: &[String]) -> Result<Option<Order>, CommandFault>
+    requires some { 0 < length words.now }
+    ensures { AreWordsRead words.now result }
+{
+    let mut command = edfstore_command(alloc)?;
+    read(alloc, &mut command, words)
+}
+
+/// Why a PLACE is refused, with the usage of `export`.
+fn place_fault(alloc: Global) -> Result<CommandFault, AllocError>
+    ensures { IfOk result IsNoHelp }
+{
+    refuse_value(alloc, export_command(alloc)?, "edfstore export", BAD_PLACE)
+}
+
+/// What the words after the program's name ask for.
+///
+/// The words are `take STORE FILE...`, `list STORE`, `export STORE PLACE` or `convert FILE`; no
+/// word at all is `convert -`. PLACE is digits, without a sign, with a value from 1 to
+/// 4,294,967,295; zeros may lead. A word that begins with `-` is a flag, but for `-` alone, which
+/// is a value: `--help` and `-h` ask for help, as the words `help` and `help WORD` do, and after a
+/// `--` that follows the first word all are values. `--version` and `-V` ask for the version:
+/// `edfstore`, a space and the version in a line.
+///
+/// # Errors
+/// Where no word is a flag, `Help` or `Usage` comes exactly where the words ask for nothing, and it
+/// is `Usage` where `help` is not the first. `Help` comes where a flag that asks for help or for
+/// the version is the first word, and where one for help follows `take`, `list`, `export` or
+/// `convert`. `Memory` where memory ran out, in place of any other answer.
+pub fn parse(alloc: Global, words: &[String]) -> Result<Order, CommandFault>
+    ensures command { AreValues words.now → IfOk result (AskFor words.now) }
+    ensures fault { AreValues words.now →
+        IfErr result (λ fault. fault ≢ CommandFault.Memory → AskForNothing words.now) }
+    ensures usage { AskForNoHelp words.now → IfErr result IsNoHelp }
+    ensures help { AskForHelp words.now → IsErrAnd result IsNoUsage }
+{
+    if words.is_empty() {
+        let file = String::from_str(alloc, "-")?;
+        return Ok(Order::Convert { file });
+    }
+    match read_words(alloc, words)? {
+        Some(parsed) => Ok(parsed),
+        None => Err(place_fault(alloc)?),
+    }
+}

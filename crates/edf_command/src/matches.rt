@@ -1,0 +1,120 @@
+//! What `clap` found in the words, as a command.
+
+ghost use Rattle.std.specs.Prelude.{◌≡◌, IfOk, codes, map, option_map, string_bytes};
+ghost use Rattle.clap.specs.Words.{all_of, first_of, found_of, rows_of, subcommand_rows_of};
+ghost use Rattle.edf_command.specs.Inside.Matches.{asked_in, found_by};
+ghost use Rattle.edf_command.specs.Arguments.{meaning};
+
+use clap::ArgMatches;
+use crate::order::{Order, read_place};
+use std::alloc::{AllocError, Global};
+
+/// The texts as strings of their own.
+fn copied(alloc: Global, texts: &[&str]) -> Result<Vec<String>, AllocError>
+    ensures { IfOk result (λ r. map string_bytes r.items ≡ map (λ s. s.now) texts.now) }
+{
+    let mut copies = Vec::new(alloc);
+    for text in texts {
+        copies.push(String::from_str(alloc, text)?)?;
+    }
+    Ok(copies)
+}
+
+/// The value of that name.
+fn value_in<'a>(values: &ArgMatches<'a>, name: &str) -> Option<&'a str>
+    ensures { option_map (λ s. s.now) result ≡ first_of name.now (rows_of (found_of values.now)) }
+{
+    values.get_str(name)
+}
+
+/// All values of that name.
+fn values_in<'m, 'a>(values: &'m ArgMatches<'a>, name: &str) -> Option<&'m [&'a str]>
+    ensures { option_map (λ s. map (λ v. v.now) s.now) result
+        ≡ all_of name.now (rows_of (found_of values.now)) }
+{
+    values.get_strs(name)
+}
+
+/// The word that says what to do, and the values after it.
+fn command_in<'m, 'a>(matches: &'m ArgMatches<'a>) -> Option<(&'a str, &'m ArgMatches<'a>)>
+    ensures { option_map (λ p. (p.0.now, rows_of (found_of p.1.now))) result
+        ≡ subcommand_rows_of matches.now }
+{
+    matches.subcommand()
+}
+
+fn take_in(alloc: Global, values: &ArgMatches<'_>) -> Result<Option<Order>, AllocError>
+    ensures { IfOk result (λ r. option_map meaning r
+        ≡ found_by (codes "take") (rows_of (found_of values.now))) }
+{
+    let Some(store) = value_in(values, "STORE") else {
+        return Ok(None);
+    };
+    let Some(files) = values_in(values, "FILE") else {
+        return Ok(None);
+    };
+    let store = String::from_str(alloc, store)?;
+    let files = copied(alloc, files)?;
+    Ok(Some(Order::Take { store, files }))
+}
+
+fn list_in(alloc: Global, values: &ArgMatches<'_>) -> Result<Option<Order>, AllocError>
+    ensures { IfOk result (λ r. option_map meaning r
+        ≡ found_by (codes "list") (rows_of (found_of values.now))) }
+{
+    let Some(store) = value_in(values, "STORE") else {
+        return Ok(None);
+    };
+    let store = String::from_str(alloc, store)?;
+    Ok(Some(Order::List { store }))
+}
+
+fn export_in(alloc: Global, values: &ArgMatches<'_>) -> Result<Option<Order>, AllocError>
+    ensures { IfOk result (λ r. option_map meaning r
+        ≡ found_by (codes "export") (rows_of (found_of values.now))) }
+{
+    let Some(store) = value_in(values, "STORE") else {
+        return Ok(None);
+    };
+    let Some(place) = value_in(values, "PLACE") else {
+        return Ok(None);
+    };
+    let Some(place) = read_place(place) else {
+        return Ok(None);
+    };
+    let store = String::from_str(alloc, store)?;
+    Ok(Some(Order::Export { store, place }))
+}
+
+fn convert_in(alloc: Global, values: &ArgMatches<'_>) -> Result<Option<Order>, AllocError>
+    ensures { IfOk result (λ r. option_map meaning r
+        ≡ found_by (codes "convert") (rows_of (found_of values.now))) }
+{
+    let Some(file) = value_in(values, "FILE") else {
+        return Ok(None);
+    };
+    let file = String::from_str(alloc, file)?;
+    Ok(Some(Order::Convert { file }))
+}
+
+/// What was found as a command. `None` where a PLACE names no place.
+pub(crate) fn order_in(alloc: Global, matches: &ArgMatches<'_>) -> Result<Option<Order>, AllocError>
+    ensures { IfOk result (λ r. option_map meaning r ≡ asked_in (subcommand_rows_of matches.now)) }
+{
+    let Some((word, values)) = command_in(matches) else {
+        return Ok(None);
+    };
+    if word == "take" {
+        return take_in(alloc, values);
+    }
+    if word == "list" {
+        return list_in(alloc, values);
+    }
+    if word == "export" {
+        return export_in(alloc, values);
+    }
+    if word == "convert" {
+        return convert_in(alloc, values);
+    }
+    Ok(None)
+}

@@ -1,0 +1,32 @@
+-- The files that no submissions leave, and what the check of a file answers.
+use Rattle.std.specs.Prelude.{◌≡◌, ◌≢◌, ℕ, [], Bool, true, false, IsTrue}
+use Rattle.sqlite.specs.Effect.{Database}
+use Rattle.sqlite.specs.State.{State}
+use Rattle.edf_holdings.specs.Holdings.{Holdings}
+use Rattle.edf_tables.specs.Columns.{stored_recordings}
+use Rattle.edf_tables.specs.Schema.{one_schema, HasBoth}
+use Rattle.edf_tables.specs.Made.{IsOurs, HasTables}
+use Rattle.edf_rows.specs.Rows.{AreKept}
+use Rattle.edf_rows.specs.Foreign.{IsForeign}
+
+-- why a file is refused: its schema is not ours; no submissions under the cap leave its rows; or it
+-- has a recording, and no table of records
+pub data IsForeignFile (cap : ℕ) (db : Database) : Type 0 where
+  other_schema : ¬ IsOurs db → IsForeignFile cap db
+  foreign_rows : HasBoth db.schema → IsForeign cap db.trees → IsForeignFile cap db
+  only_recordings : db.schema ≡ one_schema → stored_recordings db.trees ≢ [] → IsForeignFile cap db
+
+-- the file had our tables, or those that were missing are made; the rows that it had are there, and
+-- stand for holdings; no transaction is open
+pub record PassesAudit (cap : ℕ) (old new : State) : Type 0 where
+  pub is_open : IsTrue new.is_open
+  pub tables : HasTables old.now new.now
+  pub settled : new.committed ≡ new.now
+  pub idle : new.in_transaction ≡ false
+  pub holdings : (h : Holdings) × AreKept cap new.now.trees h
+  pub own : ¬ IsForeignFile cap old.now
+
+-- the answer of the check
+abbrev pub Audits : ℕ → State → State → Bool → Type 0
+Audits cap old new true = PassesAudit cap old new
+Audits cap old new false = IsForeignFile cap old.now

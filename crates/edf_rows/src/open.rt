@@ -1,0 +1,70 @@
+//! The check of a file as a store is opened.
+
+ghost use Rattle.std.specs.Prelude.{◌≡◌, Ok, false, IsTrue};
+ghost use Rattle.sqlite.specs.Held.{state};
+ghost use Rattle.sqlite.specs.State.{Survives};
+ghost use Rattle.edf_tables.specs.Made.{IsOurs, HasTables, KeepsFile, IsMadeOf};
+ghost use Rattle.edf_rows.specs.Inside.All.{Answers};
+ghost use Rattle.edf_rows.specs.File.{Audits};
+ghost use Rattle.edf_tables.specs.Statement.{tables, IfClean, Gives, Leaves};
+
+use crate::all::check_all;
+use edf_tables::{create_tables, is_ours};
+use sqlite::{Alter, Connection, Error, ErrorCode};
+use std::alloc::Global;
+
+/// Makes those of our tables that are missing, and tells whether their rows are those of
+/// submissions under the cap. What another tool put after both tables stays.
+///
+/// # Errors
+/// Those of [`audit`].
+fn audit_tables<S: Alter>(alloc: Global, conn: &mut Connection<S>, cap: u32) -> Result<bool, Error>
+    requires ours { IfClean S.Store conn.old (λ s. IsOurs s.now) }
+    ensures tables { Leaves S.Store conn.old conn.new result
+        (λ old new. HasTables old.now new.now) }
+    ensures answers { Gives S.Store conn.new result (Answers cap (tables S.Store conn.new)) }
+    ensures is_open { Leaves S.Store conn.old conn.new result (λ _ new. IsTrue new.is_open) }
+    ensures settled { Leaves S.Store conn.old conn.new result (λ _ new. new.committed ≡ new.now) }
+    ensures idle { Leaves S.Store conn.old conn.new result (λ _ new. new.in_transaction ≡ false) }
+    ensures stays { IfClean S.Store conn.new (KeepsFile (state S.Store conn.old)) }
+    ensures survives { Survives (state S.Store conn.old) (state S.Store conn.new)
+        (IsMadeOf (state S.Store conn.old).now) }
+{
+    create_tables(conn)?;
+    if !conn.is_autocommit() {
+        return Err(Error::SqliteFailure(ErrorCode::TransactionState));
+    }
+    check_all(alloc, conn, cap)
+}
+
+/// Whether a file is one that submissions under the cap leave. Where its tables are ours, those of
+/// the two that are missing are made.
+///
+/// The tables are ours in a file that has nothing, the first table alone, or both tables first and
+/// in their order. After both there may be anything that is not on them: it stays as it is, and the
+/// trees of its rows are its own. An index or a trigger on one of the two makes a file another's.
+/// The answer is `false` for a file of other tables, which stays as it is, and for rows that no
+/// submissions leave. Whatever is answered, the committed rows stay, and what is shown stays or an
+/// open transaction is undone: clause `stays`.
+///
+/// # Errors
+/// `sqlite`'s; the committed rows stay, an open transaction may be undone, and tables may have been
+/// made. Of its own, in `sqlite`'s words: `OutOfMemory` where memory runs out; `TransactionState`
+/// where a transaction is open; `IntegerOverflow` where the recordings have `MOST_COUNTED` of
+/// `edf_tables` records or more. A crash leaves no table, the first, or both.
+pub fn audit<S: Alter>(alloc: Global, conn: &mut Connection<S>, cap: u32) -> Result<bool, Error>
+    ensures other { ¬ IsOurs (state S.Store conn.old).now →
+        (result ≡ Ok false) × (conn.new ≡ conn.old) }
+    ensures tables { IsOurs (state S.Store conn.old).now →
+        Leaves S.Store conn.old conn.new result (λ old new. HasTables old.now new.now) }
+    ensures answers { Gives S.Store conn.new result
+        (Audits cap (state S.Store conn.old) (state S.Store conn.new)) }
+    ensures stays { IfClean S.Store conn.new (KeepsFile (state S.Store conn.old)) }
+    ensures survives { Survives (state S.Store conn.old) (state S.Store conn.new)
+        (IsMadeOf (state S.Store conn.old).now) }
+{
+    if !is_ours(conn.schema()) {
+        return Ok(false);
+    }
+    audit_tables(alloc, conn, cap)
+}

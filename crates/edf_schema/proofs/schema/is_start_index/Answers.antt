@@ -1,6 +1,0 @@
-use Rattle.std.specs.Fmt.{digits}
-use Rattle.edf_schema.proofs.schema.is_start_index.Goals as goal
-
-pub returns : goal.returns
-unfolding digits
-returns c = c.is_index.ensures

@@ -1,3 +1,0 @@
-pub mod Schema
-pub mod Inside
-pub mod Columns
