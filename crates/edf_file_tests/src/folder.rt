@@ -3,7 +3,7 @@
 ghost use Rattle.std.specs.Prelude.{◌≡◌, [], None, Some, true, IfOk};
 
 use edf_fragment::{Output, one_more};
-use edf_new_files::{MadeFiles, NewFiles, Unfinished};
+use edf_program::{MadeFiles, NewFiles, Unfinished};
 use std::alloc::Global;
 use std::io;
 

@@ -16,7 +16,7 @@ use Rattle.edf_fragment.proofs.OneFragment.{one-fragment}
 use Rattle.edf_holdings.specs.Holdings.{Holdings}
 use Rattle.edf_store.specs.Held.{StoreModel, Stays}
 use Rattle.edf_canonical.proofs.Files.{its-own}
-use Rattle.edf_new_files.specs.Making.{Making}
+use Rattle.edf_program.specs.Making.{Making}
 use Rattle.edf_canonical.specs.File.{IsCanonicalFile}
 use Rattle.edf_export.specs.Export.{IsExported}
 use Rattle.edf_export.specs.Headline.{IsOnlyFile}

@@ -15,7 +15,7 @@ use Rattle.edf_store.specs.declared.fault.StoreFault.{StoreFault}
 use Rattle.edf_store.specs.declared.fault.StoreFault.TheVariants as fault
 use Rattle.edf_intake.specs.Refusal.{Answer, reply_told}
 use Rattle.edf_intake.specs.declared.answer.Refusal.TheVariants as refusal
-use Rattle.edf_new_files.specs.Making.{Making}
+use Rattle.edf_program.specs.Making.{Making}
 use Rattle.edf_program.specs.Output.{Growth}
 use Rattle.edf_program.specs.Text.{IsSpelling}
 use Rattle.edf_program.specs.declared.status.Status.TheVariants.{Done}

@@ -3,11 +3,11 @@ use Rattle.std.specs.Prelude.{◌≡◌, ◌⊎◌, ◌∷◌, [], ℕ, List, So
 use Rattle.std.specs.Prelude.{Bool, true, false, if◌then◌else◌, String, string_bytes, option_map}
 use Rattle.std.specs.Global.{Global}
 use Rattle.std.specs.List.{AllZip, flat_map}
-use Rattle.edf_new_files.specs.Made.{MadeFile, made_file}
-use Rattle.edf_new_files.specs.Making.{Making}
-use Rattle.edf_new_files.specs.There.{There}
-use Rattle.edf_new_files.specs.declared.new_files.FileStage.{FileStage}
-use Rattle.edf_new_files.specs.declared.new_files.FileStage.TheVariants.{Finished, Removed}
+use Rattle.edf_program.specs.Made.{MadeFile, made_file}
+use Rattle.edf_program.specs.Making.{Making}
+use Rattle.edf_program.specs.There.{There}
+use Rattle.edf_program.specs.declared.new_files.FileStage.{FileStage}
+use Rattle.edf_program.specs.declared.new_files.FileStage.TheVariants.{Finished, Removed}
 use Rattle.edf_program.specs.Output.{Growth}
 use Rattle.edf_program.specs.Status.{exit_code}
 use Rattle.edf_program.specs.Words.{IsFaultTold}

@@ -3,7 +3,7 @@
 ghost use Rattle.std.specs.Prelude.{◌≡◌, ◌++◌, ◌∷◌, [], ℕ, List, Bool, false, true, All, IfOk};
 ghost use Rattle.std.specs.Prelude.{◌||◌, IfErr, MatchResult, bytes_eq};
 ghost use Rattle.std.specs.List.{AllZip};
-ghost use Rattle.edf_new_files.specs.Made.{MadeFile, begun, WritesNone};
+ghost use Rattle.edf_program.specs.Made.{MadeFile, begun, WritesNone};
 ghost use Rattle.edf_page.specs.InsideFolder.{is_among, unforgotten};
 ghost use Rattle.edf_page.specs.Programs.{IsGivenBack, IsWholeOrGone, finished_of};
 
@@ -12,7 +12,7 @@ use crate::given::GivenFile;
 use crate::names::Names;
 use crate::text::Text;
 use edf_fragment::one_more;
-use edf_new_files::{FileStage, NewFiles, Unfinished};
+use edf_program::{FileStage, NewFiles, Unfinished};
 use std::alloc::{AllocError, Global};
 use std::io;
 

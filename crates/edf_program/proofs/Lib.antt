@@ -2,3 +2,5 @@ pub mod Puts
 pub mod Parts
 pub mod Opened
 pub mod Undone
+pub mod Filled
+mod MadeLists

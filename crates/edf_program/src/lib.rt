@@ -15,15 +15,24 @@
 //! - [`CommandFault`]: why words ask for nothing; [`fault_by`], [`refuse_value`]: by what `clap`
 //!   says, or where it takes any text for a value; [`tell_fault`]: what is written then.
 //! - [`VERSION`]: of all the programs.
+//! - [`NewFiles`]: what makes them. What was there is never touched: a file is begun only where
+//!   nothing has its name, and only files that were begun here are removed. [`Unfinished`]: why one
+//!   did not get its name.
+//! - [`MadeFiles`]: the list of them that what makes them keeps, with the count of failed calls.
+//!   [`FileStage`]: how far each is.
 #![tactic(auto)]
 
 mod inputs;
+mod made_files;
+mod new_files;
 mod output;
 mod status;
 mod text;
 mod words;
 
 pub use inputs::Inputs;
+pub use made_files::MadeFiles;
+pub use new_files::{FileStage, NewFiles, Unfinished};
 pub use output::{put_line, put_parts, tell, tell_bytes, tell_line, tell_parts};
 pub use status::{Status, status_of_number, worse};
 pub use text::{

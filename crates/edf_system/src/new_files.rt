@@ -4,7 +4,7 @@ ghost use Rattle.std.specs.Prelude.{◌≡◌, None, false, IfOk};
 
 use crate::parts::{NewFile, Parts};
 use crate::terminal::Terminal;
-use edf_new_files::{FileStage, MadeFiles, NewFiles, Unfinished};
+use edf_program::{FileStage, MadeFiles, NewFiles, Unfinished};
 use std::alloc::Global;
 use std::io::{self, ErrorKind};
 

@@ -14,9 +14,9 @@ use Rattle.edf_program.specs.Output.{Growth, Gets, GetsFront, IsWritten, Explain
 use Rattle.edf_program.specs.Text.{there_line}
 use Rattle.edf_program.specs.declared.status.Status.{Status}
 use Rattle.edf_program.specs.declared.status.Status.TheVariants.{Done, Refused, Trouble}
-use Rattle.edf_new_files.specs.Made.{MadeFile, finished, removed, kept as kept_file}
-use Rattle.edf_new_files.specs.Making.{Making, MakesNothing}
-use Rattle.edf_new_files.specs.There.{IsVacant, MayBeThere}
+use Rattle.edf_program.specs.Made.{MadeFile, finished, removed, kept as kept_file}
+use Rattle.edf_program.specs.Making.{Making, MakesNothing}
+use Rattle.edf_program.specs.There.{IsVacant, MayBeThere}
 use Rattle.edfmend_command.specs.Lines.{why_line, why_status, kept_line, kept_status}
 use Rattle.edfmend_command.specs.Lines.{unwritten_line, memory_line, standard_output}
 use Rattle.edfmend_command.specs.Ledger.{ledger_lines}

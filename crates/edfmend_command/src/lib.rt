@@ -4,7 +4,7 @@
 //!   written. [`parse`]: the words, read, and nothing else. [`command_of`]: the same of the values
 //!   of words ([`MendValues`]).
 //! - [`run_mend`]: the command, over what opens files (`edf_program`'s `Inputs`) and what makes
-//!   them (`edf_new_files`' `NewFiles`).
+//!   them (`edf_program`' `NewFiles`).
 #![tactic(auto)]
 
 mod arguments;

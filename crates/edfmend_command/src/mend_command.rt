@@ -4,7 +4,7 @@ ghost use Rattle.std.specs.Prelude.{◌≡◌, ◌≢◌, ◌⊎◌, ◌++◌, �
 ghost use Rattle.std.specs.Prelude.{MatchResult, option_map, replicate, string_bytes};
 ghost use Rattle.edf_program.specs.Opened.{OpensUpTo};
 ghost use Rattle.edf_program.specs.Output.{growth};
-ghost use Rattle.edf_new_files.specs.Making.{making};
+ghost use Rattle.edf_program.specs.Making.{making};
 ghost use Rattle.edfmend_command.specs.Inside.{Surveys, MendsAs, WritesFile, StopsWriting};
 ghost use Rattle.edfmend_command.specs.Inside.{MakesFile, StopsMaking};
 ghost use Rattle.edfmend_command.specs.Run.{IsMendedFile, IsNotMended, CountsWrite, left_name};
@@ -15,8 +15,7 @@ use crate::lines::tell_ledger;
 use crate::refusal::refuse;
 use edf_fragment::{Counted, Output};
 use edf_mend::{Ledger, MendFault, Survey, Wanted, mend, survey_file};
-use edf_new_files::NewFiles;
-use edf_program::{Inputs, Status, tell_there};
+use edf_program::{tell_there, Inputs, NewFiles, Status};
 use std::alloc::Global;
 use std::io;
 

@@ -8,8 +8,8 @@ use Rattle.edf_program.specs.Output.{Growth, Gets, GetsFront}
 use Rattle.edf_program.specs.declared.status.Status.{Status}
 use Rattle.edf_runs.specs.declared.run.Run.{Run}
 use Rattle.edf_runs.specs.declared.run_list.Listing.{Listing}
-use Rattle.edf_new_files.specs.Made.{MadeFile, names_of}
-use Rattle.edf_new_files.specs.Making.{Making}
+use Rattle.edf_program.specs.Made.{MadeFile, names_of}
+use Rattle.edf_program.specs.Making.{Making}
 use Rattle.edfruns_command.specs.Lines.{IsSpelling, stop_line, unwritten_line, standard_output}
 use Rattle.edfruns_command.proofs.Finished.{has-all, finished-still, same-names}
 use Rattle.edfruns_command.specs.Splitting.{GivesUp, HasMade, AreRuns, LacksFiles, LacksLines}

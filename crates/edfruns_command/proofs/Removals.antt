@@ -12,7 +12,7 @@ use Rattle.std.specs.Io.KnownBytes.{Appends}
 use Rattle.edf_program.specs.Output.{Growth, Gets, GetsFront, IsPut, IsWritten}
 use Rattle.edf_program.specs.declared.status.Status.TheVariants.{Trouble}
 use Rattle.edf_program.proofs.Puts.{grown, gets-after, front-after}
-use Rattle.edf_new_files.specs.Made.{MadeFile, begun}
+use Rattle.edf_program.specs.Made.{MadeFile, begun}
 use Rattle.edfruns_command.specs.Made.{IsOver, left_text}
 use Rattle.edfruns_command.specs.InsideSplit.{as_begun, IsPutAfter, RemovesOne, RemovesFrom}
 

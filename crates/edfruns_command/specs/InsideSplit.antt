@@ -6,9 +6,9 @@ use Rattle.edf_program.specs.Output.{Growth, Gets, IsPut, IsWritten}
 use Rattle.edf_program.specs.declared.status.Status.{Status}
 use Rattle.edf_program.specs.declared.status.Status.TheVariants.{Trouble}
 use Rattle.edf_runs.specs.declared.run_list.Listing.{Listing}
-use Rattle.edf_new_files.specs.Made.{MadeFile, made_file}
-use Rattle.edf_new_files.specs.Making.{Making}
-use Rattle.edf_new_files.specs.declared.new_files.FileStage.TheVariants.{Begun}
+use Rattle.edf_program.specs.Made.{MadeFile, made_file}
+use Rattle.edf_program.specs.Making.{Making}
+use Rattle.edf_program.specs.declared.new_files.FileStage.TheVariants.{Begun}
 use Rattle.edfruns_command.specs.Listing.{HasRuns}
 use Rattle.edfruns_command.specs.Made.{IsOver, left_text}
 use Rattle.edfruns_command.specs.Splitting.{SplitsFiles}

@@ -2,7 +2,7 @@
 use Rattle.std.specs.Prelude.{ℕ, Bool, List, Option, length, map, string_bytes}
 use Rattle.edf_program.specs.Output.{Growth}
 use Rattle.edf_program.specs.declared.status.Status.{Status}
-use Rattle.edf_new_files.specs.Making.{Making, MakesNothing}
+use Rattle.edf_program.specs.Making.{Making, MakesNothing}
 use Rattle.edfruns_command.specs.Listed.{IsListOut, OpensEach}
 use Rattle.edfruns_command.specs.Listing.{OpensAgain}
 use Rattle.edfruns_command.specs.Picturing.{IsPictured}

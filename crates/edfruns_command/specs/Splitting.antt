@@ -15,10 +15,10 @@ use Rattle.edf_runs.specs.File.{IsRunFile}
 use Rattle.edf_runs.specs.Runs.{IsRuns, IsListed}
 use Rattle.edf_runs.specs.declared.run.Run.{Run}
 use Rattle.edf_runs.specs.declared.run_list.Listing.{Listing}
-use Rattle.edf_new_files.specs.Made.{MadeFile, names_of}
-use Rattle.edf_new_files.specs.Making.{Making, MakesNothing}
-use Rattle.edf_new_files.specs.There.{There, IsVacant, MayBeThere}
-use Rattle.edf_new_files.specs.declared.new_files.FileStage.TheVariants.{Finished}
+use Rattle.edf_program.specs.Made.{MadeFile, names_of}
+use Rattle.edf_program.specs.Making.{Making, MakesNothing}
+use Rattle.edf_program.specs.There.{There, IsVacant, MayBeThere}
+use Rattle.edf_program.specs.declared.new_files.FileStage.TheVariants.{Finished}
 use Rattle.edfruns_command.specs.Naming.{run_names, asked_names}
 use Rattle.edfruns_command.specs.Lines.{IsSpelling, undated_line, stop_line}
 use Rattle.edfruns_command.specs.Lines.{unwritten_line, standard_output}

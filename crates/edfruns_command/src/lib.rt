@@ -4,7 +4,7 @@
 //! - [`read_command`]: the words after the program's name, as a [`RunsCommand`]; help and usage are
 //!   written. [`parse`]: the words, read, and nothing else.
 //! - [`run_runs`]: one command, over what opens files (`edf_program`'s `Inputs`) and what makes
-//!   them (`edf_new_files`' `NewFiles`).
+//!   them (`edf_program`' `NewFiles`).
 //! - [`runs_text`]: the lines of runs that were listed; [`Sight`]: what a picture shows of a
 //!   recording, data record by data record, and the picture.
 #![tactic(auto)]

@@ -3,15 +3,14 @@
 ghost use Rattle.std.specs.Prelude.{◌≡◌, ◌-◌, ◌≤◌, ◌++◌, ◌∷◌, List, length, map, string_bytes};
 ghost use Rattle.std.specs.Prelude.{drop, take};
 ghost use Rattle.edf_program.specs.Output.{growth};
-ghost use Rattle.edf_new_files.specs.Made.{MadeFile, names_of};
+ghost use Rattle.edf_program.specs.Made.{MadeFile, names_of};
 ghost use Rattle.edfruns_command.specs.InsideSplit.{RemovesOne, RemovesFrom};
 ghost use Rattle.edfruns_command.specs.Lines.{stop_line};
 
 use crate::refusal::{is_left_told, is_stop_told};
 use crate::stop::Stop;
 use edf_fragment::Output;
-use edf_new_files::NewFiles;
-use edf_program::Status;
+use edf_program::{NewFiles, Status};
 
 /// Removes the file at a place of those that were made, and prints its name where that can't be
 /// done, unless printing failed before. Whether all was printed whole.

@@ -1,7 +1,7 @@
 //! The commands: what each asks for, how often it reads its file, and its work.
 
 ghost use Rattle.edf_program.specs.Output.{growth};
-ghost use Rattle.edf_new_files.specs.Making.{making};
+ghost use Rattle.edf_program.specs.Making.{making};
 ghost use Rattle.edfruns_command.specs.Run.{IsDone, HasMade, HasOpened, meaning};
 
 use crate::canonical_command::canonical;
@@ -9,8 +9,7 @@ use crate::list_command::list;
 use crate::picture_command::picture;
 use crate::split_command::split;
 use edf_fragment::Output;
-use edf_new_files::NewFiles;
-use edf_program::{Inputs, Status};
+use edf_program::{Inputs, NewFiles, Status};
 use std::alloc::Global;
 
 /// What a command line of `edfruns` asks for. A file is a path, or `-` for the standard input of

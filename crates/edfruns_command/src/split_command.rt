@@ -5,13 +5,14 @@ ghost use Rattle.std.specs.Prelude.{string_bytes, take};
 ghost use Rattle.edf_header.specs.Key.{MayStart};
 ghost use Rattle.edf_program.specs.Output.{growth};
 ghost use Rattle.edf_runs.specs.declared.run.Run.{Run as ListedRun};
-ghost use Rattle.edf_new_files.specs.Making.{making};
-ghost use Rattle.edf_new_files.specs.There.{IsVacant};
+ghost use Rattle.edf_program.specs.Making.{making};
+ghost use Rattle.edf_program.specs.There.{IsVacant};
 ghost use Rattle.edfruns_command.specs.InsideSplit.{SplitsListed};
 ghost use Rattle.edfruns_command.specs.Listing.{OpensAgain};
 ghost use Rattle.edfruns_command.specs.Naming.{asked_names};
 ghost use Rattle.edfruns_command.specs.Splitting.{IsSplit, IsTaken, IsUndated};
 
+use clap::{ArgMatches, Command};
 use crate::arguments::{refuse_stream, required_value, twice_read_file_value, value_in};
 use crate::counting::remark_outside;
 use crate::list_command::listing_of;
@@ -21,10 +22,8 @@ use crate::refusal::{STANDARD_OUTPUT, refuse, tell_undated};
 use crate::removing::give_up;
 use crate::runs_command::RunsCommand;
 use crate::stop::Stop;
-use clap::{ArgMatches, Command};
 use edf_fragment::{Output, send};
-use edf_new_files::NewFiles;
-use edf_program::{CommandFault, Inputs, Status, tell_memory, tell_there};
+use edf_program::{tell_memory, tell_there, CommandFault, Inputs, NewFiles, Status};
 use edf_runs::Listing;
 use std::alloc::{AllocError, Global};
 

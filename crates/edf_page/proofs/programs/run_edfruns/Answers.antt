@@ -1,5 +1,5 @@
 use Rattle.std.proofs.Common.{◌≡◌, ℕ, List, Some, true, ap, refl, subst, rules}
-use Rattle.edf_new_files.specs.Making.{Making}
+use Rattle.edf_program.specs.Making.{Making}
 use Rattle.edf_program.specs.Output.{Growth}
 use Rattle.edfruns_command.specs.Run.{IsDone, meaning}
 use Rattle.edf_page.specs.InsideFolder.{there_in, unforgotten}

@@ -5,7 +5,7 @@ use Rattle.std.specs.Prelude.{option_map}
 use Rattle.edf_program.specs.Output.{growth}
 use Rattle.edf_program.proofs.Puts.{nothing-gets}
 use Rattle.edfmend_command.specs.Run.{SaysWhy, CountsWrite}
-use Rattle.edf_new_files.proofs.Filled.{filled}
+use Rattle.edf_program.proofs.Filled.{filled}
 use Rattle.edfmend_command.proofs.Mending.{asked-makes, asked-stops, asked-surveys, unread}
 use Rattle.edfmend_command.proofs.Opened.{fewer, then-up, then-twice, says-undone}
 use Rattle.edfmend_command.proofs.mend_command.mend_to.Goals as goal

@@ -10,7 +10,7 @@ use Rattle.edf_fragment.specs.Reading.{ReadsHeader}
 use Rattle.edf_runs.specs.Again.{IsNotReopened}
 use Rattle.edf_runs.specs.declared.run.Run.{Run}
 use Rattle.edf_runs.specs.declared.fault.WriteFault.TheVariants.{Memory}
-use Rattle.edf_new_files.specs.Making.{making}
+use Rattle.edf_program.specs.Making.{making}
 use Rattle.edfruns_command.specs.Rereading.{ReadsAgain}
 use Rattle.edfruns_command.specs.InsideMaking.{MakesFirst, StopsEach, IsAtEnd, StopsAtEnd}
 use Rattle.edf_program.proofs.Opened.{opened-once}

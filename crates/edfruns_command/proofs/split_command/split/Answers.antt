@@ -6,8 +6,8 @@ use Rattle.std.proofs.lemmas.List.FromFn.{length-map-range_with_len}
 use Rattle.edf_program.specs.Output.{growth}
 use Rattle.edf_program.proofs.Puts.{nothing-gets}
 use Rattle.edf_runs.specs.declared.run.Run.{Run}
-use Rattle.edf_new_files.specs.Making.{Making, making}
-use Rattle.edf_new_files.specs.There.{IsVacant}
+use Rattle.edf_program.specs.Making.{Making, making}
+use Rattle.edf_program.specs.There.{IsVacant}
 use Rattle.edfruns_command.specs.Naming.{run_name, run_names, first_names, asked_names}
 use Rattle.edfruns_command.specs.InsideSplit.{SplitsListed}
 use Rattle.edfruns_command.proofs.Answered.{opened-first, opened-then, opened-refused}

@@ -2,7 +2,7 @@ use Rattle.std.proofs.Common.{◌∙◌, inl, inr, refl, subst, map, string_byte
 use Rattle.std.proofs.lemmas.List.{length-map}
 use Rattle.edf_program.specs.Output.{Gets, GetsFront, growth}
 use Rattle.edf_program.proofs.Puts.{nothing-gets, put-sent, remarked}
-use Rattle.edf_new_files.specs.Making.{making}
+use Rattle.edf_program.specs.Making.{making}
 use Rattle.edfruns_command.proofs.GivingUp.{named, stopped, untold}
 use Rattle.edfruns_command.proofs.Splits.{are-runs}
 use Rattle.edfruns_command.proofs.split_command.split_listed.Goals as goal

@@ -2,11 +2,11 @@ use Rattle.std.proofs.Common.{◌≡◌, ◌<◌, ◌++◌, ◌∷◌, List, Boo
 use Rattle.std.proofs.Common.{map, string_bytes, refl}
 use Rattle.std.specs.Prelude.{option_map}
 use Rattle.std.specs.Bool.{MatchBool}
-use Rattle.edf_new_files.specs.Made.{Made, MadeFile, made_file, removed, kept, stage_after}
-use Rattle.edf_new_files.specs.declared.made_files.MadeEntry.{MadeEntry}
-use Rattle.edf_new_files.specs.declared.new_files.FileStage.{FileStage}
-use Rattle.edf_new_files.proofs.MadeLists.{replaced, was}
-use Rattle.edf_new_files.proofs.made_files.MadeFiles.end.Goals as goal
+use Rattle.edf_program.specs.Made.{Made, MadeFile, made_file, removed, kept, stage_after}
+use Rattle.edf_program.specs.declared.made_files.MadeEntry.{MadeEntry}
+use Rattle.edf_program.specs.declared.new_files.FileStage.{FileStage}
+use Rattle.edf_program.proofs.MadeLists.{replaced, was}
+use Rattle.edf_program.proofs.made_files.MadeFiles.end.Goals as goal
 
 ends : (is_gone : Bool) (stage : FileStage) (front later now : List MadeFile) (old new file :
     MadeFile)

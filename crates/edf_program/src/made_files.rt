@@ -4,8 +4,8 @@ ghost use Rattle.std.specs.Prelude.{◌≡◌, ◌≤◌, ◌++◌, ◌∷◌, [
 ghost use Rattle.std.specs.Prelude.{length, option_map, slice_get};
 ghost use Rattle.std.specs.Bool.{MatchBool};
 ghost use Rattle.edf_fragment.specs.Failures.{one_more};
-ghost use Rattle.edf_new_files.specs.Made.{MadeFile, made_file, begun, half, finished, removed};
-ghost use Rattle.edf_new_files.specs.Made.{kept, unnamed, stage_after, WritesNone, failed_with};
+ghost use Rattle.edf_program.specs.Made.{MadeFile, made_file, begun, half, finished, removed};
+ghost use Rattle.edf_program.specs.Made.{kept, unnamed, stage_after, WritesNone, failed_with};
 
 use crate::new_files::{FileStage, Unfinished};
 use edf_fragment::one_more;
@@ -70,7 +70,7 @@ pub struct MadeFiles {
 
 impl Model for MadeFiles {
     ghost use Rattle.std.specs.Prelude.{map, option_map, string_bytes};
-    ghost use Rattle.edf_new_files.specs.Made.{Made, made_file};
+    ghost use Rattle.edf_program.specs.Made.{Made, made_file};
 
     ghost Value = { Made };
 

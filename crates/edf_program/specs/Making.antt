@@ -1,8 +1,8 @@
 -- What makes files, before and after.
 use Rattle.std.specs.Prelude.{◌≡◌, ℕ, List, Bool}
-use Rattle.edf_new_files.specs.Made.{MadeFile}
-use Rattle.edf_new_files.specs.There.{There}
-use Rattle.edf_new_files.specs.declared.new_files.NewFiles.{Ghosts}
+use Rattle.edf_program.specs.Made.{MadeFile}
+use Rattle.edf_program.specs.There.{There}
+use Rattle.edf_program.specs.declared.new_files.NewFiles.{Ghosts}
 
 -- by what it tells before and after
 pub record Making : Type 0 where

@@ -2,12 +2,12 @@ use Rattle.std.proofs.Common.{◌≡◌, ◌<◌, ◌-◌, ◌++◌, ◌∷◌, 
 use Rattle.std.proofs.Common.{Option, map, string_bytes, length-append}
 use Rattle.std.specs.Prelude.{option_map}
 use Rattle.std.proofs.lemmas.List.{length-map}
-use Rattle.edf_new_files.specs.Made.{Made, MadeFile, made_file, begun}
-use Rattle.edf_new_files.specs.declared.made_files.MadeEntry.{MadeEntry}
-use Rattle.edf_new_files.specs.declared.new_files.FileStage.{FileStage}
-use Rattle.edf_new_files.specs.declared.new_files.Unfinished.{Unfinished}
-use Rattle.edf_new_files.proofs.MadeLists.{replaced, was}
-use Rattle.edf_new_files.proofs.made_files.MadeFiles.give_back.Goals as goal
+use Rattle.edf_program.specs.Made.{Made, MadeFile, made_file, begun}
+use Rattle.edf_program.specs.declared.made_files.MadeEntry.{MadeEntry}
+use Rattle.edf_program.specs.declared.new_files.FileStage.{FileStage}
+use Rattle.edf_program.specs.declared.new_files.Unfinished.{Unfinished}
+use Rattle.edf_program.proofs.MadeLists.{replaced, was}
+use Rattle.edf_program.proofs.made_files.MadeFiles.give_back.Goals as goal
 
 pub returns-then-eq-clause-files : goal.returns-then-eq-clause-files
 returns-then-eq-clause-files c files name now =

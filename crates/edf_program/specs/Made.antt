@@ -1,11 +1,11 @@
 -- Files that were begun, and what is left of them.
 use Rattle.std.specs.Prelude.{◌≡◌, ◌≢◌, ◌⊎◌, ℕ, zero, suc, ◌+◌, ◌-◌, ◌^◌, min, List, [], ◌∷◌, ◌++◌, map}
 use Rattle.std.specs.Prelude.{Bool, true, false, Option, Some, None, Result, Ok, Err}
-use Rattle.edf_new_files.specs.declared.new_files.FileStage.{FileStage}
-use Rattle.edf_new_files.specs.declared.new_files.FileStage.TheVariants.{Begun, Left, Finished}
-use Rattle.edf_new_files.specs.declared.new_files.FileStage.TheVariants.{Removed}
-use Rattle.edf_new_files.specs.declared.new_files.FileStage.TheVariants.{Kept}
-use Rattle.edf_new_files.specs.declared.new_files.Unfinished.{Unfinished}
+use Rattle.edf_program.specs.declared.new_files.FileStage.{FileStage}
+use Rattle.edf_program.specs.declared.new_files.FileStage.TheVariants.{Begun, Left, Finished}
+use Rattle.edf_program.specs.declared.new_files.FileStage.TheVariants.{Removed}
+use Rattle.edf_program.specs.declared.new_files.FileStage.TheVariants.{Kept}
+use Rattle.edf_program.specs.declared.new_files.Unfinished.{Unfinished}
 
 -- a file that was begun: under which name, how far it is, whether it was finished, what its writer
 -- held when it was given back, where that is known, and why it did not get its name, if it was to

@@ -4,10 +4,10 @@ ghost use Rattle.std.specs.Prelude.{◌≡◌, ◌≤◌, ◌++◌, ◌∷◌, [
 ghost use Rattle.std.specs.Prelude.{IfOk, IfSome, MatchResult, length};
 ghost use Rattle.std.specs.Bool.{MatchBool};
 ghost use Rattle.edf_fragment.specs.Failures.{one_more};
-ghost use Rattle.edf_new_files.specs.Made.{MadeFile, begun, half, removed, kept};
-ghost use Rattle.edf_new_files.specs.Made.{IsEnded, WritesNone, failed_with};
-ghost use Rattle.edf_new_files.specs.There.{There, IsVacant, MayBeThere, IsSame, IsNamed};
-ghost use Rattle.edf_new_files.specs.There.{IsTakenAway};
+ghost use Rattle.edf_program.specs.Made.{MadeFile, begun, half, removed, kept};
+ghost use Rattle.edf_program.specs.Made.{IsEnded, WritesNone, failed_with};
+ghost use Rattle.edf_program.specs.There.{There, IsVacant, MayBeThere, IsSame, IsNamed};
+ghost use Rattle.edf_program.specs.There.{IsTakenAway};
 
 use edf_fragment::Output;
 use std::alloc::Global;

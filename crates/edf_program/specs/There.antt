@@ -1,10 +1,10 @@
 -- What is there under a name, where that is known.
 use Rattle.std.specs.Prelude.{◌≡◌, ◌≢◌, ◌⊎◌, ℕ, List, Bool, true, false, Option, Some, None, IfSome}
 use Rattle.std.specs.Prelude.{Result, Ok, Err}
-use Rattle.edf_new_files.specs.declared.new_files.FileStage.TheVariants.{Removed}
-use Rattle.edf_new_files.specs.declared.new_files.Unfinished.{Unfinished}
-use Rattle.edf_new_files.specs.declared.new_files.Unfinished.TheVariants.{IsThere, Failed}
-use Rattle.edf_new_files.specs.Made.{MadeFile}
+use Rattle.edf_program.specs.declared.new_files.FileStage.TheVariants.{Removed}
+use Rattle.edf_program.specs.declared.new_files.Unfinished.{Unfinished}
+use Rattle.edf_program.specs.declared.new_files.Unfinished.TheVariants.{IsThere, Failed}
+use Rattle.edf_program.specs.Made.{MadeFile}
 
 -- what has a name: nothing, or something with these bytes, where they are known
 abbrev pub Found : Type 0
