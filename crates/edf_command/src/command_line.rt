@@ -7,11 +7,11 @@ ghost use Rattle.edf_command.specs.Arguments.{AreValues, AskFor, AskForHelp, Ask
 ghost use Rattle.edf_command.specs.Arguments.{AskForNothing};
 ghost use Rattle.edf_program.specs.Words.{IsNoHelp, IsNoUsage};
 
-use clap::Command;
 use crate::commands::{edfstore_command, export_command};
 use crate::help::BAD_PLACE;
 use crate::matches::order_in;
 use crate::order::Order;
+use clap::Command;
 use edf_program::{CommandFault, fault_by, refuse_value};
 use std::alloc::{AllocError, Global};
 

@@ -7,8 +7,8 @@ ghost use Rattle.edf_command.specs.Inside.Commands.{Reads, convert_app, edfstore
 ghost use Rattle.edf_command.specs.Inside.Commands.{export_app, list_app, take_app};
 ghost use Rattle.edf_command.specs.Inside.Commands.{edfstore_top, files_rule, required_rule};
 
-use clap::{Arg, ArgAction, Command};
 use crate::help;
+use clap::{Arg, ArgAction, Command};
 use edf_program::VERSION;
 use std::alloc::{AllocError, Global};
 

@@ -5,8 +5,8 @@ ghost use Rattle.clap.specs.Words.{all_of, first_of, found_of, rows_of, subcomma
 ghost use Rattle.edf_command.specs.Inside.Matches.{asked_in, found_by};
 ghost use Rattle.edf_command.specs.Arguments.{meaning};
 
-use clap::ArgMatches;
 use crate::order::{Order, read_place};
+use clap::ArgMatches;
 use std::alloc::{AllocError, Global};
 
 /// The texts as strings of their own.

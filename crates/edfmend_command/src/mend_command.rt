@@ -15,7 +15,7 @@ use crate::lines::tell_ledger;
 use crate::refusal::refuse;
 use edf_fragment::{Counted, Output};
 use edf_mend::{Ledger, MendFault, Survey, Wanted, mend, survey_file};
-use edf_program::{tell_there, Inputs, NewFiles, Status};
+use edf_program::{Inputs, NewFiles, Status, tell_there};
 use std::alloc::Global;
 use std::io;
 

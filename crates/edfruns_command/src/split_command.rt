@@ -12,7 +12,6 @@ ghost use Rattle.edfruns_command.specs.Listing.{OpensAgain};
 ghost use Rattle.edfruns_command.specs.Naming.{asked_names};
 ghost use Rattle.edfruns_command.specs.Splitting.{IsSplit, IsTaken, IsUndated};
 
-use clap::{ArgMatches, Command};
 use crate::arguments::{refuse_stream, required_value, twice_read_file_value, value_in};
 use crate::counting::remark_outside;
 use crate::list_command::listing_of;
@@ -22,8 +21,9 @@ use crate::refusal::{STANDARD_OUTPUT, refuse, tell_undated};
 use crate::removing::give_up;
 use crate::runs_command::RunsCommand;
 use crate::stop::Stop;
+use clap::{ArgMatches, Command};
 use edf_fragment::{Output, send};
-use edf_program::{tell_memory, tell_there, CommandFault, Inputs, NewFiles, Status};
+use edf_program::{CommandFault, Inputs, NewFiles, Status, tell_memory, tell_there};
 use edf_runs::Listing;
 use std::alloc::{AllocError, Global};
 
