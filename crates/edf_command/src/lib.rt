@@ -8,13 +8,11 @@
 //! - [`list`], [`export_place`]: the work of two commands, for a caller that has a store open;
 //!   [`refused_file_line`], [`tell_no_recording`]: the line of a file that is not taken, and of a
 //!   place that no recording has.
-//! - [`parse`], [`Order`], [`CommandFault`]: the words, read, and nothing else.
 //! - [`Status`]: how it went, and the number that the program ends with.
 //! - [`refusal_text`]: a refusal, as a line has it.
-//! - [`parse`]: the words to an [`Order`], by `clap`, or the `CommandFault` that says why they ask
-//!   for nothing.
-//! - [`Order`]: `take`, `list`, `export` or `convert`, with its values. [`read_place`]: the place
-//!   that a text names.
+//! - [`parse`]: the words to an [`Order`], by `clap`, or the [`CommandFault`] that says why they ask
+//!   for nothing; no file is opened, and nothing is printed.
+//! - [`Order`]: `take`, `list`, `export` or `convert`, with its values.
 #![tactic(auto)]
 
 mod command_line;
@@ -34,7 +32,7 @@ pub use command_line::parse;
 pub use edf_program::{CommandFault, Inputs, Status};
 pub use exporting::{export_place, tell_no_recording};
 pub use listing::list;
-pub use order::{Order, read_place};
+pub use order::Order;
 pub use program::{read_command, refuse_store, store_path, tell_store_not_closed};
 pub use refusal::refusal_text;
 pub use running::run;

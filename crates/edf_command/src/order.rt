@@ -39,7 +39,7 @@ pub enum Order {
 const PLUS: u8 = b'+';
 
 /// The place that a text names: digits without a sign, from 1 to 4,294,967,295.
-pub fn read_place(text: &str) -> Option<u32>
+pub(crate) fn read_place(text: &str) -> Option<u32>
     ensures { result ≡ place_of text.now }
 {
     let bytes = text.as_bytes();
