@@ -1,6 +1,6 @@
-//! What the programs share that needs no operating system: how a command ends, the readers that it
-//! is given, its lines, the texts of instants and of refusals, and why words ask for nothing. It
-//! has no store and opens no file.
+//! What the programs share that needs no operating system: how a command ends, the readers and the
+//! new files that it is given, its lines, the texts of instants and of refusals, and why words ask
+//! for nothing. It has no store and opens no file.
 //!
 //! - [`Status`]: how a command ends, and the number that the program ends with;
 //!   [`status_of_number`]: by a refusal's number; [`worse`]: the worse of two.
