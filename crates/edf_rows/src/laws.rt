@@ -31,7 +31,7 @@ pub fn kept_is_not_foreign()
 {}
 
 /// Any rows stand for sound holdings under the cap, each recording with a record, or they are
-/// foreign. That they are never both is the law [`kept_is_not_foreign`].
+/// foreign. That they are never both is the law `kept_is_not_foreign` of `edf_rows`.
 pub fn kept_or_foreign()
     ensures { (cap : ℕ) (trees : Trees) →
         ((h : Holdings) × AreKept cap trees h) ⊎ IsForeign cap trees }

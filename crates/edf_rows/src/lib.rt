@@ -1,4 +1,4 @@
-//! What the rows of the store's two tables stand for, and their check as a store is opened.
+//! What the rows of the store's two tables stand for.
 //!
 //! A row of `recording` is an id and the bytes of an identity; a row of `record` is the id of its
 //! recording, its start in nanoseconds from 1985-01-01 00:00:00, its samples, and its annotations
@@ -9,11 +9,7 @@
 //! - [`block_of`], [`start_of`]: the cells of a data record.
 //! - [`audit`]: whether a file is one that submissions leave; those of our tables that are missing
 //!   are made.
-//! - [`laws`]: rows stand for one holdings at most, and are foreign where they stand for no sound
-//!   ones, and only there.
-//!
-//! Inside, `all` checks all recordings, and that each record has one; `check` a row of the table of
-//! recordings; `records` the records of one recording, with one row in memory.
+//! - [`laws`]: rows stand for one holdings at most, and are not foreign where these are sound.
 #![tactic(auto)]
 
 mod all;

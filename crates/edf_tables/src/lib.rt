@@ -1,6 +1,6 @@
-//! The two tables of a store of recordings, and their statements, over rows of SQL values.
+//! The statements of a store of recordings, over rows of SQL values.
 //!
-//! Each statement is one SQL text, over any store that `sqlite` takes; the crates above know what
+//! Each function runs one SQL text, over any store that `sqlite` takes; the crates above know what
 //! the cells mean. There are two tables: `recording` has an id and the bytes of an identity,
 //! `record` the id of its recording, a start, samples and a block.
 //!
