@@ -62,11 +62,11 @@ module _ {D : Type 0} {g : Ghosts D} (r : ProgramRun g) (s : EndedRun D) where
 
   -- and the files were closed
   abbrev pub AreClosed : Type 0
-  AreClosed = GaveBack × (r.closes ≡ true) × (s.failure ≡ None)
+  AreClosed = GaveBack × (s.failure ≡ None)
 
-  -- and they were let go as they are, since that was asked for, or a failure had shut the store
+  -- and they were let go as they are, since a failure had shut the store
   abbrev pub AreLetGo : Type 0
-  AreLetGo = GaveBack × ((r.closes ≡ false) ⊎ (s.failure ≡ Some (SqliteFailure Closed)))
+  AreLetGo = GaveBack × (s.failure ≡ Some (SqliteFailure Closed))
 
   -- the files may be so after a crash, or as they are read now
   abbrev pub MayBe : Image → Type 0

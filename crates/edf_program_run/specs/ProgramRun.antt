@@ -65,13 +65,12 @@ abbrev pub IsNoticed : Option (List Notice) → Option (List Notice) → Notice 
 IsNoticed old new notice = new ≡ option_map (λ (told : List Notice). told ++ (notice ∷ [])) old
 
 -- A run or a session: how many data records a recording may have; what the files hold as they are
--- opened; whether they are closed at the end; what its output has as the store is opened; what
--- standard error gets; that this was told of the opening; that nothing was read or put out; and
--- what was done over the open store, in which turns, with what on standard error, and how it went.
+-- opened; what its output has as the store is opened; what standard error gets; that this was told
+-- of the opening; that nothing was read or put out; and what was done over the open store, in which
+-- turns, with what on standard error, and how it went.
 pub record ProgramRun {D : Type 0} (g : Ghosts D) : Type 1 where
   pub cap : ℕ
   pub start : Image
-  pub closes : Bool
   pub output : Option (List ℕ)
   pub err : Growth
   pub Noticed : Notice → Type 0
@@ -120,7 +119,6 @@ abbrev pub run_of : {D : Type 0} (g : Ghosts D) → ℕ → Image → Command �
 run_of g cap start c err Noticed Unread = record {
   cap = cap;
   start = start;
-  closes = true;
   output = c.4.before;
   err = err;
   Noticed = Noticed;

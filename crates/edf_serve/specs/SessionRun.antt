@@ -37,7 +37,6 @@ abbrev pub session_run : {D : Type 0} (g : disk.Ghosts D) → ℕ → Image → 
 session_run g cap start folder before after err Noticed Unread = record {
   cap = cap;
   start = start;
-  closes = true;
   output = err.before;
   err = err;
   Noticed = Noticed;

@@ -63,11 +63,8 @@ returns-in-Ok-clause-ran g c start opening =
     (λ clean. (opening.1 clean).0) (λ clean. (opening.1 clean).1)
     worst mid.after mid.failed_after works c.into_connection-back.result
     c.into_connection-back.ensures c.close.ensures.told c.obey.ensures c.close.ensures.let_go
-    (λ closed. c.close.ensures.copied closed.2 closed.0)
-    (λ lets. elim lets.1 [
-      | inl open' ↦ absurd (let e = open' in cc)
-      | inr shut ↦ c.close.ensures.shut shut lets.0
-    ]))
+    (λ closed. c.close.ensures.copied closed.1 closed.0)
+    (λ lets. c.close.ensures.shut lets.1 lets.0))
 
 pub returns-in-Ok-clause-closed : goal.returns-in-Ok-clause-closed
 returns-in-Ok-clause-closed g c never =
