@@ -211,9 +211,13 @@ begins-long B e None none within long = tt
 begins-long B e (Some ys) none within long =
     let line = take e B in
     let size : length line ≡ 65537 = length-take-le e B within ∙ long in
-    let f = line-front line ys none (omega (arith, size)) in
-    (line ++ f.0, drop 1 (lines_of ys), f.1, sym (take_at line f.0 65537 size),
-    λ short. absurd (omega (arith, size, short)))
+    let f = line-front line ys none (omega (arith, size)) in (
+      line ++ f.0,
+      drop 1 (lines_of ys),
+      f.1,
+      sym (take_at line f.0 65537 size),
+      λ short. absurd (omega (arith, size, short)),
+    )
 
 empty-slice : (B : List ℕ) (e : ℕ) → slice_range B e e ≡ []
 empty-slice B e = let none : e - e ≡ 0 = omega arith in ap (λ (n : ℕ). take n (drop e B)) none

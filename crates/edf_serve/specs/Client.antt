@@ -25,11 +25,11 @@ pub record Heard : Type 0 where
 -- an answer went out to it, whole, and none of it is kept back, or as far as a write failed
 abbrev pub GetsAnswer : Heard → Heard → List ℕ → Bool → Type 0
 GetsAnswer old new text is_out = (is_out ≡ true → new.sent ≡ new.contents) × IsPut (record {
-      before = old.contents;
-      failed_before = old.failed;
-      after = new.contents;
-      failed_after = new.failed;
-    }) text is_out
+  before = old.contents;
+  failed_before = old.failed;
+  after = new.contents;
+  failed_after = new.failed;
+}) text is_out
 
 -- how often it was asked whether the store's path stands for its files, and that was so, or was not
 abbrev pub Looks : Type 0

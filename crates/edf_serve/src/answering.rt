@@ -107,11 +107,7 @@ fn work<'l, S: Alter, I: Sources, C: Client, K: StoreFiles>(
     match asked {
         Some(LineCommand::Take { name }) => take(alloc, name, folder, store, room),
         Some(LineCommand::List) => list_all(alloc, store, room),
-        None => Outcome::went(tell_bytes(
-            &mut room.out,
-            b"no such command\n",
-            Status::Usage,
-        )),
+        None => Outcome::went(tell_bytes(&mut room.out, b"no such command\n", Status::Usage)),
     }
 }
 
@@ -125,12 +121,7 @@ fn is_busy<S: Alter>(store: &Store<S>) -> bool
 /// How a command went that accepted no file, and why the session ends after it, if it does: it is
 /// stopped where memory ran out or the store refused, or is in a transaction; and a line that is
 /// too long is the last.
-fn after_told<S: Alter>(
-    store: &Store<S>,
-    line: &[u8],
-    told: Status,
-    is_stopped: bool,
-) -> Answered
+fn after_told<S: Alter>(store: &Store<S>, line: &[u8], told: Status, is_stopped: bool) -> Answered
     ensures after { IsAfterTold S.Store store.now line.now told is_stopped result.status
         result.after }
     ensures idle { IsIdle S.Store store.now ⊎ (result.status ≡ Status.Trouble) }
@@ -229,7 +220,11 @@ pub(crate) fn serve_line<S: Alter, I: Sources, C: Client, K: StoreFiles>(
             }
             let is_out = room.client.accept(store, name, &receipt);
             let status = Status::Done;
-            Answered { status, after: None }.if_out(is_out)
+            Answered {
+                status,
+                after: None,
+            }
+            .if_out(is_out)
         }
         Outcome::Told { status, is_stopped } => tell_all(store, line, room, status, is_stopped),
     }

@@ -52,15 +52,7 @@ use std::alloc::Global;
 /// # Errors
 /// The status, where the files were not opened: a line says why, and `watch` is told. What is left
 /// of them is given back as it came (`unopened`).
-pub fn serve_opened<
-    S: Start,
-    R: Input,
-    I: Sources,
-    C: Client,
-    K: StoreFiles,
-    F: Output,
-    W: Watch,
->(
+pub fn serve_opened<S: Start, R: Input, I: Sources, C: Client, K: StoreFiles, F: Output, W: Watch>(
     alloc: Global,
     opened: Result<Connection<FileStore<FileFrom<S>>>, (Error, Option<Leftover<FileFrom<S>>>)>,
     cap: Cap,
