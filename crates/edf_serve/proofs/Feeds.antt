@@ -1,5 +1,5 @@
 -- The lines of bytes, and what is read of them.
-use Rattle.std.proofs.Common.{◌≡◌, ◌++◌, ◌≤◌, ◌<◌, ◌+◌, ◌-◌, ◌==◌, All, IfSome, List, [], ◌∷◌, ℕ}
+use Rattle.std.proofs.Common.{◌≡◌, ◌≢◌, ◌++◌, ◌≤◌, ◌<◌, ◌+◌, ◌-◌, ◌==◌, All, IfSome, List, [], ◌∷◌, ℕ}
 use Rattle.std.proofs.Common.{Bool, true, false, cond, length, take, drop, Option, Some, None, slice_range, position}
 use Rattle.std.proofs.Common.{refl, sym, ap, ◌∙◌, ◌⊎◌, inl, inr, arith, subst, length-take-le, option_map}
 use Rattle.std.specs.List.{slice_split, onto_first}
@@ -17,7 +17,10 @@ use Rattle.std.proofs.lemmas.Grind.{common_steps}
 use Rattle.std.proofs.lemmas.Option.{none-some}
 use Rattle.std.proofs.Common.{append-nil, take_at, drop_at, get_or, append_assoc}
 use Rattle.std.proofs.KnownBytes.{Consumes-trans}
-use Rattle.edf_serve.specs.Lines.{lines_of, without_empty_last}
+use Rattle.edf_fragment.specs.Failures.{one_more}
+use Rattle.edf_serve.specs.Lines.{BeginsWith, Coming, IsNext, lines_of, without_empty_last}
+use Rattle.edf_serve.specs.declared.lines.Next.{Next}
+use Rattle.edf_serve.specs.declared.lines.Next.TheVariants.{Line, Ended, Failed}
 
 ap2 : {A B C : Type 0} (f : A → B → C) {a a2 : A} {b b2 : B} → a ≡ a2 → b ≡ b2 → f a b ≡ f a2 b2
 ap2 f {a} {a2} {b} {b2} p q = ap (λ x. f x b) p ∙ ap (f a2) q
@@ -154,30 +157,22 @@ abbrev pub IsFirstOf : List ℕ → Option (List (List ℕ)) → List (List ℕ)
 IsFirstOf line after lines = (whole : List ℕ) × (rest : List (List ℕ)) × (lines ≡ whole ∷ rest)
     × (line ≡ take 65537 whole) × (length line ≤ 65536 → after ≡ Some rest)
 
--- the line that is first in what was gathered, and what is behind it
-abbrev pub BeginsWith : List ℕ → List ℕ → List ℕ → List ℕ → Type 0
-BeginsWith G T line ys = (whole : List ℕ) × (rest : List (List ℕ))
-    × (lines_of (G ++ ys) ≡ whole ∷ rest) × (line ≡ take 65537 whole)
-    × (length line ≤ 65536 → lines_of (T ++ ys) ≡ rest)
-
 pub gives-first : (l k : Option (List ℕ)) (line F T G : List ℕ) (old new : Option (List ℕ)) →
     l ≡ option_map (λ xs. F ++ xs) old → k ≡ option_map (λ ys. T ++ ys) new →
     ((more : List ℕ) × Consumes old new more × (G ≡ F ++ more)) →
-    ((ys : List ℕ) → new ≡ Some ys → BeginsWith G T line ys) →
-    IfSome (lines_left l) (IsFirstOf line (lines_left k))
+    IfSome new (BeginsWith G line T) → IfSome (lines_left l) (IsFirstOf line (lines_left k))
 gives-first l k line F T G None new el ek g h =
     subst (λ (x : Option (List ℕ)). IfSome (lines_left x) (IsFirstOf line (lines_left k))) (sym el) tt
 gives-first l k line F T G (Some xs) None el ek g h = absurd g.1
 gives-first l k line F T G (Some xs) (Some ys) el ek g h =
-    let f = h ys refl in
     let same : F ++ xs ≡ G ++ ys = ap (λ (p : List ℕ). F ++ p) g.1 ∙ sym (append_assoc F g.0 ys)
     ∙ ap (λ (p : List ℕ). p ++ ys) (sym g.2) in
     subst (λ (x : Option (List ℕ)). IfSome (lines_left x) (IsFirstOf line (lines_left k))) (sym el) (
-      f.0,
-      f.1,
-      ap lines_of same ∙ f.2,
-      f.3,
-      λ short. ap lines_left ek ∙ ap (λ (l : List (List ℕ)). Some l) (f.4 short),
+      h.0,
+      h.1,
+      ap lines_of same ∙ h.2,
+      h.3,
+      λ short. ap lines_left ek ∙ ap (λ (l : List (List ℕ)). Some l) (h.4 short),
     )
 
 pub slice-of : (a e : ℕ) (b : List ℕ) → a ≤ e → drop a (take e b) ≡ slice_range b a e
@@ -186,17 +181,18 @@ slice-of a e b low =
     ap (λ (n : ℕ). drop a (take n b)) same ∙ drop-take a (e - a) b
 
 -- a line with its line feed
-pub begins-fed : (B : List ℕ) (e at : ℕ) (line ys : List ℕ) → position is_feed (take e B) ≡ Some at →
-    e ≤ length B → at < 65537 → line ≡ take at B →
-    BeginsWith (take e B) (slice_range B (at + 1) e) line ys
-begins-fed B e at line ys found within short el =
+pub begins-fed : (B : List ℕ) (e at : ℕ) (new : Option (List ℕ)) → position is_feed (take e B) ≡ Some at →
+    e ≤ length B → e ≤ 65537 →
+    IfSome new (BeginsWith (take e B) (take at B) (slice_range B (at + 1) e))
+begins-fed B e at None found within most = tt
+begins-fed B e at (Some ys) found within most =
     let fa = feed-at (take e B) at found in
     let size : length (take e B) ≡ e = length-take-le e B within in
     let low : at + 1 ≤ e = omega (arith, fa.within, size) in
-    let line-is : take at (take e B) ≡ line = take-take at e B (omega (arith, low)) ∙ sym el in
-    let behind-it : drop (at + 1) (take e B) ≡ slice_range B (at + 1) e = slice-of (at + 1) e B low in
+    let line = take at B in
+    let line-is : take at (take e B) ≡ line = take-take at e B (omega (arith, low)) in
     let split : take e B ≡ line ++ 10 ∷ slice_range B (at + 1) e =
-    fa.are ∙ ap2 (λ (p q : List ℕ). p ++ 10 ∷ q) line-is behind-it in
+    fa.are ∙ ap2 (λ (p q : List ℕ). p ++ 10 ∷ q) line-is (slice-of (at + 1) e B low) in
     let size2 : length line ≡ at = ap (λ (p : List ℕ). length p) (sym line-is)
     ∙ length-take-le at (take e B) (omega (arith, size, low)) in (
       line,
@@ -204,26 +200,21 @@ begins-fed B e at line ys found within short el =
       ap (λ (p : List ℕ). lines_of (p ++ ys)) split
           ∙ ap lines_of (append_assoc line (10 ∷ slice_range B (at + 1) e) ys)
           ∙ line-feed line (slice_range B (at + 1) e ++ ys) (subst Feedless line-is fa.before),
-      sym (take_all 65537 line (omega (arith, size2, short))),
+      sym (take_all 65537 line (omega (arith, size2, low, most))),
       λ _. refl,
     )
 
 -- the front of a longer one
-pub begins-long : (B : List ℕ) (e : ℕ) (T line ys : List ℕ) → Feedless (take 65537 (take e B)) →
-    e ≤ length B → 65537 ≤ e → line ≡ take 65537 B → BeginsWith (take e B) T line ys
-begins-long B e T line ys none within long el =
-    let front-is : take 65537 (take e B) ≡ line = take-take 65537 e B long ∙ sym el in
-    let size : length line ≡ 65537 = ap (λ (p : List ℕ). length p) el
-    ∙ length-take-le 65537 B (omega (arith, within, long)) in
-    let split : take e B ≡ line ++ slice_range B 65537 e =
-    sym (take-append-drop 65537 (take e B))
-    ∙ ap2 (λ (p q : List ℕ). p ++ q) front-is (slice-of 65537 e B long) in
-    let f = line-front line (slice_range B 65537 e ++ ys) (subst Feedless front-is none)
-    (omega (arith, size)) in (
+pub begins-long : (B : List ℕ) (e : ℕ) (new : Option (List ℕ)) → Feedless (take e B) →
+    e ≤ length B → e ≡ 65537 → IfSome new (BeginsWith (take e B) (take e B) (slice_range B e e))
+begins-long B e None none within long = tt
+begins-long B e (Some ys) none within long =
+    let line = take e B in
+    let size : length line ≡ 65537 = length-take-le e B within ∙ long in
+    let f = line-front line ys none (omega (arith, size)) in (
       line ++ f.0,
-      drop 1 (lines_of (slice_range B 65537 e ++ ys)),
-      ap (λ (p : List ℕ). lines_of (p ++ ys)) split
-          ∙ ap lines_of (append_assoc line (slice_range B 65537 e) ys) ∙ f.1,
+      drop 1 (lines_of ys),
+      f.1,
       sym (take_at line f.0 65537 size),
       λ short. absurd (omega (arith, size, short)),
     )
@@ -231,20 +222,18 @@ begins-long B e T line ys none within long el =
 empty-slice : (B : List ℕ) (e : ℕ) → slice_range B e e ≡ []
 empty-slice B e = let none : e - e ≡ 0 = omega arith in ap (λ (n : ℕ). take n (drop e B)) none
 
-pub at-end : (new : Option (List ℕ)) (ys : List ℕ) → IsAtEnd new → new ≡ Some ys → ys ≡ []
-at-end new ys end e = subst IsAtEnd e end
-
 -- the last one
-pub begins-last : (B : List ℕ) (e : ℕ) (line ys : List ℕ) → Feedless (take e B) → e ≤ length B →
-    0 < e → e < 65537 → line ≡ take e B → ys ≡ [] →
-    BeginsWith (take e B) (slice_range B e e) line ys
-begins-last B e line ys none within some short el ended =
+pub begins-last : (B : List ℕ) (e : ℕ) (new : Option (List ℕ)) → Feedless (take e B) →
+    e ≤ length B → 0 < e → e < 65537 → IsAtEnd new →
+    IfSome new (BeginsWith (take e B) (take e B) (slice_range B e e))
+begins-last B e None none within some short ended = tt
+begins-last B e (Some ys) none within some short ended =
     let size : length (take e B) ≡ e = length-take-le e B within in (
       take e B,
       [],
       ap (λ (p : List ℕ). lines_of (take e B ++ p)) ended ∙ ap lines_of (append-nil (take e B))
           ∙ line-last (take e B) none (omega (arith, size, some)),
-      el ∙ sym (take_all 65537 (take e B) (omega (arith, size, short))),
+      sym (take_all 65537 (take e B) (omega (arith, size, short))),
       λ _. ap2 (λ (p q : List ℕ). lines_of (p ++ q)) (empty-slice B e) ended,
     )
 
@@ -262,28 +251,46 @@ none-lost l k F T G (Some xs) (Some ys) el ek et g =
     subst (λ (x : Option (List ℕ)). IfSome (lines_left x) (λ lines. lines_left k ≡ Some lines)) (sym el)
     (ap lines_left ek ∙ ap (λ (p : List ℕ). lines_left (Some p)) same)
 
-front-feedless : (n : ℕ) (xs : List ℕ) → Feedless xs → Feedless (take n xs)
-front-feedless n xs h = All-take (λ b. (b == 10) ≡ false) n xs h
-
--- a front that no line feed is in
-pub feed-beyond : (B : List ℕ) (e at n : ℕ) → position is_feed (take e B) ≡ Some at → e ≤ length B → n ≤ at →
-    (n ≤ e) × Feedless (take n (take e B))
-feed-beyond B e at n found within far =
-    let fa = feed-at (take e B) at found in
-    let size : length (take e B) ≡ e = length-take-le e B within in (
-      omega (arith, fa.within, size, far),
-      subst Feedless (take-take n at (take e B) far) (front-feedless n (take at (take e B)) fa.before),
-    )
-
-pub long-beyond : (B : List ℕ) (e n : ℕ) → position is_feed (take e B) ≡ None → e ≤ length B → n ≤ length (take e B) →
-    (n ≤ e) × Feedless (take n (take e B))
-long-beyond B e n found within far =
-    let size : length (take e B) ≡ e = length-take-le e B within in
-    (omega (arith, size, far), front-feedless n (take e B) (no-feed (take e B) found))
-
 pub slice-front : (B : List ℕ) (e : ℕ) → slice_range B 0 e ≡ take e B
 slice-front B e = let same : e - 0 ≡ e = omega arith in ap (λ (n : ℕ). take n (drop 0 B)) same
 
 pub nothing-yet : (xs : List ℕ) (known : Option (List ℕ)) → option_map (λ more. slice_range xs 0 0 ++ more) known ≡ known
 nothing-yet xs None = refl
 nothing-yet xs (Some more) = refl
+
+-- none was to come
+nothing-left : (l : Option (List ℕ)) (F G : List ℕ) (old new : Option (List ℕ)) →
+    l ≡ option_map (λ xs. F ++ xs) old → G ≡ [] → IsAtEnd new →
+    ((more : List ℕ) × Consumes old new more × (G ≡ F ++ more)) →
+    IfSome (lines_left l) (λ lines. lines ≡ [])
+nothing-left l F G None new el empty end g =
+    subst (λ (x : Option (List ℕ)). IfSome (lines_left x) (λ lines. lines ≡ [])) (sym el) tt
+nothing-left l F G (Some xs) None el empty end g = absurd g.1
+nothing-left l F G (Some xs) (Some ys) el empty end g =
+    let all : F ++ xs ≡ [] = ap (λ (p : List ℕ). F ++ p) (g.1 ∙ ap (λ (p : List ℕ). g.0 ++ p) end
+    ∙ append-nil g.0) ∙ sym g.2 ∙ empty in
+    subst (λ (x : Option (List ℕ)). IfSome (lines_left x) (λ lines. lines ≡ [])) (sym el)
+    (ap lines_of all)
+
+-- the line that was found, or none
+pub is-next : (before after : Coming) (F T G : List ℕ) (old new : Option (List ℕ)) (n : Next) →
+    before.left ≡ option_map (λ xs. F ++ xs) old → after.left ≡ option_map (λ ys. T ++ ys) new →
+    ((more : List ℕ) × Consumes old new more × (G ≡ F ++ more)) →
+    (n ≡ Line → IfSome new (BeginsWith G after.line T)) → (n ≢ Line → T ≡ G) →
+    (n ≡ Ended → (G ≡ []) × IsAtEnd new) → (n ≡ Failed → after.failed ≡ one_more before.failed) →
+    (n ≢ Failed → after.failed ≡ before.failed) → IsNext before after n
+is-next before after F T G old new Line el ek g line none ended failed unfailed = record {
+  first = gives-first before.left after.left after.line F T G old new el ek g (line refl);
+  failed = unfailed (λ e. cc);
+}
+is-next before after F T G old new Ended el ek g line none ended failed unfailed = (
+  record {
+    same = none-lost before.left after.left F T G old new el ek (none (λ e. cc)) g;
+    failed = unfailed (λ e. cc);
+  },
+  nothing-left before.left F G old new el (ended refl).0 (ended refl).1 g,
+)
+is-next before after F T G old new Failed el ek g line none ended failed unfailed = record {
+  same = none-lost before.left after.left F T G old new el ek (none (λ e. cc)) g;
+  failed = failed refl;
+}

@@ -1,6 +1,6 @@
 -- The lines of an input, which line feeds end.
-use Rattle.std.specs.Prelude.{◌≡◌, ℕ, ◌≤◌, cond, ◌==◌, List, [], ◌∷◌, length, take, Option, Some}
-use Rattle.std.specs.Prelude.{IfSome, option_map}
+use Rattle.std.specs.Prelude.{◌≡◌, ℕ, ◌≤◌, cond, ◌==◌, List, [], ◌∷◌, ◌++◌, length, take}
+use Rattle.std.specs.Prelude.{Option, Some, IfSome, option_map}
 use Rattle.std.specs.List.{slice_split}
 use Rattle.edf_fragment.specs.Failures.{one_more}
 use Rattle.edf_serve.specs.declared.lines.Next.{Next}
@@ -50,6 +50,13 @@ pub record GivesLine (before after : Coming) : Type 0 where
 pub record GivesNone (before after : Coming) (failures : ℕ) : Type 0 where
   pub same : IfSome (lines_in before) (λ lines. lines_in after ≡ Some lines)
   pub failed : after.failed ≡ failures
+
+-- Bytes that were gathered begin with this line, and this is the rest of them, whatever comes
+-- behind. Of a longer one a front is given, and of its rest nothing is said.
+abbrev pub BeginsWith : List ℕ → List ℕ → List ℕ → List ℕ → Type 0
+BeginsWith gathered line rest later = (whole : List ℕ) × (others : List (List ℕ))
+    × (lines_of (gathered ++ later) ≡ whole ∷ others) × (line ≡ take 65537 whole)
+    × (length line ≤ 65536 → lines_of (rest ++ later) ≡ others)
 
 -- the next line came; or there was none; or a read failed
 abbrev pub IsNext : Coming → Coming → Next → Type 0

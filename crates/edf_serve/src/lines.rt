@@ -1,10 +1,10 @@
 //! The lines of an input.
 
-ghost use Rattle.std.specs.Prelude.{◌≡◌, ◌≢◌, ◌++◌, ◌==◌, ◌≤◌, ◌<◌, ℕ, IfOk, Some, None, List};
-ghost use Rattle.std.specs.Prelude.{length, position, take, slice_range, option_map};
+ghost use Rattle.std.specs.Prelude.{◌≡◌, ◌≢◌, ◌++◌, ◌==◌, ◌≤◌, ℕ, IfOk, IfSome, List, length};
+ghost use Rattle.std.specs.Prelude.{position, take, slice_range, option_map};
 ghost use Rattle.std.specs.Io.KnownBytes.{Consumes, IsAtEnd};
 ghost use Rattle.edf_fragment.specs.Failures.{one_more};
-ghost use Rattle.edf_serve.specs.Lines.{Coming, IsNext};
+ghost use Rattle.edf_serve.specs.Lines.{BeginsWith, Coming, IsNext};
 
 use crate::line::LONGEST_LINE;
 use edf_fragment::Input;
@@ -14,8 +14,8 @@ use std::marker::Model;
 /// The byte that ends a line.
 const LINE_FEED: u8 = 10;
 
-/// How many bytes are kept: more than a line may have.
-const ROOM: usize = LONGEST_LINE + 8_192;
+/// How many bytes are kept: one more than a line may have.
+const ROOM: usize = LONGEST_LINE + 1;
 
 /// What comes next of an input.
 #[derive(Clone, Copy, Debug, PartialEq, Eq, Drop)]
@@ -58,7 +58,7 @@ impl<R: Input> Model for Lines<R> {
     } };
 
     ghost invariant = { λ s. (s.line ≤ s.taken) × (s.taken ≤ s.end)
-        × (s.end ≤ length s.buffer.items) × (length s.buffer.items ≡ 73728) };
+        × (s.end ≤ length s.buffer.items) × (length s.buffer.items ≡ 65537) };
 }
 
 impl<R: Input + Drop> Lines<R> {
@@ -93,29 +93,11 @@ impl<R: Input> Lines<R> {
         ensures { IsNext self.old self.new result }
     {
         let end = to_front(&mut self.buffer, self.taken, self.end);
-        let (found, end) = gather(&mut self.input, &mut self.buffer, end);
-        self.line = 0;
-        self.taken = 0;
-        self.end = end;
-        match found {
-            Found::Feed { at } if at <= LONGEST_LINE => {
-                self.line = at;
-                self.taken = at + 1;
-                Next::Line
-            }
-            Found::Feed { .. } | Found::Long => {
-                self.line = LONGEST_LINE + 1;
-                self.taken = LONGEST_LINE + 1;
-                Next::Line
-            }
-            Found::Ended if end == 0 => Next::Ended,
-            Found::Ended => {
-                self.line = end;
-                self.taken = end;
-                Next::Line
-            }
-            Found::Failed => Next::Failed,
-        }
+        let found = gather(&mut self.input, &mut self.buffer, end);
+        self.line = found.line;
+        self.taken = found.taken;
+        self.end = found.end;
+        found.next
     }
 }
 
@@ -138,51 +120,74 @@ fn line_feed(bytes: &[u8]) -> Option<usize>
 
 /// What was found in the bytes that were gathered.
 #[derive(Clone, Copy)]
-enum Found {
-    /// The first line feed.
-    Feed { at: usize },
-    /// No line feed, and more bytes than a line may have.
-    Long,
-    /// No line feed, and the input ended.
-    Ended,
-    /// A read failed.
-    Failed,
+struct Found {
+    next: Next,
+    /// How many bytes the line has.
+    line: usize,
+    /// From where on they are still to be given.
+    taken: usize,
+    /// How many they are.
+    end: usize,
+}
+
+/// A line of so many bytes.
+fn line(line: usize, taken: usize, end: usize) -> Found
+    ensures { result ≡ record { next = Next.Line; line = line; taken = taken; end = end } }
+{
+    Found {
+        next: Next::Line,
+        line,
+        taken,
+        end,
+    }
+}
+
+/// No line.
+fn none(next: Next, end: usize) -> Found
+    ensures { result ≡ record { next = next; line = 0; taken = 0; end = end } }
+{
+    Found {
+        next,
+        line: 0,
+        taken: 0,
+        end,
+    }
 }
 
 /// Reads on until the first `end` bytes have a line feed, or are more than a line may have, or the
-/// input ends, or a read of it fails; how many bytes there are then.
-fn gather<R: Input>(input: &mut R, buffer: &mut [u8], end: usize) -> (Found, usize)
+/// input ends, or a read of it fails; what is found then.
+fn gather<R: Input>(input: &mut R, buffer: &mut [u8], end: usize) -> Found
     requires end { end ≤ length buffer.old }
     requires room { length buffer.old ≡ ROOM }
-    ensures bounds { (result.1 ≤ length buffer.new) × (length buffer.new ≡ ROOM) }
+    ensures bounds { (result.line ≤ result.taken) × (result.taken ≤ result.end)
+        × (result.end ≤ length buffer.new) × (length buffer.new ≡ ROOM) }
     ensures gathered { (more : List ℕ) × Consumes (R.remaining input.old) (R.remaining input.new)
         more
-        × (take result.1 buffer.new ≡ take end buffer.old ++ more) }
-    ensures feed { (at : ℕ) → result.0 ≡ Found.Feed at →
-        position (λ b. b == 10) (take result.1 buffer.new) ≡ Some at }
-    ensures long { result.0 ≡ Found.Long →
-        (position (λ b. b == 10) (take result.1 buffer.new) ≡ None)
-        × (65536 < length (take result.1 buffer.new)) }
-    ensures ended { result.0 ≡ Found.Ended →
-        (position (λ b. b == 10) (take result.1 buffer.new) ≡ None)
-        × IsAtEnd (R.remaining input.new) × (result.1 < 65537) }
-    ensures failed { result.0 ≡ Found.Failed →
+        × (take result.end buffer.new ≡ take end buffer.old ++ more) }
+    ensures line { result.next ≡ Next.Line → IfSome (R.remaining input.new) (BeginsWith
+        (take result.end buffer.new) (take result.line buffer.new)
+        (slice_range buffer.new result.taken result.end)) }
+    ensures none { result.next ≢ Next.Line → result.taken ≡ 0 }
+    ensures ended { result.next ≡ Next.Ended →
+        (result.end ≡ 0) × IsAtEnd (R.remaining input.new) }
+    ensures failed { result.next ≡ Next.Failed →
         R.failures input.new ≡ one_more (R.failures input.old) }
-    ensures unfailed { result.0 ≢ Found.Failed → R.failures input.new ≡ R.failures input.old }
+    ensures unfailed { result.next ≢ Next.Failed → R.failures input.new ≡ R.failures input.old }
 {
     let mut to = end;
     while to <= LONGEST_LINE {
         if let Some(at) = line_feed(&buffer[..to]) {
-            return (Found::Feed { at }, to);
+            return line(at, at + 1, to);
         }
         match input.read(&mut buffer[to..]) {
-            Ok(0) => return (Found::Ended, to),
+            Ok(0) if to == 0 => return none(Next::Ended, to),
+            Ok(0) => return line(to, to, to),
             Ok(count) => to += count,
-            Err(_) => return (Found::Failed, to),
+            Err(_) => return none(Next::Failed, to),
         }
     }
     match line_feed(&buffer[..to]) {
-        Some(at) => (Found::Feed { at }, to),
-        None => (Found::Long, to),
+        Some(at) => line(at, at + 1, to),
+        None => line(to, to, to),
     }
 }
