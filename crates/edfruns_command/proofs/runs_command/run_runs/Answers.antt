@@ -41,7 +41,7 @@ returns-in-Canonical-clause-done g c =
     IsDone bytes made out err (meaning command) c.canonical.result in
     let Writes : List ℕ → Type 0 = λ name.
     IsCanonicalOut out err (bytes name) name c.in-Canonical.is_by_onset c.canonical.result in
-    subst Does (sym c.in-Canonical.is) (subst Writes c.as_str-in-Canonical.ensures.value
+    subst Does (sym c.in-Canonical.is) (subst Writes c.as_str.ensures.value
     c.canonical.ensures.written)
 
 pub returns-in-Split-clause-done : goal.returns-in-Split-clause-done
