@@ -58,7 +58,9 @@ fn keep_all(alloc: Global, slots: Vec<Slot>, duration: u64) -> Result<Vec<Record
         let Some(data_record) = Record::new(start, Vec::new(alloc), notes) else {
             return Err(OnsetFault::TooMany(number_at(runs.as_slice(), start, duration)));
         };
-        if add_record(&mut runs, &data_record, duration).is_err() || kept.push(data_record).is_err() {
+        if add_record(&mut runs, &data_record, duration).is_err()
+            || kept.push(data_record).is_err()
+        {
             return Err(OnsetFault::Memory);
         }
     }
