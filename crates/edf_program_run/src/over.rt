@@ -1,6 +1,6 @@
 //! One run over an open connection.
 
-ghost use Rattle.std.specs.Prelude.{◌≡◌, ◌≢◌, ◌⊎◌, None, Ok};
+ghost use Rattle.std.specs.Prelude.{◌≡◌, ◌≢◌, ◌⊎◌, None, Ok, false};
 ghost use Rattle.sqlite_wal.specs.Recovery.{Image};
 ghost use Rattle.sqlite.specs.Files.{file_state};
 ghost use Rattle.edf_command.specs.Arguments.{meaning};
