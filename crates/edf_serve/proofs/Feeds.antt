@@ -1,12 +1,12 @@
 -- The lines of bytes, and what is read of them.
 use Rattle.std.proofs.Common.{◌≡◌, ◌≢◌, ◌++◌, ◌≤◌, ◌<◌, ◌+◌, ◌-◌, ◌==◌, All, IfSome, List, [], ◌∷◌, ℕ}
 use Rattle.std.proofs.Common.{Bool, true, false, cond, length, take, drop, Option, Some, None, slice_range, position}
-use Rattle.std.proofs.Common.{refl, sym, ap, ◌∙◌, ◌⊎◌, inl, inr, arith, subst, length-take-le, option_map}
+use Rattle.std.proofs.Common.{refl, sym, ap, ◌∙◌, arith, subst, length-take-le, option_map}
 use Rattle.std.specs.List.{slice_split, onto_first}
 use Rattle.std.specs.Io.KnownBytes.{Consumes, IsAtEnd}
-use Rattle.std.proofs.lemmas.List.{take_all, drop-take, take-take, take-append-le, length-append, take-append-drop}
+use Rattle.std.proofs.lemmas.List.{take_all, drop-take, take-take, take-append-le}
 use Rattle.std.proofs.lemmas.List.Splits.{slice_split_at, slice_split_none, slice_split-cons_no}
-use Rattle.std.proofs.lemmas.List.Elements.{All-append, All-head, All-tail, All-take}
+use Rattle.std.proofs.lemmas.List.Elements.{All-head, All-tail}
 use Rattle.std.proofs.lemmas.List.Sums.{split_at_first, fails_before_first}
 use Rattle.std.specs.List.{position_or_len}
 use borrow.Rule.Slice.PartMut.{put_mid, post_of}
@@ -14,7 +14,6 @@ use lib.Seq.{take-add}
 use borrow.Author.Tests.{eqb-true}
 use Rattle.std.proofs.lemmas.List.Quantifiers.{position-Some}
 use Rattle.std.proofs.lemmas.Grind.{common_steps}
-use Rattle.std.proofs.lemmas.Option.{none-some}
 use Rattle.std.proofs.Common.{append-nil, take_at, drop_at, get_or, append_assoc}
 use Rattle.std.proofs.KnownBytes.{Consumes-trans}
 use Rattle.edf_fragment.specs.Failures.{one_more}
@@ -132,14 +131,19 @@ no-feed xs e = λ k d m.
     let far : k < position_or_len is_feed xs = grind (arith, common_steps) in
     fails_before_first is_feed xs k d far
 
--- what a read put behind what was kept
+-- what was kept, and what a read put behind it
+pub take-kept : (a k : ℕ) (xs ys : List ℕ) → a ≤ length xs →
+    take a (put_mid a k xs ys) ≡ take a xs
+take-kept a k xs ys within =
+    take_at (take a xs) (ys ++ post_of a k xs) a (length-take-le a xs within)
+
 pub take-put : (a k n : ℕ) (xs ys : List ℕ) → a ≤ length xs → n ≤ length ys →
     take (a + n) (put_mid a k xs ys) ≡ take a xs ++ take n ys
 take-put a k n xs ys within fits =
     let after = post_of a k xs in
     let front : length (take a xs) ≡ a = length-take-le a xs within in
     take-add a n (put_mid a k xs ys)
-    ∙ ap2 (λ (p q : List ℕ). p ++ q) (take_at (take a xs) (ys ++ after) a front)
+    ∙ ap2 (λ (p q : List ℕ). p ++ q) (take-kept a k xs ys within)
     (ap (take n) (drop_at (take a xs) (ys ++ after) a front) ∙ take-append-le n ys after fits)
 
 -- what was gathered before, and by a read

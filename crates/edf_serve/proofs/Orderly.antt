@@ -1,7 +1,7 @@
 -- What a session needs to know of the work of any command.
 use Rattle.std.proofs.Common.{◌≡◌, ◌⊎◌, ◌∙◌, ℕ, List, Option, Some, None, sym, ap, subst, inl, inr}
 use Rattle.sqlite_trees.specs.declared.store.Store.{Ghosts}
-use Rattle.edf_store.specs.Held.{StoreModel, Stays}
+use Rattle.edf_store.specs.Held.{Stays}
 use Rattle.edf_store.proofs.Begun.{stays_same}
 use Rattle.edf_intake.specs.Submitted.{IsSubmitted}
 use Rattle.edf_serve.specs.Exchange.{IsWorked}
@@ -48,20 +48,19 @@ module _ {S : Type 0} (g : Ghosts S) (folder : Option (List ℕ)) (w : Work S) w
     paths = ap (λ (p : Point S). p.paths) t.same ∙ ap (opens w.old.paths) (sym t.is_it.2);
   }
 
-  same : (p : Point S) → w.new ≡ record p { store = w.old.store } → Stays g w.old.store w.new.store
-  same p is = subst (Stays g w.old.store) (sym (ap (λ (q : Point S). q.store) is))
-      (stays_same g w.old.store)
+  same : w.new.store ≡ w.old.store → Stays g w.old.store w.new.store
+  same is = subst (Stays g w.old.store) (sym is) (stays_same g w.old.store)
 
   pub orderly : (asked : Option LineAsked) → IsWorked g folder w asked → IsOrderly g folder w
   orderly None is = inl (record {
     none = is.1.0;
-    stays = same _ is.0;
+    stays = same (ap (λ (p : Point S). p.store) is.0);
     paths = ap (λ (p : Point S). p.paths) is.0;
   })
   orderly (Some (take name)) (inl (path, place, t)) = inr (submits name path place t)
   orderly (Some (take name)) (inr n) = inl (record {
     none = n.1.0;
-    stays = same _ n.0;
+    stays = same (ap (λ (p : Point S). p.store) n.0);
     paths = ap (λ (p : Point S). p.paths) n.0;
   })
   orderly (Some list) is = inl (record {

@@ -1,7 +1,6 @@
 //! One line, answered.
 
-ghost use Rattle.std.specs.Prelude.{◌≡◌, ◌⊎◌, ◌<◌, Option, Some, None, IsTrue, true, length, cond};
-ghost use Rattle.std.specs.Prelude.{option_map};
+ghost use Rattle.std.specs.Prelude.{◌≡◌, ◌⊎◌, Option, Some, None, false, cond, option_map};
 ghost use Rattle.edf_command.specs.Listing.{AreRecordingsListed};
 ghost use Rattle.edf_store.specs.Held.{at};
 ghost use Rattle.edf_serve.specs.Client.{IsIdle, Looks, looked};

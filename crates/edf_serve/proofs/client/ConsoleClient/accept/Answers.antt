@@ -1,4 +1,4 @@
-use Rattle.std.proofs.Common.{◌≡◌, ◌∙◌, ℕ, List, [], ◌∷◌, ◌++◌, codes, ap, sym, subst, refl}
+use Rattle.std.proofs.Common.{◌≡◌, ◌∙◌, ℕ, List, [], ◌∷◌, ◌++◌, codes, ap, sym, subst}
 use Rattle.std.proofs.Common.{append_assoc}
 use Rattle.std.specs.Prelude.{decimal}
 use Rattle.edf_program.specs.Output.{growth, IsPut}
@@ -22,7 +22,6 @@ pub returns : goal.returns
 returns g c =
     let Put : List ℕ → Type 0 = λ bytes.
     IsPut (growth g.W.Output c.args.self.now.out c.send.new.out) bytes c.send.result in (
-      refl,
       c.send.ensures.sent,
       subst Put (told c.args.name.now (codes " accepted new=") (decimal c.args.receipt.now.new)
           (codes " known=") (decimal c.args.receipt.now.known) (codes "status ") (decimal 0)
