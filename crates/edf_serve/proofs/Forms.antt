@@ -1,6 +1,5 @@
 -- Which bytes ask for what.
-use Rattle.std.proofs.Common.{◌≡◌, ℕ, true, refl, ap, sym, ◌∙◌, List, [], ◌∷◌, ◌++◌, ◌==◌, length}
-use Rattle.std.proofs.Common.{codes, arith, get_or, eqb-true, subst}
+use Rattle.std.proofs.Common.{◌≡◌, ℕ, refl, ap, List, ◌++◌, codes, arith, get_or, subst}
 use Rattle.std.proofs.lemmas.List.{append_cancel_left}
 use Rattle.edf_serve.specs.Laws.{AsksOnce}
 use Rattle.edf_serve.specs.Line.{LineAsked, AskFor}
@@ -23,14 +22,3 @@ pub asks-once : AsksOnce
 asks-once line (take name) other a b =
     for-take name other (subst (λ (l : List ℕ). AskFor l other) a.0 b)
 asks-once line list other a b = for-list other (subst (λ (l : List ℕ). AskFor l other) a b)
-
-empty-is : (l : List ℕ) → true ≡ (length l == 0) → l ≡ []
-empty-is [] e = refl
-empty-is (x ∷ xs) e = absurd (omega (arith, eqb-true (length (x ∷ xs)) 0 (sym e)))
-
--- a line that is `take ` and nothing asks for nothing
-pub no-name : (name : List ℕ) → true ≡ (length name == 0) → (asked : LineAsked) →
-    AskFor (codes "take " ++ name) asked → ⊥
-no-name name none (take other) a =
-    a.1 (sym (append_cancel_left (codes "take ") name other a.0) ∙ empty-is name none)
-no-name name none list a = absurd (apart _ (codes "list") a (λ e. omega (arith, e)))

@@ -1,5 +1,5 @@
 -- A session over the two files of a store, in the words that a run is told in.
-use Rattle.std.specs.Prelude.{◌≡◌, ℕ, true, List, [], map, Option}
+use Rattle.std.specs.Prelude.{◌≡◌, ℕ, List, [], map, Option}
 use Rattle.sqlite_disk.specs.declared.Disk as disk
 use Rattle.sqlite_trees.specs.declared.store.Store.{Ghosts}
 use Rattle.sqlite_wal.specs.Recovery.{Image}
