@@ -4,7 +4,7 @@ use Rattle.std.proofs.Common.{◌≡◌, ◌≢◌, ℕ, List, [], ◌∷◌, sy
 use Rattle.std.proofs.lemmas.Bool.{cond-true}
 use Rattle.edf_header.specs.Key.{Key}
 use Rattle.edf_fragment.specs.Fragment.{DataRecord}
-use Rattle.edf_fragment.specs.Told.{Fragment}
+use Rattle.edf_fragment.specs.Parsed.{Fragment}
 use Rattle.edf_holdings.specs.Same.{same_key}
 use Rattle.edf_holdings.specs.Holdings.{Holdings, IsSound, nothing_held}
 use Rattle.edf_holdings.specs.Reply.{after_one}
@@ -27,7 +27,7 @@ accepted_again cap h k file sound is =
     ap (λ (after : Holdings). after k) own.2
     ∙ cond-true (same_key k k) (h k) [] (same_key-refl k) in
     record {
-      tells = its-own file k (h k) is;
+      parses = its-own file k (h k) is;
       known = own.0;
       new = own.1;
       again = subst (λ (rs : List DataRecord). IsCanonicalFile file k rs) (sym left) is;

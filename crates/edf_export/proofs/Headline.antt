@@ -5,21 +5,21 @@ use Rattle.std.specs.List.{AllByRecursion, AllZip}
 use Rattle.edf_header.specs.declared.limits.TheConstants.{MOST_RECORDS}
 use Rattle.edf_header.specs.Key.{Key}
 use Rattle.edf_fragment.specs.Fragment.{DataRecord}
-use Rattle.edf_fragment.specs.Told.{Told, Fragment, Tells}
-use Rattle.edf_fragment.proofs.Told.{some-telling, one-telling}
+use Rattle.edf_fragment.specs.Parsed.{Parsed, Fragment, ParsesTo}
+use Rattle.edf_fragment.proofs.Parsed.{some-parse, one-parse}
 use Rattle.edf_holdings.specs.Holdings.{Holdings, IsSound}
-use Rattle.edf_holdings.specs.Reply.{IsSoundTold, after_one, after, reply, IsAccepted}
+use Rattle.edf_holdings.specs.Reply.{IsWellFormed, after_one, after, reply, IsAccepted}
 use Rattle.edf_holdings.specs.Free.{IsFragment, IsFree, SameRecords}
-use Rattle.edf_holdings.specs.Laws.{AreSoundTold}
+use Rattle.edf_holdings.specs.Laws.{AreWellFormed}
 use Rattle.edf_holdings.proofs.Accepted.{after_has_accepted, refused_changes_nothing}
 use Rattle.edf_holdings.proofs.Free.{any_order_law, recut_law}
 use Rattle.edf_holdings.proofs.InSets.{held-sound}
 use Rattle.edf_holdings.proofs.Recut.{free_of_same}
 use Rattle.edf_holdings.proofs.Settled.{sound_front, sound_back}
 use Rattle.edf_holdings.proofs.Sound.{stays_sound}
-use Rattle.edf_holdings.proofs.ToldSound.{told_is_sound}
+use Rattle.edf_holdings.proofs.ParsedIsWellFormed.{parsed_is_well_formed}
 use Rattle.edf_canonical.specs.File.{IsCanonicalFile}
-use Rattle.edf_export.specs.Headline.{IsOnlyFile, EndAlike, Headline, TellOneList}
+use Rattle.edf_export.specs.Headline.{IsOnlyFile, EndAlike, Headline, ParseToOneList}
 use Rattle.edf_canonical.proofs.Files.{one-file}
 use Rattle.edf_canonical.proofs.SomeFile.{some-file}
 
@@ -31,7 +31,7 @@ some-long (r ∷ rs) some = omega arith
 only-file : (cap : ℕ) (h : Holdings) (k : Key) → IsSound cap h → cap ≤ MOST_RECORDS → h k ≢ []
     → (file : List ℕ) × IsOnlyFile file k (h k)
 only-file cap h k sound low some =
-    let told : IsSoundTold (Fragment k (h k)) = held-sound cap h k sound some in
+    let told : IsWellFormed (Fragment k (h k)) = held-sound cap h k sound some in
     let few : length (h k) ≤ cap = sound.few k in
     let file = some-file k (h k) told.0 told.1 told.2 (some-long (h k) some) (omega arith) in (
       file.0,
@@ -42,8 +42,9 @@ only-file cap h k sound low some =
     )
 
 -- the holdings that a member meets are sound, and so one that is refused leaves them
-refused-leaves : (cap : ℕ) (h : Holdings) (before : List Told) (member : Told) (later : List Told)
-    → IsSound cap h → AreSoundTold (before ++ (member ∷ later))
+refused-leaves : (cap : ℕ) (h : Holdings) (before : List Parsed) (member : Parsed)
+    (later : List Parsed)
+    → IsSound cap h → AreWellFormed (before ++ (member ∷ later))
     → ¬ IsAccepted (reply cap (after cap h before) member)
     → after_one cap (after cap h before) member ≡ after cap h before
 refused-leaves cap h before member later sound told refused =
@@ -53,8 +54,8 @@ refused-leaves cap h before member later sound told refused =
     refused_changes_nothing cap (after cap h before) member met back.0 refused
 
 -- since the list is free, so is the other; since they hold the same records, they leave the same
-end-alike : (cap : ℕ) (h : Holdings) (tolds others : List Told)
-    → IsSound cap h → AreSoundTold tolds → AreSoundTold others → IsFree cap h tolds
+end-alike : (cap : ℕ) (h : Holdings) (tolds others : List Parsed)
+    → IsSound cap h → AreWellFormed tolds → AreWellFormed others → IsFree cap h tolds
     → AllByRecursion IsFragment others → SameRecords tolds others → EndAlike cap h tolds others
 end-alike cap h tolds others sound told other_told free fragments same =
     let other_free = free_of_same cap h tolds others sound told other_told free fragments same in
@@ -69,8 +70,8 @@ end-alike cap h tolds others sound told other_told free fragments same =
       );
     }
 
-pub headline : (cap : ℕ) (h : Holdings) (tolds : List Told)
-    → IsSound cap h → AreSoundTold tolds → Headline cap h tolds
+pub headline : (cap : ℕ) (h : Holdings) (tolds : List Parsed)
+    → IsSound cap h → AreWellFormed tolds → Headline cap h tolds
 headline cap h tolds sound told =
     let left : IsSound cap (after cap h tolds) = stays_sound cap h tolds sound told in
     record {
@@ -80,32 +81,32 @@ headline cap h tolds sound told =
         rising = left.rising k;
       };
       refused = λ before member later splits refused.
-          refused-leaves cap h before member later sound (subst AreSoundTold splits told) refused;
+          refused-leaves cap h before member later sound (subst AreWellFormed splits told) refused;
       alike = λ others other_told free fragments same.
           end-alike cap h tolds others sound told other_told free fragments same;
     }
 
 -- no bytes tell two things, so no files tell two lists
-only-none : (others : List Told) → AllZip Tells [] others → others ≡ []
+only-none : (others : List Parsed) → AllZip ParsesTo [] others → others ≡ []
 only-none [] all = refl
 only-none (other ∷ others) all = absurd all
 
-only-more : (bytes : List ℕ) (files : List (List ℕ)) (told : Told) (tolds : List Told)
-    → Tells bytes told → ((others : List Told) → AllZip Tells files others → others ≡ tolds)
-    → (others : List Told) → AllZip Tells (bytes ∷ files) others → others ≡ told ∷ tolds
+only-more : (bytes : List ℕ) (files : List (List ℕ)) (told : Parsed) (tolds : List Parsed)
+    → ParsesTo bytes told → ((others : List Parsed) → AllZip ParsesTo files others → others ≡ tolds)
+    → (others : List Parsed) → AllZip ParsesTo (bytes ∷ files) others → others ≡ told ∷ tolds
 only-more bytes files told tolds tells only [] all = absurd all
 only-more bytes files told tolds tells only (other ∷ others) all =
-    ap (λ (t : Told). t ∷ others) (one-telling bytes other told all.0 tells)
-    ∙ ap (λ (ts : List Told). told ∷ ts) (only others all.1)
+    ap (λ (t : Parsed). t ∷ others) (one-parse bytes other told all.0 tells)
+    ∙ ap (λ (ts : List Parsed). told ∷ ts) (only others all.1)
 
-pub tells-one : (files : List (List ℕ)) → TellOneList files
-tells-one [] = record { tolds = []; told = tt; sound = tt; only = only-none }
+pub tells-one : (files : List (List ℕ)) → ParseToOneList files
+tells-one [] = record { submissions = []; parsed = tt; sound = tt; only = only-none }
 tells-one (bytes ∷ files) =
-    let here = some-telling bytes in
+    let here = some-parse bytes in
     let more = tells-one files in
     record {
-      tolds = here.0 ∷ more.tolds;
-      told = (here.1, more.told);
-      sound = (told_is_sound bytes here.0 here.1, more.sound);
-      only = only-more bytes files here.0 more.tolds here.1 more.only;
+      submissions = here.0 ∷ more.submissions;
+      parsed = (here.1, more.parsed);
+      sound = (parsed_is_well_formed bytes here.0 here.1, more.sound);
+      only = only-more bytes files here.0 more.submissions here.1 more.only;
     }

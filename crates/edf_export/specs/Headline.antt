@@ -4,12 +4,12 @@ use Rattle.std.specs.List.{AllByRecursion, AllZip}
 use Rattle.edf_header.specs.declared.limits.TheConstants.{MOST_RECORDS}
 use Rattle.edf_header.specs.Key.{Key}
 use Rattle.edf_fragment.specs.Fragment.{DataRecord}
-use Rattle.edf_fragment.specs.Told.{Told, Tells}
+use Rattle.edf_fragment.specs.Parsed.{Parsed, ParsesTo}
 use Rattle.edf_holdings.specs.Rising.{IsRising}
 use Rattle.edf_holdings.specs.Holdings.{Holdings}
 use Rattle.edf_holdings.specs.Reply.{after_one, after, reply, replies, IsAccepted}
 use Rattle.edf_holdings.specs.Free.{IsFragment, IsFree, SameRecords}
-use Rattle.edf_holdings.specs.Laws.{AreSoundTold}
+use Rattle.edf_holdings.specs.Laws.{AreWellFormed}
 use Rattle.edf_holdings.specs.Meaning.{FromAccepted}
 use Rattle.edf_canonical.specs.File.{IsCanonicalFile}
 
@@ -21,38 +21,42 @@ pub record IsOnlyFile (file : List ℕ) (k : Key) (records : List DataRecord) : 
 module _ (cap : ℕ) (h : Holdings) where
   -- the records are those that h held under the key and those of the accepted members, each once,
   -- by rising starts
-  pub record AreGathered (tolds : List Told) (k : Key) (records : List DataRecord) : Type 0 where
+  pub record AreGathered (submissions : List Parsed) (k : Key)
+      (records : List DataRecord) : Type 0 where
     pub those : (r : DataRecord) →
-        Contains records r ↔ (Contains (h k) r ⊎ FromAccepted cap h tolds k r)
+        Contains records r ↔ (Contains (h k) r ⊎ FromAccepted cap h submissions k r)
     pub rising : IsRising records
 
   -- each member of both lists is accepted, and each key's file is the same bytes after both
-  pub record EndAlike (tolds others : List Told) : Type 0 where
-    pub accepted : All IsAccepted (replies cap h tolds)
+  pub record EndAlike (submissions others : List Parsed) : Type 0 where
+    pub accepted : All IsAccepted (replies cap h submissions)
     pub others_accepted : All IsAccepted (replies cap h others)
     pub same_file : (k : Key) (file : List ℕ) →
-        IsCanonicalFile file k (after cap h tolds k) ↔ IsCanonicalFile file k (after cap h others k)
+        IsCanonicalFile file k (after cap h submissions k)
+        ↔ IsCanonicalFile file k (after cap h others k)
 
   -- of sound holdings h, and of a list of what byte strings tell:
-  pub record Headline (tolds : List Told) : Type 0 where
+  pub record Headline (submissions : List Parsed) : Type 0 where
     -- each key that holds something after the list has exactly one canonical file, under every cap
     -- that a store may have
-    pub one_file : cap ≤ MOST_RECORDS → (k : Key) → after cap h tolds k ≢ [] →
-        (file : List ℕ) × IsOnlyFile file k (after cap h tolds k)
+    pub one_file : cap ≤ MOST_RECORDS → (k : Key) → after cap h submissions k ≢ [] →
+        (file : List ℕ) × IsOnlyFile file k (after cap h submissions k)
     -- its records are those that h held and those of the accepted members, each once, rising
-    pub its_records : (k : Key) → AreGathered tolds k (after cap h tolds k)
+    pub its_records : (k : Key) → AreGathered submissions k (after cap h submissions k)
     -- a member that is refused leaves the holdings that it met
-    pub refused : (before : List Told) (member : Told) (later : List Told) →
-        tolds ≡ before ++ (member ∷ later) → ¬ IsAccepted (reply cap (after cap h before) member) →
+    pub refused : (before : List Parsed) (member : Parsed) (later : List Parsed) →
+        submissions ≡ before ++ (member ∷ later) →
+        ¬ IsAccepted (reply cap (after cap h before) member) →
         after_one cap (after cap h before) member ≡ after cap h before
     -- where the list is free of conflicts, it and each list of fragments with the same records,
     -- however cut, ordered or repeated, are accepted whole, and leave the same files
-    pub alike : (others : List Told) → AreSoundTold others → IsFree cap h tolds →
-        AllByRecursion IsFragment others → SameRecords tolds others → EndAlike tolds others
+    pub alike : (others : List Parsed) → AreWellFormed others → IsFree cap h submissions →
+        AllByRecursion IsFragment others → SameRecords submissions others →
+        EndAlike submissions others
 
 -- a list of byte strings, as files are, tells just one list, and of that list the headline speaks
-pub record TellOneList (files : List (List ℕ)) : Type 0 where
-  pub tolds : List Told
-  pub told : AllZip Tells files tolds
-  pub sound : AreSoundTold tolds
-  pub only : (others : List Told) → AllZip Tells files others → others ≡ tolds
+pub record ParseToOneList (files : List (List ℕ)) : Type 0 where
+  pub submissions : List Parsed
+  pub parsed : AllZip ParsesTo files submissions
+  pub sound : AreWellFormed submissions
+  pub only : (others : List Parsed) → AllZip ParsesTo files others → others ≡ submissions

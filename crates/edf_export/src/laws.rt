@@ -3,13 +3,13 @@
 ghost use Rattle.std.specs.Prelude.{ℕ, List, Option};
 ghost use Rattle.edf_header.specs.Key.{Key};
 ghost use Rattle.edf_fragment.specs.Fragment.{DataRecord, Spells};
-ghost use Rattle.edf_fragment.specs.Told.{Told};
+ghost use Rattle.edf_fragment.specs.Parsed.{Parsed};
 ghost use Rattle.edf_holdings.specs.Holdings.{Holdings, IsSound};
-ghost use Rattle.edf_holdings.specs.Laws.{AreSoundTold};
+ghost use Rattle.edf_holdings.specs.Laws.{AreWellFormed};
 ghost use Rattle.edf_canonical.specs.File.{IsCanonicalFile};
 ghost use Rattle.edf_export.specs.Export.{IsExported};
 ghost use Rattle.edf_export.specs.Again.{IsAcceptedAgain, ExportAlike};
-ghost use Rattle.edf_export.specs.Headline.{Headline, TellOneList};
+ghost use Rattle.edf_export.specs.Headline.{Headline, ParseToOneList};
 
 /// An export is a fragment of just the key and the data records that were exported.
 pub fn an_export_is_a_fragment()
@@ -37,7 +37,7 @@ pub fn the_same_records_export_alike()
 /// conflicts with the same records are accepted whole and leave the same files. Each list of byte
 /// strings tells just one list of submissions.
 pub fn headline()
-    ensures law { (cap : ℕ) (h : Holdings) (tolds : List Told) →
-        IsSound cap h → AreSoundTold tolds → Headline cap h tolds }
-    ensures files { (files : List (List ℕ)) → TellOneList files }
+    ensures law { (cap : ℕ) (h : Holdings) (submissions : List Parsed) →
+        IsSound cap h → AreWellFormed submissions → Headline cap h submissions }
+    ensures files { (files : List (List ℕ)) → ParseToOneList files }
 {}

@@ -3,7 +3,7 @@ pub mod Fragment
 pub mod Signals
 pub mod Sound
 pub mod Fault
-pub mod Told
+pub mod Parsed
 pub mod Stops
 pub mod Reading
 pub mod Call

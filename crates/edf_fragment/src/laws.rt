@@ -7,7 +7,7 @@ ghost use Rattle.edf_header.specs.Header.{HeaderRecord, Layout, layout_of};
 ghost use Rattle.edf_fragment.specs.Fragment.{DataRecord, Spells, blocks, ordinary_bytes};
 ghost use Rattle.edf_fragment.specs.Signals.{annotations_blocks, ordinary_samples};
 ghost use Rattle.edf_fragment.specs.Fault.{IsFirstFault};
-ghost use Rattle.edf_fragment.specs.Told.{Told, Tells};
+ghost use Rattle.edf_fragment.specs.Parsed.{Parsed, ParsesTo};
 ghost use Rattle.edf_fragment.specs.Sound.{AreSound, MayBegin};
 ghost use Rattle.edf_fragment.specs.Reading.{ReadsHeader, IsOpenFault, IsAnswer, at_first};
 ghost use Rattle.edf_fragment.specs.Whole.{HasRead, ReadsFragment, IsFragmentFault};
@@ -48,10 +48,10 @@ pub fn one_fault()
 {}
 
 /// Each list of bytes spells a key with its data records or has a first fault: just one of the two.
-pub fn each_tells_one()
-    ensures some { (bytes : List ℕ) → (told : Told) × Tells bytes told }
-    ensures one { (bytes : List ℕ) (told other : Told) → Tells bytes told →
-        Tells bytes other → told ≡ other }
+pub fn each_parses_to_one()
+    ensures some { (bytes : List ℕ) → (parsed : Parsed) × ParsesTo bytes parsed }
+    ensures one { (bytes : List ℕ) (parsed other : Parsed) → ParsesTo bytes parsed →
+        ParsesTo bytes other → parsed ≡ other }
 {}
 
 /// What bytes that spell a fragment give it: a key that headers name, with a duration above 0; and

@@ -20,7 +20,8 @@
 //!   an output tells, for a person.
 //! - [`fill`], [`Filled`]: a buffer filled from an input, in whatever pieces it comes. [`send`]:
 //!   all of some bytes, to an output.
-//! - [`each_tells_one`], [`one_fragment`], [`one_fault`], [`no_fault_where_spelled`]: each list of
+//! - [`each_parses_to_one`], [`one_fragment`], [`one_fault`], [`no_fault_where_spelled`]: each list
+//!   of
 //!   bytes spells one fragment or has one first fault, and never both. [`records_are_sound`],
 //!   [`records_so_far`]: what holds of the data records of a fragment, and of those that were read
 //!   so far. [`answers_join`], [`known_bytes`]: what is read record by record is what they say of
@@ -43,7 +44,7 @@ mod whole;
 pub use advance::{Progress, ReaderState};
 pub use fault::FragmentFault;
 pub use laws::{
-    answers_join, each_tells_one, known_bytes, no_fault_where_spelled, one_fault, one_fragment,
+    answers_join, each_parses_to_one, known_bytes, no_fault_where_spelled, one_fault, one_fragment,
     records_are_sound, records_so_far, signals_in_turn,
 };
 pub use open_fragment::OpenFragment;

@@ -3,11 +3,11 @@ use Rattle.std.proofs.Common.{◌≡◌, ℕ, ◌⊎◌, List, [], ◌∷◌, �
 use Rattle.std.proofs.lemmas.Bool.{cond-true, cond-false, cases_Bool, both_ways}
 use Rattle.edf_header.specs.Key.{Key}
 use Rattle.edf_fragment.specs.Fragment.{DataRecord}
-use Rattle.edf_fragment.specs.Told.{Told, Fragment, Fault}
+use Rattle.edf_fragment.specs.Parsed.{Parsed, Fragment, Fault}
 use Rattle.edf_holdings.specs.Holdings.{Holdings, put}
-use Rattle.edf_holdings.specs.Reply.{IsSoundTold, fits, after_one, after, reply, IsAccepted}
+use Rattle.edf_holdings.specs.Reply.{IsWellFormed, fits, after_one, after, reply, IsAccepted}
 use Rattle.edf_holdings.specs.Free.{Has}
-use Rattle.edf_holdings.specs.Laws.{AreSoundTold}
+use Rattle.edf_holdings.specs.Laws.{AreWellFormed}
 use Rattle.edf_holdings.specs.Meaning.{FromAccepted, AfterHasAccepted, RefusedChangesNothing}
 use Rattle.edf_holdings.proofs.Members.{In, in_joined}
 use Rattle.edf_holdings.proofs.Joining.{IsGood, IsGood-from_sound, In-from_Contains}
@@ -19,14 +19,14 @@ use Rattle.edf_holdings.proofs.Replies.{accepted_from_MayJoin, MayJoin-from_acce
 use Rattle.edf_holdings.proofs.Free.{put_has}
 
 -- one submission
-record Met (cap : ℕ) (h : Holdings) (t : Told) : Type 0 where
+record Met (cap : ℕ) (h : Holdings) (t : Parsed) : Type 0 where
   same : (IsAccepted (reply cap h t) → ⊥) → after_one cap h t ≡ h
   adds : (k : Key) (y : DataRecord) → In y (after_one cap h t k) → In y (h k)
       ⊎ (IsAccepted (reply cap h t) × Has k y t)
   has : (k : Key) (y : DataRecord) → IsAccepted (reply cap h t) → Has k y t →
       In y (after_one cap h t k)
 
-met : (cap : ℕ) (h : Holdings) (t : Told) → IsSoundTold t → IsGood cap h → Met cap h t
+met : (cap : ℕ) (h : Holdings) (t : Parsed) → IsWellFormed t → IsGood cap h → Met cap h t
 unfolding after_one
 met cap h (Fault fault) w g = record {
   same = λ _. refl;
@@ -69,7 +69,8 @@ pub refused_changes_nothing : RefusedChangesNothing
 refused_changes_nothing cap h t s w n = (met cap h t w (IsGood-from_sound cap h s)).same n
 
 -- lists
-in_after : (cap : ℕ) (h : Holdings) (ts : List Told) (k : Key) (r : DataRecord) → AreSoundTold ts →
+in_after : (cap : ℕ) (h : Holdings) (ts : List Parsed) (k : Key) (r : DataRecord) →
+    AreWellFormed ts →
     IsGood cap h → In r (after cap h ts k) → In r (h k) ⊎ FromAccepted cap h ts k r
 in_after cap h [] k r w g m = inl m
 in_after cap h (t ∷ ts) k r w g m =
@@ -96,18 +97,19 @@ in_after cap h (t ∷ ts) k r w g m =
       ]
     ]
 
-after_has : (cap : ℕ) (h : Holdings) (ts : List Told) (k : Key) (r : DataRecord) → AreSoundTold ts →
+after_has : (cap : ℕ) (h : Holdings) (ts : List Parsed) (k : Key) (r : DataRecord) →
+    AreWellFormed ts →
     IsGood cap h → FromAccepted cap h ts k r → In r (after cap h ts k)
 after_has cap h ts k r w g a =
-    subst (λ (l : List Told). In r (after cap h l k)) (sym a.splits)
+    subst (λ (l : List Parsed). In r (after cap h l k)) (sym a.splits)
     (subst (λ (z : Holdings). In r (z k)) (sym (after-append cap h a.before (a.member ∷ a.later)))
     (after_grows cap (after_one cap (after cap h a.before) a.member) a.later k r
     ((met cap (after cap h a.before) a.member (sound_back a.before (a.member ∷ a.later) v).0
     (IsGood-after cap h a.before (sound_front a.before (a.member ∷ a.later) v) g)).has k r
     a.accepted a.has)))
   where
-    v : AreSoundTold (a.before ++ (a.member ∷ a.later))
-    v = subst AreSoundTold a.splits w
+    v : AreWellFormed (a.before ++ (a.member ∷ a.later))
+    v = subst AreWellFormed a.splits w
 
 pub after_has_accepted : AfterHasAccepted
 after_has_accepted cap h ts k r s w =

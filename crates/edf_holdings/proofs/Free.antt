@@ -8,14 +8,14 @@ use mathlib.Core.Path.{fun_ext}
 use Rattle.edf_field.specs.Number.{duration_of}
 use Rattle.edf_header.specs.Key.{Key}
 use Rattle.edf_fragment.specs.Fragment.{DataRecord}
-use Rattle.edf_fragment.specs.Told.{Told, Fragment, Fault}
+use Rattle.edf_fragment.specs.Parsed.{Parsed, Fragment, Fault}
 use Rattle.edf_holdings.specs.Same.{same_record}
 use Rattle.edf_holdings.specs.Rising.{inserted, united, IsRising}
 use Rattle.edf_holdings.specs.Holdings.{Holdings, put}
-use Rattle.edf_holdings.specs.Reply.{IsSoundTold, fits, after_one, after, reply, replies}
+use Rattle.edf_holdings.specs.Reply.{IsWellFormed, fits, after_one, after, reply, replies}
 use Rattle.edf_holdings.specs.Reply.{IsAccepted}
 use Rattle.edf_holdings.specs.Free.{with_one, with_all, IsFree, Has}
-use Rattle.edf_holdings.specs.Laws.{AreSoundTold, AnyOrder, Recut}
+use Rattle.edf_holdings.specs.Laws.{AreWellFormed, AnyOrder, Recut}
 use Rattle.edf_holdings.proofs.Same.{Clash-from_test}
 use Rattle.edf_holdings.proofs.Members.{In, Within, AreFree, in_joined, joined_has, joined_keeps}
 use Rattle.edf_holdings.proofs.Members.{same_lists}
@@ -42,24 +42,24 @@ joined_longer : (xs rs : List DataRecord) → length xs ≤ length (united xs rs
 joined_longer xs [] = omega arith
 joined_longer xs (r ∷ rs) = omega (arith, inserted_longer r xs, joined_longer (inserted r xs) rs)
 
-one_longer : (h : Holdings) (t : Told) (k : Key) → length (h k) ≤ length (with_one h t k)
+one_longer : (h : Holdings) (t : Parsed) (k : Key) → length (h k) ≤ length (with_one h t k)
 one_longer h (Fault fault) k = omega arith
 one_longer h (Fragment key records) k =
     put_cases key records h (λ q l. length (h q) ≤ length l) (joined_longer (h key) records)
     (λ q. omega arith) k
 
-all_longer : (h : Holdings) (ts : List Told) (k : Key) → length (h k) ≤ length (with_all h ts k)
+all_longer : (h : Holdings) (ts : List Parsed) (k : Key) → length (h k) ≤ length (with_all h ts k)
 all_longer h [] k = omega arith
 all_longer h (t ∷ ts) k = omega (arith, one_longer h t k, all_longer (with_one h t) ts k)
 
 -- what is in holdings joined with all records of a list
 
 -- `Any` by recursion
-abbrev pub IsAmong : Key → DataRecord → List Told → Type 0
+abbrev pub IsAmong : Key → DataRecord → List Parsed → Type 0
 IsAmong k r [] = ⊥
 IsAmong k r (t ∷ ts) = Has k r t ⊎ IsAmong k r ts
 
-in_one : (h : Holdings) (t : Told) (k : Key) (y : DataRecord) → In y (with_one h t k) → In y (h k)
+in_one : (h : Holdings) (t : Parsed) (k : Key) (y : DataRecord) → In y (with_one h t k) → In y (h k)
     ⊎ Has k y t
 in_one h (Fault fault) k y m = inl m
 in_one h (Fragment key records) k y m =
@@ -78,19 +78,19 @@ put_has h key records k y s =
     (subst (λ (l : List DataRecord). In y l) (sym (put_here key records h))
     (joined_has (h key) records y (In-from_Contains records y s.1)))
 
-one_has : (h : Holdings) (t : Told) (k : Key) (y : DataRecord) → Has k y t → In y (with_one h t k)
+one_has : (h : Holdings) (t : Parsed) (k : Key) (y : DataRecord) → Has k y t → In y (with_one h t k)
 one_has h (Fault fault) k y s = absurd s
 one_has h (Fragment key records) k y s = put_has h key records k y s
 
-with_one_grows : (h : Holdings) (t : Told) → Grows h (with_one h t)
+with_one_grows : (h : Holdings) (t : Parsed) → Grows h (with_one h t)
 with_one_grows h (Fault fault) = λ k y m. m
 with_one_grows h (Fragment key records) = put_grows key records h
 
-pub all_grows : (h : Holdings) (ts : List Told) → Grows h (with_all h ts)
+pub all_grows : (h : Holdings) (ts : List Parsed) → Grows h (with_all h ts)
 all_grows h [] k y m = m
 all_grows h (t ∷ ts) k y m = all_grows (with_one h t) ts k y (with_one_grows h t k y m)
 
-pub in_all : (h : Holdings) (ts : List Told) (k : Key) (y : DataRecord) → In y (with_all h ts k) →
+pub in_all : (h : Holdings) (ts : List Parsed) (k : Key) (y : DataRecord) → In y (with_all h ts k) →
     In y (h k) ⊎ IsAmong k y ts
 in_all h [] k y m = inl m
 in_all h (t ∷ ts) k y m =
@@ -99,22 +99,22 @@ in_all h (t ∷ ts) k y m =
       | inl n ↦ elim (in_one h t k y n) [ inl q ↦ inl q | inr q ↦ inr (inl q) ]
     ]
 
-pub all_has : (h : Holdings) (ts : List Told) (k : Key) (y : DataRecord) → IsAmong k y ts →
+pub all_has : (h : Holdings) (ts : List Parsed) (k : Key) (y : DataRecord) → IsAmong k y ts →
     In y (with_all h ts k)
 all_has h [] k y m = absurd m
 all_has h (t ∷ ts) k y (inl s) = all_grows (with_one h t) ts k y (one_has h t k y s)
 all_has h (t ∷ ts) k y (inr n) = all_has (with_one h t) ts k y n
 
-pub IsAmong-from_Any : (k : Key) (r : DataRecord) (ts : List Told) → Any (Has k r) ts →
+pub IsAmong-from_Any : (k : Key) (r : DataRecord) (ts : List Parsed) → Any (Has k r) ts →
     IsAmong k r ts
 IsAmong-from_Any k r ts a = go ts a.0 a.2 a.3
   where
-    go : (us : List Told) (i : ℕ) → i < length us → slice_index_or us i a.1 ≡ a.1 → IsAmong k r us
+    go : (us : List Parsed) (i : ℕ) → i < length us → slice_index_or us i a.1 ≡ a.1 → IsAmong k r us
     go [] i l e = absurd (omega arith)
     go (u ∷ us) zero l e = inl (subst (Has k r) (sym e) a.4)
     go (u ∷ us) (suc i) l e = inr (go us i (omega arith) e)
 
-pub Any-from_IsAmong : (k : Key) (r : DataRecord) (ts : List Told) → IsAmong k r ts →
+pub Any-from_IsAmong : (k : Key) (r : DataRecord) (ts : List Parsed) → IsAmong k r ts →
     Any (Has k r) ts
 Any-from_IsAmong k r [] m = absurd m
 Any-from_IsAmong k r (t ∷ ts) (inl s) = (0, t, omega arith, refl, s)
@@ -124,7 +124,7 @@ Any-from_IsAmong k r (t ∷ ts) (inr m) = let a = Any-from_IsAmong k r ts m in
 -- a free list is accepted whole
 
 MayJoin-from_free : (cap : ℕ) (h : Holdings) (key : Key) (records : List DataRecord)
-    (ts : List Told) → IsFree cap h (Fragment key records ∷ ts) → MayJoin cap key records h
+    (ts : List Parsed) → IsFree cap h (Fragment key records ∷ ts) → MayJoin cap key records h
 MayJoin-from_free cap h key records ts i = record { free = free; room = inr room }
   where
     all : List DataRecord
@@ -149,11 +149,11 @@ MayJoin-from_free cap h key records ts i = record { free = free; room = inr room
     )
 
 -- what the first member of a free list does
-record FirstOf (cap : ℕ) (h : Holdings) (t : Told) : Type 0 where
+record FirstOf (cap : ℕ) (h : Holdings) (t : Parsed) : Type 0 where
   accepted : IsAccepted (reply cap h t)
   joins : after_one cap h t ≡ with_one h t
 
-first_of_free : (cap : ℕ) (h : Holdings) (t : Told) (ts : List Told) → IsSoundTold t →
+first_of_free : (cap : ℕ) (h : Holdings) (t : Parsed) (ts : List Parsed) → IsWellFormed t →
     IsGood cap h → IsFree cap h (t ∷ ts) → FirstOf cap h t
 unfolding after_one
 first_of_free cap h (Fault fault) ts w g i = absurd i.fragments.0
@@ -165,11 +165,11 @@ first_of_free cap h (Fragment key records) ts w g i =
           (fits_from_MayJoin cap key records h m);
     }
 
-record WholeOf (cap : ℕ) (h : Holdings) (ts : List Told) : Type 0 where
+record WholeOf (cap : ℕ) (h : Holdings) (ts : List Parsed) : Type 0 where
   accepted : All IsAccepted (replies cap h ts)
   joins : after cap h ts ≡ with_all h ts
 
-whole_of_free : (cap : ℕ) (h : Holdings) (ts : List Told) → AreSoundTold ts → IsGood cap h →
+whole_of_free : (cap : ℕ) (h : Holdings) (ts : List Parsed) → AreWellFormed ts → IsGood cap h →
     IsFree cap h ts → WholeOf cap h ts
 whole_of_free cap h [] w g i = record { accepted = All-nil IsAccepted; joins = refl }
 whole_of_free cap h (t ∷ ts) w g i =
@@ -192,7 +192,7 @@ any_order_law cap h ts s w i = let a = whole_of_free cap h ts w (IsGood-from_sou
 
 -- free lists with the same records end alike
 
-pub all_within : (h : Holdings) (ts us : List Told) (k : Key) →
+pub all_within : (h : Holdings) (ts us : List Parsed) (k : Key) →
     ((y : DataRecord) → IsAmong k y ts → IsAmong k y us) →
     Within (with_all h ts k) (with_all h us k)
 all_within h ts us k w y m = elim (in_all h ts k y m) [

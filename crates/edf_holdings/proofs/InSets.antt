@@ -8,19 +8,19 @@ use mathlib.Core.Path.{fun_ext}
 use Rattle.edf_field.specs.Number.{duration_of}
 use Rattle.edf_header.specs.Key.{Key, IsKey}
 use Rattle.edf_fragment.specs.Fragment.{DataRecord}
-use Rattle.edf_fragment.specs.Told.{Fragment}
+use Rattle.edf_fragment.specs.Parsed.{Fragment}
 use Rattle.edf_holdings.specs.Same.{same_key}
 use Rattle.edf_holdings.specs.Clash.{clashes}
 use Rattle.edf_holdings.specs.Rising.{united, new_of, IsApart, IsRising}
 use Rattle.edf_fragment.specs.Sound.{IsSoundRecord, AreSound}
 use Rattle.edf_holdings.specs.Holdings.{Holdings, IsSound, put, nothing_held}
-use Rattle.edf_holdings.specs.Reply.{IsSoundTold, fits, after_one, Accepted, Differs, Overlap}
+use Rattle.edf_holdings.specs.Reply.{IsWellFormed, fits, after_one, Accepted, Differs, Overlap}
 use Rattle.edf_holdings.specs.Reply.{Conflict, Conflicts, conflict_of_clash}
 use Rattle.edf_holdings.specs.Reply.{clash_or, first_clash, reply_to_clash, reply, IsAccepted}
 use Rattle.edf_holdings.specs.Free.{with_all}
 use Rattle.edf_holdings.specs.Meaning.{SameKeyIsEqual, SameRecordIsEqual, TestIsClash}
 use Rattle.edf_holdings.specs.Meaning.{HoldsIsContains, ListIsSet, HoldingsAreSets, JoinedHasBoth}
-use Rattle.edf_holdings.specs.Meaning.{AllHasBoth, Fits, FitsIsTold, AcceptedWhereFits}
+use Rattle.edf_holdings.specs.Meaning.{AllHasBoth, Fits, TestIsFits, AcceptedWhereFits}
 use Rattle.edf_holdings.specs.Meaning.{IsFirstClash, ClashIsNamed, OwnList, NearTwo}
 use Rattle.edf_holdings.proofs.Same.{same_key-Decides, same_record-Decides, Clash-from_test}
 use Rattle.edf_holdings.proofs.Same.{test_from_Clash}
@@ -120,8 +120,8 @@ Fits-from_MayJoin cap h key records w g m = record {
   ];
 }
 
-pub fits_is_told : FitsIsTold
-fits_is_told cap h key records s w = (
+pub test_is_fits : TestIsFits
+test_is_fits cap h key records s w = (
   (λ e. Fits-from_MayJoin cap h key records w.0 (IsGood-from_sound cap h s)
       (MayJoin-from_fits cap key records h e)),
   (λ f. fits_from_MayJoin cap key records h (MayJoin-from_Fits cap h key records f)),
@@ -217,7 +217,7 @@ are-sound-from k low (r ∷ rs) a e = (
 
 -- so a recording's records are a fragment's
 pub held-sound : (cap : ℕ) (h : Holdings) (k : Key) → IsSound cap h → h k ≢ [] →
-    IsSoundTold (Fragment k (h k))
+    IsWellFormed (Fragment k (h k))
 held-sound cap h k s some = (
   s.keys k some,
   are-sound-from k 0 (h k) ((IsGood-from_sound cap h s).apart k)
@@ -235,7 +235,7 @@ own_list cap h k s some = (
       ∙ fun_ext (λ q. ap (λ (l : List DataRecord). cond (same_key k q) l []) whole),
 )
   where
-    w : IsSoundTold (Fragment k (h k))
+    w : IsWellFormed (Fragment k (h k))
     w = held-sound cap h k s some
 
     g : IsGood cap h

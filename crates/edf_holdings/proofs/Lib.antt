@@ -14,6 +14,6 @@ pub mod Selected
 pub mod OneByOne
 pub mod Added
 pub mod Recut
-pub mod ToldSound
+pub mod ParsedIsWellFormed
 pub mod Worked
 pub mod Clashes

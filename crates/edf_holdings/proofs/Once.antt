@@ -5,9 +5,9 @@ use Rattle.std.proofs.lemmas.List.Edits.{remove-append_right}
 use Rattle.std.proofs.lemmas.Bool.{cond_both}
 use Rattle.edf_header.specs.Key.{Key}
 use Rattle.edf_fragment.specs.Fragment.{DataRecord}
-use Rattle.edf_fragment.specs.Told.{Told, Fragment}
+use Rattle.edf_fragment.specs.Parsed.{Parsed, Fragment}
 use Rattle.edf_holdings.specs.Holdings.{Holdings, put}
-use Rattle.edf_holdings.specs.Reply.{IsSoundTold, fits, after_one, after, reply, replies}
+use Rattle.edf_holdings.specs.Reply.{IsWellFormed, fits, after_one, after, reply, replies}
 use Rattle.edf_holdings.specs.Laws.{HeldIsKnown, AcceptedAgain, RefusedAgain, RepeatTakenOut}
 use Rattle.edf_holdings.specs.Laws.{FromTheFront, with_member}
 use Rattle.edf_holdings.proofs.Members.{Within}
@@ -20,7 +20,7 @@ use Rattle.edf_holdings.proofs.Replies.{replies-append, length-replies}
 use Rattle.edf_holdings.proofs.Sound.{Each-from_All}
 
 pub held_fragment : (cap : ℕ) (h : Holdings) (key : Key) (records : List DataRecord) →
-    IsSoundTold (Fragment key records) → IsGood cap h → Within records (h key) →
+    IsWellFormed (Fragment key records) → IsGood cap h → Within records (h key) →
     after_one cap h (Fragment key records) ≡ h
 unfolding after_one
 held_fragment cap h key records w g i =
@@ -35,7 +35,7 @@ held_is_known cap h key records s w a =
     (held_reply cap h key records w g i, held_fragment cap h key records w g i)
 
 -- the holdings after a member and what follows are larger than those after it
-grows_from : (cap : ℕ) (h : Holdings) (ts : List Told) (t : Told) (us : List Told) →
+grows_from : (cap : ℕ) (h : Holdings) (ts : List Parsed) (t : Parsed) (us : List Parsed) →
     Grows (after_one cap (after cap h ts) t) (after cap h (with_member ts t us))
 grows_from cap h ts t us =
     subst (λ (z : Holdings). Grows (after_one cap (after cap h ts) t) z)

@@ -9,12 +9,13 @@ use mathlib.Core.Path.{fun_ext}
 use Rattle.edf_field.specs.Number.{duration_of}
 use Rattle.edf_header.specs.Key.{Key, IsKey}
 use Rattle.edf_fragment.specs.Fragment.{DataRecord}
-use Rattle.edf_fragment.specs.Told.{Fragment}
+use Rattle.edf_fragment.specs.Parsed.{Fragment}
 use Rattle.edf_holdings.specs.Same.{same_key}
 use Rattle.edf_holdings.specs.Clash.{clashes, near_of, other_of}
 use Rattle.edf_holdings.specs.Rising.{contains_record, inserted, united, new_of, IsApart}
 use Rattle.edf_holdings.specs.Holdings.{Holdings, put}
-use Rattle.edf_holdings.specs.Reply.{IsSoundTold, after_one, Conflicts, conflict_of_clash, clash_or}
+use Rattle.edf_holdings.specs.Reply.{IsWellFormed, after_one, Conflicts, conflict_of_clash}
+use Rattle.edf_holdings.specs.Reply.{clash_or}
 use Rattle.edf_holdings.specs.Reply.{first_clash, reply_to_counts, reply_to_clash, reply, fits}
 use Rattle.edf_holdings.proofs.Same.{same_key-true, clashes-true}
 use Rattle.edf_holdings.proofs.Members.{In, Within, In-from_holds, joined_keeps, inserted_held}
@@ -301,7 +302,7 @@ reply_counted cap key h rs t new known k =
 
 -- and what is held then is what the fragment leaves
 pub after_accepted : (cap : ℕ) (key : Key) (h : Holdings) (rs : List DataRecord) (t : Holdings)
-    (new known : ℕ) → IsSoundTold (Fragment key rs) → IsGood cap h →
+    (new known : ℕ) → IsWellFormed (Fragment key rs) → IsGood cap h →
     Taken cap key h rs t new known → length (h key) + new ≤ cap
     → t ≡ after_one cap h (Fragment key rs)
 unfolding after_one

@@ -7,13 +7,13 @@ use mathlib.Core.Path.{fun_ext}
 use Rattle.edf_field.specs.Number.{duration_of}
 use Rattle.edf_header.specs.Key.{Key}
 use Rattle.edf_fragment.specs.Fragment.{DataRecord}
-use Rattle.edf_fragment.specs.Told.{Told, Fragment, Fault}
+use Rattle.edf_fragment.specs.Parsed.{Parsed, Fragment, Fault}
 use Rattle.edf_holdings.specs.Clash.{NoClash}
 use Rattle.edf_holdings.specs.Rising.{united, IsApart, IsRising}
 use Rattle.edf_holdings.specs.Holdings.{Holdings, IsSound, put, nothing_held}
-use Rattle.edf_holdings.specs.Reply.{IsSoundTold}
+use Rattle.edf_holdings.specs.Reply.{IsWellFormed}
 use Rattle.edf_holdings.specs.Free.{IsFragment, with_one, with_all, IsFree, Has, SameRecords}
-use Rattle.edf_holdings.specs.Laws.{AreSoundTold, Reordered, FreeOfSame, AloneIsFree}
+use Rattle.edf_holdings.specs.Laws.{AreWellFormed, Reordered, FreeOfSame, AloneIsFree}
 use Rattle.edf_holdings.proofs.Same.{Clash-from_test, test_from_Clash}
 use Rattle.edf_holdings.proofs.Members.{In, Within, AreFree, joined_keeps, joined_has, apart_joined}
 use Rattle.edf_holdings.proofs.Members.{same_lists}
@@ -29,7 +29,7 @@ abbrev AreInOrder : Holdings → Type 0
 AreInOrder h = (k : Key) → IsRising (h k) × IsApart (duration_of k.duration) 0 (h k)
 
 -- they do so with one fragment more, where in the end nothing clashes
-order-one : (h : Holdings) (t : Told) (ts : List Told) → IsSoundTold t →
+order-one : (h : Holdings) (t : Parsed) (ts : List Parsed) → IsWellFormed t →
     ((k : Key) → NoClash (duration_of k.duration) (with_all (with_one h t) ts k)) → AreInOrder h →
     AreInOrder (with_one h t)
 order-one h (Fault fault) ts w n o = o
@@ -57,15 +57,15 @@ order-one h (Fragment key records) ts w n o =
     apart = apart_joined (duration_of key.duration) 0 (h key) records (o key).1
         (apart-sound key 0 records w.1) free
 
-order-all : (h : Holdings) (ts : List Told) → AreSoundTold ts →
+order-all : (h : Holdings) (ts : List Parsed) → AreWellFormed ts →
     ((k : Key) → NoClash (duration_of k.duration) (with_all h ts k)) → AreInOrder h →
     AreInOrder (with_all h ts)
 order-all h [] w n o = o
 order-all h (t ∷ ts) w n o = order-all (with_one h t) ts w.1 n (order-one h t ts w.0 n o)
 
 -- lists with the same records, of which one is free, give the same
-module _ (cap : ℕ) (h : Holdings) (ts us : List Told) (s : IsSound cap h) (w : AreSoundTold ts)
-    (v : AreSoundTold us) (i : IsFree cap h ts) (same : SameRecords ts us) where
+module _ (cap : ℕ) (h : Holdings) (ts us : List Parsed) (s : IsSound cap h) (w : AreWellFormed ts)
+    (v : AreWellFormed us) (i : IsFree cap h ts) (same : SameRecords ts us) where
   there : (k : Key) → Within (with_all h us k) (with_all h ts k)
   there k = all_within h us ts k (λ y m.
       IsAmong-from_Any k y ts ((same k y).1 (Any-from_IsAmong k y us m)))
@@ -101,37 +101,39 @@ free_of_same cap h ts us s w v i f same = free_again cap h ts us s w v i same f
 
 -- by membership
 
-head-in : (u : Told) (us : List Told) → Contains (u ∷ us) u
+head-in : (u : Parsed) (us : List Parsed) → Contains (u ∷ us) u
 head-in u us = (0, omega arith, refl)
 
-tail-in : (u : Told) (us : List Told) (t : Told) → Contains us t → Contains (u ∷ us) t
+tail-in : (u : Parsed) (us : List Parsed) (t : Parsed) → Contains us t → Contains (u ∷ us) t
 tail-in u us t c = (suc c.0, omega (arith, c.1), c.2)
 
-at-member : (P : Told → Type 0) (ts : List Told) (t : Told) → AllByRecursion P ts → Contains ts t →
+at-member : (P : Parsed → Type 0) (ts : List Parsed) (t : Parsed) → AllByRecursion P ts →
+    Contains ts t →
     P t
 at-member P ts t a c = go ts a c.0 c.1 c.2
   where
-    go : (ys : List Told) → AllByRecursion P ys → (k : ℕ) → k < length ys →
+    go : (ys : List Parsed) → AllByRecursion P ys → (k : ℕ) → k < length ys →
         slice_index_or ys k t ≡ t → P t
     go [] b k l e = absurd (omega arith)
     go (y ∷ ys) b zero l e = subst P e b.0
     go (y ∷ ys) b (suc k) l e = go ys b.1 k (omega arith) e
 
-each-moved : (P : Told → Type 0) (ts us : List Told) → AllByRecursion P ts →
-    ((t : Told) → Contains us t → Contains ts t) → AllByRecursion P us
+each-moved : (P : Parsed → Type 0) (ts us : List Parsed) → AllByRecursion P ts →
+    ((t : Parsed) → Contains us t → Contains ts t) → AllByRecursion P us
 each-moved P ts [] a f = tt
 each-moved P ts (u ∷ us) a f = (
   at-member P ts u a (f u (head-in u us)),
   each-moved P ts us a (λ t m. f t (tail-in u us t m)),
 )
 
-any-moved : (P : Told → Type 0) (ts us : List Told) → ((t : Told) → Contains ts t → Contains us t) →
+any-moved : (P : Parsed → Type 0) (ts us : List Parsed) →
+    ((t : Parsed) → Contains ts t → Contains us t) →
     Any P ts → Any P us
 any-moved P ts us f a = let c = f a.1 (a.0, a.2, a.3) in (c.0, a.1, c.1, c.2, a.4)
 
 pub reordered : Reordered
 reordered cap h ts us s w i same =
-    let v = each-moved IsSoundTold ts us w (λ t. (same t).1) in
+    let v = each-moved IsWellFormed ts us w (λ t. (same t).1) in
     let f = each-moved IsFragment ts us i.fragments (λ t. (same t).1) in
     let r : SameRecords ts us = λ k y. (
       any-moved (Has k y) ts us (λ t. (same t).0),

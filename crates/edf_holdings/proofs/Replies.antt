@@ -8,11 +8,11 @@ use Rattle.edf_field.specs.Number.{duration_of}
 use Rattle.edf_header.specs.Key.{Key}
 use Rattle.edf_fragment.specs.Fragment.{DataRecord}
 use Rattle.edf_fragment.specs.declared.fault.FragmentFault.{FragmentFault}
-use Rattle.edf_fragment.specs.Told.{Told, Fragment, Fault}
+use Rattle.edf_fragment.specs.Parsed.{Parsed, Fragment, Fault}
 use Rattle.edf_holdings.specs.Clash.{clashes}
 use Rattle.edf_holdings.specs.Rising.{contains_record, united, new_of}
 use Rattle.edf_holdings.specs.Holdings.{Holdings, put}
-use Rattle.edf_holdings.specs.Reply.{IsSoundTold, fits, after_one, after, Reply, Form, Conflicts}
+use Rattle.edf_holdings.specs.Reply.{IsWellFormed, fits, after_one, after, Reply, Form, Conflicts}
 use Rattle.edf_holdings.specs.Reply.{Full, Accepted, IsAccepted, clash_or, first_clash}
 use Rattle.edf_holdings.specs.Reply.{is_past, reply_to_counts, reply_to_clash, reply, replies}
 use Rattle.edf_holdings.specs.Meaning.{AreCountsNamed}
@@ -108,7 +108,7 @@ counts-named cap h key records none = (
 )
 
 pub accepted_from_MayJoin : (cap : ℕ) (h : Holdings) (key : Key) (records : List DataRecord) →
-    IsSoundTold (Fragment key records) → IsGood cap h → MayJoin cap key records h →
+    IsWellFormed (Fragment key records) → IsGood cap h → MayJoin cap key records h →
     reply cap h (Fragment key records) ≡ answered key records (h key)
 accepted_from_MayJoin cap h key records w g m =
     by-counts cap h key records (no_first (duration_of key.duration) (h key) records m.free)
@@ -123,7 +123,7 @@ accepted_from_MayJoin cap h key records w g m =
     ])
 
 MayJoin-from_clash : (cap : ℕ) (h : Holdings) (key : Key) (records : List DataRecord)
-    (o : Option (DataRecord × DataRecord)) → IsSoundTold (Fragment key records) → IsGood cap h
+    (o : Option (DataRecord × DataRecord)) → IsWellFormed (Fragment key records) → IsGood cap h
     → first_clash (duration_of key.duration) (h key) records ≡ o →
     IsAccepted (reply_to_clash cap key records (h key) o) → MayJoin cap key records h
 MayJoin-from_clash cap h key records (Some p) w g q i = absurd i
@@ -151,7 +151,7 @@ MayJoin-from_clash cap h key records None w g q i = record { free = free; room =
         ]
 
 pub MayJoin-from_accepted : (cap : ℕ) (h : Holdings) (key : Key) (records : List DataRecord) →
-    IsSoundTold (Fragment key records) → IsGood cap h →
+    IsWellFormed (Fragment key records) → IsGood cap h →
     IsAccepted (reply cap h (Fragment key records)) → MayJoin cap key records h
 unfolding reply
 MayJoin-from_accepted cap h key records w g i =
@@ -166,7 +166,7 @@ new_of-le xs (r ∷ rs) = cond_both (contains_record xs r) (new_of xs rs) (1 + n
 
 -- a fragment whose records are all held is accepted with nothing new
 pub held_reply : (cap : ℕ) (h : Holdings) (key : Key) (records : List DataRecord) →
-    IsSoundTold (Fragment key records) → IsGood cap h → Within records (h key) →
+    IsWellFormed (Fragment key records) → IsGood cap h → Within records (h key) →
     reply cap h (Fragment key records) ≡ Accepted key 0 (length records)
 held_reply cap h key records w g i =
     accepted_from_MayJoin cap h key records w g (MayJoin-from_held cap key records h g i)
@@ -188,7 +188,7 @@ held_after cap h h' key records m up y n =
     (joined_has (h key) records y n)))
 
 again_fragment : (cap : ℕ) (h h' : Holdings) (key : Key) (records : List DataRecord) →
-    IsSoundTold (Fragment key records) → IsGood cap h → IsGood cap h' →
+    IsWellFormed (Fragment key records) → IsGood cap h → IsGood cap h' →
     Grows (after_one cap h (Fragment key records)) h' → (k : Key) (new known : ℕ)
     → reply cap h (Fragment key records) ≡ Accepted k new known →
     reply cap h' (Fragment key records) ≡ Accepted k 0 (new + known)
@@ -216,7 +216,7 @@ unfolding reply
 form_reply cap h fault = refl
 
 -- a later repeat of an accepted member is accepted with nothing new
-pub accepted_again : (cap : ℕ) (h h' : Holdings) (t : Told) → IsSoundTold t → IsGood cap h →
+pub accepted_again : (cap : ℕ) (h h' : Holdings) (t : Parsed) → IsWellFormed t → IsGood cap h →
     IsGood cap h' → Grows (after_one cap h t) h' → (k : Key) (new known : ℕ) →
     reply cap h t ≡ Accepted k new known → reply cap h' t ≡ Accepted k 0 (new + known)
 accepted_again cap h h' (Fragment key records) w g g' up k new known q =
@@ -225,7 +225,7 @@ accepted_again cap h h' (Fault fault) w g g' up k new known q =
     cc (sym (form_reply cap h fault) ∙ q)
 
 -- what larger holdings accept, the smaller ones accepted
-pub accepted_before : (cap : ℕ) (h h' : Holdings) (t : Told) → IsSoundTold t → IsGood cap h →
+pub accepted_before : (cap : ℕ) (h h' : Holdings) (t : Parsed) → IsWellFormed t → IsGood cap h →
     IsGood cap h' → Grows h h' → IsAccepted (reply cap h' t) → IsAccepted (reply cap h t)
 accepted_before cap h h' (Fault fault) w g g' up i =
     absurd (subst IsAccepted (form_reply cap h' fault) i)
@@ -248,19 +248,19 @@ no_fault cap h key records fault q = go (first_clash (duration_of key.duration) 
         (λ (z : Reply). z ≡ Form fault → ⊥) (λ _ s. cc) (λ _ s. cc) r
 
 -- a fault of form is the same whatever is held
-pub fault_again : (cap : ℕ) (h h' : Holdings) (t : Told) (fault : FragmentFault) →
+pub fault_again : (cap : ℕ) (h h' : Holdings) (t : Parsed) (fault : FragmentFault) →
     reply cap h t ≡ Form fault → reply cap h' t ≡ Form fault
 fault_again cap h h' (Fragment key records) fault q = absurd (no_fault cap h key records fault q)
 fault_again cap h h' (Fault other) fault q = form_reply cap h' other
     ∙ (sym (form_reply cap h other) ∙ q)
 
-pub replies-append : (cap : ℕ) (h : Holdings) (ts us : List Told) →
+pub replies-append : (cap : ℕ) (h : Holdings) (ts us : List Parsed) →
     replies cap h (ts ++ us) ≡ replies cap h ts ++ replies cap (after cap h ts) us
 replies-append cap h [] us = refl
 replies-append cap h (t ∷ ts) us =
     ap (λ l. reply cap h t ∷ l) (replies-append cap (after_one cap h t) ts us)
 
-pub length-replies : (cap : ℕ) (h : Holdings) (ts : List Told) →
+pub length-replies : (cap : ℕ) (h : Holdings) (ts : List Parsed) →
     length (replies cap h ts) ≡ length ts
 length-replies cap h [] = refl
 length-replies cap h (t ∷ ts) = ap suc (length-replies cap (after_one cap h t) ts)

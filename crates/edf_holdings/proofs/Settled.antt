@@ -4,10 +4,10 @@ use Rattle.std.proofs.Common.{inl, inr}
 use Rattle.std.proofs.lemmas.Bool.{cond_both, cond-true, cond-false, both_ways, cases_Bool}
 use Rattle.std.proofs.lemmas.Bool.{false_from_ne_true}
 use Rattle.edf_fragment.specs.Fragment.{DataRecord}
-use Rattle.edf_fragment.specs.Told.{Told, Fragment, Fault}
+use Rattle.edf_fragment.specs.Parsed.{Parsed, Fragment, Fault}
 use Rattle.edf_holdings.specs.Holdings.{Holdings, put}
-use Rattle.edf_holdings.specs.Reply.{IsSoundTold, fits, after_one, after}
-use Rattle.edf_holdings.specs.Laws.{AreSoundTold}
+use Rattle.edf_holdings.specs.Reply.{IsWellFormed, fits, after_one, after}
+use Rattle.edf_holdings.specs.Laws.{AreWellFormed}
 use Rattle.edf_holdings.proofs.Members.{In, Within, joined_has}
 use Rattle.edf_holdings.proofs.Joining.{IsGood, Grows, MayJoin-from_fits, fits_from_MayJoin}
 use Rattle.edf_holdings.proofs.Joining.{MayJoin-smaller, IsGood-put, put_grows, put_held, put_here}
@@ -15,7 +15,7 @@ use Rattle.edf_holdings.proofs.Joining.{apart-sound}
 
 -- one submission
 
-pub IsGood-one : (cap : ℕ) (h : Holdings) (t : Told) → IsSoundTold t → IsGood cap h →
+pub IsGood-one : (cap : ℕ) (h : Holdings) (t : Parsed) → IsWellFormed t → IsGood cap h →
     IsGood cap (after_one cap h t)
 unfolding after_one
 IsGood-one cap h (Fault fault) w g = g
@@ -25,7 +25,7 @@ IsGood-one cap h (Fragment key records) w g =
     (MayJoin-from_fits cap key records h e))
     (λ _. g)
 
-pub one_grows : (cap : ℕ) (h : Holdings) (t : Told) → Grows h (after_one cap h t)
+pub one_grows : (cap : ℕ) (h : Holdings) (t : Parsed) → Grows h (after_one cap h t)
 unfolding after_one
 one_grows cap h (Fault fault) = λ k y m. m
 one_grows cap h (Fragment key records) =
@@ -33,7 +33,7 @@ one_grows cap h (Fragment key records) =
     (λ _. put_grows key records h) (λ _ k y m. m)
 
 -- what was met once changes larger holdings no more
-pub one_settled : (cap : ℕ) (h h' : Holdings) (t : Told) → IsSoundTold t → IsGood cap h →
+pub one_settled : (cap : ℕ) (h h' : Holdings) (t : Parsed) → IsWellFormed t → IsGood cap h →
     IsGood cap h' → Grows (after_one cap h t) h' → after_one cap h' t ≡ h'
 unfolding after_one
 one_settled cap h h' (Fault fault) w g g' up = refl
@@ -59,33 +59,33 @@ one_settled cap h h' (Fragment key records) w g g' up =
 
 -- lists of submissions
 
-pub IsGood-after : (cap : ℕ) (h : Holdings) (ts : List Told) → AreSoundTold ts → IsGood cap h →
+pub IsGood-after : (cap : ℕ) (h : Holdings) (ts : List Parsed) → AreWellFormed ts → IsGood cap h →
     IsGood cap (after cap h ts)
 IsGood-after cap h [] w g = g
 IsGood-after cap h (t ∷ ts) w g =
     IsGood-after cap (after_one cap h t) ts w.1 (IsGood-one cap h t w.0 g)
 
-pub after_grows : (cap : ℕ) (h : Holdings) (ts : List Told) → Grows h (after cap h ts)
+pub after_grows : (cap : ℕ) (h : Holdings) (ts : List Parsed) → Grows h (after cap h ts)
 after_grows cap h [] k y m = m
 after_grows cap h (t ∷ ts) k y m =
     after_grows cap (after_one cap h t) ts k y (one_grows cap h t k y m)
 
-pub after-append : (cap : ℕ) (h : Holdings) (ts us : List Told) →
+pub after-append : (cap : ℕ) (h : Holdings) (ts us : List Parsed) →
     after cap h (ts ++ us) ≡ after cap (after cap h ts) us
 after-append cap h [] us = refl
 after-append cap h (t ∷ ts) us = after-append cap (after_one cap h t) ts us
 
-pub sound_front : (ts us : List Told) → AreSoundTold (ts ++ us) → AreSoundTold ts
+pub sound_front : (ts us : List Parsed) → AreWellFormed (ts ++ us) → AreWellFormed ts
 sound_front [] us w = tt
 sound_front (t ∷ ts) us w = (w.0, sound_front ts us w.1)
 
-pub sound_back : (ts us : List Told) → AreSoundTold (ts ++ us) → AreSoundTold us
+pub sound_back : (ts us : List Parsed) → AreWellFormed (ts ++ us) → AreWellFormed us
 sound_back [] us w = w
 sound_back (t ∷ ts) us w = sound_back ts us w.1
 
 -- a member that comes again later changes nothing
-pub repeat_settled : (cap : ℕ) (h : Holdings) (ts : List Told) (t : Told) (us : List Told) →
-    AreSoundTold (ts ++ (t ∷ us)) → IsGood cap h
+pub repeat_settled : (cap : ℕ) (h : Holdings) (ts : List Parsed) (t : Parsed) (us : List Parsed) →
+    AreWellFormed (ts ++ (t ∷ us)) → IsGood cap h
     → after_one cap (after cap h (ts ++ (t ∷ us))) t ≡ after cap h (ts ++ (t ∷ us))
 repeat_settled cap h ts t us w g =
     let front = sound_front ts (t ∷ us) w in let back = sound_back ts (t ∷ us) w in
@@ -97,7 +97,8 @@ repeat_settled cap h ts t us w g =
     (after_grows cap (after_one cap (after cap h ts) t) us))
 
 -- larger holdings than those after a list are changed by none of its members
-pub list_settled : (cap : ℕ) (h h' : Holdings) (ts : List Told) → AreSoundTold ts → IsGood cap h →
+pub list_settled : (cap : ℕ) (h h' : Holdings) (ts : List Parsed) → AreWellFormed ts →
+    IsGood cap h →
     IsGood cap h' → Grows (after cap h ts) h' → after cap h' ts ≡ h'
 list_settled cap h h' [] w g g' up = refl
 list_settled cap h h' (t ∷ ts) w g g' up =
@@ -107,7 +108,7 @@ list_settled cap h h' (t ∷ ts) w g g' up =
     ∙ list_settled cap (after_one cap h t) h' ts w.1 (IsGood-one cap h t w.0 g) g' up
 
 -- a list sent again from its front ends alike
-pub again_from_front : (cap : ℕ) (h : Holdings) (ps qs : List Told) → AreSoundTold ps →
+pub again_from_front : (cap : ℕ) (h : Holdings) (ps qs : List Parsed) → AreWellFormed ps →
     IsGood cap h → after cap (after cap h ps) (ps ++ qs) ≡ after cap h (ps ++ qs)
 again_from_front cap h ps qs w g =
     after-append cap (after cap h ps) ps qs

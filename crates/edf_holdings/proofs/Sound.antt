@@ -6,12 +6,12 @@ use Rattle.std.proofs.lemmas.List.Elements.{All-nil, All-cons}
 use Rattle.edf_field.specs.Number.{duration_of}
 use Rattle.edf_header.specs.Key.{Key, IsKey, MayStart}
 use Rattle.edf_fragment.specs.Fragment.{DataRecord}
-use Rattle.edf_fragment.specs.Told.{Told, Fragment, Fault}
+use Rattle.edf_fragment.specs.Parsed.{Parsed, Fragment, Fault}
 use Rattle.edf_holdings.specs.Same.{same_key, same_record}
 use Rattle.edf_holdings.specs.Rising.{inserted, united}
 use Rattle.edf_fragment.specs.Sound.{IsSoundRecord, AreSound, MayBegin}
 use Rattle.edf_holdings.specs.Holdings.{Holdings, IsSound, put}
-use Rattle.edf_holdings.specs.Reply.{IsSoundTold, fits, after_one}
+use Rattle.edf_holdings.specs.Reply.{IsWellFormed, fits, after_one}
 use Rattle.edf_holdings.specs.Laws.{StaysSound}
 use Rattle.edf_holdings.proofs.Same.{same_key-true, test_from_Clash}
 use Rattle.edf_holdings.proofs.Members.{In, in_joined}
@@ -95,7 +95,7 @@ HasHolders-put key records h is_key sound first p = record {
       (λ _ n. let c = p.all k n in (suc c.0, omega (arith, c.1), c.2));
 }
 
-HasHolders-one : (cap : ℕ) (h : Holdings) (t : Told) → IsSoundTold t → HasHolders h →
+HasHolders-one : (cap : ℕ) (h : Holdings) (t : Parsed) → IsWellFormed t → HasHolders h →
     HasHolders (after_one cap h t)
 unfolding after_one
 HasHolders-one cap h (Fault fault) w p = p
@@ -126,7 +126,7 @@ HasHolders-from_sound cap h s = record {
   all = s.finite.1;
 }
 
-pub IsSound-one : (cap : ℕ) (h : Holdings) (t : Told) → IsSoundTold t → IsSound cap h →
+pub IsSound-one : (cap : ℕ) (h : Holdings) (t : Parsed) → IsWellFormed t → IsSound cap h →
     IsSound cap (after_one cap h t)
 IsSound-one cap h t w s = IsSound-from cap (after_one cap h t)
     (IsGood-one cap h t w (IsGood-from_sound cap h s))

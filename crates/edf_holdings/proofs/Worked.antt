@@ -4,7 +4,7 @@ use Rattle.std.specs.Prelude.{codes}
 use Rattle.edf_header.specs.Key.{Key}
 use Rattle.edf_fragment.specs.Fragment.{DataRecord}
 use Rattle.edf_fragment.specs.declared.fault.FragmentFault.TheVariants.{Trailing}
-use Rattle.edf_fragment.specs.Told.{Told, Fragment, Fault}
+use Rattle.edf_fragment.specs.Parsed.{Parsed, Fragment, Fault}
 use Rattle.edf_holdings.specs.Same.{same_key, same_record}
 use Rattle.edf_holdings.specs.Clash.{clashes}
 use Rattle.edf_holdings.specs.Holdings.{nothing_held}
@@ -26,7 +26,7 @@ key n = record {
 abbrev one : ℕ → ℕ → DataRecord
 one sample start = record { start = start; samples = sample ∷ []; annotations = [] }
 
-abbrev told : ℕ → ℕ → List ℕ → Told
+abbrev told : ℕ → ℕ → List ℕ → Parsed
 told k sample starts = Fragment (key k) (map (one sample) starts)
 
 -- the same again

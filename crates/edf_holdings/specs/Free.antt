@@ -4,35 +4,36 @@ use Rattle.std.specs.List.{AllByRecursion}
 use Rattle.edf_field.specs.Number.{duration_of}
 use Rattle.edf_header.specs.Key.{Key}
 use Rattle.edf_fragment.specs.Fragment.{DataRecord}
-use Rattle.edf_fragment.specs.Told.{Told, Fragment, Fault}
+use Rattle.edf_fragment.specs.Parsed.{Parsed, Fragment, Fault}
 use Rattle.edf_holdings.specs.Clash.{NoClash}
 use Rattle.edf_holdings.specs.Holdings.{Holdings, put}
 
-abbrev pub IsFragment : Told → Type 0
+abbrev pub IsFragment : Parsed → Type 0
 IsFragment (Fragment key records) = Unit {0}
 IsFragment (Fault fault) = ⊥
 
 -- the holdings with all records of a submission, whether or not they clash
-abbrev pub with_one : Holdings → Told → Holdings
+abbrev pub with_one : Holdings → Parsed → Holdings
 with_one h (Fragment key records) = put key records h
 with_one h (Fault fault) = h
 
-abbrev pub with_all : Holdings → List Told → Holdings
+abbrev pub with_all : Holdings → List Parsed → Holdings
 with_all h [] = h
-with_all h (told ∷ tolds) = with_all (with_one h told) tolds
+with_all h (submission ∷ submissions) = with_all (with_one h submission) submissions
 
 -- each is a fragment, and in the holdings with all their records no two of a key clash and none has
 -- more than the cap
-pub record IsFree (cap : ℕ) (h : Holdings) (tolds : List Told) : Type 0 where
-  pub fragments : AllByRecursion IsFragment tolds
-  pub no_clash : (k : Key) → NoClash (duration_of k.duration) (with_all h tolds k)
-  pub few : (k : Key) → length (with_all h tolds k) ≤ cap
+pub record IsFree (cap : ℕ) (h : Holdings) (submissions : List Parsed) : Type 0 where
+  pub fragments : AllByRecursion IsFragment submissions
+  pub no_clash : (k : Key) → NoClash (duration_of k.duration) (with_all h submissions k)
+  pub few : (k : Key) → length (with_all h submissions k) ≤ cap
 
 -- the submission has the record under this key
-abbrev pub Has : Key → DataRecord → Told → Type 0
+abbrev pub Has : Key → DataRecord → Parsed → Type 0
 Has k r (Fragment key records) = (key ≡ k) × Contains records r
 Has k r (Fault fault) = ⊥
 
 -- the same records occur under the same keys in both lists, however cut, ordered or repeated
-abbrev pub SameRecords : List Told → List Told → Type 0
-SameRecords tolds others = (k : Key) (r : DataRecord) → Any (Has k r) tolds ↔ Any (Has k r) others
+abbrev pub SameRecords : List Parsed → List Parsed → Type 0
+SameRecords submissions others = (k : Key) (r : DataRecord) →
+    Any (Has k r) submissions ↔ Any (Has k r) others

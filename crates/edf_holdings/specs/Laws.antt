@@ -7,25 +7,27 @@ use Rattle.edf_field.specs.Number.{duration_of}
 use Rattle.edf_header.specs.Key.{Key, IsKey, MayStart}
 use Rattle.edf_fragment.specs.Fragment.{DataRecord}
 use Rattle.edf_fragment.specs.declared.fault.FragmentFault.{FragmentFault}
-use Rattle.edf_fragment.specs.Told.{Told, Fragment, Tells}
+use Rattle.edf_fragment.specs.Parsed.{Parsed, Fragment, ParsesTo}
 use Rattle.edf_holdings.specs.Clash.{near_of}
 use Rattle.edf_fragment.specs.Sound.{IsSoundRecord}
 use Rattle.edf_holdings.specs.Holdings.{Holdings, IsSound, nothing_held, put}
-use Rattle.edf_holdings.specs.Reply.{IsSoundTold, after_one, after, Form, Accepted, IsAccepted}
+use Rattle.edf_holdings.specs.Reply.{IsWellFormed, after_one, after, Form, Accepted, IsAccepted}
 use Rattle.edf_holdings.specs.Reply.{reply, replies}
 use Rattle.edf_holdings.specs.Free.{IsFragment, with_all, IsFree, SameRecords}
 
-abbrev pub AreSoundTold : List Told → Type 0
-AreSoundTold tolds = AllByRecursion IsSoundTold tolds
+abbrev pub AreWellFormed : List Parsed → Type 0
+AreWellFormed submissions = AllByRecursion IsWellFormed submissions
 
 -- after any list the holdings are sound
 abbrev pub StaysSound : Type 0
-StaysSound = (cap : ℕ) (h : Holdings) (tolds : List Told) → IsSound cap h → AreSoundTold tolds →
-    IsSound cap (after cap h tolds)
+StaysSound = (cap : ℕ) (h : Holdings) (submissions : List Parsed) → IsSound cap h →
+    AreWellFormed submissions →
+    IsSound cap (after cap h submissions)
 
 -- what bytes amount to is sound
-abbrev pub ToldIsSound : Type 0
-ToldIsSound = (bytes : List ℕ) (told : Told) → Tells bytes told → IsSoundTold told
+abbrev pub ParsedIsWellFormed : Type 0
+ParsedIsWellFormed = (bytes : List ℕ) (submission : Parsed) → ParsesTo bytes submission →
+    IsWellFormed submission
 
 -- nothing at all is sound
 abbrev pub NothingIsSound : Type 0
@@ -43,77 +45,84 @@ AddStaysSound = (cap : ℕ) (h : Holdings) (key : Key) (r : DataRecord) → IsSo
 -- a fragment whose records are all held is accepted with nothing new, and changes nothing
 abbrev pub HeldIsKnown : Type 0
 HeldIsKnown = (cap : ℕ) (h : Holdings) (key : Key) (records : List DataRecord) →
-    IsSound cap h → IsSoundTold (Fragment key records) → All (Contains (h key)) records →
+    IsSound cap h → IsWellFormed (Fragment key records) → All (Contains (h key)) records →
     (reply cap h (Fragment key records) ≡ Accepted key 0 (length records))
     × (after_one cap h (Fragment key records) ≡ h)
 
 -- a list with one member named: those earlier, the member, and those that follow
-abbrev pub with_member : List Told → Told → List Told → List Told
-with_member earlier told between = earlier ++ (told ∷ between)
+abbrev pub with_member : List Parsed → Parsed → List Parsed → List Parsed
+with_member earlier submission between = earlier ++ (submission ∷ between)
 
 -- a later repeat of an accepted member is accepted with nothing new
 abbrev pub AcceptedAgain : Type 0
-AcceptedAgain = (cap : ℕ) (h : Holdings) (earlier : List Told) (told : Told) (between : List Told) →
-    IsSound cap h → AreSoundTold (with_member earlier told between) → (key : Key) (new known : ℕ) →
-    reply cap (after cap h earlier) told ≡ Accepted key new known →
-    reply cap (after cap h (with_member earlier told between)) told ≡ Accepted key 0 (new + known)
+AcceptedAgain = (cap : ℕ) (h : Holdings) (earlier : List Parsed) (submission : Parsed)
+    (between : List Parsed) →
+    IsSound cap h → AreWellFormed (with_member earlier submission between) →
+    (key : Key) (new known : ℕ) →
+    reply cap (after cap h earlier) submission ≡ Accepted key new known →
+    reply cap (after cap h (with_member earlier submission between)) submission
+    ≡ Accepted key 0 (new + known)
 
 -- a later repeat of a refused member is refused again, with the same fault of form where it had one
 abbrev pub RefusedAgain : Type 0
-RefusedAgain = (cap : ℕ) (h : Holdings) (earlier : List Told) (told : Told) (between : List Told) →
-    IsSound cap h → AreSoundTold (with_member earlier told between) →
-    ¬ IsAccepted (reply cap (after cap h earlier) told) →
-    (¬ IsAccepted (reply cap (after cap h (with_member earlier told between)) told)) ×
-    ((fault : FragmentFault) → reply cap (after cap h earlier) told ≡ Form fault →
-    reply cap (after cap h (with_member earlier told between)) told ≡ Form fault)
+RefusedAgain = (cap : ℕ) (h : Holdings) (earlier : List Parsed) (submission : Parsed)
+    (between : List Parsed) →
+    IsSound cap h → AreWellFormed (with_member earlier submission between) →
+    ¬ IsAccepted (reply cap (after cap h earlier) submission) →
+    (¬ IsAccepted (reply cap (after cap h (with_member earlier submission between)) submission)) ×
+    ((fault : FragmentFault) → reply cap (after cap h earlier) submission ≡ Form fault →
+    reply cap (after cap h (with_member earlier submission between)) submission ≡ Form fault)
 
 -- without the repeat the holdings at the end and all other replies are the same
 abbrev pub RepeatTakenOut : Type 0
-RepeatTakenOut = (cap : ℕ) (h : Holdings) (earlier : List Told) (told : Told)
-    (between later : List Told) →
-    IsSound cap h → AreSoundTold (with_member earlier told between) →
-    (after cap h (with_member earlier told between
-    ++ (told ∷ later)) ≡ after cap h (with_member earlier told between ++ later)) ×
-    (remove (replies cap h (with_member earlier told between ++ (told ∷ later)))
-    (length (with_member earlier told between))
-    ≡ replies cap h (with_member earlier told between ++ later))
+RepeatTakenOut = (cap : ℕ) (h : Holdings) (earlier : List Parsed) (submission : Parsed)
+    (between later : List Parsed) →
+    IsSound cap h → AreWellFormed (with_member earlier submission between) →
+    (after cap h (with_member earlier submission between
+    ++ (submission ∷ later)) ≡ after cap h (with_member earlier submission between ++ later)) ×
+    (remove (replies cap h (with_member earlier submission between ++ (submission ∷ later)))
+    (length (with_member earlier submission between))
+    ≡ replies cap h (with_member earlier submission between ++ later))
 
 -- a list broken off after `front` and sent again from its front ends as the list sent once
 abbrev pub FromTheFront : Type 0
-FromTheFront = (cap : ℕ) (h : Holdings) (front rest : List Told) → IsSound cap h →
-    AreSoundTold front →
+FromTheFront = (cap : ℕ) (h : Holdings) (front rest : List Parsed) → IsSound cap h →
+    AreWellFormed front →
     after cap (after cap h front) (front ++ rest) ≡ after cap h (front ++ rest)
 
 -- in a free list each member is accepted, and the holdings at the end have all its records beside
 -- those at the start
 abbrev pub AnyOrder : Type 0
-AnyOrder = (cap : ℕ) (h : Holdings) (tolds : List Told) → IsSound cap h → AreSoundTold tolds →
-    IsFree cap h tolds →
-    All IsAccepted (replies cap h tolds) × (after cap h tolds ≡ with_all h tolds)
+AnyOrder = (cap : ℕ) (h : Holdings) (submissions : List Parsed) → IsSound cap h →
+    AreWellFormed submissions →
+    IsFree cap h submissions →
+    All IsAccepted (replies cap h submissions) × (after cap h submissions ≡ with_all h submissions)
 
 -- the same submissions in another order, or more often or less, are free too and end alike
 abbrev pub Reordered : Type 0
-Reordered = (cap : ℕ) (h : Holdings) (tolds others : List Told) → IsSound cap h →
-    AreSoundTold tolds → IsFree cap h tolds →
-    ((told : Told) → Contains tolds told ↔ Contains others told) → IsFree cap h others
-    × (after cap h others ≡ after cap h tolds)
+Reordered = (cap : ℕ) (h : Holdings) (submissions others : List Parsed) → IsSound cap h →
+    AreWellFormed submissions → IsFree cap h submissions →
+    ((submission : Parsed) → Contains submissions submission ↔ Contains others submission) →
+    IsFree cap h others
+    × (after cap h others ≡ after cap h submissions)
 
 -- whether fragments are free is said by their records alone, so a free list may be cut anew
 abbrev pub FreeOfSame : Type 0
-FreeOfSame = (cap : ℕ) (h : Holdings) (tolds others : List Told) → IsSound cap h →
-    AreSoundTold tolds → AreSoundTold others →
-    IsFree cap h tolds → AllByRecursion IsFragment others → SameRecords tolds others →
+FreeOfSame = (cap : ℕ) (h : Holdings) (submissions others : List Parsed) → IsSound cap h →
+    AreWellFormed submissions → AreWellFormed others →
+    IsFree cap h submissions → AllByRecursion IsFragment others → SameRecords submissions others →
     IsFree cap h others
 
 -- a fragment alone is free where nothing is held and there is room for it
 abbrev pub AloneIsFree : Type 0
 AloneIsFree = (cap : ℕ) (key : Key) (records : List DataRecord) →
-    IsSoundTold (Fragment key records) → length records ≤ cap →
+    IsWellFormed (Fragment key records) → length records ≤ cap →
     IsFree cap nothing_held (Fragment key records ∷ [])
 
 -- two free lists with the same records end alike
 abbrev pub Recut : Type 0
-Recut = (cap : ℕ) (h : Holdings) (tolds others : List Told) → IsSound cap h → AreSoundTold tolds →
-    AreSoundTold others →
-    IsFree cap h tolds → IsFree cap h others → SameRecords tolds others →
-    after cap h tolds ≡ after cap h others
+Recut = (cap : ℕ) (h : Holdings) (submissions others : List Parsed) → IsSound cap h →
+    AreWellFormed submissions →
+    AreWellFormed others →
+    IsFree cap h submissions → IsFree cap h others → SameRecords submissions others →
+    after cap h submissions ≡ after cap h others

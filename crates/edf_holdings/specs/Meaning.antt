@@ -4,15 +4,15 @@ use Rattle.std.specs.Prelude.{length, Contains, Any, IsTrue, cond}
 use Rattle.edf_field.specs.Number.{duration_of}
 use Rattle.edf_header.specs.Key.{Key}
 use Rattle.edf_fragment.specs.Fragment.{DataRecord}
-use Rattle.edf_fragment.specs.Told.{Told, Fragment}
+use Rattle.edf_fragment.specs.Parsed.{Parsed, Fragment}
 use Rattle.edf_holdings.specs.Same.{same_key, same_record}
 use Rattle.edf_holdings.specs.Clash.{Clash, clashes, near_of}
 use Rattle.edf_holdings.specs.Rising.{IsRising, contains_record, united, new_of}
 use Rattle.edf_holdings.specs.Holdings.{Holdings, IsSound, nothing_held}
-use Rattle.edf_holdings.specs.Reply.{IsSoundTold, fits, after_one, after, Overlap, Differs, Full}
+use Rattle.edf_holdings.specs.Reply.{IsWellFormed, fits, after_one, after, Overlap, Differs, Full}
 use Rattle.edf_holdings.specs.Reply.{Conflicts, Accepted, reply, IsAccepted}
 use Rattle.edf_holdings.specs.Free.{with_all, Has}
-use Rattle.edf_holdings.specs.Laws.{AreSoundTold}
+use Rattle.edf_holdings.specs.Laws.{AreWellFormed}
 
 -- the tests are what they are named for
 abbrev pub SameKeyIsEqual : Type 0
@@ -48,8 +48,8 @@ JoinedHasBoth = (xs records : List DataRecord) (r : DataRecord) →
 
 -- holdings with all that the submissions have: what was held and what they have, and nothing else
 abbrev pub AllHasBoth : Type 0
-AllHasBoth = (h : Holdings) (tolds : List Told) (k : Key) (r : DataRecord) →
-    Contains (with_all h tolds k) r ↔ (Contains (h k) r ⊎ Any (Has k r) tolds)
+AllHasBoth = (h : Holdings) (submissions : List Parsed) (k : Key) (r : DataRecord) →
+    Contains (with_all h submissions k) r ↔ (Contains (h k) r ⊎ Any (Has k r) submissions)
 
 -- none of the records clashes with one of the key
 abbrev pub IsClear : Holdings → Key → List DataRecord → Type 0
@@ -61,15 +61,15 @@ pub record Fits (cap : ℕ) (key : Key) (records : List DataRecord) (h : Holding
   pub clear : IsClear h key records
   pub room : (united (h key) records ≡ h key) ⊎ (length (united (h key) records) ≤ cap)
 
-abbrev pub FitsIsTold : Type 0
-FitsIsTold = (cap : ℕ) (h : Holdings) (key : Key) (records : List DataRecord) → IsSound cap h →
-    IsSoundTold (Fragment key records) →
+abbrev pub TestIsFits : Type 0
+TestIsFits = (cap : ℕ) (h : Holdings) (key : Key) (records : List DataRecord) → IsSound cap h →
+    IsWellFormed (Fragment key records) →
     IsTrue (fits cap key records h) ↔ Fits cap key records h
 
 -- exactly what fits is accepted
 abbrev pub AcceptedWhereFits : Type 0
 AcceptedWhereFits = (cap : ℕ) (h : Holdings) (key : Key) (records : List DataRecord) →
-    IsSound cap h → IsSoundTold (Fragment key records) →
+    IsSound cap h → IsWellFormed (Fragment key records) →
     IsAccepted (reply cap h (Fragment key records)) ↔ IsTrue (fits cap key records h)
 
 -- r is the first record of the second list that clashes with one of the first, and s the earliest
@@ -118,30 +118,31 @@ CountsAreNamed = (cap : ℕ) (h : Holdings) (key : Key) (records : List DataReco
 -- and the new ones are those by which the recording grows
 abbrev pub NewIsCounted : Type 0
 NewIsCounted = (cap : ℕ) (h : Holdings) (key : Key) (records : List DataRecord) → IsSound cap h →
-    IsSoundTold (Fragment key records) →
+    IsWellFormed (Fragment key records) →
     IsClear h key records → length (united (h key) records) ≡ length (h key) + new_of (h key)
     records
 
 -- a member of the list that was accepted when it came has the record under the key
-pub record FromAccepted (cap : ℕ) (h : Holdings) (tolds : List Told) (k : Key)
+pub record FromAccepted (cap : ℕ) (h : Holdings) (submissions : List Parsed) (k : Key)
     (r : DataRecord) : Type 0 where
-  pub before : List Told
-  pub member : Told
-  pub later : List Told
-  pub splits : tolds ≡ before ++ (member ∷ later)
+  pub before : List Parsed
+  pub member : Parsed
+  pub later : List Parsed
+  pub splits : submissions ≡ before ++ (member ∷ later)
   pub accepted : IsAccepted (reply cap (after cap h before) member)
   pub has : Has k r member
 
 -- what is held after a list is what was held, and every record of an accepted member, and nothing
 -- else
 abbrev pub AfterHasAccepted : Type 0
-AfterHasAccepted = (cap : ℕ) (h : Holdings) (tolds : List Told) (k : Key) (r : DataRecord) →
-    IsSound cap h → AreSoundTold tolds →
-    Contains (after cap h tolds k) r ↔ (Contains (h k) r ⊎ FromAccepted cap h tolds k r)
+AfterHasAccepted = (cap : ℕ) (h : Holdings) (submissions : List Parsed) (k : Key) (r : DataRecord) →
+    IsSound cap h → AreWellFormed submissions →
+    Contains (after cap h submissions k) r ↔ (Contains (h k) r ⊎ FromAccepted cap h submissions k r)
 
 abbrev pub RefusedChangesNothing : Type 0
-RefusedChangesNothing = (cap : ℕ) (h : Holdings) (told : Told) → IsSound cap h → IsSoundTold told →
-    ¬ IsAccepted (reply cap h told) → after_one cap h told ≡ h
+RefusedChangesNothing = (cap : ℕ) (h : Holdings) (submission : Parsed) → IsSound cap h →
+    IsWellFormed submission →
+    ¬ IsAccepted (reply cap h submission) → after_one cap h submission ≡ h
 
 -- A recording's own records are accepted by its holdings with nothing new.
 -- Where nothing is held they are all new, and leave exactly that recording.

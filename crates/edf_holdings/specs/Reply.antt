@@ -7,16 +7,16 @@ use Rattle.edf_field.specs.Number.{duration_of}
 use Rattle.edf_header.specs.Key.{Key, IsKey}
 use Rattle.edf_fragment.specs.Fragment.{DataRecord}
 use Rattle.edf_fragment.specs.declared.fault.FragmentFault.{FragmentFault}
-use Rattle.edf_fragment.specs.Told.{Told, Fragment, Fault}
+use Rattle.edf_fragment.specs.Parsed.{Parsed, Fragment, Fault}
 use Rattle.edf_fragment.specs.Sound.{AreSound, MayBegin}
 use Rattle.edf_holdings.specs.Clash.{clashes}
 use Rattle.edf_holdings.specs.Rising.{united, new_of}
 use Rattle.edf_holdings.specs.Holdings.{Holdings, put}
 
 -- a fragment as bytes spell them: by a law bytes amount to nothing else
-abbrev pub IsSoundTold : Told → Type 0
-IsSoundTold (Fragment key records) = IsKey key × AreSound key 0 records × MayBegin key records
-IsSoundTold (Fault fault) = Unit {0}
+abbrev pub IsWellFormed : Parsed → Type 0
+IsWellFormed (Fragment key records) = IsKey key × AreSound key 0 records × MayBegin key records
+IsWellFormed (Fault fault) = Unit {0}
 
 -- no record of the second list clashes with one of the first: a test of all pairs
 abbrev pub is_free_of : ℕ → List DataRecord → List DataRecord → Bool
@@ -31,14 +31,14 @@ fits cap key records h =
 
 -- what one submission leaves: the records of a fragment that fits join those of its key, and
 -- nothing else changes anything
-unfoldable pub after_one : ℕ → Holdings → Told → Holdings
+unfoldable pub after_one : ℕ → Holdings → Parsed → Holdings
 after_one cap h (Fragment key records) = cond (fits cap key records h) (put key records h) h
 after_one cap h (Fault fault) = h
 
 -- what a list of submissions leaves: each meets what those before it left
-abbrev pub after : ℕ → Holdings → List Told → Holdings
+abbrev pub after : ℕ → Holdings → List Parsed → Holdings
 after cap h [] = h
-after cap h (told ∷ tolds) = after cap (after_one cap h told) tolds
+after cap h (submission ∷ submissions) = after cap (after_one cap h submission) submissions
 
 -- how a fragment contradicts what is held: a clash, with the starts of the record and of the stored
 -- one; another record at the same start; or no room, with how many are held, how many would be new,
@@ -93,12 +93,13 @@ reply_to_clash cap key records xs None =
 
 -- what is answered to one submission: its fault of form, else its first clash, else `Full`, else
 -- that it is accepted
-unfoldable pub reply : ℕ → Holdings → Told → Reply
+unfoldable pub reply : ℕ → Holdings → Parsed → Reply
 reply cap h (Fragment key records) =
     reply_to_clash cap key records (h key) (first_clash (duration_of key.duration) (h key) records)
 reply cap h (Fault fault) = Form fault
 
 -- what is answered to a list of submissions, each of which meets what those before it left
-abbrev pub replies : ℕ → Holdings → List Told → List Reply
+abbrev pub replies : ℕ → Holdings → List Parsed → List Reply
 replies cap h [] = []
-replies cap h (told ∷ tolds) = reply cap h told ∷ replies cap (after_one cap h told) tolds
+replies cap h (submission ∷ submissions) =
+    reply cap h submission ∷ replies cap (after_one cap h submission) submissions

@@ -1,6 +1,7 @@
 //! Laws of lists of submissions: each function has laws for a contract, and does nothing.
 
-ghost use Rattle.edf_holdings.specs.Laws.{ToldIsSound, NothingIsSound, StaysSound, AddStaysSound};
+ghost use Rattle.edf_holdings.specs.Laws.{ParsedIsWellFormed, NothingIsSound, StaysSound};
+ghost use Rattle.edf_holdings.specs.Laws.{AddStaysSound};
 ghost use Rattle.edf_holdings.specs.Laws.{HeldIsKnown, AcceptedAgain, RefusedAgain, RepeatTakenOut};
 ghost use Rattle.edf_holdings.specs.Laws.{FromTheFront, AnyOrder, Reordered, AloneIsFree, Recut};
 ghost use Rattle.edf_holdings.specs.Laws.{FreeOfSame};
@@ -8,7 +9,7 @@ ghost use Rattle.edf_holdings.specs.Laws.{FreeOfSame};
 /// What bytes amount to is sound, and so are holdings of nothing. Sound holdings stay so after any
 /// list of submissions, and with one data record more that no other is near.
 pub fn stays_sound()
-    ensures told { ToldIsSound }
+    ensures well_formed { ParsedIsWellFormed }
     ensures none { NothingIsSound }
     ensures after { StaysSound }
     ensures add { AddStaysSound }

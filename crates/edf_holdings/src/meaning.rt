@@ -3,7 +3,7 @@
 
 ghost use Rattle.edf_holdings.specs.Meaning.{SameKeyIsEqual, SameRecordIsEqual, TestIsClash};
 ghost use Rattle.edf_holdings.specs.Meaning.{HoldsIsContains, ListIsSet, HoldingsAreSets};
-ghost use Rattle.edf_holdings.specs.Meaning.{JoinedHasBoth, AllHasBoth, FitsIsTold};
+ghost use Rattle.edf_holdings.specs.Meaning.{JoinedHasBoth, AllHasBoth, TestIsFits};
 ghost use Rattle.edf_holdings.specs.Meaning.{AcceptedWhereFits, ClashIsNamed, ClashIsThere};
 ghost use Rattle.edf_holdings.specs.Meaning.{CountsAreNamed, NewIsCounted, AfterHasAccepted};
 ghost use Rattle.edf_holdings.specs.Meaning.{RefusedChangesNothing, OwnList, NearTwo};
@@ -30,7 +30,7 @@ pub fn sets()
 
 /// What is accepted, what a refusal names, and what is held after either.
 pub fn intake()
-    ensures fits { FitsIsTold }
+    ensures fits { TestIsFits }
     ensures accepted { AcceptedWhereFits }
     ensures named { ClashIsNamed }
     ensures there { ClashIsThere }

@@ -10,12 +10,12 @@ use Rattle.sqlite.specs.State.{HasCleanDisk}
 use Rattle.sqlite.proofs.StateLemmas.{survives_then, survives_weaker}
 use Rattle.edf_fragment.specs.Fragment.{Spells}
 use Rattle.edf_fragment.specs.Fault.{IsFirstFault}
-use Rattle.edf_fragment.specs.Told.{Told, Fragment, Fault, Tells}
+use Rattle.edf_fragment.specs.Parsed.{Parsed, Fragment, Fault, ParsesTo}
 use Rattle.edf_fragment.specs.Whole.{IsFirstWhereKnown}
 use Rattle.edf_fragment.specs.declared.fault.FragmentFault.{FragmentFault}
 use Rattle.edf_fragment.specs.declared.fault.FragmentFault.TheVariants.{Read, Memory}
 use Rattle.edf_fragment.specs.declared.fault.FragmentFault.TheVariants.{Failed}
-use Rattle.edf_fragment.proofs.Told.{one-telling}
+use Rattle.edf_fragment.proofs.Parsed.{one-parse}
 use Rattle.edf_holdings.specs.Holdings.{Holdings}
 use Rattle.edf_holdings.specs.Reply.{Reply, replies, after}
 use Rattle.edf_holdings.proofs.Replies.{replies-append}
@@ -25,15 +25,15 @@ use Rattle.edf_store.specs.Held.{StoreModel, at, Holds, Stays}
 use Rattle.edf_store.proofs.Begun.{stays_same}
 use Rattle.edf_store.proofs.Held.{others_committed_then}
 use Rattle.edf_intake.specs.Refusal.{Cause, OfForm, OfConflict, OfRead, OfMemory, OfStore}
-use Rattle.edf_intake.specs.Refusal.{Answer, reply_told, cause}
+use Rattle.edf_intake.specs.Refusal.{Answer, reply_of, cause}
 use Rattle.edf_fragment.specs.Call.{InputState}
-use Rattle.edf_intake.specs.Input.{IsOfForm, Hears}
+use Rattle.edf_intake.specs.Input.{IsOfForm, ReadsAs}
 use Rattle.edf_store.specs.declared.fault.StoreFault.{StoreFault}
 use Rattle.edf_store.specs.declared.fault.StoreFault.TheVariants.{Store, Foreign}
 use Rattle.edf_store.specs.declared.fault.StoreFault.TheVariants.{Memory as NoMemory}
 use Rattle.edf_store.specs.declared.fault.StoreFault.TheVariants.{Failed as FailedBefore}
 use Rattle.edf_intake.specs.Submitted.{IsRefusal, IsSubmitted, IsEnded}
-use Rattle.edf_intake.specs.Batch.{Turn, somes, told_in, replies_in, MayBeAnswered, IsTurn}
+use Rattle.edf_intake.specs.Batch.{Turn, somes, submissions_in, replies_in, MayBeAnswered, IsTurn}
 use Rattle.edf_intake.specs.Batch.{AreUnended, IsOwnCause, IsOwnRefusal, AreLeftBy, AreEnded}
 use Rattle.edf_intake.specs.Batch.{SubmitsOne, AreSubmitted, AreSubmittedAsList}
 use Rattle.edf_intake.specs.Batch.{InTurnIsAsList, AnswersAll}
@@ -69,10 +69,10 @@ own-later g mid new was (a ∷ rest) all =
 
 -- one turn more
 after-next : (cap : ℕ) (h : Holdings) (turns : List Turn) (t : Turn) →
-    after cap (after cap h (told_in turns)) (somes (t.told ∷ [])) ≡ after cap h
-    (told_in (turns ++ t ∷ []))
+    after cap (after cap h (submissions_in turns)) (somes (t.submission ∷ [])) ≡ after cap h
+    (submissions_in (turns ++ t ∷ []))
 after-next cap h turns t = sym (ap (after cap h) (told-next turns t)
-    ∙ after-append cap h (told_in turns) (somes (t.told ∷ [])))
+    ∙ after-append cap h (submissions_in turns) (somes (t.submission ∷ [])))
 
 unended-more : (cap : ℕ) (h : Holdings) (rest : List Turn) (t : Turn) (rows : Trees) →
     AreUnended cap h rest rows → AreUnended cap h (rest ++ t ∷ []) rows
@@ -88,13 +88,13 @@ left-more cap h turns t rows l = record {
   stand = elim l.stand [
     | inl kept ↦ inl kept
     | inr unended ↦
-        inr (unended-more cap (after cap h (told_in l.first)) l.rest t rows unended)
+        inr (unended-more cap (after cap h (submissions_in l.first)) l.rest t rows unended)
   ];
 }
 
 left-last : (cap : ℕ) (h : Holdings) (turns : List Turn) (t : Turn) (rows : Trees)
-    → AreKept cap rows (after cap (after cap h (told_in turns)) (somes (t.told ∷ [])))
-    ⊎ AreUnended cap (after cap h (told_in turns)) (t ∷ []) rows →
+    → AreKept cap rows (after cap (after cap h (submissions_in turns)) (somes (t.submission ∷ [])))
+    ⊎ AreUnended cap (after cap h (submissions_in turns)) (t ∷ []) rows →
     AreLeftBy cap h (turns ++ t ∷ []) rows
 left-last cap h turns t rows (inl kept) = record {
   first = turns ++ t ∷ [];
@@ -148,27 +148,28 @@ module _ {S : Type 0} (g : Ghosts S) where
       replies_are = λ clean h held.
           let was : HasCleanDisk (at g mid) = omega (arith, m.crash.clean) in
           let first = all.replies_are was h held in
-          let one = subst (λ (n : ℕ). somes (reply_told t.answer ∷ []) ≡ replies n
-          (after old.cap h (told_in all.turns)) (somes (t.told ∷ []))) capped
-          (m.replied clean (after old.cap h (told_in all.turns)) (all.holdings h held)) in
+          let one = subst (λ (n : ℕ). somes (reply_of t.answer ∷ []) ≡ replies n
+          (after old.cap h (submissions_in all.turns)) (somes (t.submission ∷ []))) capped
+          (m.replied clean (after old.cap h (submissions_in all.turns)) (all.holdings h held)) in
           replies-next all.turns t
-          ∙ (ap (λ (l : List Reply). l ++ somes (reply_told t.answer ∷ [])) first
-          ∙ (ap (λ (l : List Reply). replies old.cap h (told_in all.turns) ++ l) one
-          ∙ (sym (replies-append old.cap h (told_in all.turns) (somes (t.told ∷ [])))
+          ∙ (ap (λ (l : List Reply). l ++ somes (reply_of t.answer ∷ [])) first
+          ∙ (ap (λ (l : List Reply). replies old.cap h (submissions_in all.turns) ++ l) one
+          ∙ (sym (replies-append old.cap h (submissions_in all.turns) (somes (t.submission ∷ [])))
           ∙ ap (replies old.cap h) (sym (told-next all.turns t)))));
       holdings = λ h held.
-          let step = m.holdings (after old.cap h (told_in all.turns)) (all.holdings h held) in
+          let step = m.holdings (after old.cap h (submissions_in all.turns))
+          (all.holdings h held) in
           subst (Holds g new) (ap (λ (n : ℕ).
-          after n (after old.cap h (told_in all.turns)) (somes (t.told ∷ []))) capped
+          after n (after old.cap h (submissions_in all.turns)) (somes (t.submission ∷ []))) capped
           ∙ after-next old.cap h all.turns t) step;
       others = others_committed_then (at g old) (at g mid) (at g new) all.others m.others;
       crash = survives_then (at g old) (at g mid) (at g new) _ _ _
           (λ clean rows left h held. left-more old.cap h all.turns t rows (left h held))
           (λ clean rows left h held. left-last old.cap h all.turns t rows
           (subst (λ (n : ℕ). AreKept n rows
-          (after n (after old.cap h (told_in all.turns)) (somes (t.told ∷ [])))
-          ⊎ AreUnended n (after old.cap h (told_in all.turns)) (t ∷ []) rows) capped
-          (left (after old.cap h (told_in all.turns)) (all.holdings h held))))
+          (after n (after old.cap h (submissions_in all.turns)) (somes (t.submission ∷ [])))
+          ⊎ AreUnended n (after old.cap h (submissions_in all.turns)) (t ∷ []) rows) capped
+          (left (after old.cap h (submissions_in all.turns)) (all.holdings h held))))
           all.crash m.crash;
     }
 
@@ -177,7 +178,7 @@ module _ {S : Type 0} (g : Ghosts S) where
         AreSubmittedAsList g old new (froms ++ from ∷ []) (tos ++ to ∷ []) (answers ++ answer ∷ [])
     next_submitted from to answer is =
         let t = turn_of g mid new from to answer is in
-        next_turn (record { from = from; to = to; answer = answer; told = t.0 }) t.1
+        next_turn (record { from = from; to = to; answer = answer; submission = t.0 }) t.1
 
 -- one call more
 pub submitted_next : {S : Type 0} (g : Ghosts S) (old mid new : StoreModel S)
@@ -241,8 +242,8 @@ all_read : (bytes b : List ℕ) (rest : Option (List ℕ)) → Consumes (Some by
 all_read bytes b None read end = absurd read
 all_read bytes b (Some ys) read end = sym (read ∙ (ap (λ (l : List ℕ). b ++ l) end ∙ append-nil b))
 
-heard_tells : (from to : InputState) (bytes : List ℕ) (told : Told) → from.left ≡ Some bytes →
-    Hears from to told → Tells bytes told
+heard_tells : (from to : InputState) (bytes : List ℕ) (told : Parsed) → from.left ≡ Some bytes →
+    ReadsAs from to told → ParsesTo bytes told
 heard_tells from to bytes (Fragment key records) known r =
     let read : Consumes (Some bytes) to.left r.bytes =
     subst (λ (o : Option (List ℕ)). Consumes o to.left r.bytes) known r.read in
@@ -252,38 +253,38 @@ heard_tells from to bytes (Fault fault) known r =
     first_known bytes fault r.of_form (subst (λ (o : Option (List ℕ)). IsFirstWhereKnown o fault)
     known r.is_fault.first)
 
-abbrev IsKnown : InputState → Told → Type 0
-IsKnown from told = (bytes : List ℕ) × (from.left ≡ Some bytes) × Tells bytes told
+abbrev IsKnown : InputState → Parsed → Type 0
+IsKnown from told = (bytes : List ℕ) × (from.left ≡ Some bytes) × ParsesTo bytes told
 
-same_told : (t : Turn) (x : Told) (y : Reply) → IsTurn t → IsKnown t.from x →
-    reply_told t.answer ≡ Some y → t.told ≡ Some x
-same_told t x y is (bytes, known, tells) given = go t.told refl
+same_told : (t : Turn) (x : Parsed) (y : Reply) → IsTurn t → IsKnown t.from x →
+    reply_of t.answer ≡ Some y → t.submission ≡ Some x
+same_told t x y is (bytes, known, tells) given = go t.submission refl
   where
-    go : (o : Option Told) → t.told ≡ o → t.told ≡ Some x
+    go : (o : Option Parsed) → t.submission ≡ o → t.submission ≡ Some x
     go (Some told) e =
-        let heard : Hears t.from t.to told × MayBeAnswered told y = rw (e, given) at is in
-        e ∙ ap (λ (z : Told). Some z) (one-telling bytes told x
+        let heard : ReadsAs t.from t.to told × MayBeAnswered told y = rw (e, given) at is in
+        e ∙ ap (λ (z : Parsed). Some z) (one-parse bytes told x
         (heard_tells t.from t.to bytes told known heard.0) tells)
     go None e = absurd (rw (e, given) at is)
 
-all_told : (turns : List Turn) (tolds : List Told) (given : List Reply) →
+all_told : (turns : List Turn) (tolds : List Parsed) (given : List Reply) →
     AllByRecursion IsTurn turns → AllZip IsKnown (map (λ (t : Turn). t.from) turns) tolds
-    → map reply_told (map (λ (t : Turn). t.answer) turns) ≡ map (λ (r : Reply). Some r) given →
-    (told_in turns ≡ tolds) × (replies_in turns ≡ given)
+    → map reply_of (map (λ (t : Turn). t.answer) turns) ≡ map (λ (r : Reply). Some r) given →
+    (submissions_in turns ≡ tolds) × (replies_in turns ≡ given)
 all_told [] [] [] each known e = (refl, refl)
 all_told [] [] (y ∷ ys) each known e = cc
 all_told [] (x ∷ xs) given each known e = absurd known
 all_told (t ∷ ts) [] given each known e = absurd known
 all_told (t ∷ ts) (x ∷ xs) [] each known e = cc
 all_told (t ∷ ts) (x ∷ xs) (y ∷ ys) each known e =
-    let first : reply_told t.answer ≡ Some y = cc in
-    let rest : map reply_told (map (λ (u : Turn). u.answer) ts) ≡ map (λ (r : Reply). Some r) ys =
+    let first : reply_of t.answer ≡ Some y = cc in
+    let rest : map reply_of (map (λ (u : Turn). u.answer) ts) ≡ map (λ (r : Reply). Some r) ys =
     cc in
-    let told : t.told ≡ Some x = same_told t x y each.0 known.0 first in
+    let told : t.submission ≡ Some x = same_told t x y each.0 known.0 first in
     let more = all_told ts xs ys each.1 known.1 rest in (
-      ap (λ (o : Option Told). somes (o ∷ map (λ (u : Turn). u.told) ts)) told
-          ∙ ap (λ (l : List Told). x ∷ l) more.0,
-      ap (λ (o : Option Reply). somes (o ∷ map (λ (u : Turn). reply_told u.answer) ts)) first
+      ap (λ (o : Option Parsed). somes (o ∷ map (λ (u : Turn). u.submission) ts)) told
+          ∙ ap (λ (l : List Parsed). x ∷ l) more.0,
+      ap (λ (o : Option Reply). somes (o ∷ map (λ (u : Turn). reply_of u.answer) ts)) first
           ∙ ap (λ (l : List Reply). y ∷ l) more.1,
     )
 
@@ -293,7 +294,7 @@ pub answers_all : {S : Type 0} (g : Ghosts S) (old new : StoreModel S) (froms to
 answers_all g old new froms tos answers all tolds given known e h held =
     let said = all_told all.turns tolds given all.each
     (subst (λ (l : List InputState). AllZip IsKnown l tolds) (sym all.froms_are) known)
-    (ap (map reply_told) all.answers_are ∙ e) in (
+    (ap (map reply_of) all.answers_are ∙ e) in (
       (λ clean. sym said.1 ∙ (all.replies_are clean h held ∙ ap (replies old.cap h) said.0)),
       subst (Holds g new) (ap (after old.cap h) said.0) (all.holdings h held),
     )

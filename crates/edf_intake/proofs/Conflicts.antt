@@ -6,17 +6,17 @@ use Rattle.std.proofs.lemmas.Bool.Decides.{eqb_tells}
 use Rattle.std.proofs.lemmas.Bool.{cond-true, cond-false}
 use Rattle.edf_header.specs.Key.{Key}
 use Rattle.edf_fragment.specs.Fragment.{DataRecord}
-use Rattle.edf_fragment.specs.Told.{Fragment}
+use Rattle.edf_fragment.specs.Parsed.{Fragment}
 use Rattle.edf_holdings.specs.Holdings.{Holdings, put}
 use Rattle.edf_holdings.specs.Reply.{Conflict, Overlap, Differs, Full, conflict_of_clash}
-use Rattle.edf_holdings.specs.Reply.{IsSoundTold, Reply, Conflicts, Accepted, reply, after_one}
+use Rattle.edf_holdings.specs.Reply.{IsWellFormed, Reply, Conflicts, Accepted, reply, after_one}
 use Rattle.edf_holdings.proofs.Joining.{IsGood}
 use Rattle.edf_holdings.proofs.Replies.{full-by-counts, accepted-by-counts}
 use Rattle.edf_holdings.proofs.OneByOne.{Taken, Stopped, reply_stopped, reply_counted}
 use Rattle.edf_holdings.proofs.OneByOne.{after_accepted}
 use Rattle.edf_fragment.specs.declared.fault.FragmentFault.{FragmentFault}
 use Rattle.edf_store.specs.declared.fault.StoreFault.{StoreFault}
-use Rattle.edf_intake.specs.Refusal.{reply_told, OfConflict, cause}
+use Rattle.edf_intake.specs.Refusal.{reply_of, OfConflict, cause}
 use Rattle.edf_intake.specs.declared.answer.Refusal.{Refusal}
 use Rattle.edf_intake.specs.declared.answer.Refusal.TheVariants as refusal
 use Rattle.edf_intake.specs.Inside.Verdict.{IsRoom, CountsAll, NamesClash, AreFindings}
@@ -81,14 +81,14 @@ pub clash_told : (cap : ℕ) (key : Key) (h : Holdings) (records : List DataReco
     (told : Refusal) → (starts.start ≡ starts.stored → told ≡ refusal.Differs starts.start)
     → (starts.start ≢ starts.stored → told ≡ refusal.Overlap starts.start starts.stored) →
     NamesClash key h records starts →
-    reply_told (Err told) ≡ Some (reply cap h (Fragment key records))
+    reply_of (Err told) ≡ Some (reply cap h (Fragment key records))
 clash_told cap key h records starts told differs overlaps k =
     elim (eqb_tells starts.start starts.stored) [
-      | inl same ↦ ap (λ (r : Refusal). reply_told (Err r)) (differs same.1)
+      | inl same ↦ ap (λ (r : Refusal). reply_of (Err r)) (differs same.1)
           ∙ ap (λ (r : Reply). Some r) (sym (named ∙ ap (λ (c : Conflict). Conflicts c)
           (cond-true (nat_eq starts.start starts.stored) (Differs starts.start)
           (Overlap starts.start starts.stored) same.0)))
-      | inr other ↦ ap (λ (r : Refusal). reply_told (Err r)) (overlaps other.1)
+      | inr other ↦ ap (λ (r : Refusal). reply_of (Err r)) (overlaps other.1)
           ∙ ap (λ (r : Reply). Some r) (sym (named ∙ ap (λ (c : Conflict). Conflicts c)
           (cond-false (nat_eq starts.start starts.stored) (Differs starts.start)
           (Overlap starts.start starts.stored) other.0)))
@@ -130,7 +130,7 @@ accepted_here cap room key h records findings k all low =
     ∙ ap (λ (n : ℕ). Accepted key findings.new n) known
 
 pub left_here : (cap room : ℕ) (key : Key) (h : Holdings) (records : List DataRecord)
-    (findings : Findings) → IsSoundTold (Fragment key records) → IsGood cap h →
+    (findings : Findings) → IsWellFormed (Fragment key records) → IsGood cap h →
     CountsAll key h records findings
     → length (h key) + room ≤ cap → findings.new ≤ room →
     put key records h ≡ after_one cap h (Fragment key records)

@@ -7,7 +7,7 @@ use Rattle.sqlite.specs.State.{HasCleanDisk, Survives}
 use Rattle.sqlite.proofs.StateLemmas.{survives_weaker}
 use Rattle.edf_header.specs.Key.{Key}
 use Rattle.edf_fragment.specs.Fragment.{DataRecord}
-use Rattle.edf_fragment.specs.Told.{Told, Fragment, Fault}
+use Rattle.edf_fragment.specs.Parsed.{Parsed, Fragment, Fault}
 use Rattle.edf_holdings.specs.Holdings.{Holdings}
 use Rattle.edf_holdings.specs.Reply.{Reply, reply, after_one}
 use Rattle.edf_rows.specs.Rows.{AreKept}
@@ -91,7 +91,7 @@ module _ {S : Type 0} (g : Ghosts S) (old : StoreModel S) (first last : StoreTx 
   stays : Stays g old last.store.now
   stays = stays_then g old first.store.now last.store.now begun.stays taken
 
-  replied : (told : Told) (answer : Reply) →
+  replied : (told : Parsed) (answer : Reply) →
       (HasCleanDisk (at g last.store.now) → (h : Holdings) → Sees g first.store.now h →
       reply first.store.now.cap h told ≡ answer)
       → HasCleanDisk (at g last.store.now) → (h : Holdings) → Holds g old h →
@@ -99,7 +99,7 @@ module _ {S : Type 0} (g : Ghosts S) (old : StoreModel S) (first last : StoreTx 
   replied told answer is clean h held =
       subst (λ (n : ℕ). reply n h told ≡ answer) capped (is clean h (begun.sees h held))
 
-  left : (told : Told) → ((h : Holdings) → Sees g first.store.now h →
+  left : (told : Parsed) → ((h : Holdings) → Sees g first.store.now h →
       Sees g last.store.now (after_one first.store.now.cap h told)) → (h : Holdings) →
       Holds g old h →
       Sees g last.store.now (after_one old.cap h told)
@@ -108,7 +108,7 @@ module _ {S : Type 0} (g : Ghosts S) (old : StoreModel S) (first last : StoreTx 
 
   module _ (new : StoreModel S) where
     -- what a commit may leave
-    crash_left : (told : Told) → ((h : Holdings) → Sees g first.store.now h →
+    crash_left : (told : Parsed) → ((h : Holdings) → Sees g first.store.now h →
         Sees g last.store.now (after_one first.store.now.cap h told)) →
         Survives (at g last.store.now) (at g new) (IsSeen g last.store.now) →
         Survives (at g old) (at g new) (AreLeft g old new told)

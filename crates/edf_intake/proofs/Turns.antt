@@ -5,11 +5,11 @@ use Rattle.std.specs.List.{AllByRecursion}
 use Rattle.sqlite_trees.specs.declared.store.Store.{Ghosts}
 use Rattle.sqlite.specs.State.{HasCleanDisk, Survives}
 use Rattle.sqlite.proofs.StateLemmas.{survives_weaker}
-use Rattle.edf_fragment.specs.Told.{Told, Fragment, Fault}
+use Rattle.edf_fragment.specs.Parsed.{Parsed, Fragment, Fault}
 use Rattle.edf_fragment.specs.declared.fault.FragmentFault.{FragmentFault}
 use Rattle.edf_fragment.proofs.Sound.{spelled-key, spelled-sound, spelled-begins}
 use Rattle.edf_holdings.specs.Holdings.{Holdings, IsSound}
-use Rattle.edf_holdings.specs.Reply.{Conflict, IsSoundTold, Reply, Form, Conflicts, Accepted}
+use Rattle.edf_holdings.specs.Reply.{Conflict, IsWellFormed, Reply, Form, Conflicts, Accepted}
 use Rattle.edf_holdings.specs.Reply.{IsAccepted, reply, replies, after}
 use Rattle.edf_holdings.proofs.Accepted.{refused_changes_nothing}
 use Rattle.edf_rows.specs.Rows.{AreKept}
@@ -17,13 +17,13 @@ use Rattle.edf_store.specs.Held.{StoreModel, at, Holds, Stays, KeepsCommittedOth
 use Rattle.edf_store.specs.Call.{IsBusy}
 use Rattle.edf_store.specs.declared.fault.StoreFault.{StoreFault}
 use Rattle.edf_store.specs.declared.fault.StoreFault.TheVariants.{Memory, Store, Foreign, Failed}
-use Rattle.edf_intake.specs.Refusal.{Answer, reply_told, IsStopped, IsInDoubt, cause}
+use Rattle.edf_intake.specs.Refusal.{Answer, reply_of, IsStopped, IsInDoubt, cause}
 use Rattle.edf_intake.specs.Refusal.{Cause, OfConflict, reply_for}
 use Rattle.edf_fragment.specs.Call.{InputState}
-use Rattle.edf_intake.specs.Input.{Hears, FailsToRead, ReadsFront}
+use Rattle.edf_intake.specs.Input.{ReadsAs, FailsToRead, ReadsFront}
 use Rattle.edf_intake.specs.Submitted.{IsRefusal, AreLeft, LeavesSubmitted, MayLeave, Refuses}
 use Rattle.edf_intake.specs.Submitted.{StopsThere, IsRefusedFor, IsSubmitted}
-use Rattle.edf_intake.specs.Batch.{Turn, somes, told_in, replies_in, GoesWith, IsTurn}
+use Rattle.edf_intake.specs.Batch.{Turn, somes, submissions_in, replies_in, AgreesWith, IsTurn}
 use Rattle.edf_intake.specs.Batch.{MayBeAnswered, AreUnended, IsOwnCause, IsOwnRefusal}
 use Rattle.edf_intake.specs.declared.answer.Refusal.{Refusal}
 use Rattle.edf_intake.specs.declared.answer.Refusal.TheVariants as refusal
@@ -46,15 +46,16 @@ pub all-next : {A : Type 0} (P : A → Type 0) (xs : List A) (x : A) → AllByRe
 all-next P [] x all p = (p, tt)
 all-next P (y ∷ ys) x all p = (all.0, all-next P ys x all.1 p)
 
-pub told-next : (turns : List Turn) (t : Turn) → told_in (turns ++ t ∷ []) ≡ told_in turns
-    ++ somes (t.told ∷ [])
-told-next turns t = ap somes (map-next (λ (u : Turn). u.told) turns t)
-    ∙ somes-append (map (λ (u : Turn). u.told) turns) (t.told ∷ [])
+pub told-next : (turns : List Turn) (t : Turn) →
+    submissions_in (turns ++ t ∷ []) ≡ submissions_in turns
+    ++ somes (t.submission ∷ [])
+told-next turns t = ap somes (map-next (λ (u : Turn). u.submission) turns t)
+    ∙ somes-append (map (λ (u : Turn). u.submission) turns) (t.submission ∷ [])
 
 pub replies-next : (turns : List Turn) (t : Turn) → replies_in (turns ++ t ∷ []) ≡ replies_in turns
-    ++ somes (reply_told t.answer ∷ [])
-replies-next turns t = ap somes (map-next (λ (u : Turn). reply_told u.answer) turns t)
-    ∙ somes-append (map (λ (u : Turn). reply_told u.answer) turns) (reply_told t.answer ∷ [])
+    ++ somes (reply_of t.answer ∷ [])
+replies-next turns t = ap somes (map-next (λ (u : Turn). reply_of u.answer) turns t)
+    ∙ somes-append (map (λ (u : Turn). reply_of u.answer) turns) (reply_of t.answer ∷ [])
 
 -- ---- one turn
 
@@ -64,15 +65,15 @@ pub record IsMade {S : Type 0} (g : Ghosts S) (old new : StoreModel S) (t : Turn
   pub own : IsOwnRefusal g new t.answer
   pub cap : new.cap ≡ old.cap
   pub replied : HasCleanDisk (at g new) → (h : Holdings) → Holds g old h →
-      somes (reply_told t.answer ∷ []) ≡ replies old.cap h (somes (t.told ∷ []))
+      somes (reply_of t.answer ∷ []) ≡ replies old.cap h (somes (t.submission ∷ []))
   pub holdings : (h : Holdings) → Holds g old h →
-      Holds g new (after old.cap h (somes (t.told ∷ [])))
+      Holds g new (after old.cap h (somes (t.submission ∷ [])))
   pub others : KeepsCommittedOthers (at g old) (at g new)
   pub crash : Survives (at g old) (at g new) (λ rows. (h : Holdings) → Holds g old h →
-      AreKept old.cap rows (after old.cap h (somes (t.told ∷ [])))
+      AreKept old.cap rows (after old.cap h (somes (t.submission ∷ [])))
       ⊎ AreUnended old.cap h (t ∷ []) rows)
 
-pub sound_told : (from to : InputState) (told : Told) → Hears from to told → IsSoundTold told
+pub sound_told : (from to : InputState) (told : Parsed) → ReadsAs from to told → IsWellFormed told
 sound_told from to (Fragment key records) r = (
   spelled-key r.bytes key records r.spells,
   spelled-sound r.bytes key records r.spells,
@@ -81,14 +82,15 @@ sound_told from to (Fragment key records) r = (
 sound_told from to (Fault fault) r = tt
 
 module _ {S : Type 0} (g : Ghosts S) (old new : StoreModel S) (from to : InputState) where
-  accepted_turn : (answer : Answer) (told : Told) (given : Reply) → IsOwnRefusal g new answer →
-      reply_told answer ≡ Some given → MayBeAnswered told given → Hears from to told
+  accepted_turn : (answer : Answer) (told : Parsed) (given : Reply) → IsOwnRefusal g new answer →
+      reply_of answer ≡ Some given → MayBeAnswered told given → ReadsAs from to told
       → (HasCleanDisk (at g new) → (h : Holdings) → Holds g old h → reply old.cap h told ≡ given) →
       LeavesSubmitted g old new told
-      → IsMade g old new (record { from = from; to = to; answer = answer; told = Some told })
+      → IsMade g old new (record { from = from; to = to; answer = answer; submission = Some told })
   accepted_turn answer told given own tells may heard is leaves = record {
     own = own;
-    is_turn = subst (GoesWith (record { from = from; to = to; answer = answer; told = Some told })
+    is_turn = subst (AgreesWith (record
+        { from = from; to = to; answer = answer; submission = Some told })
         (Some told)) (sym tells) (heard, may);
     cap = leaves.cap;
     replied = λ clean h held. ap (λ (o : Option Reply). somes (o ∷ [])) (tells
@@ -100,13 +102,14 @@ module _ {S : Type 0} (g : Ghosts S) (old new : StoreModel S) (from to : InputSt
   }
 
   -- a refused one changes nothing
-  refused_turn : (answer : Answer) (told : Told) (given : Reply) → IsOwnRefusal g new answer →
-      reply_told answer ≡ Some given → MayBeAnswered told given → ¬ IsAccepted given →
+  refused_turn : (answer : Answer) (told : Parsed) (given : Reply) → IsOwnRefusal g new answer →
+      reply_of answer ≡ Some given → MayBeAnswered told given → ¬ IsAccepted given →
       Refuses g old new from to told given
-      → IsMade g old new (record { from = from; to = to; answer = answer; told = Some told })
+      → IsMade g old new (record { from = from; to = to; answer = answer; submission = Some told })
   refused_turn answer told given own tells may never r = record {
     own = own;
-    is_turn = subst (GoesWith (record { from = from; to = to; answer = answer; told = Some told })
+    is_turn = subst (AgreesWith (record
+        { from = from; to = to; answer = answer; submission = Some told })
         (Some told)) (sym tells) (r.read, may);
     cap = r.stays.cap;
     replied = λ clean h held. ap (λ (o : Option Reply). somes (o ∷ [])) (tells
@@ -122,12 +125,13 @@ module _ {S : Type 0} (g : Ghosts S) (old new : StoreModel S) (from to : InputSt
         r.stays.crash;
   }
 
-  silent_turn : (answer : Answer) → IsOwnRefusal g new answer → reply_told answer ≡ None →
+  silent_turn : (answer : Answer) → IsOwnRefusal g new answer → reply_of answer ≡ None →
       (FailsToRead from to ⊎ IsStopped answer) → ReadsFront from to → Stays g old new
-      → IsMade g old new (record { from = from; to = to; answer = answer; told = None })
+      → IsMade g old new (record { from = from; to = to; answer = answer; submission = None })
   silent_turn answer own tells why front stays = record {
     own = own;
-    is_turn = subst (GoesWith (record { from = from; to = to; answer = answer; told = None }) None)
+    is_turn = subst (AgreesWith (record
+        { from = from; to = to; answer = answer; submission = None }) None)
         (sym tells) (why, front);
     cap = stays.cap;
     replied = λ clean h held. ap (λ (o : Option Reply). somes (o ∷ [])) tells;
@@ -137,13 +141,14 @@ module _ {S : Type 0} (g : Ghosts S) (old new : StoreModel S) (from to : InputSt
         stays.crash;
   }
 
-  unended_turn : (answer : Answer) (told : Told) → IsOwnRefusal g new answer →
-      reply_told answer ≡ None → IsStopped answer → IsInDoubt answer → Hears from to told →
+  unended_turn : (answer : Answer) (told : Parsed) → IsOwnRefusal g new answer →
+      reply_of answer ≡ None → IsStopped answer → IsInDoubt answer → ReadsAs from to told →
       MayLeave g old new told
-      → IsMade g old new (record { from = from; to = to; answer = answer; told = None })
+      → IsMade g old new (record { from = from; to = to; answer = answer; submission = None })
   unended_turn answer told own tells why doubt heard may = record {
     own = own;
-    is_turn = subst (GoesWith (record { from = from; to = to; answer = answer; told = None }) None)
+    is_turn = subst (AgreesWith (record
+        { from = from; to = to; answer = answer; submission = None }) None)
         (sym tells) (inr why, inr (inr (inr (inr (told, heard)))));
     cap = may.cap;
     replied = λ clean h held. ap (λ (o : Option Reply). somes (o ∷ [])) tells;
@@ -153,10 +158,10 @@ module _ {S : Type 0} (g : Ghosts S) (old new : StoreModel S) (from to : InputSt
         (λ clean rows left h held. inr (doubt, (told, heard, left h held))) may.crash;
   }
 
-  stopped_turn : (answer : Answer) → IsOwnRefusal g new answer → reply_told answer ≡ None →
+  stopped_turn : (answer : Answer) → IsOwnRefusal g new answer → reply_of answer ≡ None →
       IsStopped answer → StopsThere g old new from to answer
-      → (told : Option Told) × IsMade g old new
-      (record { from = from; to = to; answer = answer; told = told })
+      → (told : Option Parsed) × IsMade g old new
+      (record { from = from; to = to; answer = answer; submission = told })
   stopped_turn answer own tells why (inl (stays, front)) =
       (None, silent_turn answer own tells (inr why) front stays)
   stopped_turn answer own tells why (inr (doubt, (key, records, read, may))) =
@@ -171,8 +176,8 @@ module _ {S : Type 0} (g : Ghosts S) (old new : StoreModel S) (from to : InputSt
   own_refusal Failed own = own
 
   abbrev HasTurn : Refusal → Type 0
-  HasTurn refused = IsSubmitted g old new from to (Err refused) → (told : Option Told)
-      × IsMade g old new (record { from = from; to = to; answer = Err refused; told = told })
+  HasTurn refused = IsSubmitted g old new from to (Err refused) → (told : Option Parsed)
+      × IsMade g old new (record { from = from; to = to; answer = Err refused; submission = told })
 
   form_turn : (fault : FragmentFault) → HasTurn (refusal.Form fault)
   form_turn fault r = (
@@ -198,8 +203,8 @@ module _ {S : Type 0} (g : Ghosts S) (old new : StoreModel S) (from to : InputSt
         f.stays,
   )
 
-  pub turn_of : (answer : Answer) → IsSubmitted g old new from to answer → (told : Option Told)
-      × IsMade g old new (record { from = from; to = to; answer = answer; told = told })
+  pub turn_of : (answer : Answer) → IsSubmitted g old new from to answer → (told : Option Parsed)
+      × IsMade g old new (record { from = from; to = to; answer = answer; submission = told })
   turn_of (Ok receipt) a = (
     Some (Fragment receipt.identity a.records),
     accepted_turn (Ok receipt) (Fragment receipt.identity a.records)

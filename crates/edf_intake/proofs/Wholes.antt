@@ -6,20 +6,20 @@ use Rattle.sqlite.specs.State.{HasCleanDisk}
 use Rattle.edf_header.specs.Key.{Key}
 use Rattle.edf_header.specs.Header.{Layout, most_records}
 use Rattle.edf_fragment.specs.Fragment.{DataRecord}
-use Rattle.edf_fragment.specs.Told.{Fragment}
+use Rattle.edf_fragment.specs.Parsed.{Fragment}
 use Rattle.edf_fragment.specs.Reading.{ReadsHeader}
 use Rattle.edf_fragment.specs.Whole.{ReadsFragment}
 use Rattle.edf_fragment.proofs.Sound.{spelled-key, spelled-sound, spelled-begins, spelled-some}
 use Rattle.edf_holdings.specs.Rising.{united}
 use Rattle.edf_holdings.specs.Holdings.{Holdings, put}
-use Rattle.edf_holdings.specs.Reply.{IsSoundTold, reply}
+use Rattle.edf_holdings.specs.Reply.{IsWellFormed, reply}
 use Rattle.edf_holdings.proofs.Members.{joined_has}
 use Rattle.edf_holdings.proofs.Joining.{IsGood-from_sound, put_here, put_grows}
 use Rattle.edf_store.specs.Held.{StoreModel, at, Stays}
 use Rattle.edf_store.specs.Transaction.{Sees, SeesHoldings, HasAtMost, HasNoMore, EachHasRecord}
 use Rattle.edf_store.specs.declared.transaction.StoreTx.{StoreTx}
 use Rattle.edf_intake.specs.Refusal.{Cause, OfForm, OfConflict, OfRead, OfMemory, OfStore}
-use Rattle.edf_intake.specs.Refusal.{reply_for, reply_told, cause}
+use Rattle.edf_intake.specs.Refusal.{reply_for, reply_of, cause}
 use Rattle.edf_fragment.specs.Call.{InputState}
 use Rattle.edf_intake.specs.Input.{ReadsWhole}
 use Rattle.edf_intake.specs.Inside.Verdict.{IsRoom, AreFindings}
@@ -102,7 +102,7 @@ module _ {S : Type 0} (g : Ghosts S) (first made last : StoreTx S) (from mid to 
   whole : ReadsWhole from to l.key taken.records
   whole = reads_whole from to l taken.records fragment (taken.counted ∙ unfailed)
 
-  sound : IsSoundTold (Fragment l.key taken.records)
+  sound : IsWellFormed (Fragment l.key taken.records)
   sound = (
     spelled-key whole.bytes l.key taken.records whole.spells,
     spelled-sound whole.bytes l.key taken.records whole.spells,
@@ -152,7 +152,7 @@ module _ {S : Type 0} (g : Ghosts S) (first made last : StoreTx S) (from mid to 
       → ((h : Holdings) → IsRoom first.store.now.cap (length (h l.key)) (length taken.records)
       d.room →
       AreFindings l.key h taken.records findings →
-      reply_told (Err answer) ≡ Some (reply first.store.now.cap h (Fragment l.key taken.records)))
+      reply_of (Err answer) ≡ Some (reply first.store.now.cap h (Fragment l.key taken.records)))
       → IsStop g first last from to (Input answer)
   is_refused answer conflict told =
       by (cause answer) conflict (λ clean h seen. told h (space (was_made clean) h (there.same h seen))

@@ -6,17 +6,17 @@ use Rattle.std.specs.List.{AllByRecursion, AllZip}
 use Rattle.sqlite_trees.specs.declared.store.Store.{Ghosts}
 use Rattle.sqlite_trees.specs.Tree.{Trees}
 use Rattle.sqlite.specs.State.{HasCleanDisk, Survives}
-use Rattle.edf_fragment.specs.Told.{Told, Fragment, Fault, Tells}
+use Rattle.edf_fragment.specs.Parsed.{Parsed, Fragment, Fault, ParsesTo}
 use Rattle.edf_holdings.specs.Holdings.{Holdings}
 use Rattle.edf_holdings.specs.Reply.{Reply, Form, Accepted, after_one, after, replies}
 use Rattle.edf_rows.specs.Rows.{AreKept}
 use Rattle.edf_store.specs.Call.{IsBusy}
 use Rattle.edf_store.specs.Held.{StoreModel, at, Holds, KeepsCommittedOthers}
-use Rattle.edf_intake.specs.Refusal.{Answer, reply_told, IsStopped, IsInDoubt, cause}
+use Rattle.edf_intake.specs.Refusal.{Answer, reply_of, IsStopped, IsInDoubt, cause}
 use Rattle.edf_intake.specs.Refusal.{Cause, OfStore}
 use Rattle.edf_intake.specs.Submitted.{IsRefusal, IsSubmitted, IsEnded, found_busy}
 use Rattle.edf_fragment.specs.Call.{InputState}
-use Rattle.edf_intake.specs.Input.{Hears, FailsToRead, ReadsFront}
+use Rattle.edf_intake.specs.Input.{ReadsAs, FailsToRead, ReadsFront}
 
 -- one call of `submit`: its answer, what it leaves, and that no input is read where the store was
 -- found in a transaction
@@ -36,18 +36,19 @@ AreSubmitted {S} g old new (from ∷ froms) (to ∷ tos) (answer ∷ answers) = 
 AreSubmitted g old new froms tos answers = ⊥
 
 -- the input's bytes are known, and tell this
-abbrev pub WillTell : InputState → Told → Type 0
-WillTell from told = (bytes : List ℕ) × (from.left ≡ Some bytes) × Tells bytes told
+abbrev pub WillParseTo : InputState → Parsed → Type 0
+WillParseTo from submission = (bytes : List ℕ) × (from.left ≡ Some bytes)
+    × ParsesTo bytes submission
 
 module _ {S : Type 0} (g : Ghosts S) (old new : StoreModel S) where
   -- the plain case: where the inputs tell these and each answer tells a reply, the answers are the
   -- replies to the list, and what is held then is what the list leaves
   abbrev pub AnswersAll : List InputState → List Answer → Type 0
-  AnswersAll froms answers = (tolds : List Told) (given : List Reply) →
-      AllZip WillTell froms tolds →
-      map reply_told answers ≡ map Some given → (h : Holdings) → Holds g old h →
-      (HasCleanDisk (at g new) → given ≡ replies old.cap h tolds)
-      × Holds g new (after old.cap h tolds)
+  AnswersAll froms answers = (submissions : List Parsed) (given : List Reply) →
+      AllZip WillParseTo froms submissions →
+      map reply_of answers ≡ map Some given → (h : Holdings) → Holds g old h →
+      (HasCleanDisk (at g new) → given ≡ replies old.cap h submissions)
+      × Holds g new (after old.cap h submissions)
 
 -- one input's turn: how it was found and left, its answer, and what it tells: nothing, where the
 -- answer is E40 to E42 or E45
@@ -55,7 +56,7 @@ pub record Turn : Type 0 where
   pub from : InputState
   pub to : InputState
   pub answer : Answer
-  pub told : Option Told
+  pub submission : Option Parsed
 
 -- the members that are there
 abbrev pub somes : {A : Type 0} → List (Option A) → List A
@@ -64,15 +65,15 @@ somes (None ∷ os) = somes os
 somes (Some x ∷ os) = x ∷ somes os
 
 -- what the inputs tell, and the replies that their answers tell, in their order
-abbrev pub told_in : List Turn → List Told
-told_in turns = somes (map (λ (t : Turn). t.told) turns)
+abbrev pub submissions_in : List Turn → List Parsed
+submissions_in turns = somes (map (λ (t : Turn). t.submission) turns)
 
 abbrev pub replies_in : List Turn → List Reply
-replies_in turns = somes (map (λ (t : Turn). reply_told t.answer) turns)
+replies_in turns = somes (map (λ (t : Turn). reply_of t.answer) turns)
 
 -- the answer to a faulty file is `Form`, and that to a good one never is; `Accepted` has the file's
 -- own key
-abbrev pub MayBeAnswered : Told → Reply → Type 0
+abbrev pub MayBeAnswered : Parsed → Reply → Type 0
 MayBeAnswered (Fault fault) answer = answer ≡ Form fault
 MayBeAnswered (Fragment key records) (Form fault) = ⊥
 MayBeAnswered (Fragment key records) (Accepted k new known) = k ≡ key
@@ -80,13 +81,14 @@ MayBeAnswered (Fragment key records) answer = Unit {0}
 
 -- the input was read as its answer says: it tells this, and the answer tells a reply; or neither
 -- tells anything
-abbrev pub GoesWith : Turn → Option Told → Option Reply → Type 0
-GoesWith t (Some told) (Some answer) = Hears t.from t.to told × MayBeAnswered told answer
-GoesWith t None None = (FailsToRead t.from t.to ⊎ IsStopped t.answer) × ReadsFront t.from t.to
-GoesWith t told answer = ⊥
+abbrev pub AgreesWith : Turn → Option Parsed → Option Reply → Type 0
+AgreesWith t (Some submission) (Some answer) = ReadsAs t.from t.to submission
+    × MayBeAnswered submission answer
+AgreesWith t None None = (FailsToRead t.from t.to ⊎ IsStopped t.answer) × ReadsFront t.from t.to
+AgreesWith t submission answer = ⊥
 
 abbrev pub IsTurn : Turn → Type 0
-IsTurn t = GoesWith t t.told (reply_told t.answer)
+IsTurn t = AgreesWith t t.submission (reply_of t.answer)
 
 -- where the store refused, the refusal is one that a submission may be answered
 abbrev pub IsOwnCause : {S : Type 0} → Ghosts S → StoreModel S → Cause → Type 0
@@ -102,7 +104,8 @@ IsOwnRefusal g new (Err refused) = IsOwnCause g new (cause refused)
 abbrev pub AreUnended : ℕ → Holdings → List Turn → Trees → Type 0
 AreUnended cap h [] rows = ⊥
 AreUnended cap h (t ∷ ts) rows = IsInDoubt t.answer
-    × ((told : Told) × Hears t.from t.to told × AreKept cap rows (after_one cap h told))
+    × ((submission : Parsed) × ReadsAs t.from t.to submission
+    × AreKept cap rows (after_one cap h submission))
 
 -- what a crash may leave: rows that stand for what some first inputs leave, or for that and the
 -- next
@@ -110,8 +113,8 @@ pub record AreLeftBy (cap : ℕ) (h : Holdings) (turns : List Turn) (rows : Tree
   pub first : List Turn
   pub rest : List Turn
   pub splits : turns ≡ first ++ rest
-  pub stand : AreKept cap rows (after cap h (told_in first))
-      ⊎ AreUnended cap (after cap h (told_in first)) rest rows
+  pub stand : AreKept cap rows (after cap h (submissions_in first))
+      ⊎ AreUnended cap (after cap h (submissions_in first)) rest rows
 
 module _ {S : Type 0} (g : Ghosts S) (old new : StoreModel S) where
   -- every case: the inputs together are one list. Those answered E40 to E42 or E45 add nothing;
@@ -126,8 +129,9 @@ module _ {S : Type 0} (g : Ghosts S) (old new : StoreModel S) where
       pub each : AllByRecursion IsTurn turns
       pub refusals : AllByRecursion (IsOwnRefusal g new) answers
       pub replies_are : HasCleanDisk (at g new) → (h : Holdings) → Holds g old h →
-          replies_in turns ≡ replies old.cap h (told_in turns)
-      pub holdings : (h : Holdings) → Holds g old h → Holds g new (after old.cap h (told_in turns))
+          replies_in turns ≡ replies old.cap h (submissions_in turns)
+      pub holdings : (h : Holdings) → Holds g old h →
+          Holds g new (after old.cap h (submissions_in turns))
       pub others : KeepsCommittedOthers (at g old) (at g new)
       pub crash : Survives (at g old) (at g new) (λ rows. (h : Holdings) → Holds g old h →
           AreLeftBy old.cap h turns rows)

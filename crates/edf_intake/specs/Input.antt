@@ -4,7 +4,7 @@ use Rattle.std.specs.Io.KnownBytes.{Consumes, IsAtEnd}
 use Rattle.edf_header.specs.Key.{Key}
 use Rattle.edf_header.specs.Header.{Layout}
 use Rattle.edf_fragment.specs.Fragment.{DataRecord, Spells}
-use Rattle.edf_fragment.specs.Told.{Told, Fragment, Fault}
+use Rattle.edf_fragment.specs.Parsed.{Parsed, Fragment, Fault}
 use Rattle.edf_fragment.specs.Call.{InputState}
 use Rattle.edf_fragment.specs.Reading.{ReadsHeader, CountsFault}
 use Rattle.edf_fragment.specs.Whole.{HasRead, IsFragmentFault}
@@ -42,9 +42,9 @@ module _ (from to : InputState) where
     pub counted : NoReadFailed
 
   -- what the input tells
-  abbrev pub Hears : Told → Type 0
-  Hears (Fragment key records) = ReadsWhole key records
-  Hears (Fault fault) = ReadsFault fault
+  abbrev pub ReadsAs : Parsed → Type 0
+  ReadsAs (Fragment key records) = ReadsWhole key records
+  ReadsAs (Fault fault) = ReadsFault fault
 
   -- one read failed, and the input is there
   pub record FailsToRead : Type 0 where
@@ -71,4 +71,4 @@ module _ (from to : InputState) where
   -- needs, which the store's refusal then stands in place of
   abbrev pub ReadsFront : Type 0
   ReadsFront = (to ≡ from)
-      ⊎ (ReadsSome ⊎ (LacksMemory ⊎ (FailsToRead ⊎ ((told : Told) × Hears told))))
+      ⊎ (ReadsSome ⊎ (LacksMemory ⊎ (FailsToRead ⊎ ((submission : Parsed) × ReadsAs submission))))

@@ -60,9 +60,9 @@ reply_for OfMemory = None
 reply_for (OfStore fault) = None
 
 -- the reply that an answer tells
-abbrev pub reply_told : Answer → Option Reply
-reply_told (Ok receipt) = Some (Accepted receipt.identity receipt.new receipt.known)
-reply_told (Err refused) = reply_for (cause refused)
+abbrev pub reply_of : Answer → Option Reply
+reply_of (Ok receipt) = Some (Accepted receipt.identity receipt.new receipt.known)
+reply_of (Err refused) = reply_for (cause refused)
 
 -- memory ran out, or the store refused
 abbrev pub IsStopped : Answer → Type 0

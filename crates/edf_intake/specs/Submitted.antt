@@ -6,7 +6,7 @@ use Rattle.sqlite_trees.specs.Tree.{Trees}
 use Rattle.sqlite.specs.State.{HasCleanDisk, Survives}
 use Rattle.edf_header.specs.Key.{Key}
 use Rattle.edf_fragment.specs.Fragment.{DataRecord}
-use Rattle.edf_fragment.specs.Told.{Told, Fragment, Fault}
+use Rattle.edf_fragment.specs.Parsed.{Parsed, Fragment, Fault}
 use Rattle.edf_holdings.specs.Holdings.{Holdings}
 use Rattle.edf_holdings.specs.Reply.{Reply, Form, Conflicts, Accepted, reply, after_one}
 use Rattle.edf_rows.specs.Rows.{AreKept}
@@ -18,7 +18,7 @@ use Rattle.edf_store.specs.declared.fault.StoreFault.TheVariants as store
 use Rattle.edf_intake.specs.Refusal.{Answer, IsStopped, IsInDoubt, cause}
 use Rattle.edf_intake.specs.Refusal.{Cause, OfForm, OfConflict, OfRead, OfMemory, OfStore}
 use Rattle.edf_fragment.specs.Call.{InputState}
-use Rattle.edf_intake.specs.Input.{Hears, ReadsWhole, FailsToRead, ReadsFront}
+use Rattle.edf_intake.specs.Input.{ReadsAs, ReadsWhole, FailsToRead, ReadsFront}
 use Rattle.edf_intake.specs.declared.answer.Receipt.{Receipt}
 use Rattle.edf_intake.specs.declared.answer.Refusal.TheVariants as refusal
 
@@ -32,32 +32,32 @@ IsRefusal g IfBusy new fault = MayRefuse IfBusy (IsUnclean g new) ⊥ fault
 
 module _ {S : Type 0} (g : Ghosts S) (old new : StoreModel S) where
   -- whatever was held, this is the reply to what the input tells
-  abbrev pub RepliesWith : Told → Reply → Type 0
-  RepliesWith told answer = HasCleanDisk (at g new) → (h : Holdings) → Holds g old h →
-      reply old.cap h told ≡ answer
+  abbrev pub RepliesWith : Parsed → Reply → Type 0
+  RepliesWith submission answer = HasCleanDisk (at g new) → (h : Holdings) → Holds g old h →
+      reply old.cap h submission ≡ answer
 
   -- what a crash may leave: rows that stand for what was held, after what the input tells was
   -- submitted
-  abbrev pub AreLeft : Told → Trees → Type 0
-  AreLeft told rows = (h : Holdings) → Holds g old h →
-      AreKept old.cap rows (after_one old.cap h told)
+  abbrev pub AreLeft : Parsed → Trees → Type 0
+  AreLeft submission rows = (h : Holdings) → Holds g old h →
+      AreKept old.cap rows (after_one old.cap h submission)
 
   -- what the input tells was submitted: the store holds what that leaves, with what was beside it,
   -- and is open; a crash leaves what it could leave before, or that
-  pub record LeavesSubmitted (told : Told) : Type 0 where
+  pub record LeavesSubmitted (submission : Parsed) : Type 0 where
     pub cap : new.cap ≡ old.cap
-    pub holdings : (h : Holdings) → Holds g old h → Holds g new (after_one old.cap h told)
+    pub holdings : (h : Holdings) → Holds g old h → Holds g new (after_one old.cap h submission)
     pub others : KeepsCommittedOthers (at g old) (at g new)
     pub is_open : HasCleanDisk (at g new) → IsTrue (at g new).is_open
-    pub crash : Survives (at g old) (at g new) (AreLeft told)
+    pub crash : Survives (at g old) (at g new) (AreLeft submission)
 
   -- what is held stays, and what is beside it; yet after a crash the store may hold what the input
   -- tells too
-  pub record MayLeave (told : Told) : Type 0 where
+  pub record MayLeave (submission : Parsed) : Type 0 where
     pub cap : new.cap ≡ old.cap
     pub holdings : (h : Holdings) → Holds g old h → Holds g new h
     pub others : KeepsCommittedOthers (at g old) (at g new)
-    pub crash : Survives (at g old) (at g new) (AreLeft told)
+    pub crash : Survives (at g old) (at g new) (AreLeft submission)
 
   module _ (from to : InputState) where
     -- the whole input tells a fragment, and this is how it is accepted
@@ -70,9 +70,9 @@ module _ {S : Type 0} (g : Ghosts S) (old new : StoreModel S) where
 
     -- the input tells this, and this is how it is refused; what is held stays, and a crash leaves
     -- what it could leave before
-    pub record Refuses (told : Told) (answer : Reply) : Type 0 where
-      pub read : Hears from to told
-      pub reply_is : RepliesWith told answer
+    pub record Refuses (submission : Parsed) (answer : Reply) : Type 0 where
+      pub read : ReadsAs from to submission
+      pub reply_is : RepliesWith submission answer
       pub stays : Stays g old new
 
     abbrev pub RefusesFragment : Reply → Type 0

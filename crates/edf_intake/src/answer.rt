@@ -3,13 +3,13 @@
 ghost use Rattle.std.specs.Prelude.{◌≡◌, ◌≢◌, List, Some, None, Err, length, IfSome};
 ghost use Rattle.edf_header.specs.Key.{Key};
 ghost use Rattle.edf_fragment.specs.Fragment.{DataRecord};
-ghost use Rattle.edf_fragment.specs.Told.{Fragment};
+ghost use Rattle.edf_fragment.specs.Parsed.{Fragment};
 ghost use Rattle.edf_holdings.specs.Holdings.{Holdings};
 ghost use Rattle.edf_holdings.specs.Reply.{reply};
 ghost use Rattle.edf_intake.specs.Inside.Halt.{fragment_refusal};
 ghost use Rattle.edf_intake.specs.Inside.Taken.{IsConflict, MayBeAccepted};
 ghost use Rattle.edf_intake.specs.Inside.Verdict.{IsRoom, AreFindings};
-ghost use Rattle.edf_intake.specs.Refusal.{refusal_number, refusal_name, reply_told};
+ghost use Rattle.edf_intake.specs.Refusal.{refusal_number, refusal_name, reply_of};
 
 use crate::data_records::{Destination, Findings, Starts};
 use edf_fragment::FragmentFault;
@@ -170,7 +170,7 @@ pub(crate) fn conflict(destination: Destination, cap: u32, findings: Findings) -
         (key : Key) (h : Holdings) (records : List DataRecord) →
         IsRoom cap (length (h key)) (length records) destination.room →
         AreFindings key h records findings →
-        reply_told (Err refusal) ≡ Some (reply cap h (Fragment key records))) }
+        reply_of (Err refusal) ≡ Some (reply cap h (Fragment key records))) }
 {
     match findings.clash {
         Some(starts) => Some(clash_refusal(starts)),

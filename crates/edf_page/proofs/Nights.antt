@@ -15,7 +15,7 @@ use Rattle.edf_field.specs.Number.{duration_of}
 use Rattle.edf_header.specs.declared.limits.TheConstants.{MOST_RECORDS}
 use Rattle.edf_header.specs.Key.{Key}
 use Rattle.edf_fragment.specs.Call.{InputState}
-use Rattle.edf_fragment.specs.Told.{Told, Tells}
+use Rattle.edf_fragment.specs.Parsed.{Parsed, ParsesTo}
 use Rattle.edf_fragment.specs.Fragment.{DataRecord}
 use Rattle.edf_holdings.specs.Holdings.{Holdings, nothing_held}
 use Rattle.edf_holdings.specs.Reply.{Reply, Form, Conflicts, Accepted, Overlap, Differs, Full}
@@ -24,8 +24,8 @@ use Rattle.edf_holdings.specs.Keys.{AreKeysOf}
 use Rattle.edf_holdings.proofs.KeyLists.{keys_are_one}
 use Rattle.edf_store.specs.Held.{StoreModel}
 use Rattle.edf_store.specs.declared.fault.StoreFault.TheVariants as store
-use Rattle.edf_intake.specs.Batch.{AreSubmitted, WillTell}
-use Rattle.edf_intake.specs.Refusal.{Answer, reply_told}
+use Rattle.edf_intake.specs.Batch.{AreSubmitted, WillParseTo}
+use Rattle.edf_intake.specs.Refusal.{Answer, reply_of}
 use Rattle.edf_intake.specs.Submitted.{IsSubmitted}
 use Rattle.edf_intake.specs.declared.answer.Refusal.TheVariants as refusal
 use Rattle.edf_export.specs.Headline.{IsOnlyFile}
@@ -166,7 +166,7 @@ some-is : (one other : Reply) → Some one ≡ Some other → one ≡ other
 some-is one other same = cc
 
 module _ (spell : ℕ → List ℕ) (name : List ℕ) where
-  told-by : (answer : Answer) (r : Reply) → reply_told answer ≡ Some r →
+  told-by : (answer : Answer) (r : Reply) → reply_of answer ≡ Some r →
       take_line spell name answer ≡ reply_line spell name r
   told-by (Ok receipt) r is = ap (reply_line spell name) (some-is _ r is)
   told-by (Err (refusal.Form fault)) r is = ap (reply_line spell name) (some-is _ r is)
@@ -182,7 +182,7 @@ abbrev reply_lines : (ℕ → List ℕ) → List (List ℕ) → List Reply → L
 reply_lines spell names rs = map (λ p. reply_line spell p.0 p.1) (zip names rs)
 
 by-replies : (spell : ℕ → List ℕ) (names : List (List ℕ)) (answers : List Answer)
-    (rs : List Reply) → map reply_told answers ≡ map Some rs →
+    (rs : List Reply) → map reply_of answers ≡ map Some rs →
     lines_by spell names answers ≡ reply_lines spell names rs
 by-replies spell [] [] [] is = refl
 by-replies spell [] [] (r ∷ rs) is = absurd (cc)
@@ -193,12 +193,12 @@ by-replies spell (n ∷ names) [] (r ∷ rs) is = absurd (cc)
 by-replies spell (n ∷ names) (a ∷ answers) [] is = absurd (cc)
 by-replies spell (n ∷ names) (a ∷ answers) (r ∷ rs) is =
     ap (λ (l : List ℕ). l ∷ lines_by spell names answers)
-    (told-by spell n a r (head-is (reply_told a) (Some r) (map reply_told answers) (map Some rs) is))
+    (told-by spell n a r (head-is (reply_of a) (Some r) (map reply_of answers) (map Some rs) is))
     ∙ ap (λ (ls : List (List ℕ)). reply_line spell n r ∷ ls)
-    (by-replies spell names answers rs (tail-is (reply_told a) (Some r) (map reply_told answers)
+    (by-replies spell names answers rs (tail-is (reply_of a) (Some r) (map reply_of answers)
     (map Some rs) is))
 
-pub one-taken : (names : List (List ℕ)) (tolds : List Told) (lines-of others : List (List ℕ)) →
+pub one-taken : (names : List (List ℕ)) (tolds : List Parsed) (lines-of others : List (List ℕ)) →
     AreTaken names tolds lines-of → AreTaken names tolds others → lines-of ≡ others
 one-taken names tolds lines-of others one other =
     let rs = replies MOST_RECORDS nothing_held tolds in
@@ -238,13 +238,13 @@ one-given h listed others rs os one other =
 pub one-night : OneNightComes
 one-night names files night other one is =
     let told = tells-one files in
-    let same = told.only one.tolds one.told ∙ sym (told.only is.tolds is.told) in
-    let given = one-given (held_after one.tolds) night.listed.items other.listed.items
-    night.recordings.items other.recordings.items one.given (subst (λ (ts : List Told).
+    let same = told.only one.submissions one.parsed ∙ sym (told.only is.submissions is.parsed) in
+    let given = one-given (held_after one.submissions) night.listed.items other.listed.items
+    night.recordings.items other.recordings.items one.given (subst (λ (ts : List Parsed).
     AreGiven (held_after ts) other.listed.items other.recordings.items) (sym same) is.given) in
     record {
-      taken = one-taken names one.tolds _ _ one.taken
-          (subst (λ (ts : List Told). AreTaken names ts _) (sym same) is.taken);
+      taken = one-taken names one.submissions _ _ one.taken
+          (subst (λ (ts : List Parsed). AreTaken names ts _) (sym same) is.taken);
       listed = given.0;
       each = given.1;
     }
@@ -293,7 +293,7 @@ all-calm (a ∷ answers) status calm = (
 -- an answer that is no trouble tells a reply
 calm-reply : (old new : StoreModel MemStore) (from to : InputState) (answer : Answer) →
     IsSubmitted over_memory old new from to answer → answer_status answer ≢ Trouble →
-    (r : Reply) × (reply_told answer ≡ Some r)
+    (r : Reply) × (reply_of answer ≡ Some r)
 calm-reply old new from to (Ok receipt) s calm = (_, refl)
 calm-reply old new from to (Err (refusal.Form fault)) s calm = (_, refl)
 calm-reply old new from to (Err (refusal.Overlap start stored)) s calm = (_, refl)
@@ -308,7 +308,7 @@ calm-reply old new from to (Err (refusal.Store store.Failed)) s calm = absurd s.
 
 calm-replies : (old new : StoreModel MemStore) (froms tos : List InputState)
     (answers : List Answer) → AreSubmitted over_memory old new froms tos answers →
-    AllCalm answers → (rs : List Reply) × (map reply_told answers ≡ map Some rs)
+    AllCalm answers → (rs : List Reply) × (map reply_of answers ≡ map Some rs)
 calm-replies old new [] [] [] are calm = ([], refl)
 calm-replies old new [] [] (a ∷ answers) are calm = absurd are
 calm-replies old new [] (to ∷ tos) answers are calm = absurd are
@@ -318,13 +318,13 @@ calm-replies old new (from ∷ froms) (to ∷ tos) (a ∷ answers) are calm =
     let first = calm-reply old are.0 from to a are.1.submitted calm.0 in
     let more = calm-replies are.0 new froms tos answers are.2 calm.1 in (
       first.0 ∷ more.0,
-      ap (λ (o : Option Reply). o ∷ map reply_told answers) first.1
+      ap (λ (o : Option Reply). o ∷ map reply_of answers) first.1
           ∙ ap (λ (os : List (Option Reply)). Some first.0 ∷ os) more.1,
     )
 
-will-tell : (froms : List InputState) (files : List (List ℕ)) (tolds : List Told) →
-    map (λ (f : InputState). f.left) froms ≡ map Some files → AllZip Tells files tolds →
-    AllZip WillTell froms tolds
+will-tell : (froms : List InputState) (files : List (List ℕ)) (tolds : List Parsed) →
+    map (λ (f : InputState). f.left) froms ≡ map Some files → AllZip ParsesTo files tolds →
+    AllZip WillParseTo froms tolds
 will-tell [] [] [] same all = tt
 will-tell [] [] (t ∷ tolds) same all = absurd all
 will-tell [] (b ∷ files) tolds same all = absurd (cc)

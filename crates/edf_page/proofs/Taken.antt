@@ -7,7 +7,7 @@ use Rattle.sqlite_trees.specs.declared.memory.MemStore.{MemStore}
 use Rattle.sqlite.specs.Steps.{over_memory}
 use Rattle.edf_header.specs.declared.limits.TheConstants.{MOST_RECORDS}
 use Rattle.edf_fragment.specs.Call.{InputState}
-use Rattle.edf_fragment.specs.Told.{Told, Tells}
+use Rattle.edf_fragment.specs.Parsed.{Parsed, ParsesTo}
 use Rattle.edf_holdings.specs.Holdings.{Holdings}
 use Rattle.edf_holdings.specs.Reply.{Reply, reply, replies, after}
 use Rattle.edf_holdings.proofs.Replies.{replies-append}
@@ -15,7 +15,7 @@ use Rattle.edf_holdings.proofs.Settled.{after-append}
 use Rattle.edf_store.specs.Held.{StoreModel, Holds}
 use Rattle.edf_intake.specs.Batch.{SubmitsOne}
 use Rattle.edf_intake.proofs.Batches.{in_turn, answers_all}
-use Rattle.edf_intake.specs.Refusal.{Answer, reply_told}
+use Rattle.edf_intake.specs.Refusal.{Answer, reply_of}
 use Rattle.edf_intake.specs.declared.answer.Refusal.TheVariants as refusal
 use Rattle.edf_program.specs.Text.{IsSpelling}
 use Rattle.edf_command.specs.Lines.{take_line}
@@ -28,7 +28,7 @@ use Rattle.edf_page.proofs.Memory.{stays_clean}
 
 -- an answer that is no stop tells a reply
 pub replied : (answer : Answer) → stop_in answer ≡ None →
-    (r : Reply) × (reply_told answer ≡ Some r)
+    (r : Reply) × (reply_of answer ≡ Some r)
 replied (Ok receipt) is = (_, refl)
 replied (Err (refusal.Form fault)) is = (_, refl)
 replied (Err (refusal.Overlap start stored)) is = (_, refl)
@@ -76,10 +76,11 @@ takes_one old new line name bytes answer submits is h (told ∷ u ∷ tolds) has
 
 -- ---- one file after another
 
-split-last : (files : List (List ℕ)) (file : List ℕ) (tolds : List Told) →
-    AllZip Tells (files ++ file ∷ []) tolds →
-    (front : List Told) × (last : Told) × (tolds ≡ front ++ last ∷ []) × AllZip Tells files front
-    × Tells file last
+split-last : (files : List (List ℕ)) (file : List ℕ) (tolds : List Parsed) →
+    AllZip ParsesTo (files ++ file ∷ []) tolds →
+    (front : List Parsed) × (last : Parsed) × (tolds ≡ front ++ last ∷ [])
+    × AllZip ParsesTo files front
+    × ParsesTo file last
 split-last [] file [] all = absurd all
 split-last [] file (t ∷ []) all = ([], t, refl, tt, all.0)
 split-last [] file (t ∷ u ∷ tolds) all = absurd all.1
@@ -100,8 +101,8 @@ zip-last spell (n ∷ names) (a ∷ answers) name answer same =
     (zip-last spell names answers name answer (omega (arith, same)))
 
 -- an answer list of one
-only-one : (h : Holdings) (told : Told) (answers : List Answer) →
-    map reply_told answers ≡ map Some (replies MOST_RECORDS h (told ∷ [])) →
+only-one : (h : Holdings) (told : Parsed) (answers : List Answer) →
+    map reply_of answers ≡ map Some (replies MOST_RECORDS h (told ∷ [])) →
     (answer : Answer) × (answers ≡ answer ∷ [])
 only-one h told [] is = absurd (cc)
 only-one h told (a ∷ []) is = (a, refl)
@@ -124,16 +125,16 @@ more_taken old mid new lines names files line name file first then h tolds has a
     let h' = after MOST_RECORDS h front in
     let two = then h' (last ∷ []) one.has (parts.4, tt) in
     let only = only-one h' last two.answers two.answered in
-    let answered : map reply_told (one.answers ++ only.0 ∷ [])
+    let answered : map reply_of (one.answers ++ only.0 ∷ [])
     ≡ map Some (replies MOST_RECORDS h (front ++ last ∷ [])) =
-    map_push reply_told one.answers only.0
-    ∙ (ap (λ (os : List (Option Reply)). os ++ reply_told only.0 ∷ []) one.answered
+    map_push reply_of one.answers only.0
+    ∙ (ap (λ (os : List (Option Reply)). os ++ reply_of only.0 ∷ []) one.answered
     ∙ (ap (λ (os : List (Option Reply)). map Some (replies MOST_RECORDS h front) ++ os)
-    (subst (λ (told : List Answer). map reply_told told ≡ map Some (replies MOST_RECORDS h'
+    (subst (λ (told : List Answer). map reply_of told ≡ map Some (replies MOST_RECORDS h'
     (last ∷ []))) only.1 two.answered)
     ∙ (sym (map_push Some (replies MOST_RECORDS h front) (reply MOST_RECORDS h' last))
     ∙ ap (map Some) (sym (replies-append MOST_RECORDS h front (last ∷ [])))))) in
-    subst (λ (ts : List Told). TakesTold new (lines ++ line ∷ []) (names ++ name ∷ []) h ts)
+    subst (λ (ts : List Parsed). TakesTold new (lines ++ line ∷ []) (names ++ name ∷ []) h ts)
     (sym parts.2) (record {
       answers = one.answers ++ only.0 ∷ [];
       answered = answered;

@@ -6,14 +6,14 @@ use Rattle.sqlite.specs.Steps.{over_memory}
 use Rattle.edf_field.specs.Number.{duration_of}
 use Rattle.edf_header.specs.declared.limits.TheConstants.{MOST_RECORDS}
 use Rattle.edf_header.specs.Key.{Key}
-use Rattle.edf_fragment.specs.Told.{Told, Tells}
+use Rattle.edf_fragment.specs.Parsed.{Parsed, ParsesTo}
 use Rattle.edf_holdings.specs.Holdings.{Holdings}
 use Rattle.edf_holdings.specs.Keys.{AreKeysOf}
 use Rattle.edf_holdings.specs.Reply.{reply, replies, after_one, after}
 use Rattle.edf_store.specs.Held.{StoreModel, Holds}
 use Rattle.edf_store.specs.declared.fault.StoreFault.{StoreFault}
 use Rattle.edf_store.specs.declared.fault.StoreFault.TheVariants as fault
-use Rattle.edf_intake.specs.Refusal.{Answer, reply_told}
+use Rattle.edf_intake.specs.Refusal.{Answer, reply_of}
 use Rattle.edf_intake.specs.declared.answer.Refusal.TheVariants as refusal
 use Rattle.edf_program.specs.Making.{Making}
 use Rattle.edf_program.specs.Output.{Growth}
@@ -57,24 +57,25 @@ stop_in answer = None
 -- a file was submitted, whatever was held: the answer is the reply to what it tells, and this is
 -- held then
 abbrev pub Submits : StoreModel MemStore → StoreModel MemStore → List ℕ → Answer → Type 0
-Submits old new bytes answer = (h : Holdings) (told : Told) → HasIn old h → Tells bytes told →
-    (reply_told answer ≡ Some (reply MOST_RECORDS h told))
-    × HasIn new (after_one MOST_RECORDS h told)
+Submits old new bytes answer = (h : Holdings) (submission : Parsed) → HasIn old h →
+    ParsesTo bytes submission →
+    (reply_of answer ≡ Some (reply MOST_RECORDS h submission))
+    × HasIn new (after_one MOST_RECORDS h submission)
 
 -- files of these names, which tell these, were taken where h was held, and these are their lines
 pub record TakesTold (new : StoreModel MemStore) (lines names : List (List ℕ)) (h : Holdings)
-    (tolds : List Told) : Type 0 where
+    (submissions : List Parsed) : Type 0 where
   pub answers : List Answer
-  pub answered : map reply_told answers ≡ map Some (replies MOST_RECORDS h tolds)
+  pub answered : map reply_of answers ≡ map Some (replies MOST_RECORDS h submissions)
   pub each : length answers ≡ length names
   pub lines_are : (spell : ℕ → List ℕ) → IsSpelling spell → lines ≡ lines_by spell names answers
-  pub has : HasIn new (after MOST_RECORDS h tolds)
+  pub has : HasIn new (after MOST_RECORDS h submissions)
 
 -- so whatever was held
 abbrev pub Takes : StoreModel MemStore → StoreModel MemStore → List (List ℕ) → List (List ℕ) →
     List (List ℕ) → Type 0
-Takes old new lines names files = (h : Holdings) (tolds : List Told) → HasIn old h →
-    AllZip Tells files tolds → TakesTold new lines names h tolds
+Takes old new lines names files = (h : Holdings) (submissions : List Parsed) → HasIn old h →
+    AllZip ParsesTo files submissions → TakesTold new lines names h submissions
 
 -- of these files
 abbrev pub TakesGiven : StoreModel MemStore → StoreModel MemStore → List (List ℕ) →

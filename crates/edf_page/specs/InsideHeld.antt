@@ -2,7 +2,7 @@
 use Rattle.std.specs.Prelude.{ℕ, List, map}
 use Rattle.std.specs.List.{AllZip}
 use Rattle.edf_header.specs.Key.{Key}
-use Rattle.edf_fragment.specs.Told.{Told, Tells}
+use Rattle.edf_fragment.specs.Parsed.{Parsed, ParsesTo}
 use Rattle.edf_holdings.specs.Holdings.{Holdings}
 use Rattle.edf_export.specs.Headline.{IsOnlyFile}
 use Rattle.edf_page.specs.Night.{AreTaken, held_after, IsRecording}
@@ -12,11 +12,11 @@ use Rattle.edf_page.specs.declared.night.Recording.{Recording}
 
 -- of files of these names, which have these bytes: the lines, and the recordings' files
 pub record IsHeldOf (names files : List (List ℕ)) (held : Held) : Type 0 where
-  pub tolds : List Told
-  pub told : AllZip Tells files tolds
-  pub taken : AreTaken names tolds (map (λ line. line.items) held.taken.items)
-  pub listed : ListsHeld (held_after tolds) held.listed.items
-  pub exported : ExportsHeld (held_after tolds) (map (λ file. file.items) held.files.items)
+  pub submissions : List Parsed
+  pub parsed : AllZip ParsesTo files submissions
+  pub taken : AreTaken names submissions (map (λ line. line.items) held.taken.items)
+  pub listed : ListsHeld (held_after submissions) held.listed.items
+  pub exported : ExportsHeld (held_after submissions) (map (λ file. file.items) held.files.items)
 
 -- where this is the one file of what is held under a key, that is its recording
 abbrev pub IsOfFile : List ℕ → Recording → Type 0

@@ -7,7 +7,7 @@ use Rattle.sqlite.specs.Steps.{over_memory}
 use Rattle.edf_field.specs.Number.{duration_of}
 use Rattle.edf_header.specs.Key.{Key}
 use Rattle.edf_fragment.specs.Fragment.{DataRecord}
-use Rattle.edf_fragment.specs.Told.{Told, Tells}
+use Rattle.edf_fragment.specs.Parsed.{Parsed, ParsesTo}
 use Rattle.edf_holdings.specs.Holdings.{nothing_held}
 use Rattle.edf_store.specs.Held.{StoreModel}
 use Rattle.edf_store.specs.declared.fault.StoreFault.TheVariants as refused
@@ -53,9 +53,11 @@ OneNightComes = (names files : List (List ℕ)) (night other : GivenNight) →
 -- and there is no trouble, is their lines, joined
 abbrev pub TakeWritesLines : Type 0
 TakeWritesLines = (old new : StoreModel MemStore) (out err : Growth)
-    (bytes : List ℕ → Option (List ℕ)) (names files lines : List (List ℕ)) (tolds : List Told)
+    (bytes : List ℕ → Option (List ℕ)) (names files lines : List (List ℕ))
+    (submissions : List Parsed)
     (text : List ℕ) (status : Status) → HasIn old nothing_held → map bytes names ≡ map Some files →
-    AllZip Tells files tolds → AreTaken names tolds lines → IsText out text → status ≢ Trouble →
+    AllZip ParsesTo files submissions → AreTaken names submissions lines → IsText out text →
+    status ≢ Trouble →
     IsTaken over_memory old new out err bytes names status → text ≡ flat_map (λ line. line) lines
 
 -- what `edfruns list` writes of the one file of a recording, where it is done, is the lines of its

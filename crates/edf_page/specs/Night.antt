@@ -7,11 +7,11 @@ use Rattle.edf_field.specs.Number.{duration_of}
 use Rattle.edf_header.specs.declared.limits.TheConstants.{MOST_RECORDS}
 use Rattle.edf_header.specs.Key.{Key}
 use Rattle.edf_fragment.specs.Fragment.{DataRecord}
-use Rattle.edf_fragment.specs.Told.{Told, Tells}
+use Rattle.edf_fragment.specs.Parsed.{Parsed, ParsesTo}
 use Rattle.edf_holdings.specs.Holdings.{Holdings, nothing_held}
 use Rattle.edf_holdings.specs.Keys.{AreKeysOf}
 use Rattle.edf_holdings.specs.Reply.{after, replies}
-use Rattle.edf_intake.specs.Refusal.{Answer, reply_told}
+use Rattle.edf_intake.specs.Refusal.{Answer, reply_of}
 use Rattle.edf_program.specs.Text.{IsSpelling}
 use Rattle.edf_command.specs.Lines.{take_line, list_lines}
 use Rattle.edf_export.specs.Headline.{IsOnlyFile}
@@ -31,23 +31,24 @@ use Rattle.edf_page.specs.declared.night.Recording.{Recording}
 
 -- the answers are the replies to the files, of which each meets what those before it left, where at
 -- first nothing is held
-abbrev pub AreAnswered : List Told → List Answer → Type 0
-AreAnswered tolds answers =
-    map reply_told answers ≡ map Some (replies MOST_RECORDS nothing_held tolds)
+abbrev pub AreAnswered : List Parsed → List Answer → Type 0
+AreAnswered submissions answers =
+    map reply_of answers ≡ map Some (replies MOST_RECORDS nothing_held submissions)
 
 -- what is held then
-abbrev pub held_after : List Told → Holdings
-held_after tolds = after MOST_RECORDS nothing_held tolds
+abbrev pub held_after : List Parsed → Holdings
+held_after submissions = after MOST_RECORDS nothing_held submissions
 
 -- a line for each file, in their order: joined they are the lines of `edfstore take`
 abbrev pub lines_by : (ℕ → List ℕ) → List (List ℕ) → List Answer → List (List ℕ)
 lines_by spell names answers = map (λ p. take_line spell p.0 p.1) (zip names answers)
 
 -- each file has its line, by its name, as `edfstore take` has it
-pub record AreTaken (names : List (List ℕ)) (tolds : List Told) (lines : List (List ℕ)) : Type 0
+pub record AreTaken (names : List (List ℕ)) (submissions : List Parsed)
+    (lines : List (List ℕ)) : Type 0
   where
     pub answers : List Answer
-    pub answered : AreAnswered tolds answers
+    pub answered : AreAnswered submissions answers
     pub each : (spell : ℕ → List ℕ) → IsSpelling spell → lines ≡ lines_by spell names answers
 
 -- ---- the recordings
@@ -91,10 +92,10 @@ taken_lines night = map (λ line. line.items) night.taken.items
 -- and two such nights differ in pictures at most
 pub record IsNight (names files : List (List ℕ)) (night : GivenNight) : Type 0 where
   pub each : length names ≡ length files
-  pub tolds : List Told
-  pub told : AllZip Tells files tolds
-  pub taken : AreTaken names tolds (taken_lines night)
-  pub given : AreGiven (held_after tolds) night.listed.items night.recordings.items
+  pub submissions : List Parsed
+  pub parsed : AllZip ParsesTo files submissions
+  pub taken : AreTaken names submissions (taken_lines night)
+  pub given : AreGiven (held_after submissions) night.listed.items night.recordings.items
 
 -- ---- why nothing is given
 

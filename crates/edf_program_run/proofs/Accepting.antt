@@ -8,14 +8,14 @@ use Rattle.sqlite_wal.specs.Recovery.{Image}
 use Rattle.sqlite.specs.Effect.{Database}
 use Rattle.edf_header.specs.Key.{Key}
 use Rattle.edf_fragment.specs.Fragment.{DataRecord}
-use Rattle.edf_fragment.specs.Told.{Told, Fragment, Fault}
+use Rattle.edf_fragment.specs.Parsed.{Parsed, Fragment, Fault}
 use Rattle.edf_holdings.specs.Holdings.{Holdings, IsSound}
 use Rattle.edf_holdings.specs.Reply.{Reply, Accepted, IsAccepted, reply, replies, after}
 use Rattle.edf_holdings.proofs.Accepted.{after_has_accepted}
 use Rattle.edf_holdings.proofs.Added.{nothing_is_sound}
 use Rattle.edf_holdings.proofs.Settled.{after-append}
-use Rattle.edf_intake.specs.Refusal.{reply_told}
-use Rattle.edf_intake.specs.Batch.{Turn, IsTurn, somes, told_in, replies_in, GoesWith}
+use Rattle.edf_intake.specs.Refusal.{reply_of}
+use Rattle.edf_intake.specs.Batch.{Turn, IsTurn, somes, submissions_in, replies_in, AgreesWith}
 use Rattle.edf_intake.specs.Batch.{MayBeAnswered}
 use Rattle.edf_intake.specs.declared.answer.Receipt.{Receipt}
 use Rattle.edf_program_run.specs.Files.{Keeps, no_table, one_table, both_tables, FilesKeep}
@@ -25,23 +25,23 @@ use Rattle.edf_intake.proofs.Turns.{somes-append}
 
 -- ---- the reply to a turn that was accepted
 
-abbrev tolds_of : List Turn → List (Option Told)
-tolds_of ts = map (λ (t : Turn). t.told) ts
+abbrev tolds_of : List Turn → List (Option Parsed)
+tolds_of ts = map (λ (t : Turn). t.submission) ts
 
 abbrev replies_of : List Turn → List (Option Reply)
-replies_of ts = map (λ (t : Turn). reply_told t.answer) ts
+replies_of ts = map (λ (t : Turn). reply_of t.answer) ts
 
-record Met (cap : ℕ) (h : Holdings) (o : Option Told) (key : Key) (new known : ℕ) : Type 0 where
+record Met (cap : ℕ) (h : Holdings) (o : Option Parsed) (key : Key) (new known : ℕ) : Type 0 where
   records : List DataRecord
-  told : o ≡ Some (Fragment key records)
+  submission : o ≡ Some (Fragment key records)
   replied : reply cap h (Fragment key records) ≡ Accepted key new known
 
-same_told : (o : Option Told) (k key : Key) (records : List DataRecord) → k ≡ key →
+same_told : (o : Option Parsed) (k key : Key) (records : List DataRecord) → k ≡ key →
     o ≡ Some (Fragment k records) → o ≡ Some (Fragment key records)
 same_told o k key records is told = told ∙ ap (λ (q : Key). Some (Fragment q records)) is
 
-met_first : (cap : ℕ) (h : Holdings) (t : Turn) (o : Option Told) (p : Option Reply) (key : Key)
-    (new known : ℕ) (os : List (Option Told)) (ps : List (Option Reply)) → GoesWith t o p →
+met_first : (cap : ℕ) (h : Holdings) (t : Turn) (o : Option Parsed) (p : Option Reply) (key : Key)
+    (new known : ℕ) (os : List (Option Parsed)) (ps : List (Option Reply)) → AgreesWith t o p →
     p ≡ Some (Accepted key new known) → somes (p ∷ ps) ≡ replies cap h (somes (o ∷ os)) →
     Met cap h o key new known
 met_first cap h t (Some (Fragment k records)) (Some answer) key new known os ps goes is same =
@@ -51,7 +51,7 @@ met_first cap h t (Some (Fragment k records)) (Some answer) key new known os ps 
     in
     record {
       records = records;
-      told = same_told (Some (Fragment k records)) k key records (sym named) refl;
+      submission = same_told (Some (Fragment k records)) k key records (sym named) refl;
       replied = ap (λ (q : Key). reply cap h (Fragment q records)) named ∙ sym head ∙ answered;
     }
 met_first cap h t (Some (Fault fault)) (Some answer) key new known os ps goes is same =
@@ -61,8 +61,8 @@ met_first cap h t (Some told) None key new known os ps goes is same = absurd goe
 met_first cap h t None (Some answer) key new known os ps goes is same = absurd goes
 met_first cap h t None None key new known os ps goes is same = absurd (cc)
 
-past_first : (cap : ℕ) (h : Holdings) (t : Turn) (o : Option Told) (p : Option Reply)
-    (os : List (Option Told)) (ps : List (Option Reply)) → GoesWith t o p →
+past_first : (cap : ℕ) (h : Holdings) (t : Turn) (o : Option Parsed) (p : Option Reply)
+    (os : List (Option Parsed)) (ps : List (Option Reply)) → AgreesWith t o p →
     somes (p ∷ ps) ≡ replies cap h (somes (o ∷ os)) →
     somes ps ≡ replies cap (after cap h (somes (o ∷ []))) (somes os)
 past_first cap h t (Some told) (Some answer) os ps goes same = cc
@@ -74,19 +74,20 @@ met_at : (cap : ℕ) (h : Holdings) (before behind : List Turn) (t : Turn) (key 
     (new known : ℕ) → AllByRecursion IsTurn (before ++ t ∷ behind) →
     somes (replies_of (before ++ t ∷ behind))
     ≡ replies cap h (somes (tolds_of (before ++ t ∷ behind))) →
-    reply_told t.answer ≡ Some (Accepted key new known) →
-    Met cap (after cap h (somes (tolds_of before))) t.told key new known
+    reply_of t.answer ≡ Some (Accepted key new known) →
+    Met cap (after cap h (somes (tolds_of before))) t.submission key new known
 met_at cap h [] behind t key new known all same is =
-    met_first cap h t t.told (reply_told t.answer) key new known (tolds_of behind)
+    met_first cap h t t.submission (reply_of t.answer) key new known (tolds_of behind)
     (replies_of behind) all.0 is same
 met_at cap h (b ∷ bs) behind t key new known all same is =
-    let next = past_first cap h b b.told (reply_told b.answer) (tolds_of (bs ++ t ∷ behind))
+    let next = past_first cap h b b.submission (reply_of b.answer) (tolds_of (bs ++ t ∷ behind))
     (replies_of (bs ++ t ∷ behind)) all.0 same in
-    let later = met_at cap (after cap h (somes (b.told ∷ []))) bs behind t key new known all.1 next
+    let later = met_at cap (after cap h (somes (b.submission ∷ []))) bs behind t key new known all.1
+    next
     is in
-    subst (λ (k : Holdings). Met cap k t.told key new known)
-    (sym (after-append cap h (somes (b.told ∷ [])) (somes (tolds_of bs)))
-    ∙ sym (ap (after cap h) (somes_first b.told (tolds_of bs)))) later
+    subst (λ (k : Holdings). Met cap k t.submission key new known)
+    (sym (after-append cap h (somes (b.submission ∷ [])) (somes (tolds_of bs)))
+    ∙ sym (ap (after cap h) (somes_first b.submission (tolds_of bs)))) later
 
 -- ---- its data records are held in the end
 
@@ -104,31 +105,35 @@ files_sound cap image h (inr it) = keeps_sound cap _ h it.2.keeps
 abbrev pub HasAccepted : List Turn → Holdings → Type 0
 HasAccepted turns k = (before behind : List Turn) (t : Turn) (receipt : Receipt) →
     turns ≡ before ++ (t ∷ behind) → t.answer ≡ Ok receipt → (records : List DataRecord)
-    × (t.told ≡ Some (Fragment receipt.identity records))
+    × (t.submission ≡ Some (Fragment receipt.identity records))
     × ((r : DataRecord) → Contains records r → Contains (k receipt.identity) r)
 
 has_accepted : (cap : ℕ) (h : Holdings) (turns : List Turn) → IsSound cap h →
-    AllByRecursion IsTurn turns → replies_in turns ≡ replies cap h (told_in turns) →
-    HasAccepted turns (after cap h (told_in turns))
+    AllByRecursion IsTurn turns → replies_in turns ≡ replies cap h (submissions_in turns) →
+    HasAccepted turns (after cap h (submissions_in turns))
 has_accepted cap h turns sound each same before behind t receipt splits is =
     let key = receipt.identity in
     let all = subst (AllByRecursion IsTurn) splits each in
-    let same' = subst (λ (ts : List Turn). replies_in ts ≡ replies cap h (told_in ts)) splits same
+    let same' = subst (λ (ts : List Turn). replies_in ts ≡ replies cap h (submissions_in ts)) splits
+    same
     in
     let it = met_at cap h before behind t key receipt.new receipt.known all same'
-    (ap reply_told is) in
-    let list : told_in turns ≡ told_in before ++ (Fragment key it.records ∷ told_in behind) =
-    ap told_in splits
-    ∙ ap somes (map-append (λ (u : Turn). u.told) before (t ∷ behind))
+    (ap reply_of is) in
+    let list : submissions_in turns
+    ≡ submissions_in before ++ (Fragment key it.records ∷ submissions_in behind) =
+    ap submissions_in splits
+    ∙ ap somes (map-append (λ (u : Turn). u.submission) before (t ∷ behind))
     ∙ somes-append (tolds_of before) (tolds_of (t ∷ behind))
-    ∙ ap (λ (o : Option Told). told_in before ++ somes (o ∷ tolds_of behind)) it.told in (
+    ∙ ap (λ (o : Option Parsed). submissions_in before
+    ++ somes (o ∷ tolds_of behind)) it.submission in (
       it.records,
-      it.told,
-      λ r has. (after_has_accepted cap h (told_in turns) key r sound (sound_turns turns each)).1
+      it.submission,
+      λ r has. (after_has_accepted cap h (submissions_in turns) key r sound
+          (sound_turns turns each)).1
           (inr (record {
-            before = told_in before;
+            before = submissions_in before;
             member = Fragment key it.records;
-            later = told_in behind;
+            later = submissions_in behind;
             splits = list;
             accepted = subst IsAccepted (sym it.replied) tt;
             has = (refl, has);
@@ -140,10 +145,10 @@ pub accepted_held : (cap : ℕ) (turns : List Turn) (start end : Image) (h : Hol
     ∥ ((k : Holdings) × FilesKeep cap end k × HasAccepted turns k) ∥₁
 accepted_held cap turns start end h keep step =
     ∥∥₁_map (step h keep) (λ (tolds, may, kept).
-    let all = subst (λ (ts : List Told). FilesKeep cap end (after cap h ts)) may.1 kept in
-    let same = subst (λ (ts : List Told). replies_in turns ≡ replies cap h ts) may.1 may.2 in
+    let all = subst (λ (ts : List Parsed). FilesKeep cap end (after cap h ts)) may.1 kept in
+    let same = subst (λ (ts : List Parsed). replies_in turns ≡ replies cap h ts) may.1 may.2 in
     let r : (k : Holdings) × FilesKeep cap end k × HasAccepted turns k = (
-      after cap h (told_in turns),
+      after cap h (submissions_in turns),
       all,
       has_accepted cap h turns (files_sound cap start h keep) may.0 same,
     ) in r)

@@ -5,14 +5,14 @@ use Rattle.std.proofs.lemmas.List.{map-append}
 use Rattle.std.proofs.Math.Logic.{∥∥₁_elim, ∥∥₁_map}
 use Rattle.std.specs.List.{AllByRecursion}
 use Rattle.sqlite_wal.specs.Recovery.{Image}
-use Rattle.edf_fragment.specs.Told.{Told, Fragment, Fault}
+use Rattle.edf_fragment.specs.Parsed.{Parsed, Fragment, Fault}
 use Rattle.edf_holdings.specs.Holdings.{Holdings, IsSound}
 use Rattle.edf_holdings.specs.Reply.{Reply, after}
-use Rattle.edf_holdings.specs.Laws.{AreSoundTold}
+use Rattle.edf_holdings.specs.Laws.{AreWellFormed}
 use Rattle.edf_holdings.proofs.Settled.{after-append}
-use Rattle.edf_intake.specs.Refusal.{Answer, reply_told}
-use Rattle.edf_intake.specs.Input.{Hears}
-use Rattle.edf_intake.specs.Batch.{Turn, somes, told_in, GoesWith, IsTurn}
+use Rattle.edf_intake.specs.Refusal.{Answer, reply_of}
+use Rattle.edf_intake.specs.Input.{ReadsAs}
+use Rattle.edf_intake.specs.Batch.{Turn, somes, submissions_in, AgreesWith, IsTurn}
 use Rattle.edf_intake.specs.declared.answer.Refusal.TheVariants as refusal
 use Rattle.edf_intake.proofs.Turns.{told-next, all-next, sound_told}
 use Rattle.edf_export.proofs.Headline.{headline}
@@ -23,47 +23,49 @@ use Rattle.edf_program_run.specs.Turns.{LeaveAfterAll}
 
 -- ---- what turns told is sound
 
-sound_append : (xs ys : List Told) → AreSoundTold xs → AreSoundTold ys → AreSoundTold (xs ++ ys)
+sound_append : (xs ys : List Parsed) → AreWellFormed xs → AreWellFormed ys →
+    AreWellFormed (xs ++ ys)
 sound_append [] ys one two = two
 sound_append (x ∷ xs) ys one two = (one.0, sound_append xs ys one.1 two)
 
-sound_turn : (t : Turn) (told : Option Told) (r : Option Reply) → GoesWith t told r →
-    AreSoundTold (somes (told ∷ []))
+sound_turn : (t : Turn) (told : Option Parsed) (r : Option Reply) → AgreesWith t told r →
+    AreWellFormed (somes (told ∷ []))
 sound_turn t (Some x) (Some answer) h = (sound_told t.from t.to x h.0, tt)
 sound_turn t (Some x) None h = absurd h
 sound_turn t None r h = tt
 
-pub somes_first : (o : Option Told) (os : List (Option Told)) →
+pub somes_first : (o : Option Parsed) (os : List (Option Parsed)) →
     somes (o ∷ os) ≡ somes (o ∷ []) ++ somes os
 somes_first (Some x) os = refl
 somes_first None os = refl
 
-pub sound_turns : (turns : List Turn) → AllByRecursion IsTurn turns → AreSoundTold (told_in turns)
+pub sound_turns : (turns : List Turn) → AllByRecursion IsTurn turns →
+    AreWellFormed (submissions_in turns)
 sound_turns [] all = tt
 sound_turns (t ∷ ts) all =
-    subst AreSoundTold (sym (somes_first t.told (map (λ (u : Turn). u.told) ts)))
-    (sound_append _ (told_in ts) (sound_turn t t.told (reply_told t.answer) all.0)
+    subst AreWellFormed (sym (somes_first t.submission (map (λ (u : Turn). u.submission) ts)))
+    (sound_append _ (submissions_in ts) (sound_turn t t.submission (reply_of t.answer) all.0)
     (sound_turns ts all.1))
 
-sound_may : (cap : ℕ) (run : PastRun) (h : Holdings) (tolds : List Told) →
-    MaySubmit cap run h tolds → AreSoundTold tolds
-sound_may cap (ended turns) h tolds it = subst AreSoundTold (sym it.1) (sound_turns turns it.0)
-sound_may cap idle h tolds it = subst AreSoundTold (sym it) tt
+sound_may : (cap : ℕ) (run : PastRun) (h : Holdings) (tolds : List Parsed) →
+    MaySubmit cap run h tolds → AreWellFormed tolds
+sound_may cap (ended turns) h tolds it = subst AreWellFormed (sym it.1) (sound_turns turns it.0)
+sound_may cap idle h tolds it = subst AreWellFormed (sym it) tt
 sound_may cap (broken given) h tolds (turns, rest, gave, each, are) =
-    subst AreSoundTold (sym are) (sound_turns turns each)
+    subst AreWellFormed (sym are) (sound_turns turns each)
 
 -- ---- what is left by all of them
 
 record Followed (cap : ℕ) (runs : List PastRun) (h : Holdings) (end : Image) : Type 0 where
-  tolds : List Told
-  submitted : AreSubmittedBy cap h runs tolds
-  sound : AreSoundTold tolds
-  keeps : FilesKeep cap end (after cap h tolds)
+  submissions : List Parsed
+  submitted : AreSubmittedBy cap h runs submissions
+  sound : AreWellFormed submissions
+  keeps : FilesKeep cap end (after cap h submissions)
 
 followed : (cap : ℕ) (runs : List PastRun) (h : Holdings) (start end : Image) →
     Follow cap runs start end → FilesKeep cap start h → ∥ Followed cap runs h end ∥₁
 followed cap [] h start end same keep = ∣ record {
-  tolds = [];
+  submissions = [];
   submitted = refl;
   sound = tt;
   keeps = subst (λ (i : Image). FilesKeep cap i h) same keep;
@@ -72,10 +74,11 @@ followed cap (run ∷ later) h start end it keep =
     ∥∥₁_elim (it.1 h keep) squash₁ (λ (tolds, may, kept).
     ∥∥₁_map (followed cap later (after cap h tolds) it.0 end it.2 kept) (λ more.
     let r : Followed cap (run ∷ later) h end = record {
-      tolds = tolds ++ more.tolds;
-      submitted = (tolds, more.tolds, may, refl, more.submitted);
-      sound = sound_append tolds more.tolds (sound_may cap run h tolds may) more.sound;
-      keeps = subst (FilesKeep cap end) (sym (after-append cap h tolds more.tolds)) more.keeps;
+      submissions = tolds ++ more.submissions;
+      submitted = (tolds, more.submissions, may, refl, more.submitted);
+      sound = sound_append tolds more.submissions (sound_may cap run h tolds may) more.sound;
+      keeps = subst (FilesKeep cap end)
+          (sym (after-append cap h tolds more.submissions)) more.keeps;
     } in r))
 
 pub result : (cap : ℕ) (runs : List PastRun) (h : Holdings) (start end : Image) → IsSound cap h →
@@ -83,30 +86,30 @@ pub result : (cap : ℕ) (runs : List PastRun) (h : Holdings) (start end : Image
 result cap runs h start end sound keep follow =
     ∥∥₁_map (followed cap runs h start end follow keep) (λ it.
     let r : LeaveAfterAll cap runs h end = record {
-      tolds = it.tolds;
+      submissions = it.submissions;
       submitted = it.submitted;
       sound = it.sound;
       keeps = it.keeps;
-      headline = headline cap h it.tolds sound it.sound;
+      headline = headline cap h it.submissions sound it.sound;
     } in r)
 
 -- ---- a run that was let go unclosed was broken off
 
 -- an answer that tells a reply to this
-abbrev answer_to : Told → Answer
+abbrev answer_to : Parsed → Answer
 answer_to (Fragment key records) = Ok (record { identity = key; new = 0; known = 0 })
 answer_to (Fault fault) = Err (refusal.Form fault)
 
 -- the same turn, as if it had been answered
-abbrev answered : Turn → Told → Turn
+abbrev answered : Turn → Parsed → Turn
 answered t told = record {
   from = t.from;
   to = t.to;
   answer = answer_to told;
-  told = Some told;
+  submission = Some told;
 }
 
-answered_turn : (t : Turn) (told : Told) → Hears t.from t.to told → IsTurn (answered t told)
+answered_turn : (t : Turn) (told : Parsed) → ReadsAs t.from t.to told → IsTurn (answered t told)
 answered_turn t (Fragment key records) heard = (heard, refl)
 answered_turn t (Fault fault) heard = (heard, refl)
 
@@ -115,9 +118,9 @@ first_turns [] ys all = tt
 first_turns (x ∷ xs) ys all = (all.0, first_turns xs ys all.1)
 
 with_next : (cap : ℕ) (h : Holdings) (given rest : List (Option (List ℕ))) (first : List Turn)
-    (t : Turn) (later : List Turn) (told : Told) (tolds : List Told) →
+    (t : Turn) (later : List Turn) (told : Parsed) (tolds : List Parsed) →
     AllByRecursion IsTurn first → given ≡ given_in (first ++ t ∷ later) ++ rest →
-    Hears t.from t.to told → tolds ≡ told_in first ++ told ∷ [] →
+    ReadsAs t.from t.to told → tolds ≡ submissions_in first ++ told ∷ [] →
     MaySubmit cap (broken given) h tolds
 with_next cap h given rest first t later told tolds each gave heard are =
     let last = answered t told in
@@ -135,7 +138,7 @@ with_next cap h given rest first t later told tolds each gave heard are =
     )
 
 front_may : (cap : ℕ) (h : Holdings) (given rest : List (Option (List ℕ))) (turns : List Turn)
-    (tolds : List Told) → AllByRecursion IsTurn turns → given ≡ given_in turns ++ rest →
+    (tolds : List Parsed) → AllByRecursion IsTurn turns → given ≡ given_in turns ++ rest →
     IsFront turns tolds → MaySubmit cap (broken given) h tolds
 front_may cap h given rest turns tolds all gave it =
     let each = first_turns it.first it.rest (subst (AllByRecursion IsTurn) it.splits all) in
@@ -160,7 +163,7 @@ pub unclosed : (cap : ℕ) (turns : List Turn) (given rest : List (Option (List 
     Leads cap (λ h. IsFront turns) start end → StepsBy cap (broken given) start end
 unclosed cap turns given rest start end all gave it h keep =
     ∥∥₁_map (it h keep) (λ (tolds, front, kept).
-    let r : (ts : List Told) × MaySubmit cap (broken given) h ts
+    let r : (ts : List Parsed) × MaySubmit cap (broken given) h ts
     × FilesKeep cap end (after cap h ts) = (
       tolds,
       front_may cap h given rest turns tolds all gave front,

@@ -70,7 +70,7 @@ module _ {S : Type 0} (g : Ghosts S) where
   -- ---- one
 
   left_by : (cap : ℕ) (h : Holdings) (u : Turn) (rows : Trees) →
-      AreKept cap rows (after cap h (somes (u.told ∷ []))) ⊎ AreUnended cap h (u ∷ []) rows →
+      AreKept cap rows (after cap h (somes (u.submission ∷ []))) ⊎ AreUnended cap h (u ∷ []) rows →
       AreLeftBy cap h (u ∷ []) rows
   left_by cap h u rows (inl kept) = record {
     first = u ∷ [];
@@ -188,7 +188,7 @@ module _ {D : Type 0} {g : disk.Ghosts D} (bytes : List ℕ → Option (List ℕ
       Turned (convert name, bytes, before, after, out) old new err status
   one_done name old mid new status from to answer done opened gave s on =
       let t = turn_of over_files old mid from to answer s in
-      let turn : Turn = record { from = from; to = to; answer = answer; told = t.0 } in
+      let turn : Turn = record { from = from; to = to; answer = answer; submission = t.0 } in
       record {
         turns = turn ∷ [];
         takes = on (turn ∷ []) (made_turn over_files old mid turn t.1);

@@ -23,7 +23,7 @@ use Rattle.edf_tables.specs.Schema.{HasBoth, AreOurs}
 use Rattle.edf_tables.specs.Made.{IsMadeOf}
 use Rattle.edf_tables.specs.Others.{KeepsTrees}
 use Rattle.edf_rows.specs.File.{IsForeignFile}
-use Rattle.edf_fragment.specs.Told.{Told}
+use Rattle.edf_fragment.specs.Parsed.{Parsed}
 use Rattle.edf_holdings.specs.Holdings.{Holdings}
 use Rattle.edf_holdings.specs.Reply.{after, replies}
 use Rattle.edf_rows.specs.Rows.{AreKept}
@@ -31,7 +31,7 @@ use Rattle.edf_store.specs.Fault.{HasCause, HasCauseOrIsForeign}
 use Rattle.edf_store.specs.Held.{at, Holds}
 use Rattle.edf_store.specs.declared.fault.StoreFault.{StoreFault}
 use Rattle.edf_store.specs.declared.fault.StoreFault.TheVariants.{Memory, Store, Foreign, Failed}
-use Rattle.edf_intake.specs.Batch.{told_in, replies_in}
+use Rattle.edf_intake.specs.Batch.{submissions_in, replies_in}
 use Rattle.edf_program.specs.Output.{Growth}
 use Rattle.edf_program.specs.declared.status.Status.{Status}
 use Rattle.edf_program.specs.declared.status.Status.TheVariants.{Trouble}
@@ -95,7 +95,8 @@ module _ {D : Type 0} {g : Ghosts D} (stays : SeenMayStay g) (r : ProgramRun g) 
           (keeps_first gave h one) (keeps_first gave other two),
       λ runs h start sound keep follow.
           ∥∥₁_map (result r.cap runs h start r.start sound keep follow) (λ it.
-          let x : (one : LeaveAfterAll r.cap runs h r.start) × IsSo (after r.cap h one.tolds) =
+          let x : (one : LeaveAfterAll r.cap runs h r.start)
+          × IsSo (after r.cap h one.submissions) =
           (it, so gave _ it.keeps) in x),
     )
 
@@ -143,17 +144,18 @@ module _ {D : Type 0} {g : Ghosts D} (stays : SeenMayStay g) (r : ProgramRun g) 
         FilesKeep r.cap image h) → StepsBy r.cap (ended it.turns) r.start image
     step closed image keeps h keep =
         let held = found closed.0 h keep in
-        let x : (tolds : List Told) × MaySubmit r.cap (ended it.turns) h tolds
+        let x : (tolds : List Parsed) × MaySubmit r.cap (ended it.turns) h tolds
         × FilesKeep r.cap image (after r.cap h tolds) = (
-          told_in it.turns,
+          submissions_in it.turns,
           (
             it.takes.each,
             refl,
-            subst (λ (n : ℕ). replies_in it.turns ≡ replies n h (told_in it.turns)) it.cap_is
+            subst (λ (n : ℕ). replies_in it.turns ≡ replies n h (submissions_in it.turns)) it.cap_is
                 (it.takes.replies_are (late closed.0) h held),
           ),
-          keeps (after r.cap h (told_in it.turns))
-              (subst (λ (n : ℕ). Holds over_files it.new (after n h (told_in it.turns))) it.cap_is
+          keeps (after r.cap h (submissions_in it.turns))
+              (subst (λ (n : ℕ). Holds over_files it.new (after n h (submissions_in it.turns)))
+              it.cap_is
               (it.takes.holdings h held)),
         ) in ∣ x ∣₁
 
@@ -173,7 +175,7 @@ module _ {D : Type 0} {g : Ghosts D} (stays : SeenMayStay g) (r : ProgramRun g) 
         (trees, holds, same) in x)
 
     crashes : GaveBack r s → (h : Holdings) → FilesKeep r.cap r.start h → (rows : Trees) →
-        recovers let_go.store rows → (tolds : List Told) × IsFront it.turns tolds
+        recovers let_go.store rows → (tolds : List Parsed) × IsFront it.turns tolds
         × TreesKeep r.cap rows (after r.cap h tolds)
     crashes gave h keep rows may =
         let sure = subst (λ (p : D × D). AreClean g p.0 p.1) (sym let_go.store_is) gave in

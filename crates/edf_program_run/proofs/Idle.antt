@@ -17,7 +17,7 @@ use Rattle.sqlite_store.specs.declared.store.open.Unopened.{Unopened}
 use Rattle.sqlite.specs.Files.{HoldsDatabase, IsNothing, IsEmpty, IsUnderWay}
 use Rattle.sqlite.proofs.ListingLemmas.{empty_is_sound}
 use Rattle.edf_tables.specs.Schema.{no_schema}
-use Rattle.edf_fragment.specs.Told.{Told}
+use Rattle.edf_fragment.specs.Parsed.{Parsed}
 use Rattle.edf_holdings.specs.Holdings.{Holdings, nothing_held}
 use Rattle.edf_holdings.specs.Reply.{after}
 use Rattle.edf_program_run.specs.Files.{no_table, FilesKeep}
@@ -48,7 +48,7 @@ empty_keeps cap image h is (db, holds, empty) = inr (
 pub still : (cap : ℕ) (start end : Image) → ((h : Holdings) → FilesKeep cap start h →
     ∥ FilesKeep cap end h ∥₁) → StepsBy cap idle start end
 still cap start end keeps h keep = ∥∥₁_map (keeps h keep) (λ kept.
-    let r : (tolds : List Told) × (tolds ≡ []) × FilesKeep cap end (after cap h tolds) =
+    let r : (tolds : List Parsed) × (tolds ≡ []) × FilesKeep cap end (after cap h tolds) =
     ([], refl, kept) in r)
 
 old_one : (cap : ℕ) (start image : Image) → image ≡ start → StepsBy cap idle start image

@@ -25,7 +25,7 @@ use Rattle.sqlite.specs.Start.{FindsIn}
 use Rattle.sqlite.specs.declared.error.Error.{Error}
 use Rattle.sqlite.proofs.Theorems.{opens_again}
 use Rattle.edf_tables.specs.Made.{IsMadeOf}
-use Rattle.edf_fragment.specs.Told.{Told}
+use Rattle.edf_fragment.specs.Parsed.{Parsed}
 use Rattle.edf_holdings.specs.Holdings.{Holdings}
 use Rattle.edf_holdings.specs.Reply.{after}
 use Rattle.edf_intake.specs.Batch.{Turn}
@@ -110,7 +110,7 @@ module _ {D : Type 0} {g : Ghosts D} where
     pub rows_left : (h : Holdings) → FilesKeep cap start h → (rows : Trees) →
         (file_state last).may_leave rows → (schema : Schema) →
         IsDatabase (record { schema = schema; trees = rows }) →
-        (tolds : List Told) × IsFront turns tolds × TreesKeep cap rows (after cap h tolds)
+        (tolds : List Parsed) × IsFront turns tolds × TreesKeep cap rows (after cap h tolds)
     rows_left h keep rows may schema sound =
         let early : HasCleanDisk (file_state first) = omega (arith, s.clean, clean) in
         let opened = opens early in
@@ -126,7 +126,7 @@ module _ {D : Type 0} {g : Ghosts D} where
           | inr left ↦
               let same = sym opened.0.clean in
               let it = left h (subst (λ (d : Database). Keeps cap d h) same keeps) in (
-                it.tolds,
+                it.submissions,
                 it.front,
                 record { schema = schema; is_database = sound; keeps = it.keeps schema sound },
               )
@@ -137,7 +137,7 @@ module _ {D : Type 0} {g : Ghosts D} where
     leads files left image may h keep =
         ∥∥₁_map (left.1 image may) (λ (rows, could, holds).
         let it = rows_left h keep rows could holds.2.schema holds.2.sound in
-        let r : (tolds : List Told) × IsFront turns tolds
+        let r : (tolds : List Parsed) × IsFront turns tolds
         × FilesKeep cap image (after cap h tolds) =
         (it.0, it.1, inr (rows, ∣ holds ∣₁, it.2)) in r)
 

@@ -13,7 +13,7 @@ use Rattle.sqlite.proofs.StateLemmas.{survives_then}
 use Rattle.edf_tables.specs.Schema.{HasBoth, AreOurs}
 use Rattle.edf_tables.specs.Others.{KeepsTrees}
 use Rattle.edf_tables.proofs.File.{tables_both}
-use Rattle.edf_fragment.specs.Told.{Told}
+use Rattle.edf_fragment.specs.Parsed.{Parsed}
 use Rattle.edf_holdings.specs.Holdings.{Holdings}
 use Rattle.edf_holdings.specs.Reply.{after}
 use Rattle.edf_holdings.proofs.Settled.{after-append}
@@ -21,7 +21,7 @@ use Rattle.edf_rows.specs.Rows.{AreKept}
 use Rattle.edf_store.specs.Held.{StoreModel, at, Holds}
 use Rattle.edf_store.specs.Open.{IsOpened, IsGivenBack}
 use Rattle.edf_store.specs.declared.fault.StoreFault.{StoreFault}
-use Rattle.edf_intake.specs.Batch.{Turn, told_in, AreUnended, AreLeftBy}
+use Rattle.edf_intake.specs.Batch.{Turn, submissions_in, AreUnended, AreLeftBy}
 use Rattle.edf_program.specs.Output.{Growth}
 use Rattle.edf_program.specs.declared.status.Status.{Status}
 use Rattle.edf_program_run.specs.Files.{Keeps, both_tables}
@@ -36,30 +36,31 @@ no_front turns = record { first = []; rest = turns; splits = refl; are = inl ref
 
 -- rows that stand for what some first of the turns leave
 pub record FrontKept (cap : ℕ) (turns : List Turn) (h : Holdings) (rows : Trees) : Type 0 where
-  pub tolds : List Told
-  pub front : IsFront turns tolds
-  pub kept : AreKept cap rows (after cap h tolds)
+  pub submissions : List Parsed
+  pub front : IsFront turns submissions
+  pub kept : AreKept cap rows (after cap h submissions)
 
 unended_front : (cap : ℕ) (turns first rest : List Turn) (h : Holdings) (rows : Trees) →
-    turns ≡ first ++ rest → AreUnended cap (after cap h (told_in first)) rest rows →
+    turns ≡ first ++ rest → AreUnended cap (after cap h (submissions_in first)) rest rows →
     FrontKept cap turns h rows
 unended_front cap turns first [] h rows splits none = absurd none
 unended_front cap turns first (t ∷ ts) h rows splits u = record {
-  tolds = told_in first ++ u.1.0 ∷ [];
+  submissions = submissions_in first ++ u.1.0 ∷ [];
   front = record {
     first = first;
     rest = t ∷ ts;
     splits = splits;
     are = inr (t, ts, u.1.0, refl, u.0, u.1.1, refl);
   };
-  kept = subst (AreKept cap rows) (sym (after-append cap h (told_in first) (u.1.0 ∷ []))) u.1.2;
+  kept = subst (AreKept cap rows) (sym (after-append cap h (submissions_in first) (u.1.0 ∷ [])))
+      u.1.2;
 }
 
 front_kept : (cap : ℕ) (turns : List Turn) (h : Holdings) (rows : Trees) →
     AreLeftBy cap h turns rows → FrontKept cap turns h rows
 front_kept cap turns h rows l = elim l.stand [
   | inl kept ↦ record {
-    tolds = told_in l.first;
+    submissions = submissions_in l.first;
     front = record { first = l.first; rest = l.rest; splits = l.splits; are = inl refl };
     kept = kept;
   }
@@ -68,10 +69,10 @@ front_kept cap turns h rows l = elim l.stand [
 
 -- whatever schema these rows are a database of, it keeps what some first of the turns leave
 pub record Fronted (cap : ℕ) (turns : List Turn) (h : Holdings) (rows : Trees) : Type 0 where
-  pub tolds : List Told
-  pub front : IsFront turns tolds
+  pub submissions : List Parsed
+  pub front : IsFront turns submissions
   pub keeps : (schema : Schema) → IsDatabase (record { schema = schema; trees = rows }) →
-      Keeps cap (record { schema = schema; trees = rows }) (after cap h tolds)
+      Keeps cap (record { schema = schema; trees = rows }) (after cap h submissions)
 
 -- what a crash may leave
 abbrev pub MayBeLeft : ℕ → List Turn → Database → Trees → Type 0
@@ -81,7 +82,7 @@ made_front : (cap : ℕ) (turns : List Turn) (db : Database) (h : Holdings) (row
     Keeps cap db h → ((schema : Schema) → IsDatabase (record { schema = schema; trees = rows }) →
     Keeps cap (record { schema = schema; trees = rows }) h) → Fronted cap turns h rows
 made_front cap turns db h rows keeps same = record {
-  tolds = [];
+  submissions = [];
   front = no_front turns;
   keeps = same;
 }
@@ -162,10 +163,10 @@ module _ {D : Type 0} {g : Ghosts D} (r : ProgramRun g) (first : Held (FileStore
         (left.1 h (opened_holds over_files first it.old it.opened h keeps)) in
         let was = was_clean clean in
         record {
-          tolds = kept.tolds;
+          submissions = kept.submissions;
           front = kept.front;
           keeps = left_keeps it.old.cap (at over_files it.old).committed rows
-              (after it.old.cap h kept.tolds) (tables_both _ _ (it.opened.tables was))
+              (after it.old.cap h kept.submissions) (tables_both _ _ (it.opened.tables was))
               (it.live left.0.0).1 left.0.1 kept.kept;
         })
         it.opened.crash second

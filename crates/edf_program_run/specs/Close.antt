@@ -17,7 +17,7 @@ use Rattle.sqlite.specs.Files.{HoldsDatabase, over_files, IsClosed, FailsToClose
 use Rattle.sqlite.specs.declared.error.Error.{Error}
 use Rattle.sqlite.specs.declared.error.Error.TheVariants.{SqliteFailure}
 use Rattle.sqlite.specs.declared.error.ErrorCode.TheVariants.{Closed}
-use Rattle.edf_fragment.specs.Told.{Told}
+use Rattle.edf_fragment.specs.Parsed.{Parsed}
 use Rattle.edf_tables.specs.Schema.{HasBoth, AreOurs}
 use Rattle.edf_tables.specs.Made.{IsMadeOf}
 use Rattle.edf_tables.specs.Others.{KeepsTrees}
@@ -79,7 +79,7 @@ module _ {D : Type 0} {g : Ghosts D} (r : ProgramRun g) (s : EndedRun D) where
       FilesKeep r.cap r.start other → h ≡ other)
       × ((runs : List PastRun) (h : Holdings) (first : Image) → IsSound r.cap h →
       FilesKeep r.cap first h → Follow r.cap runs first r.start →
-      ∥ ((it : LeaveAfterAll r.cap runs h r.start) × IsSo (after r.cap h it.tolds)) ∥₁)
+      ∥ ((it : LeaveAfterAll r.cap runs h r.start) × IsSo (after r.cap h it.submissions)) ∥₁)
 
   -- The store was opened, and the work was done over it: it held what the files held, rows that
   -- some submissions leave, or none. Where they were closed, they, and the database file alone,
@@ -116,8 +116,8 @@ module _ {D : Type 0} {g : Ghosts D} (r : ProgramRun g) (s : EndedRun D) where
     pub leads : AreLetGo → (image : Image) → MayBe image →
         Leads r.cap (λ h. IsFront turns) r.start image
     pub crash : GaveBack → (h : Holdings) → FilesKeep r.cap r.start h → (rows : Trees) →
-        recovers let_go.store rows → (tolds : List Told) × IsFront turns tolds
-        × TreesKeep r.cap rows (after r.cap h tolds)
+        recovers let_go.store rows → (submissions : List Parsed) × IsFront turns submissions
+        × TreesKeep r.cap rows (after r.cap h submissions)
 
   -- Or the store was refused. The fault has a cause; or it is E45, and the files held a database
   -- that no submissions leave. No failure to close is told. The files hold what they held, and

@@ -5,14 +5,14 @@ use Rattle.std.specs.List.{AllByRecursion}
 use Rattle.sqlite_trees.specs.declared.store.Store.{Ghosts}
 use Rattle.sqlite_wal.specs.Recovery.{Image}
 use Rattle.sqlite.specs.State.{HasCleanDisk, Survives}
-use Rattle.edf_fragment.specs.Told.{Told}
+use Rattle.edf_fragment.specs.Parsed.{Parsed}
 use Rattle.edf_holdings.specs.Holdings.{Holdings}
 use Rattle.edf_holdings.specs.Reply.{after, replies}
-use Rattle.edf_holdings.specs.Laws.{AreSoundTold}
+use Rattle.edf_holdings.specs.Laws.{AreWellFormed}
 use Rattle.edf_store.specs.Held.{StoreModel, at, Holds, KeepsCommittedOthers}
 use Rattle.edf_intake.specs.Refusal.{IsInDoubt}
-use Rattle.edf_intake.specs.Input.{Hears}
-use Rattle.edf_intake.specs.Batch.{Turn, IsTurn, told_in, replies_in, AreLeftBy}
+use Rattle.edf_intake.specs.Input.{ReadsAs}
+use Rattle.edf_intake.specs.Batch.{Turn, IsTurn, submissions_in, replies_in, AreLeftBy}
 use Rattle.edf_export.specs.Headline.{Headline}
 use Rattle.edf_program_run.specs.Files.{FilesKeep}
 
@@ -24,20 +24,22 @@ pub record TakesTurns {S : Type 0} (g : Ghosts S) (old new : StoreModel S) (turn
   pub cap : new.cap ≡ old.cap
   pub each : AllByRecursion IsTurn turns
   pub replies_are : HasCleanDisk (at g new) → (h : Holdings) → Holds g old h →
-      replies_in turns ≡ replies old.cap h (told_in turns)
-  pub holdings : (h : Holdings) → Holds g old h → Holds g new (after old.cap h (told_in turns))
+      replies_in turns ≡ replies old.cap h (submissions_in turns)
+  pub holdings : (h : Holdings) → Holds g old h →
+      Holds g new (after old.cap h (submissions_in turns))
   pub others : KeepsCommittedOthers (at g old) (at g new)
   pub crash : Survives (at g old) (at g new) (λ rows. (h : Holdings) → Holds g old h →
       AreLeftBy old.cap h turns rows)
 
 -- what some first of these turns submitted, and perhaps the next, whose answer is E41 or E42
-pub record IsFront (turns : List Turn) (tolds : List Told) : Type 0 where
+pub record IsFront (turns : List Turn) (submissions : List Parsed) : Type 0 where
   pub first : List Turn
   pub rest : List Turn
   pub splits : turns ≡ first ++ rest
-  pub are : (tolds ≡ told_in first) ⊎ ((t : Turn) × (later : List Turn) × (told : Told)
-      × (rest ≡ t ∷ later) × IsInDoubt t.answer × Hears t.from t.to told
-      × (tolds ≡ told_in first ++ (told ∷ [])))
+  pub are : (submissions ≡ submissions_in first)
+      ⊎ ((t : Turn) × (later : List Turn) × (submission : Parsed)
+      × (rest ≡ t ∷ later) × IsInDoubt t.answer × ReadsAs t.from t.to submission
+      × (submissions ≡ submissions_in first ++ (submission ∷ [])))
 
 -- what the files gave, where that is known
 abbrev pub given_in : List Turn → List (Option (List ℕ))
@@ -55,17 +57,20 @@ pub data PastRun : Type 0 where
 
 -- What it submitted, over files that hold h: all that its files told, and its replies are those to
 -- this list; nothing; or what the first of them told, but for those that it answered from E40 on.
-abbrev pub MaySubmit : ℕ → PastRun → Holdings → List Told → Type 0
-MaySubmit cap (ended turns) h tolds = AllByRecursion IsTurn turns × (tolds ≡ told_in turns)
-    × (replies_in turns ≡ replies cap h tolds)
-MaySubmit cap idle h tolds = tolds ≡ []
-MaySubmit cap (broken given) h tolds = (turns : List Turn) × (rest : List (Option (List ℕ)))
-    × (given ≡ given_in turns ++ rest) × AllByRecursion IsTurn turns × (tolds ≡ told_in turns)
+abbrev pub MaySubmit : ℕ → PastRun → Holdings → List Parsed → Type 0
+MaySubmit cap (ended turns) h submissions = AllByRecursion IsTurn turns
+    × (submissions ≡ submissions_in turns)
+    × (replies_in turns ≡ replies cap h submissions)
+MaySubmit cap idle h submissions = submissions ≡ []
+MaySubmit cap (broken given) h submissions = (turns : List Turn) × (rest : List (Option (List ℕ)))
+    × (given ≡ given_in turns ++ rest) × AllByRecursion IsTurn turns
+    × (submissions ≡ submissions_in turns)
 
 -- the files then hold what such submissions leave of what they held
-abbrev pub Leads : ℕ → (Holdings → List Told → Type 0) → Image → Image → Type 0
+abbrev pub Leads : ℕ → (Holdings → List Parsed → Type 0) → Image → Image → Type 0
 Leads cap Submits start end = (h : Holdings) → FilesKeep cap start h →
-    ∥ ((tolds : List Told) × Submits h tolds × FilesKeep cap end (after cap h tolds)) ∥₁
+    ∥ ((submissions : List Parsed) × Submits h submissions
+    × FilesKeep cap end (after cap h submissions)) ∥₁
 
 abbrev pub StepsBy : ℕ → PastRun → Image → Image → Type 0
 StepsBy cap run = Leads cap (MaySubmit cap run)
@@ -77,17 +82,17 @@ Follow cap (run ∷ later) start end = (mid : Image) × StepsBy cap run start mi
     × Follow cap later mid end
 
 -- what all of them submitted, in their order, over files that hold h
-abbrev pub AreSubmittedBy : ℕ → Holdings → List PastRun → List Told → Type 0
-AreSubmittedBy cap h [] tolds = tolds ≡ []
-AreSubmittedBy cap h (run ∷ later) tolds = (first : List Told) × (more : List Told)
-    × MaySubmit cap run h first × (tolds ≡ first ++ more)
+abbrev pub AreSubmittedBy : ℕ → Holdings → List PastRun → List Parsed → Type 0
+AreSubmittedBy cap h [] submissions = submissions ≡ []
+AreSubmittedBy cap h (run ∷ later) submissions = (first : List Parsed) × (more : List Parsed)
+    × MaySubmit cap run h first × (submissions ≡ first ++ more)
     × AreSubmittedBy cap (after cap h first) later more
 
 -- after all of them the files hold what those submissions leave, and the headline holds of them
 pub record LeaveAfterAll (cap : ℕ) (runs : List PastRun) (h : Holdings) (end : Image) : Type 0
   where
-    pub tolds : List Told
-    pub submitted : AreSubmittedBy cap h runs tolds
-    pub sound : AreSoundTold tolds
-    pub keeps : FilesKeep cap end (after cap h tolds)
-    pub headline : Headline cap h tolds
+    pub submissions : List Parsed
+    pub submitted : AreSubmittedBy cap h runs submissions
+    pub sound : AreWellFormed submissions
+    pub keeps : FilesKeep cap end (after cap h submissions)
+    pub headline : Headline cap h submissions

@@ -13,7 +13,7 @@ ghost use Rattle.sqlite.specs.Files.{IsNothing};
 ghost use Rattle.sqlite.specs.declared.error.Error.{Error};
 ghost use Rattle.sqlite.specs.declared.file.Leftover.TheVariants as left;
 ghost use Rattle.edf_fragment.specs.Fragment.{DataRecord};
-ghost use Rattle.edf_fragment.specs.Told.{Fragment};
+ghost use Rattle.edf_fragment.specs.Parsed.{Fragment};
 ghost use Rattle.edf_holdings.specs.Holdings.{Holdings, IsSound, nothing_held};
 ghost use Rattle.edf_intake.specs.Batch.{Turn, IsTurn};
 ghost use Rattle.edf_intake.specs.declared.answer.Receipt.{Receipt};
@@ -40,7 +40,7 @@ pub fn across_runs()
         FilesKeep cap start h → StepsBy cap (ended turns) start end →
         ∥ ((k : Holdings) × FilesKeep cap end k × ((before behind : List Turn) (t : Turn)
         (receipt : Receipt) → turns ≡ before ++ (t ∷ behind) → t.answer ≡ Ok receipt →
-        (records : List DataRecord) × (t.told ≡ Some (Fragment receipt.identity records))
+        (records : List DataRecord) × (t.submission ≡ Some (Fragment receipt.identity records))
         × ((r : DataRecord) → Contains records r → Contains (k receipt.identity) r))) ∥₁ }
     ensures first { (cap : ℕ) (start : Image) → IsNothing start →
         FilesKeep cap start nothing_held }

@@ -7,20 +7,20 @@ use Rattle.std.proofs.lemmas.List.Elements.{Contains-append_cases}
 use Rattle.edf_field.specs.Number.{duration_of}
 use Rattle.edf_header.specs.Key.{Key}
 use Rattle.edf_fragment.specs.Fragment.{DataRecord, Spells}
-use Rattle.edf_fragment.specs.Told.{Told, Fragment, Tells}
-use Rattle.edf_fragment.proofs.Told.{one-telling}
+use Rattle.edf_fragment.specs.Parsed.{Parsed, Fragment, ParsesTo}
+use Rattle.edf_fragment.proofs.Parsed.{one-parse}
 use Rattle.edf_holdings.specs.Clash.{NoClash}
 use Rattle.edf_holdings.specs.Rising.{united}
 use Rattle.edf_holdings.specs.Holdings.{Holdings, IsSound, put, nothing_held}
-use Rattle.edf_holdings.specs.Reply.{IsSoundTold, IsAccepted, after, replies}
+use Rattle.edf_holdings.specs.Reply.{IsWellFormed, IsAccepted, after, replies}
 use Rattle.edf_holdings.specs.Free.{IsFragment, IsFree, Has, SameRecords}
-use Rattle.edf_holdings.specs.Laws.{AreSoundTold}
+use Rattle.edf_holdings.specs.Laws.{AreWellFormed}
 use Rattle.edf_holdings.proofs.Joining.{put_cases, put_here, lasting, apart-sound}
 use Rattle.edf_holdings.proofs.Free.{IsAmong, IsAmong-from_Any, Any-from_IsAmong, any_order_law}
 use Rattle.edf_holdings.proofs.Free.{recut_law}
 use Rattle.edf_holdings.proofs.InSets.{from_nothing}
 use Rattle.edf_holdings.proofs.Recut.{free_of_same, alone_is_free}
-use Rattle.edf_holdings.proofs.ToldSound.{told_is_sound}
+use Rattle.edf_holdings.proofs.ParsedIsWellFormed.{parsed_is_well_formed}
 use Rattle.edf_runs.specs.File.{IsRunFile}
 use Rattle.edf_runs.specs.Rejoined.{AreRunFiles, RunsRejoin}
 use Rattle.edf_runs.proofs.Members.{contains-first, contains-later, contains-cases}
@@ -53,7 +53,7 @@ in-all (first ∷ runs) run r is-run c = elim (contains-cases first runs run is-
 -- ---- what the files tell
 
 -- a run of the key
-record TellsRun (k : Key) (runs : List (List DataRecord)) (told : Told) : Type 0 where
+record TellsRun (k : Key) (runs : List (List DataRecord)) (told : Parsed) : Type 0 where
   run : List DataRecord
   is_run : Contains runs run
   is : told ≡ Fragment k run
@@ -63,7 +63,7 @@ abbrev IsFileOfRun : Key → List (List DataRecord) → List ℕ → Type 0
 IsFileOfRun k runs file = (run : List DataRecord) × Contains runs run × IsRunFile file k run
 
 module _ (k : Key) (runs : List (List DataRecord)) where
-  all-tell : (files : List (List ℕ)) (tolds : List Told) → AllZip Tells files tolds →
+  all-tell : (files : List (List ℕ)) (tolds : List Parsed) → AllZip ParsesTo files tolds →
       ((file : List ℕ) → Contains files file → IsFileOfRun k runs file)
       → AllByRecursion (TellsRun k runs) tolds
   all-tell [] [] tell of = tt
@@ -75,19 +75,19 @@ module _ (k : Key) (runs : List (List DataRecord)) where
           run = one.0;
           is_run = one.1;
           is =
-              one-telling file told (Fragment k one.0) tell.0 (run-file-spells file k one.0 one.2);
+              one-parse file told (Fragment k one.0) tell.0 (run-file-spells file k one.0 one.2);
         },
         all-tell files tolds tell.1 (λ other c. of other (contains-later file files other c)),
       )
 
-  all-fragments : (tolds : List Told) → AllByRecursion (TellsRun k runs) tolds →
+  all-fragments : (tolds : List Parsed) → AllByRecursion (TellsRun k runs) tolds →
       AllByRecursion IsFragment tolds
   all-fragments [] tell = tt
   all-fragments (told ∷ tolds) tell =
       (subst IsFragment (sym tell.0.is) tt, all-fragments tolds tell.1)
 
   -- a data record that is told is one of the runs
-  told-in-runs : (tolds : List Told) (q : Key) (r : DataRecord) →
+  told-in-runs : (tolds : List Parsed) (q : Key) (r : DataRecord) →
       AllByRecursion (TellsRun k runs) tolds → IsAmong q r tolds → (k ≡ q)
       × Contains (all_of runs) r
   told-in-runs [] q r tell has = absurd has
@@ -96,24 +96,24 @@ module _ (k : Key) (runs : List (List DataRecord)) where
       (has.0, in-all runs tell.0.run r tell.0.is_run has.1)
   told-in-runs (told ∷ tolds) q r tell (inr later) = told-in-runs tolds q r tell.1 later
 
-pub told-sound : (files : List (List ℕ)) (tolds : List Told) → AllZip Tells files tolds →
-    AreSoundTold tolds
+pub told-sound : (files : List (List ℕ)) (tolds : List Parsed) → AllZip ParsesTo files tolds →
+    AreWellFormed tolds
 told-sound [] [] tell = tt
 told-sound [] (told ∷ tolds) tell = absurd tell
 told-sound (file ∷ files) [] tell = absurd tell
 told-sound (file ∷ files) (told ∷ tolds) tell =
-    (told_is_sound file told tell.0, told-sound files tolds tell.1)
+    (parsed_is_well_formed file told tell.0, told-sound files tolds tell.1)
 
 -- what a file of the list tells is told
-pub file-told : (files : List (List ℕ)) (tolds : List Told) (file : List ℕ) (k q : Key)
-    (run : List DataRecord) (r : DataRecord) → AllZip Tells files tolds → Contains files file
+pub file-told : (files : List (List ℕ)) (tolds : List Parsed) (file : List ℕ) (k q : Key)
+    (run : List DataRecord) (r : DataRecord) → AllZip ParsesTo files tolds → Contains files file
     → Spells file k run → Has q r (Fragment k run) → IsAmong q r tolds
 file-told [] tolds file k q run r tell c spells has = absurd (omega (arith, c.1))
 file-told (first ∷ files) [] file k q run r tell c spells has = absurd tell
 file-told (first ∷ files) (told ∷ tolds) file k q run r tell c spells has =
     elim (contains-cases first files file c) [
       | inl same ↦
-          let is = one-telling first told (Fragment k run) tell.0
+          let is = one-parse first told (Fragment k run) tell.0
           (subst (λ (l : List ℕ). Spells l k run) (sym same) spells) in
           inl (subst (Has q r) (sym is) has)
       | inr later ↦ inr (file-told files tolds file k q run r tell.1 later spells has)
@@ -121,11 +121,11 @@ file-told (first ∷ files) (told ∷ tolds) file k q run r tell c spells has =
 
 -- ---- the whole file, told alone
 
-abbrev pub whole : Key → List DataRecord → List Told
+abbrev pub whole : Key → List DataRecord → List Parsed
 whole k records = Fragment k records ∷ []
 
 module _ (cap : ℕ) (h : Holdings) (k : Key) (records : List DataRecord) (sound : IsSound cap h)
-    (none : h k ≡ []) (told : IsSoundTold (Fragment k records)) where
+    (none : h k ≡ []) (told : IsWellFormed (Fragment k records)) where
   -- what the key holds with them is what it would hold where nothing was held
   as-from-nothing : put k records nothing_held k ≡ united (h k) records
   as-from-nothing = put_here k records nothing_held
@@ -156,8 +156,8 @@ module _ (cap : ℕ) (h : Holdings) (k : Key) (records : List DataRecord) (sound
 
 -- submissions that hold just the data records of the whole file
 pub told-as-whole : (cap : ℕ) (h : Holdings) (k : Key) (records : List DataRecord)
-    (tolds : List Told) → IsSound cap h → h k ≡ [] → IsSoundTold (Fragment k records) →
-    length records ≤ cap → AreSoundTold tolds → AllByRecursion IsFragment tolds →
+    (tolds : List Parsed) → IsSound cap h → h k ≡ [] → IsWellFormed (Fragment k records) →
+    length records ≤ cap → AreWellFormed tolds → AllByRecursion IsFragment tolds →
     SameRecords (whole k records) tolds →
     All IsAccepted (replies cap h tolds) × (after cap h tolds ≡ put k records h)
     × (after cap h tolds k ≡ records)
@@ -177,8 +177,8 @@ told-as-whole cap h k records tolds sound none told few each fragments same =
 
 -- the runs' files hold the data records of the whole
 same-records : (k : Key) (records : List DataRecord) (runs : List (List DataRecord))
-    (files : List (List ℕ)) (tolds : List Told) → all_of runs ≡ records
-    → AreRunFiles k runs files → AllZip Tells files tolds → SameRecords (whole k records) tolds
+    (files : List (List ℕ)) (tolds : List Parsed) → all_of runs ≡ records
+    → AreRunFiles k runs files → AllZip ParsesTo files tolds → SameRecords (whole k records) tolds
 same-records k records runs files tolds joined-is are tell q r = (
   (λ any. Any-from_IsAmong q r tolds (forth (IsAmong-from_Any q r (whole k records) any))),
   (λ any. Any-from_IsAmong q r (whole k records) (back (IsAmong-from_Any q r tolds any))),
@@ -200,7 +200,8 @@ same-records k records runs files tolds joined-is are tell q r = (
 
 pub runs-rejoin : RunsRejoin
 runs-rejoin cap h bytes k records runs files tolds sound none spells few are files-are tell =
-    told-as-whole cap h k records tolds sound none (told_is_sound bytes (Fragment k records) spells)
+    told-as-whole cap h k records tolds sound none
+    (parsed_is_well_formed bytes (Fragment k records) spells)
     few (told-sound files tolds tell)
     (all-fragments k runs tolds (all-tell k runs files tolds tell files-are.only))
     (same-records k records runs files tolds are.joined files-are tell)

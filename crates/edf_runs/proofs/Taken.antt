@@ -9,15 +9,15 @@ use Rattle.edf_field.specs.Number.{duration_of}
 use Rattle.edf_header.specs.Key.{Key}
 use Rattle.edf_fragment.specs.Fragment.{DataRecord, Spells}
 use Rattle.edf_fragment.specs.Sound.{AreSound}
-use Rattle.edf_fragment.specs.Told.{Told, Fragment, Tells}
-use Rattle.edf_fragment.proofs.Told.{one-telling}
+use Rattle.edf_fragment.specs.Parsed.{Parsed, Fragment, ParsesTo}
+use Rattle.edf_fragment.proofs.Parsed.{one-parse}
 use Rattle.edf_canonical.specs.File.{IsCanonicalFile}
 use Rattle.edf_canonical.proofs.Files.{its-own}
 use Rattle.edf_holdings.specs.Free.{IsFragment, Has, SameRecords}
 use Rattle.edf_holdings.specs.Holdings.{Holdings}
-use Rattle.edf_holdings.specs.Reply.{IsAccepted, IsSoundTold, reply, replies, after_one}
+use Rattle.edf_holdings.specs.Reply.{IsAccepted, IsWellFormed, reply, replies, after_one}
 use Rattle.edf_holdings.proofs.Free.{IsAmong, IsAmong-from_Any, Any-from_IsAmong}
-use Rattle.edf_holdings.proofs.ToldSound.{told_is_sound}
+use Rattle.edf_holdings.proofs.ParsedIsWellFormed.{parsed_is_well_formed}
 use Rattle.edf_runs.specs.ByOnset.{by_onset, AreAlike}
 use Rattle.edf_runs.specs.OneByOnset.{outside_count, IsPieceOf}
 use Rattle.edf_runs.specs.Taken.{PiecesAndCardAreTaken}
@@ -33,13 +33,13 @@ record IsPart (k : Key) (rs : List DataRecord) (file : List ℕ) : Type 0 where
   among : All (Contains rs) part
   spells : Spells file k part
 
-record TellsPart (k : Key) (rs : List DataRecord) (told : Told) : Type 0 where
+record TellsPart (k : Key) (rs : List DataRecord) (told : Parsed) : Type 0 where
   part : List DataRecord
   among : All (Contains rs) part
   is : told ≡ Fragment k part
 
 module _ (k : Key) (rs : List DataRecord) where
-  all-tell : (files : List (List ℕ)) (tolds : List Told) → AllZip Tells files tolds →
+  all-tell : (files : List (List ℕ)) (tolds : List Parsed) → AllZip ParsesTo files tolds →
       All (IsPart k rs) files → AllByRecursion (TellsPart k rs) tolds
   all-tell [] [] tell are = tt
   all-tell [] (told ∷ tolds) tell are = absurd tell
@@ -49,18 +49,18 @@ module _ (k : Key) (rs : List DataRecord) where
         record {
           part = one.part;
           among = one.among;
-          is = one-telling file told (Fragment k one.part) tell.0 one.spells;
+          is = one-parse file told (Fragment k one.part) tell.0 one.spells;
         },
         all-tell files tolds tell.1 (All-tail (IsPart k rs) file files are),
       )
 
-  all-fragments : (tolds : List Told) → AllByRecursion (TellsPart k rs) tolds →
+  all-fragments : (tolds : List Parsed) → AllByRecursion (TellsPart k rs) tolds →
       AllByRecursion IsFragment tolds
   all-fragments [] tell = tt
   all-fragments (told ∷ tolds) tell =
       (subst IsFragment (sym tell.0.is) tt, all-fragments tolds tell.1)
 
-  told-in : (tolds : List Told) (q : Key) (r : DataRecord) →
+  told-in : (tolds : List Parsed) (q : Key) (r : DataRecord) →
       AllByRecursion (TellsPart k rs) tolds → IsAmong q r tolds → (k ≡ q) × Contains rs r
   told-in [] q r tell has = absurd has
   told-in (told ∷ tolds) q r tell (inl here) =
@@ -70,8 +70,8 @@ module _ (k : Key) (rs : List DataRecord) where
 
 -- where one of the files spells them all
 same-as-whole : (k : Key) (rs : List DataRecord) (file : List ℕ) (files : List (List ℕ))
-    (tolds : List Told) → Spells file k rs → Contains files file → All (IsPart k rs) files →
-    AllZip Tells files tolds → SameRecords (whole k rs) tolds
+    (tolds : List Parsed) → Spells file k rs → Contains files file → All (IsPart k rs) files →
+    AllZip ParsesTo files tolds → SameRecords (whole k rs) tolds
 same-as-whole k rs file files tolds spells is-one are tell q r = (
   (λ any. Any-from_IsAmong q r tolds (forth (IsAmong-from_Any q r (whole k rs) any))),
   (λ any. Any-from_IsAmong q r (whole k rs) (back (IsAmong-from_Any q r tolds any))),
@@ -86,16 +86,16 @@ same-as-whole k rs file files tolds spells is-one are tell q r = (
 
 -- ---- one file more
 
-one-more : (files : List (List ℕ)) (tolds : List Told) (file : List ℕ) (told : Told) →
-    AllZip Tells files tolds → Tells file told →
-    AllZip Tells (files ++ file ∷ []) (tolds ++ told ∷ [])
+one-more : (files : List (List ℕ)) (tolds : List Parsed) (file : List ℕ) (told : Parsed) →
+    AllZip ParsesTo files tolds → ParsesTo file told →
+    AllZip ParsesTo (files ++ file ∷ []) (tolds ++ told ∷ [])
 one-more [] [] file told tell one = (one, tt)
 one-more [] (t ∷ ts) file told tell one = absurd tell
 one-more (f ∷ fs) [] file told tell one = absurd tell
 one-more (f ∷ fs) (t ∷ ts) file told tell one = (tell.0, one-more fs ts file told tell.1 one)
 
 -- the first of submissions are answered as if no others followed
-front-accepted : (cap : ℕ) (h : Holdings) (tolds others : List Told) →
+front-accepted : (cap : ℕ) (h : Holdings) (tolds others : List Parsed) →
     All IsAccepted (replies cap h (tolds ++ others)) → All IsAccepted (replies cap h tolds)
 front-accepted cap h [] others all = All-nil IsAccepted
 front-accepted cap h (t ∷ ts) others all =
@@ -142,7 +142,7 @@ pieces-and-card-are-taken cap h k card pieces file files tolds sound none card-s
     pieces-are are tell =
     let rs = by_onset card in
     let spells = its-own file k rs is in
-    let told : IsSoundTold (Fragment k rs) = told_is_sound file (Fragment k rs) spells in
+    let told : IsWellFormed (Fragment k rs) = parsed_is_well_formed file (Fragment k rs) spells in
     let few-too : length rs ≤ cap =
     subst (λ n. n ≤ cap) (sym (length_all_zip AreAlike rs card (stay-alike k card card-sound).0))
     few in
@@ -151,7 +151,7 @@ pieces-and-card-are-taken cap h k card pieces file files tolds sound none card-s
     record { part = rs; among = All-contains_itself rs; spells = spells } in
     let files-too = files ++ file ∷ [] in
     let tolds-too = tolds ++ whole k rs in
-    let tell-too : AllZip Tells files-too tolds-too =
+    let tell-too : AllZip ParsesTo files-too tolds-too =
     one-more files tolds file (Fragment k rs) tell spells in
     let parts-too : All (IsPart k rs) files-too =
     All-append (IsPart k rs) files (file ∷ []) parts

@@ -4,7 +4,7 @@ use Rattle.std.specs.List.{AllZip}
 use Rattle.edf_field.specs.Number.{duration_of}
 use Rattle.edf_header.specs.Key.{Key}
 use Rattle.edf_fragment.specs.Fragment.{DataRecord, Spells}
-use Rattle.edf_fragment.specs.Told.{Told, Tells}
+use Rattle.edf_fragment.specs.Parsed.{Parsed, ParsesTo}
 use Rattle.edf_holdings.specs.Holdings.{Holdings, IsSound, put}
 use Rattle.edf_holdings.specs.Reply.{after, IsAccepted, replies}
 use Rattle.edf_runs.specs.Runs.{IsRuns}
@@ -25,9 +25,9 @@ pub record AreRunFiles (k : Key) (runs : List (List DataRecord)) (files : List (
 abbrev pub RunsRejoin : Type 0
 RunsRejoin = (cap : ℕ) (h : Holdings) (bytes : List ℕ) (k : Key) (records : List DataRecord)
     (runs : List (List DataRecord))
-    (files : List (List ℕ)) (tolds : List Told) → IsSound cap h → h k ≡ [] →
+    (files : List (List ℕ)) (submissions : List Parsed) → IsSound cap h → h k ≡ [] →
     Spells bytes k records → length records ≤ cap →
     IsRuns (duration_of k.duration) records runs → AreRunFiles k runs files →
-    AllZip Tells files tolds →
-    All IsAccepted (replies cap h tolds) × (after cap h tolds ≡ put k records h)
-    × (after cap h tolds k ≡ records)
+    AllZip ParsesTo files submissions →
+    All IsAccepted (replies cap h submissions) × (after cap h submissions ≡ put k records h)
+    × (after cap h submissions k ≡ records)

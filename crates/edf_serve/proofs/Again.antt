@@ -3,25 +3,25 @@ use Rattle.std.proofs.Common.{List, [], ◌∷◌, ◌++◌, subst, map}
 use Rattle.std.specs.List.{AllZip}
 use Rattle.sqlite_trees.specs.declared.store.Store.{Ghosts}
 use Rattle.edf_fragment.specs.Call.{InputState}
-use Rattle.edf_fragment.specs.Told.{Told}
-use Rattle.edf_holdings.specs.Laws.{AreSoundTold}
+use Rattle.edf_fragment.specs.Parsed.{Parsed}
+use Rattle.edf_holdings.specs.Laws.{AreWellFormed}
 use Rattle.edf_holdings.specs.Reply.{after}
 use Rattle.edf_holdings.proofs.Once.{from_the_front}
 use Rattle.edf_holdings.proofs.Settled.{sound_front}
-use Rattle.edf_holdings.proofs.ToldSound.{told_is_sound}
+use Rattle.edf_holdings.proofs.ParsedIsWellFormed.{parsed_is_well_formed}
 use Rattle.edf_store.specs.Held.{Holds}
-use Rattle.edf_intake.specs.Batch.{WillTell}
+use Rattle.edf_intake.specs.Batch.{WillParseTo}
 use Rattle.edf_intake.proofs.Batches.{answers_all}
 use Rattle.edf_serve.specs.Laws.{BrokenOffEndsAlike}
 use Rattle.edf_serve.specs.Work.{Submission}
 
-are-sound : (froms : List InputState) (tolds : List Told) → AllZip WillTell froms tolds →
-    AreSoundTold tolds
+are-sound : (froms : List InputState) (tolds : List Parsed) → AllZip WillParseTo froms tolds →
+    AreWellFormed tolds
 are-sound [] [] known = tt
 are-sound [] (x ∷ xs) known = absurd known
 are-sound (f ∷ fs) [] known = absurd known
 are-sound (f ∷ fs) (x ∷ xs) known =
-    (told_is_sound known.0.0 x known.0.2, are-sound fs xs known.1)
+    (parsed_is_well_formed known.0.0 x known.0.2, are-sound fs xs known.1)
 
 pub broken_off : {S : Type 0} (g : Ghosts S) → BrokenOffEndsAlike g
 broken_off g old new all front rest given h sound held submitted told replies =

@@ -4,11 +4,11 @@ use Rattle.std.proofs.Common.{Contains}
 use Rattle.std.proofs.lemmas.List.Elements.{All-contains_itself}
 use Rattle.sqlite_trees.specs.declared.store.Store.{Ghosts}
 use Rattle.sqlite.specs.State.{HasCleanDisk}
-use Rattle.edf_fragment.specs.Told.{Fragment}
+use Rattle.edf_fragment.specs.Parsed.{Fragment}
 use Rattle.edf_fragment.specs.Call.{InputState}
 use Rattle.edf_fragment.proofs.Sound.{spelled-key, spelled-sound, spelled-begins}
 use Rattle.edf_holdings.specs.Holdings.{Holdings, IsSound}
-use Rattle.edf_holdings.specs.Reply.{IsSoundTold, IsAccepted, Accepted, after_one, reply}
+use Rattle.edf_holdings.specs.Reply.{IsWellFormed, IsAccepted, Accepted, after_one, reply}
 use Rattle.edf_holdings.proofs.Accepted.{after_has_accepted}
 use Rattle.edf_holdings.proofs.Once.{held_is_known, accepted_again_law}
 use Rattle.edf_holdings.proofs.Sound.{stays_sound}
@@ -20,7 +20,7 @@ use Rattle.edf_serve.specs.Laws.{HoldsFile, TakenIsHeld}
 module _ {S : Type 0} (g : Ghosts S) (old new : StoreModel S) (from to : InputState)
     (receipt : Receipt)
     (accepts : Accepts g old new from to receipt) where
-  told-sound : IsSoundTold (Fragment receipt.identity accepts.records)
+  told-sound : IsWellFormed (Fragment receipt.identity accepts.records)
   told-sound = (
     spelled-key accepts.read.bytes receipt.identity accepts.records accepts.read.spells,
     spelled-sound accepts.read.bytes receipt.identity accepts.records accepts.read.spells,

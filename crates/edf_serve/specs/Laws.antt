@@ -5,13 +5,13 @@ use Rattle.std.specs.List.{AllZip}
 use Rattle.sqlite_trees.specs.declared.store.Store.{Ghosts}
 use Rattle.sqlite.specs.State.{HasCleanDisk}
 use Rattle.edf_fragment.specs.Fragment.{DataRecord}
-use Rattle.edf_fragment.specs.Told.{Told, Fragment}
+use Rattle.edf_fragment.specs.Parsed.{Parsed, Fragment}
 use Rattle.edf_holdings.specs.Holdings.{Holdings, IsSound}
 use Rattle.edf_holdings.specs.Reply.{Reply, after, after_one}
 use Rattle.edf_store.specs.Held.{StoreModel, at, Holds}
-use Rattle.edf_intake.specs.Batch.{WillTell}
+use Rattle.edf_intake.specs.Batch.{WillParseTo}
 use Rattle.edf_intake.specs.Input.{ReadsWhole}
-use Rattle.edf_intake.specs.Refusal.{reply_told}
+use Rattle.edf_intake.specs.Refusal.{reply_of}
 use Rattle.edf_intake.specs.declared.answer.Receipt.{Receipt}
 use Rattle.edf_serve.specs.Client.{HasAccepted}
 use Rattle.edf_serve.specs.Line.{LineAsked, AskFor}
@@ -46,9 +46,9 @@ module _ {S : Type 0} (g : Ghosts S) where
   -- holds what the files told that were submitted before, let one submit files that tell these and
   -- more, and each answer be a reply. It leaves what one session leaves that is not broken off.
   abbrev pub BrokenOffEndsAlike : Type 0
-  BrokenOffEndsAlike = (old new : StoreModel S) (all : List Submission) (front rest : List Told)
+  BrokenOffEndsAlike = (old new : StoreModel S) (all : List Submission) (front rest : List Parsed)
       (given : List Reply) (h : Holdings) → IsSound old.cap h →
       Holds g old (after old.cap h front) → AreSubmittedInTurn g old new all →
-      AllZip WillTell (map (λ (s : Submission). s.from) all) (front ++ rest) →
-      map reply_told (map (λ (s : Submission). s.answer) all)
+      AllZip WillParseTo (map (λ (s : Submission). s.from) all) (front ++ rest) →
+      map reply_of (map (λ (s : Submission). s.answer) all)
       ≡ map (λ (r : Reply). Some r) given → Holds g new (after old.cap h (front ++ rest))

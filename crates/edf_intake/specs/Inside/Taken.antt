@@ -5,7 +5,7 @@ use Rattle.sqlite.specs.State.{HasCleanDisk}
 use Rattle.edf_header.specs.Key.{Key}
 use Rattle.edf_header.specs.Header.{Layout}
 use Rattle.edf_fragment.specs.Fragment.{DataRecord}
-use Rattle.edf_fragment.specs.Told.{Fragment}
+use Rattle.edf_fragment.specs.Parsed.{Fragment}
 use Rattle.edf_fragment.specs.Reading.{ReadsHeader, at_first}
 use Rattle.edf_fragment.specs.Whole.{ReadsFragment}
 use Rattle.edf_fragment.specs.declared.advance.Progress.{Progress}

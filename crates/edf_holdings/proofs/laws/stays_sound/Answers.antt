@@ -1,10 +1,10 @@
 use Rattle.edf_holdings.proofs.Added.{add_stays_sound, nothing_is_sound}
 use Rattle.edf_holdings.proofs.Sound.{stays_sound}
-use Rattle.edf_holdings.proofs.ToldSound.{told_is_sound}
+use Rattle.edf_holdings.proofs.ParsedIsWellFormed.{parsed_is_well_formed}
 use Rattle.edf_holdings.proofs.laws.stays_sound.Goals as goal
 
-pub returns-clause-told : goal.returns-clause-told
-returns-clause-told c = told_is_sound
+pub returns-clause-well_formed : goal.returns-clause-well_formed
+returns-clause-well_formed c = parsed_is_well_formed
 
 pub returns-clause-none : goal.returns-clause-none
 returns-clause-none c = nothing_is_sound

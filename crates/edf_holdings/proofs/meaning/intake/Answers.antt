@@ -1,10 +1,10 @@
 use Rattle.edf_holdings.proofs.Accepted.{after_has_accepted, refused_changes_nothing}
 use Rattle.edf_holdings.proofs.Clashes.{clash_is_there, counts_are_named, new_is_counted}
-use Rattle.edf_holdings.proofs.InSets.{fits_is_told, accepted_where_fits, clash_is_named, own_list}
+use Rattle.edf_holdings.proofs.InSets.{test_is_fits, accepted_where_fits, clash_is_named, own_list}
 use Rattle.edf_holdings.proofs.meaning.intake.Goals as goal
 
 pub returns-clause-fits : goal.returns-clause-fits
-returns-clause-fits c = fits_is_told
+returns-clause-fits c = test_is_fits
 
 pub returns-clause-accepted : goal.returns-clause-accepted
 returns-clause-accepted c = accepted_where_fits

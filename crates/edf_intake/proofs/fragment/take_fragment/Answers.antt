@@ -6,7 +6,7 @@ use Rattle.edf_header.specs.Key.{Key}
 use Rattle.edf_header.specs.Header.{Layout, most_records}
 use Rattle.edf_fragment.proofs.Fragments.{open_refused}
 use Rattle.edf_fragment.specs.Fragment.{DataRecord}
-use Rattle.edf_fragment.specs.Told.{Fragment}
+use Rattle.edf_fragment.specs.Parsed.{Fragment}
 use Rattle.edf_holdings.specs.Holdings.{Holdings}
 use Rattle.edf_holdings.specs.Reply.{reply}
 use Rattle.edf_store.specs.Call.{IsUnclean}
@@ -14,7 +14,7 @@ use Rattle.edf_store.specs.declared.transaction.StoreTx.{StoreTx}
 use Rattle.edf_store.proofs.Faults.{with_cause}
 use Rattle.edf_store.proofs.Readiness.{stays_then}
 use Rattle.edf_fragment.specs.Call.{input_state}
-use Rattle.edf_intake.specs.Refusal.{reply_told}
+use Rattle.edf_intake.specs.Refusal.{reply_of}
 use Rattle.edf_intake.specs.Inside.Verdict.{IsRoom, AreFindings}
 use Rattle.edf_intake.specs.Inside.Transaction.{IsRunningFor, KeepsRunning}
 use Rattle.edf_intake.specs.Inside.Halt.{fragment_refusal, HaltsThere}
@@ -47,14 +47,14 @@ answered : (m n room : ℕ) (k : Key) (records : List DataRecord) (findings : Fi
     (refusal : Refusal) → m ≡ n
     → ((h : Holdings) → IsRoom m (length (h k)) (length records) room →
     AreFindings k h records findings →
-    reply_told (Err refusal) ≡ Some (reply m h (Fragment k records)))
+    reply_of (Err refusal) ≡ Some (reply m h (Fragment k records)))
     → (h : Holdings) → IsRoom n (length (h k)) (length records) room →
     AreFindings k h records findings →
-    reply_told (Err refusal) ≡ Some (reply n h (Fragment k records))
+    reply_of (Err refusal) ≡ Some (reply n h (Fragment k records))
 answered m n room k records findings refusal capped answer =
     subst (λ (x : ℕ). (h : Holdings) → IsRoom x (length (h k)) (length records) room →
     AreFindings k h records findings →
-    reply_told (Err refusal) ≡ Some (reply x h (Fragment k records))) capped answer
+    reply_of (Err refusal) ≡ Some (reply x h (Fragment k records))) capped answer
 
 pub returns-in_err-fragment-clause-leaves : goal.returns-in_err-fragment-clause-leaves
 returns-in_err-fragment-clause-leaves g c =

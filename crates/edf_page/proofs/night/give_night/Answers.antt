@@ -12,7 +12,7 @@ use Rattle.edf_page.proofs.night.give_night.Goals as goal
 pub returns : goal.returns
 returns c =
     let held = c.in_ok-held.ensures in
-    let h = held_after held.tolds in
+    let h = held_after held.submissions in
     let keys = held.listed.keys in
     let same = keys_are_one h held.exported.keys keys held.exported.are_keys held.listed.are_keys in
     let each = zip_through (λ (k : Key) file. IsOnlyFile file k (h k))
@@ -21,8 +21,8 @@ returns c =
     record {
       each = length-map c.args.files.now (λ file. file.name.now)
           ∙ sym (length-map c.args.files.now (λ file. file.bytes.now));
-      tolds = held.tolds;
-      told = held.told;
+      submissions = held.submissions;
+      parsed = held.parsed;
       taken = held.taken;
       given = record {
         keys = keys;

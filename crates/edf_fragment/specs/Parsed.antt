@@ -6,11 +6,11 @@ use Rattle.edf_fragment.specs.Fault.{IsFirstFault}
 use Rattle.edf_fragment.specs.declared.fault.FragmentFault.{FragmentFault}
 
 -- a key with its data records, or the first fault
-pub data Told : Type 0 where
-  Fragment : Key → List DataRecord → Told
-  Fault : FragmentFault → Told
+pub data Parsed : Type 0 where
+  Fragment : Key → List DataRecord → Parsed
+  Fault : FragmentFault → Parsed
 
 -- the bytes amount to this; by laws each list of bytes amounts to one thing, and no two
-abbrev pub Tells : List ℕ → Told → Type 0
-Tells bytes (Fragment key records) = Spells bytes key records
-Tells bytes (Fault fault) = IsFirstFault bytes fault
+abbrev pub ParsesTo : List ℕ → Parsed → Type 0
+ParsesTo bytes (Fragment key records) = Spells bytes key records
+ParsesTo bytes (Fault fault) = IsFirstFault bytes fault

@@ -18,7 +18,7 @@ use Rattle.edf_fragment.specs.Fault.{ReadsUpTo, IsFirstFault}
 use Rattle.edf_fragment.specs.declared.fault.FragmentFault.{FragmentFault}
 use Rattle.edf_fragment.specs.declared.fault.FragmentFault.TheVariants.{Header as BadHeader}
 use Rattle.edf_fragment.specs.declared.fault.FragmentFault.TheVariants.{CutRecord, Tal, Trailing}
-use Rattle.edf_fragment.specs.Told.{Told, Fragment, Fault, Tells}
+use Rattle.edf_fragment.specs.Parsed.{Parsed, Fragment, Fault, ParsesTo}
 use Rattle.edf_fragment.proofs.Layouts.{least-most, blocks-front}
 use Rattle.edf_fragment.proofs.OneFragment.{one-fragment, spelled-no-fault, one-first-fault}
 
@@ -192,18 +192,18 @@ some-answer b = elim (header-or-fault b) [
 ]
 
 -- what bytes amount to, and that they amount to nothing else
-pub some-telling : (b : List ℕ) → (t : Told) × Tells b t
-some-telling b = elim (some-answer b) [
+pub some-parse : (b : List ℕ) → (t : Parsed) × ParsesTo b t
+some-parse b = elim (some-answer b) [
   | inl s ↦ (Fragment s.0 s.1, s.2)
   | inr f ↦ (Fault f.0, f.1)
 ]
 
-pub one-telling : (b : List ℕ) (t u : Told) → Tells b t → Tells b u → t ≡ u
-one-telling b (Fragment k rs) (Fragment j ss) x y =
+pub one-parse : (b : List ℕ) (t u : Parsed) → ParsesTo b t → ParsesTo b u → t ≡ u
+one-parse b (Fragment k rs) (Fragment j ss) x y =
     let same = one-fragment b k j rs ss x y in
     ap (λ (z : Key). Fragment z rs) same.key
     ∙ ap (λ (z : List DataRecord). Fragment j z) same.records
-one-telling b (Fragment k rs) (Fault f) x y = absurd (spelled-no-fault b k rs f x y)
-one-telling b (Fault e) (Fragment j ss) x y = absurd (spelled-no-fault b j ss e y x)
-one-telling b (Fault e) (Fault f) x y =
+one-parse b (Fragment k rs) (Fault f) x y = absurd (spelled-no-fault b k rs f x y)
+one-parse b (Fault e) (Fragment j ss) x y = absurd (spelled-no-fault b j ss e y x)
+one-parse b (Fault e) (Fault f) x y =
     ap (λ (z : FragmentFault). Fault z) (one-first-fault b e f x y)
