@@ -10,7 +10,7 @@ use Rattle.edf_holdings.specs.Holdings.{Holdings, IsSound, nothing_held}
 use Rattle.edf_holdings.specs.Reply.{after_one}
 use Rattle.edf_holdings.proofs.Same.{same_key-refl}
 use Rattle.edf_holdings.proofs.InSets.{own_list}
-use Rattle.edf_holdings.proofs.Free.{recut_law}
+use Rattle.edf_holdings.proofs.ConflictFree.{recut_law}
 use Rattle.edf_canonical.specs.File.{IsCanonicalFile}
 use Rattle.edf_export.specs.Again.{IsAcceptedAgain, ExportAlike}
 use Rattle.edf_canonical.proofs.Files.{its-own, one-file}

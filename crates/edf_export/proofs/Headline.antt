@@ -9,10 +9,10 @@ use Rattle.edf_fragment.specs.Parsed.{Parsed, Fragment, ParsesTo}
 use Rattle.edf_fragment.proofs.Parsed.{some-parse, one-parse}
 use Rattle.edf_holdings.specs.Holdings.{Holdings, IsSound}
 use Rattle.edf_holdings.specs.Reply.{IsWellFormed, after_one, after, reply, IsAccepted}
-use Rattle.edf_holdings.specs.Free.{IsFragment, IsFree, SameRecords}
+use Rattle.edf_holdings.specs.ConflictFree.{IsFragment, IsConflictFree, SameRecords}
 use Rattle.edf_holdings.specs.Laws.{AreWellFormed}
 use Rattle.edf_holdings.proofs.Accepted.{after_has_accepted, refused_changes_nothing}
-use Rattle.edf_holdings.proofs.Free.{any_order_law, recut_law}
+use Rattle.edf_holdings.proofs.ConflictFree.{any_order_law, recut_law}
 use Rattle.edf_holdings.proofs.InSets.{held-sound}
 use Rattle.edf_holdings.proofs.Recut.{free_of_same}
 use Rattle.edf_holdings.proofs.Settled.{sound_front, sound_back}
@@ -55,7 +55,7 @@ refused-leaves cap h before member later sound told refused =
 
 -- since the list is free, so is the other; since they hold the same records, they leave the same
 end-alike : (cap : ℕ) (h : Holdings) (tolds others : List Parsed)
-    → IsSound cap h → AreWellFormed tolds → AreWellFormed others → IsFree cap h tolds
+    → IsSound cap h → AreWellFormed tolds → AreWellFormed others → IsConflictFree cap h tolds
     → AllByRecursion IsFragment others → SameRecords tolds others → EndAlike cap h tolds others
 end-alike cap h tolds others sound told other_told free fragments same =
     let other_free = free_of_same cap h tolds others sound told other_told free fragments same in

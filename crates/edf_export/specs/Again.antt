@@ -4,7 +4,7 @@ use Rattle.edf_header.specs.Key.{Key}
 use Rattle.edf_fragment.specs.Parsed.{Parsed, Fragment, ParsesTo}
 use Rattle.edf_holdings.specs.Holdings.{Holdings, IsSound, nothing_held}
 use Rattle.edf_holdings.specs.Reply.{after_one, after, Accepted, reply}
-use Rattle.edf_holdings.specs.Free.{IsFree, SameRecords}
+use Rattle.edf_holdings.specs.ConflictFree.{IsConflictFree, SameRecords}
 use Rattle.edf_holdings.specs.Laws.{AreWellFormed}
 use Rattle.edf_canonical.specs.File.{IsCanonicalFile}
 
@@ -22,6 +22,7 @@ pub record IsAcceptedAgain (cap : ℕ) (h : Holdings) (k : Key) (file : List ℕ
 abbrev pub ExportAlike : Type 0
 ExportAlike = (cap : ℕ) (h : Holdings) (submissions others : List Parsed) → IsSound cap h →
     AreWellFormed submissions → AreWellFormed others →
-    IsFree cap h submissions → IsFree cap h others → SameRecords submissions others →
+    IsConflictFree cap h submissions → IsConflictFree cap h others →
+    SameRecords submissions others →
     (k : Key) (file other : List ℕ) → IsCanonicalFile file k (after cap h submissions k) →
     IsCanonicalFile other k (after cap h others k) → file ≡ other

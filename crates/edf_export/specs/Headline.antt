@@ -8,7 +8,7 @@ use Rattle.edf_fragment.specs.Parsed.{Parsed, ParsesTo}
 use Rattle.edf_holdings.specs.Rising.{IsRising}
 use Rattle.edf_holdings.specs.Holdings.{Holdings}
 use Rattle.edf_holdings.specs.Reply.{after_one, after, reply, replies, IsAccepted}
-use Rattle.edf_holdings.specs.Free.{IsFragment, IsFree, SameRecords}
+use Rattle.edf_holdings.specs.ConflictFree.{IsFragment, IsConflictFree, SameRecords}
 use Rattle.edf_holdings.specs.Laws.{AreWellFormed}
 use Rattle.edf_holdings.specs.Meaning.{FromAccepted}
 use Rattle.edf_canonical.specs.File.{IsCanonicalFile}
@@ -50,7 +50,7 @@ module _ (cap : ℕ) (h : Holdings) where
         after_one cap (after cap h before) member ≡ after cap h before
     -- where the list is free of conflicts, it and each list of fragments with the same records,
     -- however cut, ordered or repeated, are accepted whole, and leave the same files
-    pub alike : (others : List Parsed) → AreWellFormed others → IsFree cap h submissions →
+    pub alike : (others : List Parsed) → AreWellFormed others → IsConflictFree cap h submissions →
         AllByRecursion IsFragment others → SameRecords submissions others →
         EndAlike submissions others
 

@@ -6,7 +6,7 @@ use Rattle.edf_fragment.specs.Fragment.{DataRecord}
 use Rattle.edf_fragment.specs.Parsed.{Parsed, Fragment, Fault}
 use Rattle.edf_holdings.specs.Holdings.{Holdings, put}
 use Rattle.edf_holdings.specs.Reply.{IsWellFormed, fits, after_one, after, reply, IsAccepted}
-use Rattle.edf_holdings.specs.Free.{Has}
+use Rattle.edf_holdings.specs.ConflictFree.{Has}
 use Rattle.edf_holdings.specs.Laws.{AreWellFormed}
 use Rattle.edf_holdings.specs.Meaning.{FromAccepted, AfterHasAccepted, RefusedChangesNothing}
 use Rattle.edf_holdings.proofs.Members.{In, in_joined}
@@ -16,7 +16,7 @@ use Rattle.edf_holdings.proofs.Joining.{fits_from_MayJoin}
 use Rattle.edf_holdings.proofs.Settled.{IsGood-one, IsGood-after, after-append, after_grows}
 use Rattle.edf_holdings.proofs.Settled.{sound_front, sound_back}
 use Rattle.edf_holdings.proofs.Replies.{accepted_from_MayJoin, MayJoin-from_accepted}
-use Rattle.edf_holdings.proofs.Free.{put_has}
+use Rattle.edf_holdings.proofs.ConflictFree.{put_has}
 
 -- one submission
 record Met (cap : ℕ) (h : Holdings) (t : Parsed) : Type 0 where

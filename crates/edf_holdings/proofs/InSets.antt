@@ -17,7 +17,7 @@ use Rattle.edf_holdings.specs.Holdings.{Holdings, IsSound, put, nothing_held}
 use Rattle.edf_holdings.specs.Reply.{IsWellFormed, fits, after_one, Accepted, Differs, Overlap}
 use Rattle.edf_holdings.specs.Reply.{Conflict, Conflicts, conflict_of_clash}
 use Rattle.edf_holdings.specs.Reply.{clash_or, first_clash, reply_to_clash, reply, IsAccepted}
-use Rattle.edf_holdings.specs.Free.{with_all}
+use Rattle.edf_holdings.specs.ConflictFree.{with_all}
 use Rattle.edf_holdings.specs.Meaning.{SameKeyIsEqual, SameRecordIsEqual, TestIsClash}
 use Rattle.edf_holdings.specs.Meaning.{HoldsIsContains, ListIsSet, HoldingsAreSets, JoinedHasBoth}
 use Rattle.edf_holdings.specs.Meaning.{AllHasBoth, Fits, TestIsFits, AcceptedWhereFits}
@@ -33,7 +33,8 @@ use Rattle.edf_holdings.proofs.Joining.{fits_from_MayJoin, lasting}
 use Rattle.edf_holdings.proofs.Replies.{accepted_from_MayJoin, MayJoin-from_accepted, held_reply}
 use Rattle.edf_holdings.proofs.Replies.{no_first, answered}
 use Rattle.edf_holdings.proofs.Sound.{Each-from_All}
-use Rattle.edf_holdings.proofs.Free.{in_all, all_has, all_grows, IsAmong-from_Any, Any-from_IsAmong}
+use Rattle.edf_holdings.proofs.ConflictFree.{in_all, all_has, all_grows, IsAmong-from_Any}
+use Rattle.edf_holdings.proofs.ConflictFree.{Any-from_IsAmong}
 use Rattle.edf_holdings.proofs.Near.{near_two, first_clash-append}
 
 pub same_key_is_equal : SameKeyIsEqual

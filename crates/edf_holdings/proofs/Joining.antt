@@ -16,7 +16,7 @@ use Rattle.edf_holdings.specs.Clash.{clashes}
 use Rattle.edf_holdings.specs.Rising.{united, IsApart, IsRising}
 use Rattle.edf_fragment.specs.Sound.{AreSound}
 use Rattle.edf_holdings.specs.Holdings.{Holdings, IsSound, put}
-use Rattle.edf_holdings.specs.Reply.{is_free_of, fits}
+use Rattle.edf_holdings.specs.Reply.{has_no_clash, fits}
 use Rattle.edf_holdings.proofs.Same.{same_key-true, same_key-refl, clashes-true, clashes_near}
 use Rattle.edf_holdings.proofs.Same.{clashes-false, Clash-from_test}
 use Rattle.edf_holdings.proofs.Members.{In, Within, AreFree, in_joined, joined_keeps, joined_has}
@@ -113,7 +113,7 @@ none_clash_from d r [] w = refl
 none_clash_from d r (y ∷ ys) w =
     and_from _ _ (not_from_false _ (w y (inl refl))) (none_clash_from d r ys (λ x m. w x (inr m)))
 
-pub AreFree-from_test : (d : ℕ) (xs rs : List DataRecord) → is_free_of d xs rs ≡ true →
+pub AreFree-from_test : (d : ℕ) (xs rs : List DataRecord) → has_no_clash d xs rs ≡ true →
     AreFree d xs rs
 AreFree-from_test d xs [] e r x h k = absurd h
 AreFree-from_test d xs (s ∷ rs) e r x (inl p) k =
@@ -122,7 +122,7 @@ AreFree-from_test d xs (s ∷ rs) e r x (inr h) k =
     AreFree-from_test d xs rs (and_parts _ _ e).1 r x h k
 
 pub test_from_AreFree : (d : ℕ) (xs rs : List DataRecord) → AreFree d xs rs →
-    is_free_of d xs rs ≡ true
+    has_no_clash d xs rs ≡ true
 test_from_AreFree d xs [] f = refl
 test_from_AreFree d xs (s ∷ rs) f =
     and_from _ _ (none_clash_from d s xs (λ x k. f s x (inl refl) k))

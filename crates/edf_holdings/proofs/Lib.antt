@@ -6,7 +6,7 @@ pub mod Settled
 pub mod Replies
 pub mod Sound
 pub mod Once
-pub mod Free
+pub mod ConflictFree
 pub mod InSets
 pub mod Accepted
 pub mod KeyLists

@@ -12,16 +12,19 @@ use Rattle.edf_holdings.specs.Clash.{NoClash}
 use Rattle.edf_holdings.specs.Rising.{united, IsApart, IsRising}
 use Rattle.edf_holdings.specs.Holdings.{Holdings, IsSound, put, nothing_held}
 use Rattle.edf_holdings.specs.Reply.{IsWellFormed}
-use Rattle.edf_holdings.specs.Free.{IsFragment, with_one, with_all, IsFree, Has, SameRecords}
-use Rattle.edf_holdings.specs.Laws.{AreWellFormed, Reordered, FreeOfSame, AloneIsFree}
+use Rattle.edf_holdings.specs.ConflictFree.{IsFragment, with_one, with_all, IsConflictFree, Has}
+use Rattle.edf_holdings.specs.ConflictFree.{SameRecords}
+use Rattle.edf_holdings.specs.Laws.{AreWellFormed, Reordered, SameRecordsStayConflictFree}
+use Rattle.edf_holdings.specs.Laws.{OneIsConflictFree}
 use Rattle.edf_holdings.proofs.Same.{Clash-from_test, test_from_Clash}
 use Rattle.edf_holdings.proofs.Members.{In, Within, AreFree, joined_keeps, joined_has, apart_joined}
 use Rattle.edf_holdings.proofs.Members.{same_lists}
 use Rattle.edf_holdings.proofs.Joining.{IsGood-from_sound, In-from_Contains, Contains-from_In}
 use Rattle.edf_holdings.proofs.Joining.{put_cases, put_here, rising_from_apart, free_from_apart}
 use Rattle.edf_holdings.proofs.Joining.{lasting, apart-sound}
-use Rattle.edf_holdings.proofs.Free.{all_grows, IsAmong-from_Any, Any-from_IsAmong, any_order_law}
-use Rattle.edf_holdings.proofs.Free.{all_within}
+use Rattle.edf_holdings.proofs.ConflictFree.{all_grows, IsAmong-from_Any, Any-from_IsAmong}
+use Rattle.edf_holdings.proofs.ConflictFree.{any_order_law}
+use Rattle.edf_holdings.proofs.ConflictFree.{all_within}
 use Rattle.edf_holdings.proofs.InSets.{from_nothing}
 
 -- each key's records rise and lie apart
@@ -65,7 +68,7 @@ order-all h (t ∷ ts) w n o = order-all (with_one h t) ts w.1 n (order-one h t 
 
 -- lists with the same records, of which one is free, give the same
 module _ (cap : ℕ) (h : Holdings) (ts us : List Parsed) (s : IsSound cap h) (w : AreWellFormed ts)
-    (v : AreWellFormed us) (i : IsFree cap h ts) (same : SameRecords ts us) where
+    (v : AreWellFormed us) (i : IsConflictFree cap h ts) (same : SameRecords ts us) where
   there : (k : Key) → Within (with_all h us k) (with_all h ts k)
   there k = all_within h us ts k (λ y m.
       IsAmong-from_Any k y ts ((same k y).1 (Any-from_IsAmong k y us m)))
@@ -88,7 +91,7 @@ module _ (cap : ℕ) (h : Holdings) (ts us : List Parsed) (s : IsSound cap h) (w
       (order-all h us v no_clash at_first k).0 (order-all h ts w i.no_clash at_first k).0 (there k)
       (back k))
 
-  pub free_again : AllByRecursion IsFragment us → IsFree cap h us
+  pub free_again : AllByRecursion IsFragment us → IsConflictFree cap h us
   free_again f = record {
     fragments = f;
     no_clash = no_clash;
@@ -96,7 +99,7 @@ module _ (cap : ℕ) (h : Holdings) (ts us : List Parsed) (s : IsSound cap h) (w
         λ k. subst (λ (z : Holdings). length (z k) ≤ cap) (sym same_all) (i.few k);
   }
 
-pub free_of_same : FreeOfSame
+pub free_of_same : SameRecordsStayConflictFree
 free_of_same cap h ts us s w v i f same = free_again cap h ts us s w v i same f
 
 -- by membership
@@ -145,7 +148,7 @@ reordered cap h ts us s w i same =
           ∙ (same_all cap h ts us s w v i r ∙ sym (any_order_law cap h ts s w i).1),
     )
 
-pub alone_is_free : AloneIsFree
+pub alone_is_free : OneIsConflictFree
 alone_is_free cap key records w few = record {
   fragments = (tt, tt);
   no_clash = put_cases key records nothing_held (λ k l. NoClash (duration_of k.duration) l)

@@ -13,7 +13,7 @@ use Rattle.edf_fragment.specs.Sound.{IsSoundRecord}
 use Rattle.edf_holdings.specs.Holdings.{Holdings, IsSound, nothing_held, put}
 use Rattle.edf_holdings.specs.Reply.{IsWellFormed, after_one, after, Form, Accepted, IsAccepted}
 use Rattle.edf_holdings.specs.Reply.{reply, replies}
-use Rattle.edf_holdings.specs.Free.{IsFragment, with_all, IsFree, SameRecords}
+use Rattle.edf_holdings.specs.ConflictFree.{IsFragment, with_all, IsConflictFree, SameRecords}
 
 abbrev pub AreWellFormed : List Parsed → Type 0
 AreWellFormed submissions = AllByRecursion IsWellFormed submissions
@@ -95,34 +95,37 @@ FromTheFront = (cap : ℕ) (h : Holdings) (front rest : List Parsed) → IsSound
 abbrev pub AnyOrder : Type 0
 AnyOrder = (cap : ℕ) (h : Holdings) (submissions : List Parsed) → IsSound cap h →
     AreWellFormed submissions →
-    IsFree cap h submissions →
+    IsConflictFree cap h submissions →
     All IsAccepted (replies cap h submissions) × (after cap h submissions ≡ with_all h submissions)
 
 -- the same submissions in another order, or more often or less, are free too and end alike
 abbrev pub Reordered : Type 0
 Reordered = (cap : ℕ) (h : Holdings) (submissions others : List Parsed) → IsSound cap h →
-    AreWellFormed submissions → IsFree cap h submissions →
+    AreWellFormed submissions → IsConflictFree cap h submissions →
     ((submission : Parsed) → Contains submissions submission ↔ Contains others submission) →
-    IsFree cap h others
+    IsConflictFree cap h others
     × (after cap h others ≡ after cap h submissions)
 
 -- whether fragments are free is said by their records alone, so a free list may be cut anew
-abbrev pub FreeOfSame : Type 0
-FreeOfSame = (cap : ℕ) (h : Holdings) (submissions others : List Parsed) → IsSound cap h →
+abbrev pub SameRecordsStayConflictFree : Type 0
+SameRecordsStayConflictFree = (cap : ℕ) (h : Holdings) (submissions others : List Parsed) →
+    IsSound cap h →
     AreWellFormed submissions → AreWellFormed others →
-    IsFree cap h submissions → AllByRecursion IsFragment others → SameRecords submissions others →
-    IsFree cap h others
+    IsConflictFree cap h submissions → AllByRecursion IsFragment others →
+    SameRecords submissions others →
+    IsConflictFree cap h others
 
 -- a fragment alone is free where nothing is held and there is room for it
-abbrev pub AloneIsFree : Type 0
-AloneIsFree = (cap : ℕ) (key : Key) (records : List DataRecord) →
+abbrev pub OneIsConflictFree : Type 0
+OneIsConflictFree = (cap : ℕ) (key : Key) (records : List DataRecord) →
     IsWellFormed (Fragment key records) → length records ≤ cap →
-    IsFree cap nothing_held (Fragment key records ∷ [])
+    IsConflictFree cap nothing_held (Fragment key records ∷ [])
 
 -- two free lists with the same records end alike
 abbrev pub Recut : Type 0
 Recut = (cap : ℕ) (h : Holdings) (submissions others : List Parsed) → IsSound cap h →
     AreWellFormed submissions →
     AreWellFormed others →
-    IsFree cap h submissions → IsFree cap h others → SameRecords submissions others →
+    IsConflictFree cap h submissions → IsConflictFree cap h others →
+    SameRecords submissions others →
     after cap h submissions ≡ after cap h others

@@ -3,7 +3,7 @@ pub mod Clash
 pub mod Rising
 pub mod Holdings
 pub mod Reply
-pub mod Free
+pub mod ConflictFree
 pub mod Laws
 pub mod Meaning
 pub mod Keys

@@ -11,7 +11,7 @@ use Rattle.edf_holdings.specs.Rising.{IsRising, contains_record, united, new_of}
 use Rattle.edf_holdings.specs.Holdings.{Holdings, IsSound, nothing_held}
 use Rattle.edf_holdings.specs.Reply.{IsWellFormed, fits, after_one, after, Overlap, Differs, Full}
 use Rattle.edf_holdings.specs.Reply.{Conflicts, Accepted, reply, IsAccepted}
-use Rattle.edf_holdings.specs.Free.{with_all, Has}
+use Rattle.edf_holdings.specs.ConflictFree.{with_all, Has}
 use Rattle.edf_holdings.specs.Laws.{AreWellFormed}
 
 -- the tests are what they are named for

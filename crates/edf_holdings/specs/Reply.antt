@@ -19,14 +19,14 @@ IsWellFormed (Fragment key records) = IsKey key × AreSound key 0 records × May
 IsWellFormed (Fault fault) = Unit {0}
 
 -- no record of the second list clashes with one of the first: a test of all pairs
-abbrev pub is_free_of : ℕ → List DataRecord → List DataRecord → Bool
-is_free_of d xs records = list_all (λ r. list_all (λ s. not (clashes d r s)) xs) records
+abbrev pub has_no_clash : ℕ → List DataRecord → List DataRecord → Bool
+has_no_clash d xs records = list_all (λ r. list_all (λ s. not (clashes d r s)) xs) records
 
 -- the key may take the records: none clashes with one that it holds, and they are all held or it
 -- then has at most `cap`
 abbrev pub fits : ℕ → Key → List DataRecord → Holdings → Bool
 fits cap key records h =
-    is_free_of (duration_of key.duration) (h key) records
+    has_no_clash (duration_of key.duration) (h key) records
     && (nat_eq (new_of (h key) records) 0 || nat_le (length (united (h key) records)) cap)
 
 -- what one submission leaves: the records of a fragment that fits join those of its key, and

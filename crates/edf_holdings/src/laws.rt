@@ -3,8 +3,9 @@
 ghost use Rattle.edf_holdings.specs.Laws.{ParsedIsWellFormed, NothingIsSound, StaysSound};
 ghost use Rattle.edf_holdings.specs.Laws.{AddStaysSound};
 ghost use Rattle.edf_holdings.specs.Laws.{HeldIsKnown, AcceptedAgain, RefusedAgain, RepeatTakenOut};
-ghost use Rattle.edf_holdings.specs.Laws.{FromTheFront, AnyOrder, Reordered, AloneIsFree, Recut};
-ghost use Rattle.edf_holdings.specs.Laws.{FreeOfSame};
+ghost use Rattle.edf_holdings.specs.Laws.{FromTheFront, AnyOrder, Reordered, OneIsConflictFree};
+ghost use Rattle.edf_holdings.specs.Laws.{Recut};
+ghost use Rattle.edf_holdings.specs.Laws.{SameRecordsStayConflictFree};
 
 /// What bytes amount to is sound, and so are holdings of nothing. Sound holdings stay so after any
 /// list of submissions, and with one data record more that no other is near.
@@ -29,12 +30,12 @@ pub fn once()
 pub fn any_order()
     ensures accepted { AnyOrder }
     ensures reordered { Reordered }
-    ensures alone { AloneIsFree }
+    ensures alone { OneIsConflictFree }
 {}
 
 /// Lists that are free of conflicts and hold the same records end alike; and if one is free, so is
 /// the other.
 pub fn recut()
     ensures same { Recut }
-    ensures free { FreeOfSame }
+    ensures free { SameRecordsStayConflictFree }
 {}

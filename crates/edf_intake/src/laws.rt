@@ -1,8 +1,9 @@
 //! Laws of lists of submissions: each function has laws for a contract, and does nothing.
 
 ghost use Rattle.edf_holdings.specs.Laws.{HeldIsKnown, AcceptedAgain, RefusedAgain, RepeatTakenOut};
-ghost use Rattle.edf_holdings.specs.Laws.{FromTheFront, AnyOrder, Reordered, AloneIsFree, Recut};
-ghost use Rattle.edf_holdings.specs.Laws.{FreeOfSame};
+ghost use Rattle.edf_holdings.specs.Laws.{FromTheFront, AnyOrder, Reordered, OneIsConflictFree};
+ghost use Rattle.edf_holdings.specs.Laws.{Recut};
+ghost use Rattle.edf_holdings.specs.Laws.{SameRecordsStayConflictFree};
 ghost use Rattle.edf_holdings.specs.Meaning.{OwnList};
 ghost use Rattle.edf_intake.specs.Batch.{InTurnIsAsList};
 
@@ -27,7 +28,7 @@ pub fn once()
 pub fn any_order()
     ensures accepted { AnyOrder }
     ensures reordered { Reordered }
-    ensures alone { AloneIsFree }
+    ensures alone { OneIsConflictFree }
 {
     edf_holdings::laws::any_order();
 }
@@ -37,7 +38,7 @@ pub fn any_order()
 /// new where it is held, and where nothing is held it leaves just that recording.
 pub fn recut()
     ensures same { Recut }
-    ensures free { FreeOfSame }
+    ensures free { SameRecordsStayConflictFree }
     ensures own { OwnList }
 {
     edf_holdings::laws::recut();

@@ -13,11 +13,12 @@ use Rattle.edf_holdings.specs.Clash.{NoClash}
 use Rattle.edf_holdings.specs.Rising.{united}
 use Rattle.edf_holdings.specs.Holdings.{Holdings, IsSound, put, nothing_held}
 use Rattle.edf_holdings.specs.Reply.{IsWellFormed, IsAccepted, after, replies}
-use Rattle.edf_holdings.specs.Free.{IsFragment, IsFree, Has, SameRecords}
+use Rattle.edf_holdings.specs.ConflictFree.{IsFragment, IsConflictFree, Has, SameRecords}
 use Rattle.edf_holdings.specs.Laws.{AreWellFormed}
 use Rattle.edf_holdings.proofs.Joining.{put_cases, put_here, lasting, apart-sound}
-use Rattle.edf_holdings.proofs.Free.{IsAmong, IsAmong-from_Any, Any-from_IsAmong, any_order_law}
-use Rattle.edf_holdings.proofs.Free.{recut_law}
+use Rattle.edf_holdings.proofs.ConflictFree.{IsAmong, IsAmong-from_Any, Any-from_IsAmong}
+use Rattle.edf_holdings.proofs.ConflictFree.{any_order_law}
+use Rattle.edf_holdings.proofs.ConflictFree.{recut_law}
 use Rattle.edf_holdings.proofs.InSets.{from_nothing}
 use Rattle.edf_holdings.proofs.Recut.{free_of_same, alone_is_free}
 use Rattle.edf_holdings.proofs.ParsedIsWellFormed.{parsed_is_well_formed}
@@ -131,7 +132,7 @@ module _ (cap : ℕ) (h : Holdings) (k : Key) (records : List DataRecord) (sound
   as-from-nothing = put_here k records nothing_held
       ∙ ap (λ (l : List DataRecord). united l records) (sym none)
 
-  alone-free : length records ≤ cap → IsFree cap h (whole k records)
+  alone-free : length records ≤ cap → IsConflictFree cap h (whole k records)
   alone-free few =
       let alone = alone_is_free cap k records told few in
       record {

@@ -13,10 +13,10 @@ use Rattle.edf_fragment.specs.Parsed.{Parsed, Fragment, ParsesTo}
 use Rattle.edf_fragment.proofs.Parsed.{one-parse}
 use Rattle.edf_canonical.specs.File.{IsCanonicalFile}
 use Rattle.edf_canonical.proofs.Files.{its-own}
-use Rattle.edf_holdings.specs.Free.{IsFragment, Has, SameRecords}
+use Rattle.edf_holdings.specs.ConflictFree.{IsFragment, Has, SameRecords}
 use Rattle.edf_holdings.specs.Holdings.{Holdings}
 use Rattle.edf_holdings.specs.Reply.{IsAccepted, IsWellFormed, reply, replies, after_one}
-use Rattle.edf_holdings.proofs.Free.{IsAmong, IsAmong-from_Any, Any-from_IsAmong}
+use Rattle.edf_holdings.proofs.ConflictFree.{IsAmong, IsAmong-from_Any, Any-from_IsAmong}
 use Rattle.edf_holdings.proofs.ParsedIsWellFormed.{parsed_is_well_formed}
 use Rattle.edf_runs.specs.ByOnset.{by_onset, AreAlike}
 use Rattle.edf_runs.specs.OneByOnset.{outside_count, IsPieceOf}

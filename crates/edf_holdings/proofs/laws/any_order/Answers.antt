@@ -1,4 +1,4 @@
-use Rattle.edf_holdings.proofs.Free.{any_order_law}
+use Rattle.edf_holdings.proofs.ConflictFree.{any_order_law}
 use Rattle.edf_holdings.proofs.Recut.{reordered, alone_is_free}
 use Rattle.edf_holdings.proofs.laws.any_order.Goals as goal
 

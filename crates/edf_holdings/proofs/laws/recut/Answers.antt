@@ -1,4 +1,4 @@
-use Rattle.edf_holdings.proofs.Free.{recut_law}
+use Rattle.edf_holdings.proofs.ConflictFree.{recut_law}
 use Rattle.edf_holdings.proofs.Recut.{free_of_same}
 use Rattle.edf_holdings.proofs.laws.recut.Goals as goal
 

@@ -23,7 +23,7 @@ with_all h (submission ∷ submissions) = with_all (with_one h submission) submi
 
 -- each is a fragment, and in the holdings with all their records no two of a key clash and none has
 -- more than the cap
-pub record IsFree (cap : ℕ) (h : Holdings) (submissions : List Parsed) : Type 0 where
+pub record IsConflictFree (cap : ℕ) (h : Holdings) (submissions : List Parsed) : Type 0 where
   pub fragments : AllByRecursion IsFragment submissions
   pub no_clash : (k : Key) → NoClash (duration_of k.duration) (with_all h submissions k)
   pub few : (k : Key) → length (with_all h submissions k) ≤ cap

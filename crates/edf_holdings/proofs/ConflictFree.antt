@@ -14,7 +14,7 @@ use Rattle.edf_holdings.specs.Rising.{inserted, united, IsRising}
 use Rattle.edf_holdings.specs.Holdings.{Holdings, put}
 use Rattle.edf_holdings.specs.Reply.{IsWellFormed, fits, after_one, after, reply, replies}
 use Rattle.edf_holdings.specs.Reply.{IsAccepted}
-use Rattle.edf_holdings.specs.Free.{with_one, with_all, IsFree, Has}
+use Rattle.edf_holdings.specs.ConflictFree.{with_one, with_all, IsConflictFree, Has}
 use Rattle.edf_holdings.specs.Laws.{AreWellFormed, AnyOrder, Recut}
 use Rattle.edf_holdings.proofs.Same.{Clash-from_test}
 use Rattle.edf_holdings.proofs.Members.{In, Within, AreFree, in_joined, joined_has, joined_keeps}
@@ -124,7 +124,8 @@ Any-from_IsAmong k r (t ∷ ts) (inr m) = let a = Any-from_IsAmong k r ts m in
 -- a free list is accepted whole
 
 MayJoin-from_free : (cap : ℕ) (h : Holdings) (key : Key) (records : List DataRecord)
-    (ts : List Parsed) → IsFree cap h (Fragment key records ∷ ts) → MayJoin cap key records h
+    (ts : List Parsed) → IsConflictFree cap h (Fragment key records ∷ ts) →
+    MayJoin cap key records h
 MayJoin-from_free cap h key records ts i = record { free = free; room = inr room }
   where
     all : List DataRecord
@@ -154,7 +155,7 @@ record FirstOf (cap : ℕ) (h : Holdings) (t : Parsed) : Type 0 where
   joins : after_one cap h t ≡ with_one h t
 
 first_of_free : (cap : ℕ) (h : Holdings) (t : Parsed) (ts : List Parsed) → IsWellFormed t →
-    IsGood cap h → IsFree cap h (t ∷ ts) → FirstOf cap h t
+    IsGood cap h → IsConflictFree cap h (t ∷ ts) → FirstOf cap h t
 unfolding after_one
 first_of_free cap h (Fault fault) ts w g i = absurd i.fragments.0
 first_of_free cap h (Fragment key records) ts w g i =
@@ -170,7 +171,7 @@ record WholeOf (cap : ℕ) (h : Holdings) (ts : List Parsed) : Type 0 where
   joins : after cap h ts ≡ with_all h ts
 
 whole_of_free : (cap : ℕ) (h : Holdings) (ts : List Parsed) → AreWellFormed ts → IsGood cap h →
-    IsFree cap h ts → WholeOf cap h ts
+    IsConflictFree cap h ts → WholeOf cap h ts
 whole_of_free cap h [] w g i = record { accepted = All-nil IsAccepted; joins = refl }
 whole_of_free cap h (t ∷ ts) w g i =
     let one : FirstOf cap h t = first_of_free cap h t ts w.0 g i in
