@@ -1,6 +1,6 @@
 -- The proofs of the public laws, and no others: what other crates' proofs cite.
 use Rattle.std.proofs.Common.{◌≡◌, ℕ, ◌≤◌, ◌<◌, ◌⊎◌, List, length, ℤ, Option}
-use Rattle.edf_field.specs.Number.{IsDuration, MayLast, duration_of}
+use Rattle.edf_field.specs.Number.{IsDuration, IsDurationInRange, duration_of}
 use Rattle.edf_field.specs.Text.{IsPatient, IsRecording}
 use Rattle.edf_field.specs.Fault.{IsPatientFault, IsRecordingFault}
 use Rattle.edf_field.specs.declared.fault.PatientFault.{PatientFault}
@@ -9,10 +9,10 @@ use Rattle.edf_field.specs.declared.number.TheConstants.{MOST_DURATION}
 use Rattle.edf_field.proofs.Durations as durations
 use Rattle.edf_field.proofs.Faults as faults
 
-pub lasts-some : (nanos : ℕ) → MayLast nanos → 0 < nanos
+pub lasts-some : (nanos : ℕ) → IsDurationInRange nanos → 0 < nanos
 lasts-some = durations.lasts-some
 
-pub lasts-or-not : (nanos : ℕ) → MayLast nanos ⊎ (¬ MayLast nanos)
+pub lasts-or-not : (nanos : ℕ) → IsDurationInRange nanos ⊎ (¬ IsDurationInRange nanos)
 lasts-or-not = durations.lasts-or-not
 
 pub duration-value : (field : List ℕ) (nanos : ℕ) → IsDuration field nanos →

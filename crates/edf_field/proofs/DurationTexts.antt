@@ -15,7 +15,7 @@ use Rattle.std.specs.Char.{is_ascii_digit, digit_value}
 use Rattle.std.specs.Str.Parse.{AllDigits, digits_value}
 use Rattle.edf_time.specs.Decimal.{IsDecimal, IsFine, IsSeconds, fraction_value, short}
 use Rattle.edf_time.proofs.Cited.{IsSeconds-short}
-use Rattle.edf_field.specs.Number.{AreSpaces, front_len, IsDuration, MayLast}
+use Rattle.edf_field.specs.Number.{AreSpaces, unpadded_len, IsDuration, IsDurationInRange}
 use Rattle.edf_field.specs.Grammar.{AreDigits, point_text, IsDurationText}
 use Rattle.edf_field.proofs.Grammar.{spaces-are}
 use Rattle.edf_field.proofs.Durations.{digits-are, point, unpoint, shape, whole-digits}
@@ -150,7 +150,8 @@ after-dot [] e = cc
 after-dot (c ∷ f) e = cc
 
 -- a decimal and spaces after it
-of-seconds : (text rest : List ℕ) (nanos : ℕ) → IsSeconds text nanos → AreSpaces rest → MayLast nanos
+of-seconds : (text rest : List ℕ) (nanos : ℕ) → IsSeconds text nanos → AreSpaces rest →
+    IsDurationInRange nanos
     → IsDurationText (text ++ rest) nanos
 of-seconds text rest nanos s blank lasts =
     let w : AreDigits s.whole = digits-are s.whole (whole-digits text s.whole s.fraction s.parts) in
@@ -179,7 +180,7 @@ of-seconds text rest nanos s blank lasts =
 
 to : (text : List ℕ) (nanos : ℕ) → IsDuration text nanos → IsDurationText text nanos
 to text nanos d =
-    let at = front_len text in
+    let at = unpadded_len text in
     subst (λ (x : List ℕ). IsDurationText x nanos) (take-append-drop at text)
     (of-seconds (take at text) (drop at text) nanos d.seconds d.spaces d.lasts)
 
@@ -198,7 +199,7 @@ point-in None all = tt
 point-in (Some ds) all = (refl, subst NoSpaces (append-nil ds) (digits-in ds [] all tt))
 
 front-end : (text : List ℕ) (n : ℕ) → NoSpaces text →
-    front_len (text ++ replicate n 32) ≡ length text
+    unpadded_len (text ++ replicate n 32) ≡ length text
 front-end [] zero all = refl
 front-end [] (suc n) all = refl
 front-end (b ∷ bs) n all = rw all.0 (omega (arith, front-end bs n all.1))
@@ -220,11 +221,11 @@ from text nanos t =
     ∙ sym (append_assoc t.whole (point_text t.point) tail) in
     let none : NoSpaces front = digits-in t.whole (point_text t.point) t.number.whole_digits
     (point-in t.point t.number.part_digits) in
-    let at : front_len text ≡ length front = ap front_len e
+    let at : unpadded_len text ≡ length front = ap unpadded_len e
     ∙ front-end front t.number.spaces none in
-    let first : take (front_len text) text ≡ front = ap (λ (k : ℕ). take k text) at
+    let first : take (unpadded_len text) text ≡ front = ap (λ (k : ℕ). take k text) at
     ∙ ap (λ (x : List ℕ). take (length front) x) e ∙ take_at front tail (length front) refl in
-    let rest : drop (front_len text) text ≡ tail = ap (λ (k : ℕ). drop k text) at
+    let rest : drop (unpadded_len text) text ≡ tail = ap (λ (k : ℕ). drop k text) at
     ∙ ap (λ (x : List ℕ). drop (length front) x) e ∙ drop_at front tail (length front) refl in
     let s = seconds t.whole part nanos (digits-back part t.number.part_digits) t.value in
     record {
@@ -246,7 +247,7 @@ pub duration-texts : (text : List ℕ) (nanos : ℕ) →
     × (IsDurationText text nanos → IsDuration text nanos)
 duration-texts text nanos = (to text nanos, from text nanos)
 
-pub short-filled : (nanos n : ℕ) → MayLast nanos → nanos < 10 ^ 73 →
+pub short-filled : (nanos n : ℕ) → IsDurationInRange nanos → nanos < 10 ^ 73 →
     IsDurationText (short nanos ++ replicate n 32) nanos
 short-filled nanos n lasts few = of-seconds (short nanos) (replicate n 32) nanos
     (IsSeconds-short nanos few) (All-replicate (λ (b : ℕ). b ≡ 32) n 32 refl) lasts

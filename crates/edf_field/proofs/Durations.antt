@@ -16,8 +16,9 @@ use Rattle.edf_time.specs.Decimal.{IsDecimal, IsFine, IsSeconds, IsDecimalFault}
 use Rattle.edf_time.specs.Decimal.{fraction_value as places}
 use Rattle.edf_time.specs.declared.decimal.DecimalFault.{DecimalFault}
 use Rattle.edf_time.specs.declared.decimal.DecimalFault.TheVariants.{Syntax, TooFine, TooLarge}
-use Rattle.edf_field.specs.Number.{AreSpaces, digits, after_digits, fraction, front_len, IsDuration}
-use Rattle.edf_field.specs.Number.{MayLast, duration_of}
+use Rattle.edf_field.specs.Number.{AreSpaces, digits, after_digits, fraction, unpadded_len}
+use Rattle.edf_field.specs.Number.{IsDuration}
+use Rattle.edf_field.specs.Number.{IsDurationInRange, duration_of}
 use Rattle.edf_field.specs.Grammar.{AreDigits, point_text}
 use Rattle.edf_field.specs.declared.number.TheConstants.{MOST_DURATION}
 use Rattle.edf_field.proofs.Grammar.{front, after, tail-off, fraction-is, spaces-are}
@@ -87,7 +88,7 @@ field-value field at n s r = seconds-value (take at field) (drop at field) n s r
     ∙ ap duration_of (take-append-drop at field)
 
 pub duration-value : (field : List ℕ) (n : ℕ) → IsDuration field n → n ≡ duration_of field
-duration-value field n d = field-value field (front_len field) n d.seconds d.spaces
+duration-value field n d = field-value field (unpadded_len field) n d.seconds d.spaces
 
 -- a fraction counts less than a second
 digit-small : (c : ℕ) → digit_value c < 10 → c - 48 ≤ 9
@@ -116,43 +117,45 @@ small t n few s =
     omega (arith, w, most, f, s.value)
 
 -- the range: above 0, and whether a number is in it
-pub lasts-some : (nanos : ℕ) → MayLast nanos → 0 < nanos
+pub lasts-some : (nanos : ℕ) → IsDurationInRange nanos → 0 < nanos
 lasts-some nanos lasts = lasts
 
-pub lasts-or-not : (nanos : ℕ) → MayLast nanos ⊎ (¬ MayLast nanos)
+pub lasts-or-not : (nanos : ℕ) → IsDurationInRange nanos ⊎ (¬ IsDurationInRange nanos)
 lasts-or-not zero = inr (λ lasts. absurd (omega (arith, lasts)))
 lasts-or-not (suc nanos) = inl (omega arith)
 
 pub duration-bound : (field : List ℕ) (n : ℕ) → length field ≤ 8 → IsDuration field n →
     n ≤ MOST_DURATION
-duration-bound field n few d = small (take (front_len field) field) n
-    (omega (arith, few, length-take (front_len field) field)) d.seconds
+duration-bound field n few d = small (take (unpadded_len field) field) n
+    (omega (arith, few, length-take (unpadded_len field) field)) d.seconds
 
 none-read : (field : List ℕ) (e : DecimalFault) → length field ≤ 8 →
-    IsDecimalFault (take (front_len field) field) e → (n : ℕ) → ¬ IsDuration field n
+    IsDecimalFault (take (unpadded_len field) field) e → (n : ℕ) → ¬ IsDuration field n
 none-read field Syntax few f n d = f d.seconds.whole d.seconds.fraction d.seconds.parts
 none-read field TooFine few f n d =
-    let t = take (front_len field) field in
+    let t = take (unpadded_len field) field in
     let none = All-nil (λ (b : ℕ). b ≡ 32) in
     f.3 (subst IsFine (sym (fraction-of t d.seconds.whole d.seconds.fraction [] d.seconds.parts
     none) ∙ fraction-of t f.0 f.1 [] f.2 none) d.seconds.fine)
 none-read field TooLarge few f n d =
-    let t = take (front_len field) field in
-    let b : f.0 ≤ MOST_DURATION = small t f.0 (omega (arith, length-take (front_len field) field))
+    let t = take (unpadded_len field) field in
+    let b : f.0 ≤ MOST_DURATION =
+    small t f.0 (omega (arith, length-take (unpadded_len field) field))
     f.1 in
     omega (arith, f.2)
 
 pub not-read : (field front : List ℕ) (at : ℕ) (e : DecimalFault) → length field ≤ 8 →
-    at ≡ front_len field → front ≡ take at field → IsDecimalFault front e → (n : ℕ) →
+    at ≡ unpadded_len field → front ≡ take at field → IsDecimalFault front e → (n : ℕ) →
     ¬ IsDuration field n
 not-read field front at e few is front-is fault =
     none-read field e few (subst (λ (t : List ℕ). IsDecimalFault t e) (front-is
     ∙ ap (λ (k : ℕ). take k field) is) fault)
 
-pub not-lasting : (field front rest : List ℕ) (at other : ℕ) → at ≡ front_len field →
-    front ≡ take at field → rest ≡ drop at field → IsSeconds front other → ¬ MayLast other →
+pub not-lasting : (field front rest : List ℕ) (at other : ℕ) → at ≡ unpadded_len field →
+    front ≡ take at field → rest ≡ drop at field → IsSeconds front other →
+    ¬ IsDurationInRange other →
     AreSpaces rest → (n : ℕ) → ¬ IsDuration field n
 not-lasting field front rest at other is front-is rest-is s past r n d =
-    past (subst MayLast (duration-value field n d
+    past (subst IsDurationInRange (duration-value field n d
     ∙ sym (field-value field at other (subst (λ (t : List ℕ). IsSeconds t other) front-is s)
     (subst AreSpaces rest-is r))) d.lasts)

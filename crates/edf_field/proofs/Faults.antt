@@ -2,7 +2,7 @@
 use Rattle.std.proofs.Common.{◌≡◌, ℕ, List, [], ◌∷◌, arith, refl}
 use Rattle.std.proofs.Common.{subst, ℤ, Option}
 use Rattle.edf_field.specs.Text.{subfields, IsSex, IsBirthdate, IsPatient, IsRecording}
-use Rattle.edf_field.specs.Fault.{PartsFail, IsPatientFault, IsRecordingFault}
+use Rattle.edf_field.specs.Fault.{SubfieldsHaveFault, IsPatientFault, IsRecordingFault}
 use Rattle.edf_field.specs.declared.fault.PatientFault.{PatientFault}
 use Rattle.edf_field.specs.declared.fault.PatientFault.TheVariants.{NoSex, NoBirthdate, Few}
 use Rattle.edf_field.specs.declared.fault.RecordingFault.{RecordingFault}
@@ -13,7 +13,8 @@ use Rattle.edf_field.proofs.Recordings.{not-following, other-front}
 -- ---- the patient identification
 
 no-fault-of : (code sex birthdate name : List ℕ) (more : List (List ℕ)) (fault : PatientFault) →
-    IsSex sex → IsBirthdate birthdate → ¬ PartsFail fault (code ∷ sex ∷ birthdate ∷ name ∷ more)
+    IsSex sex → IsBirthdate birthdate →
+    ¬ SubfieldsHaveFault fault (code ∷ sex ∷ birthdate ∷ name ∷ more)
 no-fault-of code sex birthdate name more NoSex is date fails = fails is
 no-fault-of code sex birthdate name more NoBirthdate is date fails = fails.1 date
 no-fault-of code sex birthdate name more Few is date fails = omega (arith, fails.0)
@@ -23,10 +24,10 @@ pub patient-no-fault : (text : List ℕ) (fault : PatientFault) → IsPatient te
     ¬ IsPatientFault text fault
 patient-no-fault text fault is fails =
     no-fault-of is.code is.sex is.birthdate is.name is.more fault is.is_sex is.is_birthdate
-    (subst (PartsFail fault) is.parts fails)
+    (subst (SubfieldsHaveFault fault) is.parts fails)
 
-one-of : (fault other : PatientFault) (parts : List (List ℕ)) → PartsFail fault parts →
-    PartsFail other parts → fault ≡ other
+one-of : (fault other : PatientFault) (parts : List (List ℕ)) → SubfieldsHaveFault fault parts →
+    SubfieldsHaveFault other parts → fault ≡ other
 one-of NoSex NoSex parts p q = refl
 one-of NoBirthdate NoBirthdate parts p q = refl
 one-of Few Few parts p q = refl

@@ -4,7 +4,7 @@ use Rattle.std.proofs.Common.{true, false, pow-add, arith, refl, sym, ap, ◌∙
 use Rattle.std.proofs.lemmas.Int.{ints}
 use Rattle.std.proofs.Math.Nat.{eq_of_mul-eq-mul_right}
 use Rattle.std.specs.Prelude.{ℤ, pos, neg_ℤ}
-use Rattle.edf_field.specs.Number.{signed, fraction_len, unscaled, scaled, Differ}
+use Rattle.edf_field.specs.Number.{signed, fraction_len, unscaled, scaled, DifferAsNumbers}
 use Rattle.edf_field.specs.Grammar.{IsPhysicalText}
 use Rattle.edf_field.proofs.Decimals.{power}
 use Rattle.edf_field.proofs.NumberTexts.{physical-from}
@@ -80,7 +80,7 @@ module _ (a b : List ℕ) (at : ℕ) (la : fraction_len a ≤ at) (lb : fraction
       (10 ^ (fraction_len a + fraction_len b)) e ∙ sym right)
 
 pub physical-numbers : (a b : List ℕ) (at : ℕ) (x y : ℤ) → IsPhysicalText a at x →
-    IsPhysicalText b at y → (Differ a b → x ≢ y) × (x ≢ y → Differ a b)
+    IsPhysicalText b at y → (DifferAsNumbers a b → x ≢ y) × (x ≢ y → DifferAsNumbers a b)
 physical-numbers a b at x y p q =
     let s = physical-from a at x p in
     let t = physical-from b at y q in (

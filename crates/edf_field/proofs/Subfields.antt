@@ -9,7 +9,7 @@ use Rattle.std.proofs.lemmas.List.{length-drop, length-take, take-append-drop, t
 use Rattle.std.proofs.lemmas.List.{get_or-drop, drop_all, drop_more, get_or-take}
 use Rattle.std.proofs.lemmas.List.Sums.{prefix_len-le-length, prefix_len_passes, prefix_len_stops}
 use Rattle.std.proofs.lemmas.List.Splits.{slice_split_none, slice_split_at, slice_split-cons_yes}
-use Rattle.edf_field.specs.Number.{front_len}
+use Rattle.edf_field.specs.Number.{unpadded_len}
 use Rattle.edf_field.specs.Text.{subfields}
 
 abbrev pub spaces_len : List ℕ → ℕ
@@ -54,18 +54,18 @@ is-space : (b : Bool) → not b ≡ false → b ≡ true
 is-space true e = refl
 is-space false e = cc
 
-front-all : (text : List ℕ) → All (λ x. eqb x 32 ≡ false) (take (front_len text) text)
+front-all : (text : List ℕ) → All (λ x. eqb x 32 ≡ false) (take (unpadded_len text) text)
 front-all text k d lt =
-    let low : k < front_len text = omega (arith, length-take (front_len text) text) in
-    not-space (eqb (get_or (take (front_len text) text) k d) 32)
-    (rw (get_or-take (front_len text) text k d low)
+    let low : k < unpadded_len text = omega (arith, length-take (unpadded_len text) text) in
+    not-space (eqb (get_or (take (unpadded_len text) text) k d) 32)
+    (rw (get_or-take (unpadded_len text) text k d low)
     (prefix_len_passes (λ b. not (eqb b 32)) text k d low))
 
 -- the front that has no space is the first subfield
-pub first-front : (text : List ℕ) → 0 < front_len text →
-    subfields text ≡ take (front_len text) text ∷ subfields (drop (front_len text) text)
+pub first-front : (text : List ℕ) → 0 < unpadded_len text →
+    subfields text ≡ take (unpadded_len text) text ∷ subfields (drop (unpadded_len text) text)
 first-front text some =
-    let n = front_len text in
+    let n = unpadded_len text in
     let le = prefix_len-le-length (λ b. not (eqb b 32)) text in
     let long : 0 < length (take n text) = omega (arith, length-take n text) in
     elim (cases_lt n (length text)) [
@@ -85,7 +85,7 @@ first-front text some =
 
 -- after the spaces at the front comes something at once, or nothing at all
 pub front-some : (text : List ℕ) → 0 < length (drop (spaces_len text) text) →
-    0 < front_len (drop (spaces_len text) text)
+    0 < unpadded_len (drop (spaces_len text) text)
 front-some text some =
     let n = spaces_len text in
     let t = drop n text in
@@ -94,14 +94,14 @@ front-some text some =
     ap (λ (k : ℕ). eqb k 32) (get_or-drop n text 0 0
     ∙ ap (λ (k : ℕ). get_or text k 0) (add-zero n))
     ∙ prefix_len_stops (λ b. eqb b 32) text 0 lt in
-    elim (cases_lt 0 (front_len t)) [
+    elim (cases_lt 0 (unpadded_len t)) [
       | inl more ↦ more
       | inr none ↦
-          let zero_len : front_len t ≡ 0 = omega arith in
-          let stops : front_len t < length t = omega arith in
+          let zero_len : unpadded_len t ≡ 0 = omega arith in
+          let stops : unpadded_len t < length t = omega arith in
           let there : eqb (get_or t 0 0) 32 ≡ true =
           ap (λ (k : ℕ). eqb (get_or t k 0) 32) (sym zero_len)
-          ∙ is-space (eqb (get_or t (front_len t) 0) 32)
+          ∙ is-space (eqb (get_or t (unpadded_len t) 0) 32)
           (prefix_len_stops (λ b. not (eqb b 32)) t 0 stops) in
           absurd (false≢true (sym here ∙ there))
     ]

@@ -8,22 +8,22 @@ use Rattle.edf_field.specs.declared.fault.RecordingFault.TheVariants.{NoStartdat
 use Rattle.edf_field.specs.declared.fault.RecordingFault.TheVariants.{Few as FewCodes}
 
 -- sex and birthdate are right, where they are there
-abbrev pub AreRight : List (List ℕ) → Type 0
-AreRight (code ∷ sex ∷ []) = IsSex sex
-AreRight (code ∷ sex ∷ birthdate ∷ more) = IsSex sex × IsBirthdate birthdate
-AreRight parts = Unit {0}
+abbrev pub AreValidSubfields : List (List ℕ) → Type 0
+AreValidSubfields (code ∷ sex ∷ []) = IsSex sex
+AreValidSubfields (code ∷ sex ∷ birthdate ∷ more) = IsSex sex × IsBirthdate birthdate
+AreValidSubfields parts = Unit {0}
 
 -- the fault is true of subfields
-abbrev pub PartsFail : PatientFault → List (List ℕ) → Type 0
-PartsFail NoSex (code ∷ sex ∷ more) = ¬ IsSex sex
-PartsFail NoSex parts = ⊥
-PartsFail NoBirthdate (code ∷ sex ∷ birthdate ∷ more) = IsSex sex × ¬ IsBirthdate birthdate
-PartsFail NoBirthdate parts = ⊥
-PartsFail Few parts = (length parts < 4) × AreRight parts
+abbrev pub SubfieldsHaveFault : PatientFault → List (List ℕ) → Type 0
+SubfieldsHaveFault NoSex (code ∷ sex ∷ more) = ¬ IsSex sex
+SubfieldsHaveFault NoSex parts = ⊥
+SubfieldsHaveFault NoBirthdate (code ∷ sex ∷ birthdate ∷ more) = IsSex sex × ¬ IsBirthdate birthdate
+SubfieldsHaveFault NoBirthdate parts = ⊥
+SubfieldsHaveFault Few parts = (length parts < 4) × AreValidSubfields parts
 
 -- why a text is no patient identification
 abbrev pub IsPatientFault : List ℕ → PatientFault → Type 0
-IsPatientFault text fault = PartsFail fault (subfields text)
+IsPatientFault text fault = SubfieldsHaveFault fault (subfields text)
 
 -- why a text has no Startdate subfield
 abbrev pub IsStartdateFault : List ℕ → RecordingFault → Type 0

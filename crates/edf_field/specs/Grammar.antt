@@ -5,7 +5,7 @@ use Rattle.std.specs.Option.{unwrap_or}
 use Rattle.std.specs.List.{AllByRecursion}
 use Rattle.std.specs.Char.{is_ascii_digit}
 use Rattle.std.specs.Str.Parse.{digits_value}
-use Rattle.edf_field.specs.Number.{IsPhysical, fraction_len, unscaled, signed, MayLast}
+use Rattle.edf_field.specs.Number.{IsPhysical, fraction_len, unscaled, signed, IsDurationInRange}
 
 abbrev pub sign_text : Option Bool → List ℕ
 sign_text None = []
@@ -78,7 +78,7 @@ pub record IsDurationText (text : List ℕ) (nanos : ℕ) : Type 0 where
   pub after_dot : point ≢ Some []
   pub value : nanos * 10 ^ length (unwrap_or point []) ≡ digits_value 10 (whole
       ++ unwrap_or point []) * 10 ^ 9
-  pub lasts : MayLast nanos
+  pub lasts : IsDurationInRange nanos
 
 -- a decimal's digits: at most `wide` before its dot, and at most `at` after it
 pub record AreDecimalDigits (whole part : List ℕ) (wide at : ℕ) : Type 0 where

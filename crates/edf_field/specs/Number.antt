@@ -77,22 +77,22 @@ abbrev pub scaled : List ℕ → ℕ → ℤ
 scaled text more = signed (slice_index text 0 == 45) (unscaled text * 10 ^ more)
 
 -- two physical values differ, as numbers: each is scaled by the places of the other
-abbrev pub Differ : List ℕ → List ℕ → Type 0
-Differ a b = scaled a (fraction_len b) ≢ scaled b (fraction_len a)
+abbrev pub DifferAsNumbers : List ℕ → List ℕ → Type 0
+DifferAsNumbers a b = scaled a (fraction_len b) ≢ scaled b (fraction_len a)
 
 -- how many bytes come before the first space
-abbrev pub front_len : List ℕ → ℕ
-front_len text = prefix_len (λ b. not (b == 32)) text
+abbrev pub unpadded_len : List ℕ → ℕ
+unpadded_len text = prefix_len (λ b. not (b == 32)) text
 
 -- the range of the duration of a data record, in nanoseconds
-abbrev pub MayLast : ℕ → Type 0
-MayLast nanos = 0 < nanos
+abbrev pub IsDurationInRange : ℕ → Type 0
+IsDurationInRange nanos = 0 < nanos
 
 -- the duration of a data record: a decimal in that range, of this many nanoseconds
 pub record IsDuration (text : List ℕ) (nanos : ℕ) : Type 0 where
-  pub seconds : IsSeconds (take (front_len text) text) nanos
-  pub spaces : AreSpaces (drop (front_len text) text)
-  pub lasts : MayLast nanos
+  pub seconds : IsSeconds (take (unpadded_len text) text) nanos
+  pub spaces : AreSpaces (drop (unpadded_len text) text)
+  pub lasts : IsDurationInRange nanos
 
 -- the nanoseconds that the digits of a duration write; a law says that no duration has another
 -- value

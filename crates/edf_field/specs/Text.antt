@@ -52,9 +52,9 @@ IsStartdate text (Some day) after =
     (take 10 text ≡ codes "Startdate ") × IsIdDate (field text 10 11) day × (after ≡ drop 21 text)
 
 -- what follows the Startdate subfield in a recording field
-abbrev pub after_of : Option ℤ → List ℕ → List ℕ
-after_of None recording = drop 11 recording
-after_of (Some day) recording = drop 21 recording
+abbrev pub after_startdate_of : Option ℤ → List ℕ → List ℕ
+after_startdate_of None recording = drop 11 recording
+after_startdate_of (Some day) recording = drop 21 recording
 
 -- the recording identification
 pub record IsRecording (text : List ℕ) (startdate : Option ℤ) (after : List ℕ) : Type 0 where

@@ -4,7 +4,7 @@
 ghost use Rattle.std.specs.Prelude.{◌≡◌, ◌∷◌, ◌==◌, [], not, MatchOption, ◌↔◌, IsTrue, ◌≤◌, length};
 ghost use Rattle.std.specs.Prelude.{MatchResult};
 ghost use Rattle.std.specs.List.{prefix_len};
-ghost use Rattle.edf_field.specs.Number.{front_len};
+ghost use Rattle.edf_field.specs.Number.{unpadded_len};
 ghost use Rattle.edf_field.specs.Text.{subfields, IsPatient, IsSex, IsBirthdate, IsStartdate};
 ghost use Rattle.edf_field.specs.Text.{IsRecording, FollowsStartdate};
 ghost use Rattle.edf_field.specs.Fault.{IsPatientFault, IsRecordingFault, IsStartdateFault};
@@ -25,8 +25,8 @@ fn spaces_len(text: &[u8]) -> usize
 }
 
 /// How many bytes come before the first space.
-pub(crate) fn front_len(text: &[u8]) -> usize
-    ensures { result ≡ front_len text.now }
+pub(crate) fn unpadded_len(text: &[u8]) -> usize
+    ensures { result ≡ unpadded_len text.now }
 {
     for (i, b) in text.iter().enumerate() {
         if *b == b' ' {
@@ -50,7 +50,7 @@ pub fn next_subfield(text: &[u8]) -> Option<(&[u8], &[u8])>
     if text.is_empty() {
         return None;
     }
-    Some(text.split_at(front_len(text)))
+    Some(text.split_at(unpadded_len(text)))
 }
 
 /// Whether a subfield is a sex: `F`, `M` or `X`.

@@ -1,7 +1,7 @@
 //! Laws of the texts of fields: each function has a law for a contract, and does nothing.
 ghost use Rattle.std.specs.Prelude.{◌≡◌, ℕ, Bool, List, [], ◌∷◌, Option, ◌≤◌, ◌<◌, ◌⊎◌, length, ℤ};
 ghost use Rattle.std.specs.Option.{unwrap_or};
-ghost use Rattle.edf_field.specs.Number.{IsDuration, MayLast, duration_of};
+ghost use Rattle.edf_field.specs.Number.{IsDuration, IsDurationInRange, duration_of};
 ghost use Rattle.edf_field.specs.Grammar.{AreDigits, IsSpelledAs, spelled};
 ghost use Rattle.edf_field.specs.Text.{IsPatient, IsRecording};
 ghost use Rattle.edf_field.specs.Fault.{IsPatientFault, IsRecordingFault};
@@ -19,8 +19,8 @@ pub fn physical_read()
 
 /// What is in the range of a duration is more than none, and each number is in it or is not.
 pub fn duration_range()
-    ensures some { (nanos : ℕ) → MayLast nanos → 0 < nanos }
-    ensures decided { (nanos : ℕ) → MayLast nanos ⊎ (¬ MayLast nanos) }
+    ensures some { (nanos : ℕ) → IsDurationInRange nanos → 0 < nanos }
+    ensures decided { (nanos : ℕ) → IsDurationInRange nanos ⊎ (¬ IsDurationInRange nanos) }
 {}
 
 /// A duration field has one value, that of its digits. One of eight bytes is at most

@@ -6,7 +6,8 @@ ghost use Rattle.edf_time.specs.Decimal.{short};
 ghost use Rattle.edf_field.specs.Text.{spaces};
 ghost use Rattle.std.specs.Str.Parse.{digits_value};
 ghost use Rattle.edf_field.specs.Number.{IsWhole, whole_value, IsSigned, signed_value, IsPhysical};
-ghost use Rattle.edf_field.specs.Number.{fraction_len, scaled, Differ, IsDuration, MayLast};
+ghost use Rattle.edf_field.specs.Number.{fraction_len, scaled, DifferAsNumbers, IsDuration};
+ghost use Rattle.edf_field.specs.Number.{IsDurationInRange};
 ghost use Rattle.edf_field.specs.Grammar.{IsWholeText, IsSignedText, IsPhysicalText};
 ghost use Rattle.edf_field.specs.Grammar.{IsDurationText, AreDecimalDigits, filled, widened};
 
@@ -35,7 +36,7 @@ pub fn physical_texts()
 /// `1.00`.
 pub fn physical_numbers()
     ensures { (a b : List ℕ) (at : ℕ) (x y : ℤ) → IsPhysicalText a at x → IsPhysicalText b at y →
-        (Differ a b ↔ (x ≢ y)) }
+        (DifferAsNumbers a b ↔ (x ≢ y)) }
 {}
 
 /// A duration is one digit or more, maybe a dot and one or more digits, and then spaces; its
@@ -57,6 +58,6 @@ pub fn decimal_digits()
 /// was written.
 pub fn written_texts()
     ensures whole { (n blanks : ℕ) → n < 2 ^ 64 → IsWholeText (decimal n ++ spaces blanks) n }
-    ensures duration { (nanos blanks : ℕ) → MayLast nanos → nanos < 10 ^ 73 →
+    ensures duration { (nanos blanks : ℕ) → IsDurationInRange nanos → nanos < 10 ^ 73 →
         IsDurationText (short nanos ++ spaces blanks) nanos }
 {}

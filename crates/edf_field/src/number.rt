@@ -4,9 +4,9 @@ ghost use Rattle.std.specs.Char.{is_ascii_digit};
 ghost use Rattle.std.specs.Str.Parse.{digits_value};
 ghost use Rattle.edf_field.specs.Number.{AreSpaces, digits_len, digits, after_digits, IsWhole};
 ghost use Rattle.edf_field.specs.Number.{whole_value, unsigned, IsSigned, signed_value, IsDuration};
-ghost use Rattle.edf_field.specs.Number.{MayLast};
+ghost use Rattle.edf_field.specs.Number.{IsDurationInRange};
 
-use crate::identification::front_len;
+use crate::identification::unpadded_len;
 use edf_time::read_seconds;
 
 /// The longest duration of a data record, in nanoseconds: eight bytes write less than 100,000,000
@@ -107,7 +107,7 @@ pub fn read_signed(field: &[u8]) -> Option<i32>
 
 /// Whether so many nanoseconds are in the range of a duration: above 0.
 fn may_last(nanos: u64) -> bool
-    ensures { IsTrue result ↔ MayLast nanos }
+    ensures { IsTrue result ↔ IsDurationInRange nanos }
 {
     nanos > 0
 }
@@ -120,7 +120,7 @@ pub fn read_duration(field: &[u8]) -> Option<u64>
     requires { length field.now ≤ 8 }
     ensures { MatchOption result ((n : ℕ) → ¬ IsDuration field.now n) (IsDuration field.now) }
 {
-    let (front, rest) = field.split_at(front_len(field));
+    let (front, rest) = field.split_at(unpadded_len(field));
     if !are_spaces(rest) {
         return None;
     }

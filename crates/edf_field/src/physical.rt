@@ -2,7 +2,7 @@ ghost use Rattle.std.specs.Prelude.{◌≡◌, ◌≢◌, ℕ, ◌-◌, ◌*◌,
 ghost use Rattle.std.specs.Prelude.{slice_index, MatchOption, IsTrue};
 ghost use Rattle.std.specs.Char.{is_ascii_digit};
 ghost use Rattle.edf_field.specs.Number.{fraction, after_fraction, IsPhysical, fraction_len};
-ghost use Rattle.edf_field.specs.Number.{unscaled, signed, Differ};
+ghost use Rattle.edf_field.specs.Number.{unscaled, signed, DifferAsNumbers};
 
 use crate::number::{are_spaces, read_digits, split_digits, without_sign};
 
@@ -72,7 +72,8 @@ pub fn physical_values_differ(minimum: &[u8], maximum: &[u8]) -> bool
     requires minimum { length minimum.now ≤ 8 }
     requires maximum { length maximum.now ≤ 8 }
     ensures { IsTrue result
-        ↔ IsPhysical minimum.now × IsPhysical maximum.now × Differ minimum.now maximum.now }
+        ↔ IsPhysical minimum.now × IsPhysical maximum.now
+        × DifferAsNumbers minimum.now maximum.now }
 {
     match (read_physical(minimum), read_physical(maximum)) {
         (Some(low), Some(high)) => differ(low, high),

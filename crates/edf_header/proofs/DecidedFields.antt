@@ -2,7 +2,7 @@
 use Rattle.std.proofs.Common.{◌≡◌, ℕ, ◌≤◌, List, length, take, arith, refl, inl, inr, Option, Some}
 use Rattle.std.proofs.Common.{None}
 use Rattle.std.specs.Prelude.{codes, ◌⊎◌}
-use Rattle.edf_field.specs.Number.{field, AreSpaces, IsWhole, IsSigned, IsPhysical, Differ}
+use Rattle.edf_field.specs.Number.{field, AreSpaces, IsWhole, IsSigned, IsPhysical, DifferAsNumbers}
 use Rattle.edf_field.specs.Number.{whole_value, after_digits, after_fraction, digits_len, unsigned}
 use Rattle.edf_field.specs.Number.{IsNumber}
 use Rattle.edf_field.specs.Text.{IsPrintable, FollowsStartdate, subfields}
@@ -29,7 +29,7 @@ pub physical : (text : List ℕ) → Decided (IsPhysical text)
 physical text = both (less 0 (digits_len (unsigned text)))
     (spaces (after_fraction (after_digits (unsigned text))))
 
-pub differ : (a b : List ℕ) → Decided (Differ a b)
+pub differ : (a b : List ℕ) → Decided (DifferAsNumbers a b)
 differ a b = negated (same-int _ _)
 
 pub number : (text : List ℕ) (n : ℕ) → Decided (IsNumber text n)

@@ -8,11 +8,12 @@ use Rattle.std.specs.Str.Parse.{AllDigits, IsNumeral, digits_value}
 use Rattle.std.proofs.lemmas.List.{take_at, take_all, drop_all}
 use Rattle.edf_time.specs.Civil.{HasDateForm, IsIdDate}
 use Rattle.edf_time.specs.Decimal.{IsDecimal, IsFine, fraction_value as places}
-use Rattle.edf_field.specs.Number.{field, AreSpaces, IsDuration, MayLast, front_len}
+use Rattle.edf_field.specs.Number.{field, AreSpaces, IsDuration, IsDurationInRange, unpadded_len}
 use Rattle.edf_field.proofs.Cited.{lasts-or-not}
 use Rattle.edf_field.specs.Text.{FollowsStartdate, IsBirthdate, IsPatient, IsRecording, IsSex}
 use Rattle.edf_field.specs.Text.{IsStartdate, subfields}
-use Rattle.edf_field.specs.Fault.{IsPatientFault, IsRecordingFault, IsStartdateFault, PartsFail}
+use Rattle.edf_field.specs.Fault.{IsPatientFault, IsRecordingFault, IsStartdateFault}
+use Rattle.edf_field.specs.Fault.{SubfieldsHaveFault}
 use Rattle.edf_field.specs.declared.fault.PatientFault.{PatientFault}
 use Rattle.edf_field.specs.declared.fault.PatientFault.TheVariants.{NoSex, NoBirthdate, Few}
 use Rattle.edf_field.specs.declared.fault.RecordingFault.{RecordingFault}
@@ -44,7 +45,7 @@ value w f = digits_value 10 w * 10 ^ 9 + places (10 ^ 8) f
 record IsWorth (text w f : List ℕ) : Type 0 where
   parts : IsDecimal text w f
   fine : IsFine f
-  lasts : MayLast (value w f)
+  lasts : IsDurationInRange (value w f)
 
 worth : (text w f : List ℕ) → Decided (IsWorth text w f)
 worth text w f =
@@ -86,11 +87,11 @@ worth-at text w (c ∷ f) is =
     )
 
 from-worth : (text : List ℕ) →
-    (((at : ℕ) × (at < suc (length (take (front_len text) text)))
-    × IsWorthAt (take (front_len text) text) at) × AreSpaces (drop (front_len text) text))
+    (((at : ℕ) × (at < suc (length (take (unpadded_len text) text)))
+    × IsWorthAt (take (unpadded_len text) text) at) × AreSpaces (drop (unpadded_len text) text))
     → (nanos : ℕ) × IsDuration text nanos
 from-worth text ((at, lt, is), blank) =
-    let t : List ℕ = take (front_len text) text in (
+    let t : List ℕ = take (unpadded_len text) text in (
       value (take at t) (drop (suc at) t),
       record {
         seconds = record {
@@ -106,20 +107,25 @@ from-worth text ((at, lt, is), blank) =
     )
 
 to-worth : (text : List ℕ) → ((nanos : ℕ) × IsDuration text nanos)
-    → ((at : ℕ) × (at < suc (length (take (front_len text) text)))
-    × IsWorthAt (take (front_len text) text) at) × AreSpaces (drop (front_len text) text)
+    → ((at : ℕ) × (at < suc (length (take (unpadded_len text) text)))
+    × IsWorthAt (take (unpadded_len text) text) at) × AreSpaces (drop (unpadded_len text) text)
 to-worth text (nanos, d) =
     let s = d.seconds in (
-      worth-at (take (front_len text) text) s.whole s.fraction
-          (record { parts = s.parts; fine = s.fine; lasts = subst MayLast s.value d.lasts }),
+      worth-at (take (unpadded_len text) text) s.whole s.fraction
+          (record {
+            parts = s.parts;
+            fine = s.fine;
+            lasts =
+                subst IsDurationInRange s.value d.lasts;
+          }),
       d.spaces,
     )
 
 pub duration : (text : List ℕ) → Decided ((nanos : ℕ) × IsDuration text nanos)
 duration text =
-    let t : List ℕ = take (front_len text) text in
+    let t : List ℕ = take (unpadded_len text) text in
     like (both (some-below (IsWorthAt t) (λ at. worth t (take at t) (drop (suc at) t))
-    (suc (length t))) (spaces (drop (front_len text) text))) (from-worth text) (to-worth text)
+    (suc (length t))) (spaces (drop (unpadded_len text) text))) (from-worth text) (to-worth text)
 
 -- the patient field
 sex : (text : List ℕ) → Decided (IsSex text)
@@ -133,7 +139,7 @@ abbrev pub HasPatientFault : List ℕ → Type 0
 HasPatientFault text = (why : PatientFault) × IsPatientFault text why
 
 patient-by : (text : List ℕ) (parts : List (List ℕ)) → subfields text ≡ parts →
-    IsPatient text ⊎ ((why : PatientFault) × PartsFail why parts)
+    IsPatient text ⊎ ((why : PatientFault) × SubfieldsHaveFault why parts)
 patient-by text [] e = inr (Few, (omega arith, tt))
 patient-by text (c ∷ []) e = inr (Few, (omega arith, tt))
 patient-by text (c ∷ s ∷ []) e =

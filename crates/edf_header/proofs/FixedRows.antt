@@ -6,7 +6,7 @@ use Rattle.edf_time.specs.declared.civil.StartFault.{StartFault}
 use Rattle.edf_time.specs.declared.civil.StartFault.TheVariants as why
 use Rattle.edf_time.proofs.Cited.{has-form}
 use Rattle.edf_field.specs.Number.{field, IsDuration}
-use Rattle.edf_field.specs.Text.{IsPatient, IsStartdate, IsRecording, after_of}
+use Rattle.edf_field.specs.Text.{IsPatient, IsStartdate, IsRecording, after_startdate_of}
 use Rattle.edf_field.proofs.Cited.{patient-no-fault, recording-no-fault}
 use Rattle.edf_header.specs.Fault.{FixedPartFails, IsClean, IsFirst}
 use Rattle.edf_header.specs.Condition.{HasSignals}
@@ -46,13 +46,14 @@ past-recording b s after is (Recording why) e fails =
 past-recording b s after is fault e fails = absurd (omega arith)
 
 after-is : (f : List ℕ) (s : Option ℤ) (after : List ℕ) → IsStartdate f s after →
-    after ≡ after_of s f
+    after ≡ after_startdate_of s f
 after-is f None after p = p.1
 after-is f (Some day) after p = p.2
 
 pub recording-in : (b : List ℕ) (s : Option ℤ) (after : List ℕ) → IsClean (FixedPartFails b) 5 →
     IsRecording (field b 88 80) s after
-    → IsRecording (field b 88 80) s (after_of s (field b 88 80)) × IsClean (FixedPartFails b) 6
+    → IsRecording (field b 88 80) s (after_startdate_of s (field b 88 80))
+    × IsClean (FixedPartFails b) 6
 recording-in b s after clean is = (
   subst (λ (l : List ℕ). IsRecording (field b 88 80) s l)
       (after-is (field b 88 80) s after is.front) is,

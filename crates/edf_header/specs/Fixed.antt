@@ -3,7 +3,8 @@ use Rattle.std.specs.Prelude.{◌≡◌, ℕ, ◌+◌, ◌*◌, ◌%◌, ◌^◌
 use Rattle.std.specs.Prelude.{length, take, All, codes, ℤ, Option, Some, None, if◌then◌else◌}
 use Rattle.edf_time.specs.Civil.{IsCivil, window}
 use Rattle.edf_field.specs.Number.{IsNumber, IsDuration}
-use Rattle.edf_field.specs.Text.{IsPrintable, IsPatient, FollowsStartdate, IsRecording, after_of}
+use Rattle.edf_field.specs.Text.{IsPrintable, IsPatient, FollowsStartdate, IsRecording}
+use Rattle.edf_field.specs.Text.{after_startdate_of}
 use Rattle.edf_header.specs.Fields.{version_field, patient_field, recording_field, startdate_field}
 use Rattle.edf_header.specs.Fields.{starttime_field, header_bytes_field, reserved_field}
 use Rattle.edf_header.specs.Fields.{count_field, duration_field, signals_field}
@@ -31,7 +32,7 @@ abbrev pub fixed_from : List ℕ → List ℕ → Option ℤ → ℕ → Option 
 fixed_from patient recording startdate start count duration signals = record {
   patient = patient;
   startdate = startdate;
-  after = after_of startdate recording;
+  after = after_startdate_of startdate recording;
   start = start;
   count = count;
   duration = duration;

@@ -6,7 +6,7 @@ use Rattle.std.specs.Prelude.{◌≤ℤ◌}
 use Rattle.std.specs.List.{flat_map, range_with_len, HoldsAt, AllWithin}
 use Rattle.std.specs.Str.{bytes_eq}
 use Rattle.edf_field.specs.Number.{field, IsWhole, whole_value, IsSigned, signed_value, IsPhysical}
-use Rattle.edf_field.specs.Number.{Differ}
+use Rattle.edf_field.specs.Number.{DifferAsNumbers}
 use Rattle.edf_header.specs.Fields.{fields, label_field, physical_minimum_field}
 use Rattle.edf_header.specs.Fields.{physical_maximum_field, digital_minimum_field}
 use Rattle.edf_header.specs.Fields.{digital_maximum_field, samples_field}
@@ -61,7 +61,7 @@ ordinary ss = filter (λ s. not (has_label s)) ss
 pub record HasPhysical (row : List ℕ) : Type 0 where
   pub minimum : IsPhysical (physical_minimum_field row)
   pub maximum : IsPhysical (physical_maximum_field row)
-  pub differ : Differ (physical_minimum_field row) (physical_maximum_field row)
+  pub differ : DifferAsNumbers (physical_minimum_field row) (physical_maximum_field row)
 
 -- digital minimum and maximum are numbers of 16 bits, and the maximum is the greater
 pub record HasDigital (row : List ℕ) : Type 0 where

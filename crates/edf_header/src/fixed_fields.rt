@@ -4,7 +4,7 @@ ghost use Rattle.std.specs.Prelude.{◌≡◌, ℕ, ◌+◌, ◌*◌, ◌≤◌,
 ghost use Rattle.std.specs.Prelude.{MatchResult};
 ghost use Rattle.edf_time.specs.Civil.{IsCivil};
 ghost use Rattle.edf_field.specs.Number.{field, IsDuration, IsNumber};
-ghost use Rattle.edf_field.specs.Text.{IsPrintable, IsPatient, IsRecording, after_of};
+ghost use Rattle.edf_field.specs.Text.{IsPrintable, IsPatient, IsRecording, after_startdate_of};
 ghost use Rattle.edf_header.specs.Fields.{version_field, patient_field, recording_field};
 ghost use Rattle.edf_header.specs.Fields.{startdate_field, starttime_field, header_bytes_field};
 ghost use Rattle.edf_header.specs.Fields.{reserved_field, count_field, duration_field};
@@ -80,7 +80,7 @@ pub(crate) fn read_startdate(bytes: &[u8; 256]) -> Result<Option<Day>, HeaderFau
     requires { IsClean (FixedPartFails bytes.now) 5 }
     ensures { MatchResult result
         (λ startdate. IsRecording (recording_field bytes.now) startdate
-        (after_of startdate (recording_field bytes.now))
+        (after_startdate_of startdate (recording_field bytes.now))
         × IsClean (FixedPartFails bytes.now) 6)
         (IsFirst (FixedPartFails bytes.now)) }
 {
@@ -94,7 +94,7 @@ pub(crate) fn read_startdate(bytes: &[u8; 256]) -> Result<Option<Day>, HeaderFau
 /// the Startdate subfield; or E6, E7 or E8 is the first fault.
 pub(crate) fn read_start(bytes: &[u8; 256], startdate: &Option<Day>) -> Result<Instant, HeaderFault>
     requires recording { IsRecording (recording_field bytes.now) startdate.now
-        (after_of startdate.now (recording_field bytes.now)) }
+        (after_startdate_of startdate.now (recording_field bytes.now)) }
     requires clean { IsClean (FixedPartFails bytes.now) 6 }
     ensures { MatchResult result
         (λ start.

@@ -8,7 +8,8 @@ use Rattle.std.proofs.lemmas.Int.{ints}
 use Rattle.std.proofs.lemmas.List.{nil_from_length}
 use Rattle.std.specs.Str.{IsTrimAscii}
 use Rattle.std.specs.Str.Parse.{AllDigits, IsNumeral, digits_value}
-use Rattle.edf_field.specs.Number.{IsPhysical, Differ, digits, after_digits, fraction_len, scaled}
+use Rattle.edf_field.specs.Number.{IsPhysical, DifferAsNumbers, digits, after_digits, fraction_len}
+use Rattle.edf_field.specs.Number.{scaled}
 use Rattle.edf_field.specs.Text.{IsPrintable}
 use Rattle.edf_field.proofs.Decimals.{power}
 use Rattle.edf_mend.specs.Header.{fitted}
@@ -165,8 +166,9 @@ numerals-apart : (fl : ℕ) → scaled (codes "0") fl ≡ scaled (codes "1") fl 
 numerals-apart fl e = omega (arith, ints, e, power fl)
 
 pub not-physical : (field : List ℕ) →
-    ¬ (IsPhysical field × IsPhysical (codes "0") × Differ field (codes "0")) →
-    ¬ (IsPhysical field × IsPhysical (codes "1") × Differ field (codes "1")) → ¬ IsPhysical field
+    ¬ (IsPhysical field × IsPhysical (codes "0") × DifferAsNumbers field (codes "0")) →
+    ¬ (IsPhysical field × IsPhysical (codes "1") × DifferAsNumbers field (codes "1")) →
+    ¬ IsPhysical field
 not-physical field zero-same one-same is =
     let zero-is : IsPhysical (codes "0") = (omega arith, λ k d lt. absurd (omega arith)) in
     let one-is : IsPhysical (codes "1") = (omega arith, λ k d lt. absurd (omega arith)) in

@@ -2,7 +2,8 @@
 use Rattle.std.proofs.Common.{◌≡◌, ℕ, ◌≤◌, List, sym, ◌∙◌, subst}
 use Rattle.std.specs.Prelude.{pos, neg_ℤ, ◌<ℤ◌, ◌≤ℤ◌}
 use Rattle.edf_time.proofs.Decided.{Decided, both, like}
-use Rattle.edf_field.specs.Number.{field, IsPhysical, IsSigned, signed_value, Differ, IsWhole}
+use Rattle.edf_field.specs.Number.{field, IsPhysical, IsSigned, signed_value, DifferAsNumbers}
+use Rattle.edf_field.specs.Number.{IsWhole}
 use Rattle.edf_field.specs.Number.{whole_value}
 use Rattle.edf_header.proofs.DecidedFields.{physical, differ}
 use Rattle.edf_header.specs.Signal.{IsLabelled, HasPhysical, HasDigital, HasSamples}
@@ -20,8 +21,8 @@ pub physical-turned : (a b : List ℕ) → field a 104 8 ≡ field b 112 8 → f
 physical-turned a b e f p = record {
   minimum = subst IsPhysical f p.maximum;
   maximum = subst IsPhysical e p.minimum;
-  differ = subst (λ (x : List ℕ). Differ x (field b 112 8)) f
-      (subst (λ (x : List ℕ). Differ (field a 112 8) x) e (λ same. p.differ (sym same)));
+  differ = subst (λ (x : List ℕ). DifferAsNumbers x (field b 112 8)) f
+      (subst (λ (x : List ℕ). DifferAsNumbers (field a 112 8) x) e (λ same. p.differ (sym same)));
 }
 
 pub digital-like : (a b : List ℕ) → field a 120 8 ≡ field b 120 8 → field a 128 8 ≡ field b 128 8 →

@@ -5,7 +5,7 @@ use Rattle.std.proofs.lemmas.Bool.{cases_lt}
 use Rattle.std.proofs.lemmas.List.{take_at, get_or_past}
 use Rattle.std.proofs.lemmas.List.Elements.{All-get_or}
 use Rattle.std.specs.Prelude.{◌↔◌}
-use Rattle.edf_field.specs.Number.{IsPhysical, Differ}
+use Rattle.edf_field.specs.Number.{IsPhysical, DifferAsNumbers}
 use Rattle.edf_header.specs.Fields.{label_field, physical_minimum_field, physical_maximum_field}
 use Rattle.edf_header.specs.Fields.{digital_minimum_field, digital_maximum_field, samples_field}
 use Rattle.edf_header.specs.Signal.{HasPhysical}
@@ -94,31 +94,33 @@ row-at t i h = elim (cases_lt i (length t.signals)) [
 -- the test of both texts is that of the signal
 pub limits-by-row : (s : SignalTexts) (r : Type 0) → HasRow s →
     (r ↔ IsPhysical s.physical_minimum × IsPhysical s.physical_maximum
-    × Differ s.physical_minimum s.physical_maximum) → (r ↔ HasPhysical (row_of s))
+    × DifferAsNumbers s.physical_minimum s.physical_maximum) → (r ↔ HasPhysical (row_of s))
 limits-by-row s r row is = (
   λ yes. let found = is.0 yes in record {
     minimum = subst (λ (x : List ℕ). IsPhysical x) (sym row.physical_minimum) found.0;
     maximum = subst (λ (x : List ℕ). IsPhysical x) (sym row.physical_maximum) found.1;
-    differ = subst (λ (x : List ℕ). Differ x (physical_maximum_field (row_of s)))
+    differ = subst (λ (x : List ℕ). DifferAsNumbers x (physical_maximum_field (row_of s)))
         (sym row.physical_minimum)
-        (subst (λ (x : List ℕ). Differ s.physical_minimum x) (sym row.physical_maximum) found.2);
+        (subst (λ (x : List ℕ). DifferAsNumbers s.physical_minimum x)
+        (sym row.physical_maximum) found.2);
   },
   λ has. is.1 (
     subst (λ (x : List ℕ). IsPhysical x) row.physical_minimum has.minimum,
     subst (λ (x : List ℕ). IsPhysical x) row.physical_maximum has.maximum,
-    subst (λ (x : List ℕ). Differ s.physical_minimum x) row.physical_maximum
-        (subst (λ (x : List ℕ). Differ x (physical_maximum_field (row_of s)))
+    subst (λ (x : List ℕ). DifferAsNumbers s.physical_minimum x) row.physical_maximum
+        (subst (λ (x : List ℕ). DifferAsNumbers x (physical_maximum_field (row_of s)))
         row.physical_minimum has.differ),
   ),
 )
 
 pub limits-of-texts : (s : SignalTexts) (r : Type 0) (low high : List ℕ) → HasRow s →
     low ≡ s.physical_minimum → high ≡ s.physical_maximum →
-    (length low ≤ 8 → length high ≤ 8 → (r ↔ IsPhysical low × IsPhysical high × Differ low high)) →
+    (length low ≤ 8 → length high ≤ 8 →
+    (r ↔ IsPhysical low × IsPhysical high × DifferAsNumbers low high)) →
     (r ↔ HasPhysical (row_of s))
 limits-of-texts s r low high row low-is high-is is =
     limits-by-row s r row (subst (λ (x : List ℕ). r ↔ IsPhysical x
-    × IsPhysical s.physical_maximum × Differ x s.physical_maximum) low-is
-    (subst (λ (x : List ℕ). r ↔ IsPhysical low × IsPhysical x × Differ low x) high-is
+    × IsPhysical s.physical_maximum × DifferAsNumbers x s.physical_maximum) low-is
+    (subst (λ (x : List ℕ). r ↔ IsPhysical low × IsPhysical x × DifferAsNumbers low x) high-is
     (is (omega (arith, ap (λ (x : List ℕ). length x) low-is, row.low))
     (omega (arith, ap (λ (x : List ℕ). length x) high-is, row.high)))))

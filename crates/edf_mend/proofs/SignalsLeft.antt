@@ -5,7 +5,8 @@ use Rattle.std.specs.Prelude.{All, codes, ℤ, pos, neg_ℤ, ◌<ℤ◌}
 use Rattle.std.proofs.lemmas.Int.{ints}
 use Rattle.std.proofs.lemmas.List.Elements.{All-nil, All-head, All-replicate}
 use Rattle.edf_time.proofs.Decided.{Decided}
-use Rattle.edf_field.specs.Number.{field, IsPhysical, IsSigned, signed_value, Differ, AreSpaces}
+use Rattle.edf_field.specs.Number.{field, IsPhysical, IsSigned, signed_value, DifferAsNumbers}
+use Rattle.edf_field.specs.Number.{AreSpaces}
 use Rattle.edf_field.specs.Number.{IsWhole, whole_value, unsigned, after_digits, after_fraction}
 use Rattle.edf_field.specs.Text.{IsPrintable, spaces}
 use Rattle.edf_header.specs.Signal.{IsLabelled, HasPhysical, HasDigital}
@@ -297,7 +298,7 @@ high-limit old new (inr m) =
 record TwoLimits (low high : List ℕ) : Type 0 where
   minimum : IsPhysical low
   maximum : IsPhysical high
-  differ : Differ low high
+  differ : DifferAsNumbers low high
 
 block-values : (b : SignalTexts) (low high : List ℕ) → HasSignalWidths b →
     AreBlockValues b low high → TwoLimits low high
@@ -306,15 +307,15 @@ block-values b low high h (inl m) =
     record {
       minimum = subst IsPhysical (r.physical_minimum ∙ sym m.1) m.0.minimum;
       maximum = subst IsPhysical (r.physical_maximum ∙ sym m.2) m.0.maximum;
-      differ = subst (λ (x : List ℕ). Differ x high) (r.physical_minimum ∙ sym m.1)
-          (subst (λ (x : List ℕ). Differ (field (row_of b) 104 8) x)
+      differ = subst (λ (x : List ℕ). DifferAsNumbers x high) (r.physical_minimum ∙ sym m.1)
+          (subst (λ (x : List ℕ). DifferAsNumbers (field (row_of b) 104 8) x)
           (r.physical_maximum ∙ sym m.2) m.0.differ);
     }
 block-values b low high h (inr m) = record {
   minimum = subst IsPhysical (sym m.1) (lit< tt, spaces-are 6);
   maximum = subst IsPhysical (sym m.2) (lit< tt, spaces-are 7);
-  differ = subst (λ (x : List ℕ). Differ x high) (sym m.1)
-      (subst (λ (x : List ℕ). Differ (fitted 8 (codes "-1")) x) (sym m.2) (λ same. cc));
+  differ = subst (λ (x : List ℕ). DifferAsNumbers x high) (sym m.1)
+      (subst (λ (x : List ℕ). DifferAsNumbers (fitted 8 (codes "-1")) x) (sym m.2) (λ same. cc));
 }
 
 -- numbers are printable
@@ -387,8 +388,9 @@ block-after b c hb hc p label m =
         physical = record {
           minimum = subst IsPhysical (sym rc.physical_minimum) two.minimum;
           maximum = subst IsPhysical (sym rc.physical_maximum) two.maximum;
-          differ = subst (λ (x : List ℕ). Differ x (field (row_of c) 112 8))
-              (sym rc.physical_minimum) (subst (λ (x : List ℕ). Differ c.physical_minimum x)
+          differ = subst (λ (x : List ℕ). DifferAsNumbers x (field (row_of c) 112 8))
+              (sym rc.physical_minimum) (subst
+              (λ (x : List ℕ). DifferAsNumbers c.physical_minimum x)
               (sym rc.physical_maximum) two.differ);
         };
         minimum = subst IsSigned (sym rc.digital_minimum) low.0;

@@ -7,7 +7,7 @@ use Rattle.std.proofs.Common.{pow-add, Option, MatchOption}
 use Rattle.std.proofs.lemmas.Bool.Decides.{nat_tests}
 use Rattle.std.specs.Option.{unwrap_or}
 use Rattle.std.specs.Str.Parse.{AllDigits, IsNumeral, digits_value}
-use Rattle.edf_field.specs.Number.{IsPhysical, Differ}
+use Rattle.edf_field.specs.Number.{IsPhysical, DifferAsNumbers}
 use Rattle.edf_field.specs.Text.{IsPrintable}
 use Rattle.edf_mend.specs.Values.{IsLoose, FitsLimit, zeros, pointed}
 use Rattle.edf_mend.specs.Inside.Loose.{spelled_of, places_of, digits_of, mantissa_of}
@@ -40,18 +40,22 @@ not-printable false text is never l = absurd (clash (is.1 (loose-printable text 
 -- ---- physical values
 
 pub physical-last : (field none one : List ℕ) (r q : Bool) → none ≡ codes "0" →
-    one ≡ codes "1" → (IsTrue r ↔ IsPhysical field × IsPhysical none × Differ field none) →
-    r ≡ false → (IsTrue q ↔ IsPhysical field × IsPhysical one × Differ field one) →
+    one ≡ codes "1" → (IsTrue r ↔ IsPhysical field × IsPhysical none × DifferAsNumbers field none) →
+    r ≡ false → (IsTrue q ↔ IsPhysical field × IsPhysical one × DifferAsNumbers field one) →
     IsTrue q ↔ IsPhysical field
 physical-last field none one r true none-is one-is first other last =
     (λ e. (last.0 e).0, λ is. refl)
 physical-last field none one r false none-is one-is first other last =
-    let a = never-by r (IsPhysical field × IsPhysical none × Differ field none) first other in
-    let b = never-by false (IsPhysical field × IsPhysical one × Differ field one) last refl in (
+    let a = never-by r (IsPhysical field × IsPhysical none × DifferAsNumbers field none) first other
+    in
+    let b = never-by false (IsPhysical field × IsPhysical one
+    × DifferAsNumbers field one) last refl in (
       λ e. (last.0 e).0,
       λ is. absurd (not-physical field
-          (subst (λ (x : List ℕ). ¬ (IsPhysical field × IsPhysical x × Differ field x)) none-is a)
-          (subst (λ (x : List ℕ). ¬ (IsPhysical field × IsPhysical x × Differ field x)) one-is b)
+          (subst (λ (x : List ℕ). ¬ (IsPhysical field × IsPhysical x × DifferAsNumbers field x))
+          none-is a)
+          (subst (λ (x : List ℕ). ¬ (IsPhysical field × IsPhysical x × DifferAsNumbers field x))
+          one-is b)
           is),
     )
 

@@ -2,7 +2,7 @@
 
 ghost use Rattle.std.specs.Prelude.{◌≡◌, ◌≢◌, ◌↔◌, ◌+◌, ◌-◌, ◌^◌, ◌≤◌, ◌<◌, ◌++◌, ℕ, List, length};
 ghost use Rattle.std.specs.Prelude.{min, IsTrue, IfOk, OnOk, MatchOption, Contains, slice_index};
-ghost use Rattle.edf_field.specs.Number.{IsPhysical, Differ};
+ghost use Rattle.edf_field.specs.Number.{IsPhysical, DifferAsNumbers};
 ghost use Rattle.edf_mend.specs.Header.{fitted};
 ghost use Rattle.edf_mend.specs.Inside.Loose.{front_one, behind_one, IsRead, spelled_of, places_of};
 ghost use Rattle.edf_mend.specs.Values.{IsLoose, IsExponent, IsLimit, FitsLimit, zeros};
@@ -178,7 +178,8 @@ fn fitting(text: &[u8]) -> Option<&[u8]>
 /// Whether two fields are physical values of EDF that differ.
 pub(crate) fn differ(low: &[u8], high: &[u8]) -> bool
     ensures { length low.now ≤ 8 → length high.now ≤ 8 →
-        (IsTrue result ↔ IsPhysical low.now × IsPhysical high.now × Differ low.now high.now) }
+        (IsTrue result ↔ IsPhysical low.now × IsPhysical high.now
+        × DifferAsNumbers low.now high.now) }
 {
     low.len() <= 8 && high.len() <= 8 && physical_values_differ(low, high)
 }

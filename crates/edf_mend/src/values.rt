@@ -4,7 +4,7 @@ ghost use Rattle.std.specs.Prelude.{◌≡◌, ◌≢◌, ◌↔◌, ◌+◌, �
 ghost use Rattle.std.specs.Prelude.{length, codes, min, IsTrue, IfOk, OnOk, MatchOption, Some};
 ghost use Rattle.std.specs.Prelude.{Contains};
 ghost use Rattle.std.specs.Prelude.{◌-◌, slice_index};
-ghost use Rattle.edf_field.specs.Number.{IsPhysical, Differ, IsSigned, signed_value};
+ghost use Rattle.edf_field.specs.Number.{IsPhysical, DifferAsNumbers, IsSigned, signed_value};
 ghost use Rattle.edf_header.specs.Signal.{IsLabelled};
 ghost use Rattle.edf_mend.specs.Header.{row_of, fitted};
 ghost use Rattle.edf_mend.specs.Inside.Head.{signal_at, HasWidths};

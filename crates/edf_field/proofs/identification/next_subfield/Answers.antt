@@ -2,7 +2,7 @@ use Rattle.std.proofs.lemmas.Bool.Decides.{nat_tests}
 use Rattle.std.proofs.Common.{◌==◌, not, arith, sym, ap, ◌∙◌, ◌≡◌, ◌<◌, length, drop, List, ℕ}
 use Rattle.std.proofs.lemmas.List.{nil_from_length}
 use Rattle.std.proofs.lemmas.List.Sums.{prefix_len-le-length}
-use Rattle.edf_field.specs.Number.{front_len}
+use Rattle.edf_field.specs.Number.{unpadded_len}
 use Rattle.edf_field.specs.Text.{subfields}
 use Rattle.edf_field.proofs.Subfields.{spaces_len, skip-spaces, first-front, front-some}
 use Rattle.edf_field.proofs.identification.next_subfield.Goals as goal
@@ -22,7 +22,7 @@ returns-then-is_empty c =
     ∙ nil_from_length c.split_at.result.1.now (grind (arith, nat_tests)))
 
 pub split_at-requires-2 : goal.split_at-requires-2
-split_at-requires-2 c = rw c.front_len.ensures
+split_at-requires-2 c = rw c.unpadded_len.ensures
     (prefix_len-le-length (λ b. not (b == 32)) c.split_at.result.1.now)
 
 pub returns : goal.returns
@@ -31,7 +31,8 @@ returns c =
     let e = after-spaces text c.split_at.result.1.now c.spaces_len.result c.spaces_len.ensures
     c.split_at.ensures.back in
     let some : 0 < length c.split_at.result.1.now = grind (arith, nat_tests) in
-    let more : 0 < front_len c.split_at.result.1.now = rw e (front-some text (rw (sym e) some)) in
+    let more : 0 < unpadded_len c.split_at.result.1.now =
+    rw e (front-some text (rw (sym e) some)) in
     let first = skip-spaces text ∙ ap subfields (sym e)
     ∙ first-front c.split_at.result.1.now more in
-    simp (c.split_at-2.ensures.front, c.split_at-2.ensures.back, c.front_len.ensures) first
+    simp (c.split_at-2.ensures.front, c.split_at-2.ensures.back, c.unpadded_len.ensures) first

@@ -5,18 +5,19 @@ use Rattle.edf_field.proofs.Durations.{not-read, not-lasting}
 use Rattle.edf_field.proofs.number.read_duration.Goals as goal
 
 pub split_at-requires : goal.split_at-requires
-split_at-requires c = rw c.front_len.ensures
+split_at-requires c = rw c.unpadded_len.ensures
     (prefix_len-le-length (λ b. not (b == 32)) c.args.field.now)
 
 pub returns-in-Err : goal.returns-in-Err
 returns-in-Err c =
-    not-read c.args.field.now c.split_at.result.0.now c.front_len.result c.in-Err.fault c.requires
-    c.front_len.ensures c.split_at.ensures.front c.in-Err.ensures
+    not-read c.args.field.now c.split_at.result.0.now c.unpadded_len.result c.in-Err.fault
+    c.requires
+    c.unpadded_len.ensures c.split_at.ensures.front c.in-Err.ensures
 
 pub returns-else-may_last : goal.returns-else-may_last
 returns-else-may_last c =
     not-lasting c.args.field.now c.split_at.result.0.now c.split_at.result.1.now
-    c.front_len.result c.in-Ok.nanos
-    c.front_len.ensures c.split_at.ensures.front c.split_at.ensures.back c.in-Ok.ensures.0
+    c.unpadded_len.result c.in-Ok.nanos
+    c.unpadded_len.ensures c.split_at.ensures.front c.split_at.ensures.back c.in-Ok.ensures.0
     (λ lasts. cc (sym (c.may_last.ensures.1 lasts) ∙ c.if-may_last.false))
     (c.are_spaces.ensures.0 c.if-not-are_spaces.false)

@@ -1,7 +1,7 @@
 use Rattle.std.proofs.Common.{arith, sym, not, eqb}
 use Rattle.std.proofs.lemmas.List.Sums.{prefix_len_is}
 use Rattle.std.proofs.lemmas.Bool.Decides.{nat_tests}
-use Rattle.edf_field.proofs.identification.front_len.Goals as goal
+use Rattle.edf_field.proofs.identification.unpadded_len.Goals as goal
 
 pub returns-then-b-eq32 : goal.returns-then-b-eq32
 returns-then-b-eq32 c =
