@@ -10,7 +10,7 @@ use Rattle.edf_header.specs.Signal.{samples_in_all}
 use Rattle.edf_header.specs.Header.{Layout}
 use Rattle.edf_tal.specs.Tal.{Annotation}
 use Rattle.edf_tal.specs.Tal.{IsAnnotation}
-use Rattle.edf_tal.specs.Block.{IsRead, IsWithinLimits}
+use Rattle.edf_tal.specs.Block.{BlockParsesTo, IsWithinLimits}
 use Rattle.edf_tal.specs.Canonical.{block_text}
 use Rattle.edf_tal.specs.declared.place.Place.{Place}
 use Rattle.edf_tal.specs.declared.place.Place.TheVariants.{First, After, Any}
@@ -29,7 +29,7 @@ MayStand Any base start = Unit {0}
 again : (place : Place) (base start zeros : ℕ) (list : List Annotation) →
     MayStand place base start → start < window → base < window
     → IsWithinLimits list → AllByRecursion IsAnnotation list →
-    IsRead (block_text base start list ++ replicate zeros 0) base place start list
+    BlockParsesTo (block_text base start list ++ replicate zeros 0) base place start list
 again First base start zeros list stands start-in base-in limits notes =
     read-first base start zeros list base-in start-in notes limits stands.0 stands.1
 again (After before duration) base start zeros list stands start-in base-in limits notes =
@@ -51,7 +51,8 @@ readable : (l : Layout) (place : Place) (base size : ℕ) (r : DataRecord) →
 readable l place base size r is e stands fits =
     record-read l place base (2 * samples_in_all l.key.signals) size r e.samples_len is.blocks
     is.record_bytes fits
-    (subst (λ (n : ℕ). IsRead (block_of base r ++ replicate (size - length (block_of base r)) 0) n
+    (subst (λ (n : ℕ). BlockParsesTo
+    (block_of base r ++ replicate (size - length (block_of base r)) 0) n
     place r.start r.annotations) (sym is.start)
     (again place base r.start (size - length (block_of base r)) r.annotations stands e.start
     is.in_window e.limits e.notes))

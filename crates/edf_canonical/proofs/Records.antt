@@ -8,7 +8,7 @@ use Rattle.std.specs.List.{flat_map}
 use Rattle.edf_field.specs.Number.{field}
 use Rattle.edf_header.specs.Header.{Layout}
 use Rattle.edf_header.specs.declared.header.Block.{Block}
-use Rattle.edf_tal.specs.Block.{AreRead, IsRead}
+use Rattle.edf_tal.specs.Block.{BlocksParseTo, BlockParsesTo}
 use Rattle.edf_tal.specs.declared.place.Place.{Place}
 use Rattle.edf_fragment.specs.Fragment.{DataRecord, IsDataRecord, AreDataRecords, blocks, outside}
 use Rattle.edf_fragment.specs.Fragment.{ordinary_bytes, place_after}
@@ -52,7 +52,7 @@ length-filled b size fits = omega (
 pub record-read : (l : Layout) (place : Place) (base at size : ℕ) (r : DataRecord)
     → length r.samples ≡ at → l.blocks ≡ one_block at size → l.record_bytes ≡ at + size →
     length (block_of base r) ≤ size
-    → IsRead (block_of base r ++ replicate (size - length (block_of base r)) 0) l.start place
+    → BlockParsesTo (block_of base r ++ replicate (size - length (block_of base r)) 0) l.start place
     r.start r.annotations
     → IsDataRecord l place (record_text base size r) r
 record-read l place base at size r before one whole fits read =
@@ -60,7 +60,7 @@ record-read l place base at size r before one whole fits read =
     let len : length b ≡ size = length-filled (block_of base r) size fits in
     record {
       len = omega (arith, length-append r.samples b, len);
-      read = subst (λ (x : List (List ℕ)). AreRead x l.start place r.start r.annotations)
+      read = subst (λ (x : List (List ℕ)). BlocksParseTo x l.start place r.start r.annotations)
           (sym (blocks-after l at size r.samples b one before len)) read;
       samples_are = sym (ordinary-before l at size r.samples b one before len);
     }

@@ -12,7 +12,7 @@ use Rattle.edf_field.specs.Number.{field}
 use Rattle.edf_header.specs.Header.{Layout, IsLayout, AreApart, block_bytes, least_records}
 use Rattle.edf_header.specs.Header.{most_records}
 use Rattle.edf_header.specs.declared.header.Block.{Block}
-use Rattle.edf_tal.specs.Block.{cut}
+use Rattle.edf_tal.specs.Block.{split_by_sizes}
 use Rattle.edf_tal.proofs.Cited.{cut-joined}
 use Rattle.edf_fragment.specs.Fragment.{outside, blocks, ordinary_bytes}
 use Rattle.edf_fragment.proofs.HeaderParts.{field_front}
@@ -133,12 +133,12 @@ ordinary-len l bytes i len = omega (
 -- the joined blocks, cut by the sizes of the header's
 pub cut-blocks : (l : Layout) (bytes sizes block : List ℕ) → IsLayout l →
     length bytes ≡ l.record_bytes → sizes ≡ map (λ b. b.bytes) l.blocks →
-    block ≡ joined (blocks l bytes) → cut sizes block ≡ blocks l bytes
+    block ≡ joined (blocks l bytes) → split_by_sizes sizes block ≡ blocks l bytes
 cut-blocks l bytes sizes block i len sizes-are block-is =
     let lengths : sizes ≡ map length (blocks l bytes) = sizes-are
     ∙ sym (length-pieces 0 l.blocks bytes (apart-in l bytes i len)) in
-    ap (λ (x : List ℕ). cut x block) lengths
-    ∙ ap (λ (x : List ℕ). cut (map length (blocks l bytes)) x) block-is
+    ap (λ (x : List ℕ). split_by_sizes x block) lengths
+    ∙ ap (λ (x : List ℕ). split_by_sizes (map length (blocks l bytes)) x) block-is
     ∙ cut-joined (blocks l bytes)
 
 -- a data record has at least one block

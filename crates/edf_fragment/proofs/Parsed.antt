@@ -8,7 +8,7 @@ use Rattle.edf_header.specs.Header.{HeaderRecord, IsHeader, Layout, layout_of, l
 use Rattle.edf_header.specs.Header.{most_records}
 use Rattle.edf_header.proofs.Cited.{header-or-fault, header-has-layout}
 use Rattle.edf_tal.specs.Tal.{Annotation}
-use Rattle.edf_tal.specs.Block.{AreRead}
+use Rattle.edf_tal.specs.Block.{BlocksParseTo}
 use Rattle.edf_tal.specs.declared.place.Place.{Place}
 use Rattle.edf_tal.specs.declared.place.Place.TheVariants.{First}
 use Rattle.edf_tal.proofs.Cited.{blocks-some-answer}
@@ -123,7 +123,7 @@ module _ (b : List ℕ) (h : HeaderRecord) (rest : List ℕ) (is : IsHeader b h 
   -- the data record at the front of enough bytes
   next-record : (last : Place) (left : List ℕ) (start : ℕ) (list : List Annotation) →
       (layout_of h).record_bytes ≤ length left
-      → AreRead (blocks (layout_of h) left) (layout_of h).start last start list
+      → BlocksParseTo (blocks (layout_of h) left) (layout_of h).start last start list
       → IsDataRecord (layout_of h) last (take (layout_of h).record_bytes left)
       (record {
         start = start;
@@ -141,7 +141,7 @@ module _ (b : List ℕ) (h : HeaderRecord) (rest : List ℕ) (is : IsHeader b h 
       (omega (arith, len)) in
       record {
         len = len;
-        read = subst (λ (x : List (List ℕ)). AreRead x l.start last start list)
+        read = subst (λ (x : List (List ℕ)). BlocksParseTo x l.start last start list)
             same read;
         samples_are = refl;
       }

@@ -14,8 +14,8 @@ use Rattle.edf_header.specs.Header.{HeaderRecord, IsHeader, Layout, layout_of}
 use Rattle.edf_header.proofs.Cited.{key-duration-some}
 use Rattle.edf_header.proofs.Cited.{header-has-layout}
 use Rattle.edf_header.proofs.Cited.{one-header}
-use Rattle.edf_tal.specs.Tal.{Tal, Annotation, IsTimed, record_start, first_tals}
-use Rattle.edf_tal.specs.Block.{AreRead, KeepsPlace}
+use Rattle.edf_tal.specs.Tal.{Tal, Annotation, HasTimeKeepingTal, record_start, first_tals}
+use Rattle.edf_tal.specs.Block.{BlocksParseTo, StartFitsPlace}
 use Rattle.edf_header.specs.declared.limits.TheConstants.{MOST_BLOCK_BYTES, MOST_RECORDS}
 use Rattle.edf_tal.specs.declared.place.Place.{Place}
 use Rattle.edf_tal.specs.declared.place.Place.TheVariants.{First, After, Any}
@@ -40,7 +40,8 @@ least_start (After before duration) = before + duration
 least_start Any = 0
 
 low-start : (bs : List (List ℕ)) (file_start : ℕ) (place : Place) (start : ℕ)
-    (list : List Annotation) → AreRead bs file_start place start list → least_start place ≤ start
+    (list : List Annotation) → BlocksParseTo bs file_start place start list →
+    least_start place ≤ start
 low-start bs file_start First start list read = omega arith
 low-start bs file_start Any start list read = omega arith
 low-start bs file_start (After before duration) start list read =
@@ -65,7 +66,7 @@ sound-record l place bytes r in_layout is = record {
 -- such a record may be kept in memory
 pub read-kept : (bs : List (List ℕ)) (file_start : ℕ) (place : Place) (start : ℕ) (samples : List ℕ)
     (list : List Annotation) → length samples ≤ MOST_BLOCK_BYTES
-    → AreRead bs file_start place start list →
+    → BlocksParseTo bs file_start place start list →
     IsValidRecord (record { start = start; samples = samples; annotations = list })
 read-kept bs file_start place start samples list few read = record {
   size = record { samples = few; annotations = read.limits };
@@ -102,7 +103,8 @@ abs-below (pos m) n from to = omega (arith, ints)
 abs-below (negsuc m) n from to = absurd (omega (arith, ints))
 
 -- it starts in the second that the header names
-in-second : (file_start : ℕ) (ts : List Tal) → IsTimed ts → KeepsPlace First file_start ts →
+in-second : (file_start : ℕ) (ts : List Tal) → HasTimeKeepingTal ts →
+    StartFitsPlace First file_start ts →
     record_start file_start ts < file_start + 10 ^ 9
 in-second file_start [] timed keeps = absurd timed
 in-second file_start (t ∷ ts) timed (from, to) =
@@ -110,7 +112,7 @@ in-second file_start (t ∷ ts) timed (from, to) =
     (omega (arith, ints))
 
 first-start : (bs : List (List ℕ)) (file_start start : ℕ) (list : List Annotation) →
-    AreRead bs file_start First start list → start < file_start + 10 ^ 9
+    BlocksParseTo bs file_start First start list → start < file_start + 10 ^ 9
 first-start bs file_start start list read =
     rw (read.start_is) (in-second file_start (first_tals read.tals) read.timed read.keeps)
 

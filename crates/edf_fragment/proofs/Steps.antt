@@ -4,7 +4,7 @@ use Rattle.std.proofs.Common.{arith, refl, sym, ap, ◌∙◌, subst, Option}
 use Rattle.std.specs.Bool.{MatchBool}
 use Rattle.std.specs.Io.KnownBytes.{Consumes}
 use Rattle.edf_header.specs.Header.{Layout, IsLayout, most_records}
-use Rattle.edf_tal.specs.Block.{AreRead, IsBlocksFault, IsBlocksRefusal, cut}
+use Rattle.edf_tal.specs.Block.{BlocksParseTo, IsFirstBlocksFault, IsBlocksRefusal, split_by_sizes}
 use Rattle.edf_tal.specs.declared.place.TalFault.{TalFault}
 use Rattle.edf_tal.specs.declared.place.TalFault.TheVariants.{Memory as TalMemory}
 use Rattle.edf_fragment.specs.Fragment.{DataRecord, IsDataRecord, blocks, ordinary_bytes}
@@ -54,7 +54,7 @@ pub record HasWhole (l : Layout) (p : Progress) (left rest : Option (List ℕ))
 -- its blocks have no fault
 given_whole : (l : Layout) (p : Progress) (left rest : Option (List ℕ)) (whole : List ℕ)
     (r : DataRecord) → HasWhole l p left rest whole
-    → AreRead (blocks l whole) l.start p.place r.start r.annotations →
+    → BlocksParseTo (blocks l whole) l.start p.place r.start r.annotations →
     r.samples ≡ ordinary_bytes l whole → GivesRecord l p left rest r
 given_whole l p left rest whole r h read samples =
     let is : IsDataRecord l p.place whole r =
@@ -63,7 +63,7 @@ given_whole l p left rest whole r h read samples =
 
 refused_blocks : (l : Layout) (p : Progress) (left rest : Option (List ℕ)) (whole : List ℕ)
     (nth : ℕ) (e : TalFault) → HasWhole l p left rest whole
-    → nth ≡ p.given + 1 → IsBlocksFault (blocks l whole) l.start p.place e →
+    → nth ≡ p.given + 1 → IsFirstBlocksFault (blocks l whole) l.start p.place e →
     RefusesBlock l p left rest nth e
 refused_blocks l p left rest whole nth e h is fault =
     record {
@@ -109,7 +109,8 @@ pub was_cut : (l : Layout) (p : Progress) (left rest : Option (List ℕ)) (there
     → MatchBool there (Consumes left rest filled) (EndsThere l p left rest) → there ≡ true →
     length filled ≡ l.record_bytes → whole ≡ filled
     → samples ≡ ordinary_bytes l whole → block ≡ joined (blocks l whole) →
-    sizes ≡ map (λ b. b.bytes) l.blocks → WasCut l p left rest whole samples (cut sizes block)
+    sizes ≡ map (λ b. b.bytes) l.blocks →
+    WasCut l p left rest whole samples (split_by_sizes sizes block)
 was_cut l p left rest there whole filled samples block sizes i wanted step is-there len same
     samples-are block-is sizes-are =
     let read : Consumes left rest filled =
@@ -131,12 +132,14 @@ was_cut l p left rest there whole filled samples block sizes i wanted step is-th
 pub given_record : (l : Layout) (p : Progress) (left rest : Option (List ℕ))
     (whole samples : List ℕ) (bs : List (List ℕ)) (s : ℕ) (r t : DataRecord) →
     WasCut l p left rest whole samples bs
-    → s ≡ l.start → AreRead bs s p.place t.start t.annotations → r ≡ t → t.samples ≡ samples →
+    → s ≡ l.start → BlocksParseTo bs s p.place t.start t.annotations → r ≡ t → t.samples ≡ samples →
     GivesRecord l p left rest r
 given_record l p left rest whole samples bs s r t c from read same same-samples =
-    let here = subst (λ (x : List (List ℕ)). AreRead x s p.place t.start t.annotations) c.blocks_are
+    let here = subst (λ (x : List (List ℕ)). BlocksParseTo x s p.place t.start t.annotations)
+    c.blocks_are
     read in
-    let there = subst (λ (n : ℕ). AreRead (blocks l whole) n p.place t.start t.annotations) from
+    let there = subst (λ (n : ℕ). BlocksParseTo (blocks l whole) n p.place t.start t.annotations)
+    from
     here in
     subst (GivesRecord l p left rest) (sym same)
     (given_whole l p left rest whole t c.has there (same-samples ∙ c.samples_are))

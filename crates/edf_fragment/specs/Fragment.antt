@@ -7,7 +7,7 @@ use Rattle.edf_header.specs.Header.{most_records}
 use Rattle.edf_header.specs.declared.header.Block.{Block}
 use Rattle.edf_header.specs.declared.limits.TheConstants.{MOST_BLOCK_BYTES}
 use Rattle.edf_tal.specs.Tal.{Annotation}
-use Rattle.edf_tal.specs.Block.{AreRead, IsWithinLimits}
+use Rattle.edf_tal.specs.Block.{BlocksParseTo, IsWithinLimits}
 use Rattle.edf_tal.specs.declared.place.Place.{Place}
 use Rattle.edf_tal.specs.declared.place.Place.TheVariants.{First, After}
 
@@ -40,7 +40,7 @@ ordinary_bytes l bytes = outside 0 l.blocks bytes
 pub record IsDataRecord (l : Layout) (place : Place) (bytes : List ℕ) (r : DataRecord) : Type 0
   where
     pub len : length bytes ≡ l.record_bytes
-    pub read : AreRead (blocks l bytes) l.start place r.start r.annotations
+    pub read : BlocksParseTo (blocks l bytes) l.start place r.start r.annotations
     pub samples_are : r.samples ≡ ordinary_bytes l bytes
 
 -- the place of the record after one that starts there

@@ -6,10 +6,11 @@ use Rattle.std.proofs.Common.{append_assoc, append-nil, ℤ}
 use Rattle.std.proofs.lemmas.Grind.{flat_map-append}
 use Rattle.std.specs.List.{AllByRecursion, flat_map}
 use Rattle.std.specs.Prelude.{IsUtf8}
-use Rattle.edf_tal.specs.Tal.{Tal, Annotation, IsOnset, IsDurationPart, ended, AreTals}
+use Rattle.edf_tal.specs.Tal.{Tal, Annotation, IsOnset, IsDurationPart, terminated, AreTals}
 use Rattle.edf_tal.specs.Tal.{AreTalsAndZeros, AreBlocks, first_tals, all_tals, HaveUtf8Texts}
-use Rattle.edf_tal.specs.Tal.{IsTimed, IsTalInWindow, tal_annotations, annotations, record_start}
-use Rattle.edf_tal.specs.Block.{AreRead, IsRead, IsWithinLimits}
+use Rattle.edf_tal.specs.Tal.{HasTimeKeepingTal, IsTalInWindow, tal_annotations, annotations}
+use Rattle.edf_tal.specs.Tal.{record_start}
+use Rattle.edf_tal.specs.Block.{BlocksParseTo, BlockParsesTo, IsWithinLimits}
 use Rattle.edf_tal.specs.declared.place.Place.TheVariants.{Any}
 use Rattle.edf_tal.proofs.OneBlock.{one-block}
 use Rattle.edf_mend.specs.Texts.{IsTime}
@@ -83,21 +84,22 @@ of-onset block (sign ∷ text) duration more z d e (inr (minus, (n, s, v))) is =
       };
     }
 
-of-tals : (block : List ℕ) (ts : List Tal) → AreTalsAndZeros block ts → IsTimed ts →
+of-tals : (block : List ℕ) (ts : List Tal) → AreTalsAndZeros block ts → HasTimeKeepingTal ts →
     ReadsOnset block
 of-tals block [] a timed = absurd timed
 of-tals block (t ∷ ts) (front, zeros, parts, (f, r, cut, is, more), are) timed =
-    of-onset block is.onset is.duration ((ended t.texts ++ 0 ∷ []) ++ (r ++ zeros)) t.onset t.duration
+    of-onset block is.onset is.duration
+    ((terminated t.texts ++ 0 ∷ []) ++ (r ++ zeros)) t.onset t.duration
     (parts ∙ ap (λ (x : List ℕ). x ++ zeros) (cut ∙ ap (λ (x : List ℕ). x ++ r) is.parts)
     ∙ simp append_assoc) is.is_onset is.is_duration
 
 of-blocks : (block : List ℕ) (others : List (List ℕ)) (tss : List (List Tal)) →
-    AreBlocks (block ∷ others) tss → IsTimed (first_tals tss) → ReadsOnset block
+    AreBlocks (block ∷ others) tss → HasTimeKeepingTal (first_tals tss) → ReadsOnset block
 of-blocks block others [] a timed = absurd a
 of-blocks block others (ts ∷ tss) a timed = of-tals block ts a.0 timed
 
 pub reads-onset : (block : List ℕ) (others : List (List ℕ)) (s start : ℕ)
-    (list : List Annotation) → AreRead (block ∷ others) s Any start list → ReadsOnset block
+    (list : List Annotation) → BlocksParseTo (block ∷ others) s Any start list → ReadsOnset block
 reads-onset block others s start list r = of-blocks block others r.tals r.lists r.timed
 
 -- zeros behind the rest change nothing of its front
@@ -139,23 +141,23 @@ zeros-end x (b ∷ zeros) e are =
 tals-end : (front : List ℕ) (t : Tal) (ts : List Tal) → AreTals front (t ∷ ts) → EndsZero front
 tals-end front t [] (f, r, cut, is, more) =
     subst EndsZero (sym (cut ∙ ap (λ (x : List ℕ). f ++ x) more ∙ append-nil f ∙ is.parts))
-    ((is.onset ++ is.duration) ++ 20 ∷ ended t.texts, refl)
+    ((is.onset ++ is.duration) ++ 20 ∷ terminated t.texts, refl)
 tals-end front t (u ∷ ts) (f, r, cut, is, more) =
     subst EndsZero (sym cut) (behind-zero f r (tals-end r u ts more))
 
-block-end : (block : List ℕ) (ts : List Tal) → AreTalsAndZeros block ts → IsTimed ts →
+block-end : (block : List ℕ) (ts : List Tal) → AreTalsAndZeros block ts → HasTimeKeepingTal ts →
     EndsZero block
 block-end block [] a timed = absurd timed
 block-end block (t ∷ ts) (front, zeros, parts, are, none) timed =
     subst EndsZero (sym parts) (zeros-end front zeros (tals-end front t ts are) none)
 
 blocks-end : (block : List ℕ) (others : List (List ℕ)) (tss : List (List Tal)) →
-    AreBlocks (block ∷ others) tss → IsTimed (first_tals tss) → EndsZero block
+    AreBlocks (block ∷ others) tss → HasTimeKeepingTal (first_tals tss) → EndsZero block
 blocks-end block others [] a timed = absurd a
 blocks-end block others (ts ∷ tss) a timed = block-end block ts a.0 timed
 
 pub read-end : (block : List ℕ) (s start : ℕ) (list : List Annotation) →
-    IsRead block s Any start list → EndsZero block
+    BlockParsesTo block s Any start list → EndsZero block
 read-end block s start list r = blocks-end block [] r.tals r.lists r.timed
 
 -- ---- all blocks, the first of which is another
@@ -176,7 +178,7 @@ all-back P [] ys p = p
 all-back P (x ∷ xs) ys p = all-back P xs ys p.1
 
 -- the annotations of lists, of which the first keeps time
-drop-one : (s : ℕ) (ts : List Tal) (more : List Annotation) → IsTimed ts →
+drop-one : (s : ℕ) (ts : List Tal) (more : List Annotation) → HasTimeKeepingTal ts →
     drop 1 (flat_map (tal_annotations s) ts ++ more)
     ≡ drop 1 (flat_map (tal_annotations s) ts) ++ more
 drop-one s [] more timed = absurd timed
@@ -190,7 +192,7 @@ drop-one s (t ∷ ts) more (texts, is) = one t.onset t.duration t.texts is
     one o d [] e = cc
     one o d (y ∷ x) e = refl
 
-apart-list : (s : ℕ) (ts : List Tal) (tss : List (List Tal)) → IsTimed ts →
+apart-list : (s : ℕ) (ts : List Tal) (tss : List (List Tal)) → HasTimeKeepingTal ts →
     annotations s (all_tals (ts ∷ tss))
     ≡ drop 1 (flat_map (tal_annotations s) ts) ++ flat_map (tal_annotations s) (all_tals tss)
 apart-list s ts tss timed =
@@ -205,14 +207,14 @@ pub record Single (block : List ℕ) (s start : ℕ) (list : List Annotation) : 
   pub tals : List Tal
   pub are : AreTalsAndZeros block tals
   pub good : HaveUtf8Texts tals
-  pub timed : IsTimed tals
+  pub timed : HasTimeKeepingTal tals
   pub window : AllByRecursion (IsTalInWindow s) tals
   pub limits : IsWithinLimits list
   pub start_is : start ≡ record_start s tals
   pub list_is : list ≡ drop 1 (flat_map (tal_annotations s) tals)
 
 single-of : (block : List ℕ) (s start : ℕ) (list : List Annotation) (tss : List (List Tal)) →
-    AreBlocks (block ∷ []) tss → HaveUtf8Texts (all_tals tss) → IsTimed (first_tals tss) →
+    AreBlocks (block ∷ []) tss → HaveUtf8Texts (all_tals tss) → HasTimeKeepingTal (first_tals tss) →
     AllByRecursion (IsTalInWindow s) (all_tals tss) → IsWithinLimits list →
     start ≡ record_start s (first_tals tss) → list ≡ annotations s (all_tals tss) →
     Single block s start list
@@ -229,7 +231,8 @@ single-of block s start list (ts ∷ []) a good timed window limits at is = reco
 }
 single-of block s start list (ts ∷ us ∷ tss) a good timed window limits at is = absurd a.1
 
-pub single : (block : List ℕ) (s start : ℕ) (list : List Annotation) → IsRead block s Any start list →
+pub single : (block : List ℕ) (s start : ℕ) (list : List Annotation) →
+    BlockParsesTo block s Any start list →
     Single block s start list
 single block s start list r =
     single-of block s start list r.tals r.lists r.good r.timed r.window r.limits r.start_is r.list_is
@@ -249,7 +252,7 @@ record Several (block : List ℕ) (others : List (List ℕ)) (s : ℕ) (list : L
 
 several-of : (block : List ℕ) (others : List (List ℕ)) (s : ℕ) (list : List Annotation)
     (tss : List (List Tal)) → AreBlocks (block ∷ others) tss → HaveUtf8Texts (all_tals tss) →
-    IsTimed (first_tals tss) → AllByRecursion (IsTalInWindow s) (all_tals tss) →
+    HasTimeKeepingTal (first_tals tss) → AllByRecursion (IsTalInWindow s) (all_tals tss) →
     IsWithinLimits list → list ≡ annotations s (all_tals tss) → Several block others s list
 several-of block others s list [] a good timed window limits is = absurd a
 several-of block others s list (ts ∷ tss) a good timed window limits is = record {
@@ -264,8 +267,9 @@ several-of block others s list (ts ∷ tss) a good timed window limits is = reco
 }
 
 pub reread : (block block' : List ℕ) (others : List (List ℕ)) (s was is w : ℕ)
-    (list all : List Annotation) → IsRead block s Any was list → IsRead block' s Any is list →
-    AreRead (block ∷ others) s Any w all → AreRead (block' ∷ others) s Any is all
+    (list all : List Annotation) → BlockParsesTo block s Any was list →
+    BlockParsesTo block' s Any is list →
+    BlocksParseTo (block ∷ others) s Any w all → BlocksParseTo (block' ∷ others) s Any is all
 reread block block' others s was is w list all p q r =
     let a = single block s was list p in
     let b = single block' s is list q in

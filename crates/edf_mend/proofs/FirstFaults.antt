@@ -4,7 +4,7 @@ use Rattle.std.proofs.Common.{ap, ◌∙◌, subst, inl, inr, arith, append-nil}
 use Rattle.std.proofs.Common.{length-append}
 use Rattle.edf_header.specs.Header.{HeaderRecord, IsHeader, IsLayout, layout_of}
 use Rattle.edf_header.specs.Header.{least_records}
-use Rattle.edf_tal.specs.Block.{IsBlocksFault}
+use Rattle.edf_tal.specs.Block.{IsFirstBlocksFault}
 use Rattle.edf_tal.specs.declared.place.Place.{Place}
 use Rattle.edf_tal.specs.declared.place.Place.TheVariants.{First}
 use Rattle.edf_fragment.specs.Fault.{ReadsUpTo, IsFirstFault}
@@ -55,9 +55,11 @@ module _ (front : List ℕ) (h : HeaderRecord) (is_header : IsHeader front h [])
         is_nth = e.is_nth;
         may_come = omega (arith, e.is_nth, e.may_come);
         whole = omega (arith, len, length-append next more);
-        refused = subst (λ (bs : List (List ℕ)). IsBlocksFault bs (layout_of h).start last fault)
+        refused = subst (λ (bs : List (List ℕ)). IsFirstBlocksFault bs
+            (layout_of h).start last fault)
             (sym (blocks-front (layout_of h) next more layout (omega (arith, len))))
-            (subst (λ (x : List ℕ). IsBlocksFault (blocks (layout_of h) x) (layout_of h).start last
+            (subst (λ (x : List ℕ). IsFirstBlocksFault (blocks (layout_of h) x)
+            (layout_of h).start last
             fault) whole e.refused);
       }
     where

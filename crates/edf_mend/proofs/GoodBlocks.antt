@@ -11,7 +11,7 @@ use Rattle.std.proofs.lemmas.Slice.Eq.{bytes_eq-Decides}
 use Rattle.edf_time.specs.Decimal.{IsSeconds, IsFine, IsDecimal}
 use Rattle.edf_time.proofs.Cited.{same-parts}
 use Rattle.edf_tal.specs.Tal.{Tal, IsTal, IsOnset, IsDurationPart, AreTals, AreTalsAndZeros}
-use Rattle.edf_tal.specs.Tal.{AreBlocks, HaveUtf8Texts, all_tals, ended}
+use Rattle.edf_tal.specs.Tal.{AreBlocks, HaveUtf8Texts, all_tals, terminated}
 use Rattle.edf_tal.proofs.OneBlock.{tal-sides}
 use Rattle.edf_fragment.proofs.Fronts.{same_front}
 use Rattle.edf_mend.proofs.SpelledBlocks.{same-lists, one-list, one-block, fill-none}
@@ -103,16 +103,16 @@ written bytes t i utf8 =
       duration = d.text;
       texts = t.texts;
     } in
-    let whole : bytes ≡ (i.onset ++ i.duration) ++ 20 ∷ (ended t.texts ++ 0 ∷ []) =
+    let whole : bytes ≡ (i.onset ++ i.duration) ++ 20 ∷ (terminated t.texts ++ 0 ∷ []) =
     sym (append-nil bytes) ∙ tal-sides bytes [] t i in
-    let both : (i.onset ++ i.duration) ++ 20 ∷ (ended t.texts ++ 0 ∷ [])
-    ≡ (o.sign ∷ (o.text ++ duration_part d.text)) ++ 20 ∷ (ended t.texts ++ 0 ∷ []) =
-    ap (λ (x : List ℕ). (x ++ i.duration) ++ 20 ∷ (ended t.texts ++ 0 ∷ [])) o.is
-    ∙ ap (λ (x : List ℕ). ((o.sign ∷ o.text) ++ x) ++ 20 ∷ (ended t.texts ++ 0 ∷ [])) d.is in
-    let end : (o.sign ∷ (o.text ++ duration_part d.text)) ++ 20 ∷ (ended t.texts ++ 0 ∷ [])
+    let both : (i.onset ++ i.duration) ++ 20 ∷ (terminated t.texts ++ 0 ∷ [])
+    ≡ (o.sign ∷ (o.text ++ duration_part d.text)) ++ 20 ∷ (terminated t.texts ++ 0 ∷ []) =
+    ap (λ (x : List ℕ). (x ++ i.duration) ++ 20 ∷ (terminated t.texts ++ 0 ∷ [])) o.is
+    ∙ ap (λ (x : List ℕ). ((o.sign ∷ o.text) ++ x) ++ 20 ∷ (terminated t.texts ++ 0 ∷ [])) d.is in
+    let end : (o.sign ∷ (o.text ++ duration_part d.text)) ++ 20 ∷ (terminated t.texts ++ 0 ∷ [])
     ≡ tal_bytes w =
     ap (λ (x : List ℕ). o.sign ∷ x) (append_assoc o.text (duration_part d.text)
-    (20 ∷ (ended t.texts ++ 0 ∷ []))) in
+    (20 ∷ (terminated t.texts ++ 0 ∷ []))) in
     record {
       tal = w;
       bytes_are = whole ∙ both ∙ end;

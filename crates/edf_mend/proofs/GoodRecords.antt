@@ -9,7 +9,7 @@ use Rattle.std.proofs.lemmas.List.Elements.{All-nil, All-cons, All-head, All-tai
 use Rattle.edf_field.specs.Number.{field, duration_of}
 use Rattle.edf_header.specs.Header.{Layout, IsLayout, AreApart}
 use Rattle.edf_header.specs.declared.header.Block.{Block}
-use Rattle.edf_tal.specs.Block.{AreRead}
+use Rattle.edf_tal.specs.Block.{BlocksParseTo}
 use Rattle.edf_tal.specs.Tal.{Annotation}
 use Rattle.edf_tal.specs.declared.place.Place.{Place}
 use Rattle.edf_tal.specs.declared.place.Place.TheVariants.{Any, After}
@@ -200,7 +200,7 @@ none-told l p from olds (t ∷ ts) order a =
 -- ---- starts
 
 pub anywhere : (bs : List (List ℕ)) (start : ℕ) (p : Place) (m : ℕ) (list : List Annotation) →
-    AreRead bs start p m list → AreRead bs start Any m list
+    BlocksParseTo bs start p m list → BlocksParseTo bs start Any m list
 anywhere bs start p m list r = record {
   tals = r.tals;
   lists = r.lists;

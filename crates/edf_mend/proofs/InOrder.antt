@@ -7,7 +7,7 @@ use Rattle.std.proofs.lemmas.Bool.{cases_lt}
 use Rattle.std.proofs.lemmas.List.Elements.{All-head, All-tail}
 use Rattle.edf_field.specs.Number.{duration_of}
 use Rattle.edf_header.specs.Header.{Layout}
-use Rattle.edf_tal.specs.Block.{AreRead}
+use Rattle.edf_tal.specs.Block.{BlocksParseTo}
 use Rattle.edf_tal.specs.Tal.{Annotation}
 use Rattle.edf_tal.specs.declared.place.Place.{Place}
 use Rattle.edf_tal.specs.declared.place.Place.TheVariants.{First, Any as Anywhere, After}
@@ -32,7 +32,7 @@ use Rattle.edf_mend.specs.declared.wanted.Wanted.{Wanted}
 pub record ReadsAt (l : Layout) (place : Place) (bytes : List ℕ) : Type 0 where
   pub start : ℕ
   pub list : List Annotation
-  pub read : AreRead (blocks l bytes) l.start place start list
+  pub read : BlocksParseTo (blocks l bytes) l.start place start list
 
 -- each behind the one before
 abbrev pub ReadInOrder : Layout → Place → List (List ℕ) → Type 0
@@ -75,8 +75,8 @@ in-order l place (r ∷ rs) sizes order =
 -- ---- the place of one that is read anywhere
 
 later : (l : Layout) (before start : ℕ) (bs : List (List ℕ)) (list : List Annotation) →
-    before + duration_of l.key.duration ≤ start → AreRead bs l.start Anywhere start list →
-    AreRead bs l.start (After before (duration_of l.key.duration)) start list
+    before + duration_of l.key.duration ≤ start → BlocksParseTo bs l.start Anywhere start list →
+    BlocksParseTo bs l.start (After before (duration_of l.key.duration)) start list
 later l before start bs list le r = record {
   tals = r.tals;
   lists = r.lists;
@@ -139,7 +139,7 @@ step-on l start (r ∷ rs) steps =
     )
 
 anywhere : (bs : List (List ℕ)) (s start : ℕ) (list : List Annotation) →
-    AreRead bs s First start list → AreRead bs s Anywhere start list
+    BlocksParseTo bs s First start list → BlocksParseTo bs s Anywhere start list
 anywhere bs s start list r = record {
   tals = r.tals;
   lists = r.lists;
@@ -165,7 +165,7 @@ record-read w l place old new (inl p) r = by r.texts
     by (inl q) = record {
       start = r.start;
       list = r.list;
-      read = subst (λ (bs : List (List ℕ)). AreRead bs l.start place r.start r.list)
+      read = subst (λ (bs : List (List ℕ)). BlocksParseTo bs l.start place r.start r.list)
           (blocks-one (blocks l old) r.made (blocks l new) q.1 p.1.each) r.read;
     }
     by (inr q) = absurd (q.0 p.0)
@@ -177,7 +177,7 @@ record-read w l place old new (inr p) r = by r.texts
     by (inr q) = record {
       start = r.start;
       list = r.list;
-      read = subst (λ (bs : List (List ℕ)). AreRead bs l.start place r.start r.list)
+      read = subst (λ (bs : List (List ℕ)). BlocksParseTo bs l.start place r.start r.list)
           (q.1 ∙ ap (λ (x : List ℕ). blocks l x) (sym p.1)) r.read;
     }
 

@@ -14,7 +14,7 @@ use Rattle.edf_header.specs.declared.header.Block.{Block}
 use Rattle.edf_tal.specs.Tal.{Tal, Annotation}
 use Rattle.edf_tal.specs.Tal.{AreTalsAndZeros, AreBlocks, first_tals}
 use Rattle.edf_tal.specs.Tal.{record_start}
-use Rattle.edf_tal.specs.Block.{AreRead, IsRead}
+use Rattle.edf_tal.specs.Block.{BlocksParseTo, BlockParsesTo}
 use Rattle.edf_tal.specs.declared.place.Place.TheVariants.{Any}
 use Rattle.edf_tal.proofs.OneBlock.{one-block}
 use Rattle.edf_tal.proofs.Cited.{one-read}
@@ -119,8 +119,8 @@ first-starts block others s start a (ts ∷ tss) p q is =
     is ∙ ap (record_start s) (one-block block ts a q.0 p)
 
 pub one-start : (block : List ℕ) (others : List (List ℕ)) (s w start : ℕ)
-    (all list : List Annotation) → AreRead (block ∷ others) s Any w all →
-    IsRead block s Any start list → w ≡ start
+    (all list : List Annotation) → BlocksParseTo (block ∷ others) s Any w all →
+    BlockParsesTo block s Any start list → w ≡ start
 one-start block others s w start all list r p =
     let a = single block s start list p in
     first-starts block others s w a.tals r.tals a.are r.lists r.start_is ∙ sym a.start_is
@@ -129,7 +129,7 @@ pub differs : (s : ℕ) (block block' : List ℕ) (was start by : ℕ) (list : L
     ReadsBoth s block block' was start list → by ≡ apart was start → 0 < by → block ≢ block'
 differs s block block' was start by list reads by_is some e =
     let same : was ≡ start = one-start block [] s was start list list reads.old_read
-    (subst (λ (x : List ℕ). IsRead x s Any start list) (sym e) reads.new_read) in
+    (subst (λ (x : List ℕ). BlockParsesTo x s Any start list) (sym e) reads.new_read) in
     omega (arith, by_is, same)
 
 module _ (l : Layout) (first : Block) (others : List Block) (to : ℕ)
@@ -152,14 +152,14 @@ module _ (l : Layout) (first : Block) (others : List Block) (to : ℕ)
   -- what is read of the whole data record
   pub reads-there : (old new front block block' back : List ℕ) (was is w : ℕ)
       (list all : List Annotation) → IsCutAt first old front block back →
-      IsCutAt first new front block' back → IsRead block l.start Any was list →
-      IsRead block' l.start Any is list → AreRead (blocks l old) l.start Any w all →
-      AreRead (blocks l new) l.start Any is all
+      IsCutAt first new front block' back → BlockParsesTo block l.start Any was list →
+      BlockParsesTo block' l.start Any is list → BlocksParseTo (blocks l old) l.start Any w all →
+      BlocksParseTo (blocks l new) l.start Any is all
   reads-there old new front block block' back was is w list all p q a b r =
-      let whole = subst (λ (x : List (List ℕ)). AreRead x l.start Any w all)
+      let whole = subst (λ (x : List (List ℕ)). BlocksParseTo x l.start Any w all)
       (blocks-cut old front block back p) r in
       let again = reread block block' (among others old) l.start was is w list all a b whole in
-      subst (λ (x : List (List ℕ)). AreRead x l.start Any is all)
+      subst (λ (x : List (List ℕ)). BlocksParseTo x l.start Any is all)
       (sym (blocks-cut new front block' back q
       ∙ ap (λ (x : List (List ℕ)). block' ∷ x)
       (others-same (first.at + first.bytes) to others new old
@@ -168,24 +168,24 @@ module _ (l : Layout) (first : Block) (others : List Block) (to : ℕ)
   -- and the start
   pub starts-there : (old new front block block' back : List ℕ) (was is w : ℕ)
       (list : List Annotation) → IsCutAt first old front block back →
-      IsCutAt first new front block' back → IsRead block l.start Any was list →
-      IsRead block' l.start Any is list → StartsAt l old w → StartsAt l new is
+      IsCutAt first new front block' back → BlockParsesTo block l.start Any was list →
+      BlockParsesTo block' l.start Any is list → StartsAt l old w → StartsAt l new is
   starts-there old new front block block' back was is w list p q a b (all, r) =
       (all, reads-there old new front block block' back was is w list all p q a b r)
 
   pub starts-as : (bytes front block back : List ℕ) (w start : ℕ) (list : List Annotation) →
       IsCutAt first bytes front block back → StartsAt l bytes w →
-      IsRead block l.start Any start list → w ≡ start
+      BlockParsesTo block l.start Any start list → w ≡ start
   starts-as bytes front block back w start list cut (all, r) p =
       one-start block (among others bytes) l.start w start all list
-      (subst (λ (x : List (List ℕ)). AreRead x l.start Any w all)
+      (subst (λ (x : List (List ℕ)). BlocksParseTo x l.start Any w all)
       (blocks-cut bytes front block back cut) r) p
 
   pub reads-first : (bytes front block back : List ℕ) (w : ℕ) →
       IsCutAt first bytes front block back → StartsAt l bytes w → ReadsOnset block
   reads-first bytes front block back w cut (all, r) =
       reads-onset block (among others bytes) l.start w all
-      (subst (λ (x : List (List ℕ)). AreRead x l.start Any w all)
+      (subst (λ (x : List (List ℕ)). BlocksParseTo x l.start Any w all)
       (blocks-cut bytes front block back cut) r)
 
   samples-same : (old new front block block' back : List ℕ) → IsCutAt first old front block back →
@@ -328,8 +328,9 @@ module _ (l : Layout) (first : Block) (others : List Block) (to : ℕ)
             (subst (λ (x : List ℕ). GetsOnset x (43 ∷ short (v.start' - l.start)) v.block')
             same.block gets);
         reads = record {
-          old_read = subst (λ (x : List ℕ). IsRead x l.start Any v.start v.list) same.block v.was;
-          new_read = subst (λ (n : ℕ). IsRead v.block' l.start Any n v.list) (sym at) v.is;
+          old_read = subst (λ (x : List ℕ). BlockParsesTo x l.start Any v.start v.list) same.block
+              v.was;
+          new_read = subst (λ (n : ℕ). BlockParsesTo v.block' l.start Any n v.list) (sym at) v.is;
         };
         by_is = v.by_is ∙ ap (apart v.start) (sym at);
         some = m.moved.some;
@@ -410,7 +411,7 @@ pub record ReadAlike (is start : ℕ) (k m : List Annotation) : Type 0 where
   pub lists : k ≡ m
 
 pub read-alike : (s : ℕ) (old new : List ℕ) (was is before start : ℕ)
-    (k m list : List Annotation) → IsRead old s Any was k → IsRead new s Any is m →
+    (k m list : List Annotation) → BlockParsesTo old s Any was k → BlockParsesTo new s Any is m →
     ReadsBoth s old new before start list → ReadAlike is start k m
 read-alike s old new was is before start k m list p q r =
     let one = one-read old s Any was before k list p r.old_read in

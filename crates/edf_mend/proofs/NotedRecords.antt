@@ -5,8 +5,8 @@ use Rattle.std.specs.List.{AllByRecursion, AllZip, flat_map}
 use Rattle.edf_field.specs.Number.{duration_of}
 use Rattle.edf_header.proofs.Cited.{header-has-layout}
 use Rattle.edf_header.specs.Header.{HeaderRecord, Layout, layout_of, IsLayout, AreApart}
-use Rattle.edf_tal.specs.Block.{AreRead}
-use Rattle.edf_tal.specs.Tal.{Tal, Annotation, IsOnset, IsTimed, first_tals, all_tals}
+use Rattle.edf_tal.specs.Block.{BlocksParseTo}
+use Rattle.edf_tal.specs.Tal.{Tal, Annotation, IsOnset, HasTimeKeepingTal, first_tals, all_tals}
 use Rattle.edf_tal.specs.Tal.{record_start, annotations, tal_annotations}
 use Rattle.edf_tal.specs.declared.place.Place.{Place}
 use Rattle.edf_tal.specs.declared.place.Place.TheVariants.{First, Any}
@@ -53,7 +53,7 @@ pub record Tells (l : Layout) (old : List ℕ) (start : ℕ) (list : List Annota
 
 told-by : (l : Layout) (old : List ℕ) (start : ℕ) (list : List Annotation)
     (oss : List (List WrittenTal)) (tss : List (List Tal)) → AreWritten (blocks l old) oss →
-    AllZip (AllZip SpelledAs) oss tss → IsTimed (first_tals tss) →
+    AllZip (AllZip SpelledAs) oss tss → HasTimeKeepingTal (first_tals tss) →
     start ≡ record_start l.start (first_tals tss) → list ≡ annotations l.start (all_tals tss) →
     Tells l old start list
 told-by l old start list oss [] are zip timed s e = absurd timed
@@ -88,7 +88,7 @@ told-by l old start list ((o ∷ os) ∷ oss) ((t ∷ ts) ∷ tss) are zip timed
 
 abbrev pub Respells : Layout → List ℕ → List ℕ → Type 0
 Respells l old new = (start : ℕ) (list : List Annotation) →
-    AreRead (blocks l new) l.start Any start list → Tells l old start list
+    BlocksParseTo (blocks l new) l.start Any start list → Tells l old start list
 
 noted : (l : Layout) (old new : List ℕ) → AllZip IsBlockMade (blocks l old) (blocks l new) →
     Respells l old new
@@ -122,8 +122,8 @@ IsNear Moves l was start = (start ≡ was) ⊎ (Moves × IsBelowHalfSample l (ap
 
 abbrev Unmoves : Type 0 → Layout → List ℕ → List ℕ → Type 0
 Unmoves Moves l old new = (start : ℕ) (list : List Annotation) →
-    AreRead (blocks l new) l.start Any start list →
-    (was : ℕ) × AreRead (blocks l old) l.start Any was list × IsNear Moves l was start
+    BlocksParseTo (blocks l new) l.start Any start list →
+    (was : ℕ) × BlocksParseTo (blocks l old) l.start Any was list × IsNear Moves l was start
 
 still : (Moves : Type 0) (l : Layout) (x : List ℕ) → Unmoves Moves l x x
 still Moves l x start list r = (start, r, inl refl)
@@ -183,7 +183,7 @@ clock-note Wants Moves l to olds told shift news moves lie (inr m) =
 -- ---- the file
 
 abbrev pub Reads : Layout → List ℕ → DataRecord → Type 0
-Reads l x r = AreRead (blocks l x) l.start Any r.start r.annotations
+Reads l x r = BlocksParseTo (blocks l x) l.start Any r.start r.annotations
 
 all-read : (l : Layout) (xs : List (List ℕ)) (rs : List DataRecord) →
     AllZip (λ x r. (p : Place) × IsDataRecord l p x r) xs rs → AllZip (Reads l) xs rs
@@ -201,7 +201,7 @@ abbrev pub Told : Type 0 → Layout → List ℕ → DataRecord → Type 0
 Told Moves l old r = (was : ℕ) × Tells l old was r.annotations × IsNear Moves l was r.start
 
 abbrev Was : Type 0 → Layout → List ℕ → DataRecord → Type 0
-Was Moves l x r = (was : ℕ) × AreRead (blocks l x) l.start Any was r.annotations
+Was Moves l x r = (was : ℕ) × BlocksParseTo (blocks l x) l.start Any was r.annotations
     × IsNear Moves l was r.start
 
 pub told-all : (Moves : Type 0) (l : Layout) (carried spelled retimed : List (List ℕ))

@@ -10,7 +10,7 @@ use Rattle.std.proofs.lemmas.List.Elements.{All-replicate, All-same}
 use Rattle.std.proofs.lemmas.Str.{inside_one}
 use Rattle.edf_time.specs.Decimal.{IsSeconds, short}
 use Rattle.edf_time.proofs.Cited.{IsSeconds-short}
-use Rattle.edf_tal.specs.Tal.{Tal, IsTal, IsOnset, IsDurationPart, IsText, ended}
+use Rattle.edf_tal.specs.Tal.{Tal, IsTal, IsOnset, IsDurationPart, IsText, terminated}
 use Rattle.edf_tal.specs.Tal.{AreTals}
 use Rattle.edf_tal.specs.Tal.{AreTalsAndZeros, AreBlocks, HaveUtf8Texts, all_tals, instant}
 use Rattle.edf_tal.specs.Tal.{tal_annotations}
@@ -157,16 +157,16 @@ as-written bytes t i =
       duration = d.text;
       texts = t.texts;
     } in
-    let whole : bytes ≡ (i.onset ++ i.duration) ++ 20 ∷ (ended t.texts ++ 0 ∷ []) =
+    let whole : bytes ≡ (i.onset ++ i.duration) ++ 20 ∷ (terminated t.texts ++ 0 ∷ []) =
     sym (append-nil bytes) ∙ tal-sides bytes [] t i in
-    let both : (i.onset ++ i.duration) ++ 20 ∷ (ended t.texts ++ 0 ∷ [])
-    ≡ (o.sign ∷ (o.text ++ duration_part d.text)) ++ 20 ∷ (ended t.texts ++ 0 ∷ []) =
-    ap (λ (x : List ℕ). (x ++ i.duration) ++ 20 ∷ (ended t.texts ++ 0 ∷ [])) o.is
-    ∙ ap (λ (x : List ℕ). ((o.sign ∷ o.text) ++ x) ++ 20 ∷ (ended t.texts ++ 0 ∷ [])) d.is in
-    let end : (o.sign ∷ (o.text ++ duration_part d.text)) ++ 20 ∷ (ended t.texts ++ 0 ∷ [])
+    let both : (i.onset ++ i.duration) ++ 20 ∷ (terminated t.texts ++ 0 ∷ [])
+    ≡ (o.sign ∷ (o.text ++ duration_part d.text)) ++ 20 ∷ (terminated t.texts ++ 0 ∷ []) =
+    ap (λ (x : List ℕ). (x ++ i.duration) ++ 20 ∷ (terminated t.texts ++ 0 ∷ [])) o.is
+    ∙ ap (λ (x : List ℕ). ((o.sign ∷ o.text) ++ x) ++ 20 ∷ (terminated t.texts ++ 0 ∷ [])) d.is in
+    let end : (o.sign ∷ (o.text ++ duration_part d.text)) ++ 20 ∷ (terminated t.texts ++ 0 ∷ [])
     ≡ tal_bytes w =
     ap (λ (x : List ℕ). o.sign ∷ x) (append_assoc o.text (duration_part d.text)
-    (20 ∷ (ended t.texts ++ 0 ∷ []))) in
+    (20 ∷ (terminated t.texts ++ 0 ∷ []))) in
     record {
       tal = w;
       bytes_are = whole ∙ both ∙ end;

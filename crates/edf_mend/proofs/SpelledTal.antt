@@ -4,7 +4,7 @@ use Rattle.std.proofs.Common.{inr, ◌⊎◌}
 use Rattle.std.proofs.Common.{append_assoc, append-nil, Option, Some, None, Bool, true, false, ◌==◌}
 use Rattle.std.proofs.Common.{length, eq-eqb, arith}
 use Rattle.std.proofs.lemmas.Bool.{eqb-true}
-use Rattle.edf_tal.specs.Tal.{ended}
+use Rattle.edf_tal.specs.Tal.{terminated}
 use Rattle.edf_mend.specs.Texts.{WrittenTal, tal_bytes, duration_part, IsTimeOrNone}
 use Rattle.edf_mend.specs.Texts.{IsTimeSpelled, IsDurationSpelled, IsTalSpelled}
 use Rattle.edf_mend.specs.Inside.Spelled.{IsWrittenFront, duration_text, PutsTexts}
@@ -62,8 +62,8 @@ tal-made bytes onset duration texts rest time mid put all sign old f spelled dur
         texts = puts.same;
       },
       all_is ∙ ap (λ (x : List ℕ). x ++ 0 ∷ []) (puts.after_is
-          ∙ ap (λ (x : List ℕ). (x ++ 20 ∷ []) ++ ended puts.news) d.after_is)
-          ∙ shape time (duration_part d.new) (ended puts.news),
+          ∙ ap (λ (x : List ℕ). (x ++ 20 ∷ []) ++ terminated puts.news) d.after_is)
+          ∙ shape time (duration_part d.new) (terminated puts.news),
     )
   where
     shape : (a b e : List ℕ) → ((((sign ∷ a) ++ b) ++ 20 ∷ []) ++ e) ++ 0 ∷ []

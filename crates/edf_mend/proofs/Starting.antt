@@ -11,7 +11,7 @@ use Rattle.std.specs.List.{flat_map}
 use Rattle.edf_field.specs.Number.{field}
 use Rattle.edf_header.specs.Header.{Layout, AreApart}
 use Rattle.edf_header.specs.declared.header.Block.{Block}
-use Rattle.edf_tal.specs.Block.{AreRead, IsBlocksRefusal, cut}
+use Rattle.edf_tal.specs.Block.{BlocksParseTo, IsBlocksRefusal, split_by_sizes}
 use Rattle.edf_tal.specs.Tal.{Annotation}
 use Rattle.edf_tal.specs.declared.place.Place.{Place}
 use Rattle.edf_tal.specs.declared.place.Place.TheVariants.{Any}
@@ -47,28 +47,30 @@ joins-sum bs i bytes all sizes j =
     ∙ ap (λ (x : List ℕ). length x) (sym j.all_is)
 
 pub joins-cut : (l : Layout) (i : ℕ) (bytes all : List ℕ) (sizes : List ℕ) →
-    JoinsTo l.blocks i bytes all sizes → length l.blocks ≤ i → cut sizes all ≡ blocks l bytes
+    JoinsTo l.blocks i bytes all sizes → length l.blocks ≤ i →
+    split_by_sizes sizes all ≡ blocks l bytes
 joins-cut l i bytes all sizes j past =
-    ap (λ (x : List ℕ). cut x all) j.sizes_are
-    ∙ ap (cut (map length (among (take i l.blocks) bytes))) j.all_is
+    ap (λ (x : List ℕ). split_by_sizes x all) j.sizes_are
+    ∙ ap (split_by_sizes (map length (among (take i l.blocks) bytes))) j.all_is
     ∙ cut-joined (among (take i l.blocks) bytes)
     ∙ ap (λ (x : List Block). among x bytes) (take_all i l.blocks past)
 
 pub told-start : {E : Type 0} (l : Layout) (bytes : List ℕ) (bs : List (List ℕ)) →
     bs ≡ blocks l bytes → (r : Result (Option ℕ) E) → IfOk r (λ found. MatchOption found
-    ((start : ℕ) (list : List Annotation) → AreRead bs l.start Any start list → ⊥)
-    (λ start. (list : List Annotation) × AreRead bs l.start Any start list)) →
+    ((start : ℕ) (list : List Annotation) → BlocksParseTo bs l.start Any start list → ⊥)
+    (λ start. (list : List Annotation) × BlocksParseTo bs l.start Any start list)) →
     IfOk r (TellsStart l bytes)
 told-start l bytes bs same (Ok None) h =
-    λ start s. h start s.0 (subst (λ (x : List (List ℕ)). AreRead x l.start Any start s.0) (sym same) s.1)
+    λ start s. h start s.0 (subst (λ (x : List (List ℕ)). BlocksParseTo x l.start Any start s.0)
+    (sym same) s.1)
 told-start l bytes bs same (Ok (Some start)) h =
-    (h.0, subst (λ (x : List (List ℕ)). AreRead x l.start Any start h.0) same h.1)
+    (h.0, subst (λ (x : List (List ℕ)). BlocksParseTo x l.start Any start h.0) same h.1)
 told-start l bytes bs same (Err e) h = h
 
 -- blocks that were refused for another reason than memory are not read
 pub not-read : (bs : List (List ℕ)) (s : ℕ) (p : Place) (e : TalFault) (start : ℕ)
     (list : List Annotation) → e ≢ TalMemory → IsBlocksRefusal bs s p e →
-    AreRead bs s p start list → ⊥
+    BlocksParseTo bs s p start list → ⊥
 not-read bs s p TalMemory start list other r read = other refl
 not-read bs s p e start list other r read = blocks-read-no-fault bs s p start list e read r
 

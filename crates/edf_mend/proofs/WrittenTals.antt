@@ -6,7 +6,7 @@ use Rattle.std.specs.List.{AllByRecursion}
 use Rattle.std.specs.Str.Parse.{AllDigits}
 use Rattle.edf_time.specs.Decimal.{IsDecimal}
 use Rattle.edf_time.proofs.Cited.{digit_only}
-use Rattle.edf_tal.specs.Tal.{IsText, ended}
+use Rattle.edf_tal.specs.Tal.{IsText, terminated}
 use Rattle.edf_tal.specs.Inside.Scan.{Lacks, EndsWith20}
 use Rattle.edf_tal.proofs.Unique.{SameSides, same-sides, not-both, Lacks-append, Lacks-text}
 use Rattle.edf_tal.proofs.Fronts.{NoZero-ended}
@@ -87,7 +87,7 @@ abbrev pub head_of : WrittenTal → List ℕ
 head_of t = t.sign ∷ (t.onset ++ duration_part t.duration)
 
 abbrev pub body_of : WrittenTal → List ℕ
-body_of t = head_of t ++ 20 ∷ ended t.texts
+body_of t = head_of t ++ 20 ∷ terminated t.texts
 
 pub tal-body : (t : WrittenTal) (rest : List ℕ) → tal_bytes t ++ rest ≡ body_of t ++ 0 ∷ rest
 tal-body t rest = simp append_assoc
@@ -111,7 +111,7 @@ head-lacks c t low w = (
 
 pub body-lacks : (t : WrittenTal) → IsWritten t → Lacks 0 (body_of t)
 body-lacks t w =
-    Lacks-append 0 (head_of t) (20 ∷ ended t.texts) (head-lacks 0 t (omega arith) w)
+    Lacks-append 0 (head_of t) (20 ∷ terminated t.texts) (head-lacks 0 t (omega arith) w)
     ((λ e. absurd (omega arith)), NoZero-ended t.texts w.texts)
 
 -- the list at the front, by the first bytes 0 and 20
@@ -124,9 +124,10 @@ front-body bytes body rest later t lacks e w f =
 
 pub front-sides : (bytes body rest head texts later : List ℕ) (t : WrittenTal) → Lacks 0 body →
     bytes ≡ body ++ 0 ∷ rest → Lacks 20 head → body ≡ head ++ 20 ∷ texts → IsWritten t →
-    bytes ≡ tal_bytes t ++ later → SameSides head (head_of t) texts (ended t.texts)
+    bytes ≡ tal_bytes t ++ later → SameSides head (head_of t) texts (terminated t.texts)
 front-sides bytes body rest head texts later t lacks e lacks' f w g =
-    same-sides 20 head (head_of t) texts (ended t.texts) lacks' (head-lacks 20 t (omega arith) w)
+    same-sides 20 head (head_of t) texts (terminated t.texts) lacks'
+    (head-lacks 20 t (omega arith) w)
     (sym f ∙ (front-body bytes body rest later t lacks e w g).front)
 
 pub no-zero : (bytes : List ℕ) → Lacks 0 bytes → NoWrittenTal bytes
@@ -136,7 +137,7 @@ no-zero bytes lacks t rest w e =
 pub no-twenty : (bytes body rest : List ℕ) → Lacks 0 body → bytes ≡ body ++ 0 ∷ rest →
     Lacks 20 body → NoWrittenTal bytes
 no-twenty bytes body rest lacks e none t later w f =
-    not-both 20 body (head_of t) (ended t.texts) none
+    not-both 20 body (head_of t) (terminated t.texts) none
     (front-body bytes body rest later t lacks e w f).front
 
 pub no-end : (bytes body rest head texts : List ℕ) → Lacks 0 body → bytes ≡ body ++ 0 ∷ rest →
@@ -197,7 +198,7 @@ front-shorter bytes rest t e =
       arith,
       ap (λ (x : List ℕ). length x) (e ∙ tal-body t rest),
       length-append (body_of t) (0 ∷ rest),
-      length-append (head_of t) (20 ∷ ended t.texts),
+      length-append (head_of t) (20 ∷ terminated t.texts),
     )
 
 -- ---- two ways to write lists are one
@@ -210,24 +211,24 @@ same-front bytes rest later t u p q e f =
     (sym (tal-body t rest) ∙ sym e ∙ f ∙ tal-body u later)
 
 pub same-heads : (t u : WrittenTal) → IsWritten t → IsWritten u → body_of t ≡ body_of u →
-    SameSides (head_of t) (head_of u) (ended t.texts) (ended u.texts)
+    SameSides (head_of t) (head_of u) (terminated t.texts) (terminated u.texts)
 same-heads t u p q e =
-    same-sides 20 (head_of t) (head_of u) (ended t.texts) (ended u.texts)
+    same-sides 20 (head_of t) (head_of u) (terminated t.texts) (terminated u.texts)
     (head-lacks 20 t (omega arith) p) (head-lacks 20 u (omega arith) q) e
 
 -- texts are cut in one way
-ended-more : (x : List ℕ) (xs : List (List ℕ)) → ended (x ∷ xs) ≡ x ++ 20 ∷ ended xs
-ended-more x xs = append_assoc x (20 ∷ []) (ended xs)
+ended-more : (x : List ℕ) (xs : List (List ℕ)) → terminated (x ∷ xs) ≡ x ++ 20 ∷ terminated xs
+ended-more x xs = append_assoc x (20 ∷ []) (terminated xs)
 
 pub same-texts : (xs ys : List (List ℕ)) → AllByRecursion IsText xs → AllByRecursion IsText ys →
-    ended xs ≡ ended ys → xs ≡ ys
+    terminated xs ≡ terminated ys → xs ≡ ys
 same-texts [] [] p q e = refl
 same-texts [] (y ∷ ys) p q e =
-    absurd (not-both 20 [] y (ended ys) tt (e ∙ ended-more y ys))
+    absurd (not-both 20 [] y (terminated ys) tt (e ∙ ended-more y ys))
 same-texts (x ∷ xs) [] p q e =
-    absurd (not-both 20 [] x (ended xs) tt (sym e ∙ ended-more x xs))
+    absurd (not-both 20 [] x (terminated xs) tt (sym e ∙ ended-more x xs))
 same-texts (x ∷ xs) (y ∷ ys) p q e =
-    let s = same-sides 20 x y (ended xs) (ended ys) (Lacks-text x p.0) (Lacks-text y q.0)
+    let s = same-sides 20 x y (terminated xs) (terminated ys) (Lacks-text x p.0) (Lacks-text y q.0)
     (sym (ended-more x xs) ∙ e ∙ ended-more y ys) in
     let more = same-texts xs ys p.1 q.1 s.back in
     let first : x ≡ y = s.front in

@@ -13,7 +13,7 @@ use Rattle.edf_header.specs.declared.limits.TheConstants.{MOST_SIGNALS, MOST_REC
 use Rattle.edf_header.specs.declared.limits.TheConstants.{MOST_BLOCK_BYTES}
 use Rattle.edf_tal.specs.declared.place.Place.{Place}
 use Rattle.edf_tal.specs.declared.place.Place.TheVariants.{First, Any as Anywhere}
-use Rattle.edf_tal.specs.Block.{AreRead}
+use Rattle.edf_tal.specs.Block.{BlocksParseTo}
 use Rattle.edf_tal.specs.Tal.{Annotation}
 use Rattle.edf_fragment.specs.Fragment.{blocks}
 use Rattle.edf_mend.specs.Answers.{IsEdf}
@@ -146,7 +146,7 @@ pub record IsRecord (w : Wanted) (l : Layout) (place : Place) (bytes : List ℕ)
       (made ≡ blocks l bytes)
   pub start : ℕ
   pub list : List Annotation
-  pub read : AreRead made l.start place start list
+  pub read : BlocksParseTo made l.start place start list
 
 -- `clock`: none overlaps, or the starts of all can be told anew
 pub record AreRecords (w : Wanted) (first : HeaderTexts) (l : Layout) (carried : List (List ℕ))

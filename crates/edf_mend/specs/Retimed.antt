@@ -7,7 +7,7 @@ use Rattle.edf_header.specs.Header.{Layout}
 use Rattle.edf_header.specs.Signal.{samples}
 use Rattle.edf_header.specs.declared.header.Block.{Block}
 use Rattle.edf_tal.specs.Tal.{Annotation}
-use Rattle.edf_tal.specs.Block.{IsRead, AreRead}
+use Rattle.edf_tal.specs.Block.{BlockParsesTo, BlocksParseTo}
 use Rattle.edf_tal.specs.declared.place.Place.TheVariants.{Any}
 use Rattle.edf_fragment.specs.Fragment.{blocks}
 use Rattle.edf_mend.specs.Edits.{Edit}
@@ -47,8 +47,8 @@ pub record IsMovedBy (l : Layout) (by : ℕ) (old new : List ℕ) : Type 0 where
   pub start : ℕ
   pub start' : ℕ
   pub list : List Annotation
-  pub was : IsRead block l.start Any start list
-  pub is : IsRead block' l.start Any start' list
+  pub was : BlockParsesTo block l.start Any start list
+  pub is : BlockParsesTo block' l.start Any start' list
   pub by_is : by ≡ apart start start'
   pub sign : ℕ
   pub onset : List ℕ
@@ -86,7 +86,8 @@ AreRetimed l from before (told ∷ more) shift after =
 
 -- the blocks of a data record are read, wherever it is, and give it this start
 abbrev pub StartsAt : Layout → List ℕ → ℕ → Type 0
-StartsAt l bytes start = (list : List Annotation) × AreRead (blocks l bytes) l.start Any start list
+StartsAt l bytes start = (list : List Annotation)
+    × BlocksParseTo (blocks l bytes) l.start Any start list
 
 -- two neighbours start there and there
 abbrev pub AreNeighbours : Layout → List (List ℕ) → ℕ → ℕ → Type 0

@@ -6,7 +6,7 @@ use Rattle.std.specs.List.{AllByRecursion, AllZip, flat_map}
 use Rattle.edf_field.specs.Number.{field}
 use Rattle.edf_time.specs.Decimal.{IsDecimal, IsSeconds, IsDecimalFault, short}
 use Rattle.edf_time.specs.declared.decimal.DecimalFault.TheVariants.{TooFine}
-use Rattle.edf_tal.specs.Tal.{IsText, ended}
+use Rattle.edf_tal.specs.Tal.{IsText, terminated}
 use Rattle.edf_header.specs.Header.{Layout}
 use Rattle.edf_header.specs.declared.header.Block.{Block}
 use Rattle.edf_fragment.specs.Fragment.{blocks, ordinary_bytes}
@@ -30,7 +30,8 @@ duration_part None = []
 duration_part (Some text) = 21 ∷ text
 
 abbrev pub tal_bytes : WrittenTal → List ℕ
-tal_bytes t = t.sign ∷ (t.onset ++ (duration_part t.duration ++ (20 ∷ (ended t.texts ++ 0 ∷ []))))
+tal_bytes t = t.sign ∷ (t.onset ++
+    (duration_part t.duration ++ (20 ∷ (terminated t.texts ++ 0 ∷ []))))
 
 -- digits, and a dot and digits or none
 abbrev pub IsTime : List ℕ → Type 0

@@ -8,7 +8,7 @@ ghost use Rattle.edf_field.specs.Number.{duration_of};
 ghost use Rattle.edf_header.specs.Header.{Layout, IsLayout};
 ghost use Rattle.edf_header.specs.Signal.{rows_of, HasSamples};
 ghost use Rattle.edf_header.specs.declared.header.Block.{Block};
-ghost use Rattle.edf_tal.specs.Block.{IsRead, AreRead, cut};
+ghost use Rattle.edf_tal.specs.Block.{BlockParsesTo, BlocksParseTo, split_by_sizes};
 ghost use Rattle.edf_tal.specs.Tal.{Annotation};
 ghost use Rattle.edf_tal.specs.declared.place.Place.TheVariants.{Any};
 ghost use Rattle.edf_mend.specs.Retimed.{apart, IsBelowHalf, IsBelowHalfSample, StartsAt};
@@ -147,8 +147,8 @@ fn read_anywhere(
 ) -> Result<Option<(Instant, Vec<Note>)>, AllocError>
     ensures { IfOk result (λ found. MatchOption found
         ((start : ℕ) (list : List Annotation) →
-        IsRead block.now header.now.start Any start list → ⊥)
-        (λ read. IsRead block.now header.now.start Any read.0 read.1.items)) }
+        BlockParsesTo block.now header.now.start Any start list → ⊥)
+        (λ read. BlockParsesTo block.now header.now.start Any read.0 read.1.items)) }
 {
     match read_block(alloc, block, header.start(), Place::Any) {
         Ok(read) => Ok(Some(read)),
@@ -172,9 +172,9 @@ fn start_in(
     requires sizes { sum sizes.now ≡ length all.now }
     ensures { IfOk result (λ found. MatchOption found
         ((start : ℕ) (list : List Annotation) →
-        AreRead (cut sizes.now all.now) header.now.start Any start list → ⊥)
+        BlocksParseTo (split_by_sizes sizes.now all.now) header.now.start Any start list → ⊥)
         (λ start. (list : List Annotation)
-        × AreRead (cut sizes.now all.now) header.now.start Any start list)) }
+        × BlocksParseTo (split_by_sizes sizes.now all.now) header.now.start Any start list)) }
 {
     match read_blocks(alloc, all, sizes, header.start(), Place::Any) {
         Ok(read) => Ok(Some(read.0)),

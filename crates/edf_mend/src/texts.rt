@@ -6,7 +6,7 @@ ghost use Rattle.std.specs.Prelude.{length, IfOk, IfErr, OnOk, MatchOption, IsTr
 ghost use Rattle.std.specs.Prelude.{string_bytes, encode_utf8_all};
 ghost use Rattle.std.specs.List.{AllByRecursion};
 ghost use Rattle.edf_header.specs.Header.{IsLayout};
-ghost use Rattle.edf_tal.specs.Tal.{IsText, ended};
+ghost use Rattle.edf_tal.specs.Tal.{IsText, terminated};
 ghost use Rattle.edf_tal.specs.Inside.Scan.{Lacks, EndsWith20};
 ghost use Rattle.edf_mend.specs.Edits.{Edit};
 ghost use Rattle.edf_mend.specs.Texts.{WrittenTal, tal_bytes, IsTime, RoundsUp, IsRounded};
@@ -263,7 +263,7 @@ fn push_text(alloc: Global, new: &mut Vec<u8>, text: &[u8]) -> Result<(), AllocE
 
 /// Adds texts, each of which has a byte that ends it.
 fn push_texts(alloc: Global, new: &mut Vec<u8>, texts: &[u8]) -> Result<(), AllocError>
-    ensures { (olds : List (List ℕ)) → texts.now ≡ ended olds → AllByRecursion IsText olds →
+    ensures { (olds : List (List ℕ)) → texts.now ≡ terminated olds → AllByRecursion IsText olds →
         OnOk result (PutsTexts olds new.old.items new.new.items) }
 {
     let mut rest = texts;

@@ -8,7 +8,7 @@ use Rattle.sqlite_value.specs.Order.{Row, column}
 use Rattle.edf_header.specs.Key.{Key, IsKey}
 use Rattle.edf_header.specs.Signal.{samples_in_all}
 use Rattle.edf_tal.specs.Tal.{Annotation}
-use Rattle.edf_tal.specs.Block.{IsRead, IsBlockFault, IsBlockRefusal}
+use Rattle.edf_tal.specs.Block.{BlockParsesTo, IsFirstBlockFault, IsBlockRefusal}
 use Rattle.edf_tal.specs.declared.place.Place.TheVariants.{Any}
 use Rattle.edf_tal.specs.declared.place.TalFault.{TalFault}
 use Rattle.edf_tal.specs.declared.place.TalFault.TheVariants.{Memory}
@@ -25,19 +25,19 @@ use Rattle.edf_rows.specs.Inside.Shape.{IsNoBlock, OwnBlock, NoOwnBlock}
 
 -- a block is written for nothing else than what is read of it
 pub other-block : (block : List ℕ) (start : ℕ) (list : List Annotation) →
-    IsRead block 0 Any start list → block ≢ block_text 0 start list → NoOwnBlock block
+    BlockParsesTo block 0 Any start list → block ≢ block_text 0 start list → NoOwnBlock block
 other-block block start list read other s l own =
     let same = one-read block 0 Any start s list l read own.read in
     other (own.written ∙ sym (ap₂ (block_text 0) same.start same.list))
 
-pub refused-no_block : (block : List ℕ) (fault : TalFault) → IsBlockFault block 0 Any fault →
+pub refused-no_block : (block : List ℕ) (fault : TalFault) → IsFirstBlockFault block 0 Any fault →
     IsNoBlock block
 refused-no_block block fault refused s l read = read-no-fault block 0 Any s l fault read refused
 
 pub no_block-own : (block : List ℕ) → IsNoBlock block → NoOwnBlock block
 no_block-own block none s l own = none s l own.read
 
-pub refused-block : (block : List ℕ) (fault : TalFault) → IsBlockFault block 0 Any fault →
+pub refused-block : (block : List ℕ) (fault : TalFault) → IsFirstBlockFault block 0 Any fault →
     NoOwnBlock block
 refused-block block fault refused = no_block-own block (refused-no_block block fault refused)
 
@@ -75,7 +75,7 @@ bad-own k start samples block none = bad_block (λ own.
     let same : block ≡ own.block = blob-bytes block own.block own.is_block in
     none own.start own.list (record {
       read =
-          subst (λ b. IsRead b 0 Any own.start own.list) (sym same) own.read;
+          subst (λ b. BlockParsesTo b 0 Any own.start own.list) (sym same) own.read;
       written = same
           ∙ own.written;
     }))
@@ -86,11 +86,11 @@ pub bad-starts : (k : Key) (start : ℤ) (samples : Value) (block : List ℕ) (r
 bad-starts k start samples block read list is other = bad_block (λ own.
     let same : own.block ≡ block = sym (blob-bytes block own.block own.is_block) in
     let one = one-read block 0 Any read own.start list own.list is.read
-    (subst (λ b. IsRead b 0 Any own.start own.list) same own.read) in
+    (subst (λ b. BlockParsesTo b 0 Any own.start own.list) same own.read) in
     other (ap pos one.start ∙ sym (int-number start (pos own.start) own.starts)))
 
 pub fault-of : (block : List ℕ) (fault : TalFault) → fault ≢ Memory →
-    IsBlockRefusal block 0 Any fault → IsBlockFault block 0 Any fault
+    IsBlockRefusal block 0 Any fault → IsFirstBlockFault block 0 Any fault
 fault-of block Memory other refused = absurd (other refl)
 fault-of block fault other refused = refused
 
@@ -101,18 +101,19 @@ same-cell n z low fits same = sym (to_z-of_z w64 (pos n) (record { sfits = omega
 
 -- the block of a sound data record gives its start and annotations
 pub own-read : (k : Key) (r : DataRecord) → IsSoundRecord k r →
-    IsRead (block_text 0 r.start r.annotations) 0 Any r.start r.annotations
-own-read k r s = subst (λ (b : List ℕ). IsRead b 0 Any r.start r.annotations)
+    BlockParsesTo (block_text 0 r.start r.annotations) 0 Any r.start r.annotations
+own-read k r s = subst (λ (b : List ℕ). BlockParsesTo b 0 Any r.start r.annotations)
     (append-nil (block_text 0 r.start r.annotations))
     (read-any 0 r.start 0 r.annotations (omega arith) s.start s.notes s.limits)
 
 row-read : (k : Key) (r : DataRecord) (start : ℤ) (samples block : List ℕ) →
     IsRowOf k r (Int start ∷ Blob samples ∷ Blob block ∷ []) →
-    IsRead block 0 Any r.start r.annotations
+    BlockParsesTo block 0 Any r.start r.annotations
 row-read k r start samples block is =
     let same : block ≡ block_text 0 r.start r.annotations =
     blob-bytes block _ (ap (λ (row : Row). column row 2) is.cells) in
-    subst (λ (b : List ℕ). IsRead b 0 Any r.start r.annotations) (sym same) (own-read k r is.sound)
+    subst (λ (b : List ℕ). BlockParsesTo b 0 Any r.start r.annotations) (sym same)
+    (own-read k r is.sound)
 
 -- the row of a sound data record gives that data record
 pub row-gives : (k : Key) (r : DataRecord) (start : ℤ) (samples block : List ℕ) → IsKey k →
@@ -145,7 +146,7 @@ given-no_block samples block none r gives = none r.start r.annotations gives.rea
 
 -- the data record that is made of the samples and of what is read
 pub given-made : (samples block : List ℕ) (read : ℕ) (list : List Annotation)
-    (made : Option DataRecord) → IsRead block 0 Any read list
+    (made : Option DataRecord) → BlockParsesTo block 0 Any read list
     → (let parts : DataRecord = record { start = read; samples = samples; annotations = list } in
     MatchOption made (¬ IsWithinSize parts) (λ d. IsValidRecord d × (d ≡ parts)))
     → IsGiven samples block made
@@ -161,7 +162,8 @@ given-made samples block read list None is large = λ r gives.
     large (subst IsWithinSize same gives.size)
 given-made samples block read list (Some d) is kept = record {
   samples_are = ap (λ (r : DataRecord). r.samples) kept.1;
-  read = subst (λ (r : DataRecord). IsRead block 0 Any r.start r.annotations) (sym kept.1) is;
+  read = subst (λ (r : DataRecord). BlockParsesTo block 0 Any r.start r.annotations)
+      (sym kept.1) is;
   size = kept.0.size;
 }
 

@@ -9,7 +9,7 @@ use Rattle.edf_field.specs.Number.{duration_of}
 use Rattle.edf_header.specs.Signal.{samples_in_all}
 use Rattle.edf_header.specs.Key.{Key, MayStart}
 use Rattle.edf_tal.specs.Tal.{Annotation}
-use Rattle.edf_tal.specs.Block.{IsRead}
+use Rattle.edf_tal.specs.Block.{BlockParsesTo}
 use Rattle.edf_tal.specs.declared.place.Place.TheVariants.{Any}
 use Rattle.edf_tal.specs.Canonical.{block_text}
 use Rattle.edf_rows.specs.Cells.{recordings_in, records_in}
@@ -33,7 +33,7 @@ pub record IsOwnBlock (row : Row) : Type 0 where
   pub start : ℕ
   pub list : List Annotation
   pub is_block : the_block row ≡ Blob block
-  pub read : IsRead block 0 Any start list
+  pub read : BlockParsesTo block 0 Any start list
   pub written : block ≡ block_text 0 start list
   pub starts : the_start row ≡ Int (pos start)
 

@@ -4,7 +4,7 @@ use Rattle.std.specs.Prelude.{IsPermutation}
 use Rattle.sqlite_value.specs.Order.{Row}
 use Rattle.sqlite_trees.specs.Tree.{Trees}
 use Rattle.edf_header.specs.Key.{Key, IsKey}
-use Rattle.edf_tal.specs.Block.{IsRead}
+use Rattle.edf_tal.specs.Block.{BlockParsesTo}
 use Rattle.edf_tal.specs.declared.place.Place.TheVariants.{Any}
 use Rattle.edf_holdings.specs.Holdings.{Holdings, IsSound}
 use Rattle.edf_rows.specs.Cells.{record_cells, recording_cells, recordings_in, records_in}
@@ -67,7 +67,7 @@ pub record IsRowOf (k : Key) (r : DataRecord) (row : Row) : Type 0 where
 -- block that is written for it gives the same
 pub record IsRecordFrom (samples block : List ℕ) (r : DataRecord) : Type 0 where
   pub samples_are : r.samples ≡ samples
-  pub read : IsRead block 0 Any r.start r.annotations
+  pub read : BlockParsesTo block 0 Any r.start r.annotations
   pub size : IsWithinSize r
 
 -- samples and a block give no data record

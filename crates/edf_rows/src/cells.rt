@@ -4,7 +4,7 @@ ghost use Rattle.std.specs.Prelude.{◌≡◌, ◌↔◌, ◌∷◌, [], ℤ, So
 ghost use Rattle.sqlite_value.specs.declared.value.Value.TheVariants.{Int, Blob};
 ghost use Rattle.edf_header.specs.Key.{Key, IsKey};
 ghost use Rattle.edf_tal.specs.Tal.{Annotation};
-ghost use Rattle.edf_tal.specs.Block.{IsRead};
+ghost use Rattle.edf_tal.specs.Block.{BlockParsesTo};
 ghost use Rattle.edf_tal.specs.declared.place.Place.TheVariants.{Any};
 ghost use Rattle.edf_tal.specs.Canonical.{block_text};
 ghost use Rattle.edf_fragment.specs.Fragment.{DataRecord};
@@ -32,7 +32,7 @@ fn base() -> Instant
 fn read_cell(alloc: Global, block: &[u8]) -> Result<Option<(Instant, Vec<Note>)>, AllocError>
     ensures { IfOk result (λ o. MatchOption o
         (IsNoBlock block.now)
-        (λ r. IsRead block.now 0 Any r.0 r.1.items)) }
+        (λ r. BlockParsesTo block.now 0 Any r.0 r.1.items)) }
 {
     match read_block(alloc, block, base(), Place::Any) {
         Ok((start, notes)) => Ok(Some((start, notes))),

@@ -13,10 +13,12 @@ use Rattle.std.proofs.lemmas.Str.{IsUtf8-nil}
 use Rattle.edf_time.specs.Decimal.{IsSeconds, short}
 use Rattle.edf_time.specs.Civil.{window, IsInWindow}
 use Rattle.edf_time.proofs.Cited.{IsSeconds-short}
-use Rattle.edf_tal.specs.Tal.{Tal, Annotation, IsAnnotation, IsTal, IsOnset, IsDurationPart, ended}
-use Rattle.edf_tal.specs.Tal.{AreTals, AreTalsAndZeros, HaveUtf8Texts, IsTimed, IsTalInWindow}
+use Rattle.edf_tal.specs.Tal.{Tal, Annotation, IsAnnotation, IsTal, IsOnset, IsDurationPart}
+use Rattle.edf_tal.specs.Tal.{terminated}
+use Rattle.edf_tal.specs.Tal.{AreTals, AreTalsAndZeros, HaveUtf8Texts, HasTimeKeepingTal}
+use Rattle.edf_tal.specs.Tal.{IsTalInWindow}
 use Rattle.edf_tal.specs.Tal.{instant, tal_annotations, annotations, record_start}
-use Rattle.edf_tal.specs.Block.{AreRead, IsRead, IsWithinLimits, KeepsPlace}
+use Rattle.edf_tal.specs.Block.{BlocksParseTo, BlockParsesTo, IsWithinLimits, StartFitsPlace}
 use Rattle.edf_tal.specs.Canonical.{onset_text, duration_text, tal_text, time_keeping, block_text}
 use Rattle.edf_tal.specs.declared.place.Place.{Place}
 use Rattle.edf_tal.specs.declared.place.Place.TheVariants.{First, After, Any}
@@ -81,7 +83,7 @@ tal_of base a = record {
 }
 
 pub in-parts : (o d x : List ℕ) → o ++ (d ++ (20 ∷ (x ++ (20 ∷ 0 ∷ [])))) ≡ o ++ d
-    ++ 20 ∷ ended (x ∷ []) ++ 0 ∷ []
+    ++ 20 ∷ terminated (x ∷ []) ++ 0 ∷ []
 in-parts o d x = simp (append_assoc, append-nil)
 
 IsTal-text : (base : ℕ) (a : Annotation) → base < window → IsAnnotation a →
@@ -159,9 +161,9 @@ IsAnnotation-time_keeping start h = record {
 -- the one block of a data record, with these TALs
 pub read-of : (b : List ℕ) (s : ℕ) (p : Place) (start : ℕ) (list : List Annotation) (ts : List Tal)
     →
-    AreTalsAndZeros b ts → HaveUtf8Texts ts → IsTimed ts → KeepsPlace p s ts
+    AreTalsAndZeros b ts → HaveUtf8Texts ts → HasTimeKeepingTal ts → StartFitsPlace p s ts
     → AllByRecursion (IsTalInWindow s) ts → IsWithinLimits list → start ≡ record_start s ts →
-    list ≡ annotations s ts → IsRead b s p start list
+    list ≡ annotations s ts → BlockParsesTo b s p start list
 read-of b s p start list ts whole good timed keeps window limits start-is list-is =
     let one = all_tals-one ts in
     record {
@@ -179,8 +181,8 @@ read-of b s p start list ts whole good timed keeps window limits start-is list-i
 -- a written block, with any fill, where the first onset keeps its place
 pub read-again : (p : Place) (base start n : ℕ) (list : List Annotation) → base < window →
     start < window → AllByRecursion IsAnnotation list → IsWithinLimits list
-    → KeepsPlace p base (map (tal_of base) (time_keeping start ∷ list)) →
-    IsRead (block_text base start list ++ replicate n 0) base p start list
+    → StartFitsPlace p base (map (tal_of base) (time_keeping start ∷ list)) →
+    BlockParsesTo (block_text base start list ++ replicate n 0) base p start list
 read-again p base start n list low in-window' all limits keeps =
     let whole : AllByRecursion IsAnnotation (time_keeping start ∷ list) =
     (IsAnnotation-time_keeping start in-window', all) in
@@ -205,13 +207,13 @@ keeps-first base start low high = (omega (arith, ints), omega (arith, ints))
 pub read-first : (base start n : ℕ) (list : List Annotation) → base < window → start < window →
     AllByRecursion IsAnnotation list → IsWithinLimits list
     → base ≤ start → start < base + 10 ^ 9 →
-    IsRead (block_text base start list ++ replicate n 0) base First start list
+    BlockParsesTo (block_text base start list ++ replicate n 0) base First start list
 read-first base start n list low in-window' all limits from to =
     read-again First base start n list low in-window' all limits (keeps-first base start from to)
 
 pub read-after : (base start n before duration : ℕ) (list : List Annotation) → base < window →
     start < window → AllByRecursion IsAnnotation list → IsWithinLimits list
-    → before + duration ≤ start → IsRead (block_text base start list
+    → before + duration ≤ start → BlockParsesTo (block_text base start list
     ++ replicate n 0) base (After before duration) start list
 read-after base start n before duration list low in-window' all limits later =
     read-again (After before duration) base start n list low in-window' all limits
@@ -219,20 +221,21 @@ read-after base start n before duration list low in-window' all limits later =
 
 pub read-any : (base start n : ℕ) (list : List Annotation) → base < window → start < window →
     AllByRecursion IsAnnotation list → IsWithinLimits list
-    → IsRead (block_text base start list ++ replicate n 0) base Any start list
+    → BlockParsesTo (block_text base start list ++ replicate n 0) base Any start list
 read-any base start n list low in-window' all limits =
     read-again Any base start n list low in-window' all limits tt
 
 pub read-alone : (base start : ℕ) (list : List Annotation) → base < window → start < window →
     AllByRecursion IsAnnotation list → IsWithinLimits list
-    → IsRead (block_text base start list) base Any start list
+    → BlockParsesTo (block_text base start list) base Any start list
 read-alone base start list low in-window' all limits =
-    subst (λ (x : List ℕ). IsRead x base Any start list) (append-nil (block_text base start list))
+    subst (λ (x : List ℕ). BlockParsesTo x base Any start list)
+    (append-nil (block_text base start list))
     (read-any base start 0 list low in-window' all limits)
 
 -- what is read at a place is read without one
 pub blocks-read-elsewhere : (bs : List (List ℕ)) (s : ℕ) (p : Place) (start : ℕ)
-    (list : List Annotation) → AreRead bs s p start list → AreRead bs s Any start list
+    (list : List Annotation) → BlocksParseTo bs s p start list → BlocksParseTo bs s Any start list
 blocks-read-elsewhere bs s p start list r = record {
   tals = r.tals;
   lists = r.lists;
@@ -246,7 +249,7 @@ blocks-read-elsewhere bs s p start list r = record {
 }
 
 pub read-elsewhere : (b : List ℕ) (s : ℕ) (p : Place) (start : ℕ) (list : List Annotation) →
-    IsRead b s p start list → IsRead b s Any start list
+    BlockParsesTo b s p start list → BlockParsesTo b s Any start list
 read-elsewhere b s p start list r = blocks-read-elsewhere (b ∷ []) s p start list r
 
 -- a canonical block is written of one start and list
@@ -256,4 +259,4 @@ pub one-writing : (base m n : ℕ) (k l : List Annotation) → base < window →
     SameAnswer m n k l
 one-writing base m n k l low p q a b c d e =
     one-read (block_text base m k) base Any m n k l (read-alone base m k low p a c)
-    (subst (λ (x : List ℕ). IsRead x base Any n l) (sym e) (read-alone base n l low q b d))
+    (subst (λ (x : List ℕ). BlockParsesTo x base Any n l) (sym e) (read-alone base n l low q b d))

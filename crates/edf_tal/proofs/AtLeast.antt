@@ -10,8 +10,8 @@ use Rattle.std.proofs.lemmas.Bool.{cases_eq, cases_lt}
 use Rattle.std.proofs.lemmas.Int.{ints}
 use Rattle.std.proofs.lemmas.Str.{IsUtf8-from_is_utf8, is_utf8-from_IsUtf8}
 use Rattle.edf_time.specs.Civil.{window}
-use Rattle.edf_tal.specs.Tal.{Tal, IsText, ended, IsTalInWindow}
-use Rattle.edf_tal.specs.Condition.{IsBadText, IsBroken}
+use Rattle.edf_tal.specs.Tal.{Tal, IsText, terminated, IsTalInWindow}
+use Rattle.edf_tal.specs.Condition.{IsInvalidUtf8At, IsMalformedAt}
 use Rattle.edf_tal.specs.Inside.Scan.{Lacks, NoTal, AreZeros, IsTalAtFront, IsBadAmong}
 use Rattle.edf_tal.specs.Inside.Scan.{AreGoodTexts, FollowsTals, IsSurvey, KeepsSecond, KeepsOrder}
 use Rattle.edf_tal.specs.Inside.Blocks.{HasForm}
@@ -85,20 +85,20 @@ bit (inr never) = (false, (λ h. absurd (let e : false ≡ true = h in cc), λ p
 
 -- the texts of a TAL
 texts-of : (xs : List (List ℕ)) → AllByRecursion IsText xs →
-    AllByRecursion (λ x. Lacks 20 x × IsUtf8 x) xs ⊎ ((at : ℕ) × IsBadAmong (ended xs) at)
+    AllByRecursion (λ x. Lacks 20 x × IsUtf8 x) xs ⊎ ((at : ℕ) × IsBadAmong (terminated xs) at)
 texts-of [] a = inl tt
 texts-of (x ∷ xs) a =
     elim (utf8 x) [
       | inl u ↦ elim (texts-of xs a.1) [
         | inl good ↦ inl ((Lacks-text x a.0, u), good)
         | inr bad ↦ inr (
-          length (ended (x ∷ bad.1.good)),
+          length (terminated (x ∷ bad.1.good)),
           record {
             good = x ∷ bad.1.good;
             text = bad.1.text;
             back = bad.1.back;
             parts = ap (λ (w : List ℕ). (x ++ 20 ∷ []) ++ w) bad.1.parts
-                ∙ sym (append_assoc (x ++ 20 ∷ []) (ended bad.1.good) (bad.1.text
+                ∙ sym (append_assoc (x ++ 20 ∷ []) (terminated bad.1.good) (bad.1.text
                 ++ 20 ∷ bad.1.back));
             good_texts = ((Lacks-text x a.0, u), bad.1.good_texts);
             is_text = bad.1.is_text;
@@ -112,8 +112,8 @@ texts-of (x ∷ xs) a =
         record {
           good = [];
           text = x;
-          back = ended xs;
-          parts = append_assoc x (20 ∷ []) (ended xs);
+          back = terminated xs;
+          parts = append_assoc x (20 ∷ []) (terminated xs);
           good_texts = tt;
           is_text = Lacks-text x a.0;
           bad = never;
@@ -130,7 +130,7 @@ front-texts bytes texts rest t f =
         list = t.texts;
         rest = [];
         parts = f.texts_are
-            ∙ sym (append-nil (ended t.texts));
+            ∙ sym (append-nil (terminated t.texts));
         good = good;
         is_rest = tt;
         count_is = refl;
@@ -172,7 +172,7 @@ pub record IsBadSurvey (block : List ℕ) : Type 0 where
   pub at : ℕ
   pub is_after : FollowsTals block rest
   pub last : NoTal rest
-  pub bad : IsBadText block at
+  pub bad : IsInvalidUtf8At block at
 
 bad-survey : (block rest : List ℕ) (s : ℕ) (in_window : Bool) (count bytes : ℕ) (f : Front rest)
     (at : ℕ) → IsSurvey block s rest in_window count bytes
@@ -269,7 +269,7 @@ empty-or-not (b ∷ texts) =
 -- ---- what blocks are
 
 form : (b : List ℕ) (s : ℕ) → ((f : Form) × HasForm (b ∷ []) s f)
-    ⊎ ((at : ℕ) × IsBroken (b ∷ []) at)
+    ⊎ ((at : ℕ) × IsMalformedAt (b ∷ []) at)
 form b s =
     elim (survey b s) [
       | inl v ↦ elim (zeros v.rest) [
@@ -294,7 +294,8 @@ form b s =
       ]
     ]
 
-pub forms : (bs : List (List ℕ)) (s : ℕ) → ((f : Form) × HasForm bs s f) ⊎ ((at : ℕ) × IsBroken bs
+pub forms : (bs : List (List ℕ)) (s : ℕ) →
+    ((f : Form) × HasForm bs s f) ⊎ ((at : ℕ) × IsMalformedAt bs
     at)
 forms [] s = inl (Good (record { in_window = true; count = 0; text_bytes = 0 }), surveyed-none s)
 forms (b ∷ bs) s =

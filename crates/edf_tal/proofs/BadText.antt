@@ -4,9 +4,9 @@ use Rattle.std.proofs.Common.{subst, append_assoc, ℤ, Option}
 use Rattle.std.specs.Prelude.{IsUtf8}
 use Rattle.std.specs.List.{AllByRecursion}
 use Rattle.std.proofs.lemmas.List.{length-append}
-use Rattle.edf_tal.specs.Tal.{Tal, IsTal, IsOnset, IsDurationPart, IsText, ended, AreTals}
+use Rattle.edf_tal.specs.Tal.{Tal, IsTal, IsOnset, IsDurationPart, IsText, terminated, AreTals}
 use Rattle.edf_tal.specs.Tal.{AreTalsAndZeros, HaveUtf8Texts}
-use Rattle.edf_tal.specs.Condition.{IsBadText}
+use Rattle.edf_tal.specs.Condition.{IsInvalidUtf8At}
 use Rattle.edf_tal.specs.Inside.Scan.{Lacks, AreZeros}
 use Rattle.edf_tal.proofs.Unique.{same-sides, Lacks-append, Lacks-onset, Lacks-duration, Lacks-text}
 use Rattle.edf_tal.proofs.Fronts.{same-front, HasEnd-tal}
@@ -19,13 +19,13 @@ pub record IsBadFront (bytes : List ℕ) (at : ℕ) : Type 0 where
   pub good : List (List ℕ)
   pub text : List ℕ
   pub back : List ℕ
-  pub parts : bytes ≡ (onset ++ duration) ++ 20 ∷ (ended good ++ (text ++ 20 ∷ back))
+  pub parts : bytes ≡ (onset ++ duration) ++ 20 ∷ (terminated good ++ (text ++ 20 ∷ back))
   pub is_onset : (z : ℤ) × IsOnset onset z
   pub is_duration : (d : Option ℕ) × IsDurationPart duration d
   pub good_texts : AllByRecursion (λ x. IsText x × IsUtf8 x) good
   pub is_text : IsText text
   pub bad : ¬ IsUtf8 text
-  pub at_is : at ≡ length onset + length duration + 1 + length (ended good)
+  pub at_is : at ≡ length onset + length duration + 1 + length (terminated good)
 
 -- after good TALs
 pub record BadParts (bytes : List ℕ) (at : ℕ) : Type 0 where
@@ -39,12 +39,12 @@ pub record BadParts (bytes : List ℕ) (at : ℕ) : Type 0 where
   pub bad : IsBadFront rest inner
   pub at_is : at ≡ length front + inner
 
-pub bad-split : (bytes : List ℕ) (at : ℕ) → IsBadText bytes at → BadParts bytes at
+pub bad-split : (bytes : List ℕ) (at : ℕ) → IsInvalidUtf8At bytes at → BadParts bytes at
 bad-split bytes at b = record {
   front = b.front;
-  rest = (b.onset ++ b.duration) ++ 20 ∷ (ended b.good ++ (b.text ++ 20 ∷ b.back));
+  rest = (b.onset ++ b.duration) ++ 20 ∷ (terminated b.good ++ (b.text ++ 20 ∷ b.back));
   tals = b.tals;
-  inner = length b.onset + length b.duration + 1 + length (ended b.good);
+  inner = length b.onset + length b.duration + 1 + length (terminated b.good);
   parts = b.parts ∙ simp append_assoc;
   whole = b.whole;
   good = b.front_good;
@@ -63,12 +63,12 @@ bad-split bytes at b = record {
     at_is = refl;
   };
   at_is = let e : at ≡ length b.front + length b.onset + length b.duration + 1 + length
-      (ended b.good) = b.at_is in omega arith;
+      (terminated b.good) = b.at_is in omega arith;
 }
 
 pub bad-join : (bytes front rest : List ℕ) (tals : List Tal) (at inner : ℕ) → bytes ≡ front
     ++ rest → AreTals front tals → HaveUtf8Texts tals
-    → IsBadFront rest inner → at ≡ length front + inner → IsBadText bytes at
+    → IsBadFront rest inner → at ≡ length front + inner → IsInvalidUtf8At bytes at
 bad-join bytes front rest tals at inner e whole good b here = record {
   front = front;
   tals = tals;
@@ -85,7 +85,7 @@ bad-join bytes front rest tals at inner e whole good b here = record {
   good_texts = b.good_texts;
   is_text = b.is_text;
   bad = b.bad;
-  at_is = let p : inner ≡ length b.onset + length b.duration + 1 + length (ended b.good) =
+  at_is = let p : inner ≡ length b.onset + length b.duration + 1 + length (terminated b.good) =
       b.at_is in omega arith;
 }
 
@@ -95,26 +95,27 @@ no-zero [] back rest p e = let z : ◌≡◌ {A = ℕ} 20 0 = cc in absurd (omeg
 no-zero (b ∷ text) back rest p e = p.0.0 (let z : b ≡ 0 = cc in z)
 
 -- the first text and what is after it
-pub first-text : (x : List ℕ) (xs : List (List ℕ)) (rest : List ℕ) → ended (x ∷ xs) ++ rest ≡ x
-    ++ 20 ∷ (ended xs ++ rest)
-first-text x xs rest = append_assoc (x ++ 20 ∷ []) (ended xs) rest
-    ∙ append_assoc x (20 ∷ []) (ended xs ++ rest)
+pub first-text : (x : List ℕ) (xs : List (List ℕ)) (rest : List ℕ) → terminated (x ∷ xs) ++ rest ≡ x
+    ++ 20 ∷ (terminated xs ++ rest)
+first-text x xs rest = append_assoc (x ++ 20 ∷ []) (terminated xs) rest
+    ∙ append_assoc x (20 ∷ []) (terminated xs ++ rest)
 
 -- a text after good ones is one of the TAL's
 among : (good xs : List (List ℕ)) (text back rest : List ℕ) →
     AllByRecursion (λ x. IsText x × IsUtf8 x) good → IsText text
-    → AllByRecursion IsText xs → AllByRecursion IsUtf8 xs → ended good
-    ++ (text ++ 20 ∷ back) ≡ ended xs ++ 0 ∷ rest → IsUtf8 text
+    → AllByRecursion IsText xs → AllByRecursion IsUtf8 xs → terminated good
+    ++ (text ++ 20 ∷ back) ≡ terminated xs ++ 0 ∷ rest → IsUtf8 text
 among [] [] text back rest g p ts us e = absurd (no-zero text back rest p e)
 among [] (x ∷ xs) text back rest g p ts us e =
-    let s = same-sides 20 text x back (ended xs ++ 0 ∷ rest) (Lacks-text text p) (Lacks-text x ts.0)
+    let s = same-sides 20 text x back (terminated xs ++ 0 ∷ rest) (Lacks-text text p)
+    (Lacks-text x ts.0)
     (e ∙ first-text x xs (0 ∷ rest)) in
     rw (s.front) (us.0)
 among (y ∷ good) [] text back rest g p ts us e =
-    absurd (no-zero y (ended good ++ (text ++ 20 ∷ back)) rest g.0.0
+    absurd (no-zero y (terminated good ++ (text ++ 20 ∷ back)) rest g.0.0
     (sym (first-text y good (text ++ 20 ∷ back)) ∙ e))
 among (y ∷ good) (x ∷ xs) text back rest g p ts us e =
-    let s = same-sides 20 y x (ended good ++ (text ++ 20 ∷ back)) (ended xs
+    let s = same-sides 20 y x (terminated good ++ (text ++ 20 ∷ back)) (terminated xs
     ++ 0 ∷ rest) (Lacks-text y g.0.0) (Lacks-text x ts.0)
     (sym (first-text y good (text ++ 20 ∷ back)) ∙ e ∙ first-text x xs (0 ∷ rest)) in
     among good xs text back rest g.1 p ts.1 us.1 s.back
@@ -128,8 +129,8 @@ Lacks-head o d (z, p) (k, q) = Lacks-append 20 o d (Lacks-onset 20 o z (omega ar
 pub good-front : (bytes front rest : List ℕ) (t : Tal) (at : ℕ) → bytes ≡ front ++ rest →
     IsTal front t → AllByRecursion IsUtf8 t.texts → IsBadFront bytes at → ⊥
 good-front bytes front rest t at e s good b =
-    let sides = same-sides 20 (b.onset ++ b.duration) (s.onset ++ s.duration) (ended b.good
-    ++ (b.text ++ 20 ∷ b.back)) (ended t.texts ++ 0 ∷ rest)
+    let sides = same-sides 20 (b.onset ++ b.duration) (s.onset ++ s.duration) (terminated b.good
+    ++ (b.text ++ 20 ∷ b.back)) (terminated t.texts ++ 0 ∷ rest)
     (Lacks-head b.onset b.duration b.is_onset b.is_duration)
     (Lacks-head s.onset s.duration (t.onset, s.is_onset) (t.duration, s.is_duration))
     (sym b.parts ∙ e ∙ tal-sides front rest t s) in
@@ -138,9 +139,10 @@ good-front bytes front rest t at e s good b =
 
 zeros-front : (zeros : List ℕ) (at : ℕ) → AreZeros zeros → IsBadFront zeros at → ⊥
 zeros-front zeros at a b =
-    no-onset b.onset (b.duration ++ 20 ∷ (ended b.good ++ (b.text ++ 20 ∷ b.back))) zeros
+    no-onset b.onset (b.duration ++ 20 ∷ (terminated b.good ++ (b.text ++ 20 ∷ b.back))) zeros
     b.is_onset.0 a b.is_onset.1
-    (b.parts ∙ append_assoc b.onset b.duration (20 ∷ (ended b.good ++ (b.text ++ 20 ∷ b.back))))
+    (b.parts ∙ append_assoc b.onset b.duration
+    (20 ∷ (terminated b.good ++ (b.text ++ 20 ∷ b.back))))
 
 regroup : (f r x f' r' x' front front' : List ℕ) → front ≡ f ++ r → front' ≡ f' ++ r' → front
     ++ x ≡ front' ++ x' → f ++ (r ++ x) ≡ f' ++ (r' ++ x')
@@ -173,7 +175,7 @@ no-bad (u ∷ us) (t ∷ ts) front rest front' zeros at (f, r, parts, is, more) 
     no-bad us ts r rest r' zeros at more more' good.1 a b s.back
 
 pub good-block : (bytes : List ℕ) (ts : List Tal) (at : ℕ) → AreTalsAndZeros bytes ts →
-    HaveUtf8Texts ts → IsBadText bytes at → ⊥
+    HaveUtf8Texts ts → IsInvalidUtf8At bytes at → ⊥
 good-block bytes ts at (front, zeros, parts, tals, are) good b =
     let s = bad-split bytes at b in
     no-bad s.tals ts s.front s.rest front zeros s.inner s.whole tals good are s.bad (sym s.parts
@@ -182,19 +184,20 @@ good-block bytes ts at (front, zeros, parts, tals, are) good b =
 -- the good texts before the first bad one
 same-good : (good more : List (List ℕ)) (x y back rest : List ℕ) →
     AllByRecursion (λ x. IsText x × IsUtf8 x) good → AllByRecursion (λ x. IsText x × IsUtf8 x) more
-    → IsText x → IsText y → ¬ IsUtf8 x → ¬ IsUtf8 y → ended good ++ (x ++ 20 ∷ back) ≡ ended more
+    → IsText x → IsText y → ¬ IsUtf8 x → ¬ IsUtf8 y →
+    terminated good ++ (x ++ 20 ∷ back) ≡ terminated more
     ++ (y ++ 20 ∷ rest) → good ≡ more
 same-good [] [] x y back rest g m p q b c e = refl
 same-good [] (m ∷ ms) x y back rest g a p q b c e =
-    let s = same-sides 20 x m back (ended ms ++ (y ++ 20 ∷ rest)) (Lacks-text x p)
+    let s = same-sides 20 x m back (terminated ms ++ (y ++ 20 ∷ rest)) (Lacks-text x p)
     (Lacks-text m a.0.0) (e ∙ first-text m ms (y ++ 20 ∷ rest)) in
     absurd (b (rw (s.front) (a.0.1)))
 same-good (g ∷ gs) [] x y back rest a m p q b c e =
-    let s = same-sides 20 g y (ended gs ++ (x ++ 20 ∷ back)) rest (Lacks-text g a.0.0)
+    let s = same-sides 20 g y (terminated gs ++ (x ++ 20 ∷ back)) rest (Lacks-text g a.0.0)
     (Lacks-text y q) (sym (first-text g gs (x ++ 20 ∷ back)) ∙ e) in
     absurd (c (rw (← s.front) (a.0.1)))
 same-good (g ∷ gs) (m ∷ ms) x y back rest a d p q b c e =
-    let s = same-sides 20 g m (ended gs ++ (x ++ 20 ∷ back)) (ended ms
+    let s = same-sides 20 g m (terminated gs ++ (x ++ 20 ∷ back)) (terminated ms
     ++ (y ++ 20 ∷ rest)) (Lacks-text g a.0.0) (Lacks-text m d.0.0)
     (sym (first-text g gs (x ++ 20 ∷ back)) ∙ e ∙ first-text m ms (y ++ 20 ∷ rest)) in
     let first : g ≡ m = s.front in
@@ -203,18 +206,18 @@ same-good (g ∷ gs) (m ∷ ms) x y back rest a d p q b c e =
 
 one-front : (bytes : List ℕ) (j k : ℕ) → IsBadFront bytes j → IsBadFront bytes k → j ≡ k
 one-front bytes j k b c =
-    let s = same-sides 20 (b.onset ++ b.duration) (c.onset ++ c.duration) (ended b.good
-    ++ (b.text ++ 20 ∷ b.back)) (ended c.good ++ (c.text ++ 20 ∷ c.back))
+    let s = same-sides 20 (b.onset ++ b.duration) (c.onset ++ c.duration) (terminated b.good
+    ++ (b.text ++ 20 ∷ b.back)) (terminated c.good ++ (c.text ++ 20 ∷ c.back))
     (Lacks-head b.onset b.duration b.is_onset b.is_duration)
     (Lacks-head c.onset c.duration c.is_onset c.is_duration) (sym b.parts ∙ c.parts) in
     let g = same-good b.good c.good b.text c.text b.back c.back b.good_texts c.good_texts b.is_text
     c.is_text b.bad c.bad s.back in
     let heads : length b.onset + length b.duration ≡ length c.onset + length c.duration =
     sym (length-append b.onset b.duration) ∙ ap length s.front ∙ length-append c.onset c.duration in
-    let goods : length (ended b.good) ≡ length (ended c.good) =
-    ap (λ (x : List (List ℕ)). length (ended x)) g in
-    let p : j ≡ length b.onset + length b.duration + 1 + length (ended b.good) = b.at_is in
-    let q : k ≡ length c.onset + length c.duration + 1 + length (ended c.good) = c.at_is in
+    let goods : length (terminated b.good) ≡ length (terminated c.good) =
+    ap (λ (x : List (List ℕ)). length (terminated x)) g in
+    let p : j ≡ length b.onset + length b.duration + 1 + length (terminated b.good) = b.at_is in
+    let q : k ≡ length c.onset + length c.duration + 1 + length (terminated c.good) = c.at_is in
     omega arith
 
 one-bad : (ts us : List Tal) (front rest front' rest' : List ℕ) (j k : ℕ) → AreTals front ts →
@@ -250,7 +253,8 @@ one-bad (t ∷ ts) (u ∷ us) front rest front' rest' j k (f, r, parts, is, more
       ap length s.front,
     ))
 
-pub one-bad-text : (bytes : List ℕ) (j k : ℕ) → IsBadText bytes j → IsBadText bytes k → j ≡ k
+pub one-bad-text : (bytes : List ℕ) (j k : ℕ) → IsInvalidUtf8At bytes j → IsInvalidUtf8At bytes k →
+    j ≡ k
 one-bad-text bytes j k b c =
     let p = bad-split bytes j b in
     let q = bad-split bytes k c in

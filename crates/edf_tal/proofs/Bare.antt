@@ -8,7 +8,7 @@ use Rattle.std.proofs.lemmas.Str.{IsUtf8-nil}
 use Rattle.edf_time.specs.Decimal.{IsSeconds}
 use Rattle.edf_time.specs.Civil.{IsInWindow}
 use Rattle.edf_tal.specs.Tal.{instant}
-use Rattle.edf_tal.specs.Block.{IsRead, cut}
+use Rattle.edf_tal.specs.Block.{BlockParsesTo, split_by_sizes}
 use Rattle.edf_tal.specs.Inside.Scan.{AreZeros, capped, KeepsSecond, KeepsOrder}
 use Rattle.edf_tal.specs.Inside.Blocks.{AreSizes, KeepsTime, bare_tal}
 use Rattle.edf_tal.specs.declared.place.Place.{Place}
@@ -76,7 +76,7 @@ bare-told block tal zeros onset (Some nanos) parts sides are (n, seconds, is) =
 
 pub bare-read : (block : List ℕ) (s : ℕ) (p : Place) (n start : ℕ) → KeepsTime block n →
     KeepsSecond p (pos n) → IsInWindow (pos s +ℤ pos n) → start ≡ instant s (pos n)
-    → KeepsOrder p start → IsRead block s p start []
+    → KeepsOrder p start → BlockParsesTo block s p start []
 bare-read block s p n start whole second in-window start-is order =
     read-of block s p start [] (bare_tal n ∷ []) whole ((IsUtf8-nil, tt), tt) ([], refl)
     (keeps-place p s (bare_tal n) [] second (subst (KeepsOrder p) start-is order))
@@ -84,7 +84,7 @@ bare-read block s p n start whole second in-window start-is order =
     (record { count = omega arith; bytes = omega arith }) start-is refl
 
 pub cut-one : (sizes block : List ℕ) → AreSizes sizes block → length sizes ≡ 1 →
-    cut sizes block ≡ block ∷ []
+    split_by_sizes sizes block ≡ block ∷ []
 cut-one [] block sizes one = absurd (omega arith)
 cut-one (n ∷ []) block sizes one = ap (λ (w : List ℕ). w ∷ [])
     (take_all n block (omega (arith, sizes.sum_is)))

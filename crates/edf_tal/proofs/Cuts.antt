@@ -9,9 +9,9 @@ use Rattle.std.proofs.lemmas.List.{append-nil, length-append, length-take, take-
 use Rattle.std.proofs.lemmas.List.{take_all, take_at, drop_at}
 use Rattle.std.proofs.lemmas.List.Sums.{sum_by-append, sum_by-cons, sum_by-drop_more}
 use Rattle.edf_tal.specs.Tal.{Tal, Annotation, AreBlocks, first_tals, all_tals, HaveUtf8Texts}
-use Rattle.edf_tal.specs.Tal.{IsTimed, IsTalInWindow, tal_annotations, annotations}
-use Rattle.edf_tal.specs.Block.{AreRead, cut}
-use Rattle.edf_tal.specs.Condition.{IsBroken}
+use Rattle.edf_tal.specs.Tal.{HasTimeKeepingTal, IsTalInWindow, tal_annotations, annotations}
+use Rattle.edf_tal.specs.Block.{BlocksParseTo, split_by_sizes}
+use Rattle.edf_tal.specs.Condition.{IsMalformedAt}
 use Rattle.edf_tal.specs.Inside.Blocks.{HasForm, AreSoundTals, AreSoundLists}
 use Rattle.edf_tal.specs.declared.blocks.Form.{Form}
 use Rattle.edf_tal.specs.declared.place.Place.{Place}
@@ -19,44 +19,45 @@ use Rattle.edf_tal.proofs.OneBlock.{one-block}
 use Rattle.edf_tal.proofs.Joined.{all-front, all-back, broken-front, broken-back, form-lists}
 use Rattle.edf_tal.proofs.FirstTal.{dropped-first}
 
-pub cut-joined : (bs : List (List ℕ)) → cut (map length bs) (flat_map (λ b. b) bs) ≡ bs
+pub cut-joined : (bs : List (List ℕ)) → split_by_sizes (map length bs) (flat_map (λ b. b) bs) ≡ bs
 cut-joined [] = refl
 cut-joined (b ∷ bs) =
     let front : take (length b) (b ++ flat_map (λ (b : List ℕ). b) bs) ≡ b =
     take_at b (flat_map (λ (b : List ℕ). b) bs) (length b) refl in
     let back : drop (length b) (b ++ flat_map (λ (b : List ℕ). b) bs) ≡ flat_map (λ (b : List ℕ). b)
     bs = drop_at b (flat_map (λ (b : List ℕ). b) bs) (length b) refl in
-    ap₂ (λ (x : List ℕ) (y : List (List ℕ)). x ∷ y) front (ap (cut (map length bs)) back
+    ap₂ (λ (x : List ℕ) (y : List (List ℕ)). x ∷ y) front (ap (split_by_sizes (map length bs)) back
     ∙ cut-joined bs)
 
 -- the first block, and those after it
 pub cut-first : (sizes block : List ℕ) → 1 ≤ length sizes →
-    cut sizes block ≡ take (get_or sizes 0 0) block ∷ cut (drop 1 sizes)
+    split_by_sizes sizes block ≡ take (get_or sizes 0 0) block ∷ split_by_sizes (drop 1 sizes)
     (drop (get_or sizes 0 0) block)
 cut-first [] block some = absurd (omega arith)
 cut-first (n ∷ sizes) block some = refl
 
 pub cut-split : (sizes block first later : List ℕ) → 1 ≤ length sizes →
     first ≡ take (get_or sizes 0 0) block → later ≡ drop (get_or sizes 0 0) block
-    → cut sizes block ≡ first ∷ cut (take (length sizes - 1) (drop 1 sizes)) later
+    → split_by_sizes sizes block ≡ first ∷ split_by_sizes
+    (take (length sizes - 1) (drop 1 sizes)) later
 cut-split [] block first later some f l = absurd (omega arith)
 cut-split (n ∷ sizes) block first later some f l =
-    ap₂ (λ (x y : List ℕ). x ∷ cut sizes y) (sym f) (sym l)
-    ∙ ap (λ (ss : List ℕ). first ∷ cut ss later)
+    ap₂ (λ (x y : List ℕ). x ∷ split_by_sizes sizes y) (sym f) (sym l)
+    ∙ ap (λ (ss : List ℕ). first ∷ split_by_sizes ss later)
     (sym (take_all (length (n ∷ sizes) - 1) sizes (omega arith)))
 
 -- the blocks that were gone over, and those that are left
 pub record HasSurveyed (sizes block : List ℕ) (i : ℕ) (rest : List ℕ) (s : ℕ) (form : Form) : Type 0
   where
     pub done : List (List ℕ)
-    pub parts : cut sizes block ≡ done ++ cut (drop i sizes) rest
+    pub parts : split_by_sizes sizes block ≡ done ++ split_by_sizes (drop i sizes) rest
     pub left : sum (drop i sizes) ≡ length rest
     pub room : sum_by length done + length rest ≡ length block
     pub is_form : HasForm done s form
 
 -- the block that is next, and those after it
 pub record HasNext (sizes : List ℕ) (i : ℕ) (rest front later : List ℕ) : Type 0 where
-  pub parts : cut (drop i sizes) rest ≡ front ∷ cut (drop (i + 1) sizes) later
+  pub parts : split_by_sizes (drop i sizes) rest ≡ front ∷ split_by_sizes (drop (i + 1) sizes) later
   pub both : length front + length later ≡ length rest
   pub left : sum (drop (i + 1) sizes) ≡ length later
 
@@ -70,9 +71,9 @@ next-block sizes i rest front later low left f b =
     let size : length front ≡ min (get_or sizes i 0) (length rest) = ap length f
     ∙ length-take (get_or sizes i 0) rest in
     record {
-      parts = ap (λ (ss : List ℕ). cut ss rest) (drop-cons sizes i 0 low)
-          ∙ ap₂ (λ (x y : List ℕ). x ∷ cut (drop (suc i) sizes) y) (sym f) (sym b)
-          ∙ ap (λ (n : ℕ). front ∷ cut (drop n sizes) later) (sym (add-one i));
+      parts = ap (λ (ss : List ℕ). split_by_sizes ss rest) (drop-cons sizes i 0 low)
+          ∙ ap₂ (λ (x y : List ℕ). x ∷ split_by_sizes (drop (suc i) sizes) y) (sym f) (sym b)
+          ∙ ap (λ (n : ℕ). front ∷ split_by_sizes (drop n sizes) later) (sym (add-one i));
       both = omega (arith, ap length joined, length-append front later);
       left = omega (
         arith,
@@ -91,7 +92,7 @@ pub surveyed-next : (sizes block : List ℕ) (i : ℕ) (rest front later : List 
 surveyed-next sizes block i rest front later s form next w n is = record {
   done = w.done ++ front ∷ [];
   parts = w.parts ∙ ap (λ (x : List (List ℕ)). w.done ++ x) n.parts
-      ∙ sym (append_assoc w.done (front ∷ []) (cut (drop (i + 1) sizes) later));
+      ∙ sym (append_assoc w.done (front ∷ []) (split_by_sizes (drop (i + 1) sizes) later));
   left = n.left;
   room = omega (
     arith,
@@ -122,22 +123,24 @@ surveyed-fits sizes block i rest front later s form w n =
 
 pub surveyed-broken : (sizes block : List ℕ) (i : ℕ) (rest front later : List ℕ) (s : ℕ)
     (form : Form) (at : ℕ) → HasSurveyed sizes block i rest s form
-    → HasNext sizes i rest front later → IsBroken (front ∷ []) at →
-    IsBroken (cut sizes block) (length block - length rest + at)
+    → HasNext sizes i rest front later → IsMalformedAt (front ∷ []) at →
+    IsMalformedAt (split_by_sizes sizes block) (length block - length rest + at)
 surveyed-broken sizes block i rest front later s form at w n b =
     let l = form-lists w.done s form w.is_form in
-    let there : cut sizes block ≡ w.done ++ front ∷ cut (drop (i + 1) sizes) later = w.parts
+    let there : split_by_sizes sizes block
+    ≡ w.done ++ front ∷ split_by_sizes (drop (i + 1) sizes) later = w.parts
     ∙ ap (λ (x : List (List ℕ)). w.done ++ x) n.parts in
     rw (surveyed-begin sizes block i rest s form w, there)
-    (broken-back w.done (front ∷ cut (drop (i + 1) sizes) later) l.0 at l.1
-    (broken-front (front ∷ []) (cut (drop (i + 1) sizes) later) at b))
+    (broken-back w.done (front ∷ split_by_sizes (drop (i + 1) sizes) later) l.0 at l.1
+    (broken-front (front ∷ []) (split_by_sizes (drop (i + 1) sizes) later) at b))
 
 pub surveyed-all : (sizes block : List ℕ) (i : ℕ) (rest : List ℕ) (s : ℕ) (form : Form) →
-    HasSurveyed sizes block i rest s form → length sizes ≤ i → HasForm (cut sizes block) s form
+    HasSurveyed sizes block i rest s form → length sizes ≤ i →
+    HasForm (split_by_sizes sizes block) s form
 surveyed-all sizes block i rest s form w over =
-    let there : w.done ≡ cut sizes block = sym (append-nil w.done)
+    let there : w.done ≡ split_by_sizes sizes block = sym (append-nil w.done)
     ∙ sym (w.parts ∙ ap (λ (ss : List ℕ). w.done
-    ++ cut ss rest) (drop_of_length-le sizes over)) in
+    ++ split_by_sizes ss rest) (drop_of_length-le sizes over)) in
     subst (λ (x : List (List ℕ)). HasForm x s form) there w.is_form
 
 -- the annotations of the blocks so far
@@ -145,8 +148,8 @@ pub record HasPushedBlocks (s : ℕ) (sizes block : List ℕ) (i : ℕ) (rest : 
     (old new : List Annotation) : Type 0 where
   pub all : List (List Tal)
   pub left : List (List Tal)
-  pub are_all : AreSoundLists (cut sizes block) s all
-  pub are_left : AreSoundLists (cut (drop i sizes) rest) s left
+  pub are_all : AreSoundLists (split_by_sizes sizes block) s all
+  pub are_left : AreSoundLists (split_by_sizes (drop i sizes) rest) s left
   pub room : sum (drop i sizes) ≡ length rest
   pub items : old ++ flat_map (tal_annotations s) (all_tals all) ≡ new
       ++ flat_map (tal_annotations s) (all_tals left)
@@ -173,15 +176,16 @@ next-of s front later (ts ∷ tss) a = record {
 
 pub next-tals : (s : ℕ) (sizes block : List ℕ) (i : ℕ) (rest front later : List ℕ)
     (old new : List Annotation) → (h : HasPushedBlocks s sizes block i rest old new)
-    → HasNext sizes i rest front later → NextTals s front (cut (drop (i + 1) sizes) later) h.left
+    → HasNext sizes i rest front later →
+    NextTals s front (split_by_sizes (drop (i + 1) sizes) later) h.left
 next-tals s sizes block i rest front later old new h n =
-    next-of s front (cut (drop (i + 1) sizes) later) h.left
+    next-of s front (split_by_sizes (drop (i + 1) sizes) later) h.left
     (subst (λ (x : List (List ℕ)). AreSoundLists x s h.left) n.parts h.are_left)
 
 pub pushed-more : (s : ℕ) (sizes block : List ℕ) (i : ℕ) (rest front later : List ℕ)
     (old new newer : List Annotation) → (h : HasPushedBlocks s sizes block i rest old new)
     → HasNext sizes i rest front later →
-    (t : NextTals s front (cut (drop (i + 1) sizes) later) h.left) → newer ≡ new
+    (t : NextTals s front (split_by_sizes (drop (i + 1) sizes) later) h.left) → newer ≡ new
     ++ flat_map (tal_annotations s) t.tals
     → HasPushedBlocks s sizes block (i + 1) later old newer
 pushed-more s sizes block i rest front later old new newer h n t is =
@@ -218,14 +222,14 @@ none-left s (t ∷ ts) a = absurd a
 
 pub pushed-all : (s : ℕ) (sizes block : List ℕ) (i : ℕ) (rest : List ℕ)
     (old new : List Annotation) → HasPushedBlocks s sizes block i rest old new → length sizes ≤ i
-    → (tss : List (List Tal)) → AreSoundLists (cut sizes block) s tss → new ≡ old
+    → (tss : List (List Tal)) → AreSoundLists (split_by_sizes sizes block) s tss → new ≡ old
     ++ flat_map (tal_annotations s) (all_tals tss)
 pushed-all s sizes block i rest old new h over tss a =
-    let over' : cut (drop i sizes) rest ≡ [] =
-    ap (λ (ss : List ℕ). cut ss rest) (drop_of_length-le sizes over) in
+    let over' : split_by_sizes (drop i sizes) rest ≡ [] =
+    ap (λ (ss : List ℕ). split_by_sizes ss rest) (drop_of_length-le sizes over) in
     let none = none-left s h.left (subst (λ (x : List (List ℕ)). AreSoundLists x s h.left) over'
     h.are_left) in
-    let same = sound-one s (cut sizes block) h.all tss h.are_all a in
+    let same = sound-one s (split_by_sizes sizes block) h.all tss h.are_all a in
     sym (append-nil new)
     ∙ sym (ap (λ (w : List (List Tal)). new ++ flat_map (tal_annotations s) (all_tals w)) none)
     ∙ sym h.items
@@ -255,7 +259,7 @@ drop-first : (xs ys : List Annotation) → 1 ≤ length xs → drop 1 (xs ++ ys)
 drop-first [] ys some = absurd (omega arith)
 drop-first (x ∷ xs) ys some = refl
 
-annotations-append : (s : ℕ) (ts us : List Tal) → IsTimed ts →
+annotations-append : (s : ℕ) (ts us : List Tal) → HasTimeKeepingTal ts →
     annotations s (ts ++ us) ≡ annotations s ts ++ flat_map (tal_annotations s) us
 annotations-append s [] us timed = absurd timed
 annotations-append s (t ∷ ts) us (xs, e) =
@@ -270,16 +274,18 @@ pub record HasFirst (s : ℕ) (first : List ℕ) (later : List (List ℕ)) (list
   pub tals : List Tal
   pub others : List (List Tal)
   pub sound : AreSoundTals first s tals
-  pub timed : IsTimed tals
+  pub timed : HasTimeKeepingTal tals
   pub rest : AreSoundLists later s others
   pub list_is : list ≡ annotations s tals ++ flat_map (tal_annotations s) (all_tals others)
 
 pub has-first : (s : ℕ) (p : Place) (first : List ℕ) (later : List (List ℕ)) (start : ℕ)
-    (list : List Annotation) → AreRead (first ∷ later) s p start list → HasFirst s first later list
+    (list : List Annotation) → BlocksParseTo (first ∷ later) s p start list →
+    HasFirst s first later list
 has-first s p first later start list r =
     at r.tals (sound-lists s (first ∷ later) r.tals r.lists r.good r.window) r.timed r.list_is
   where
-    at : (tss : List (List Tal)) → AreSoundLists (first ∷ later) s tss → IsTimed (first_tals tss) →
+    at : (tss : List (List Tal)) → AreSoundLists (first ∷ later) s tss →
+        HasTimeKeepingTal (first_tals tss) →
         list ≡ annotations s (all_tals tss) → HasFirst s first later list
     at [] a timed e = absurd a
     at (ts ∷ tss) a timed e = record {

@@ -4,7 +4,8 @@ use Rattle.std.proofs.Common.{sym, ap, ◌∙◌, subst, append_assoc}
 use Rattle.std.specs.Prelude.{IsTrue, ◌↔◌}
 use Rattle.std.specs.List.{AllByRecursion, flat_map}
 use Rattle.std.proofs.lemmas.List.Sums.{sum_by-cons}
-use Rattle.edf_tal.specs.Tal.{Tal, Annotation, IsTal, IsText, ended, AreTalsAndZeros, AreBlocks}
+use Rattle.edf_tal.specs.Tal.{Tal, Annotation, IsTal, IsText, terminated, AreTalsAndZeros}
+use Rattle.edf_tal.specs.Tal.{AreBlocks}
 use Rattle.edf_tal.specs.Tal.{all_tals, HaveUtf8Texts, IsTalInWindow, instant, tal_annotations}
 use Rattle.edf_tal.specs.Inside.Scan.{IsTalAtFront}
 use Rattle.edf_tal.specs.Inside.Blocks.{AreSurveyed}
@@ -64,7 +65,7 @@ known b later texts rest s sums t v f =
 
 -- a first text that is empty
 first-empty : (xs : List (List ℕ)) (rest : List ℕ) → AllByRecursion IsText xs →
-    ended xs ≡ 20 ∷ rest → (ys : List (List ℕ)) × (xs ≡ [] ∷ ys)
+    terminated xs ≡ 20 ∷ rest → (ys : List (List ℕ)) × (xs ≡ [] ∷ ys)
 first-empty [] rest a e = absurd cc
 first-empty ([] ∷ xs) rest a e = (xs, refl)
 first-empty ((b ∷ x) ∷ xs) rest a e = absurd (a.0.0.1 (let z : b ≡ 20 = cc in z))
@@ -79,7 +80,7 @@ timed b texts more t f (rest, e) = first-empty t.texts rest f.tal.are_texts (sym
 
 pub untimed : (b texts more : List ℕ) (t : Tal) → IsTalAtFront b texts more t →
     ¬ ((rest : List ℕ) × (texts ≡ 20 ∷ rest)) → ¬ IsEmptyFirst t
-untimed b texts more t f fails (xs, e) = fails (ended xs, f.texts_are ∙ ap ended e)
+untimed b texts more t f fails (xs, e) = fails (terminated xs, f.texts_are ∙ ap terminated e)
 
 -- the list without the empty first annotation
 pub record Dropped (list : List Annotation) : Type 0 where

@@ -3,7 +3,7 @@ use Rattle.std.proofs.Common.{◌≡◌, ℕ, ◌≤◌, List, [], ◌∷◌, �
 use Rattle.std.proofs.Common.{append_assoc, Option, Some, None}
 use Rattle.std.specs.List.{AllByRecursion}
 use Rattle.std.proofs.lemmas.List.{length-append, append-nil}
-use Rattle.edf_tal.specs.Tal.{Tal, IsTal, IsDurationPart, IsText, ended, AreTals}
+use Rattle.edf_tal.specs.Tal.{Tal, IsTal, IsDurationPart, IsText, terminated, AreTals}
 use Rattle.edf_tal.specs.Inside.Scan.{Lacks, NoTal}
 use Rattle.edf_tal.proofs.Unique.{SameSides, same-sides, Lacks-append, Lacks-onset, Lacks-seconds}
 
@@ -16,10 +16,11 @@ NoZero-text : (text : List ℕ) → IsText text → Lacks 0 text
 NoZero-text [] p = tt
 NoZero-text (b ∷ text) p = (p.0.0, NoZero-text text p.1)
 
-pub NoZero-ended : (texts : List (List ℕ)) → AllByRecursion IsText texts → Lacks 0 (ended texts)
+pub NoZero-ended : (texts : List (List ℕ)) → AllByRecursion IsText texts →
+    Lacks 0 (terminated texts)
 NoZero-ended [] p = tt
 NoZero-ended (text ∷ texts) p =
-    Lacks-append 0 (text ++ 20 ∷ []) (ended texts)
+    Lacks-append 0 (text ++ 20 ∷ []) (terminated texts)
     (Lacks-append 0 text (20 ∷ []) (NoZero-text text p.0) ((λ e. absurd (omega arith)), tt))
     (NoZero-ended texts p.1)
 
@@ -30,16 +31,16 @@ pub record HasEnd (bytes : List ℕ) : Type 0 where
   pub no_zero : Lacks 0 body
 
 pub NoZero-tal : (bytes : List ℕ) (t : Tal) (s : IsTal bytes t) →
-    Lacks 0 ((s.onset ++ s.duration) ++ 20 ∷ ended t.texts)
+    Lacks 0 ((s.onset ++ s.duration) ++ 20 ∷ terminated t.texts)
 NoZero-tal bytes t s =
-    Lacks-append 0 (s.onset ++ s.duration) (20 ∷ ended t.texts)
+    Lacks-append 0 (s.onset ++ s.duration) (20 ∷ terminated t.texts)
     (Lacks-append 0 s.onset s.duration (Lacks-onset 0 s.onset t.onset (omega arith) s.is_onset)
     (NoZero-duration s.duration t.duration s.is_duration))
     ((λ e. absurd (omega arith)), NoZero-ended t.texts s.are_texts)
 
 pub HasEnd-tal : (bytes : List ℕ) (t : Tal) → IsTal bytes t → HasEnd bytes
 HasEnd-tal bytes t s = record {
-  body = s.onset ++ s.duration ++ 20 ∷ ended t.texts;
+  body = s.onset ++ s.duration ++ 20 ∷ terminated t.texts;
   parts = s.parts;
   no_zero = NoZero-tal bytes t s;
 }

@@ -7,7 +7,7 @@ use Rattle.std.specs.List.{AllByRecursion}
 use Rattle.std.proofs.lemmas.Bool.{cases_eq}
 use Rattle.std.proofs.lemmas.List.{append-nil, length-append, take_all}
 use Rattle.edf_time.specs.Decimal.{IsDecimal, IsFine, IsSeconds}
-use Rattle.edf_tal.specs.Tal.{Tal, IsTal, IsOnset, IsDurationPart, IsText, ended}
+use Rattle.edf_tal.specs.Tal.{Tal, IsTal, IsOnset, IsDurationPart, IsText, terminated}
 use Rattle.edf_tal.specs.Inside.Scan.{Lacks, NoTal, IsTimes, IsHead, EndsWith20, IsTalAtFront}
 use Rattle.edf_time.proofs.Cited.{same-parts}
 use Rattle.edf_tal.proofs.Unique.{same-sides, not-both, Lacks-append, Lacks-onset, Lacks-duration}
@@ -162,14 +162,14 @@ IsEnded-append (x ∷ []) [] some e = absurd (omega arith)
 IsEnded-append (x ∷ []) (y ∷ b) some e = e
 IsEnded-append (x ∷ c ∷ a) b some e = IsEnded-append (c ∷ a) b some e
 
-pub IsEnded-ended : (texts : List (List ℕ)) → EndsWith20 (ended texts)
+pub IsEnded-ended : (texts : List (List ℕ)) → EndsWith20 (terminated texts)
 IsEnded-ended [] = tt
 IsEnded-ended (x ∷ []) = rw (append-nil (x ++ 20 ∷ []))
     (IsEnded-append x (20 ∷ []) (omega arith) refl)
 IsEnded-ended (x ∷ y ∷ texts) = IsEnded-append (x
-    ++ 20 ∷ []) (ended (y ∷ texts)) (omega (
+    ++ 20 ∷ []) (terminated (y ∷ texts)) (omega (
       arith,
-      length-append (y ++ 20 ∷ []) (ended texts),
+      length-append (y ++ 20 ∷ []) (terminated texts),
       length-append y (20 ∷ []),
     )) (IsEnded-ended (y ∷ texts))
 
@@ -190,13 +190,13 @@ ended-tests (b ∷ bytes) some =
 -- the texts of a tail
 pub record Texts (tail : List ℕ) : Type 0 where
   pub texts : List (List ℕ)
-  pub parts : tail ≡ ended texts
+  pub parts : tail ≡ terminated texts
   pub are_texts : AllByRecursion IsText texts
 
 onto : (b : ℕ) (tail : List ℕ) → b ≢ 0 → b ≢ 20 → 0 < length tail → Texts tail → Texts (b ∷ tail)
 onto b tail nz nt some t = go t.texts t.parts t.are_texts
   where
-    go : (ts : List (List ℕ)) → tail ≡ ended ts → AllByRecursion IsText ts → Texts (b ∷ tail)
+    go : (ts : List (List ℕ)) → tail ≡ terminated ts → AllByRecursion IsText ts → Texts (b ∷ tail)
     go [] e a = absurd (omega (arith, ap length e))
     go (x ∷ xs) e a = record {
       texts = (b ∷ x) ∷ xs;
@@ -221,13 +221,13 @@ texts-of (b ∷ c ∷ tail) nz e =
 
 -- the TAL at the front, by the first bytes 0 and 20
 pub record Reads (body rest front later : List ℕ) (t : Tal) (s : IsTal front t) : Type 0 where
-  pub body_is : body ≡ (s.onset ++ s.duration) ++ 20 ∷ ended t.texts
+  pub body_is : body ≡ (s.onset ++ s.duration) ++ 20 ∷ terminated t.texts
   pub rest_is : rest ≡ later
 
 pub front-body : (bytes body rest front later : List ℕ) (t : Tal) → Lacks 0 body → bytes ≡ body
     ++ 0 ∷ rest → bytes ≡ front ++ later → (s : IsTal front t) → Reads body rest front later t s
 front-body bytes body rest front later t lacks e f s =
-    let b = (s.onset ++ s.duration) ++ 20 ∷ ended t.texts in
+    let b = (s.onset ++ s.duration) ++ 20 ∷ terminated t.texts in
     let whole : front ++ later ≡ b ++ 0 ∷ later = ap (λ (w : List ℕ). w ++ later) s.parts
     ∙ append_assoc b (0 ∷ []) later in
     let same = same-sides 0 body b rest later lacks (NoZero-tal front t s) (sym e ∙ f ∙ whole) in
@@ -235,25 +235,25 @@ front-body bytes body rest front later t lacks e f s =
 
 pub no-zero-byte : (bytes : List ℕ) → Lacks 0 bytes → NoTal bytes
 no-zero-byte bytes lacks front rest t e s =
-    not-both 0 bytes ((s.onset ++ s.duration) ++ 20 ∷ ended t.texts) rest lacks
+    not-both 0 bytes ((s.onset ++ s.duration) ++ 20 ∷ terminated t.texts) rest lacks
     (e ∙ ap (λ (w : List ℕ). w ++ rest) s.parts
-    ∙ append_assoc ((s.onset ++ s.duration) ++ 20 ∷ ended t.texts) (0 ∷ []) rest)
+    ∙ append_assoc ((s.onset ++ s.duration) ++ 20 ∷ terminated t.texts) (0 ∷ []) rest)
 
 pub no-twenty : (bytes body rest : List ℕ) → Lacks 0 body → bytes ≡ body ++ 0 ∷ rest →
     Lacks 20 body → NoTal bytes
 no-twenty bytes body rest lacks e none front later t f s =
-    not-both 20 body (s.onset ++ s.duration) (ended t.texts) none
+    not-both 20 body (s.onset ++ s.duration) (terminated t.texts) none
     (front-body bytes body rest front later t lacks e f s).body_is
 
 pub record Sides (h x : List ℕ) (t : Tal) : Type 0 where
   pub head : IsHead h t.onset t.duration
-  pub texts : x ≡ ended t.texts
+  pub texts : x ≡ terminated t.texts
 
 pub front-sides : (bytes body rest head texts front later : List ℕ) (t : Tal) → Lacks 0 body →
     bytes ≡ body ++ 0 ∷ rest → Lacks 20 head → body ≡ head ++ 20 ∷ texts
     → bytes ≡ front ++ later → IsTal front t → Sides head texts t
 front-sides bytes body rest head texts front later t lacks e lacks' f g s =
-    let same = same-sides 20 head (s.onset ++ s.duration) texts (ended t.texts) lacks'
+    let same = same-sides 20 head (s.onset ++ s.duration) texts (terminated t.texts) lacks'
     (Lacks-append 20 s.onset s.duration (Lacks-onset 20 s.onset t.onset (omega arith) s.is_onset)
     (Lacks-duration s.duration t.duration s.is_duration))
     (sym f ∙ (front-body bytes body rest front later t lacks e g s).body_is) in

@@ -9,7 +9,8 @@ use Rattle.std.proofs.lemmas.List.{take_at}
 use Rattle.std.proofs.lemmas.List.Sums.{sum_by-append, sum_by-cons}
 use Rattle.edf_tal.specs.Tal.{Tal, Annotation, AreTalsAndZeros, AreBlocks, all_tals, HaveUtf8Texts}
 use Rattle.edf_tal.specs.Tal.{IsTalInWindow, tal_annotations}
-use Rattle.edf_tal.specs.Condition.{IsBadText, IsLongestFront, IsBroken, HasBadText}
+use Rattle.edf_tal.specs.Condition.{IsInvalidUtf8At, IsLongestTalPrefix, IsMalformedAt}
+use Rattle.edf_tal.specs.Condition.{HaveInvalidUtf8At}
 use Rattle.edf_tal.specs.Inside.Scan.{NoTal, AreZeros, FollowsTals, IsSurvey}
 use Rattle.edf_tal.specs.Inside.Blocks.{AreSurveyed, HasForm}
 use Rattle.edf_tal.specs.declared.blocks.Sums.{Sums}
@@ -71,7 +72,7 @@ block-at (f ∷ front) back b [] l = absurd l
 block-at (f ∷ front) back b (ts ∷ tss) l = block-at front back b tss l.1
 
 pub not-broken : (bs : List (List ℕ)) (tss : List (List Tal)) (at : ℕ) → AreBlocks bs tss →
-    IsBroken bs at → ⊥
+    IsMalformedAt bs at → ⊥
 not-broken bs tss at l h =
     let b = block-at h.front h.back h.block tss
     (subst (λ (x : List (List ℕ)). AreBlocks x tss) h.parts l) in
@@ -86,7 +87,8 @@ each-whole (b ∷ bs) (ts ∷ tss) l = ((ts, l.0), each-whole bs tss l.1)
 
 -- where all texts are UTF-8, no block has one that is not
 pub each-good : (bs : List (List ℕ)) (tss : List (List Tal)) → AreBlocks bs tss →
-    HaveUtf8Texts (all_tals tss) → AllByRecursion (λ (b : List ℕ). (at : ℕ) → ¬ IsBadText b at) bs
+    HaveUtf8Texts (all_tals tss) →
+    AllByRecursion (λ (b : List ℕ). (at : ℕ) → ¬ IsInvalidUtf8At b at) bs
 each-good [] tss l g = tt
 each-good (b ∷ bs) [] l g = absurd l
 each-good (b ∷ bs) (ts ∷ tss) l g = (
@@ -99,9 +101,9 @@ block-in : (front back : List (List ℕ)) (b : List ℕ) (P : List ℕ → Type 
 block-in front back b P a = (all-back P front (b ∷ back) a).0
 
 pub not-bad : (bs : List (List ℕ)) (tss : List (List Tal)) (at : ℕ) → AreBlocks bs tss →
-    HaveUtf8Texts (all_tals tss) → HasBadText bs at → ⊥
+    HaveUtf8Texts (all_tals tss) → HaveInvalidUtf8At bs at → ⊥
 not-bad bs tss at l g h =
-    let P = λ (b : List ℕ). (at : ℕ) → ¬ IsBadText b at in
+    let P = λ (b : List ℕ). (at : ℕ) → ¬ IsInvalidUtf8At b at in
     block-in h.front h.back h.block P (subst (AllByRecursion P) h.parts (each-good bs tss l g))
     h.offset h.bad
 
@@ -126,13 +128,13 @@ first-without P (h ∷ f) (k ∷ g) x y b c p q fails fails' e =
     let more : f ≡ g = s.front in
     record { front = cc; block = s.block }
 
-one-offset : (b : List ℕ) (m n : ℕ) → IsLongestFront b m → IsLongestFront b n → m ≡ n
+one-offset : (b : List ℕ) (m n : ℕ) → IsLongestTalPrefix b m → IsLongestTalPrefix b n → m ≡ n
 one-offset b m n p q =
     let up = p.longest n q.tals q.within q.front in
     let down = q.longest m p.tals p.within p.front in
     omega arith
 
-pub one-broken : (bs : List (List ℕ)) (m n : ℕ) → IsBroken bs m → IsBroken bs n → m ≡ n
+pub one-broken : (bs : List (List ℕ)) (m n : ℕ) → IsMalformedAt bs m → IsMalformedAt bs n → m ≡ n
 one-broken bs m n h k =
     let s = first-without (λ (b : List ℕ). (ts : List Tal) × AreTalsAndZeros b ts) h.front k.front
     h.back k.back h.block k.block
@@ -140,21 +142,22 @@ one-broken bs m n h k =
     (λ w. h.broken w.0 w.1) (λ w. k.broken w.0 w.1) (sym h.parts ∙ k.parts) in
     let offset : h.offset ≡ k.offset =
     one-offset h.block h.offset k.offset h.longest
-    (subst (λ (b : List ℕ). IsLongestFront b k.offset) (sym s.block) k.longest) in
+    (subst (λ (b : List ℕ). IsLongestTalPrefix b k.offset) (sym s.block) k.longest) in
     let left : m ≡ sum_by length h.front + h.offset = h.at_is in
     let right : n ≡ sum_by length k.front + k.offset = k.at_is in
     let before : sum_by length h.front ≡ sum_by length k.front = ap (sum_by length) s.front in
     omega arith
 
-pub one-bad-place : (bs : List (List ℕ)) (m n : ℕ) → HasBadText bs m → HasBadText bs n → m ≡ n
+pub one-bad-place : (bs : List (List ℕ)) (m n : ℕ) → HaveInvalidUtf8At bs m →
+    HaveInvalidUtf8At bs n → m ≡ n
 one-bad-place bs m n h k =
-    let s = first-without (λ (b : List ℕ). (at : ℕ) → ¬ IsBadText b at) h.front k.front h.back
+    let s = first-without (λ (b : List ℕ). (at : ℕ) → ¬ IsInvalidUtf8At b at) h.front k.front h.back
     k.back h.block k.block
     (each-good h.front h.good.0 h.good.1 h.good.2) (each-good k.front k.good.0 k.good.1 k.good.2)
     (λ none. none h.offset h.bad) (λ none. none k.offset k.bad) (sym h.parts ∙ k.parts) in
     let offset : h.offset ≡ k.offset =
     one-bad-text h.block h.offset k.offset h.bad
-    (subst (λ (b : List ℕ). IsBadText b k.offset) (sym s.block) k.bad) in
+    (subst (λ (b : List ℕ). IsInvalidUtf8At b k.offset) (sym s.block) k.bad) in
     let left : m ≡ sum_by length h.front + h.offset = h.at_is in
     let right : n ≡ sum_by length k.front + k.offset = k.at_is in
     let before : sum_by length h.front ≡ sum_by length k.front = ap (sum_by length) s.front in
@@ -162,7 +165,8 @@ one-bad-place bs m n h k =
 
 -- ---- blocks, and those after them
 
-pub broken-front : (bs cs : List (List ℕ)) (at : ℕ) → IsBroken bs at → IsBroken (bs ++ cs) at
+pub broken-front : (bs cs : List (List ℕ)) (at : ℕ) → IsMalformedAt bs at →
+    IsMalformedAt (bs ++ cs) at
 broken-front bs cs at h = record {
   front = h.front;
   block = h.block;
@@ -176,7 +180,7 @@ broken-front bs cs at h = record {
 }
 
 pub broken-back : (bs cs : List (List ℕ)) (tss : List (List Tal)) (at : ℕ) → AreBlocks bs tss →
-    IsBroken cs at → IsBroken (bs ++ cs) (sum_by length bs + at)
+    IsMalformedAt cs at → IsMalformedAt (bs ++ cs) (sum_by length bs + at)
 broken-back bs cs tss at l h = record {
   front = bs ++ h.front;
   block = h.block;
@@ -191,7 +195,8 @@ broken-back bs cs tss at l h = record {
       omega (arith, sum_by-append length bs h.front);
 }
 
-pub bad-front : (bs cs : List (List ℕ)) (at : ℕ) → HasBadText bs at → HasBadText (bs ++ cs) at
+pub bad-front : (bs cs : List (List ℕ)) (at : ℕ) → HaveInvalidUtf8At bs at →
+    HaveInvalidUtf8At (bs ++ cs) at
 bad-front bs cs at h = record {
   front = h.front;
   block = h.block;
@@ -204,7 +209,7 @@ bad-front bs cs at h = record {
 }
 
 pub bad-back : (bs cs : List (List ℕ)) (s : ℕ) (sums : Sums) (at : ℕ) → AreSurveyed bs s sums →
-    HasBadText cs at → HasBadText (bs ++ cs) (sum_by length bs + at)
+    HaveInvalidUtf8At cs at → HaveInvalidUtf8At (bs ++ cs) (sum_by length bs + at)
 bad-back bs cs s sums at v h = record {
   front = bs ++ h.front;
   block = h.block;
@@ -298,7 +303,7 @@ not-block block rest b last not-zeros ts (front, zeros, parts, tals, are) =
     (zeros-no-tal zeros are) (sym b.parts ∙ parts)).rest are)
 
 longest-front : (block rest : List ℕ) → FollowsTals block rest → NoTal rest →
-    IsLongestFront block (length block - length rest)
+    IsLongestTalPrefix block (length block - length rest)
 longest-front block rest b last =
     let len : length block - length rest ≡ length b.front =
     omega (arith, ap length b.parts, length-append b.front rest) in
@@ -313,7 +318,7 @@ longest-front block rest b last =
     })
 
 pub broken-one : (block rest : List ℕ) → FollowsTals block rest → NoTal rest → ¬ AreZeros rest →
-    IsBroken (block ∷ []) (length block - length rest)
+    IsMalformedAt (block ∷ []) (length block - length rest)
 broken-one block rest b last not-zeros = record {
   front = [];
   block = block;
@@ -327,7 +332,7 @@ broken-one block rest b last not-zeros = record {
 }
 
 pub form-bad : (block rest : List ℕ) (s at : ℕ) → FollowsTals block rest → AreZeros rest →
-    IsBadText block at → HasForm (block ∷ []) s (BadText at)
+    IsInvalidUtf8At block at → HasForm (block ∷ []) s (BadText at)
 form-bad block rest s at b zeros bad = (
   (b.tals ∷ [], ((b.front, rest, b.parts, b.whole, zeros), tt)),
   record {
@@ -406,7 +411,7 @@ surveyed-room bs s sums v =
     v.bytes_is in
     omega (arith, lists-room s bs v.tals v.lists)
 
-pub broken-room : (bs : List (List ℕ)) (at : ℕ) → IsBroken bs at → at ≤ sum_by length bs
+pub broken-room : (bs : List (List ℕ)) (at : ℕ) → IsMalformedAt bs at → at ≤ sum_by length bs
 broken-room bs at h =
     let low : h.offset ≤ length h.block = h.longest.within in
     let here : at ≡ sum_by length h.front + h.offset = h.at_is in

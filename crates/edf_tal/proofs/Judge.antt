@@ -6,11 +6,12 @@ use Rattle.std.specs.Prelude.{IsTrue}
 use Rattle.std.specs.List.{AllByRecursion, flat_map}
 use Rattle.std.proofs.lemmas.Bool.{cases_lt}
 use Rattle.edf_tal.specs.Tal.{Tal, Annotation, AreTalsAndZeros, AreBlocks, first_tals, all_tals}
-use Rattle.edf_tal.specs.Tal.{HaveUtf8Texts, IsTimed, IsTalInWindow, instant, tal_annotations}
+use Rattle.edf_tal.specs.Tal.{HaveUtf8Texts, HasTimeKeepingTal, IsTalInWindow, instant}
+use Rattle.edf_tal.specs.Tal.{tal_annotations}
 use Rattle.edf_tal.specs.Tal.{annotations, record_start}
-use Rattle.edf_tal.specs.Block.{AreRead, IsRead, IsWithinLimits, KeepsPlace}
-use Rattle.edf_tal.specs.Condition.{IsBroken, HasBadText}
-use Rattle.edf_tal.specs.Block.{BlocksFail, IsBlocksFault, IsBlockFault}
+use Rattle.edf_tal.specs.Block.{BlocksParseTo, BlockParsesTo, IsWithinLimits, StartFitsPlace}
+use Rattle.edf_tal.specs.Condition.{IsMalformedAt, HaveInvalidUtf8At}
+use Rattle.edf_tal.specs.Block.{BlocksHaveFault, IsFirstBlocksFault, IsFirstBlockFault}
 use Rattle.edf_tal.specs.Block.{tal_fault_number}
 use Rattle.edf_tal.specs.Inside.Scan.{NoTal, IsTalAtFront, KeepsSecond, KeepsOrder}
 use Rattle.edf_tal.specs.Inside.Blocks.{AreSurveyed, HasForm, IsChecked}
@@ -42,8 +43,8 @@ lowest : (e : TalFault) → tal_fault_number e < 22 → ⊥
 lowest (NotTals offset) h = omega arith
 lowest e h = omega arith
 
-pub fault-tal : (bs : List (List ℕ)) (s : ℕ) (p : Place) (at : ℕ) → IsBroken bs at →
-    IsBlocksFault bs s p (NotTals at)
+pub fault-tal : (bs : List (List ℕ)) (s : ℕ) (p : Place) (at : ℕ) → IsMalformedAt bs at →
+    IsFirstBlocksFault bs s p (NotTals at)
 fault-tal bs s p at broken = record {
   holds = broken;
   first = λ other low. absurd (lowest other low);
@@ -55,20 +56,21 @@ pub record IsClear (bs : List (List ℕ)) (s : ℕ) (p : Place) (n : ℕ) (tss :
     pub known : n ≤ 28
     pub lists : 22 < n → AreBlocks bs tss
     pub good : 23 < n → HaveUtf8Texts (all_tals tss)
-    pub timed : 24 < n → IsTimed (first_tals tss)
-    pub second : 25 < n → (p ≡ First → KeepsPlace First s (first_tals tss))
+    pub timed : 24 < n → HasTimeKeepingTal (first_tals tss)
+    pub second : 25 < n → (p ≡ First → StartFitsPlace First s (first_tals tss))
     pub window : 26 < n → AllByRecursion (IsTalInWindow s) (all_tals tss)
     pub order : 27 < n → KeepsOrder p (record_start s (first_tals tss))
 
 clear : (bs : List (List ℕ)) (s : ℕ) (p : Place) (n : ℕ) (tss : List (List Tal)) →
-    IsClear bs s p n tss → (e : TalFault) → tal_fault_number e < n → ¬ BlocksFail bs s p e
+    IsClear bs s p n tss → (e : TalFault) → tal_fault_number e < n → ¬ BlocksHaveFault bs s p e
 clear bs s p n tss h (NotTals at) low f = not-broken bs tss at (h.lists low) f
 clear bs s p n tss h (Text at) low f = not-bad bs tss at (h.lists (omega arith)) (h.good low) f.1
 clear bs s p n tss h NotTimed low (us, w, fails) =
-    on-tals (λ (ts : List (List Tal)). IsTimed (first_tals ts)) bs tss us (h.lists (omega arith)) w
+    on-tals (λ (ts : List (List Tal)). HasTimeKeepingTal (first_tals ts)) bs tss us
+    (h.lists (omega arith)) w
     (h.timed low) fails
 clear bs s First n tss h FirstOnset low (us, w, fails) =
-    on-tals (λ (ts : List (List Tal)). KeepsPlace First s (first_tals ts)) bs tss us
+    on-tals (λ (ts : List (List Tal)). StartFitsPlace First s (first_tals ts)) bs tss us
     (h.lists (omega arith)) w (h.second low refl) fails
 clear bs s (After before duration) n tss h FirstOnset low f = f
 clear bs s Any n tss h FirstOnset low f = f
@@ -77,14 +79,16 @@ clear bs s p n tss h Window low (us, w, fails) =
     (h.lists (omega arith)) w (h.window low) fails
 clear bs s First n tss h Order low f = f
 clear bs s (After before duration) n tss h Order low (us, w, fails) =
-    on-tals (λ (ts : List (List Tal)). KeepsPlace (After before duration) s (first_tals ts)) bs tss
+    on-tals (λ (ts : List (List Tal)). StartFitsPlace (After before duration) s (first_tals ts)) bs
+    tss
     us (h.lists (omega arith)) w (h.order low) fails
 clear bs s Any n tss h Order low f = f
 clear bs s p n tss h TooMany low f = let k = h.known in absurd (omega arith)
 clear bs s p n tss h Memory low f = let k = h.known in absurd (omega arith)
 
 pub fault-text : (bs : List (List ℕ)) (s : ℕ) (p : Place) (at : ℕ) →
-    ((tss : List (List Tal)) × AreBlocks bs tss) → HasBadText bs at → IsBlocksFault bs s p (Text at)
+    ((tss : List (List Tal)) × AreBlocks bs tss) → HaveInvalidUtf8At bs at →
+    IsFirstBlocksFault bs s p (Text at)
 fault-text bs s p at (tss, lists) bad = record {
   holds = ((tss, lists), bad);
   first = clear bs s p 23 tss (record {
@@ -100,8 +104,8 @@ fault-text bs s p at (tss, lists) bad = record {
 
 -- blocks of TALs with good texts, which are not timed
 fault-lists : (bs : List (List ℕ)) (s : ℕ) (p : Place) (tss : List (List Tal)) → AreBlocks bs tss →
-    HaveUtf8Texts (all_tals tss) → ¬ IsTimed (first_tals tss)
-    → IsBlocksFault bs s p NotTimed
+    HaveUtf8Texts (all_tals tss) → ¬ HasTimeKeepingTal (first_tals tss)
+    → IsFirstBlocksFault bs s p NotTimed
 fault-lists bs s p tss lists good fails = record {
   holds = (tss, lists, fails);
   first = clear bs s p 24 tss (record {
@@ -116,26 +120,27 @@ fault-lists bs s p tss lists good fails = record {
 }
 
 -- there is no TAL in the first block
-not-timed : (b : List ℕ) (ts : List Tal) → AreTalsAndZeros b ts → NoTal b → ¬ IsTimed ts
+not-timed : (b : List ℕ) (ts : List Tal) → AreTalsAndZeros b ts → NoTal b → ¬ HasTimeKeepingTal ts
 not-timed b [] a none h = h
 not-timed b (t ∷ ts) (front, zeros, parts, (f, r, same, is, more), are) none h =
     none f (r ++ zeros) t (parts ∙ ap (λ (x : List ℕ). x ++ zeros) same ∙ append_assoc f r zeros) is
 
 pub fault-none : (b : List ℕ) (later : List (List ℕ)) (s : ℕ) (p : Place) (sums : Sums) →
     AreSurveyed (b ∷ later) s sums → NoTal b
-    → IsBlocksFault (b ∷ later) s p NotTimed
+    → IsFirstBlocksFault (b ∷ later) s p NotTimed
 fault-none b later s p sums v none =
     fault-lists (b ∷ later) s p v.tals v.lists v.good (untimed v.tals v.lists)
   where
-    untimed : (tss : List (List Tal)) → AreBlocks (b ∷ later) tss → ¬ IsTimed (first_tals tss)
+    untimed : (tss : List (List Tal)) → AreBlocks (b ∷ later) tss →
+        ¬ HasTimeKeepingTal (first_tals tss)
     untimed [] l = absurd l
     untimed (ts ∷ tss) l = not-timed b ts l.0 none
 
-pub fault-empty : (s : ℕ) (p : Place) → IsBlocksFault [] s p NotTimed
+pub fault-empty : (s : ℕ) (p : Place) → IsFirstBlocksFault [] s p NotTimed
 fault-empty s p = fault-lists [] s p [] tt tt (λ h. h)
 
 pub keeps-place : (p : Place) (s : ℕ) (t : Tal) (ts : List Tal) → KeepsSecond p t.onset →
-    KeepsOrder p (instant s t.onset) → KeepsPlace p s (t ∷ ts)
+    KeepsOrder p (instant s t.onset) → StartFitsPlace p s (t ∷ ts)
 keeps-place First s t ts second order = second
 keeps-place (After before duration) s t ts second order = order
 keeps-place Any s t ts second order = tt
@@ -190,12 +195,12 @@ module _ (bs : List (List ℕ)) (s : ℕ) (p : Place) (sums : Sums) (t : Tal) (k
         omega (arith, d.count)
 
     pub fault-untimed : (b texts more : List ℕ) → IsTalAtFront b texts more t →
-        ¬ ((rest : List ℕ) × (texts ≡ 20 ∷ rest)) → IsBlocksFault bs s p NotTimed
+        ¬ ((rest : List ℕ) × (texts ≡ 20 ∷ rest)) → IsFirstBlocksFault bs s p NotTimed
     fault-untimed b texts more f fails =
         fault-lists bs s p ((t ∷ k.more) ∷ k.others) k.lists k.good (untimed b texts more t f fails)
 
     pub fault-window : IsEmptyFirst t → KeepsSecond p t.onset → ¬ IsTrue sums.in_window →
-        IsBlocksFault bs s p Window
+        IsFirstBlocksFault bs s p Window
     fault-window timed second fails = record {
       holds = ((t ∷ k.more) ∷ k.others, k.lists, λ w. fails (k.window.1 w));
       first = clear bs s p 26 ((t ∷ k.more) ∷ k.others)
@@ -206,7 +211,7 @@ module _ (bs : List (List ℕ)) (s : ℕ) (p : Place) (sums : Sums) (t : Tal) (k
     pub fault-many : IsEmptyFirst t → KeepsSecond p t.onset → IsTrue sums.in_window →
         KeepsOrder p (instant s t.onset)
         → ¬ ((sums.count ≤ MOST_ANNOTATIONS + 1) × (sums.text_bytes ≤ MOST_TEXT_BYTES)) →
-        IsBlocksFault bs s p TooMany
+        IsFirstBlocksFault bs s p TooMany
     fault-many timed second window order fails = record {
       holds = ((t ∷ k.more) ∷ k.others, k.lists, λ w. fails (beyond timed w));
       first = clear bs s p 28 ((t ∷ k.more) ∷ k.others)
@@ -239,7 +244,7 @@ module _ (bs : List (List ℕ)) (s : ℕ) (p : Place) (sums : Sums) (t : Tal) (k
 
 pub fault-second : (bs : List (List ℕ)) (s : ℕ) (p : Place) (sums : Sums) (t : Tal) →
     Known bs s sums t → IsEmptyFirst t → ¬ KeepsSecond p t.onset
-    → IsBlocksFault bs s p FirstOnset
+    → IsFirstBlocksFault bs s p FirstOnset
 fault-second bs s First sums t k timed fails = record {
   holds = ((t ∷ k.more) ∷ k.others, k.lists, fails);
   first = clear bs s First 25 ((t ∷ k.more) ∷ k.others)
@@ -251,7 +256,7 @@ fault-second bs s Any sums t k timed fails = absurd (fails tt)
 
 pub fault-order : (bs : List (List ℕ)) (s : ℕ) (p : Place) (sums : Sums) (t : Tal) →
     Known bs s sums t → IsEmptyFirst t → KeepsSecond p t.onset → IsTrue sums.in_window
-    → ¬ KeepsOrder p (instant s t.onset) → IsBlocksFault bs s p Order
+    → ¬ KeepsOrder p (instant s t.onset) → IsFirstBlocksFault bs s p Order
 fault-order bs s First sums t k timed second window fails = absurd (fails tt)
 fault-order bs s (After before duration) sums t k timed second window fails = record {
   holds = ((t ∷ k.more) ∷ k.others, k.lists, fails);
@@ -268,7 +273,7 @@ pub record SameAnswer (m n : ℕ) (k l : List Annotation) : Type 0 where
   pub list : k ≡ l
 
 pub blocks-one-read : (bs : List (List ℕ)) (s : ℕ) (p : Place) (m n : ℕ) (k l : List Annotation) →
-    AreRead bs s p m k → AreRead bs s p n l → SameAnswer m n k l
+    BlocksParseTo bs s p m k → BlocksParseTo bs s p n l → SameAnswer m n k l
 blocks-one-read bs s p m n k l r q =
     let same = one-lists bs r.tals q.tals r.lists q.lists in
     record {
@@ -280,13 +285,15 @@ blocks-one-read bs s p m n k l r q =
 
 -- blocks that are read have no fault
 no-fault : (bs : List (List ℕ)) (s : ℕ) (p : Place) (m : ℕ) (l : List Annotation) (e : TalFault) →
-    AreRead bs s p m l → BlocksFail bs s p e → ⊥
+    BlocksParseTo bs s p m l → BlocksHaveFault bs s p e → ⊥
 no-fault bs s p m l (NotTals offset) r f = not-broken bs r.tals offset r.lists f
 no-fault bs s p m l (Text offset) r f = not-bad bs r.tals offset r.lists r.good f.1
 no-fault bs s p m l NotTimed r (us, w, fails) =
-    on-tals (λ (ts : List (List Tal)). IsTimed (first_tals ts)) bs r.tals us r.lists w r.timed fails
+    on-tals (λ (ts : List (List Tal)). HasTimeKeepingTal (first_tals ts)) bs r.tals us r.lists w
+    r.timed fails
 no-fault bs s First m l FirstOnset r (us, w, fails) =
-    on-tals (λ (ts : List (List Tal)). KeepsPlace First s (first_tals ts)) bs r.tals us r.lists w
+    on-tals (λ (ts : List (List Tal)). StartFitsPlace First s (first_tals ts)) bs r.tals us r.lists
+    w
     r.keeps fails
 no-fault bs s (After before duration) m l FirstOnset r f = f
 no-fault bs s Any m l FirstOnset r f = f
@@ -295,7 +302,7 @@ no-fault bs s p m l Window r (us, w, fails) =
     r.lists w r.window fails
 no-fault bs s First m l Order r f = f
 no-fault bs s (After before duration) m l Order r (us, w, fails) =
-    on-tals (λ (ts : List (List Tal)). KeepsPlace (After before duration) s (first_tals ts)) bs
+    on-tals (λ (ts : List (List Tal)). StartFitsPlace (After before duration) s (first_tals ts)) bs
     r.tals us r.lists w r.keeps fails
 no-fault bs s Any m l Order r f = f
 no-fault bs s p m l TooMany r (us, w, fails) =
@@ -304,12 +311,13 @@ no-fault bs s p m l TooMany r (us, w, fails) =
 no-fault bs s p m l Memory r f = f
 
 pub blocks-read-no-fault : (bs : List (List ℕ)) (s : ℕ) (p : Place) (m : ℕ) (l : List Annotation)
-    (e : TalFault) → AreRead bs s p m l → ¬ IsBlocksFault bs s p e
+    (e : TalFault) → BlocksParseTo bs s p m l → ¬ IsFirstBlocksFault bs s p e
 blocks-read-no-fault bs s p m l e r f = no-fault bs s p m l e r f.holds
 
 -- faults of one number
 same-number : (bs : List (List ℕ)) (s : ℕ) (p : Place) (e f : TalFault) →
-    tal_fault_number e ≡ tal_fault_number f → BlocksFail bs s p e → BlocksFail bs s p f → e ≡ f
+    tal_fault_number e ≡ tal_fault_number f → BlocksHaveFault bs s p e → BlocksHaveFault bs s p f →
+    e ≡ f
 same-number bs s p (NotTals m) (NotTals n) same h g =
     ap (λ (k : ℕ). NotTals k) (one-broken bs m n h g)
 same-number bs s p (Text m) (Text n) same h g =
@@ -323,7 +331,7 @@ same-number bs s p Memory Memory same h g = refl
 same-number bs s p e f same h g = absurd (omega arith)
 
 pub blocks-one-fault : (bs : List (List ℕ)) (s : ℕ) (p : Place) (e f : TalFault) →
-    IsBlocksFault bs s p e → IsBlocksFault bs s p f → e ≡ f
+    IsFirstBlocksFault bs s p e → IsFirstBlocksFault bs s p f → e ≡ f
 blocks-one-fault bs s p e f h g =
     elim (cases_lt (tal_fault_number e) (tal_fault_number f)) [
       | inl low ↦ absurd (g.first e low h.holds)
@@ -337,8 +345,8 @@ blocks-one-fault bs s p e f h g =
 
 -- a start and a list, or a fault
 abbrev pub HaveAnswer : List (List ℕ) → ℕ → Place → Type 0
-HaveAnswer bs s p = ((start : ℕ) × (list : List Annotation) × AreRead bs s p start list)
-    ⊎ ((e : TalFault) × IsBlocksFault bs s p e)
+HaveAnswer bs s p = ((start : ℕ) × (list : List Annotation) × BlocksParseTo bs s p start list)
+    ⊎ ((e : TalFault) × IsFirstBlocksFault bs s p e)
 
 -- of TALs and zeros, the first of which is known
 module _ (bs : List (List ℕ)) (s : ℕ) (p : Place) (sums : Sums) (t : Tal) (k : Known bs s sums t)
@@ -395,29 +403,29 @@ blocks-some-answer bs s p = elim (forms bs s) [
       inr (NotTals x.0, fault-tal bs s p x.0 x.1)
 ]
 
-pub blocks-no-memory : (bs : List (List ℕ)) (s : ℕ) (p : Place) → ¬ IsBlocksFault bs s p Memory
+pub blocks-no-memory : (bs : List (List ℕ)) (s : ℕ) (p : Place) → ¬ IsFirstBlocksFault bs s p Memory
 blocks-no-memory bs s p f = f.holds
 
 -- ---- the same of a data record with one block
 
 pub one-read : (b : List ℕ) (s : ℕ) (p : Place) (m n : ℕ) (k l : List Annotation) →
-    IsRead b s p m k → IsRead b s p n l → SameAnswer m n k l
+    BlockParsesTo b s p m k → BlockParsesTo b s p n l → SameAnswer m n k l
 one-read b s p m n k l r q = blocks-one-read (b ∷ []) s p m n k l r q
 
 pub read-no-fault : (b : List ℕ) (s : ℕ) (p : Place) (m : ℕ) (l : List Annotation) (e : TalFault) →
-    IsRead b s p m l → ¬ IsBlockFault b s p e
+    BlockParsesTo b s p m l → ¬ IsFirstBlockFault b s p e
 read-no-fault b s p m l e r = blocks-read-no-fault (b ∷ []) s p m l e r
 
-pub one-fault : (b : List ℕ) (s : ℕ) (p : Place) (e f : TalFault) → IsBlockFault b s p e →
-    IsBlockFault b s p f → e ≡ f
+pub one-fault : (b : List ℕ) (s : ℕ) (p : Place) (e f : TalFault) → IsFirstBlockFault b s p e →
+    IsFirstBlockFault b s p f → e ≡ f
 one-fault b s p e f h g = blocks-one-fault (b ∷ []) s p e f h g
 
 abbrev pub HasAnswer : List ℕ → ℕ → Place → Type 0
-HasAnswer b s p = ((start : ℕ) × (list : List Annotation) × IsRead b s p start list)
-    ⊎ ((e : TalFault) × IsBlockFault b s p e)
+HasAnswer b s p = ((start : ℕ) × (list : List Annotation) × BlockParsesTo b s p start list)
+    ⊎ ((e : TalFault) × IsFirstBlockFault b s p e)
 
 pub some-answer : (b : List ℕ) (s : ℕ) (p : Place) → HasAnswer b s p
 some-answer b s p = blocks-some-answer (b ∷ []) s p
 
-pub no-memory : (b : List ℕ) (s : ℕ) (p : Place) → ¬ IsBlockFault b s p Memory
+pub no-memory : (b : List ℕ) (s : ℕ) (p : Place) → ¬ IsFirstBlockFault b s p Memory
 no-memory b s p = blocks-no-memory (b ∷ []) s p

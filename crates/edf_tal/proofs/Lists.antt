@@ -4,10 +4,11 @@ use Rattle.std.proofs.Common.{ap, ◌∙◌, subst, append_assoc, Option}
 use Rattle.std.specs.Prelude.{IsUtf8}
 use Rattle.std.specs.List.{AllByRecursion, flat_map}
 use Rattle.std.proofs.lemmas.List.{append-nil}
-use Rattle.edf_tal.specs.Tal.{Tal, Annotation, IsText, ended, AreTalsAndZeros, HaveUtf8Texts}
-use Rattle.edf_tal.specs.Tal.{IsTimed, IsTalInWindow, instant, tal_annotations, annotations}
-use Rattle.edf_tal.specs.Inside.Scan.{Lacks, NoTal, IsTalAtFront, TellsOnset, TellsDuration}
-use Rattle.edf_tal.specs.Inside.Scan.{AreTexts, TellsTal}
+use Rattle.edf_tal.specs.Tal.{Tal, Annotation, IsText, terminated, AreTalsAndZeros, HaveUtf8Texts}
+use Rattle.edf_tal.specs.Tal.{HasTimeKeepingTal, IsTalInWindow, instant, tal_annotations}
+use Rattle.edf_tal.specs.Tal.{annotations}
+use Rattle.edf_tal.specs.Inside.Scan.{Lacks, NoTal, IsTalAtFront, IsCappedOnset, IsCappedDuration}
+use Rattle.edf_tal.specs.Inside.Scan.{AreTexts, IsScannedTal}
 use Rattle.edf_tal.specs.Inside.Blocks.{AreSoundTals}
 use Rattle.edf_tal.proofs.Unique.{same-sides, not-both, Lacks-text, one-tal}
 use Rattle.edf_tal.proofs.Fronts.{same-front, HasEnd-tal}
@@ -30,13 +31,13 @@ pub record NextText (text more : List ℕ) (left : List (List ℕ)) : Type 0 whe
   pub good : IsUtf8 text
   pub rest : AreTexts more others
 
-next-text : (rest text more : List ℕ) (xs : List (List ℕ)) → rest ≡ ended xs →
+next-text : (rest text more : List ℕ) (xs : List (List ℕ)) → rest ≡ terminated xs →
     AllByRecursion IsText xs → AllByRecursion IsUtf8 xs → Lacks 20 text → rest ≡ text ++ 20 ∷ more →
     NextText text more xs
 next-text rest text more [] e a u lacks f = absurd (not-both 20 [] text more tt (sym e ∙ f))
 next-text rest text more (x ∷ xs) e a u lacks f =
-    let s = same-sides 20 x text (ended xs) more (Lacks-text x a.0) lacks
-    (sym (append_assoc x (20 ∷ []) (ended xs)) ∙ sym e ∙ f) in
+    let s = same-sides 20 x text (terminated xs) more (Lacks-text x a.0) lacks
+    (sym (append_assoc x (20 ∷ []) (terminated xs)) ∙ sym e ∙ f) in
     record {
       others = xs;
       left_is = ap (λ (w : List ℕ). w ∷ xs) s.front;
@@ -69,21 +70,22 @@ pushed-more onset duration texts rest text more old new newer h lacks e is =
           (map (note_of onset duration) n.others));
     }
 
-no-text-left : (rest : List ℕ) (xs : List (List ℕ)) → rest ≡ ended xs → Lacks 20 rest → xs ≡ []
+no-text-left : (rest : List ℕ) (xs : List (List ℕ)) → rest ≡ terminated xs → Lacks 20 rest → xs ≡ []
 no-text-left rest [] e lacks = refl
 no-text-left rest (x ∷ xs) e lacks =
-    absurd (not-both 20 rest x (ended xs) lacks (e ∙ append_assoc x (20 ∷ []) (ended xs)))
+    absurd (not-both 20 rest x (terminated xs) lacks (e ∙ append_assoc x (20 ∷ []) (terminated xs)))
 
 same-texts : (xs ys : List (List ℕ)) → AllByRecursion IsText xs → AllByRecursion IsText ys →
-    ended xs ≡ ended ys → xs ≡ ys
+    terminated xs ≡ terminated ys → xs ≡ ys
 same-texts [] [] a b e = refl
 same-texts [] (y ∷ ys) a b e =
-    absurd (not-both 20 [] y (ended ys) tt (e ∙ append_assoc y (20 ∷ []) (ended ys)))
+    absurd (not-both 20 [] y (terminated ys) tt (e ∙ append_assoc y (20 ∷ []) (terminated ys)))
 same-texts (x ∷ xs) [] a b e =
-    absurd (not-both 20 [] x (ended xs) tt (sym e ∙ append_assoc x (20 ∷ []) (ended xs)))
+    absurd (not-both 20 [] x (terminated xs) tt (sym e ∙ append_assoc x (20 ∷ []) (terminated xs)))
 same-texts (x ∷ xs) (y ∷ ys) a b e =
-    let s = same-sides 20 x y (ended xs) (ended ys) (Lacks-text x a.0) (Lacks-text y b.0)
-    (sym (append_assoc x (20 ∷ []) (ended xs)) ∙ e ∙ append_assoc y (20 ∷ []) (ended ys)) in
+    let s = same-sides 20 x y (terminated xs) (terminated ys) (Lacks-text x a.0) (Lacks-text y b.0)
+    (sym (append_assoc x (20 ∷ []) (terminated xs)) ∙ e ∙ append_assoc y (20 ∷ []) (terminated ys))
+    in
     let first : x ≡ y = s.front in
     let more : xs ≡ ys = same-texts xs ys a.1 b.1 s.back in
     cc
@@ -116,7 +118,7 @@ pub record NextTal (s : ℕ) (rest texts : List ℕ) (t : Tal) (left : List Tal)
   pub are_texts : AllByRecursion IsText t.texts
   pub good : AllByRecursion IsUtf8 t.texts
   pub window : IsTalInWindow s t
-  pub texts_are : texts ≡ ended t.texts
+  pub texts_are : texts ≡ terminated t.texts
   pub sound : AreSoundTals rest s others
 
 pub next-tal : (s : ℕ) (bytes texts more : List ℕ) (t : Tal) (ts : List Tal) →
@@ -151,8 +153,8 @@ next-tal s bytes texts more t ts a f = at ts a.whole a.good a.window
 
 pub tells : (s : ℕ) (rest texts : List ℕ) (t : Tal) (left : List Tal) (ahead : Bool) (onset : ℕ)
     (duration : Option ℕ) → NextTal s rest texts t left
-    → TellsOnset ahead onset t.onset → TellsDuration duration t.duration →
-    TellsTal texts ahead onset duration s t
+    → IsCappedOnset ahead onset t.onset → IsCappedDuration duration t.duration →
+    IsScannedTal texts ahead onset duration s t
 tells s rest texts t left ahead onset duration n o d = record {
   texts_are = n.texts_are;
   are_texts = n.are_texts;
@@ -193,24 +195,25 @@ tals-all s tals rest old new h last ts a =
     ∙ sym h.items ∙ ap (λ (w : List Tal). old ++ flat_map (tal_annotations s) w) same
 
 -- the TALs of a timed block have a first
-pub some-tal : (s : ℕ) (bytes : List ℕ) (ts : List Tal) → AreSoundTals bytes s ts → IsTimed ts →
+pub some-tal : (s : ℕ) (bytes : List ℕ) (ts : List Tal) → AreSoundTals bytes s ts →
+    HasTimeKeepingTal ts →
     NoTal bytes → ⊥
-some-tal s bytes ts a h none = subst IsTimed (no-tal-left bytes ts a.whole none) h
+some-tal s bytes ts a h none = subst HasTimeKeepingTal (no-tal-left bytes ts a.whole none) h
 
 pub first-timed : (s : ℕ) (rest texts : List ℕ) (t : Tal) (ts : List Tal) →
-    NextTal s rest texts t ts → IsTimed ts → (xs : List (List ℕ)) × (t.texts ≡ [] ∷ xs)
-first-timed s rest texts t ts n h = subst IsTimed n.left_is h
+    NextTal s rest texts t ts → HasTimeKeepingTal ts → (xs : List (List ℕ)) × (t.texts ≡ [] ∷ xs)
+first-timed s rest texts t ts n h = subst HasTimeKeepingTal n.left_is h
 
 pub after-empty : (s : ℕ) (rest texts : List ℕ) (t : Tal) (ts : List Tal) (xs : List (List ℕ)) →
-    NextTal s rest texts t ts → t.texts ≡ [] ∷ xs → texts ≡ 20 ∷ ended xs
-after-empty s rest texts t ts xs n e = n.texts_are ∙ ap ended e
+    NextTal s rest texts t ts → t.texts ≡ [] ∷ xs → texts ≡ 20 ∷ terminated xs
+after-empty s rest texts t ts xs n e = n.texts_are ∙ ap terminated e
 
 pub tells-rest : (s : ℕ) (rest texts : List ℕ) (t : Tal) (ts : List Tal) (xs : List (List ℕ))
     (ahead : Bool) (onset : ℕ) (duration : Option ℕ) (texts_after : List ℕ) →
     NextTal s rest texts t ts
-    → t.texts ≡ [] ∷ xs → texts_after ≡ ended xs → TellsOnset ahead onset t.onset →
-    TellsDuration duration t.duration →
-    TellsTal texts_after ahead onset duration s (record t { texts = xs })
+    → t.texts ≡ [] ∷ xs → texts_after ≡ terminated xs → IsCappedOnset ahead onset t.onset →
+    IsCappedDuration duration t.duration →
+    IsScannedTal texts_after ahead onset duration s (record t { texts = xs })
 tells-rest s rest texts t ts xs ahead onset duration texts_after n e b o d = record {
   texts_are = b;
   are_texts = (subst (AllByRecursion IsText) e n.are_texts).1;

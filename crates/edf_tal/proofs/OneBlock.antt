@@ -1,7 +1,7 @@
 -- Blocks are TALs and zeros in one way.
 use Rattle.std.proofs.Common.{◌≡◌, ℕ, List, [], ◌∷◌, ◌++◌, arith, refl, sym, ap, ◌∙◌, append_assoc}
 use Rattle.std.proofs.Common.{inl, inr, ℤ}
-use Rattle.edf_tal.specs.Tal.{Tal, IsTal, IsOnset, ended, AreTals, AreTalsAndZeros, AreBlocks}
+use Rattle.edf_tal.specs.Tal.{Tal, IsTal, IsOnset, terminated, AreTals, AreTalsAndZeros, AreBlocks}
 use Rattle.edf_tal.specs.Inside.Scan.{NoTal, AreZeros}
 use Rattle.edf_tal.proofs.Unique.{one-tal}
 use Rattle.edf_tal.proofs.Fronts.{same-front, HasEnd-tal}
@@ -17,15 +17,16 @@ no-onset (b ∷ o) x (c ∷ zeros) z a (inr (is, more)) e = let same : c ≡ b =
 
 -- a TAL around its first byte 20
 pub tal-sides : (front rest : List ℕ) (t : Tal) (s : IsTal front t) → front
-    ++ rest ≡ (s.onset ++ s.duration) ++ 20 ∷ (ended t.texts ++ 0 ∷ rest)
+    ++ rest ≡ (s.onset ++ s.duration) ++ 20 ∷ (terminated t.texts ++ 0 ∷ rest)
 tal-sides front rest t s = ap (λ (x : List ℕ). x ++ rest) s.parts ∙ simp append_assoc
 
 -- nor with a TAL
 pub zeros-no-tal : (zeros : List ℕ) → AreZeros zeros → NoTal zeros
 zeros-no-tal zeros a front rest t e s =
-    no-onset s.onset (s.duration ++ 20 ∷ (ended t.texts ++ 0 ∷ rest)) zeros t.onset a s.is_onset
+    no-onset s.onset (s.duration ++ 20 ∷ (terminated t.texts ++ 0 ∷ rest)) zeros t.onset a
+    s.is_onset
     (e ∙ tal-sides front rest t s
-    ∙ append_assoc s.onset s.duration (20 ∷ (ended t.texts ++ 0 ∷ rest)))
+    ∙ append_assoc s.onset s.duration (20 ∷ (terminated t.texts ++ 0 ∷ rest)))
 
 pub record SameTals (ts us : List Tal) (f x g y : List ℕ) : Type 0 where
   pub tals : ts ≡ us

@@ -6,9 +6,9 @@ use Rattle.std.proofs.lemmas.Grind.{flat_map-append}
 use Rattle.std.proofs.lemmas.Int.{ints}
 use Rattle.edf_time.specs.Civil.{window}
 use Rattle.edf_tal.specs.Tal.{Tal, Annotation, IsAnnotation, IsText, AreTals, AreBlocks, first_tals}
-use Rattle.edf_tal.specs.Tal.{all_tals, HaveUtf8Texts, IsTimed, IsTalInWindow, instant}
+use Rattle.edf_tal.specs.Tal.{all_tals, HaveUtf8Texts, HasTimeKeepingTal, IsTalInWindow, instant}
 use Rattle.edf_tal.specs.Tal.{tal_annotations, record_start}
-use Rattle.edf_tal.specs.Block.{AreRead, IsRead}
+use Rattle.edf_tal.specs.Block.{BlocksParseTo, BlockParsesTo}
 use Rattle.edf_tal.specs.declared.place.Place.{Place}
 use Rattle.edf_tal.proofs.Joined.{all-append, all-front, all-back}
 
@@ -60,27 +60,27 @@ of-lists s (b ∷ bs) (ts ∷ tss) ((front, zeros, parts, tals, are), more) g w 
     (of-lists s bs tss more (all-back (λ (t : Tal). AllByRecursion IsUtf8 t.texts) ts others g)
     (all-back (IsTalInWindow s) ts others w)))
 
-begin-below : (s : ℕ) (tss : List (List Tal)) → IsTimed (first_tals tss) →
+begin-below : (s : ℕ) (tss : List (List Tal)) → HasTimeKeepingTal (first_tals tss) →
     AllByRecursion (IsTalInWindow s) (all_tals tss) → record_start s (first_tals tss) < window
 begin-below s [] timed w = absurd timed
 begin-below s ([] ∷ tss) timed w = absurd timed
 begin-below s ((t ∷ ts) ∷ tss) timed w = instant-below s t w.0
 
 pub blocks-read-start : (bs : List (List ℕ)) (s : ℕ) (p : Place) (start : ℕ)
-    (list : List Annotation) → AreRead bs s p start list → start < window
+    (list : List Annotation) → BlocksParseTo bs s p start list → start < window
 blocks-read-start bs s p start list r = rw (r.start_is) (begin-below s r.tals r.timed r.window)
 
 pub blocks-read-annotations : (bs : List (List ℕ)) (s : ℕ) (p : Place) (start : ℕ)
-    (list : List Annotation) → AreRead bs s p start list → AllByRecursion IsAnnotation list
+    (list : List Annotation) → BlocksParseTo bs s p start list → AllByRecursion IsAnnotation list
 blocks-read-annotations bs s p start list r =
     rw (r.list_is) (all-drop IsAnnotation (flat_map (tal_annotations s) (all_tals r.tals))
     (of-lists s bs r.tals r.lists r.good r.window))
 
 -- the same of a data record with one block
 pub read-start : (b : List ℕ) (s : ℕ) (p : Place) (start : ℕ) (list : List Annotation) →
-    IsRead b s p start list → start < window
+    BlockParsesTo b s p start list → start < window
 read-start b s p start list r = blocks-read-start (b ∷ []) s p start list r
 
 pub read-annotations : (b : List ℕ) (s : ℕ) (p : Place) (start : ℕ) (list : List Annotation) →
-    IsRead b s p start list → AllByRecursion IsAnnotation list
+    BlockParsesTo b s p start list → AllByRecursion IsAnnotation list
 read-annotations b s p start list r = blocks-read-annotations (b ∷ []) s p start list r

@@ -4,20 +4,21 @@ use Rattle.std.proofs.Common.{ap, ◌∙◌, append_assoc}
 use Rattle.std.specs.Prelude.{IsUtf8}
 use Rattle.std.specs.List.{AllByRecursion}
 use Rattle.std.proofs.lemmas.List.{append-nil, length-append}
-use Rattle.edf_tal.specs.Tal.{ended}
+use Rattle.edf_tal.specs.Tal.{terminated}
 use Rattle.edf_tal.specs.Inside.Scan.{Lacks}
 
 -- the texts so far
 pub record HasChecked (texts rest : List ℕ) (count : ℕ) : Type 0 where
   pub list : List (List ℕ)
-  pub parts : texts ≡ ended list ++ rest
+  pub parts : texts ≡ terminated list ++ rest
   pub good : AllByRecursion (λ x. Lacks 20 x × IsUtf8 x) list
   pub count_is : count ≡ length list
 
-ended-append : (xs : List (List ℕ)) (x : List ℕ) → ended (xs ++ x ∷ []) ≡ ended xs ++ (x ++ 20 ∷ [])
+ended-append : (xs : List (List ℕ)) (x : List ℕ) →
+    terminated (xs ++ x ∷ []) ≡ terminated xs ++ (x ++ 20 ∷ [])
 ended-append [] x = append-nil (x ++ 20 ∷ [])
 ended-append (y ∷ xs) x = ap (λ (w : List ℕ). (y ++ 20 ∷ []) ++ w) (ended-append xs x)
-    ∙ sym (append_assoc (y ++ 20 ∷ []) (ended xs) (x ++ 20 ∷ []))
+    ∙ sym (append_assoc (y ++ 20 ∷ []) (terminated xs) (x ++ 20 ∷ []))
 
 pub all-more : {A : Type 0} (P : A → Type 0) (xs : List A) (x : A) → AllByRecursion P xs → P x →
     AllByRecursion P (xs ++ x ∷ [])
@@ -29,21 +30,21 @@ pub checked-more : (texts rest text more : List ℕ) (count : ℕ) → HasChecke
     → HasChecked texts more (count + 1)
 checked-more texts rest text more count h lacks e u = record {
   list = h.list ++ text ∷ [];
-  parts = h.parts ∙ ap (λ (w : List ℕ). ended h.list ++ w) e
+  parts = h.parts ∙ ap (λ (w : List ℕ). terminated h.list ++ w) e
       ∙ sym (ap (λ (w : List ℕ). w ++ more) (ended-append h.list text)
-      ∙ append_assoc (ended h.list) (text ++ 20 ∷ []) more
-      ∙ ap (λ (w : List ℕ). ended h.list ++ w) (append_assoc text (20 ∷ []) more));
+      ∙ append_assoc (terminated h.list) (text ++ 20 ∷ []) more
+      ∙ ap (λ (w : List ℕ). terminated h.list ++ w) (append_assoc text (20 ∷ []) more));
   good = all-more (λ x. Lacks 20 x × IsUtf8 x) h.list text h.good (lacks, u);
   count_is = let c : count ≡ length h.list = h.count_is in
       omega (arith, length-append h.list (text ∷ []));
 }
 
-length-ended : (xs : List (List ℕ)) → length xs ≤ length (ended xs)
+length-ended : (xs : List (List ℕ)) → length xs ≤ length (terminated xs)
 length-ended [] = omega arith
 length-ended (x ∷ xs) = omega (
   arith,
   length-ended xs,
-  length-append (x ++ 20 ∷ []) (ended xs),
+  length-append (x ++ 20 ∷ []) (terminated xs),
   length-append x (20 ∷ []),
 )
 
@@ -51,4 +52,4 @@ pub checked-room : (texts rest : List ℕ) (count : ℕ) → HasChecked texts re
     count + length rest ≤ length texts
 checked-room texts rest count h =
     let c : count ≡ length h.list = h.count_is in
-    omega (arith, ap length h.parts, length-append (ended h.list) rest, length-ended h.list)
+    omega (arith, ap length h.parts, length-append (terminated h.list) rest, length-ended h.list)

@@ -7,10 +7,10 @@ use Rattle.std.specs.List.{AllByRecursion, flat_map}
 use Rattle.std.proofs.lemmas.List.{append-nil, length-append, length-map}
 use Rattle.std.proofs.lemmas.List.Sums.{sum_by-append, sum_by-cons}
 use Rattle.edf_time.specs.Civil.{window}
-use Rattle.edf_tal.specs.Tal.{Tal, Annotation, IsText, ended, AreTals, IsTalInWindow, instant}
+use Rattle.edf_tal.specs.Tal.{Tal, Annotation, IsText, terminated, AreTals, IsTalInWindow, instant}
 use Rattle.edf_tal.specs.Tal.{tal_annotations}
-use Rattle.edf_tal.specs.Condition.{IsBadText}
-use Rattle.edf_tal.specs.Inside.Scan.{Lacks, TellsDuration, IsTalAtFront, IsBadAmong}
+use Rattle.edf_tal.specs.Condition.{IsInvalidUtf8At}
+use Rattle.edf_tal.specs.Inside.Scan.{Lacks, IsCappedDuration, IsTalAtFront, IsBadAmong}
 use Rattle.edf_tal.specs.Inside.Scan.{AreGoodTexts, FollowsTals, IsSurvey}
 use Rattle.edf_tal.proofs.Unique.{same-sides, not-both, Lacks-text}
 use Rattle.edf_tal.proofs.Fronts.{AreTals-more, NoZero-ended}
@@ -19,14 +19,14 @@ use Rattle.edf_tal.proofs.BadText.{IsBadFront, bad-join, first-text}
 use Rattle.edf_tal.proofs.Surveys.{all-more}
 
 -- a duration
-pub duration-tells : (d e : Option ℕ) → TellsDuration d e → IfSome d (λ n. n < window) →
+pub duration-tells : (d e : Option ℕ) → IsCappedDuration d e → IfSome d (λ n. n < window) →
     IfSome e (λ n. n < window)
 duration-tells None None t h = tt
 duration-tells (Some n) (Some m) t h = omega arith
 duration-tells None (Some m) t h = absurd t
 duration-tells (Some n) None t h = absurd t
 
-pub duration-told : (d e : Option ℕ) → TellsDuration d e → IfSome e (λ n. n < window) →
+pub duration-told : (d e : Option ℕ) → IsCappedDuration d e → IfSome e (λ n. n < window) →
     IfSome d (λ n. n < window)
 duration-told None None t h = tt
 duration-told (Some n) (Some m) t h = omega arith
@@ -77,22 +77,22 @@ front-shorter bytes texts rest t f =
       ap length f.texts_are,
       ap length f.tal.parts,
       length-append f.front rest,
-      length-append ((f.tal.onset ++ f.tal.duration) ++ 20 ∷ ended t.texts) (0 ∷ []),
-      length-append (f.tal.onset ++ f.tal.duration) (20 ∷ ended t.texts),
+      length-append ((f.tal.onset ++ f.tal.duration) ++ 20 ∷ terminated t.texts) (0 ∷ []),
+      length-append (f.tal.onset ++ f.tal.duration) (20 ∷ terminated t.texts),
     )
 
 -- the texts that were counted are those of the TAL
 same-list : (xs ys : List (List ℕ)) (rest : List ℕ) →
     AllByRecursion (λ x. Lacks 20 x × IsUtf8 x) xs → Lacks 20 rest → AllByRecursion IsText ys
-    → ended xs ++ rest ≡ ended ys → xs ≡ ys
+    → terminated xs ++ rest ≡ terminated ys → xs ≡ ys
 same-list [] [] rest a l b e = refl
 same-list [] (y ∷ ys) rest a l b e =
-    absurd (not-both 20 rest y (ended ys) l (e ∙ append_assoc y (20 ∷ []) (ended ys)))
+    absurd (not-both 20 rest y (terminated ys) l (e ∙ append_assoc y (20 ∷ []) (terminated ys)))
 same-list (x ∷ xs) [] rest a l b e =
-    absurd (not-both 20 [] x (ended xs ++ rest) tt (sym e ∙ first-text x xs rest))
+    absurd (not-both 20 [] x (terminated xs ++ rest) tt (sym e ∙ first-text x xs rest))
 same-list (x ∷ xs) (y ∷ ys) rest a l b e =
-    let s = same-sides 20 x y (ended xs ++ rest) (ended ys) a.0.0 (Lacks-text y b.0)
-    (sym (first-text x xs rest) ∙ e ∙ append_assoc y (20 ∷ []) (ended ys)) in
+    let s = same-sides 20 x y (terminated xs ++ rest) (terminated ys) a.0.0 (Lacks-text y b.0)
+    (sym (first-text x xs rest) ∙ e ∙ append_assoc y (20 ∷ []) (terminated ys)) in
     let first : x ≡ y = s.front in
     let more : xs ≡ ys = same-list xs ys rest a.1 l b.1 s.back in
     cc
@@ -118,12 +118,12 @@ counted texts rest bytes t count f g =
     }
 
 -- how many bytes texts and their ends have
-length-ended-is : (xs : List (List ℕ)) → length (ended xs) ≡ length xs + sum_by length xs
+length-ended-is : (xs : List (List ℕ)) → length (terminated xs) ≡ length xs + sum_by length xs
 length-ended-is [] = refl
 length-ended-is (x ∷ xs) = omega (
   arith,
   length-ended-is xs,
-  length-append (x ++ 20 ∷ []) (ended xs),
+  length-append (x ++ 20 ∷ []) (terminated xs),
   length-append x (20 ∷ []),
   sum_by-cons length x xs,
 )
@@ -227,8 +227,8 @@ length-tals s front (t ∷ ts) (f, r, parts, is, more) =
       length-append f r,
       ap length is.parts,
       length-ended-is t.texts,
-      length-append ((is.onset ++ is.duration) ++ 20 ∷ ended t.texts) (0 ∷ []),
-      length-append (is.onset ++ is.duration) (20 ∷ ended t.texts),
+      length-append ((is.onset ++ is.duration) ++ 20 ∷ terminated t.texts) (0 ∷ []),
+      length-append (is.onset ++ is.duration) (20 ∷ terminated t.texts),
       length-append (tal_annotations s t) (flat_map (tal_annotations s) ts),
       length-annotations s t,
       sum_by-append (λ (a : Annotation). length a.text) (tal_annotations s t)
@@ -251,7 +251,12 @@ survey-room block rest s in_window count bytes v =
 pub good-count : (texts : List ℕ) (n : ℕ) → AreGoodTexts texts n → n ≤ length texts
 good-count texts n g =
     let c : n ≡ length g.list = g.count_is in
-    omega (arith, ap length g.parts, length-append (ended g.list) g.rest, length-ended-is g.list)
+    omega (
+      arith,
+      ap length g.parts,
+      length-append (terminated g.list) g.rest,
+      length-ended-is g.list,
+    )
 
 -- texts without a byte 0
 Lacks-front : (c : ℕ) (a b : List ℕ) → Lacks c (a ++ b) → Lacks c a
@@ -266,22 +271,22 @@ is-text : (x : List ℕ) → Lacks 0 x → Lacks 20 x → IsText x
 is-text [] p q = tt
 is-text (b ∷ x) p q = ((p.0, q.0), is-text x p.1 q.1)
 
-good-texts : (xs : List (List ℕ)) → Lacks 0 (ended xs) →
+good-texts : (xs : List (List ℕ)) → Lacks 0 (terminated xs) →
     AllByRecursion (λ x. Lacks 20 x × IsUtf8 x) xs → AllByRecursion (λ x. IsText x × IsUtf8 x) xs
 good-texts [] p a = tt
 good-texts (x ∷ xs) p a = (
   (
-    is-text x (Lacks-front 0 x (20 ∷ []) (Lacks-front 0 (x ++ 20 ∷ []) (ended xs) p)) a.0.0,
+    is-text x (Lacks-front 0 x (20 ∷ []) (Lacks-front 0 (x ++ 20 ∷ []) (terminated xs) p)) a.0.0,
     a.0.1,
   ),
-  good-texts xs (Lacks-back 0 (x ++ 20 ∷ []) (ended xs) p) a.1,
+  good-texts xs (Lacks-back 0 (x ++ 20 ∷ []) (terminated xs) p) a.1,
 )
 
 bad-front : (rest texts more : List ℕ) (t : Tal) (at : ℕ) (f : IsTalAtFront rest texts more t) →
     IsBadAmong texts at
     → IsBadFront rest (length f.tal.onset + length f.tal.duration + 1 + at)
 bad-front rest texts more t at f b =
-    let none : Lacks 0 (ended b.good ++ (b.text ++ 20 ∷ b.back)) =
+    let none : Lacks 0 (terminated b.good ++ (b.text ++ 20 ∷ b.back)) =
     subst (Lacks 0) b.parts (rw (f.texts_are) (NoZero-ended t.texts f.tal.are_texts)) in
     record {
       onset = f.tal.onset;
@@ -294,19 +299,20 @@ bad-front rest texts more t at f b =
           ++ 20 ∷ (w ++ 0 ∷ more)) (sym f.texts_are ∙ b.parts) ∙ simp append_assoc;
       is_onset = (t.onset, f.tal.is_onset);
       is_duration = (t.duration, f.tal.is_duration);
-      good_texts = good-texts b.good (Lacks-front 0 (ended b.good) (b.text ++ 20 ∷ b.back) none)
+      good_texts = good-texts b.good
+          (Lacks-front 0 (terminated b.good) (b.text ++ 20 ∷ b.back) none)
           b.good_texts;
       is_text = is-text b.text (Lacks-front 0 b.text (20 ∷ b.back)
-          (Lacks-back 0 (ended b.good) (b.text ++ 20 ∷ b.back) none)) b.is_text;
+          (Lacks-back 0 (terminated b.good) (b.text ++ 20 ∷ b.back) none)) b.is_text;
       bad = b.bad;
-      at_is = let p : at ≡ length (ended b.good) = b.at_is in omega arith;
+      at_is = let p : at ≡ length (terminated b.good) = b.at_is in omega arith;
     }
 
 -- where the first bad text begins in the block
 pub survey-bad : (block rest texts more : List ℕ) (s : ℕ) (t : Tal) (in_window : Bool)
     (count bytes at : ℕ) → IsSurvey block s rest in_window count bytes
     → IsTalAtFront rest texts more t → IsBadAmong texts at →
-    IsBadText block (length block - length more - 1 - length texts + at)
+    IsInvalidUtf8At block (length block - length more - 1 - length texts + at)
 survey-bad block rest texts more s t in_window count bytes at v f b =
     bad-join block v.front rest v.tals (length block - length more - 1 - length texts + at)
     (length f.tal.onset + length f.tal.duration + 1 + at) v.parts v.whole v.good
@@ -319,8 +325,8 @@ survey-bad block rest texts more s t in_window count bytes at v f b =
       length-append f.front more,
       ap length f.texts_are,
       ap length f.tal.parts,
-      length-append ((f.tal.onset ++ f.tal.duration) ++ 20 ∷ ended t.texts) (0 ∷ []),
-      length-append (f.tal.onset ++ f.tal.duration) (20 ∷ ended t.texts),
+      length-append ((f.tal.onset ++ f.tal.duration) ++ 20 ∷ terminated t.texts) (0 ∷ []),
+      length-append (f.tal.onset ++ f.tal.duration) (20 ∷ terminated t.texts),
       length-append f.tal.onset f.tal.duration,
     ))
 

@@ -7,7 +7,7 @@ use Rattle.std.specs.Str.Parse.{AllDigits}
 use Rattle.edf_time.specs.Decimal.{IsDecimal, IsSeconds}
 use Rattle.edf_time.proofs.Cited.{digit_only, one-value}
 use Rattle.edf_tal.specs.Inside.Scan.{Lacks}
-use Rattle.edf_tal.specs.Tal.{Tal, IsTal, IsOnset, IsDurationPart, IsText, ended}
+use Rattle.edf_tal.specs.Tal.{Tal, IsTal, IsOnset, IsDurationPart, IsText, terminated}
 
 pub Lacks-append : (c : ℕ) (a b : List ℕ) → Lacks c a → Lacks c b → Lacks c (a ++ b)
 Lacks-append c [] b p q = q
@@ -105,25 +105,28 @@ pub Lacks-text : (text : List ℕ) → IsText text → Lacks 20 text
 Lacks-text [] p = tt
 Lacks-text (b ∷ text) p = (p.0.1, Lacks-text text p.1)
 
-regrouped : (x : List ℕ) (xs : List (List ℕ)) → ended (x ∷ xs) ++ 0 ∷ [] ≡ x
-    ++ 20 ∷ (ended xs ++ 0 ∷ [])
-regrouped x xs = append_assoc (x ++ 20 ∷ []) (ended xs) (0 ∷ [])
-    ∙ append_assoc x (20 ∷ []) (ended xs ++ 0 ∷ [])
+regrouped : (x : List ℕ) (xs : List (List ℕ)) → terminated (x ∷ xs) ++ 0 ∷ [] ≡ x
+    ++ 20 ∷ (terminated xs ++ 0 ∷ [])
+regrouped x xs = append_assoc (x ++ 20 ∷ []) (terminated xs) (0 ∷ [])
+    ∙ append_assoc x (20 ∷ []) (terminated xs ++ 0 ∷ [])
 
 -- the texts
 pub one-texts : (xs ys : List (List ℕ)) → AllByRecursion IsText xs → AllByRecursion IsText ys →
-    ended xs ++ 0 ∷ [] ≡ ended ys ++ 0 ∷ [] → xs ≡ ys
+    terminated xs ++ 0 ∷ [] ≡ terminated ys ++ 0 ∷ [] → xs ≡ ys
 one-texts [] [] p q e = refl
 one-texts [] (y ∷ ys) p q e =
-    absurd (not-both 20 (0 ∷ []) y (ended ys ++ 0 ∷ []) ((λ is. absurd (omega arith)), tt) (e
+    absurd (not-both 20 (0 ∷ []) y (terminated ys ++ 0 ∷ []) ((λ is. absurd (omega arith)), tt) (e
     ∙ regrouped y ys))
 one-texts (x ∷ xs) [] p q e =
-    absurd (not-both 20 (0 ∷ []) x (ended xs ++ 0 ∷ []) ((λ is. absurd (omega arith)), tt) (sym e
+    absurd (not-both 20 (0 ∷ []) x (terminated xs ++ 0 ∷ []) (
+      (λ is. absurd (omega arith)),
+      tt,
+    ) (sym e
     ∙ regrouped x xs))
 one-texts (x ∷ xs) (y ∷ ys) p q e =
-    let left : x ++ 20 ∷ (ended xs ++ 0 ∷ []) ≡ y ++ 20 ∷ (ended ys ++ 0 ∷ []) =
+    let left : x ++ 20 ∷ (terminated xs ++ 0 ∷ []) ≡ y ++ 20 ∷ (terminated ys ++ 0 ∷ []) =
     sym (regrouped x xs) ∙ e ∙ regrouped y ys in
-    let s = same-sides 20 x y (ended xs ++ 0 ∷ []) (ended ys
+    let s = same-sides 20 x y (terminated xs ++ 0 ∷ []) (terminated ys
     ++ 0 ∷ []) (Lacks-text x p.0) (Lacks-text y q.0) left in
     let more = one-texts xs ys p.1 q.1 s.back in
     let first : x ≡ y = s.front in
@@ -132,12 +135,14 @@ one-texts (x ∷ xs) (y ∷ ys) p q e =
 -- bytes are one TAL at most
 pub one-tal : (bytes : List ℕ) (t s : Tal) → IsTal bytes t → IsTal bytes s → t ≡ s
 one-tal bytes t s p q =
-    let whole : (p.onset ++ p.duration) ++ 20 ∷ (ended t.texts ++ 0 ∷ []) ≡ (q.onset ++ q.duration)
-    ++ 20 ∷ (ended s.texts ++ 0 ∷ []) =
-    sym (append_assoc (p.onset ++ p.duration) (20 ∷ ended t.texts) (0 ∷ [])) ∙ sym p.parts ∙ q.parts
-    ∙ append_assoc (q.onset ++ q.duration) (20 ∷ ended s.texts) (0 ∷ []) in
-    let sides = same-sides 20 (p.onset ++ p.duration) (q.onset ++ q.duration) (ended t.texts
-    ++ 0 ∷ []) (ended s.texts ++ 0 ∷ [])
+    let whole : (p.onset ++ p.duration) ++ 20 ∷ (terminated t.texts ++ 0 ∷ [])
+    ≡ (q.onset ++ q.duration)
+    ++ 20 ∷ (terminated s.texts ++ 0 ∷ []) =
+    sym (append_assoc (p.onset ++ p.duration) (20 ∷ terminated t.texts) (0 ∷ [])) ∙ sym p.parts
+    ∙ q.parts
+    ∙ append_assoc (q.onset ++ q.duration) (20 ∷ terminated s.texts) (0 ∷ []) in
+    let sides = same-sides 20 (p.onset ++ p.duration) (q.onset ++ q.duration) (terminated t.texts
+    ++ 0 ∷ []) (terminated s.texts ++ 0 ∷ [])
     (Lacks-append 20 p.onset p.duration (Lacks-onset 20 p.onset t.onset (omega arith) p.is_onset)
     (Lacks-duration p.duration t.duration p.is_duration))
     (Lacks-append 20 q.onset q.duration (Lacks-onset 20 q.onset s.onset (omega arith) q.is_onset)

@@ -2,9 +2,9 @@
 use Rattle.std.specs.Prelude.{◌≡◌, ℕ, ◌+◌, ◌^◌, ◌≤◌, ◌<◌, List, [], ◌∷◌, length, take, drop}
 use Rattle.std.specs.Prelude.{sum_by, pos, ◌≤ℤ◌, ◌<ℤ◌, Option, Some, None, codes}
 use Rattle.std.specs.List.{AllByRecursion}
-use Rattle.edf_tal.specs.Condition.{IsBroken, HasBadText}
+use Rattle.edf_tal.specs.Condition.{IsMalformedAt, HaveInvalidUtf8At}
 use Rattle.edf_tal.specs.Tal.{Tal, Annotation, AreBlocks, first_tals, all_tals, HaveUtf8Texts}
-use Rattle.edf_tal.specs.Tal.{IsTimed, IsTalInWindow, annotations, record_start}
+use Rattle.edf_tal.specs.Tal.{HasTimeKeepingTal, IsTalInWindow, annotations, record_start}
 use Rattle.edf_tal.specs.declared.limits.TheConstants.{MOST_ANNOTATIONS, MOST_TEXT_BYTES}
 use Rattle.edf_tal.specs.declared.place.Place.{Place}
 use Rattle.edf_tal.specs.declared.place.Place.TheVariants.{First, After}
@@ -15,10 +15,11 @@ use Rattle.edf_tal.specs.declared.place.TalFault.TheVariants.{Memory}
 
 -- the first record starts in the second that the header names; a later one at least a duration
 -- after the one before
-abbrev pub KeepsPlace : Place → ℕ → List Tal → Type 0
-KeepsPlace First file_start (t ∷ ts) = (pos 0 ≤ℤ t.onset) × (t.onset <ℤ pos (10 ^ 9))
-KeepsPlace (After before duration) file_start ts = before + duration ≤ record_start file_start ts
-KeepsPlace place file_start ts = Unit {0}
+abbrev pub StartFitsPlace : Place → ℕ → List Tal → Type 0
+StartFitsPlace First file_start (t ∷ ts) = (pos 0 ≤ℤ t.onset) × (t.onset <ℤ pos (10 ^ 9))
+StartFitsPlace (After before duration) file_start ts =
+    before + duration ≤ record_start file_start ts
+StartFitsPlace place file_start ts = Unit {0}
 
 -- the limits of a data record's annotations
 pub record IsWithinLimits (list : List Annotation) : Type 0 where
@@ -27,21 +28,22 @@ pub record IsWithinLimits (list : List Annotation) : Type 0 where
 
 -- the blocks give their data record this start and this list: the first block keeps time, and the
 -- lists of all are joined
-pub record AreRead (blocks : List (List ℕ)) (file_start : ℕ) (place : Place) (start : ℕ)
+pub record BlocksParseTo (blocks : List (List ℕ)) (file_start : ℕ) (place : Place) (start : ℕ)
     (list : List Annotation) : Type 0 where
   pub tals : List (List Tal)
   pub lists : AreBlocks blocks tals
   pub good : HaveUtf8Texts (all_tals tals)
-  pub timed : IsTimed (first_tals tals)
-  pub keeps : KeepsPlace place file_start (first_tals tals)
+  pub timed : HasTimeKeepingTal (first_tals tals)
+  pub keeps : StartFitsPlace place file_start (first_tals tals)
   pub window : AllByRecursion (IsTalInWindow file_start) (all_tals tals)
   pub limits : IsWithinLimits list
   pub start_is : start ≡ record_start file_start (first_tals tals)
   pub list_is : list ≡ annotations file_start (all_tals tals)
 
 -- the same of a data record with one block
-abbrev pub IsRead : List ℕ → ℕ → Place → ℕ → List Annotation → Type 0
-IsRead block file_start place start list = AreRead (block ∷ []) file_start place start list
+abbrev pub BlockParsesTo : List ℕ → ℕ → Place → ℕ → List Annotation → Type 0
+BlockParsesTo block file_start place start list =
+    BlocksParseTo (block ∷ []) file_start place start list
 
 -- the numbers of the faults, by which they are ordered, their names, and the offsets that they name
 abbrev pub tal_fault_number : TalFault → ℕ
@@ -71,46 +73,47 @@ tal_fault_offset (Text offset) = Some offset
 tal_fault_offset fault = None
 
 -- the fault is true of the blocks of a data record that is at this place
-abbrev pub BlocksFail : List (List ℕ) → ℕ → Place → TalFault → Type 0
-BlocksFail bs s place (NotTals offset) = IsBroken bs offset
-BlocksFail bs s place (Text offset) = ((tss : List (List Tal)) × AreBlocks bs tss)
-    × HasBadText bs offset
-BlocksFail bs s place NotTimed = (tss : List (List Tal)) × AreBlocks bs tss
-    × ¬ IsTimed (first_tals tss)
-BlocksFail bs s First FirstOnset = (tss : List (List Tal)) × AreBlocks bs tss
-    × ¬ KeepsPlace First s (first_tals tss)
-BlocksFail bs s place Window = (tss : List (List Tal)) × AreBlocks bs tss
+abbrev pub BlocksHaveFault : List (List ℕ) → ℕ → Place → TalFault → Type 0
+BlocksHaveFault bs s place (NotTals offset) = IsMalformedAt bs offset
+BlocksHaveFault bs s place (Text offset) = ((tss : List (List Tal)) × AreBlocks bs tss)
+    × HaveInvalidUtf8At bs offset
+BlocksHaveFault bs s place NotTimed = (tss : List (List Tal)) × AreBlocks bs tss
+    × ¬ HasTimeKeepingTal (first_tals tss)
+BlocksHaveFault bs s First FirstOnset = (tss : List (List Tal)) × AreBlocks bs tss
+    × ¬ StartFitsPlace First s (first_tals tss)
+BlocksHaveFault bs s place Window = (tss : List (List Tal)) × AreBlocks bs tss
     × ¬ AllByRecursion (IsTalInWindow s) (all_tals tss)
-BlocksFail bs s (After before duration) Order =
+BlocksHaveFault bs s (After before duration) Order =
     (tss : List (List Tal)) × AreBlocks bs tss
-    × ¬ KeepsPlace (After before duration) s (first_tals tss)
-BlocksFail bs s place TooMany = (tss : List (List Tal)) × AreBlocks bs tss
+    × ¬ StartFitsPlace (After before duration) s (first_tals tss)
+BlocksHaveFault bs s place TooMany = (tss : List (List Tal)) × AreBlocks bs tss
     × ¬ IsWithinLimits (annotations s (all_tals tss))
-BlocksFail bs s place fault = ⊥
+BlocksHaveFault bs s place fault = ⊥
 
 -- the fault is true, and none of a lower number
-pub record IsBlocksFault (bs : List (List ℕ)) (s : ℕ) (place : Place) (fault : TalFault) : Type 0
+pub record IsFirstBlocksFault (bs : List (List ℕ)) (s : ℕ) (place : Place)
+    (fault : TalFault) : Type 0
   where
-    pub holds : BlocksFail bs s place fault
+    pub holds : BlocksHaveFault bs s place fault
     pub first : (other : TalFault) → tal_fault_number other < tal_fault_number fault →
-        ¬ BlocksFail bs s place other
+        ¬ BlocksHaveFault bs s place other
 
 -- the same of a data record with one block
-abbrev pub IsBlockFault : List ℕ → ℕ → Place → TalFault → Type 0
-IsBlockFault block s place fault = IsBlocksFault (block ∷ []) s place fault
+abbrev pub IsFirstBlockFault : List ℕ → ℕ → Place → TalFault → Type 0
+IsFirstBlockFault block s place fault = IsFirstBlocksFault (block ∷ []) s place fault
 
 -- why blocks are not read: their first fault; out of memory only where they have none, and so a
 -- start and a list
 abbrev pub IsBlocksRefusal : List (List ℕ) → ℕ → Place → TalFault → Type 0
 IsBlocksRefusal bs s place Memory = (start : ℕ) × (list : List Annotation)
-    × AreRead bs s place start list
-IsBlocksRefusal bs s place fault = IsBlocksFault bs s place fault
+    × BlocksParseTo bs s place start list
+IsBlocksRefusal bs s place fault = IsFirstBlocksFault bs s place fault
 
 -- the same of a data record with one block
 abbrev pub IsBlockRefusal : List ℕ → ℕ → Place → TalFault → Type 0
 IsBlockRefusal block s place fault = IsBlocksRefusal (block ∷ []) s place fault
 
--- bytes cut into blocks of these sizes
-abbrev pub cut : List ℕ → List ℕ → List (List ℕ)
-cut [] bytes = []
-cut (size ∷ sizes) bytes = take size bytes ∷ cut sizes (drop size bytes)
+-- the bytes as blocks of these sizes
+abbrev pub split_by_sizes : List ℕ → List ℕ → List (List ℕ)
+split_by_sizes [] bytes = []
+split_by_sizes (size ∷ sizes) bytes = take size bytes ∷ split_by_sizes sizes (drop size bytes)

@@ -2,11 +2,11 @@
 use Rattle.std.specs.Prelude.{◌≡◌, ℕ, ◌+◌, ◌≤◌, List, ◌∷◌, ◌++◌, length, take, sum_by, ℤ, Option}
 use Rattle.std.specs.Prelude.{IsUtf8}
 use Rattle.std.specs.List.{AllByRecursion}
-use Rattle.edf_tal.specs.Tal.{Tal, IsOnset, IsDurationPart, IsText, ended, AreTals}
+use Rattle.edf_tal.specs.Tal.{Tal, IsOnset, IsDurationPart, IsText, terminated, AreTals}
 use Rattle.edf_tal.specs.Tal.{AreTalsAndZeros, AreBlocks, all_tals, HaveUtf8Texts}
 
 -- the longest front that is whole TALs has n bytes
-pub record IsLongestFront (bytes : List ℕ) (n : ℕ) : Type 0 where
+pub record IsLongestTalPrefix (bytes : List ℕ) (n : ℕ) : Type 0 where
   pub tals : List Tal
   pub within : n ≤ length bytes
   pub front : AreTals (take n bytes) tals
@@ -15,7 +15,7 @@ pub record IsLongestFront (bytes : List ℕ) (n : ℕ) : Type 0 where
 
 -- the first text that is not UTF-8 begins at `at`: after whole TALs and texts of its own TAL, all
 -- of which are UTF-8
-pub record IsBadText (bytes : List ℕ) (at : ℕ) : Type 0 where
+pub record IsInvalidUtf8At (bytes : List ℕ) (at : ℕ) : Type 0 where
   pub front : List ℕ
   pub tals : List Tal
   pub onset : List ℕ
@@ -23,7 +23,7 @@ pub record IsBadText (bytes : List ℕ) (at : ℕ) : Type 0 where
   pub good : List (List ℕ)
   pub text : List ℕ
   pub back : List ℕ
-  pub parts : bytes ≡ front ++ onset ++ duration ++ 20 ∷ ended good ++ text ++ 20 ∷ back
+  pub parts : bytes ≡ front ++ onset ++ duration ++ 20 ∷ terminated good ++ text ++ 20 ∷ back
   pub whole : AreTals front tals
   pub front_good : HaveUtf8Texts tals
   pub is_onset : (z : ℤ) × IsOnset onset z
@@ -31,11 +31,11 @@ pub record IsBadText (bytes : List ℕ) (at : ℕ) : Type 0 where
   pub good_texts : AllByRecursion (λ x. IsText x × IsUtf8 x) good
   pub is_text : IsText text
   pub bad : ¬ IsUtf8 text
-  pub at_is : at ≡ length front + length onset + length duration + 1 + length (ended good)
+  pub at_is : at ≡ length front + length onset + length duration + 1 + length (terminated good)
 
 -- the first block that is not TALs and zeros: the longest front of whole TALs ends at `offset` in
 -- it, and at `at` in the blocks joined
-pub record IsBroken (blocks : List (List ℕ)) (at : ℕ) : Type 0 where
+pub record IsMalformedAt (blocks : List (List ℕ)) (at : ℕ) : Type 0 where
   pub front : List (List ℕ)
   pub block : List ℕ
   pub back : List (List ℕ)
@@ -43,17 +43,17 @@ pub record IsBroken (blocks : List (List ℕ)) (at : ℕ) : Type 0 where
   pub parts : blocks ≡ front ++ block ∷ back
   pub whole : (tss : List (List Tal)) × AreBlocks front tss
   pub broken : (ts : List Tal) → ¬ AreTalsAndZeros block ts
-  pub longest : IsLongestFront block offset
+  pub longest : IsLongestTalPrefix block offset
   pub at_is : at ≡ sum_by length front + offset
 
 -- the first text of all blocks that is not UTF-8: it is at `offset` in its block, and at `at` in
 -- the blocks joined
-pub record HasBadText (blocks : List (List ℕ)) (at : ℕ) : Type 0 where
+pub record HaveInvalidUtf8At (blocks : List (List ℕ)) (at : ℕ) : Type 0 where
   pub front : List (List ℕ)
   pub block : List ℕ
   pub back : List (List ℕ)
   pub offset : ℕ
   pub parts : blocks ≡ front ++ block ∷ back
   pub good : (tss : List (List Tal)) × AreBlocks front tss × HaveUtf8Texts (all_tals tss)
-  pub bad : IsBadText block offset
+  pub bad : IsInvalidUtf8At block offset
   pub at_is : at ≡ sum_by length front + offset

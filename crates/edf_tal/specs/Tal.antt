@@ -34,14 +34,14 @@ abbrev pub IsText : List ℕ → Type 0
 IsText text = AllByRecursion (λ b. (b ≢ 0) × (b ≢ 20)) text
 
 -- each text followed by byte 20
-abbrev pub ended : List (List ℕ) → List ℕ
-ended texts = flat_map (λ text. text ++ 20 ∷ []) texts
+abbrev pub terminated : List (List ℕ) → List ℕ
+terminated texts = flat_map (λ text. text ++ 20 ∷ []) texts
 
 -- the bytes spell the TAL, whether or not its texts are UTF-8
 pub record IsTal (bytes : List ℕ) (t : Tal) : Type 0 where
   pub onset : List ℕ
   pub duration : List ℕ
-  pub parts : bytes ≡ onset ++ duration ++ 20 ∷ ended t.texts ++ 0 ∷ []
+  pub parts : bytes ≡ onset ++ duration ++ 20 ∷ terminated t.texts ++ 0 ∷ []
   pub is_onset : IsOnset onset t.onset
   pub is_duration : IsDurationPart duration t.duration
   pub are_texts : AllByRecursion IsText t.texts
@@ -88,9 +88,9 @@ tal_annotations file_start t =
     t.texts
 
 -- the first TAL of the first block keeps time: its first text is empty
-abbrev pub IsTimed : List Tal → Type 0
-IsTimed [] = ⊥
-IsTimed (t ∷ ts) = (texts : List (List ℕ)) × (t.texts ≡ [] ∷ texts)
+abbrev pub HasTimeKeepingTal : List Tal → Type 0
+HasTimeKeepingTal [] = ⊥
+HasTimeKeepingTal (t ∷ ts) = (texts : List (List ℕ)) × (t.texts ≡ [] ∷ texts)
 
 -- the data record's list: the annotations of all TALs but the time-keeping one, which is the first
 abbrev pub annotations : ℕ → List Tal → List Annotation

@@ -1,7 +1,7 @@
 ghost use Rattle.std.specs.Prelude.{◌≡◌, ℕ, ◌+◌, ◌≤◌, ◌<◌, ◌↔◌, ℤ, MatchResult, IfSome, IsTrue};
 ghost use Rattle.std.specs.Prelude.{List, [], ◌∷◌};
-ghost use Rattle.edf_tal.specs.Block.{AreRead, IsBlocksFault, cut};
-ghost use Rattle.edf_tal.specs.Inside.Scan.{capped, TellsOnset, KeepsSecond, KeepsOrder};
+ghost use Rattle.edf_tal.specs.Block.{BlocksParseTo, IsFirstBlocksFault, split_by_sizes};
+ghost use Rattle.edf_tal.specs.Inside.Scan.{capped, IsCappedOnset, KeepsSecond, KeepsOrder};
 ghost use Rattle.edf_tal.specs.Inside.Blocks.{AreSizes, AreSurveyed, IsChecked, KeepsTime};
 ghost use Rattle.edf_tal.specs.declared.place.Place.{Place};
 
@@ -33,7 +33,7 @@ fn is_timed(texts: &[u8]) -> bool
 
 /// Whether the onset keeps the rule of a first data record.
 fn keeps_second(place: &Place, ahead: bool, onset: u64) -> bool
-    ensures { (z : ℤ) → TellsOnset ahead onset z → (IsTrue result ↔ KeepsSecond place.now z) }
+    ensures { (z : ℤ) → IsCappedOnset ahead onset z → (IsTrue result ↔ KeepsSecond place.now z) }
 {
     match place {
         Place::First => (ahead || onset == 0) && onset < 1_000_000_000,
@@ -77,7 +77,7 @@ fn check_tals(
     ensures { (later : List (List ℕ)) → AreSurveyed (first.now ∷ later) file_start sums →
         MatchResult result
         (λ c. IsChecked (first.now ∷ later) file_start place c.start c.count)
-        (IsBlocksFault (first.now ∷ later) file_start place) }
+        (IsFirstBlocksFault (first.now ∷ later) file_start place) }
 {
     let Some(first) = first_tal(first) else {
         return Err(TalFault::NotTimed);
@@ -115,8 +115,8 @@ pub(crate) fn check_blocks(
 ) -> Result<Checked, TalFault>
     requires { AreSizes sizes.now block.now }
     ensures { MatchResult result
-        (λ c. IsChecked (cut sizes.now block.now) file_start place c.start c.count)
-        (IsBlocksFault (cut sizes.now block.now) file_start place) }
+        (λ c. IsChecked (split_by_sizes sizes.now block.now) file_start place c.start c.count)
+        (IsFirstBlocksFault (split_by_sizes sizes.now block.now) file_start place) }
 {
     let sums = survey_blocks(block, sizes, file_start)?;
     check_tals(&block[..sizes[0]], sums, file_start, place)
@@ -143,8 +143,8 @@ pub(crate) fn bare_start(
     place: &Place,
 ) -> Option<Instant>
     requires { AreSizes sizes.now block.now }
-    ensures { IfSome result
-        (λ start. AreRead (cut sizes.now block.now) file_start place.now start []) }
+    ensures { IfSome result (λ start.
+        BlocksParseTo (split_by_sizes sizes.now block.now) file_start place.now start []) }
 {
     if sizes.len() != 1 {
         return None;

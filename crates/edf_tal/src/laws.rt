@@ -4,7 +4,8 @@ ghost use Rattle.std.specs.Prelude.{List, ◌++◌, length, map, replicate};
 ghost use Rattle.std.specs.List.{AllByRecursion, flat_map};
 ghost use Rattle.edf_time.specs.Civil.{window};
 ghost use Rattle.edf_tal.specs.Tal.{Tal, Annotation, IsTal, AreBlocks, IsAnnotation};
-ghost use Rattle.edf_tal.specs.Block.{AreRead, IsRead, IsBlocksFault, IsWithinLimits, cut};
+ghost use Rattle.edf_tal.specs.Block.{BlocksParseTo, BlockParsesTo, IsFirstBlocksFault};
+ghost use Rattle.edf_tal.specs.Block.{IsWithinLimits, split_by_sizes};
 ghost use Rattle.edf_tal.specs.Canonical.{block_text};
 ghost use Rattle.edf_tal.specs.declared.place.TalFault.{TalFault};
 ghost use Rattle.edf_tal.specs.declared.place.TalFault.TheVariants.{Memory};
@@ -28,60 +29,63 @@ pub fn one_block()
 pub fn one_answer()
     ensures one_read { (bs : List (List ℕ)) (s : ℕ) (p : Place) (m n : ℕ)
         (k l : List Annotation) →
-        AreRead bs s p m k → AreRead bs s p n l → (m ≡ n) × (k ≡ l) }
+        BlocksParseTo bs s p m k → BlocksParseTo bs s p n l → (m ≡ n) × (k ≡ l) }
     ensures not_both { (bs : List (List ℕ)) (s : ℕ) (p : Place) (m : ℕ) (l : List Annotation)
-        (e : TalFault) → AreRead bs s p m l → ¬ IsBlocksFault bs s p e }
+        (e : TalFault) → BlocksParseTo bs s p m l → ¬ IsFirstBlocksFault bs s p e }
     ensures one_fault { (bs : List (List ℕ)) (s : ℕ) (p : Place) (e f : TalFault) →
-        IsBlocksFault bs s p e → IsBlocksFault bs s p f → e ≡ f }
+        IsFirstBlocksFault bs s p e → IsFirstBlocksFault bs s p f → e ≡ f }
 {}
 
 /// The blocks of a data record have an answer at each place: a start and a list, or a fault. Out
 /// of memory is no fault of theirs.
 pub fn some_answer()
     ensures some { (bs : List (List ℕ)) (s : ℕ) (p : Place) →
-        ((start : ℕ) × (list : List Annotation) × AreRead bs s p start list)
-        ⊎ ((e : TalFault) × IsBlocksFault bs s p e) }
-    ensures not_memory { (bs : List (List ℕ)) (s : ℕ) (p : Place) → ¬ IsBlocksFault bs s p Memory }
+        ((start : ℕ) × (list : List Annotation) × BlocksParseTo bs s p start list)
+        ⊎ ((e : TalFault) × IsFirstBlocksFault bs s p e) }
+    ensures not_memory { (bs : List (List ℕ)) (s : ℕ) (p : Place) →
+        ¬ IsFirstBlocksFault bs s p Memory }
 {}
 
 /// Blocks that are joined, and cut by their lengths, are the same blocks again.
 pub fn cut_again()
-    ensures { (bs : List (List ℕ)) → cut (map length bs) (flat_map (λ b. b) bs) ≡ bs }
+    ensures { (bs : List (List ℕ)) → split_by_sizes (map length bs) (flat_map (λ b. b) bs) ≡ bs }
 {}
 
 /// A canonical block, alone or with any fill of zeros, is read again as what was written.
 pub fn read_again()
     ensures alone { (base start : ℕ) (list : List Annotation) →
         base < window → start < window → AllByRecursion IsAnnotation list → IsWithinLimits list →
-        IsRead (block_text base start list) base Any start list }
+        BlockParsesTo (block_text base start list) base Any start list }
     ensures any { (base start n : ℕ) (list : List Annotation) →
         base < window → start < window → AllByRecursion IsAnnotation list → IsWithinLimits list →
-        IsRead (block_text base start list ++ replicate n 0) base Any start list }
+        BlockParsesTo (block_text base start list ++ replicate n 0) base Any start list }
     ensures first { (base start n : ℕ) (list : List Annotation) →
         base < window → start < window → AllByRecursion IsAnnotation list → IsWithinLimits list →
         base ≤ start → start < base + 10 ^ 9 →
-        IsRead (block_text base start list ++ replicate n 0) base First start list }
+        BlockParsesTo (block_text base start list ++ replicate n 0) base First start list }
     ensures after { (base start n before duration : ℕ) (list : List Annotation) →
         base < window → start < window → AllByRecursion IsAnnotation list → IsWithinLimits list →
         before + duration ≤ start →
-        IsRead (block_text base start list ++ replicate n 0) base (After before duration) start
+        BlockParsesTo (block_text base start list ++ replicate n 0) base
+        (After before duration) start
         list }
 {}
 
 /// What blocks give is an instant of the window and annotations within the limits.
 pub fn read_annotations()
     ensures start { (bs : List (List ℕ)) (s : ℕ) (p : Place) (start : ℕ)
-        (list : List Annotation) → AreRead bs s p start list → start < window }
+        (list : List Annotation) → BlocksParseTo bs s p start list → start < window }
     ensures annotations { (bs : List (List ℕ)) (s : ℕ) (p : Place) (start : ℕ)
-        (list : List Annotation) → AreRead bs s p start list → AllByRecursion IsAnnotation list }
+        (list : List Annotation) → BlocksParseTo bs s p start list →
+        AllByRecursion IsAnnotation list }
     ensures limits { (bs : List (List ℕ)) (s : ℕ) (p : Place) (start : ℕ)
-        (list : List Annotation) → AreRead bs s p start list → IsWithinLimits list }
+        (list : List Annotation) → BlocksParseTo bs s p start list → IsWithinLimits list }
 {}
 
 /// What is read at some place is read at any place.
 pub fn any_place()
     ensures { (bs : List (List ℕ)) (s : ℕ) (p : Place) (start : ℕ) (list : List Annotation) →
-        AreRead bs s p start list → AreRead bs s Any start list }
+        BlocksParseTo bs s p start list → BlocksParseTo bs s Any start list }
 {}
 
 /// A canonical block has one start and one list.

@@ -2,9 +2,11 @@ ghost use Rattle.std.specs.Prelude.{◌≡◌, ℕ, ◌≤◌, ◌<◌, IfOk, If
 ghost use Rattle.std.specs.Prelude.{List, [], ◌∷◌, ◌++◌, length, map, sum};
 ghost use Rattle.std.specs.List.{flat_map};
 ghost use Rattle.edf_time.specs.Civil.{window};
-ghost use Rattle.edf_tal.specs.Tal.{Tal, Annotation, IsText, IsTimed, tal_annotations, annotations};
-ghost use Rattle.edf_tal.specs.Block.{AreRead, IsBlocksRefusal, IsRead, IsBlockRefusal, cut};
-ghost use Rattle.edf_tal.specs.Inside.Scan.{AreTexts, TellsTal};
+ghost use Rattle.edf_tal.specs.Tal.{Tal, Annotation, IsText, HasTimeKeepingTal, tal_annotations};
+ghost use Rattle.edf_tal.specs.Tal.{annotations};
+ghost use Rattle.edf_tal.specs.Block.{BlocksParseTo, IsBlocksRefusal, BlockParsesTo};
+ghost use Rattle.edf_tal.specs.Block.{IsBlockRefusal, split_by_sizes};
+ghost use Rattle.edf_tal.specs.Inside.Scan.{AreTexts, IsScannedTal};
 ghost use Rattle.edf_tal.specs.Inside.Blocks.{AreSizes, AreSoundTals};
 ghost use Rattle.edf_tal.specs.declared.place.Place.{Place};
 
@@ -68,8 +70,10 @@ fn push_tal(
     texts: &[u8],
     file_start: Instant,
 ) -> Result<(), AllocError>
-    requires { (t : Tal) × TellsTal texts.now times.ahead times.onset times.duration file_start t }
-    ensures { (t : Tal) → TellsTal texts.now times.ahead times.onset times.duration file_start t →
+    requires { (t : Tal) × IsScannedTal texts.now times.ahead times.onset times.duration file_start
+        t }
+    ensures { (t : Tal) → IsScannedTal texts.now times.ahead times.onset times.duration file_start t
+        →
         OnOk result (list.new.items ≡ list.old.items ++ tal_annotations file_start t) }
 {
     let Some(onset) = onset_instant(times.ahead, times.onset, file_start) else {
@@ -115,8 +119,8 @@ fn push_first(
     block: &[u8],
     file_start: Instant,
 ) -> Result<(), AllocError>
-    requires { (ts : List Tal) × AreSoundTals block.now file_start ts × IsTimed ts }
-    ensures { (ts : List Tal) → AreSoundTals block.now file_start ts → IsTimed ts →
+    requires { (ts : List Tal) × AreSoundTals block.now file_start ts × HasTimeKeepingTal ts }
+    ensures { (ts : List Tal) → AreSoundTals block.now file_start ts → HasTimeKeepingTal ts →
         OnOk result (list.new.items ≡ list.old.items ++ annotations file_start ts) }
 {
     let Some(first) = first_tal(block) else {
@@ -137,9 +141,9 @@ fn list_notes(
 ) -> Result<Vec<Note>, AllocError>
     requires sizes { AreSizes sizes.now block.now }
     requires read { (place : Place) × (start : ℕ) × (list : List Annotation)
-        × AreRead (cut sizes.now block.now) file_start place start list }
+        × BlocksParseTo (split_by_sizes sizes.now block.now) file_start place start list }
     ensures { (place : Place) (start : ℕ) (list : List Annotation) →
-        AreRead (cut sizes.now block.now) file_start place start list →
+        BlocksParseTo (split_by_sizes sizes.now block.now) file_start place start list →
         IfOk result (λ v. v.items ≡ list) }
 {
     let mut list = Vec::with_capacity(alloc, count)?;
@@ -176,8 +180,8 @@ pub fn read_blocks(
     requires some { 1 ≤ length sizes.now }
     requires sizes { sum sizes.now ≡ length block.now }
     ensures { MatchResult result
-        (λ r. AreRead (cut sizes.now block.now) file_start place r.0 r.1.items)
-        (IsBlocksRefusal (cut sizes.now block.now) file_start place) }
+        (λ r. BlocksParseTo (split_by_sizes sizes.now block.now) file_start place r.0 r.1.items)
+        (IsBlocksRefusal (split_by_sizes sizes.now block.now) file_start place) }
 {
     // most data records have the time-keeping annotation alone, which needs no survey
     if let Some(start) = bare_start(block, sizes, file_start, &place) {
@@ -204,7 +208,7 @@ pub fn read_block(
     place: Place,
 ) -> Result<(Instant, Vec<Note>), TalFault>
     ensures { MatchResult result
-        (λ r. IsRead block.now file_start place r.0 r.1.items)
+        (λ r. BlockParsesTo block.now file_start place r.0 r.1.items)
         (IsBlockRefusal block.now file_start place) }
 {
     read_blocks(alloc, block, &[block.len()], file_start, place)

@@ -2,8 +2,8 @@ ghost use Rattle.std.specs.Prelude.{◌≡◌, ℕ, ◌+◌, ◌<◌, ◌↔◌,
 ghost use Rattle.std.specs.Prelude.{Option, MatchOption, MatchResult, IsTrue, IsUtf8};
 ghost use Rattle.edf_time.specs.Decimal.{IsSeconds};
 ghost use Rattle.edf_tal.specs.Tal.{Tal};
-ghost use Rattle.edf_tal.specs.Inside.Scan.{Lacks, NoTal, capped, IsTimes, IsHead, TellsOnset};
-ghost use Rattle.edf_tal.specs.Inside.Scan.{TellsDuration, EndsWith20, IsTalAtFront, IsBadAmong};
+ghost use Rattle.edf_tal.specs.Inside.Scan.{Lacks, NoTal, capped, IsTimes, IsHead, IsCappedOnset};
+ghost use Rattle.edf_tal.specs.Inside.Scan.{IsCappedDuration, EndsWith20, IsTalAtFront, IsBadAmong};
 ghost use Rattle.edf_tal.specs.Inside.Scan.{AreGoodTexts};
 
 use edf_time::{DecimalFault, read_seconds};
@@ -65,7 +65,7 @@ pub(crate) fn capped_seconds(text: &[u8]) -> Option<u64>
 fn spans(bytes: &[u8]) -> Option<(u64, Option<u64>)>
     ensures { MatchOption result ((n : ℕ) (d : Option ℕ) → ¬ IsTimes bytes.now n d)
         (λ r. (n : ℕ) × (d : Option ℕ) × IsTimes bytes.now n d
-        × (r.0 ≡ capped n) × TellsDuration r.1 d) }
+        × (r.0 ≡ capped n) × IsCappedDuration r.1 d) }
 {
     match split_first(bytes, DURATION_MARK) {
         None => {
@@ -84,7 +84,7 @@ fn spans(bytes: &[u8]) -> Option<(u64, Option<u64>)>
 fn signed_times(sign: u8, unsigned: &[u8]) -> Option<Times>
     ensures { MatchOption result ((z : ℤ) (d : Option ℕ) → ¬ IsHead (sign ∷ unsigned.now) z d)
         (λ t. (z : ℤ) × (d : Option ℕ) × IsHead (sign ∷ unsigned.now) z d
-        × TellsOnset t.ahead t.onset z × TellsDuration t.duration d) }
+        × IsCappedOnset t.ahead t.onset z × IsCappedDuration t.duration d) }
 {
     let (onset, duration) = spans(unsigned)?;
     let ahead = match sign {
@@ -103,7 +103,7 @@ fn signed_times(sign: u8, unsigned: &[u8]) -> Option<Times>
 fn head_times(head: &[u8]) -> Option<Times>
     ensures { MatchOption result ((z : ℤ) (d : Option ℕ) → ¬ IsHead head.now z d)
         (λ t. (z : ℤ) × (d : Option ℕ) × IsHead head.now z d
-        × TellsOnset t.ahead t.onset z × TellsDuration t.duration d) }
+        × IsCappedOnset t.ahead t.onset z × IsCappedDuration t.duration d) }
 {
     match head {
         [] => None,
@@ -122,8 +122,8 @@ fn is_ended(bytes: &[u8]) -> bool
 pub(crate) fn first_tal(bytes: &[u8]) -> Option<FrontTal<'_>>
     ensures { MatchOption result (NoTal bytes.now)
         (λ f. (t : Tal) × IsTalAtFront bytes.now f.texts.now f.rest.now t
-        × TellsOnset f.times.ahead f.times.onset t.onset
-        × TellsDuration f.times.duration t.duration) }
+        × IsCappedOnset f.times.ahead f.times.onset t.onset
+        × IsCappedDuration f.times.duration t.duration) }
 {
     let (body, rest) = split_first(bytes, TAL_END)?;
     let (head, texts) = split_first(body, TEXT_END)?;

@@ -2,8 +2,8 @@ ghost use Rattle.std.specs.Prelude.{◌≡◌, ◌+◌, ◌<◌, ◌↔◌, ℤ,
 ghost use Rattle.std.specs.Prelude.{MatchResult, IsTrue};
 ghost use Rattle.edf_time.specs.Civil.{IsInWindow};
 ghost use Rattle.edf_tal.specs.Tal.{Tal, IsTalInWindow, instant};
-ghost use Rattle.edf_tal.specs.Condition.{IsBadText};
-ghost use Rattle.edf_tal.specs.Inside.Scan.{NoTal, TellsOnset, TellsDuration, FollowsTals};
+ghost use Rattle.edf_tal.specs.Condition.{IsInvalidUtf8At};
+ghost use Rattle.edf_tal.specs.Inside.Scan.{NoTal, IsCappedOnset, IsCappedDuration, FollowsTals};
 ghost use Rattle.edf_tal.specs.Inside.Scan.{IsSurvey};
 
 use crate::note::is_duration;
@@ -33,7 +33,7 @@ pub(crate) struct BadText<'a> {
 
 /// The instant of an onset.
 pub(crate) fn onset_instant(ahead: bool, onset: u64, file_start: Instant) -> Option<Instant>
-    ensures { (z : ℤ) → TellsOnset ahead onset z →
+    ensures { (z : ℤ) → IsCappedOnset ahead onset z →
         MatchOption result (¬ IsInWindow (pos file_start +ℤ z))
         (λ i. IsInWindow (pos file_start +ℤ z) × (i ≡ instant file_start z)) }
 {
@@ -50,7 +50,7 @@ pub(crate) fn onset_instant(ahead: bool, onset: u64, file_start: Instant) -> Opt
 /// Whether an onset and a duration keep the window.
 pub(crate) fn is_in_window(times: Times, file_start: Instant) -> bool
     ensures { (t : Tal) →
-        TellsOnset times.ahead times.onset t.onset → TellsDuration times.duration t.duration →
+        IsCappedOnset times.ahead times.onset t.onset → IsCappedDuration times.duration t.duration →
         (IsTrue result ↔ IsTalInWindow file_start t) }
 {
     match onset_instant(times.ahead, times.onset, file_start) {
@@ -76,7 +76,8 @@ pub(crate) fn survey(block: &[u8], file_start: Instant) -> Result<Totals<'_>, Ba
     ensures { MatchResult result
         (λ s. IsSurvey block.now file_start s.rest.now s.in_window s.count s.text_bytes
         × NoTal s.rest.now)
-        (λ b. FollowsTals block.now b.rest.now × NoTal b.rest.now × IsBadText block.now b.offset) }
+        (λ b. FollowsTals block.now b.rest.now × NoTal b.rest.now
+        × IsInvalidUtf8At block.now b.offset) }
 {
     let mut rest = block;
     let mut in_window = true;

@@ -1,7 +1,7 @@
 -- Words of the private contracts of the rule `clock`.
 use Rattle.std.specs.Prelude.{◌≡◌, ◌≢◌, ◌⊎◌, ℕ, List, [], ◌∷◌, ◌++◌, length, take, replicate}
 use Rattle.edf_header.specs.declared.header.Block.{Block}
-use Rattle.edf_tal.specs.Block.{IsRead}
+use Rattle.edf_tal.specs.Block.{BlockParsesTo}
 use Rattle.edf_tal.specs.Tal.{Annotation}
 use Rattle.edf_tal.specs.declared.place.Place.TheVariants.{Any}
 use Rattle.std.specs.List.{AllByRecursion}
@@ -33,5 +33,5 @@ pub record GetsOnset (old onset new : List ℕ) : Type 0 where
 -- two blocks are read, and have the same annotations
 pub record ReadsBoth (file_start : ℕ) (old new : List ℕ) (was is : ℕ) (list : List Annotation) :
     Type 0 where
-  pub old_read : IsRead old file_start Any was list
-  pub new_read : IsRead new file_start Any is list
+  pub old_read : BlockParsesTo old file_start Any was list
+  pub new_read : BlockParsesTo new file_start Any is list

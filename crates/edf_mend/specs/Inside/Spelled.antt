@@ -1,7 +1,7 @@
 -- Words of the private contracts of the rule `texts`.
 use Rattle.std.specs.Prelude.{◌≡◌, ◌⊎◌, ℕ, List, [], ◌∷◌, ◌++◌, Option, Some, None}
 use Rattle.std.specs.List.{AllByRecursion, AllZip, flat_map}
-use Rattle.edf_tal.specs.Tal.{ended}
+use Rattle.edf_tal.specs.Tal.{terminated}
 use Rattle.edf_mend.specs.Edits.{Edit}
 use Rattle.edf_mend.specs.Rewritten.{RecordEdits}
 use Rattle.edf_mend.specs.Texts.{WrittenTal, duration_part, tal_bytes, IsTime, IsTimeOrNone}
@@ -36,7 +36,7 @@ pub record IsWrittenFront (bytes : List ℕ) (sign : ℕ) (onset duration texts 
   pub sign_is : sign ≡ t.sign
   pub onset_is : onset ≡ t.onset
   pub duration_is : duration ≡ duration_text t.duration
-  pub texts_are : texts ≡ ended t.texts
+  pub texts_are : texts ≡ terminated t.texts
 
 -- no list is at the front
 abbrev pub NoWrittenTal : List ℕ → Type 0
@@ -61,7 +61,7 @@ pub record IsSpelledTo (at : ℕ) (block rest bytes : List ℕ) (edits : List Ed
 pub record PutsTexts (olds : List (List ℕ)) (before after : List ℕ) : Type 0 where
   pub news : List (List ℕ)
   pub same : AllZip IsTextSpelled olds news
-  pub after_is : after ≡ before ++ ended news
+  pub after_is : after ≡ before ++ terminated news
 
 -- a data record of this number is as it was, and nothing is told; or it was changed so, and that is
 -- told behind what was told before

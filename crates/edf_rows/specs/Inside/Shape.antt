@@ -4,7 +4,7 @@ use Rattle.sqlite_trees.specs.Tree.{Trees}
 use Rattle.sqlite_value.specs.Order.{Row}
 use Rattle.edf_header.specs.Key.{Key, IsKey}
 use Rattle.edf_tal.specs.Tal.{Annotation}
-use Rattle.edf_tal.specs.Block.{IsRead}
+use Rattle.edf_tal.specs.Block.{BlockParsesTo}
 use Rattle.edf_tal.specs.declared.place.Place.TheVariants.{Any}
 use Rattle.edf_tal.specs.Canonical.{block_text}
 use Rattle.edf_fragment.specs.Fragment.{DataRecord}
@@ -13,11 +13,11 @@ use Rattle.edf_rows.specs.Cells.{record_cells, recording_cells, records_in}
 
 -- nothing is read of the block, whichever place it has in a file
 abbrev pub IsNoBlock : List ℕ → Type 0
-IsNoBlock block = (start : ℕ) (list : List Annotation) → ¬ IsRead block 0 Any start list
+IsNoBlock block = (start : ℕ) (list : List Annotation) → ¬ BlockParsesTo block 0 Any start list
 
 -- this start and list are read of the block, and it is the one that is written for them
 pub record OwnBlock (block : List ℕ) (start : ℕ) (list : List Annotation) : Type 0 where
-  pub read : IsRead block 0 Any start list
+  pub read : BlockParsesTo block 0 Any start list
   pub written : block ≡ block_text 0 start list
 
 -- the block is not the one that is written for what is read of it

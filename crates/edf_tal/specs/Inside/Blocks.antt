@@ -4,8 +4,8 @@ use Rattle.std.specs.Prelude.{None}
 use Rattle.std.specs.List.{AllByRecursion, flat_map}
 use Rattle.edf_tal.specs.Tal.{Tal, Annotation, AreTalsAndZeros, AreBlocks, all_tals, HaveUtf8Texts}
 use Rattle.edf_tal.specs.Tal.{IsTalInWindow, tal_annotations}
-use Rattle.edf_tal.specs.Block.{AreRead}
-use Rattle.edf_tal.specs.Condition.{HasBadText}
+use Rattle.edf_tal.specs.Block.{BlocksParseTo}
+use Rattle.edf_tal.specs.Condition.{HaveInvalidUtf8At}
 use Rattle.edf_tal.specs.declared.place.Place.{Place}
 use Rattle.edf_tal.specs.declared.blocks.Sums.{Sums}
 use Rattle.edf_tal.specs.declared.blocks.Form.{Form}
@@ -30,13 +30,13 @@ pub record AreSurveyed (blocks : List (List ℕ)) (file_start : ℕ) (sums : Sum
 abbrev pub HasForm : List (List ℕ) → ℕ → Form → Type 0
 HasForm blocks file_start (Good sums) = AreSurveyed blocks file_start sums
 HasForm blocks file_start (BadText offset) = ((tss : List (List Tal)) × AreBlocks blocks tss)
-    × HasBadText blocks offset
+    × HaveInvalidUtf8At blocks offset
 
 -- the blocks have no fault at this place: they give this start, and a list of this length
 pub record IsChecked (blocks : List (List ℕ)) (file_start : ℕ) (place : Place)
     (start count : ℕ) : Type 0 where
   pub list : List Annotation
-  pub read : AreRead blocks file_start place start list
+  pub read : BlocksParseTo blocks file_start place start list
   pub count_is : count ≡ length list
 
 -- the time-keeping annotation alone in its TAL, n nanoseconds after the file's start

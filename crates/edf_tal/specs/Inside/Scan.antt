@@ -4,7 +4,7 @@ use Rattle.std.specs.Prelude.{ℤ, pos, neg_ℤ, ◌≤ℤ◌, ◌<ℤ◌, Bool,
 use Rattle.std.specs.Prelude.{◌↔◌, if◌then◌else◌}
 use Rattle.std.specs.List.{AllByRecursion, flat_map}
 use Rattle.edf_time.specs.Decimal.{IsSeconds}
-use Rattle.edf_tal.specs.Tal.{Tal, IsTal, IsOnset, IsDurationPart, IsText, ended, AreTals}
+use Rattle.edf_tal.specs.Tal.{Tal, IsTal, IsOnset, IsDurationPart, IsText, terminated, AreTals}
 use Rattle.edf_tal.specs.Tal.{HaveUtf8Texts, IsTalInWindow, tal_annotations}
 use Rattle.edf_tal.specs.declared.place.Place.{Place}
 use Rattle.edf_tal.specs.declared.place.Place.TheVariants.{First, After}
@@ -42,15 +42,15 @@ pub record IsHead (bytes : List ℕ) (z : ℤ) (d : Option ℕ) : Type 0 where
   pub is_duration : IsDurationPart duration d
 
 -- the sign and the capped nanoseconds of an onset
-abbrev pub TellsOnset : Bool → ℕ → ℤ → Type 0
-TellsOnset ahead onset z = (m : ℕ) × (onset ≡ capped m)
+abbrev pub IsCappedOnset : Bool → ℕ → ℤ → Type 0
+IsCappedOnset ahead onset z = (m : ℕ) × (onset ≡ capped m)
     × (z ≡ (if ahead then pos m else neg_ℤ (pos m)))
 
 -- the capped nanoseconds of a duration
-abbrev pub TellsDuration : Option ℕ → Option ℕ → Type 0
-TellsDuration None None = Unit {0}
-TellsDuration (Some n) (Some m) = n ≡ capped m
-TellsDuration d e = ⊥
+abbrev pub IsCappedDuration : Option ℕ → Option ℕ → Type 0
+IsCappedDuration None None = Unit {0}
+IsCappedDuration (Some n) (Some m) = n ≡ capped m
+IsCappedDuration d e = ⊥
 
 -- nothing, or bytes of which the last is 20
 abbrev pub EndsWith20 : List ℕ → Type 0
@@ -63,24 +63,24 @@ pub record IsTalAtFront (bytes texts rest : List ℕ) (t : Tal) : Type 0 where
   pub front : List ℕ
   pub parts : bytes ≡ front ++ rest
   pub tal : IsTal front t
-  pub texts_are : texts ≡ ended t.texts
+  pub texts_are : texts ≡ terminated t.texts
 
 -- the first of the texts that is not UTF-8
 pub record IsBadAmong (texts : List ℕ) (at : ℕ) : Type 0 where
   pub good : List (List ℕ)
   pub text : List ℕ
   pub back : List ℕ
-  pub parts : texts ≡ ended good ++ (text ++ 20 ∷ back)
+  pub parts : texts ≡ terminated good ++ (text ++ 20 ∷ back)
   pub good_texts : AllByRecursion (λ x. Lacks 20 x × IsUtf8 x) good
   pub is_text : Lacks 20 text
   pub bad : ¬ IsUtf8 text
-  pub at_is : at ≡ length (ended good)
+  pub at_is : at ≡ length (terminated good)
 
 -- this many texts, all of them UTF-8
 pub record AreGoodTexts (texts : List ℕ) (count : ℕ) : Type 0 where
   pub list : List (List ℕ)
   pub rest : List ℕ
-  pub parts : texts ≡ ended list ++ rest
+  pub parts : texts ≡ terminated list ++ rest
   pub good : AllByRecursion (λ x. Lacks 20 x × IsUtf8 x) list
   pub is_rest : Lacks 20 rest
   pub count_is : count ≡ length list
@@ -117,17 +117,17 @@ KeepsOrder (After before duration) start = before + duration ≤ start
 KeepsOrder place start = Unit {0}
 
 -- the texts of a TAL without a fault, and its times
-pub record TellsTal (texts : List ℕ) (ahead : Bool) (onset : ℕ) (duration : Option ℕ)
+pub record IsScannedTal (texts : List ℕ) (ahead : Bool) (onset : ℕ) (duration : Option ℕ)
     (file_start : ℕ) (t : Tal) : Type 0 where
-  pub texts_are : texts ≡ ended t.texts
+  pub texts_are : texts ≡ terminated t.texts
   pub are_texts : AllByRecursion IsText t.texts
   pub good : AllByRecursion IsUtf8 t.texts
-  pub is_onset : TellsOnset ahead onset t.onset
-  pub is_duration : TellsDuration duration t.duration
+  pub is_onset : IsCappedOnset ahead onset t.onset
+  pub is_duration : IsCappedDuration duration t.duration
   pub window : IsTalInWindow file_start t
 
 -- texts that make annotations
 pub record AreTexts (bytes : List ℕ) (texts : List (List ℕ)) : Type 0 where
-  pub bytes_are : bytes ≡ ended texts
+  pub bytes_are : bytes ≡ terminated texts
   pub are_texts : AllByRecursion IsText texts
   pub good : AllByRecursion IsUtf8 texts

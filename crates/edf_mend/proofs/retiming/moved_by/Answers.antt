@@ -2,7 +2,7 @@ use Rattle.std.proofs.Common.{arith, refl, ◌≡◌, ap, sym, ◌∙◌, subst,
 use Rattle.std.proofs.Common.{false}
 use Rattle.std.proofs.Common.{not, eqb, eq-eqb}
 use Rattle.std.proofs.lemmas.Bool.{eqb-true}
-use Rattle.edf_tal.specs.Block.{IsRead}
+use Rattle.edf_tal.specs.Block.{BlockParsesTo}
 use Rattle.edf_tal.specs.Tal.{Annotation}
 use Rattle.edf_tal.specs.declared.place.Place.TheVariants.{Any}
 use Rattle.edf_mend.proofs.Moving.{read-alike}
@@ -61,8 +61,8 @@ returns c =
       b.1.items,
       record {
         old_read = p;
-        new_read = subst (λ (x : List Annotation). IsRead new from Any start x) lists
-            (subst (λ (n : ℕ). IsRead new from Any n a.1.items) there q);
+        new_read = subst (λ (x : List Annotation). BlockParsesTo new from Any start x) lists
+            (subst (λ (n : ℕ). BlockParsesTo new from Any n a.1.items) there q);
       },
       omega (arith, c.abs_diff.ensures, there),
     )

@@ -1,5 +1,5 @@
 use Rattle.std.proofs.Common.{◌≡◌, ◌≢◌, ◌∙◌, sym, subst, ℕ, true, false}
-use Rattle.edf_tal.specs.Block.{IsBlocksRefusal, cut}
+use Rattle.edf_tal.specs.Block.{IsBlocksRefusal, split_by_sizes}
 use Rattle.edf_tal.specs.declared.place.Place.TheVariants.{Any}
 use Rattle.edf_tal.specs.declared.place.TalFault.TheVariants.{Memory as TalMemory}
 use Rattle.edf_mend.proofs.Starting.{not-read}
@@ -7,7 +7,7 @@ use Rattle.edf_mend.proofs.retiming.start_in.Goals as goal
 
 pub returns-else-is_memory : goal.returns-else-is_memory
 returns-else-is_memory c =
-    let bs = cut c.args.sizes.now c.args.all.now in
+    let bs = split_by_sizes c.args.sizes.now c.args.all.now in
     let other : c.in-Err.fault ≢ TalMemory = λ e.
     let z : false ≡ true = sym c.if-is_memory.false ∙ c.is_memory.ensures.1 e in cc in
     λ start list r. not-read bs c.args.header.now.start Any c.in-Err.fault start list other

@@ -1,7 +1,7 @@
 use Rattle.std.proofs.Common.{arith, sym, ap, ◌∙◌, ◌≡◌, ◌≤◌, length, List, ℕ, slice_index_or}
 use Rattle.std.specs.Prelude.{sum}
 use Rattle.edf_header.specs.declared.header.Block.{Block}
-use Rattle.edf_tal.specs.Block.{cut}
+use Rattle.edf_tal.specs.Block.{split_by_sizes}
 use Rattle.edf_fragment.specs.Fragment.{blocks}
 use Rattle.edf_mend.proofs.Respelling.{block-at}
 use Rattle.edf_mend.proofs.Starting.{joins-sum, joins-cut, told-start, block-within}
@@ -41,9 +41,10 @@ returns-clause-told c =
       c.loop-block-test.false,
       ap (λ (x : List Block). length x) c.blocks-block-items.ensures.value,
     ) in
-    let same : cut c.as_slice-2.result.now c.as_slice.result.now ≡ blocks l bytes =
-    ap (λ (x : List ℕ). cut x c.as_slice.result.now) c.as_slice-2.ensures.value
-    ∙ ap (λ (x : List ℕ). cut sizes x) c.as_slice.ensures.value
+    let same : split_by_sizes c.as_slice-2.result.now c.as_slice.result.now ≡ blocks l bytes =
+    ap (λ (x : List ℕ). split_by_sizes x c.as_slice.result.now) c.as_slice-2.ensures.value
+    ∙ ap (λ (x : List ℕ). split_by_sizes sizes x) c.as_slice.ensures.value
     ∙ joins-cut l i bytes all sizes c.loop-block.invariant past in
-    told-start l bytes (cut c.as_slice-2.result.now c.as_slice.result.now) same c.start_in.result
+    told-start l bytes (split_by_sizes c.as_slice-2.result.now c.as_slice.result.now) same
+    c.start_in.result
     c.start_in.ensures

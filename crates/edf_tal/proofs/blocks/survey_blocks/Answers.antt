@@ -1,5 +1,5 @@
 use Rattle.std.proofs.Common.{[], ◌∷◌, arith, subst}
-use Rattle.edf_tal.specs.Block.{cut}
+use Rattle.edf_tal.specs.Block.{split_by_sizes}
 use Rattle.edf_tal.specs.Inside.Blocks.{HasForm}
 use Rattle.edf_tal.proofs.Cuts.{HasNext, next-block, surveyed-next, surveyed-begin, surveyed-fits}
 use Rattle.edf_tal.proofs.Cuts.{surveyed-broken, surveyed-all}
@@ -73,9 +73,10 @@ returns-in-BadText c = λ place.
     let h = surveyed-all c.args.sizes.now c.args.block.now c.loop-size.size-index
     c.loop-size.rest.now
     c.args.file_start c.loop-size.form c.loop-size.invariant c.loop-size-test.false in
-    let bad = subst (HasForm (cut c.args.sizes.now c.args.block.now) c.args.file_start)
+    let bad = subst (HasForm (split_by_sizes c.args.sizes.now c.args.block.now) c.args.file_start)
     c.in-BadText.is h in
-    fault-text (cut c.args.sizes.now c.args.block.now) c.args.file_start place c.in-BadText.offset
+    fault-text (split_by_sizes c.args.sizes.now c.args.block.now) c.args.file_start place
+    c.in-BadText.offset
     bad.0 bad.1
 
 pub returns-in-Good : goal.returns-in-Good
@@ -83,4 +84,5 @@ returns-in-Good c =
     let h = surveyed-all c.args.sizes.now c.args.block.now c.loop-size.size-index
     c.loop-size.rest.now
     c.args.file_start c.loop-size.form c.loop-size.invariant c.loop-size-test.false in
-    subst (HasForm (cut c.args.sizes.now c.args.block.now) c.args.file_start) c.in-Good.is h
+    subst (HasForm (split_by_sizes c.args.sizes.now c.args.block.now) c.args.file_start)
+    c.in-Good.is h

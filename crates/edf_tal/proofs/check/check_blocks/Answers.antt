@@ -1,6 +1,6 @@
 use Rattle.std.proofs.Common.{List, ℕ, sym, subst, rules}
 use Rattle.std.specs.Prelude.{MatchResult}
-use Rattle.edf_tal.specs.Block.{IsBlocksFault}
+use Rattle.edf_tal.specs.Block.{IsFirstBlocksFault}
 use Rattle.edf_tal.specs.Inside.Blocks.{AreSurveyed, IsChecked}
 use Rattle.edf_tal.specs.declared.check.Checked.{Checked}
 use Rattle.edf_tal.proofs.Cuts.{cut-first}
@@ -22,7 +22,7 @@ returns c =
     let parts = cut-first c.args.sizes.now c.args.block.now c.requires.some in
     subst (λ (bs : List (List ℕ)). MatchResult c.check_tals.result
     (λ (x : Checked). IsChecked bs c.args.file_start c.args.place x.start x.count)
-    (IsBlocksFault bs c.args.file_start c.args.place))
+    (IsFirstBlocksFault bs c.args.file_start c.args.place))
     (sym parts) (c.check_tals.ensures _
     (subst (λ (bs : List (List ℕ)). AreSurveyed bs c.args.file_start c.in_ok-sums.sums) parts
     c.in_ok-sums.ensures))

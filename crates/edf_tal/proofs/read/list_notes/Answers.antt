@@ -1,7 +1,7 @@
 use Rattle.std.proofs.Common.{ℕ, ◌-◌, List, ◌++◌, length, take, drop, sym, ap, ◌∙◌, subst}
 use Rattle.std.specs.List.{flat_map}
 use Rattle.edf_tal.specs.Tal.{Annotation, all_tals, tal_annotations, annotations}
-use Rattle.edf_tal.specs.Block.{AreRead, cut}
+use Rattle.edf_tal.specs.Block.{BlocksParseTo, split_by_sizes}
 use Rattle.edf_tal.specs.declared.place.Place.{Place}
 use Rattle.edf_tal.proofs.Cuts.{HasFirst, cut-split, has-first}
 use Rattle.edf_tal.proofs.read.list_notes.Goals as goal
@@ -9,16 +9,17 @@ use Rattle.edf_tal.proofs.read.list_notes.Goals.{After-split_at}
 
 -- what the blocks give, by the first and those after it
 the-first : (c : After-split_at) (p : Place) (start : ℕ) (list : List Annotation) →
-    AreRead (cut c.args.sizes.now c.args.block.now) c.args.file_start p start list
+    BlocksParseTo (split_by_sizes c.args.sizes.now c.args.block.now) c.args.file_start p start list
     → HasFirst c.args.file_start c.split_at.result.0.now
-    (cut (take (length c.args.sizes.now - 1) (drop 1 c.args.sizes.now)) c.split_at.result.1.now)
+    (split_by_sizes (take (length c.args.sizes.now - 1) (drop 1 c.args.sizes.now))
+    c.split_at.result.1.now)
     list
 the-first c p start list r =
     let parts = cut-split c.args.sizes.now c.args.block.now c.split_at.result.0.now
     c.split_at.result.1.now c.requires.sizes.some c.split_at.ensures.front
     c.split_at.ensures.back in
     has-first c.args.file_start p c.split_at.result.0.now _ start list
-    (subst (λ (bs : List (List ℕ)). AreRead bs c.args.file_start p start list) parts r)
+    (subst (λ (bs : List (List ℕ)). BlocksParseTo bs c.args.file_start p start list) parts r)
 
 pub push_first-requires : goal.push_first-requires
 push_first-requires c =

@@ -1,5 +1,5 @@
 use Rattle.std.proofs.lemmas.Result.{on_ok_weaker}
-use Rattle.edf_tal.specs.Tal.{ended}
+use Rattle.edf_tal.specs.Tal.{terminated}
 use Rattle.edf_tal.proofs.Lists.{some-tal, next-tal, first-timed, after-empty, tells-rest}
 use Rattle.edf_tal.proofs.Lists.{whole-list}
 use Rattle.edf_tal.proofs.read.push_first.Goals as goal
@@ -16,7 +16,7 @@ after_empty-texts-requires c =
     c.in-Some.first.rest.now t r.0 r.1 c.in-Some.ensures.1 in
     let xs = first-timed c.args.file_start c.in-Some.first.rest.now c.in-Some.first.texts.now t r.0
     n r.2 in (
-      ended xs.0,
+      terminated xs.0,
       after-empty c.args.file_start c.in-Some.first.rest.now c.in-Some.first.texts.now t
           r.0 xs.0 n xs.1,
     )
@@ -29,7 +29,7 @@ push_tal-requires c =
     c.in-Some.first.rest.now t r.0 r.1 c.in-Some.ensures.1 in
     let xs = first-timed c.args.file_start c.in-Some.first.rest.now c.in-Some.first.texts.now t r.0
     n r.2 in
-    let after = c.after_empty-texts.ensures (ended xs.0)
+    let after = c.after_empty-texts.ensures (terminated xs.0)
     (after-empty c.args.file_start c.in-Some.first.rest.now c.in-Some.first.texts.now t r.0
     xs.0 n xs.1) in (
       record t { texts = xs.0 },
@@ -53,7 +53,7 @@ returns c = λ ts sound timed.
     c.in-Some.first.rest.now t ts sound c.in-Some.ensures.1 in
     let xs = first-timed c.args.file_start c.in-Some.first.rest.now c.in-Some.first.texts.now t ts n
     timed in
-    let after = c.after_empty-texts.ensures (ended xs.0)
+    let after = c.after_empty-texts.ensures (terminated xs.0)
     (after-empty c.args.file_start c.in-Some.first.rest.now c.in-Some.first.texts.now t ts xs.0
     n xs.1) in
     let told = tells-rest c.args.file_start c.in-Some.first.rest.now c.in-Some.first.texts.now t ts
