@@ -15,7 +15,7 @@ use Rattle.edf_header.specs.Canonical.{IsCanonicalHeader}
 use Rattle.edf_tal.specs.declared.place.Place.TheVariants.{First}
 use Rattle.edf_header.specs.declared.limits.TheConstants.{MOST_RECORDS}
 use Rattle.edf_tal.specs.declared.limits.TheConstants.{MOST_CANONICAL_BLOCK_SAMPLES}
-use Rattle.edf_fragment.specs.Fragment.{DataRecord, AreDataRecords, Spells}
+use Rattle.edf_fragment.specs.Fragment.{DataRecord, AreDataRecords, IsFragmentFile}
 use Rattle.edf_canonical.specs.File.{second_of, block_of, record_text, IsLaidOut, IsCanonicalFile}
 use Rattle.edf_canonical.proofs.Records.{records-read}
 use Rattle.edf_fragment.specs.Sound.{AreSound}
@@ -83,7 +83,7 @@ canonical file k r rs is-key begins are count laid =
       ap (λ (x : Layout). least_records x.count) again.says,
       ap (λ (x : Layout). most_records x.count) again.says,
     ) in
-    let spells : Spells (header ++ body) k (r ∷ rs) = record {
+    let spells : IsFragmentFile (header ++ body) k (r ∷ rs) = record {
       header = again.header;
       rest = body;
       last = read.0;
@@ -94,7 +94,7 @@ canonical file k r rs is-key begins are count laid =
       least = omega (arith, counted.0);
       most = omega (arith, counted.1);
     } in
-    (subst (λ (x : List ℕ). Spells x k (r ∷ rs)) (sym parts) spells, laid)
+    (subst (λ (x : List ℕ). IsFragmentFile x k (r ∷ rs)) (sym parts) spells, laid)
 
 pub one-laid-out : (a b : List ℕ) (k : Key) (first : DataRecord) (rs : List DataRecord) →
     IsLaidOut a k first rs → IsLaidOut b k first rs → a ≡ b
@@ -120,6 +120,6 @@ one-file a b k (r ∷ rs) (sa, x) (sb, y) = one-laid-out a b k r (r ∷ rs) x y
 
 -- a canonical file spells its records
 pub its-own : (file : List ℕ) (k : Key) (rs : List DataRecord) → IsCanonicalFile file k rs →
-    Spells file k rs
+    IsFragmentFile file k rs
 its-own file k [] is = absurd is
 its-own file k (r ∷ rs) is = is.0

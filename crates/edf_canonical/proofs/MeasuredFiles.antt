@@ -56,8 +56,8 @@ pub front_more : (before after : Option (List ℕ)) (text more file : List ℕ) 
     WritesFront before after text → WritesFront before after file
 front_more before after text more file is w = record {
   front = w.front;
-  left = w.left ++ more;
-  parts = is ∙ ap (λ (x : List ℕ). x ++ more) w.parts ∙ append_assoc w.front w.left more;
+  remaining = w.remaining ++ more;
+  parts = is ∙ ap (λ (x : List ℕ). x ++ more) w.parts ∙ append_assoc w.front w.remaining more;
   wrote = w.wrote;
 }
 

@@ -208,7 +208,7 @@ module _ {S F R E : Type 0}
         gave = gives-more answers from mid to so.records r so.gave step;
         first = put.0.first;
         why = inl refl;
-        front = (put.0.left, put-of put.0.left put.0.wrote);
+        front = (put.0.remaining, put-of put.0.remaining put.0.wrote);
       }
 
     -- the source gives no more

@@ -3,7 +3,7 @@ use Rattle.std.proofs.Common.{◌≡◌, ℕ, List, [], ◌++◌, take, drop, re
 use Rattle.std.proofs.Common.{append_assoc, append-nil, take-append-drop, Option, Result, Ok, Err}
 use Rattle.std.specs.Io.KnownBytes.{Appends}
 use Rattle.std.proofs.KnownBytes.{Appends-trans, Appends-nil}
-use Rattle.edf_fragment.specs.Failures.{one_more}
+use Rattle.edf_fragment.specs.Failures.{saturating_increment}
 use Rattle.edf_canonical.specs.Output.{Buffered, Writes, CountsOutputFault, IsPutThrough, IsFlushed}
 use Rattle.edf_canonical.specs.Output.{WritesFront}
 use Rattle.edf_canonical.specs.declared.fault.OutputFault.{OutputFault}
@@ -96,7 +96,7 @@ pub front-written : (a b : Buffered) (bytes all more left : List ℕ) → a.held
     ++ more → Writes a b bytes left → WritesFront a.contents b.contents all
 front-written a b bytes all more left none all-is p = record {
   front = p.front;
-  left = left ++ more;
+  remaining = left ++ more;
   parts = all-is ∙ ap (λ (l : List ℕ). l ++ more) (sym (ap (λ (l : List ℕ). l ++ bytes) none)
       ∙ p.parts) ∙ append_assoc p.front left more;
   wrote = p.wrote;
@@ -182,7 +182,7 @@ sends-through a b c bytes u f held wrote same =
 
 pub fails-through : (a b c : Buffered) (bytes : List ℕ) (n : ℕ) (u : Unit {0}) →
     IsFlushed a b (Ok u) → Appends b.contents c.contents (take n bytes) →
-    c.failures ≡ one_more b.failures
+    c.failures ≡ saturating_increment b.failures
     → IsPutThrough a c bytes (Err Write)
 fails-through a b c bytes n u f wrote counts =
     put-flushed a b c bytes (Err Write) u f (send-failed b c bytes n f.1 wrote, counts)

@@ -10,7 +10,8 @@ use Rattle.edf_header.specs.Header.{Layout}
 use Rattle.edf_header.specs.declared.header.Block.{Block}
 use Rattle.edf_tal.specs.Block.{BlocksParseTo, BlockParsesTo}
 use Rattle.edf_tal.specs.declared.place.Place.{Place}
-use Rattle.edf_fragment.specs.Fragment.{DataRecord, IsDataRecord, AreDataRecords, blocks, outside}
+use Rattle.edf_fragment.specs.Fragment.{DataRecord, IsDataRecord, AreDataRecords, blocks}
+use Rattle.edf_fragment.specs.Fragment.{bytes_outside}
 use Rattle.edf_fragment.specs.Fragment.{ordinary_bytes, place_after}
 use Rattle.edf_canonical.specs.File.{block_of, record_text}
 
@@ -36,7 +37,7 @@ ordinary-before l at size s b one before is =
     let none : drop (at + size) (s ++ b) ≡ [] =
     drop_all (at + size) (s ++ b) (omega (arith, length-append s b)) in
     let whole : at - 0 ≡ at = omega arith in
-    ap (λ (bs : List Block). outside 0 bs (s ++ b)) one
+    ap (λ (bs : List Block). bytes_outside 0 bs (s ++ b)) one
     ∙ ap (λ (n : ℕ). field (s ++ b) 0 n ++ drop (at + size) (s ++ b)) whole
     ∙ ap (λ (x : List ℕ). x ++ drop (at + size) (s ++ b)) (take_at s b at before)
     ∙ ap (λ (x : List ℕ). s ++ x) none ∙ append-nil s

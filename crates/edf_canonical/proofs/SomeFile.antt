@@ -8,7 +8,7 @@ use Rattle.edf_time.proofs.Cited.{date-text, time-text, id_date-text}
 use Rattle.edf_header.specs.Key.{Key, IsKey}
 use Rattle.edf_header.specs.Canonical.{IsCanonicalHeader}
 use Rattle.edf_header.specs.declared.limits.TheConstants.{MOST_RECORDS}
-use Rattle.edf_fragment.specs.Fragment.{DataRecord, Spells}
+use Rattle.edf_fragment.specs.Fragment.{DataRecord, IsFragmentFile}
 use Rattle.edf_fragment.specs.Sound.{AreSound, MayBegin}
 use Rattle.edf_fragment.proofs.Sound.{spelled-key, spelled-sound, spelled-begins, spelled-some}
 use Rattle.edf_fragment.proofs.Sound.{spelled-few}
@@ -91,7 +91,7 @@ some-file k (r ∷ rs) is-key are begins some few =
     (file, canonical file k r rs is-key begins are few laid)
 
 -- so each fragment has one
-pub spelled-file : (bytes : List ℕ) (k : Key) (rs : List DataRecord) → Spells bytes k rs →
+pub spelled-file : (bytes : List ℕ) (k : Key) (rs : List DataRecord) → IsFragmentFile bytes k rs →
     (file : List ℕ) × IsCanonicalFile file k rs
 spelled-file bytes k rs s = some-file k rs (spelled-key bytes k rs s) (spelled-sound bytes k rs s)
     (spelled-begins bytes k rs s) (spelled-some bytes k rs s) (spelled-few bytes k rs s)

@@ -5,7 +5,7 @@ use Rattle.std.specs.List.{flat_map}
 use Rattle.edf_header.specs.Key.{Key}
 use Rattle.edf_header.specs.Canonical.{IsCanonicalHeader}
 use Rattle.edf_tal.specs.Canonical.{block_text}
-use Rattle.edf_fragment.specs.Fragment.{DataRecord, Spells}
+use Rattle.edf_fragment.specs.Fragment.{DataRecord, IsFragmentFile}
 
 -- the whole second of an instant, from which a file's onsets count
 abbrev pub second_of : ℕ → ℕ
@@ -47,4 +47,4 @@ pub record IsLaidOut (bytes : List ℕ) (k : Key) (first : DataRecord)
 -- the canonical file of one record or more: it spells them, and it is laid out so
 abbrev pub IsCanonicalFile : List ℕ → Key → List DataRecord → Type 0
 IsCanonicalFile bytes k [] = ⊥
-IsCanonicalFile bytes k (r ∷ rs) = Spells bytes k (r ∷ rs) × IsLaidOut bytes k r (r ∷ rs)
+IsCanonicalFile bytes k (r ∷ rs) = IsFragmentFile bytes k (r ∷ rs) × IsLaidOut bytes k r (r ∷ rs)

@@ -2,7 +2,7 @@
 -- of what was to be put.
 use Rattle.std.specs.Prelude.{◌≡◌, ℕ, List, [], ◌++◌, Option, Result, MatchResult}
 use Rattle.std.specs.Io.KnownBytes.{Appends}
-use Rattle.edf_fragment.specs.Failures.{one_more}
+use Rattle.edf_fragment.specs.Failures.{saturating_increment}
 use Rattle.edf_fragment.specs.declared.streams.Output.{Ghosts}
 use Rattle.edf_canonical.specs.declared.fault.OutputFault.{OutputFault}
 use Rattle.edf_canonical.specs.declared.fault.OutputFault.TheVariants.{Write, Memory}
@@ -25,7 +25,7 @@ pub record Writes (before after : Buffered) (bytes left : List ℕ) : Type 0 whe
 
 -- one more write failed where a failed write is the fault, and none where memory ran out
 abbrev pub CountsOutputFault : ℕ → ℕ → OutputFault → Type 0
-CountsOutputFault old new Write = new ≡ one_more old
+CountsOutputFault old new Write = new ≡ saturating_increment old
 CountsOutputFault old new Memory = new ≡ old
 
 -- the bytes were put: written, or held back; or a front was written before the fault
@@ -42,11 +42,11 @@ IsFlushed before after result =
     MatchResult result
     (λ _. Writes before after [] [] × (after.held ≡ []) × (after.failures ≡ before.failures))
     (λ fault. ((left : List ℕ) × Writes before after [] left) × (fault ≡ Write)
-    × (after.failures ≡ one_more before.failures))
+    × (after.failures ≡ saturating_increment before.failures))
 
 -- a front of some bytes was written
 pub record WritesFront (before after : Option (List ℕ)) (bytes : List ℕ) : Type 0 where
   pub front : List ℕ
-  pub left : List ℕ
-  pub parts : bytes ≡ front ++ left
+  pub remaining : List ℕ
+  pub parts : bytes ≡ front ++ remaining
   pub wrote : Appends before after front

@@ -115,8 +115,8 @@ pub record IsPutNext (before after : Buffered) (whole : Measure) (kept records :
 pub record StopsInNext (before after : Buffered) (whole : Measure) (kept records : List DataRecord)
     (r : DataRecord) : Type 0 where
   pub first : MayComeFirst (annotated kept (records ++ r ∷ [])) whole
-  pub left : List ℕ
-  pub wrote : Writes before after (next_text whole kept records r) left
+  pub remaining : List ℕ
+  pub wrote : Writes before after (next_text whole kept records r) remaining
 
 -- or with it they can't be among the first of those that were measured, and it was not put
 abbrev pub PutsNext : Buffered → Buffered → Measure → List DataRecord → List DataRecord →

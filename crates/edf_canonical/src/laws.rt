@@ -2,7 +2,7 @@
 
 ghost use Rattle.std.specs.Prelude.{◌≡◌, ℕ, ◌≤◌, List, length};
 ghost use Rattle.edf_header.specs.Key.{Key, IsKey};
-ghost use Rattle.edf_fragment.specs.Fragment.{DataRecord, Spells};
+ghost use Rattle.edf_fragment.specs.Fragment.{DataRecord, IsFragmentFile};
 ghost use Rattle.edf_fragment.specs.Sound.{AreSound, MayBegin};
 ghost use Rattle.edf_canonical.specs.File.{IsCanonicalFile};
 
@@ -21,11 +21,11 @@ pub fn some_canonical_file()
         IsKey key → AreSound key 0 records → MayBegin key records → 1 ≤ length records →
         length records ≤ MOST_RECORDS → (file : List ℕ) × IsCanonicalFile file key records }
     ensures spelled { (bytes : List ℕ) (key : Key) (records : List DataRecord) →
-        Spells bytes key records → (file : List ℕ) × IsCanonicalFile file key records }
+        IsFragmentFile bytes key records → (file : List ℕ) × IsCanonicalFile file key records }
 {}
 
 /// A canonical file is a fragment of just its key and records; so it is its own canonical file.
 pub fn a_canonical_file_is_read_again()
     ensures { (file : List ℕ) (key : Key) (records : List DataRecord) →
-        IsCanonicalFile file key records → Spells file key records }
+        IsCanonicalFile file key records → IsFragmentFile file key records }
 {}

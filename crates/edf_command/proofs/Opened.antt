@@ -12,7 +12,7 @@ opens-front before after files i e =
     let text : String Global → List ℕ = λ file. string_bytes file in
     record {
       front = map text (take i files);
-      left = map text (drop i files);
+      remaining = map text (drop i files);
       parts = ap (map text) (sym (take-append-drop i files))
           ∙ map-append text (take i files) (drop i files);
       opened = e;

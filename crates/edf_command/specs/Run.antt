@@ -37,7 +37,7 @@ module _ {S : Type 0} (g : Ghosts S) (old new : StoreModel S) (out err : Growth)
     pub from : InputState
     pub to : InputState
     pub refusal : Refusal
-    pub opened : from.left ≡ bytes
+    pub opened : from.remaining ≡ bytes
     pub submitted : IsSubmitted g old new from to (Err refusal)
     pub said : (spell : ℕ → List ℕ) → IsSpelling spell →
         Gets out [] × IsTextTold err (refused_file_line spell name refusal)
@@ -49,7 +49,7 @@ module _ {S : Type 0} (g : Ghosts S) (old new : StoreModel S) (out err : Growth)
     pub to : InputState
     pub receipt : Receipt
     pub mid : StoreModel S
-    pub opened : from.left ≡ bytes
+    pub opened : from.remaining ≡ bytes
     pub submitted : IsSubmitted g old mid from to (Ok receipt)
     pub stays : Stays g mid new
     pub told : TellsWrites out err status

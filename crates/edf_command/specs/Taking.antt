@@ -14,8 +14,8 @@ use Rattle.edf_program.specs.declared.status.Status.TheVariants.{Trouble}
 -- just the first of these names were opened, each once, in their order
 pub record OpensFront (before after names : List (List ℕ)) : Type 0 where
   pub front : List (List ℕ)
-  pub left : List (List ℕ)
-  pub parts : names ≡ front ++ left
+  pub remaining : List (List ℕ)
+  pub parts : names ≡ front ++ remaining
   pub opened : after ≡ before ++ front
 
 -- just these were, each once, in their order; or, where memory ran out, just the first of them
@@ -30,7 +30,7 @@ module _ {S : Type 0} (g : Ghosts S) (old new : StoreModel S) (out err : Growth)
     pub froms : List InputState
     pub tos : List InputState
     pub answers : List Answer
-    pub opened : map (λ (f : InputState). f.left) froms ≡ map bytes names
+    pub opened : map (λ (f : InputState). f.remaining) froms ≡ map bytes names
     pub submitted : AreSubmitted g old new froms tos answers
     pub answered : AnswersAll g old new froms answers
     pub said : (spell : ℕ → List ℕ) → IsSpelling spell →

@@ -17,7 +17,7 @@ pub none_out : (known : Option (List ℕ)) (k : Key) (records : List DataRecord)
 none_out known k [] = keeps_same known
 none_out known k (r ∷ rs) = λ file is. record {
   front = [];
-  left = file;
+  remaining = file;
   parts = refl;
   wrote =
       Appends-nil known;

@@ -5,7 +5,7 @@ use Rattle.std.specs.Io.KnownBytes.{Appends, Keeps}
 use Rattle.sqlite_trees.specs.declared.store.Store.{Ghosts}
 use Rattle.sqlite.specs.State.{State, HasCleanDisk}
 use Rattle.edf_header.specs.Key.{Key}
-use Rattle.edf_fragment.specs.Failures.{one_more}
+use Rattle.edf_fragment.specs.Failures.{saturating_increment}
 use Rattle.edf_fragment.specs.Fragment.{DataRecord}
 use Rattle.edf_store.specs.Call.{IsBusy}
 use Rattle.edf_store.specs.Fault.{number, store_fault_name, IsStoreRefusal}
@@ -60,7 +60,7 @@ abbrev pub CountsExportFault : ℕ → ℕ → ExportFault → Type 0
 CountsExportFault old new NoRecording = new ≡ old
 CountsExportFault old new (Store fault) = new ≡ old
 CountsExportFault old new Memory = new ≡ old
-CountsExportFault old new Write = new ≡ one_more old
+CountsExportFault old new Write = new ≡ saturating_increment old
 
 abbrev pub CountsExport : ℕ → ℕ → Result ℕ ExportFault → Type 0
 CountsExport old new result = MatchResult result (λ len. new ≡ old) (CountsExportFault old new)

@@ -2,7 +2,7 @@
 
 ghost use Rattle.std.specs.Prelude.{ℕ, List, Option};
 ghost use Rattle.edf_header.specs.Key.{Key};
-ghost use Rattle.edf_fragment.specs.Fragment.{DataRecord, Spells};
+ghost use Rattle.edf_fragment.specs.Fragment.{DataRecord, IsFragmentFile};
 ghost use Rattle.edf_fragment.specs.Parsed.{Parsed};
 ghost use Rattle.edf_holdings.specs.Holdings.{Holdings, IsSound};
 ghost use Rattle.edf_holdings.specs.Laws.{AreWellFormed};
@@ -14,7 +14,8 @@ ghost use Rattle.edf_export.specs.Headline.{Headline, ParseToOneList};
 /// An export is a fragment of just the key and the data records that were exported.
 pub fn an_export_is_a_fragment()
     ensures { (before after : Option (List ℕ)) (key : Key) (records : List DataRecord) (len : ℕ) →
-        (export : IsExported before after key records len) → Spells export.file key records }
+        (export : IsExported before after key records len) →
+        IsFragmentFile export.file key records }
 {}
 
 /// What is exported of sound holdings is accepted again: by themselves with nothing new, and where

@@ -2,7 +2,7 @@
 
 ghost use Rattle.std.specs.Prelude.{◌≡◌, [], None, Some, true, IfOk};
 
-use edf_fragment::{Output, one_more};
+use edf_fragment::{Output, saturating_increment};
 use edf_program::{MadeFiles, NewFiles, Unfinished};
 use std::alloc::Global;
 use std::io;
@@ -24,7 +24,7 @@ impl Output for Page {
         let most = buf.len().min(self.room.saturating_sub(self.bytes.len()));
         let is_full = most == 0 && !buf.is_empty();
         if is_full || self.bytes.extend_from_slice(&buf[..most]).is_err() {
-            self.failures = one_more(self.failures);
+            self.failures = saturating_increment(self.failures);
             return Err(io::Error::from(io::ErrorKind::StorageFull));
         }
         Ok(most)

@@ -11,7 +11,7 @@ use borrow.Rule.Slice.PartMut.{put_mid}
 use Rattle.edf_field.specs.Number.{field}
 use Rattle.edf_header.specs.Header.{AreApart}
 use Rattle.edf_header.specs.declared.header.Block.{Block}
-use Rattle.edf_fragment.specs.Fragment.{outside}
+use Rattle.edf_fragment.specs.Fragment.{bytes_outside}
 use Rattle.edf_fragment.proofs.Layouts.{pieces, joined, apart-within, length-field, length-outside}
 use Rattle.edf_fragment.proofs.Layouts.{length-joined}
 
@@ -19,13 +19,13 @@ use Rattle.edf_fragment.proofs.Layouts.{length-joined}
 -- the blocks are joined
 pub record IsCutTo (all rest : List Block) (whole samples blocks : List ℕ)
     (ordinary copied : ℕ) : Type 0 where
-  pub samples_len : length samples ≡ length (outside 0 all whole)
+  pub samples_len : length samples ≡ length (bytes_outside 0 all whole)
   pub blocks_len : length blocks ≡ length (joined (pieces all whole))
   pub apart : AreApart (ordinary + copied) rest (length whole)
   pub ordinary_within : ordinary ≤ length samples
   pub copied_within : copied ≤ length blocks
   pub samples_are : take ordinary samples
-      ++ outside (ordinary + copied) rest whole ≡ outside 0 all whole
+      ++ bytes_outside (ordinary + copied) rest whole ≡ bytes_outside 0 all whole
   pub blocks_are : take copied blocks ++ joined (pieces rest whole) ≡ joined (pieces all whole)
 
 -- the next block fits after what is done, and so do the ordinary bytes before it
@@ -41,7 +41,7 @@ room-left all rest b whole samples blocks m n c =
     let from = m + n in
     let before = b.at - from in
     let piece = field whole b.at b.bytes in
-    let later = outside (b.at + b.bytes) rest whole in
+    let later = bytes_outside (b.at + b.bytes) rest whole in
     record {
       ordinary_fits = omega (
         arith,
@@ -98,7 +98,7 @@ cut-step all rest b whole samples blocks new piece m n k j c new-is piece-is len
     let size2 : length piece ≡ b.bytes = ap (λ (x : List ℕ). length x) piece-is
     ∙ length-field whole b.at b.bytes within in
     let next : b.at + b.bytes ≡ (m + before) + (n + b.bytes) = omega (arith, c.apart.0) in
-    let later = outside (b.at + b.bytes) rest whole in
+    let later = bytes_outside (b.at + b.bytes) rest whole in
     let taken : take (m + before) (put_mid m k samples new) ≡ take m samples ++ new =
     take-put_mid m k samples new (m + before) (omega (arith, size)) c.ordinary_within in
     let taken2 : take (n + b.bytes) (put_mid n j blocks piece) ≡ take n blocks ++ piece =
@@ -111,7 +111,7 @@ cut-step all rest b whole samples blocks new piece m n k j c new-is piece-is len
       copied_within = omega (arith, room.copied_fits, len2);
       samples_are =
           ap (λ (x : ℕ). take (m + before) (put_mid m k samples new)
-          ++ outside x rest whole) (sym next) ∙ ap (λ (x : List ℕ). x ++ later) taken
+          ++ bytes_outside x rest whole) (sym next) ∙ ap (λ (x : List ℕ). x ++ later) taken
           ∙ append_assoc (take m samples) new later
           ∙ ap (λ (x : List ℕ). take m samples ++ (x ++ later)) new-is ∙ c.samples_are;
       blocks_are =
@@ -125,7 +125,7 @@ cut-step all rest b whole samples blocks new piece m n k j c new-is piece-is len
 
 -- all blocks are cut off
 pub record IsCutUp (all : List Block) (whole samples blocks : List ℕ) : Type 0 where
-  pub samples_are : samples ≡ outside 0 all whole
+  pub samples_are : samples ≡ bytes_outside 0 all whole
   pub blocks_are : blocks ≡ joined (pieces all whole)
 
 pub cut-last : (all : List Block) (whole samples blocks new : List ℕ) (m n k : ℕ) →

@@ -12,15 +12,16 @@ use Rattle.edf_tal.specs.declared.place.Place.{Place}
 use Rattle.edf_tal.specs.declared.place.Place.TheVariants.{First}
 use Rattle.edf_tal.specs.declared.place.TalFault.{TalFault}
 use Rattle.edf_tal.specs.Block.{IsFirstBlocksFault}
-use Rattle.edf_fragment.specs.Fragment.{DataRecord, AreDataRecords, blocks, Spells}
-use Rattle.edf_fragment.specs.Fault.{ReadsUpTo, IsCutRecord, IsRefusedBlock, IsTrailing}
+use Rattle.edf_fragment.specs.Fragment.{DataRecord, AreDataRecords, blocks, IsFragmentFile}
+use Rattle.edf_fragment.specs.Fault.{ParsedUpToFault, IsCutRecord, IsRefusedBlock, IsTrailing}
 use Rattle.edf_fragment.specs.Fault.{IsFirstFault}
-use Rattle.edf_fragment.specs.Reading.{ReadsHeader, IsOpenFault, EndsThere}
+use Rattle.edf_fragment.specs.Reading.{ReadsHeader, IsOpenFault, IsEndOfRecords}
 use Rattle.edf_fragment.specs.Stops.{ReadsHeaderFault}
 use Rattle.edf_fragment.specs.Reading.{IsNextFault, IsNext}
-use Rattle.edf_fragment.specs.Stops.{EndsInRecord, RefusesBlock, FindsMore}
-use Rattle.edf_fragment.specs.Reading.{at_first, progress_after, AnswersIn, IsAnswer}
-use Rattle.edf_fragment.specs.Whole.{HasRead, FailsAfterRecords, ReadsFragment, IsFirstWhereKnown}
+use Rattle.edf_fragment.specs.Stops.{EndsInRecord, RefusesBlock, HasTrailingByte}
+use Rattle.edf_fragment.specs.Reading.{initial_progress, progress_after, IsAnswerInState, IsAnswer}
+use Rattle.edf_fragment.specs.Whole.{HasReadRecords, FailsAfterRecords, ReadsFragment}
+use Rattle.edf_fragment.specs.Whole.{IsFirstFaultIfKnown}
 use Rattle.edf_fragment.specs.Whole.{IsFragmentFault}
 use Rattle.edf_fragment.specs.Inside.Steps.{ReadsRecords}
 use Rattle.edf_fragment.specs.declared.advance.Progress.{Progress}
@@ -41,7 +42,7 @@ pub fragment_read : (left mid rest : Option (List ℕ)) (l : Layout) (rs : List 
 fragment_read left mid rest l rs a b =
     let are = subst (λ (x : Layout). AreDataRecords x First b.bytes rs b.last []) a.layout_is
     b.are_records in
-    let spells : Spells (a.bytes ++ b.bytes) l.key rs = record {
+    let spells : IsFragmentFile (a.bytes ++ b.bytes) l.key rs = record {
       header = a.header;
       rest = b.bytes;
       last = b.last;
@@ -70,7 +71,7 @@ header_of_all (Some all) (Some more) e f =
     (IsHeaderFault-more f.bytes more e f.ended f.is_fault)
 
 first_in_header : (left rest : Option (List ℕ)) (e : FragmentFault) → IsOpenFault left rest e →
-    IsFirstWhereKnown left e
+    IsFirstFaultIfKnown left e
 first_in_header left rest (BadHeader e) f = header_of_all left rest e f
 first_in_header left rest Read f = tt
 first_in_header left rest Memory f = tt
@@ -85,13 +86,13 @@ open_refused left rest e f = record { met = inl f; first = first_in_header left 
 -- the bytes of a header, those of the data records, and what is left
 abbrev up_to : (all one two a b : List ℕ) (h : HeaderRecord) (rs : List DataRecord) (p : Place) →
     all ≡ a ++ one → one ≡ b ++ two → IsHeader a h [] →
-    AreDataRecords (layout_of h) First b rs p [] → ReadsUpTo all
+    AreDataRecords (layout_of h) First b rs p [] → ParsedUpToFault all
 up_to all one two a b h rs p first second is are = record {
   header = h;
   rest = one;
   records = rs;
   last = p;
-  left = two;
+  remaining = two;
   is_header = subst (λ (x : List ℕ). IsHeader x h one) (sym first) (IsHeader-more a one h is);
   are_records = subst (λ (x : List ℕ). AreDataRecords (layout_of h) First x rs p two) (sym second)
       (AreDataRecords-more (layout_of h) First p b [] two rs are);
@@ -148,7 +149,7 @@ block_of_all (Some all) (Some one) (Some two) (Some rest) a b h rs p nth e x y i
 more_of_all : (left mid two rest : Option (List ℕ)) (a b : List ℕ) (h : HeaderRecord)
     (rs : List DataRecord) (p : Progress) → Consumes left mid a → Consumes mid two b
     → IsHeader a h [] → AreDataRecords (layout_of h) First b rs p.place [] → p.given ≡ length rs →
-    FindsMore (layout_of h) p two rest → IfSome left (λ all. IsTrailing all)
+    HasTrailingByte (layout_of h) p two rest → IfSome left (λ all. IsTrailing all)
 more_of_all None mid two rest a b h rs p x y is are given f = tt
 more_of_all (Some all) None two rest a b h rs p x y is are given f = absurd x
 more_of_all (Some all) (Some one) None rest a b h rs p x y is are given f = absurd y
@@ -166,7 +167,7 @@ after_header : (left mid two rest : Option (List ℕ)) (a b : List ℕ) (h : Hea
     (rs : List DataRecord) (p : Progress) (e : FragmentFault) → Consumes left mid a →
     Consumes mid two b
     → IsHeader a h [] → AreDataRecords (layout_of h) First b rs p.place [] → p.given ≡ length rs →
-    IsNextFault (layout_of h) p two rest e → IsFirstWhereKnown left e
+    IsNextFault (layout_of h) p two rest e → IsFirstFaultIfKnown left e
 after_header left mid two rest a b h rs p (CutRecord nth) x y is are given f =
     cut_of_all left mid two rest a b h rs p nth x y is are given f
 after_header left mid two rest a b h rs p (Tal nth e) x y is are given f =
@@ -192,7 +193,8 @@ records_refused left mid rest l e a b =
 
 -- ---- step by step
 
-pub reads_none : (l : Layout) (left : Option (List ℕ)) → HasRead l left left [] at_first
+pub reads_none : (l : Layout) (left : Option (List ℕ)) →
+    HasReadRecords l left left [] initial_progress
 reads_none l left = record {
   bytes = [];
   read = Consumes-nil left;
@@ -202,7 +204,7 @@ reads_none l left = record {
 }
 
 reads_end : (l : Layout) (left mid rest : Option (List ℕ)) (rs : List DataRecord) (p : Progress) →
-    HasRead l left mid rs p → EndsThere l p mid rest → ReadsRecords l left rest rs
+    HasReadRecords l left mid rs p → IsEndOfRecords l p mid rest → ReadsRecords l left rest rs
 reads_end l left mid rest rs p before ends = record {
   bytes = before.bytes;
   last = p.place;
@@ -220,11 +222,11 @@ going : (l : Layout) (p q : Progress) (mid rest : Option (List ℕ))
     IsAnswer l p q mid rest result
     → (q ≡ progress_after l p result) × IsNext l p mid rest result
 going l p q mid rest result on answer =
-    subst (λ (s : ReaderState). AnswersIn s l p q mid rest result) on answer
+    subst (λ (s : ReaderState). IsAnswerInState s l p q mid rest result) on answer
 
 pub one_more_read : (l : Layout) (left mid rest : Option (List ℕ)) (rs : List DataRecord)
-    (p q : Progress) (r : DataRecord) → HasRead l left mid rs p → p.state ≡ Reading
-    → IsAnswer l p q mid rest (Ok (Some r)) → HasRead l left rest (rs ++ r ∷ []) q
+    (p q : Progress) (r : DataRecord) → HasReadRecords l left mid rs p → p.state ≡ Reading
+    → IsAnswer l p q mid rest (Ok (Some r)) → HasReadRecords l left rest (rs ++ r ∷ []) q
     × (q.state ≡ Reading)
 one_more_read l left mid rest rs p q r before on answer =
     let step = going l p q mid rest (Ok (Some r)) on answer in (
@@ -233,14 +235,14 @@ one_more_read l left mid rest rs p q r before on answer =
     )
 
 pub all_read : (l : Layout) (left one two rest : Option (List ℕ)) (rs : List DataRecord)
-    (p q : Progress) → ReadsHeader left one l → HasRead l one two rs p → p.state ≡ Reading
+    (p q : Progress) → ReadsHeader left one l → HasReadRecords l one two rs p → p.state ≡ Reading
     → IsAnswer l p q two rest (Ok None) → ReadsFragment left rest l rs
 all_read l left one two rest rs p q header before on answer =
     let step = going l p q two rest (Ok None) on answer in
     fragment_read left one rest l rs header (reads_end l one two rest rs p before step.1)
 
 pub refused_then : (l : Layout) (left one two rest : Option (List ℕ)) (rs : List DataRecord)
-    (p q : Progress) (e : FragmentFault) → ReadsHeader left one l → HasRead l one two rs p
+    (p q : Progress) (e : FragmentFault) → ReadsHeader left one l → HasReadRecords l one two rs p
     → p.state ≡ Reading → IsAnswer l p q two rest (Err e) → IsFragmentFault left rest e
 refused_then l left one two rest rs p q e header before on answer =
     let step = going l p q two rest (Err e) on answer in
@@ -250,14 +252,14 @@ refused_then l left one two rest rs p q e header before on answer =
 -- ---- where the bytes are known
 
 pub fragment_of_all : (all : List ℕ) (rest : Option (List ℕ)) (l : Layout) (rs : List DataRecord) →
-    ReadsFragment (Some all) rest l rs → Spells all l.key rs
+    ReadsFragment (Some all) rest l rs → IsFragmentFile all l.key rs
 fragment_of_all all None l rs f = absurd f.read
 fragment_of_all all (Some rest) l rs f =
     let same : all ≡ f.bytes = f.read ∙ ap (λ (x : List ℕ). f.bytes ++ x) f.end
     ∙ append-nil f.bytes in
-    subst (λ (x : List ℕ). Spells x l.key rs) (sym same) f.spells
+    subst (λ (x : List ℕ). IsFragmentFile x l.key rs) (sym same) f.spells
 
-told_of_all : (all : List ℕ) (e : FragmentFault) → IsFirstWhereKnown (Some all) e → (e ≡ Read)
+told_of_all : (all : List ℕ) (e : FragmentFault) → IsFirstFaultIfKnown (Some all) e → (e ≡ Read)
     ⊎ ((e ≡ Memory) ⊎ IsFirstFault all e)
 told_of_all all Read f = inl refl
 told_of_all all Memory f = inr (inl refl)

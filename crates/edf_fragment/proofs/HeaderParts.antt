@@ -18,7 +18,7 @@ use Rattle.edf_header.specs.declared.fault.HeaderFault.TheVariants.{UnprintableS
 use Rattle.edf_header.specs.declared.fault.HeaderFault.TheVariants.{Physical, Digital, Samples}
 use Rattle.edf_header.specs.declared.fault.HeaderFault.TheVariants.{Size, Memory}
 use Rattle.edf_fragment.specs.Reading.{ReadsHeader}
-use Rattle.edf_fragment.specs.Stops.{ReadsFewer, ReadsInSignals, LacksHeaderMemory}
+use Rattle.edf_fragment.specs.Stops.{ReadsFewerBytes, StopsInSignalHeaders, RunsOutOfMemoryInHeader}
 use Rattle.edf_fragment.specs.Reading.{IsOpenFault, CountsAnswer}
 use Rattle.edf_fragment.specs.Stops.{ReadsHeaderFault}
 use Rattle.edf_fragment.specs.Inside.Steps.{ReadsFixed, ReadsSignals, ReadsSignalsFault}
@@ -177,7 +177,7 @@ count-of a b f n fixed has =
 
 -- a header was read
 pub in-header : (left rest : Option (List ℕ)) (l : Layout) → ReadsHeader left rest l →
-    LacksHeaderMemory left rest
+    RunsOutOfMemoryInHeader left rest
 in-header left rest l h =
     let i = h.is_header in
     let parts : h.bytes ≡ i.first ++ i.second = i.parts
@@ -194,7 +194,7 @@ in-header left rest l h =
 
 -- the fixed part was read, and some bytes of the signals
 in-signals : (left mid rest : Option (List ℕ)) (f : FixedPart) → ReadsFixed left mid f →
-    ReadsFewer (256 * f.signal_count) mid rest → ReadsInSignals left rest
+    ReadsFewerBytes (256 * f.signal_count) mid rest → StopsInSignalHeaders left rest
 in-signals left mid rest f a b = record {
   fixed = f;
   first = a.bytes;
@@ -206,7 +206,7 @@ in-signals left mid rest f a b = record {
 
 -- the fixed part was read, and memory ran out at the signals
 lacks-signals : (left mid rest : Option (List ℕ)) (f : FixedPart) → ReadsFixed left mid f →
-    LacksSignalsMemory mid rest f.signal_count → LacksHeaderMemory left rest
+    LacksSignalsMemory mid rest f.signal_count → RunsOutOfMemoryInHeader left rest
 lacks-signals left mid rest f a b = record {
   fixed = f;
   first = a.bytes;

@@ -11,8 +11,8 @@ use Rattle.edf_field.specs.Number.{field}
 use Rattle.edf_header.specs.Signal.{has_label, samples, samples_in_all}
 use Rattle.edf_header.specs.Header.{HeaderRecord, layout_of, blocks_from}
 use Rattle.edf_header.specs.declared.header.Block.{Block}
-use Rattle.edf_fragment.specs.Fragment.{blocks, outside, ordinary_bytes}
-use Rattle.edf_fragment.specs.Signals.{in_turn, annotations_blocks, ordinary_samples}
+use Rattle.edf_fragment.specs.Fragment.{blocks, bytes_outside, ordinary_bytes}
+use Rattle.edf_fragment.specs.Signals.{split_by_signal, annotations_blocks, ordinary_samples}
 
 blocks-from : (at : ℕ) (rows : List (List ℕ)) (bytes : List ℕ) →
     map (λ (b : Block). field bytes b.at b.bytes) (blocks_from at rows) ≡ annotations_blocks rows
@@ -26,7 +26,7 @@ blocks-from at (row ∷ rows) bytes =
     (blocks_from next rows) ≡ annotations_blocks rows (drop size (drop at bytes)) =
     blocks-from next rows bytes ∙ ap (annotations_blocks rows) after in
     let rest = filter (λ (p : List ℕ × List ℕ). has_label p.0)
-    (in_turn rows (drop size (drop at bytes))) in
+    (split_by_signal rows (drop size (drop at bytes))) in
     elim (has_label row) as (λ b. map (λ (b : Block). field bytes b.at b.bytes)
     (cond b (record { at = at; bytes = size } ∷ blocks_from next rows) (blocks_from next rows))
     ≡ map (λ (p : List ℕ × List ℕ). p.1) (cond b ((row, take size (drop at bytes)) ∷ rest) rest)) [
@@ -36,7 +36,7 @@ blocks-from at (row ∷ rows) bytes =
 
 outside-of : (from at : ℕ) (rows : List (List ℕ)) (bytes : List ℕ) → from ≤ at →
     at + 2 * samples_in_all rows ≡ length bytes
-    → outside from (blocks_from at rows) bytes ≡ field bytes from (at - from)
+    → bytes_outside from (blocks_from at rows) bytes ≡ field bytes from (at - from)
     ++ ordinary_samples rows (drop at bytes)
 outside-of from at [] bytes le all =
     let short : length (drop from bytes) ≤ at - from = omega (arith, all, length-drop from bytes) in
@@ -49,12 +49,12 @@ outside-of from at (row ∷ rows) bytes le all =
     omega (arith, all, sum_by-cons samples row rows) in
     let after : drop next bytes ≡ drop size (drop at bytes) = sym (drop-drop size at bytes) in
     let rest = filter (λ (p : List ℕ × List ℕ). not (has_label p.0))
-    (in_turn rows (drop size (drop at bytes))) in
+    (split_by_signal rows (drop size (drop at bytes))) in
     let others : List ℕ = flat_map (λ (p : List ℕ × List ℕ). p.1) rest in
     let later : ordinary_samples rows (drop next bytes) ≡ others =
     ap (ordinary_samples rows) after in
     let none : next - next ≡ 0 = omega arith in
-    let closed : outside next (blocks_from next rows) bytes ≡ others =
+    let closed : bytes_outside next (blocks_from next rows) bytes ≡ others =
     outside-of next next rows bytes (omega arith) end
     ∙ ap (λ (n : ℕ). field bytes next n ++ ordinary_samples rows (drop next bytes)) none
     ∙ later in
@@ -66,13 +66,13 @@ outside-of from at (row ∷ rows) bytes le all =
     ++ take size (drop at bytes) =
     ap (λ (n : ℕ). field bytes from n) sum ∙ take-add (at - from) size (drop from bytes)
     ∙ ap (λ (l : List ℕ). field bytes from (at - from) ++ take size l) here in
-    let apart : outside from (blocks_from next rows) bytes ≡ field bytes from (at - from)
+    let apart : bytes_outside from (blocks_from next rows) bytes ≡ field bytes from (at - from)
     ++ (take size (drop at bytes) ++ others) =
     outside-of from next rows bytes (omega arith) end
     ∙ ap (λ (l : List ℕ). l ++ ordinary_samples rows (drop next bytes)) both
     ∙ ap (λ (l : List ℕ). (field bytes from (at - from) ++ take size (drop at bytes)) ++ l) later
     ∙ append_assoc (field bytes from (at - from)) (take size (drop at bytes)) others in
-    elim (has_label row) as (λ b. outside from
+    elim (has_label row) as (λ b. bytes_outside from
     (cond b (record { at = at; bytes = size } ∷ blocks_from next rows) (blocks_from next rows))
     bytes
     ≡ field bytes from (at - from)

@@ -14,7 +14,7 @@ use Rattle.edf_header.specs.Header.{most_records}
 use Rattle.edf_header.specs.declared.header.Block.{Block}
 use Rattle.edf_tal.specs.Block.{split_by_sizes}
 use Rattle.edf_tal.proofs.Cited.{cut-joined}
-use Rattle.edf_fragment.specs.Fragment.{outside, blocks, ordinary_bytes}
+use Rattle.edf_fragment.specs.Fragment.{bytes_outside, blocks, ordinary_bytes}
 use Rattle.edf_fragment.proofs.HeaderParts.{field_front}
 
 -- the bytes of blocks, and these joined
@@ -44,7 +44,7 @@ length-field bytes at n within =
 
 pub length-outside : (from : ℕ) (bs : List Block) (bytes : List ℕ) →
     AreApart from bs (length bytes) →
-    length (outside from bs bytes) + sum_by (λ b. b.bytes) bs + from ≡ length bytes
+    length (bytes_outside from bs bytes) + sum_by (λ b. b.bytes) bs + from ≡ length bytes
 length-outside from [] bytes apart = omega (arith, length-drop from bytes, apart)
 length-outside from (b ∷ bs) bytes (here, apart) =
     let within = apart-within (b.at + b.bytes) bs (length bytes) apart in
@@ -53,7 +53,7 @@ length-outside from (b ∷ bs) bytes (here, apart) =
       here,
       within,
       length-outside (b.at + b.bytes) bs bytes apart,
-      length-append (field bytes from (b.at - from)) (outside (b.at + b.bytes) bs bytes),
+      length-append (field bytes from (b.at - from)) (bytes_outside (b.at + b.bytes) bs bytes),
       length-field bytes from (b.at - from) (omega (arith, here, within)),
       sum_by-cons (λ (x : Block). x.bytes) b bs,
     )

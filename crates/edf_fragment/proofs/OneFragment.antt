@@ -11,8 +11,8 @@ use Rattle.edf_tal.specs.declared.place.Place.TheVariants.{First}
 use Rattle.edf_tal.specs.declared.place.TalFault.{TalFault}
 use Rattle.edf_tal.proofs.Cited.{blocks-one-read, blocks-read-no-fault, blocks-one-fault}
 use Rattle.edf_fragment.specs.Fragment.{DataRecord, IsDataRecord, AreDataRecords, place_after}
-use Rattle.edf_fragment.specs.Fragment.{blocks, Spells}
-use Rattle.edf_fragment.specs.Fault.{ReadsUpTo, IsCutRecord, IsRefusedBlock, IsTrailing}
+use Rattle.edf_fragment.specs.Fragment.{blocks, IsFragmentFile}
+use Rattle.edf_fragment.specs.Fault.{ParsedUpToFault, IsCutRecord, IsRefusedBlock, IsTrailing}
 use Rattle.edf_fragment.specs.Fault.{IsFirstFault}
 use Rattle.edf_fragment.specs.declared.fault.FragmentFault.{FragmentFault}
 use Rattle.edf_fragment.specs.declared.fault.FragmentFault.TheVariants.{Header as BadHeader}
@@ -113,7 +113,7 @@ one-run l f p q b x y rs ss a c stuck stuck2 =
 -- ---- where a fragment or a fault stops
 
 cut-stuck : (b : List ℕ) (nth : ℕ) (p : IsCutRecord b nth) →
-    IsStuck (layout_of p.up_to.header) p.up_to.records p.up_to.last p.up_to.left
+    IsStuck (layout_of p.up_to.header) p.up_to.records p.up_to.last p.up_to.remaining
 cut-stuck b nth p = record {
   within = omega (arith, p.is_nth, p.may_come);
   none = λ low front back r parts is. omega (
@@ -125,17 +125,17 @@ cut-stuck b nth p = record {
 }
 
 -- the layout of the header that was read
-layout-up-to : (b : List ℕ) (u : ReadsUpTo b) → IsLayout (layout_of u.header)
+layout-up-to : (b : List ℕ) (u : ParsedUpToFault b) → IsLayout (layout_of u.header)
 layout-up-to b u = header-has-layout b u.header u.rest u.is_header
 
 block-stuck : (b : List ℕ) (nth : ℕ) (e : TalFault) (p : IsRefusedBlock b nth e) →
-    IsStuck (layout_of p.up_to.header) p.up_to.records p.up_to.last p.up_to.left
+    IsStuck (layout_of p.up_to.header) p.up_to.records p.up_to.last p.up_to.remaining
 block-stuck b nth e p =
     let l = layout_of p.up_to.header in
     record {
       within = omega (arith, p.is_nth, p.may_come);
       none = λ low front back r parts is.
-          let same : blocks l p.up_to.left ≡ blocks l front = ap (blocks l) parts
+          let same : blocks l p.up_to.remaining ≡ blocks l front = ap (blocks l) parts
           ∙ blocks-front l front back (layout-up-to b p.up_to) (omega (arith, is.len)) in
           blocks-read-no-fault (blocks l front) l.start p.up_to.last r.start r.annotations e is.read
           (subst (λ (z : List (List ℕ)). IsFirstBlocksFault z l.start p.up_to.last e) same
@@ -151,8 +151,9 @@ all-stuck l rs p x all = record {
 }
 
 trailing-stuck : (b : List ℕ) (p : IsTrailing b) →
-    IsStuck (layout_of p.up_to.header) p.up_to.records p.up_to.last p.up_to.left
-trailing-stuck b p = all-stuck (layout_of p.up_to.header) p.up_to.records p.up_to.last p.up_to.left
+    IsStuck (layout_of p.up_to.header) p.up_to.records p.up_to.last p.up_to.remaining
+trailing-stuck b p = all-stuck (layout_of p.up_to.header) p.up_to.records p.up_to.last
+    p.up_to.remaining
     p.all
 
 -- nothing is left for a data record
@@ -168,18 +169,19 @@ none-stuck l rs p i within = record {
   );
 }
 
-abbrev spelled : (b : List ℕ) (k : Key) (rs : List DataRecord) → Spells b k rs → ReadsUpTo b
+abbrev spelled : (b : List ℕ) (k : Key) (rs : List DataRecord) → IsFragmentFile b k rs →
+    ParsedUpToFault b
 spelled b k rs s = record {
   header = s.header;
   rest = s.rest;
   records = rs;
   last = s.last;
-  left = [];
+  remaining = [];
   is_header = s.is_header;
   are_records = s.are_records;
 }
 
-spelled-stuck : (b : List ℕ) (k : Key) (rs : List DataRecord) (s : Spells b k rs) →
+spelled-stuck : (b : List ℕ) (k : Key) (rs : List DataRecord) (s : IsFragmentFile b k rs) →
     IsStuck (layout_of s.header) rs s.last []
 spelled-stuck b k rs s = none-stuck (layout_of s.header) rs s.last
     (layout-up-to b (spelled b k rs s)) s.most
@@ -212,7 +214,7 @@ record SameNumbers (h g : HeaderRecord) (rs ss : List DataRecord) (x y : List �
   least : least_records (layout_of h).count ≡ least_records (layout_of g).count
   most : most_records (layout_of h).count ≡ most_records (layout_of g).count
   size : (layout_of h).record_bytes ≡ (layout_of g).record_bytes
-  left : length x ≡ length y
+  remaining : length x ≡ length y
 
 numbers : (h g : HeaderRecord) (rs ss : List DataRecord) (p q : Place) (x y : List ℕ) →
     SameEnd h g rs ss p q x y → SameNumbers h g rs ss x y
@@ -221,21 +223,24 @@ numbers h g rs ss p q x y e = record {
   least = ap (λ (z : HeaderRecord). least_records (layout_of z).count) e.header;
   most = ap (λ (z : HeaderRecord). most_records (layout_of z).count) e.header;
   size = ap (λ (z : HeaderRecord). (layout_of z).record_bytes) e.header;
-  left = ap (λ (z : List ℕ). length z) e.run.rest;
+  remaining = ap (λ (z : List ℕ). length z) e.run.rest;
 }
 
 -- two readings of the same bytes that both stop
-both : (b : List ℕ) (u v : ReadsUpTo b) → IsStuck (layout_of u.header) u.records u.last u.left →
-    IsStuck (layout_of v.header) v.records v.last v.left
-    → SameEnd u.header v.header u.records v.records u.last v.last u.left v.left
-both b u v s t = same-end b u.rest v.rest u.header v.header u.records v.records u.last v.last u.left
-    v.left u.is_header v.is_header u.are_records v.are_records s t
+both : (b : List ℕ) (u v : ParsedUpToFault b) →
+    IsStuck (layout_of u.header) u.records u.last u.remaining →
+    IsStuck (layout_of v.header) v.records v.last v.remaining
+    → SameEnd u.header v.header u.records v.records u.last v.last u.remaining v.remaining
+both b u v s t = same-end b u.rest v.rest u.header v.header u.records v.records u.last v.last
+    u.remaining
+    v.remaining u.is_header v.is_header u.are_records v.are_records s t
 
-both-numbers : (b : List ℕ) (u v : ReadsUpTo b) →
-    IsStuck (layout_of u.header) u.records u.last u.left →
-    IsStuck (layout_of v.header) v.records v.last v.left
-    → SameNumbers u.header v.header u.records v.records u.left v.left
-both-numbers b u v s t = numbers u.header v.header u.records v.records u.last v.last u.left v.left
+both-numbers : (b : List ℕ) (u v : ParsedUpToFault b) →
+    IsStuck (layout_of u.header) u.records u.last u.remaining →
+    IsStuck (layout_of v.header) v.records v.last v.remaining
+    → SameNumbers u.header v.header u.records v.records u.remaining v.remaining
+both-numbers b u v s t = numbers u.header v.header u.records v.records u.last v.last u.remaining
+    v.remaining
     (both b u v s t)
 
 -- ---- the laws
@@ -244,8 +249,8 @@ pub record SameFragment (k j : Key) (rs ss : List DataRecord) : Type 0 where
   pub key : k ≡ j
   pub records : rs ≡ ss
 
-pub one-fragment : (b : List ℕ) (k j : Key) (rs ss : List DataRecord) → Spells b k rs →
-    Spells b j ss → SameFragment k j rs ss
+pub one-fragment : (b : List ℕ) (k j : Key) (rs ss : List DataRecord) → IsFragmentFile b k rs →
+    IsFragmentFile b j ss → SameFragment k j rs ss
 one-fragment b k j rs ss s t =
     let e = both b (spelled b k rs s) (spelled b j ss t) (spelled-stuck b k rs s)
     (spelled-stuck b j ss t) in
@@ -267,7 +272,7 @@ block-trailing b n f p q =
 cut-block : (b : List ℕ) (n m : ℕ) (f : TalFault) → IsCutRecord b n → ¬ IsRefusedBlock b m f
 cut-block b n m f p q =
     let e = both-numbers b p.up_to q.up_to (cut-stuck b n p) (block-stuck b m f q) in
-    omega (arith, e.size, e.left, p.cut, q.whole)
+    omega (arith, e.size, e.remaining, p.cut, q.whole)
 
 one-cut : (b : List ℕ) (n m : ℕ) → IsCutRecord b n → IsCutRecord b m → n ≡ m
 one-cut b n m p q =
@@ -285,9 +290,9 @@ one-refused b n m e f p q =
     let k = both-numbers b p.up_to q.up_to (block-stuck b n e p) (block-stuck b m f q) in
     let g = q.up_to.header in
     let here = subst (λ (z : HeaderRecord).
-    IsFirstBlocksFault (blocks (layout_of z) p.up_to.left) (layout_of z).start p.up_to.last e)
+    IsFirstBlocksFault (blocks (layout_of z) p.up_to.remaining) (layout_of z).start p.up_to.last e)
     s.header p.refused in
-    let place = subst (λ (z : Place). IsFirstBlocksFault (blocks (layout_of g) p.up_to.left)
+    let place = subst (λ (z : Place). IsFirstBlocksFault (blocks (layout_of g) p.up_to.remaining)
     (layout_of g).start z e) s.run.place here in
     let there = subst (λ (z : List ℕ). IsFirstBlocksFault (blocks (layout_of g) z)
     (layout_of g).start
@@ -295,7 +300,8 @@ one-refused b n m e f p q =
     record {
       nth = omega (arith, k.given, p.is_nth, q.is_nth);
       fault =
-          blocks-one-fault (blocks (layout_of g) q.up_to.left) (layout_of g).start q.up_to.last e f
+          blocks-one-fault (blocks (layout_of g) q.up_to.remaining)
+          (layout_of g).start q.up_to.last e f
           there q.refused;
     }
 
@@ -333,25 +339,30 @@ one-first-fault b Trailing f p q = absurd q
 one-first-fault b e f p q = absurd p
 
 -- a data record that is cut must come, or a byte of it is there
-spelled-cut : (b : List ℕ) (k : Key) (rs : List DataRecord) (n : ℕ) → Spells b k rs →
+spelled-cut : (b : List ℕ) (k : Key) (rs : List DataRecord) (n : ℕ) → IsFragmentFile b k rs →
     ¬ IsCutRecord b n
 spelled-cut b k rs n s f =
     let e = both-numbers b (spelled b k rs s) f.up_to (spelled-stuck b k rs s) (cut-stuck b n f) in
     elim f.there [
       | inl wanted ↦ omega (arith, e.given, e.least, s.least, f.is_nth, wanted)
-      | inr some ↦ omega (arith, e.left, some)
+      | inr some ↦ omega (arith, e.remaining, some)
     ]
 
 pub spelled-no-fault : (b : List ℕ) (k : Key) (rs : List DataRecord) (e : FragmentFault) →
-    Spells b k rs → ¬ IsFirstFault b e
+    IsFragmentFile b k rs → ¬ IsFirstFault b e
 spelled-no-fault b k rs (BadHeader e) s f = header-no-fault b s.header s.rest e s.is_header f
 spelled-no-fault b k rs (CutRecord n) s f = spelled-cut b k rs n s f
 spelled-no-fault b k rs (Tal n g) s f =
     let e = both-numbers b (spelled b k rs s) f.up_to (spelled-stuck b k rs s)
     (block-stuck b n g f) in
-    omega (arith, e.left, f.whole, record-some (layout_of f.up_to.header) (layout-up-to b f.up_to))
+    omega (
+      arith,
+      e.remaining,
+      f.whole,
+      record-some (layout_of f.up_to.header) (layout-up-to b f.up_to),
+    )
 spelled-no-fault b k rs Trailing s f =
     let e = both-numbers b (spelled b k rs s) f.up_to (spelled-stuck b k rs s)
     (trailing-stuck b f) in
-    omega (arith, e.left, f.more)
+    omega (arith, e.remaining, f.more)
 spelled-no-fault b k rs e s f = f

@@ -13,8 +13,8 @@ use Rattle.edf_tal.specs.declared.place.Place.{Place}
 use Rattle.edf_tal.specs.declared.place.Place.TheVariants.{First}
 use Rattle.edf_tal.proofs.Cited.{blocks-some-answer}
 use Rattle.edf_fragment.specs.Fragment.{DataRecord, IsDataRecord, AreDataRecords, place_after}
-use Rattle.edf_fragment.specs.Fragment.{blocks, ordinary_bytes, Spells}
-use Rattle.edf_fragment.specs.Fault.{ReadsUpTo, IsFirstFault}
+use Rattle.edf_fragment.specs.Fragment.{blocks, ordinary_bytes, IsFragmentFile}
+use Rattle.edf_fragment.specs.Fault.{ParsedUpToFault, IsFirstFault}
 use Rattle.edf_fragment.specs.declared.fault.FragmentFault.{FragmentFault}
 use Rattle.edf_fragment.specs.declared.fault.FragmentFault.TheVariants.{Header as BadHeader}
 use Rattle.edf_fragment.specs.declared.fault.FragmentFault.TheVariants.{CutRecord, Tal, Trailing}
@@ -41,19 +41,19 @@ AreDataRecords-next l p q b left front back (x ∷ rs) r (first, others, halves,
 
 -- a key and data records, or a fault
 abbrev pub HasAnswer : List ℕ → Type 0
-HasAnswer b = ((k : Key) × (rs : List DataRecord) × Spells b k rs)
+HasAnswer b = ((k : Key) × (rs : List DataRecord) × IsFragmentFile b k rs)
     ⊎ ((e : FragmentFault) × IsFirstFault b e)
 
 module _ (b : List ℕ) (h : HeaderRecord) (rest : List ℕ) (is : IsHeader b h rest) where
   -- so far
   abbrev up-to : (rs : List DataRecord) (last : Place) (left : List ℕ) →
-      AreDataRecords (layout_of h) First rest rs last left → ReadsUpTo b
+      AreDataRecords (layout_of h) First rest rs last left → ParsedUpToFault b
   up-to rs last left are = record {
     header = h;
     rest = rest;
     records = rs;
     last = last;
-    left = left;
+    remaining = left;
     is_header = is;
     are_records = are;
   }

@@ -15,8 +15,8 @@ use Rattle.edf_header.specs.declared.fault.HeaderFault.TheVariants.{CutSignals}
 use Rattle.edf_tal.specs.declared.place.Place.{Place}
 use Rattle.edf_tal.specs.declared.place.Place.TheVariants.{First}
 use Rattle.edf_fragment.specs.Fragment.{DataRecord, IsDataRecord, AreDataRecords, place_after}
-use Rattle.edf_fragment.specs.Reading.{GivesRecord, AnswersIn, IsAnswer, progress_after}
-use Rattle.edf_fragment.specs.Whole.{HasRead}
+use Rattle.edf_fragment.specs.Reading.{ReadsRecord, IsAnswerInState, IsAnswer, progress_after}
+use Rattle.edf_fragment.specs.Whole.{HasReadRecords}
 use Rattle.edf_fragment.specs.declared.advance.Progress.{Progress}
 use Rattle.edf_fragment.specs.declared.advance.ReaderState.{ReaderState}
 use Rattle.edf_fragment.specs.declared.advance.ReaderState.TheVariants.{Reading}
@@ -136,16 +136,16 @@ IsHeaderFault-more b more e none (inr (n, clean, has, first)) =
 pub next_of : (l : Layout) (p q : Progress) (mid rest : Option (List ℕ)) (o : Option DataRecord)
     (r : DataRecord) → p.state ≡ Reading
     → IsAnswer l p q mid rest (Ok o) → o ≡ Some r → (q ≡ progress_after l p (Ok (Some r)))
-    × GivesRecord l p mid rest r
+    × ReadsRecord l p mid rest r
 next_of l p q mid rest o r going answer is =
-    subst (λ (x : Option DataRecord). AnswersIn Reading l p q mid rest (Ok x)) is
-    (subst (λ (s : ReaderState). AnswersIn s l p q mid rest (Ok o)) going answer)
+    subst (λ (x : Option DataRecord). IsAnswerInState Reading l p q mid rest (Ok x)) is
+    (subst (λ (s : ReaderState). IsAnswerInState s l p q mid rest (Ok o)) going answer)
 
 -- one more record was read
 pub reads_more : (l : Layout) (left mid rest : Option (List ℕ)) (rs : List DataRecord)
-    (p q : Progress) (r : DataRecord) → HasRead l left mid rs p
-    → q ≡ progress_after l p (Ok (Some r)) → GivesRecord l p mid rest r →
-    HasRead l left rest (rs ++ r ∷ []) q
+    (p q : Progress) (r : DataRecord) → HasReadRecords l left mid rs p
+    → q ≡ progress_after l p (Ok (Some r)) → ReadsRecord l p mid rest r →
+    HasReadRecords l left rest (rs ++ r ∷ []) q
 reads_more l left mid rest rs p q r before is gives =
     let place : q.place ≡ place_after l r.start = ap (λ (x : Progress). x.place) is in
     let given : q.given ≡ p.given + 1 = ap (λ (x : Progress). x.given) is in

@@ -21,10 +21,10 @@ use Rattle.edf_tal.specs.declared.place.Place.{Place}
 use Rattle.edf_tal.specs.declared.place.Place.TheVariants.{First, After, Any}
 use Rattle.edf_tal.proofs.Cited.{blocks-read-start, blocks-read-annotations}
 use Rattle.edf_fragment.specs.Fragment.{DataRecord, IsDataRecord, AreDataRecords, place_after}
-use Rattle.edf_fragment.specs.Fragment.{ordinary_bytes, Spells}
+use Rattle.edf_fragment.specs.Fragment.{ordinary_bytes, IsFragmentFile}
 use Rattle.edf_fragment.specs.Sound.{IsValidRecord, IsSoundRecord, AreSound, MayBegin}
 use Rattle.edf_fragment.specs.Reading.{ReadsHeader, IsNext}
-use Rattle.edf_fragment.specs.Whole.{HasRead}
+use Rattle.edf_fragment.specs.Whole.{HasReadRecords}
 use Rattle.edf_fragment.specs.declared.advance.Progress.{Progress}
 use Rattle.edf_fragment.specs.declared.fault.FragmentFault.{FragmentFault}
 use Rattle.edf_fragment.proofs.Layouts.{record-some, ordinary-len}
@@ -132,33 +132,34 @@ may-begin l bytes (r ∷ rs) last rest in_layout (front, back, parts, is, more) 
 -- ---- what the header says of them
 
 -- the bounds of the header that bytes spell
-spelled-layout : (bytes : List ℕ) (k : Key) (rs : List DataRecord) (s : Spells bytes k rs) →
+spelled-layout : (bytes : List ℕ) (k : Key) (rs : List DataRecord) (s : IsFragmentFile bytes k rs) →
     IsLayout (layout_of s.header)
 spelled-layout bytes k rs s = header-has-layout bytes s.header s.rest s.is_header
 
-pub spelled-key : (bytes : List ℕ) (k : Key) (rs : List DataRecord) → Spells bytes k rs → IsKey k
+pub spelled-key : (bytes : List ℕ) (k : Key) (rs : List DataRecord) → IsFragmentFile bytes k rs →
+    IsKey k
 spelled-key bytes k rs s = subst IsKey (sym s.key) (spelled-layout bytes k rs s).key
 
-pub spelled-lasts : (bytes : List ℕ) (k : Key) (rs : List DataRecord) → Spells bytes k rs →
+pub spelled-lasts : (bytes : List ℕ) (k : Key) (rs : List DataRecord) → IsFragmentFile bytes k rs →
     0 < duration_of k.duration
 spelled-lasts bytes k rs s = key-duration-some k (spelled-key bytes k rs s)
 
-pub spelled-some : (bytes : List ℕ) (k : Key) (rs : List DataRecord) → Spells bytes k rs →
+pub spelled-some : (bytes : List ℕ) (k : Key) (rs : List DataRecord) → IsFragmentFile bytes k rs →
     1 ≤ length rs
 spelled-some bytes k rs s = omega (arith, s.least, (spelled-layout bytes k rs s).count.0)
 
-pub spelled-few : (bytes : List ℕ) (k : Key) (rs : List DataRecord) → Spells bytes k rs →
+pub spelled-few : (bytes : List ℕ) (k : Key) (rs : List DataRecord) → IsFragmentFile bytes k rs →
     length rs ≤ MOST_RECORDS
 spelled-few bytes k rs s = omega (arith, s.most, (spelled-layout bytes k rs s).count.1)
 
-pub spelled-sound : (bytes : List ℕ) (k : Key) (rs : List DataRecord) → Spells bytes k rs →
+pub spelled-sound : (bytes : List ℕ) (k : Key) (rs : List DataRecord) → IsFragmentFile bytes k rs →
     AreSound k 0 rs
 spelled-sound bytes k rs s =
     subst (λ (x : Key). AreSound x 0 rs) (sym s.key)
     (are-sound (layout_of s.header) First s.rest rs s.last [] (spelled-layout bytes k rs s)
     s.are_records)
 
-pub spelled-begins : (bytes : List ℕ) (k : Key) (rs : List DataRecord) → Spells bytes k rs →
+pub spelled-begins : (bytes : List ℕ) (k : Key) (rs : List DataRecord) → IsFragmentFile bytes k rs →
     MayBegin k rs
 spelled-begins bytes k rs s =
     subst (λ (x : Key). MayBegin x rs) (sym s.key)
@@ -175,12 +176,12 @@ pub read-key : (left rest : Option (List ℕ)) (l : Layout) → ReadsHeader left
 read-key left rest l h = (read-layout left rest l h).key
 
 pub read-sound : (left one two : Option (List ℕ)) (l : Layout) (rs : List DataRecord)
-    (p : Progress) → ReadsHeader left one l → HasRead l one two rs p → AreSound l.key 0 rs
+    (p : Progress) → ReadsHeader left one l → HasReadRecords l one two rs p → AreSound l.key 0 rs
 read-sound left one two l rs p h b =
     are-sound l First b.bytes rs p.place [] (read-layout left one l h) b.are_records
 
 pub read-begins : (left one two : Option (List ℕ)) (l : Layout) (rs : List DataRecord)
-    (p : Progress) → ReadsHeader left one l → HasRead l one two rs p → MayBegin l.key rs
+    (p : Progress) → ReadsHeader left one l → HasReadRecords l one two rs p → MayBegin l.key rs
 read-begins left one two l rs p h b =
     may-begin l b.bytes rs p.place [] (read-layout left one l h) b.are_records
 
@@ -241,7 +242,8 @@ sound_sizes k low (r ∷ rs) (one, lower, more) =
 
 pub read-front : (all : List ℕ) (one two : Option (List ℕ)) (l : Layout) (rs : List DataRecord)
     (p : Progress) (k : Key) (others : List DataRecord)
-    → ReadsHeader (Some all) one l → HasRead l one two rs p → Spells all k others → (k ≡ l.key)
+    → ReadsHeader (Some all) one l → HasReadRecords l one two rs p → IsFragmentFile all k others →
+    (k ≡ l.key)
     × Begins others rs
 read-front all None two l rs p k others h b s = absurd h.read
 read-front all (Some one) None l rs p k others h b s = absurd b.read

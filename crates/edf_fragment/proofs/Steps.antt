@@ -8,8 +8,8 @@ use Rattle.edf_tal.specs.Block.{BlocksParseTo, IsFirstBlocksFault, IsBlocksRefus
 use Rattle.edf_tal.specs.declared.place.TalFault.{TalFault}
 use Rattle.edf_tal.specs.declared.place.TalFault.TheVariants.{Memory as TalMemory}
 use Rattle.edf_fragment.specs.Fragment.{DataRecord, IsDataRecord, blocks, ordinary_bytes}
-use Rattle.edf_fragment.specs.Reading.{GivesRecord, EndsThere}
-use Rattle.edf_fragment.specs.Stops.{ReadsFewer, RefusesBlock}
+use Rattle.edf_fragment.specs.Reading.{ReadsRecord, IsEndOfRecords}
+use Rattle.edf_fragment.specs.Stops.{ReadsFewerBytes, RefusesBlock}
 use Rattle.edf_fragment.specs.Reading.{IsNextFault}
 use Rattle.edf_fragment.specs.declared.advance.Progress.{Progress}
 use Rattle.edf_fragment.specs.declared.fault.FragmentFault.{FragmentFault}
@@ -17,8 +17,8 @@ use Rattle.edf_fragment.specs.declared.fault.FragmentFault.TheVariants.{Tal, Mem
 use Rattle.edf_fragment.proofs.Layouts.{joined, cut-blocks}
 
 -- fewer bytes are within more
-pub fewer : (n m : ℕ) (left rest : Option (List ℕ)) → n ≤ m → ReadsFewer n left rest →
-    ReadsFewer m left rest
+pub fewer : (n m : ℕ) (left rest : Option (List ℕ)) → n ≤ m → ReadsFewerBytes n left rest →
+    ReadsFewerBytes m left rest
 fewer n m left rest low r = record {
   bytes = r.bytes;
   read = r.read;
@@ -32,7 +32,7 @@ no-bytes left rest [] low read = read
 no-bytes left rest (x ∷ bytes) low read = absurd (omega arith)
 
 -- no byte, where fewer than one were read
-pub none-read : (n : ℕ) (left rest : Option (List ℕ)) → n ≤ 1 → ReadsFewer n left rest →
+pub none-read : (n : ℕ) (left rest : Option (List ℕ)) → n ≤ 1 → ReadsFewerBytes n left rest →
     Consumes left rest []
 none-read n left rest low r = no-bytes left rest r.bytes (omega (arith, r.fewer)) r.read
 
@@ -55,7 +55,7 @@ pub record HasWhole (l : Layout) (p : Progress) (left rest : Option (List ℕ))
 given_whole : (l : Layout) (p : Progress) (left rest : Option (List ℕ)) (whole : List ℕ)
     (r : DataRecord) → HasWhole l p left rest whole
     → BlocksParseTo (blocks l whole) l.start p.place r.start r.annotations →
-    r.samples ≡ ordinary_bytes l whole → GivesRecord l p left rest r
+    r.samples ≡ ordinary_bytes l whole → ReadsRecord l p left rest r
 given_whole l p left rest whole r h read samples =
     let is : IsDataRecord l p.place whole r =
     record { len = h.len; read = read; samples_are = samples } in
@@ -106,7 +106,7 @@ pub record WasCut (l : Layout) (p : Progress) (left rest : Option (List ℕ)) (w
 -- by the buffers: the whole data record, its samples, its joined blocks and their sizes
 pub was_cut : (l : Layout) (p : Progress) (left rest : Option (List ℕ)) (there : Bool)
     (whole filled samples block sizes : List ℕ) → IsLayout l → p.given < most_records l.count
-    → MatchBool there (Consumes left rest filled) (EndsThere l p left rest) → there ≡ true →
+    → MatchBool there (Consumes left rest filled) (IsEndOfRecords l p left rest) → there ≡ true →
     length filled ≡ l.record_bytes → whole ≡ filled
     → samples ≡ ordinary_bytes l whole → block ≡ joined (blocks l whole) →
     sizes ≡ map (λ b. b.bytes) l.blocks →
@@ -114,7 +114,7 @@ pub was_cut : (l : Layout) (p : Progress) (left rest : Option (List ℕ)) (there
 was_cut l p left rest there whole filled samples block sizes i wanted step is-there len same
     samples-are block-is sizes-are =
     let read : Consumes left rest filled =
-    subst (λ (b : Bool). MatchBool b (Consumes left rest filled) (EndsThere l p left rest))
+    subst (λ (b : Bool). MatchBool b (Consumes left rest filled) (IsEndOfRecords l p left rest))
     is-there step in
     let whole-len : length whole ≡ l.record_bytes = ap (λ (x : List ℕ). length x) same ∙ len in
     record {
@@ -133,7 +133,7 @@ pub given_record : (l : Layout) (p : Progress) (left rest : Option (List ℕ))
     (whole samples : List ℕ) (bs : List (List ℕ)) (s : ℕ) (r t : DataRecord) →
     WasCut l p left rest whole samples bs
     → s ≡ l.start → BlocksParseTo bs s p.place t.start t.annotations → r ≡ t → t.samples ≡ samples →
-    GivesRecord l p left rest r
+    ReadsRecord l p left rest r
 given_record l p left rest whole samples bs s r t c from read same same-samples =
     let here = subst (λ (x : List (List ℕ)). BlocksParseTo x s p.place t.start t.annotations)
     c.blocks_are
@@ -141,7 +141,7 @@ given_record l p left rest whole samples bs s r t c from read same same-samples 
     let there = subst (λ (n : ℕ). BlocksParseTo (blocks l whole) n p.place t.start t.annotations)
     from
     here in
-    subst (GivesRecord l p left rest) (sym same)
+    subst (ReadsRecord l p left rest) (sym same)
     (given_whole l p left rest whole t c.has there (same-samples ∙ c.samples_are))
 
 -- the fault of its refused blocks

@@ -7,34 +7,34 @@ use Rattle.edf_fragment.specs.declared.fault.FragmentFault.{FragmentFault}
 use Rattle.edf_fragment.specs.declared.open_fragment.OpenFragment.{OpenFragment}
 use Rattle.edf_fragment.specs.declared.streams.Input.{Ghosts}
 
--- an input: the bytes that it has left, where these are known, and how many of its reads failed so
--- far
+-- an input: the bytes that remain, where these are known, and how many of its reads failed so far
 pub record InputState : Type 0 where
-  pub left : Option (List ℕ)
+  pub remaining : Option (List ℕ)
   pub failed : ℕ
 
 abbrev pub input_state : {R : Type 0} → Ghosts R → R → InputState
-input_state g input = record { left = g.remaining input; failed = g.failures input }
+input_state g input = record { remaining = g.remaining input; failed = g.failures input }
 
 -- the answer says this of the bytes that were read for it; and one more read failed where a failed
 -- read is the answer, and else none
 pub record ReadsInput {X : Type 0}
     (Says : Option (List ℕ) → Option (List ℕ) → Result X FragmentFault → Type 0)
     (before after : InputState) (result : Result X FragmentFault) : Type 0 where
-  pub step : Says before.left after.left result
+  pub step : Says before.remaining after.remaining result
   pub counted : CountsAnswer before.failed after.failed result
 
 -- an answer is a value, of which the one is said, or a fault, of which the other is
-abbrev pub ValueOr : {X : Type 0} → (Option (List ℕ) → Option (List ℕ) → X → Type 0) →
+abbrev pub ValueOrFault : {X : Type 0} → (Option (List ℕ) → Option (List ℕ) → X → Type 0) →
     (Option (List ℕ) → Option (List ℕ) → FragmentFault → Type 0) →
     Option (List ℕ) → Option (List ℕ) → Result X FragmentFault → Type 0
-ValueOr Value Fault left rest result = MatchResult result (Value left rest) (Fault left rest)
+ValueOrFault Value Fault input rest result =
+    MatchResult result (Value input rest) (Fault input rest)
 
 -- the answer to a call for the next data record, and how far the reader is then; the header stays,
 -- and a data record that is given is one of the header's recording
 pub record ReadsNext (old new : OpenFragment) (before after : InputState)
     (result : Result (Option DataRecord) FragmentFault) : Type 0 where
   pub header : new.header ≡ old.header
-  pub answer : IsAnswer old.header old.progress new.progress before.left after.left result
+  pub answer : IsAnswer old.header old.progress new.progress before.remaining after.remaining result
   pub sound : IfOk result (λ next. IfSome next (λ r. IsSoundRecord old.header.key r))
   pub counted : CountsAnswer before.failed after.failed result

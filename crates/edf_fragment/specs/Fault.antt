@@ -17,48 +17,48 @@ use Rattle.edf_fragment.specs.declared.fault.FragmentFault.TheVariants.{Header a
 use Rattle.edf_fragment.specs.declared.fault.FragmentFault.TheVariants.{CutRecord, Tal, Trailing}
 use Rattle.edf_fragment.specs.declared.fault.FragmentFault.TheVariants.{Read, Memory, Failed}
 
--- a header, the data records before the fault, and what is left of the bytes
-pub record ReadsUpTo (bytes : List ℕ) : Type 0 where
+-- a header, the data records before the fault, and the bytes that remain
+pub record ParsedUpToFault (bytes : List ℕ) : Type 0 where
   pub header : HeaderRecord
   pub rest : List ℕ
   pub records : List DataRecord
   pub last : Place
-  pub left : List ℕ
+  pub remaining : List ℕ
   pub is_header : IsHeader bytes header rest
-  pub are_records : AreDataRecords (layout_of header) First rest records last left
+  pub are_records : AreDataRecords (layout_of header) First rest records last remaining
 
 -- its layout
-abbrev pub layout : {bytes : List ℕ} → ReadsUpTo bytes → Layout
+abbrev pub layout : {bytes : List ℕ} → ParsedUpToFault bytes → Layout
 layout u = layout_of u.header
 
 -- the number, from 1, of the record that is next
-abbrev pub next_nth : {bytes : List ℕ} → ReadsUpTo bytes → ℕ
+abbrev pub next_nth : {bytes : List ℕ} → ParsedUpToFault bytes → ℕ
 next_nth u = length u.records + 1
 
 -- the input ends inside a record, or before one that must come: each that the header counts, or,
 -- where its count is -1, the first; any byte after it begins another
 pub record IsCutRecord (bytes : List ℕ) (nth : ℕ) : Type 0 where
-  pub up_to : ReadsUpTo bytes
+  pub up_to : ParsedUpToFault bytes
   pub is_nth : nth ≡ next_nth up_to
   pub may_come : nth ≤ most_records (layout up_to).count
-  pub there : (nth ≤ least_records (layout up_to).count) ⊎ (0 < length up_to.left)
-  pub cut : length up_to.left < (layout up_to).record_bytes
+  pub there : (nth ≤ least_records (layout up_to).count) ⊎ (0 < length up_to.remaining)
+  pub cut : length up_to.remaining < (layout up_to).record_bytes
 
 -- the blocks of a record are refused
 pub record IsRefusedBlock (bytes : List ℕ) (nth : ℕ) (fault : TalFault) : Type 0 where
-  pub up_to : ReadsUpTo bytes
+  pub up_to : ParsedUpToFault bytes
   pub is_nth : nth ≡ next_nth up_to
   pub may_come : nth ≤ most_records (layout up_to).count
-  pub whole : (layout up_to).record_bytes ≤ length up_to.left
-  pub refused : IsFirstBlocksFault (blocks (layout up_to) up_to.left)
+  pub whole : (layout up_to).record_bytes ≤ length up_to.remaining
+  pub refused : IsFirstBlocksFault (blocks (layout up_to) up_to.remaining)
       (layout up_to).start up_to.last
       fault
 
 -- bytes follow the last record that may come
 pub record IsTrailing (bytes : List ℕ) : Type 0 where
-  pub up_to : ReadsUpTo bytes
+  pub up_to : ParsedUpToFault bytes
   pub all : length up_to.records ≡ most_records (layout up_to).count
-  pub more : 0 < length up_to.left
+  pub more : 0 < length up_to.remaining
 
 -- the one fault of bytes that spell no fragment: a record's fault comes after all records before
 -- it, which have none

@@ -28,13 +28,14 @@ abbrev pub blocks : Layout → List ℕ → List (List ℕ)
 blocks l bytes = map (λ b. field bytes b.at b.bytes) l.blocks
 
 -- from one place on, the bytes outside of blocks that lie apart
-abbrev pub outside : ℕ → List Block → List ℕ → List ℕ
-outside from [] bytes = drop from bytes
-outside from (b ∷ bs) bytes = field bytes from (b.at - from) ++ outside (b.at + b.bytes) bs bytes
+abbrev pub bytes_outside : ℕ → List Block → List ℕ → List ℕ
+bytes_outside from [] bytes = drop from bytes
+bytes_outside from (b ∷ bs) bytes = field bytes from (b.at - from)
+    ++ bytes_outside (b.at + b.bytes) bs bytes
 
 -- the bytes of the ordinary signals
 abbrev pub ordinary_bytes : Layout → List ℕ → List ℕ
-ordinary_bytes l bytes = outside 0 l.blocks bytes
+ordinary_bytes l bytes = bytes_outside 0 l.blocks bytes
 
 -- the bytes are the data record, which is at this place
 pub record IsDataRecord (l : Layout) (place : Place) (bytes : List ℕ) (r : DataRecord) : Type 0
@@ -57,7 +58,7 @@ AreDataRecords l place bytes (r ∷ rs) last rest =
 
 -- the bytes spell a key and a list of data records, as many as the header says, or, where its count
 -- is -1, 1 to the most that a file has; and nothing follows them
-pub record Spells (bytes : List ℕ) (k : Key) (records : List DataRecord) : Type 0 where
+pub record IsFragmentFile (bytes : List ℕ) (k : Key) (records : List DataRecord) : Type 0 where
   pub header : HeaderRecord
   pub rest : List ℕ
   pub last : Place

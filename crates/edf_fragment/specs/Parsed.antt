@@ -1,7 +1,7 @@
 -- What bytes amount to: a fragment, or why they are none.
 use Rattle.std.specs.Prelude.{ℕ, List}
 use Rattle.edf_header.specs.Key.{Key}
-use Rattle.edf_fragment.specs.Fragment.{DataRecord, Spells}
+use Rattle.edf_fragment.specs.Fragment.{DataRecord, IsFragmentFile}
 use Rattle.edf_fragment.specs.Fault.{IsFirstFault}
 use Rattle.edf_fragment.specs.declared.fault.FragmentFault.{FragmentFault}
 
@@ -12,5 +12,5 @@ pub data Parsed : Type 0 where
 
 -- the bytes amount to this; by laws each list of bytes amounts to one thing, and no two
 abbrev pub ParsesTo : List ℕ → Parsed → Type 0
-ParsesTo bytes (Fragment key records) = Spells bytes key records
+ParsesTo bytes (Fragment key records) = IsFragmentFile bytes key records
 ParsesTo bytes (Fault fault) = IsFirstFault bytes fault

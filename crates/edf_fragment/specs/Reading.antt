@@ -1,17 +1,17 @@
--- What a reader of fragments reads and answers, call by call. `left` is what the input has left
--- before a call and `rest` what it has left after it, where these are known; so each call says
--- which bytes it read, and pieces don't matter.
+-- What a reader of fragments reads and answers, call by call. `input` is what an input has before a
+-- call and `rest` what remains of it after the call, where these are known; so each call says which
+-- bytes it read, and pieces don't matter.
 use Rattle.std.specs.Prelude.{◌≡◌, ℕ, ◌+◌, ◌≤◌, ◌<◌, ◌⊎◌, List, [], Option, Some, None}
 use Rattle.std.specs.Prelude.{Result, Ok, Err, MatchResult}
 use Rattle.std.specs.Io.KnownBytes.{Consumes, IsAtEnd}
 use Rattle.edf_header.specs.Header.{HeaderRecord, IsHeader, Layout, layout_of, least_records}
 use Rattle.edf_header.specs.Header.{most_records}
 use Rattle.edf_tal.specs.declared.place.Place.TheVariants.{First}
-use Rattle.edf_fragment.specs.Failures.{one_more}
+use Rattle.edf_fragment.specs.Failures.{saturating_increment}
 use Rattle.edf_fragment.specs.Fragment.{DataRecord, IsDataRecord, place_after}
-use Rattle.edf_fragment.specs.Stops.{ReadsHeaderFault, EndsInRecord, RefusesBlock, FindsMore}
-use Rattle.edf_fragment.specs.Stops.{ReadsFewer, ReadsInSignals, FailsToReadRecord}
-use Rattle.edf_fragment.specs.Stops.{LacksHeaderMemory}
+use Rattle.edf_fragment.specs.Stops.{ReadsHeaderFault, EndsInRecord, RefusesBlock, HasTrailingByte}
+use Rattle.edf_fragment.specs.Stops.{ReadsFewerBytes, StopsInSignalHeaders, ReadFailsAtRecord}
+use Rattle.edf_fragment.specs.Stops.{RunsOutOfMemoryInHeader}
 use Rattle.edf_fragment.specs.declared.advance.Progress.{Progress}
 use Rattle.edf_fragment.specs.declared.advance.ReaderState.{ReaderState}
 use Rattle.edf_fragment.specs.declared.advance.ReaderState.TheVariants.{Reading, Ended, Stopped}
@@ -23,30 +23,31 @@ use Rattle.edf_fragment.specs.declared.fault.FragmentFault.TheVariants.{Read, Me
 -- A good input: a header, then one record after another, then the end.
 
 -- the bytes that were read are a header, and this is what it says
-pub record ReadsHeader (left rest : Option (List ℕ)) (layout : Layout) : Type 0 where
+pub record ReadsHeader (input rest : Option (List ℕ)) (layout : Layout) : Type 0 where
   pub bytes : List ℕ
   pub header : HeaderRecord
-  pub read : Consumes left rest bytes
+  pub read : Consumes input rest bytes
   pub is_header : IsHeader bytes header []
   pub layout_is : layout ≡ layout_of header
 
 -- how far a reader is that gave no record yet
-abbrev pub at_first : Progress
-at_first = record { given = 0; place = First; state = Reading }
+abbrev pub initial_progress : Progress
+initial_progress = record { given = 0; place = First; state = Reading }
 
 -- one more record: one may come, and the bytes that were read spell it at the place where it is
-pub record GivesRecord (l : Layout) (from : Progress) (left rest : Option (List ℕ))
+pub record ReadsRecord (l : Layout) (from : Progress) (input rest : Option (List ℕ))
     (r : DataRecord) : Type 0 where
   pub bytes : List ℕ
   pub may_come : from.given < most_records l.count
-  pub read : Consumes left rest bytes
+  pub read : Consumes input rest bytes
   pub is_record : IsDataRecord l from.place bytes r
 
--- the end: no byte is left, and no more record must come
-pub record EndsThere (l : Layout) (from : Progress) (left rest : Option (List ℕ)) : Type 0 where
+-- the end: no byte remains, and no more record must come
+pub record IsEndOfRecords (l : Layout) (from : Progress)
+    (input rest : Option (List ℕ)) : Type 0 where
   pub least : least_records l.count ≤ from.given
   pub most : from.given ≤ most_records l.count
-  pub read : Consumes left rest []
+  pub read : Consumes input rest []
   pub end : IsAtEnd rest
 
 -- how far it is after an answer: after one more record, after the end, after a fault
@@ -58,14 +59,15 @@ progress_after l from (Err fault) = record from { state = Stopped }
 
 -- memory ran out where a record may come: before a byte of it was read, or after a record without a
 -- fault
-pub record LacksRecordMemory (l : Layout) (from : Progress) (left rest : Option (List ℕ)) : Type 0
+pub record RunsOutOfMemoryAtRecord (l : Layout) (from : Progress)
+    (input rest : Option (List ℕ)) : Type 0
   where
     pub may_come : from.given < most_records l.count
-    pub read : Consumes left rest [] ⊎ ((r : DataRecord) × GivesRecord l from left rest r)
+    pub read : Consumes input rest [] ⊎ ((r : DataRecord) × ReadsRecord l from input rest r)
 
 -- the count of failed reads: one more where a failed read is the answer, and else the same
 abbrev pub CountsFault : ℕ → ℕ → FragmentFault → Type 0
-CountsFault old new Read = new ≡ one_more old
+CountsFault old new Read = new ≡ saturating_increment old
 CountsFault old new fault = new ≡ old
 
 abbrev pub CountsAnswer : {X : Type 0} → ℕ → ℕ → Result X FragmentFault → Type 0
@@ -76,44 +78,46 @@ CountsAnswer old new result = MatchResult result (λ x. new ≡ old) (CountsFaul
 -- why there is no header, and what of the input was read: a fault of the bytes, a failed read, or
 -- that memory ran out
 abbrev pub IsOpenFault : Option (List ℕ) → Option (List ℕ) → FragmentFault → Type 0
-IsOpenFault left rest (BadHeader fault) = ReadsHeaderFault left rest fault
-IsOpenFault left rest Read = ReadsFewer 256 left rest ⊎ ReadsInSignals left rest
-IsOpenFault left rest Memory = LacksHeaderMemory left rest
-IsOpenFault left rest fault = ⊥
+IsOpenFault input rest (BadHeader fault) = ReadsHeaderFault input rest fault
+IsOpenFault input rest Read = ReadsFewerBytes 256 input rest ⊎ StopsInSignalHeaders input rest
+IsOpenFault input rest Memory = RunsOutOfMemoryInHeader input rest
+IsOpenFault input rest fault = ⊥
 
 -- why there is no next record, and what of the input was read: a fault of the bytes, a failed read,
 -- or that memory ran out
 abbrev pub IsNextFault : Layout → Progress → Option (List ℕ) → Option (List ℕ) → FragmentFault →
     Type 0
-IsNextFault l from left rest (CutRecord nth) = EndsInRecord l from left rest nth
-IsNextFault l from left rest (Tal nth fault) = RefusesBlock l from left rest nth fault
-IsNextFault l from left rest Trailing = FindsMore l from left rest
-IsNextFault l from left rest Read = FailsToReadRecord l from left rest
-IsNextFault l from left rest Memory = LacksRecordMemory l from left rest
-IsNextFault l from left rest fault = ⊥
+IsNextFault l from input rest (CutRecord nth) = EndsInRecord l from input rest nth
+IsNextFault l from input rest (Tal nth fault) = RefusesBlock l from input rest nth fault
+IsNextFault l from input rest Trailing = HasTrailingByte l from input rest
+IsNextFault l from input rest Read = ReadFailsAtRecord l from input rest
+IsNextFault l from input rest Memory = RunsOutOfMemoryAtRecord l from input rest
+IsNextFault l from input rest fault = ⊥
 
 -- what comes next while it reads: a record, the end or a fault
 abbrev pub IsNext : Layout → Progress → Option (List ℕ) → Option (List ℕ) →
     Result (Option DataRecord) FragmentFault → Type 0
-IsNext l from left rest (Ok (Some r)) = GivesRecord l from left rest r
-IsNext l from left rest (Ok None) = EndsThere l from left rest
-IsNext l from left rest (Err fault) = IsNextFault l from left rest fault
+IsNext l from input rest (Ok (Some r)) = ReadsRecord l from input rest r
+IsNext l from input rest (Ok None) = IsEndOfRecords l from input rest
+IsNext l from input rest (Err fault) = IsNextFault l from input rest fault
 
 -- nothing was read, and the reader is where it was
-abbrev pub Rests : Progress → Progress → Option (List ℕ) → Option (List ℕ) → Type 0
-Rests from to left rest = (to ≡ from) × (rest ≡ left)
+abbrev pub ReadsNothing : Progress → Progress → Option (List ℕ) → Option (List ℕ) → Type 0
+ReadsNothing from to input rest = (to ≡ from) × (rest ≡ input)
 
 -- what is answered in this state: while it reads, what comes next; after the end, no record; after
 -- a fault, that it failed
-abbrev pub AnswersIn : ReaderState → Layout → Progress → Progress → Option (List ℕ) →
+abbrev pub IsAnswerInState : ReaderState → Layout → Progress → Progress → Option (List ℕ) →
     Option (List ℕ) →
     Result (Option DataRecord) FragmentFault → Type 0
-AnswersIn Reading l from to left rest result = (to ≡ progress_after l from result)
-    × IsNext l from left rest result
-AnswersIn Ended l from to left rest result = (result ≡ Ok None) × Rests from to left rest
-AnswersIn Stopped l from to left rest result = (result ≡ Err Failed) × Rests from to left rest
+IsAnswerInState Reading l from to input rest result = (to ≡ progress_after l from result)
+    × IsNext l from input rest result
+IsAnswerInState Ended l from to input rest result = (result ≡ Ok None)
+    × ReadsNothing from to input rest
+IsAnswerInState Stopped l from to input rest result = (result ≡ Err Failed)
+    × ReadsNothing from to input rest
 
 -- the answer of a reader that is at `from`, and that it is at `to` then
 abbrev pub IsAnswer : Layout → Progress → Progress → Option (List ℕ) → Option (List ℕ) →
     Result (Option DataRecord) FragmentFault → Type 0
-IsAnswer l from to left rest result = AnswersIn from.state l from to left rest result
+IsAnswer l from to input rest result = IsAnswerInState from.state l from to input rest result

@@ -4,17 +4,17 @@ use Rattle.std.specs.List.{flat_map}
 use Rattle.edf_header.specs.Signal.{has_label, samples}
 
 -- each signal with its bytes, two for each of its samples
-abbrev pub in_turn : List (List ℕ) → List ℕ → List (List ℕ × List ℕ)
-in_turn [] bytes = []
-in_turn (row ∷ rows) bytes = (row, take (2 * samples row) bytes) ∷ in_turn rows
+abbrev pub split_by_signal : List (List ℕ) → List ℕ → List (List ℕ × List ℕ)
+split_by_signal [] bytes = []
+split_by_signal (row ∷ rows) bytes = (row, take (2 * samples row) bytes) ∷ split_by_signal rows
     (drop (2 * samples row) bytes)
 
 -- the bytes of each annotations signal
 abbrev pub annotations_blocks : List (List ℕ) → List ℕ → List (List ℕ)
 annotations_blocks signals bytes =
-    map (λ p. p.1) (filter (λ p. has_label p.0) (in_turn signals bytes))
+    map (λ p. p.1) (filter (λ p. has_label p.0) (split_by_signal signals bytes))
 
 -- the bytes of the ordinary signals, joined
 abbrev pub ordinary_samples : List (List ℕ) → List ℕ → List ℕ
 ordinary_samples signals bytes =
-    flat_map (λ p. p.1) (filter (λ p. not (has_label p.0)) (in_turn signals bytes))
+    flat_map (λ p. p.1) (filter (λ p. not (has_label p.0)) (split_by_signal signals bytes))

@@ -1,5 +1,5 @@
 -- What a reader of fragments has read where it stops at a fault: of the bytes, of a read, or of
--- memory. `left` is what the input has left before a call and `rest` what it has left after it.
+-- memory. `input` is what an input has before a call and `rest` what remains of it after the call.
 use Rattle.std.specs.Prelude.{◌≡◌, ℕ, ◌+◌, ◌*◌, ◌≤◌, ◌<◌, ◌⊎◌, List, [], ◌∷◌, ◌++◌, length, Option}
 use Rattle.std.specs.Io.KnownBytes.{Consumes, IsAtEnd}
 use Rattle.edf_header.specs.Header.{FixedPart, IsFixedHeader, Layout, least_records, most_records}
@@ -16,72 +16,73 @@ use Rattle.edf_fragment.specs.declared.advance.Progress.{Progress}
 
 -- the bytes that were read have this fault of a header; where they are too few, the input ends
 -- there; and no more were read than the fixed part, and where that has no fault the signals
-pub record ReadsHeaderFault (left rest : Option (List ℕ)) (fault : HeaderFault) : Type 0 where
+pub record ReadsHeaderFault (input rest : Option (List ℕ)) (fault : HeaderFault) : Type 0 where
   pub bytes : List ℕ
-  pub read : Consumes left rest bytes
+  pub read : Consumes input rest bytes
   pub is_fault : IsHeaderFault bytes fault
   pub ended : (fault ≡ Cut) ⊎ (fault ≡ CutSignals) → IsAtEnd rest
   pub no_signals : header_fault_number fault < 14 → length bytes ≤ 256
   pub no_records : (n : ℕ) → HasSignals bytes n → length bytes ≤ 256 + 256 * n
 
 -- the input ends inside a record, or before one that must come
-pub record EndsInRecord (l : Layout) (from : Progress) (left rest : Option (List ℕ))
+pub record EndsInRecord (l : Layout) (from : Progress) (input rest : Option (List ℕ))
     (nth : ℕ) : Type 0 where
   pub bytes : List ℕ
   pub is_nth : nth ≡ from.given + 1
   pub may_come : from.given < most_records l.count
-  pub read : Consumes left rest bytes
+  pub read : Consumes input rest bytes
   pub there : (from.given < least_records l.count) ⊎ (0 < length bytes)
   pub cut : length bytes < l.record_bytes
   pub end : IsAtEnd rest
 
 -- a record's bytes were read, and its blocks are refused
-pub record RefusesBlock (l : Layout) (from : Progress) (left rest : Option (List ℕ)) (nth : ℕ)
+pub record RefusesBlock (l : Layout) (from : Progress) (input rest : Option (List ℕ)) (nth : ℕ)
     (fault : TalFault) : Type 0 where
   pub bytes : List ℕ
   pub is_nth : nth ≡ from.given + 1
   pub may_come : from.given < most_records l.count
-  pub read : Consumes left rest bytes
+  pub read : Consumes input rest bytes
   pub len : length bytes ≡ l.record_bytes
   pub refused : IsFirstBlocksFault (blocks l bytes) l.start from.place fault
 
 -- one byte was read after the last record that may come
-pub record FindsMore (l : Layout) (from : Progress) (left rest : Option (List ℕ)) : Type 0 where
+pub record HasTrailingByte (l : Layout) (from : Progress)
+    (input rest : Option (List ℕ)) : Type 0 where
   pub byte : ℕ
   pub all : from.given ≡ most_records l.count
-  pub read : Consumes left rest (byte ∷ [])
+  pub read : Consumes input rest (byte ∷ [])
 
 -- What is no fault of the bytes: a read fails, or memory runs out.
 
 -- fewer than n bytes were read
-pub record ReadsFewer (n : ℕ) (left rest : Option (List ℕ)) : Type 0 where
+pub record ReadsFewerBytes (n : ℕ) (input rest : Option (List ℕ)) : Type 0 where
   pub bytes : List ℕ
-  pub read : Consumes left rest bytes
+  pub read : Consumes input rest bytes
   pub fewer : length bytes < n
 
 -- a fixed part without a fault was read, and of its signals fewer bytes than they have
-pub record ReadsInSignals (left rest : Option (List ℕ)) : Type 0 where
+pub record StopsInSignalHeaders (input rest : Option (List ℕ)) : Type 0 where
   pub fixed : FixedPart
   pub first : List ℕ
   pub second : List ℕ
-  pub read : Consumes left rest (first ++ second)
+  pub read : Consumes input rest (first ++ second)
   pub is_fixed : IsFixedHeader first fixed
   pub fewer : length second < 256 * fixed.signal_count
 
 -- a read failed before the last byte of the next record; or, where no more may come, before any
 -- byte
-abbrev pub FailsToReadRecord : Layout → Progress → Option (List ℕ) → Option (List ℕ) → Type 0
-FailsToReadRecord l from left rest =
-    ((from.given < most_records l.count) × ReadsFewer l.record_bytes left rest)
-    ⊎ ((from.given ≡ most_records l.count) × Consumes left rest [])
+abbrev pub ReadFailsAtRecord : Layout → Progress → Option (List ℕ) → Option (List ℕ) → Type 0
+ReadFailsAtRecord l from input rest =
+    ((from.given < most_records l.count) × ReadsFewerBytes l.record_bytes input rest)
+    ⊎ ((from.given ≡ most_records l.count) × Consumes input rest [])
 
 -- memory ran out after a fixed part without a fault: before a byte of its signals was read, or
 -- after signals without a fault
-pub record LacksHeaderMemory (left rest : Option (List ℕ)) : Type 0 where
+pub record RunsOutOfMemoryInHeader (input rest : Option (List ℕ)) : Type 0 where
   pub fixed : FixedPart
   pub first : List ℕ
   pub second : List ℕ
-  pub read : Consumes left rest (first ++ second)
+  pub read : Consumes input rest (first ++ second)
   pub is_fixed : IsFixedHeader first fixed
   pub within : length second ≤ 256 * fixed.signal_count
   pub clean : (second ≡ []) ⊎ IsClean (SignalsFail second fixed.signal_count) 21

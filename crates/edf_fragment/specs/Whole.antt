@@ -3,7 +3,7 @@ use Rattle.std.specs.Prelude.{◌≡◌, ℕ, ◌≤◌, ◌⊎◌, List, [], le
 use Rattle.std.specs.Io.KnownBytes.{Consumes, IsAtEnd}
 use Rattle.edf_header.specs.Header.{Layout, layout_of, most_records}
 use Rattle.edf_tal.specs.declared.place.Place.TheVariants.{First}
-use Rattle.edf_fragment.specs.Fragment.{DataRecord, AreDataRecords, Spells}
+use Rattle.edf_fragment.specs.Fragment.{DataRecord, AreDataRecords, IsFragmentFile}
 use Rattle.edf_fragment.specs.Fault.{IsFirstFault}
 use Rattle.edf_fragment.specs.Reading.{ReadsHeader, IsOpenFault, IsNextFault}
 use Rattle.edf_fragment.specs.declared.advance.Progress.{Progress}
@@ -11,49 +11,49 @@ use Rattle.edf_fragment.specs.declared.fault.FragmentFault.{FragmentFault}
 use Rattle.edf_fragment.specs.declared.fault.FragmentFault.TheVariants.{Read, Memory, Failed}
 
 -- the whole input was read, and spells these records under a header that says this
-pub record ReadsFragment (left rest : Option (List ℕ)) (layout : Layout)
+pub record ReadsFragment (input rest : Option (List ℕ)) (layout : Layout)
     (records : List DataRecord) : Type 0 where
   pub bytes : List ℕ
-  pub read : Consumes left rest bytes
+  pub read : Consumes input rest bytes
   pub end : IsAtEnd rest
-  pub spells : Spells bytes layout.key records
+  pub spells : IsFragmentFile bytes layout.key records
   pub layout_is : layout ≡ layout_of spells.header
 
 -- these data records were read, and the next one's place is that of this progress
-pub record HasRead (l : Layout) (left rest : Option (List ℕ)) (records : List DataRecord)
+pub record HasReadRecords (l : Layout) (input rest : Option (List ℕ)) (records : List DataRecord)
     (p : Progress) : Type 0 where
   pub bytes : List ℕ
-  pub read : Consumes left rest bytes
+  pub read : Consumes input rest bytes
   pub are_records : AreDataRecords l First bytes records p.place []
   pub given : p.given ≡ length records
   pub within : p.given ≤ most_records l.count
 
 -- some data records were read, and then came the fault
-pub record FailsAfterRecords (l : Layout) (left rest : Option (List ℕ))
+pub record FailsAfterRecords (l : Layout) (input rest : Option (List ℕ))
     (fault : FragmentFault) : Type 0 where
   pub mid : Option (List ℕ)
   pub records : List DataRecord
   pub progress : Progress
-  pub before : HasRead l left mid records progress
+  pub before : HasReadRecords l input mid records progress
   pub is_fault : IsNextFault l progress mid rest fault
 
 -- a header and some data records were read, and then came the fault
-pub record FailsAfterHeader (left rest : Option (List ℕ)) (fault : FragmentFault) : Type 0 where
+pub record FailsAfterHeader (input rest : Option (List ℕ)) (fault : FragmentFault) : Type 0 where
   pub layout : Layout
   pub mid : Option (List ℕ)
-  pub header : ReadsHeader left mid layout
+  pub header : ReadsHeader input mid layout
   pub records : FailsAfterRecords layout mid rest fault
 
 -- where the bytes are known, a fault of theirs is the first of all of them; a failed read says
 -- nothing of them, nor does want of memory
-abbrev pub IsFirstWhereKnown : Option (List ℕ) → FragmentFault → Type 0
-IsFirstWhereKnown left Read = Unit {0}
-IsFirstWhereKnown left Memory = Unit {0}
-IsFirstWhereKnown left Failed = ⊥
-IsFirstWhereKnown left fault = IfSome left (λ all. IsFirstFault all fault)
+abbrev pub IsFirstFaultIfKnown : Option (List ℕ) → FragmentFault → Type 0
+IsFirstFaultIfKnown input Read = Unit {0}
+IsFirstFaultIfKnown input Memory = Unit {0}
+IsFirstFaultIfKnown input Failed = ⊥
+IsFirstFaultIfKnown input fault = IfSome input (λ all. IsFirstFault all fault)
 
 -- why an input gives no fragment: the fault came in the header, or after it and some data records;
 -- no more was read than the bytes of these and those of the fault
-pub record IsFragmentFault (left rest : Option (List ℕ)) (fault : FragmentFault) : Type 0 where
-  pub met : IsOpenFault left rest fault ⊎ FailsAfterHeader left rest fault
-  pub first : IsFirstWhereKnown left fault
+pub record IsFragmentFault (input rest : Option (List ℕ)) (fault : FragmentFault) : Type 0 where
+  pub met : IsOpenFault input rest fault ⊎ FailsAfterHeader input rest fault
+  pub first : IsFirstFaultIfKnown input fault

@@ -5,8 +5,8 @@ ghost use Rattle.std.specs.Prelude.{IfOk, IfSome};
 ghost use Rattle.std.specs.Bool.{MatchBool};
 ghost use Rattle.std.specs.Io.KnownBytes.{Consumes};
 ghost use Rattle.edf_header.specs.Header.{IsLayout, least_records, most_records, block_bytes};
-ghost use Rattle.edf_fragment.specs.Reading.{EndsThere, IsNextFault, IsNext, progress_after};
-ghost use Rattle.edf_fragment.specs.Call.{ReadsInput, ValueOr, input_state};
+ghost use Rattle.edf_fragment.specs.Reading.{IsEndOfRecords, IsNextFault, IsNext, progress_after};
+ghost use Rattle.edf_fragment.specs.Call.{ReadsInput, ValueOrFault, input_state};
 ghost use Rattle.edf_fragment.specs.Inside.Buffers.{HaveRoom};
 ghost use Rattle.edf_fragment.specs.Inside.Steps.{ReadsEnd, IsEndFault};
 
@@ -42,11 +42,11 @@ pub struct Progress {
 
 impl Progress {
     ghost use Rattle.std.specs.Prelude.{◌≡◌};
-    ghost use Rattle.edf_fragment.specs.Reading.{at_first};
+    ghost use Rattle.edf_fragment.specs.Reading.{initial_progress};
 
     /// How far a reader is that gave no record yet.
-    pub(crate) fn at_first() -> Progress
-        ensures { result ≡ at_first }
+    pub(crate) fn initial_progress() -> Progress
+        ensures { result ≡ initial_progress }
     {
         Progress {
             given: 0,
@@ -108,8 +108,8 @@ fn fill_record<R: Input>(
     requires countable { progress.given < 2 ^ 32 - 1 }
     requires room { length whole.old ≡ header.now.record_bytes }
     ensures { ReadsInput
-        (ValueOr (λ left rest there. MatchBool there
-        (Consumes left rest whole.new) (EndsThere header.now progress left rest))
+        (ValueOrFault (λ left rest there. MatchBool there
+        (Consumes left rest whole.new) (IsEndOfRecords header.now progress left rest))
         (IsNextFault header.now progress))
         (input_state R.Input input.old) (input_state R.Input input.new) result }
 {
@@ -170,7 +170,7 @@ fn read_record<R: Input>(
 
 /// Finds that nothing follows the last data record.
 fn find_end<R: Input>(input: &mut R) -> Result<(), FragmentFault>
-    ensures { ReadsInput (ValueOr (λ left rest _. ReadsEnd left rest) IsEndFault)
+    ensures { ReadsInput (ValueOrFault (λ left rest _. ReadsEnd left rest) IsEndFault)
         (input_state R.Input input.old) (input_state R.Input input.new) result }
 {
     let mut byte = [0u8; 1];

@@ -4,13 +4,13 @@ ghost use Rattle.std.specs.Prelude.{Some, None, Ok, Err};
 ghost use Rattle.edf_field.specs.Number.{duration_of};
 ghost use Rattle.edf_header.specs.Key.{Key, IsKey};
 ghost use Rattle.edf_header.specs.Header.{HeaderRecord, Layout, layout_of};
-ghost use Rattle.edf_fragment.specs.Fragment.{DataRecord, Spells, blocks, ordinary_bytes};
+ghost use Rattle.edf_fragment.specs.Fragment.{DataRecord, IsFragmentFile, blocks, ordinary_bytes};
 ghost use Rattle.edf_fragment.specs.Signals.{annotations_blocks, ordinary_samples};
 ghost use Rattle.edf_fragment.specs.Fault.{IsFirstFault};
 ghost use Rattle.edf_fragment.specs.Parsed.{Parsed, ParsesTo};
 ghost use Rattle.edf_fragment.specs.Sound.{AreSound, MayBegin};
-ghost use Rattle.edf_fragment.specs.Reading.{ReadsHeader, IsOpenFault, IsAnswer, at_first};
-ghost use Rattle.edf_fragment.specs.Whole.{HasRead, ReadsFragment, IsFragmentFault};
+ghost use Rattle.edf_fragment.specs.Reading.{ReadsHeader, IsOpenFault, IsAnswer, initial_progress};
+ghost use Rattle.edf_fragment.specs.Whole.{HasReadRecords, ReadsFragment, IsFragmentFault};
 ghost use Rattle.edf_fragment.specs.declared.advance.Progress.{Progress};
 ghost use Rattle.edf_fragment.specs.declared.advance.ReaderState.TheVariants.{Reading};
 ghost use Rattle.edf_fragment.specs.declared.fault.FragmentFault.{FragmentFault};
@@ -32,13 +32,14 @@ pub fn signals_in_turn()
 /// Bytes spell one fragment at most.
 pub fn one_fragment()
     ensures { (bytes : List ℕ) (key other : Key) (records others : List DataRecord) →
-        Spells bytes key records → Spells bytes other others → (key ≡ other) × (records ≡ others) }
+        IsFragmentFile bytes key records → IsFragmentFile bytes other others →
+        (key ≡ other) × (records ≡ others) }
 {}
 
 /// Bytes that spell a fragment have no fault.
 pub fn no_fault_where_spelled()
     ensures { (bytes : List ℕ) (key : Key) (records : List DataRecord) (fault : FragmentFault) →
-        Spells bytes key records → ¬ IsFirstFault bytes fault }
+        IsFragmentFile bytes key records → ¬ IsFirstFault bytes fault }
 {}
 
 /// Bytes have one first fault at most.
@@ -60,17 +61,17 @@ pub fn each_parses_to_one()
 /// no date.
 pub fn records_are_sound()
     ensures key { (bytes : List ℕ) (key : Key) (records : List DataRecord) →
-        Spells bytes key records → IsKey key }
+        IsFragmentFile bytes key records → IsKey key }
     ensures lasting { (bytes : List ℕ) (key : Key) (records : List DataRecord) →
-        Spells bytes key records → 0 < duration_of key.duration }
+        IsFragmentFile bytes key records → 0 < duration_of key.duration }
     ensures some { (bytes : List ℕ) (key : Key) (records : List DataRecord) →
-        Spells bytes key records → 1 ≤ length records }
+        IsFragmentFile bytes key records → 1 ≤ length records }
     ensures few { (bytes : List ℕ) (key : Key) (records : List DataRecord) →
-        Spells bytes key records → length records ≤ MOST_RECORDS }
+        IsFragmentFile bytes key records → length records ≤ MOST_RECORDS }
     ensures sound { (bytes : List ℕ) (key : Key) (records : List DataRecord) →
-        Spells bytes key records → AreSound key 0 records }
+        IsFragmentFile bytes key records → AreSound key 0 records }
     ensures begins { (bytes : List ℕ) (key : Key) (records : List DataRecord) →
-        Spells bytes key records → MayBegin key records }
+        IsFragmentFile bytes key records → MayBegin key records }
 {}
 
 /// The data records that were read so far are sound under a key that headers name, whose recording
@@ -80,15 +81,16 @@ pub fn records_so_far()
     ensures key { (left rest : Option (List ℕ)) (l : Layout) →
         ReadsHeader left rest l → IsKey l.key }
     ensures sound { (left one two : Option (List ℕ)) (l : Layout) (records : List DataRecord)
-        (p : Progress) → ReadsHeader left one l → HasRead l one two records p →
+        (p : Progress) → ReadsHeader left one l → HasReadRecords l one two records p →
         AreSound l.key 0 records }
     ensures begins { (left one two : Option (List ℕ)) (l : Layout) (records : List DataRecord)
-        (p : Progress) → ReadsHeader left one l → HasRead l one two records p →
+        (p : Progress) → ReadsHeader left one l → HasReadRecords l one two records p →
         MayBegin l.key records }
     ensures front { (bytes : List ℕ) (one two : Option (List ℕ)) (l : Layout)
         (records : List DataRecord) (p : Progress)
         (key : Key) (spelled : List DataRecord) →
-        ReadsHeader (Some bytes) one l → HasRead l one two records p → Spells bytes key spelled →
+        ReadsHeader (Some bytes) one l → HasReadRecords l one two records p →
+        IsFragmentFile bytes key spelled →
         (key ≡ l.key) × ((later : List DataRecord) × (spelled ≡ records ++ later)) }
 {}
 
@@ -96,17 +98,20 @@ pub fn records_so_far()
 /// one by one are in their order what the bytes begin with, and `None` and each fault mean after
 /// them what they mean for the whole input.
 pub fn answers_join()
-    ensures none { (l : Layout) (left : Option (List ℕ)) → HasRead l left left [] at_first }
+    ensures none { (l : Layout) (left : Option (List ℕ)) →
+        HasReadRecords l left left [] initial_progress }
     ensures more { (l : Layout) (left mid rest : Option (List ℕ)) (records : List DataRecord)
-        (p q : Progress) (r : DataRecord) → HasRead l left mid records p → p.state ≡ Reading →
+        (p q : Progress) (r : DataRecord) → HasReadRecords l left mid records p →
+        p.state ≡ Reading →
         IsAnswer l p q mid rest (Ok (Some r)) →
-        HasRead l left rest (records ++ r ∷ []) q × (q.state ≡ Reading) }
+        HasReadRecords l left rest (records ++ r ∷ []) q × (q.state ≡ Reading) }
     ensures end { (l : Layout) (left one two rest : Option (List ℕ)) (records : List DataRecord)
-        (p q : Progress) → ReadsHeader left one l → HasRead l one two records p →
+        (p q : Progress) → ReadsHeader left one l → HasReadRecords l one two records p →
         p.state ≡ Reading → IsAnswer l p q two rest (Ok None) → ReadsFragment left rest l records }
     ensures fault { (l : Layout) (left one two rest : Option (List ℕ)) (records : List DataRecord)
         (p q : Progress) (fault : FragmentFault) → ReadsHeader left one l →
-        HasRead l one two records p → p.state ≡ Reading → IsAnswer l p q two rest (Err fault) →
+        HasReadRecords l one two records p → p.state ≡ Reading →
+        IsAnswer l p q two rest (Err fault) →
         IsFragmentFault left rest fault }
     ensures refused { (left rest : Option (List ℕ)) (fault : FragmentFault) →
         IsOpenFault left rest fault → IsFragmentFault left rest fault }
@@ -116,7 +121,7 @@ pub fn answers_join()
 pub fn known_bytes()
     ensures fragment { (bytes : List ℕ) (rest : Option (List ℕ)) (l : Layout)
         (records : List DataRecord) → ReadsFragment (Some bytes) rest l records →
-        Spells bytes l.key records }
+        IsFragmentFile bytes l.key records }
     ensures fault { (bytes : List ℕ) (rest : Option (List ℕ)) (fault : FragmentFault) →
         IsFragmentFault (Some bytes) rest fault →
         (fault ≡ Read) ⊎ ((fault ≡ Memory) ⊎ IsFirstFault bytes fault) }

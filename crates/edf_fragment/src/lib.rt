@@ -16,7 +16,8 @@
 //!   be read, E40 and E41.
 //! - [`Input`], [`Output`]: readers and writers whose contracts also count the calls that failed,
 //!   so that a failed read or write is a refusal only where one failed. [`Counted`]: one of any
-//!   reader or writer of std. [`one_more`]: such a count after one more. [`Remark`]: what a line of
+//! reader or writer of std. [`saturating_increment`]: such a count after one more. [`Remark`]: what
+//! a line of
 //!   an output tells, for a person.
 //! - [`fill`], [`Filled`]: a buffer filled from an input, in whatever pieces it comes. [`send`]:
 //!   all of some bytes, to an output.
@@ -51,5 +52,5 @@ pub use open_fragment::OpenFragment;
 pub use reader::FragmentReader;
 pub use record::Record;
 pub use remark::Remark;
-pub use streams::{Counted, Filled, Input, Output, fill, one_more, send};
+pub use streams::{Counted, Filled, Input, Output, fill, saturating_increment, send};
 pub use whole::read_fragment;

@@ -2,7 +2,7 @@ ghost use Rattle.std.specs.Prelude.{◌≡◌, ◌≤◌, IfOk, IfSome};
 ghost use Rattle.edf_header.specs.Header.{most_records};
 ghost use Rattle.edf_fragment.specs.Inside.Buffers.{HaveRoom};
 ghost use Rattle.edf_fragment.specs.Sound.{IsSoundRecord};
-ghost use Rattle.edf_fragment.specs.Reading.{ReadsHeader, IsOpenFault, IsNext, at_first};
+ghost use Rattle.edf_fragment.specs.Reading.{ReadsHeader, IsOpenFault, IsNext, initial_progress};
 ghost use Rattle.edf_fragment.specs.Reading.{progress_after};
 
 use crate::advance::{Progress, ReaderState, progress_after, record_or_end};
@@ -31,7 +31,7 @@ pub struct OpenFragment {
 }
 
 impl OpenFragment {
-    ghost use Rattle.edf_fragment.specs.Call.{ReadsInput, ValueOr, ReadsNext, input_state};
+    ghost use Rattle.edf_fragment.specs.Call.{ReadsInput, ValueOrFault, ReadsNext, input_state};
 
     /// Reads the header, and no byte more.
     ///
@@ -40,7 +40,8 @@ impl OpenFragment {
     /// out. The input then is where reading stopped.
     pub fn read<R: Input>(alloc: Global, input: &mut R) -> Result<OpenFragment, FragmentFault>
         ensures { ReadsInput
-            (ValueOr (λ left rest o. ReadsHeader left rest o.header × (o.progress ≡ at_first))
+            (ValueOrFault (λ left rest o. ReadsHeader left rest o.header
+            × (o.progress ≡ initial_progress))
             IsOpenFault)
             (input_state R.Input input.old) (input_state R.Input input.new) result }
     {
@@ -52,7 +53,7 @@ impl OpenFragment {
             alloc,
             header,
             buffers,
-            progress: Progress::at_first(),
+            progress: Progress::initial_progress(),
         })
     }
 

@@ -1,6 +1,6 @@
 ghost use Rattle.std.specs.Prelude.{◌≡◌, ◌≢◌};
 ghost use Rattle.edf_fragment.specs.Reading.{ReadsHeader, IsOpenFault};
-ghost use Rattle.edf_fragment.specs.Call.{ReadsInput, ValueOr, input_state};
+ghost use Rattle.edf_fragment.specs.Call.{ReadsInput, ValueOrFault, input_state};
 ghost use Rattle.edf_fragment.specs.Inside.Steps.{ReadsFixed, ReadsSignals, IsSignalsFault};
 
 use crate::fault::FragmentFault;
@@ -21,7 +21,7 @@ fn header_refusal(fault: HeaderFault) -> FragmentFault
 
 /// Reads the fixed part, 256 bytes.
 fn read_fixed_part<R: Input>(input: &mut R) -> Result<Fixed, FragmentFault>
-    ensures { ReadsInput (ValueOr ReadsFixed IsOpenFault)
+    ensures { ReadsInput (ValueOrFault ReadsFixed IsOpenFault)
         (input_state R.Input input.old) (input_state R.Input input.new) result }
 {
     let mut bytes = [0u8; 256];
@@ -43,7 +43,7 @@ fn read_signal_headers<R: Input>(
     fixed: Fixed,
 ) -> Result<Header, FragmentFault>
     ensures { ReadsInput
-        (ValueOr (λ left rest. ReadsSignals left rest fixed)
+        (ValueOrFault (λ left rest. ReadsSignals left rest fixed)
         (λ left rest. IsSignalsFault left rest fixed.signal_count))
         (input_state R.Input input.old) (input_state R.Input input.new) result }
 {
@@ -63,7 +63,7 @@ fn read_signal_headers<R: Input>(
 
 /// Reads a header, and no byte more.
 pub(crate) fn read_header<R: Input>(alloc: Global, input: &mut R) -> Result<Header, FragmentFault>
-    ensures { ReadsInput (ValueOr ReadsHeader IsOpenFault)
+    ensures { ReadsInput (ValueOrFault ReadsHeader IsOpenFault)
         (input_state R.Input input.old) (input_state R.Input input.new) result }
 {
     let fixed = read_fixed_part(input)?;

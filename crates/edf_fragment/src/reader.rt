@@ -1,5 +1,5 @@
 ghost use Rattle.std.specs.Prelude.{◌≡◌, ℕ, List, Option, IfOk, IfErr};
-ghost use Rattle.edf_fragment.specs.Reading.{ReadsHeader, IsOpenFault, at_first};
+ghost use Rattle.edf_fragment.specs.Reading.{ReadsHeader, IsOpenFault, initial_progress};
 ghost use Rattle.edf_fragment.specs.Call.{ReadsNext, input_state};
 
 use crate::fault::FragmentFault;
@@ -53,7 +53,7 @@ impl<'a, R: Input> FragmentReader<'a, R> {
         ensures opened { IfOk result
             (λ r. ReadsHeader (R.remaining input.old) (R.remaining r.input.now) r.fragment.header) }
         ensures counted { IfOk result (λ r. R.failures r.input.now ≡ R.failures input.old) }
-        ensures at_first { IfOk result (λ r. r.fragment.progress ≡ at_first) }
+        ensures initial_progress { IfOk result (λ r. r.fragment.progress ≡ initial_progress) }
         ensures refused { IfErr result
             (λ fault. (rest : Option (List ℕ)) × IsOpenFault (R.remaining input.old) rest fault) }
     {

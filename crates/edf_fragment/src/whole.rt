@@ -1,7 +1,7 @@
 ghost use Rattle.std.specs.Prelude.{◌≡◌};
-ghost use Rattle.edf_fragment.specs.Reading.{at_first};
+ghost use Rattle.edf_fragment.specs.Reading.{initial_progress};
 ghost use Rattle.edf_fragment.specs.Whole.{ReadsFragment, FailsAfterRecords, IsFragmentFault};
-ghost use Rattle.edf_fragment.specs.Call.{ReadsInput, ValueOr, input_state};
+ghost use Rattle.edf_fragment.specs.Call.{ReadsInput, ValueOrFault, input_state};
 ghost use Rattle.edf_fragment.specs.Inside.Steps.{ReadsRecords};
 
 use crate::fault::FragmentFault;
@@ -17,10 +17,11 @@ fn read_records<R: Input>(
     fragment: &mut OpenFragment,
     input: &mut R,
 ) -> Result<Vec<Record>, FragmentFault>
-    requires { fragment.old.progress ≡ at_first }
+    requires { fragment.old.progress ≡ initial_progress }
     ensures header { fragment.new.header ≡ fragment.old.header }
     ensures read { ReadsInput
-        (ValueOr (λ left rest records. ReadsRecords fragment.old.header left rest records.items)
+        (ValueOrFault (λ left rest records. ReadsRecords fragment.old.header left rest
+        records.items)
         (FailsAfterRecords fragment.old.header))
         (input_state R.Input input.old) (input_state R.Input input.new) result }
 {
@@ -48,7 +49,7 @@ pub fn read_fragment<R: Input>(
     input: &mut R,
 ) -> Result<(Header, Vec<Record>), FragmentFault>
     ensures { ReadsInput
-        (ValueOr (λ left rest r. ReadsFragment left rest r.0 r.1.items) IsFragmentFault)
+        (ValueOrFault (λ left rest r. ReadsFragment left rest r.0 r.1.items) IsFragmentFault)
         (input_state R.Input input.old) (input_state R.Input input.new) result }
 {
     let mut fragment = OpenFragment::read(alloc, input)?;

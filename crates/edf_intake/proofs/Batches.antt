@@ -8,10 +8,10 @@ use Rattle.sqlite_trees.specs.declared.store.Store.{Ghosts}
 use Rattle.sqlite_trees.specs.Tree.{Trees}
 use Rattle.sqlite.specs.State.{HasCleanDisk}
 use Rattle.sqlite.proofs.StateLemmas.{survives_then, survives_weaker}
-use Rattle.edf_fragment.specs.Fragment.{Spells}
+use Rattle.edf_fragment.specs.Fragment.{IsFragmentFile}
 use Rattle.edf_fragment.specs.Fault.{IsFirstFault}
 use Rattle.edf_fragment.specs.Parsed.{Parsed, Fragment, Fault, ParsesTo}
-use Rattle.edf_fragment.specs.Whole.{IsFirstWhereKnown}
+use Rattle.edf_fragment.specs.Whole.{IsFirstFaultIfKnown}
 use Rattle.edf_fragment.specs.declared.fault.FragmentFault.{FragmentFault}
 use Rattle.edf_fragment.specs.declared.fault.FragmentFault.TheVariants.{Read, Memory}
 use Rattle.edf_fragment.specs.declared.fault.FragmentFault.TheVariants.{Failed}
@@ -231,7 +231,7 @@ in_turn g old new froms tos answers all = list_then g old old new [] [] [] froms
 -- ---- what known bytes tell
 
 first_known : (bytes : List ℕ) (fault : FragmentFault) → IsOfForm fault →
-    IsFirstWhereKnown (Some bytes) fault → IsFirstFault bytes fault
+    IsFirstFaultIfKnown (Some bytes) fault → IsFirstFault bytes fault
 first_known bytes Read form first = absurd form
 first_known bytes Memory form first = absurd form
 first_known bytes Failed form first = absurd form
@@ -242,19 +242,21 @@ all_read : (bytes b : List ℕ) (rest : Option (List ℕ)) → Consumes (Some by
 all_read bytes b None read end = absurd read
 all_read bytes b (Some ys) read end = sym (read ∙ (ap (λ (l : List ℕ). b ++ l) end ∙ append-nil b))
 
-heard_tells : (from to : InputState) (bytes : List ℕ) (told : Parsed) → from.left ≡ Some bytes →
+heard_tells : (from to : InputState) (bytes : List ℕ) (told : Parsed) →
+    from.remaining ≡ Some bytes →
     ReadsAs from to told → ParsesTo bytes told
 heard_tells from to bytes (Fragment key records) known r =
-    let read : Consumes (Some bytes) to.left r.bytes =
-    subst (λ (o : Option (List ℕ)). Consumes o to.left r.bytes) known r.read in
-    subst (λ (l : List ℕ). Spells l key records) (all_read bytes r.bytes to.left read r.end)
+    let read : Consumes (Some bytes) to.remaining r.bytes =
+    subst (λ (o : Option (List ℕ)). Consumes o to.remaining r.bytes) known r.read in
+    subst (λ (l : List ℕ). IsFragmentFile l key records)
+    (all_read bytes r.bytes to.remaining read r.end)
     r.spells
 heard_tells from to bytes (Fault fault) known r =
-    first_known bytes fault r.of_form (subst (λ (o : Option (List ℕ)). IsFirstWhereKnown o fault)
+    first_known bytes fault r.of_form (subst (λ (o : Option (List ℕ)). IsFirstFaultIfKnown o fault)
     known r.is_fault.first)
 
 abbrev IsKnown : InputState → Parsed → Type 0
-IsKnown from told = (bytes : List ℕ) × (from.left ≡ Some bytes) × ParsesTo bytes told
+IsKnown from told = (bytes : List ℕ) × (from.remaining ≡ Some bytes) × ParsesTo bytes told
 
 same_told : (t : Turn) (x : Parsed) (y : Reply) → IsTurn t → IsKnown t.from x →
     reply_of t.answer ≡ Some y → t.submission ≡ Some x

@@ -2,7 +2,7 @@
 use Rattle.std.proofs.Common.{◌≡◌, ℕ, List, [], Option, Some, None, sym, subst, IfSome}
 use Rattle.edf_header.specs.Header.{Layout}
 use Rattle.edf_fragment.specs.Fault.{IsFirstFault}
-use Rattle.edf_fragment.specs.Reading.{ReadsHeader, CountsFault, at_first}
+use Rattle.edf_fragment.specs.Reading.{ReadsHeader, CountsFault, initial_progress}
 use Rattle.edf_fragment.specs.Whole.{IsFragmentFault, ReadsFragment}
 use Rattle.edf_fragment.specs.Fragment.{DataRecord}
 use Rattle.edf_fragment.specs.declared.fault.FragmentFault.{FragmentFault}
@@ -27,7 +27,7 @@ spells_none (Some all) fault first = λ k rs s. spelled-no-fault all k rs fault 
 
 -- the refusal for a fault of the fragment
 pub stopped_by : {S : Type 0} (g : Ghosts S) (old new : StoreTx S) (from to : InputState)
-    (fault : FragmentFault) → IsFragmentFault from.left to.left fault →
+    (fault : FragmentFault) → IsFragmentFault from.remaining to.remaining fault →
     CountsFault from.failed to.failed fault
     → IsStop g old new from to (Input (fragment_refusal fault))
 stopped_by g old new from to Read is n = record { is_fault = is; counted = n }
@@ -37,26 +37,27 @@ stopped_by g old new from to fault is n =
     record {
       of_form = tt;
       is_fault = is;
-      none = spells_none from.left fault is.first;
+      none = spells_none from.remaining fault is.first;
       counted = n;
     }
 
 -- a header that was read, and no data record
-pub reads_header_alone : (from to : InputState) (l : Layout) → ReadsHeader from.left to.left l →
+pub reads_header_alone : (from to : InputState) (l : Layout) →
+    ReadsHeader from.remaining to.remaining l →
     to.failed ≡ from.failed → ReadsSome from to
 reads_header_alone from to l header n =
     record {
       layout = l;
-      mid = to.left;
+      mid = to.remaining;
       records = [];
-      progress = at_first;
+      progress = initial_progress;
       header = header;
-      read = reads_none l to.left;
+      read = reads_none l to.remaining;
       counted = n;
     }
 
 pub reads_whole : (from to : InputState) (l : Layout) (records : List DataRecord) →
-    ReadsFragment from.left to.left l records → to.failed ≡ from.failed →
+    ReadsFragment from.remaining to.remaining l records → to.failed ≡ from.failed →
     ReadsWhole from to l.key records
 reads_whole from to l records r n = record {
   bytes = r.bytes;

@@ -8,7 +8,7 @@ use Rattle.edf_field.specs.Number.{duration_of}
 use Rattle.edf_header.specs.Key.{Key, IsKey}
 use Rattle.edf_header.specs.Header.{Layout}
 use Rattle.edf_fragment.specs.Fragment.{DataRecord}
-use Rattle.edf_fragment.specs.Whole.{HasRead}
+use Rattle.edf_fragment.specs.Whole.{HasReadRecords}
 use Rattle.edf_fragment.specs.declared.advance.Progress.{Progress}
 use Rattle.edf_holdings.specs.Clash.{near_of}
 use Rattle.edf_holdings.specs.Rising.{IsApart}
@@ -36,7 +36,7 @@ Met cap key h records t findings = TakenOrStopped cap key h records t findings.n
 pub record MetSoFar {S : Type 0} (g : Ghosts S) (first now : StoreModel S) (l : Layout)
     (left rest : Option (List ℕ)) (p : Progress) (findings : Findings) : Type 0 where
   pub records : List DataRecord
-  pub read : HasRead l left rest records p
+  pub read : HasReadRecords l left rest records p
   pub met : HasCleanDisk (at g now) → (h : Holdings) → Sees g first h → (t : Holdings)
       × Sees g now t × Met first.cap l.key h records t findings
   pub counted : findings.new + findings.known ≤ p.given

@@ -8,8 +8,8 @@ use Rattle.edf_header.specs.Key.{MayStart}
 use Rattle.edf_header.specs.Header.{Layout, most_records}
 use Rattle.edf_fragment.specs.Fragment.{DataRecord}
 use Rattle.edf_fragment.specs.Sound.{MayBegin}
-use Rattle.edf_fragment.specs.Reading.{ReadsHeader, IsAnswer, at_first}
-use Rattle.edf_fragment.specs.Whole.{HasRead, ReadsFragment}
+use Rattle.edf_fragment.specs.Reading.{ReadsHeader, IsAnswer, initial_progress}
+use Rattle.edf_fragment.specs.Whole.{HasReadRecords, ReadsFragment}
 use Rattle.edf_fragment.specs.declared.advance.Progress.{Progress}
 use Rattle.edf_fragment.specs.declared.advance.ReaderState.TheVariants.{Reading}
 use Rattle.edf_fragment.proofs.Fragments.{reads_none, one_more_read, all_read}
@@ -49,11 +49,11 @@ module _ {S : Type 0} (g : Ghosts S) (first : StoreModel S) (l : Layout)
   held_apart clean h seen = (IsGood-from_sound first.cap h (seen clean).sound).apart l.key
 
   read_apart : (rest : Option (List ℕ)) (records : List DataRecord) (p : Progress) →
-      HasRead l left rest records p → IsApart (duration_of l.key.duration) 0 records
+      HasReadRecords l left rest records p → IsApart (duration_of l.key.duration) 0 records
   read_apart rest records p read =
       apart-sound l.key 0 records (read-sound before left rest l records p header read)
 
-  pub at_start : MetSoFar g first first l left left at_first
+  pub at_start : MetSoFar g first first l left left initial_progress
       (record { new = 0; known = 0; clash = None })
   at_start = record {
     records = [];
@@ -108,7 +108,7 @@ module _ {S : Type 0} (g : Ghosts S) (first : StoreModel S) (l : Layout)
       let before_it : w.records ≡ [] =
       empty_within w.records (united (some.0 l.key) w.records)
       (joined_has (some.0 l.key) w.records) (sym all ∙ empty) in
-      let read : HasRead l left rest (w.records ++ r ∷ []) q =
+      let read : HasReadRecords l left rest (w.records ++ r ∷ []) q =
       (one_more_read l left mid rest w.records p q r w.read going answer).0 in
       subst (λ (rs : List DataRecord). MayBegin l.key (rs ++ r ∷ [])) before_it
       (read-begins before left rest l (w.records ++ r ∷ []) q header read)
@@ -126,7 +126,7 @@ module _ {S : Type 0} (g : Ghosts S) (first : StoreModel S) (l : Layout)
       → MetSoFar g first next l left rest q to
   one_more_met now next mid rest p q from to r w going answer given may_come was first_was step
       counted =
-      let read : HasRead l left rest (w.records ++ r ∷ []) q =
+      let read : HasReadRecords l left rest (w.records ++ r ∷ []) q =
       (one_more_read l left mid rest w.records p q r w.read going answer).0 in
       record {
         records = w.records ++ r ∷ [];

@@ -85,7 +85,7 @@ few_records left rest l records read =
 -- `to`
 module _ {S : Type 0} (g : Ghosts S) (first made last : StoreTx S) (from mid to : InputState)
     (l : Layout) (d : Destination) (findings : Findings)
-    (header : ReadsHeader from.left mid.left l) (unfailed : mid.failed ≡ from.failed)
+    (header : ReadsHeader from.remaining mid.remaining l) (unfailed : mid.failed ≡ from.failed)
     (begun : Stays g first.store.now made.store.now)
     (stayed : Stays g made.store.now last.store.now)
     (there : IsDestination g first made l.key (most_records l.count) d)
@@ -96,8 +96,8 @@ module _ {S : Type 0} (g : Ghosts S) (first made last : StoreTx S) (from mid to 
   was_first : HasCleanDisk (at g made.store.now) → HasCleanDisk (at g first.store.now)
   was_first clean = omega (arith, begun.crash.clean)
 
-  fragment : ReadsFragment from.left to.left l taken.records
-  fragment = taken.read from.left header
+  fragment : ReadsFragment from.remaining to.remaining l taken.records
+  fragment = taken.read from.remaining header
 
   whole : ReadsWhole from to l.key taken.records
   whole = reads_whole from to l taken.records fragment (taken.counted ∙ unfailed)
@@ -115,7 +115,7 @@ module _ {S : Type 0} (g : Ghosts S) (first made last : StoreTx S) (from mid to 
       subst (λ (n : ℕ). IsRoom n (length (h l.key)) (length taken.records) d.room) begun.cap
       (fewer made.store.now.cap (length (h l.key)) (most_records l.count) (length taken.records)
       d.room
-      (few_records from.left to.left l taken.records fragment) (there.room clean h seen))
+      (few_records from.remaining to.remaining l taken.records fragment) (there.room clean h seen))
 
   put_seen : MayBeAccepted d.room findings → HasCleanDisk (at g last.store.now) → (h : Holdings) →
       Sees g first.store.now h → Sees g last.store.now (put l.key taken.records h)

@@ -37,7 +37,7 @@ AreSubmitted g old new froms tos answers = ⊥
 
 -- the input's bytes are known, and tell this
 abbrev pub WillParseTo : InputState → Parsed → Type 0
-WillParseTo from submission = (bytes : List ℕ) × (from.left ≡ Some bytes)
+WillParseTo from submission = (bytes : List ℕ) × (from.remaining ≡ Some bytes)
     × ParsesTo bytes submission
 
 module _ {S : Type 0} (g : Ghosts S) (old new : StoreModel S) where

@@ -3,11 +3,11 @@ use Rattle.std.specs.Prelude.{◌≡◌, ◌⊎◌, ℕ, List, Option, IfSome}
 use Rattle.std.specs.Io.KnownBytes.{Consumes, IsAtEnd}
 use Rattle.edf_header.specs.Key.{Key}
 use Rattle.edf_header.specs.Header.{Layout}
-use Rattle.edf_fragment.specs.Fragment.{DataRecord, Spells}
+use Rattle.edf_fragment.specs.Fragment.{DataRecord, IsFragmentFile}
 use Rattle.edf_fragment.specs.Parsed.{Parsed, Fragment, Fault}
 use Rattle.edf_fragment.specs.Call.{InputState}
 use Rattle.edf_fragment.specs.Reading.{ReadsHeader, CountsFault}
-use Rattle.edf_fragment.specs.Whole.{HasRead, IsFragmentFault}
+use Rattle.edf_fragment.specs.Whole.{HasReadRecords, IsFragmentFault}
 use Rattle.edf_fragment.specs.declared.advance.Progress.{Progress}
 use Rattle.edf_fragment.specs.declared.fault.FragmentFault.{FragmentFault}
 use Rattle.edf_fragment.specs.declared.fault.FragmentFault.TheVariants.{Read, Memory, Failed}
@@ -20,7 +20,7 @@ IsOfForm Failed = ⊥
 IsOfForm fault = Unit {0}
 
 abbrev pub SpellsNothing : List ℕ → Type 0
-SpellsNothing bytes = (key : Key) (records : List DataRecord) → ¬ Spells bytes key records
+SpellsNothing bytes = (key : Key) (records : List DataRecord) → ¬ IsFragmentFile bytes key records
 
 module _ (from to : InputState) where
   abbrev pub NoReadFailed : Type 0
@@ -29,16 +29,16 @@ module _ (from to : InputState) where
   -- the whole input, up to its end, spells this fragment, and no read failed
   pub record ReadsWhole (key : Key) (records : List DataRecord) : Type 0 where
     pub bytes : List ℕ
-    pub read : Consumes from.left to.left bytes
-    pub end : IsAtEnd to.left
-    pub spells : Spells bytes key records
+    pub read : Consumes from.remaining to.remaining bytes
+    pub end : IsAtEnd to.remaining
+    pub spells : IsFragmentFile bytes key records
     pub counted : NoReadFailed
 
   -- this is why the input is no fragment; just what shows that was read, and no read failed
   pub record ReadsFault (fault : FragmentFault) : Type 0 where
     pub of_form : IsOfForm fault
-    pub is_fault : IsFragmentFault from.left to.left fault
-    pub none : IfSome from.left SpellsNothing
+    pub is_fault : IsFragmentFault from.remaining to.remaining fault
+    pub none : IfSome from.remaining SpellsNothing
     pub counted : NoReadFailed
 
   -- what the input tells
@@ -48,7 +48,7 @@ module _ (from to : InputState) where
 
   -- one read failed, and the input is there
   pub record FailsToRead : Type 0 where
-    pub is_fault : IsFragmentFault from.left to.left Read
+    pub is_fault : IsFragmentFault from.remaining to.remaining Read
     pub counted : CountsFault from.failed to.failed Read
 
   -- a header and some data records were read, and nothing more
@@ -57,13 +57,13 @@ module _ (from to : InputState) where
     pub mid : Option (List ℕ)
     pub records : List DataRecord
     pub progress : Progress
-    pub header : ReadsHeader from.left mid layout
-    pub read : HasRead layout mid to.left records progress
+    pub header : ReadsHeader from.remaining mid layout
+    pub read : HasReadRecords layout mid to.remaining records progress
     pub counted : NoReadFailed
 
   -- memory ran out while the input was read
   pub record LacksMemory : Type 0 where
-    pub is_fault : IsFragmentFault from.left to.left Memory
+    pub is_fault : IsFragmentFault from.remaining to.remaining Memory
     pub counted : NoReadFailed
 
   -- how far the input was read where memory ran out or the store refused: not at all; a header and

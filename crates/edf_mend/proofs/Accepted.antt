@@ -7,9 +7,9 @@ use Rattle.edf_header.specs.Fault.{IsHeaderFault}
 use Rattle.edf_header.proofs.Cited.{header-no-fault, one-header}
 use Rattle.edf_fragment.specs.Fragment.{DataRecord}
 use Rattle.edf_fragment.specs.Reading.{ReadsHeader, IsOpenFault, IsNextFault, CountsFault}
-use Rattle.edf_fragment.specs.Reading.{GivesRecord, EndsThere, AnswersIn, IsAnswer}
-use Rattle.edf_fragment.specs.Reading.{CountsAnswer, at_first}
-use Rattle.edf_fragment.specs.Call.{ValueOr}
+use Rattle.edf_fragment.specs.Reading.{ReadsRecord, IsEndOfRecords, IsAnswerInState, IsAnswer}
+use Rattle.edf_fragment.specs.Reading.{CountsAnswer, initial_progress}
+use Rattle.edf_fragment.specs.Call.{ValueOrFault}
 use Rattle.edf_fragment.specs.declared.open_fragment.OpenFragment.{OpenFragment}
 use Rattle.edf_fragment.specs.declared.advance.ReaderState.{ReaderState}
 use Rattle.edf_fragment.specs.declared.advance.ReaderState.TheVariants.{Reading}
@@ -53,8 +53,8 @@ header-refused bytes rest fragment.Read f met counted told = absurd (omega (arit
 header-refused bytes rest fault f met counted told = absurd met
 
 abbrev Opens : Option (List ℕ) → Option (List ℕ) → Result OpenFragment FragmentFault → Type 0
-Opens left rest result = ValueOr
-    (λ left rest o. ReadsHeader left rest o.header × (o.progress ≡ at_first)) IsOpenFault
+Opens left rest result = ValueOrFault
+    (λ left rest o. ReadsHeader left rest o.header × (o.progress ≡ initial_progress)) IsOpenFault
     left rest result
 
 opens-known : (left rest : Option (List ℕ)) (result answer : Result OpenFragment FragmentFault) →
@@ -127,11 +127,12 @@ nil-of (x ∷ xs) e = absurd (omega arith)
 -- what a reader answers that goes on
 going : (l : Layout) (p q : Progress) (left rest : Option (List ℕ))
     (result answer : Result (Option DataRecord) FragmentFault) → p.state ≡ Reading →
-    result ≡ answer → IsAnswer l p q left rest result → AnswersIn Reading l p q left rest answer
+    result ≡ answer → IsAnswer l p q left rest result →
+    IsAnswerInState Reading l p q left rest answer
 going l p q left rest result answer on is told =
     let known = subst (λ (x : Result (Option DataRecord) FragmentFault). IsAnswer l p q left rest x)
     is told in
-    subst (λ (s : ReaderState). AnswersIn s l p q left rest answer) on known
+    subst (λ (s : ReaderState). IsAnswerInState s l p q left rest answer) on known
 
 counted-fault : (result : Result (Option DataRecord) FragmentFault) (fault : FragmentFault) →
     result ≡ Err fault → CountsAnswer 0 0 result → CountsFault 0 0 fault
@@ -141,19 +142,19 @@ counted-fault result fault is counted =
 module _ (l : Layout) (p q : Progress) (bytes piece left : List ℕ)
     (result : Result (Option DataRecord) FragmentFault) (on : p.state ≡ Reading)
     (same : piece ≡ bytes) (told : IsAnswer l p q (Some piece) (Some left) result) where
-  gives : (r : DataRecord) → result ≡ Ok (Some r) → GivesRecord l p (Some bytes) (Some left) r
+  gives : (r : DataRecord) → result ≡ Ok (Some r) → ReadsRecord l p (Some bytes) (Some left) r
   gives r is =
-      subst (λ (x : List ℕ). GivesRecord l p (Some x) (Some left) r) same
+      subst (λ (x : List ℕ). ReadsRecord l p (Some x) (Some left) r) same
       (going l p q (Some piece) (Some left) result (Ok (Some r)) on is told).1
 
-  ends : result ≡ Ok None → EndsThere l p (Some bytes) (Some left)
+  ends : result ≡ Ok None → IsEndOfRecords l p (Some bytes) (Some left)
   ends is =
-      subst (λ (x : List ℕ). EndsThere l p (Some x) (Some left)) same
+      subst (λ (x : List ℕ). IsEndOfRecords l p (Some x) (Some left)) same
       (going l p q (Some piece) (Some left) result (Ok None) on is told).1
 
   pub accepted : (r : DataRecord) → result ≡ Ok (Some r) → left ≡ [] → IsNextRead l p q bytes r
   accepted r is none = record {
-    gives = subst (λ (x : List ℕ). GivesRecord l p (Some bytes) (Some x) r) none (gives r is);
+    gives = subst (λ (x : List ℕ). ReadsRecord l p (Some bytes) (Some x) r) none (gives r is);
     to_is = (going l p q (Some piece) (Some left) result (Ok (Some r)) on is told).0;
   }
 

@@ -17,7 +17,7 @@ use Rattle.edf_header.specs.Signal.{samples, has_label, samples_in_all, IsLabell
 use Rattle.edf_header.specs.declared.header.Block.{Block}
 use Rattle.edf_tal.specs.declared.place.Place.TheVariants.{First}
 use Rattle.edf_fragment.proofs.Layouts.{record-some}
-use Rattle.edf_fragment.specs.Fragment.{DataRecord, outside, ordinary_bytes}
+use Rattle.edf_fragment.specs.Fragment.{DataRecord, bytes_outside, ordinary_bytes}
 use Rattle.edf_mend.proofs.FragmentLaws.{again, alone, size-is, sum-rows}
 use Rattle.edf_mend.proofs.GoodHeaders.{rows-are, same-header}
 use Rattle.edf_mend.proofs.GoodRecords.{are-cut, cut-one}
@@ -51,24 +51,24 @@ AreTiles from [] to = from ≡ to
 AreTiles from (b ∷ bs) to = (b.at ≡ from) × AreTiles (b.at + b.bytes) bs to
 
 tiles-none : (from : ℕ) (bs : List Block) (to : ℕ) (x : List ℕ) → AreTiles from bs to →
-    length x ≤ to → outside from bs x ≡ []
+    length x ≤ to → bytes_outside from bs x ≡ []
 tiles-none from [] to x e le = drop_all from x (omega (arith, e))
 tiles-none from (b ∷ bs) to x t le =
     let none : b.at - from ≡ 0 = omega (arith, t.0) in
-    ap (λ (n : ℕ). take n (drop from x) ++ outside (b.at + b.bytes) bs x) none
+    ap (λ (n : ℕ). take n (drop from x) ++ bytes_outside (b.at + b.bytes) bs x) none
     ∙ tiles-none (b.at + b.bytes) bs to x t.1 le
 
 -- the first of them begins behind the old bytes
 behind-all : (from : ℕ) (b : Block) (bs : List Block) (to : ℕ) (old block : List ℕ) →
     AreTiles (length old) (b ∷ bs) to → from ≤ length old → length old + length block ≡ to →
-    outside from (b ∷ bs) (old ++ block) ≡ outside from (b ∷ bs) old
+    bytes_outside from (b ∷ bs) (old ++ block) ≡ bytes_outside from (b ∷ bs) old
 behind-all from b bs to old block t le len =
     let here : field (old ++ block) from (b.at - from) ≡ field old from (b.at - from) =
     field-front old block from (b.at - from) (omega (arith, t.0)) in
     let a = tiles-none (b.at + b.bytes) bs to (old ++ block) t.1
     (omega (arith, length-append old block, len)) in
     let c = tiles-none (b.at + b.bytes) bs to old t.1 (omega (arith, len)) in
-    ap (λ (x : List ℕ). x ++ outside (b.at + b.bytes) bs (old ++ block)) here
+    ap (λ (x : List ℕ). x ++ bytes_outside (b.at + b.bytes) bs (old ++ block)) here
     ∙ ap (λ (x : List ℕ). field old from (b.at - from) ++ x) (a ∙ sym c)
 
 apart-to : (a : ℕ) (bs : List Block) (c : ℕ) → AreApart a bs c → a ≤ c
@@ -79,11 +79,11 @@ apart-to a (b ∷ bs) c p = omega (arith, p.0, apart-to (b.at + b.bytes) bs c p.
 outside-more : (from : ℕ) (fs : List Block) (b : Block) (bs : List Block) (to : ℕ)
     (old block : List ℕ) → AreApart from fs (length old) → AreTiles (length old) (b ∷ bs) to →
     length old + length block ≡ to →
-    outside from (fs ++ b ∷ bs) (old ++ block) ≡ outside from (fs ++ b ∷ bs) old
+    bytes_outside from (fs ++ b ∷ bs) (old ++ block) ≡ bytes_outside from (fs ++ b ∷ bs) old
 outside-more from [] b bs to old block apart t len = behind-all from b bs to old block t apart len
 outside-more from (f ∷ fs) b bs to old block apart t len =
     let within = apart-to (f.at + f.bytes) fs (length old) apart.1 in
-    ap (λ (x : List ℕ). x ++ outside (f.at + f.bytes) (fs ++ b ∷ bs) (old ++ block))
+    ap (λ (x : List ℕ). x ++ bytes_outside (f.at + f.bytes) (fs ++ b ∷ bs) (old ++ block))
     (field-front old block from (f.at - from) (omega (arith, within, apart.0)))
     ∙ ap (λ (x : List ℕ). field old from (f.at - from) ++ x)
     (outside-more (f.at + f.bytes) fs b bs to old block apart.1 t len)
@@ -169,7 +169,8 @@ starts at (x ∷ xs) all some =
 -- **a block that comes behind the samples of a data record leaves them as they are**
 rows-more : (xs ys : List (List ℕ)) (old block : List ℕ) → All IsLabelled ys → 0 < length ys →
     length old ≡ 2 * samples_in_all xs → length block ≡ 2 * samples_in_all ys →
-    outside 0 (blocks_from 0 (xs ++ ys)) (old ++ block) ≡ outside 0 (blocks_from 0 (xs ++ ys)) old
+    bytes_outside 0 (blocks_from 0 (xs ++ ys)) (old ++ block)
+    ≡ bytes_outside 0 (blocks_from 0 (xs ++ ys)) old
 rows-more xs ys old block all some len more =
     let at : 0 + 2 * samples_in_all xs ≡ length old = omega (arith, len) in
     let s = starts (length old) ys all some in
@@ -178,10 +179,10 @@ rows-more xs ys old block all some len more =
     ∙ ap (λ (bs : List Block). blocks_from 0 xs ++ bs) s.are in
     let apart : AreApart 0 (blocks_from 0 xs) (length old) =
     subst (λ (n : ℕ). AreApart 0 (blocks_from 0 xs) n) at (from-apart 0 xs) in
-    ap (λ (bs : List Block). outside 0 bs (old ++ block)) blocks
+    ap (λ (bs : List Block). bytes_outside 0 bs (old ++ block)) blocks
     ∙ outside-more 0 (blocks_from 0 xs) s.first s.rest (length old + 2 * samples_in_all ys) old
     block apart s.tiles (omega (arith, more))
-    ∙ ap (λ (bs : List Block). outside 0 bs old) (sym blocks)
+    ∙ ap (λ (bs : List Block). bytes_outside 0 bs old) (sym blocks)
 
 -- ---- data records, step by step
 
@@ -367,10 +368,10 @@ adds-block first after h added sound g rows old block len more some =
       g.added_is,
       some,
     ) in
-    ap (λ (rs : List (List ℕ)). outside 0 (blocks_from 0 rs) (old ++ block)) split
+    ap (λ (rs : List (List ℕ)). bytes_outside 0 (blocks_from 0 rs) (old ++ block)) split
     ∙ rows-more (map row_of own) (map row_of news) old block
     (all-labelled news (All-drop HasSignalWidths n after.signals w) g.news) count old-len block-len
-    ∙ ap (λ (rs : List (List ℕ)). outside 0 (blocks_from 0 rs) old) (sym split)
+    ∙ ap (λ (rs : List (List ℕ)). bytes_outside 0 (blocks_from 0 rs) old) (sym split)
   where
     sum-both : (xs ys : List (List ℕ)) →
         samples_in_all (xs ++ ys) ≡ samples_in_all xs + samples_in_all ys

@@ -12,7 +12,7 @@ use Rattle.edf_header.specs.Header.{Layout, IsLayout}
 use Rattle.edf_tal.specs.declared.place.Place.{Place}
 use Rattle.edf_tal.specs.declared.place.Place.TheVariants.{First}
 use Rattle.edf_fragment.specs.Fragment.{DataRecord, AreDataRecords, IsDataRecord, place_after}
-use Rattle.edf_fragment.specs.Reading.{at_first}
+use Rattle.edf_fragment.specs.Reading.{initial_progress}
 use Rattle.edf_fragment.specs.declared.advance.Progress.{Progress}
 use Rattle.edf_fragment.specs.declared.advance.ReaderState.TheVariants.{Reading}
 use Rattle.edf_fragment.proofs.Runs.{AreDataRecords-snoc}
@@ -183,7 +183,8 @@ module _ (l : Layout) (shape : Shape) (moves : Bool) where
   -- ---- what was put
 
   module _ (a : Buffered) (before : Told) where
-    no-put : (p : Progress) (after : Told) → p ≡ at_first → after ≡ before → before.fault ≡ None →
+    no-put : (p : Progress) (after : Told) → p ≡ initial_progress → after ≡ before →
+        before.fault ≡ None →
         ArePut l [] p a a before after
     no-put p after first same none = record {
       done = [];
@@ -308,7 +309,7 @@ module _ (l : Layout) (shape : Shape) (moves : Bool) where
 
 module _ (l : Layout) (shape : Shape) (moves : Bool) (left : Option (List ℕ)) (front : List ℕ)
     (a : Buffered) (before : Told) where
-  pub none-carried : (t : Tally) (s : Starts) (p : Progress) → p ≡ at_first →
+  pub none-carried : (t : Tally) (s : Starts) (p : Progress) → p ≡ initial_progress →
       before.fault ≡ None → TellsNoRecords before.ledger → IsFollowed l shape.clock [] s →
       IsTally front [] t → CarriesSoFar l shape moves left left front t s p a a before before
   none-carried t s p first none fresh followed tally = record {

@@ -6,7 +6,7 @@ use Rattle.std.proofs.lemmas.List.{take-append-le}
 use Rattle.std.specs.Io.KnownBytes.{Appends}
 use Rattle.edf_header.specs.Key.{Key}
 use Rattle.edf_fragment.specs.Fault.{IsFirstFault}
-use Rattle.edf_fragment.specs.Fragment.{DataRecord, Spells}
+use Rattle.edf_fragment.specs.Fragment.{DataRecord, IsFragmentFile}
 use Rattle.edf_fragment.proofs.OneFragment.{spelled-no-fault}
 use Rattle.edf_mend.specs.Answers.{IsRefusal, IsTrouble, IsEdf, Copies}
 use Rattle.edf_mend.specs.Header.{HeaderTexts, HasHeader, spaced}
@@ -21,7 +21,7 @@ use Rattle.edf_mend.proofs.TotalAnswers.{only-trouble}
 
 -- it is one of EDF
 pub fragment-edf : (file : List ℕ) (key : Key) (records : List DataRecord) →
-    Spells file key records → IsEdf file
+    IsFragmentFile file key records → IsEdf file
 fragment-edf file key records s =
     let i = s.is_header in
     let eight : take 8 file ≡ codes "0       " = ap (λ (x : List ℕ). take 8 x) i.parts
@@ -31,7 +31,7 @@ fragment-edf file key records s =
 
 module _ (w : Wanted) (file : List ℕ) (key : Key) (records : List DataRecord)
     (first : HeaderTexts) (body : List ℕ) (has : HasHeader file first body)
-    (spells : Spells file key records) (asks : AsksNothing w first.fixed.patient) where
+    (spells : IsFragmentFile file key records) (asks : AsksNothing w first.fixed.patient) where
   pub copies : (left rest before after : Option (List ℕ)) (ledger : Ledger) →
       left ≡ Some file → Mends w left rest before after ledger →
       TellsNone ledger × Copies left rest before after

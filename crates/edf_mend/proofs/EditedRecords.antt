@@ -12,7 +12,7 @@ use Rattle.std.specs.Str.{bytes_eq}
 use Rattle.edf_field.specs.Number.{field}
 use Rattle.edf_header.specs.Header.{Layout, AreApart}
 use Rattle.edf_header.specs.declared.header.Block.{Block}
-use Rattle.edf_fragment.specs.Fragment.{outside}
+use Rattle.edf_fragment.specs.Fragment.{bytes_outside}
 use Rattle.edf_mend.specs.Edits.{Edit, AreEdited}
 use Rattle.edf_mend.specs.Rewritten.{RecordEdits}
 use Rattle.edf_mend.specs.Texts.{WrittenTal, tal_bytes, IsTalSpelled, IsBlockSpelled, IsBlockTold}
@@ -186,7 +186,7 @@ respelled-edited from [] old new es apart len r =
 respelled-edited from (b ∷ bs) old new es (low, more) len r =
     let high : b.at + b.bytes ≤ length old = apart-to (b.at + b.bytes) (length old) bs more in
     let gap = same-front (b.at - from) (field new from (b.at - from)) (field old from (b.at - from))
-    (outside (b.at + b.bytes) bs new) (outside (b.at + b.bytes) bs old)
+    (bytes_outside (b.at + b.bytes) bs new) (bytes_outside (b.at + b.bytes) bs old)
     (field-len from (b.at - from) new (omega (arith, len)))
     (field-len from (b.at - from) old (omega arith)) r.samples in
     let here = r.told.0 in

@@ -7,7 +7,7 @@ use Rattle.edf_header.specs.Header.{least_records}
 use Rattle.edf_tal.specs.Block.{IsFirstBlocksFault}
 use Rattle.edf_tal.specs.declared.place.Place.{Place}
 use Rattle.edf_tal.specs.declared.place.Place.TheVariants.{First}
-use Rattle.edf_fragment.specs.Fault.{ReadsUpTo, IsFirstFault}
+use Rattle.edf_fragment.specs.Fault.{ParsedUpToFault, IsFirstFault}
 use Rattle.edf_fragment.specs.Fragment.{DataRecord, AreDataRecords, blocks}
 use Rattle.edf_fragment.specs.declared.fault.FragmentFault.{FragmentFault}
 use Rattle.edf_fragment.specs.declared.fault.FragmentFault.TheVariants as fragment
@@ -21,7 +21,7 @@ module _ (front : List ℕ) (h : HeaderRecord) (is_header : IsHeader front h [])
     (layout : IsLayout (layout_of h)) (done : List ℕ) (records : List DataRecord) (last : Place)
     (are : AreDataRecords (layout_of h) First done records last []) where
   -- the header, the data records before the fault, and these bytes behind them
-  up-to : (left : List ℕ) → ReadsUpTo (front ++ (done ++ left))
+  up-to : (left : List ℕ) → ParsedUpToFault (front ++ (done ++ left))
   up-to left = record {
     header = h;
     rest = done ++ left;

@@ -15,7 +15,7 @@ use Rattle.edf_header.specs.Key.{Key}
 use Rattle.edf_header.specs.Signal.{samples, samples_in_all, labelled}
 use Rattle.edf_tal.specs.declared.place.Place.TheVariants.{First}
 use Rattle.edf_fragment.proofs.Layouts.{record-some}
-use Rattle.edf_fragment.specs.Fragment.{DataRecord, Spells}
+use Rattle.edf_fragment.specs.Fragment.{DataRecord, IsFragmentFile}
 use Rattle.edf_mend.proofs.GoodHeaders.{good-header, rows-are, same-header}
 use Rattle.edf_mend.proofs.GoodRecords.{are-cut, one-cut, carried-same, all-respelled}
 use Rattle.edf_mend.proofs.GoodRecords.{none-told, clock-same, length-joined, InOrder}
@@ -139,7 +139,7 @@ count-right w t body size n (Some k) e some len is least most =
     ∙ ap (λ (j : ℕ). whole_records j body) (sym e)) is.0)
 
 pub fragment : (w : Wanted) (a : List ℕ) (t : HeaderTexts) (body : List ℕ) (key : Key)
-    (records : List DataRecord) → HasHeader a t body → Spells a key records →
+    (records : List DataRecord) → HasHeader a t body → IsFragmentFile a key records →
     IsFragment w a t body
 fragment w a t body key records has s =
     let h = s.header in

@@ -4,7 +4,7 @@ use Rattle.std.proofs.Common.{inl, inr, arith, Option, None, Some}
 use Rattle.edf_header.specs.Header.{layout_of}
 use Rattle.edf_header.specs.Key.{Key}
 use Rattle.edf_fragment.proofs.Layouts.{record-some}
-use Rattle.edf_fragment.specs.Fragment.{DataRecord, Spells}
+use Rattle.edf_fragment.specs.Fragment.{DataRecord, IsFragmentFile}
 use Rattle.edf_mend.proofs.FragmentLaws.{IsFragment, fragment, stays-all, no-piece, own}
 use Rattle.edf_mend.proofs.GoodRecords.{length-joined}
 use Rattle.edf_mend.proofs.GoodStarts.{recording-same}
@@ -72,7 +72,7 @@ module _ (w : Wanted) (t : HeaderTexts) (k : IsWhole t) (asks : AsksNothing w t.
 
 -- **nothing is asked**
 module _ (w : Wanted) (file : List ℕ) (t : HeaderTexts) (body : List ℕ) (key : Key)
-    (records : List DataRecord) (has : HasHeader file t body) (s : Spells file key records)
+    (records : List DataRecord) (has : HasHeader file t body) (s : IsFragmentFile file key records)
     (asks : AsksNothing w t.fixed.patient) where
   f : IsFragment w file t body
   f = fragment w file t body key records has s

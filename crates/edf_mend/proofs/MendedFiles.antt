@@ -2,7 +2,7 @@
 use Rattle.std.proofs.Common.{◌≡◌, ◌≢◌, ◌⊎◌, ℕ, List, [], sym, subst, inl, inr}
 use Rattle.edf_header.proofs.Cited.{one-header as one-header-record}
 use Rattle.edf_header.specs.Header.{HeaderRecord, layout_of}
-use Rattle.edf_fragment.specs.Fragment.{DataRecord, Spells}
+use Rattle.edf_fragment.specs.Fragment.{DataRecord, IsFragmentFile}
 use Rattle.edf_header.specs.Key.{Key}
 use Rattle.edf_mend.proofs.MendedHeader.{HeaderLeft, header-left}
 use Rattle.edf_mend.proofs.MendedRecords.{CountsAll, records-spell}
@@ -28,7 +28,7 @@ use Rattle.edf_mend.specs.declared.wanted.Wanted.{Wanted}
 record SpellsSome (new : List ℕ) : Type 0 where
   key : Key
   records : List DataRecord
-  spells : Spells new key records
+  spells : IsFragmentFile new key records
 
 module _ (w : Wanted) (wanted : IsWanted w) (file new : List ℕ) (ledger : Ledger)
     (m : Mendable w file) where

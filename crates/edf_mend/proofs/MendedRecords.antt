@@ -10,7 +10,7 @@ use Rattle.edf_header.specs.Header.{HeaderRecord, IsHeader, layout_of, least_rec
 use Rattle.edf_header.specs.Header.{most_records}
 use Rattle.edf_header.specs.declared.limits.TheConstants.{MOST_RECORDS}
 use Rattle.edf_tal.specs.declared.place.Place.TheVariants.{First}
-use Rattle.edf_fragment.specs.Fragment.{DataRecord, Spells, AreDataRecords}
+use Rattle.edf_fragment.specs.Fragment.{DataRecord, IsFragmentFile, AreDataRecords}
 use Rattle.edf_mend.proofs.ByteLaws.{Keeps, texts-keep, clock-keeps, zip-sizes}
 use Rattle.edf_mend.proofs.Following.{nil-of}
 use Rattle.edf_mend.proofs.FragmentLaws.{longer}
@@ -42,7 +42,7 @@ pub record CountsAll (w : Wanted) (size : ℕ) (body : List ℕ) (gets : Type 0)
 
 pub record SpellSome (new : List ℕ) (h : HeaderRecord) : Type 0 where
   pub records : List DataRecord
-  pub spells : Spells new (layout_of h).key records
+  pub spells : IsFragmentFile new (layout_of h).key records
 
 -- ---- how many there are
 

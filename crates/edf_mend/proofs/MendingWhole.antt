@@ -6,7 +6,7 @@ use Rattle.std.specs.Io.KnownBytes.{Consumes}
 use Rattle.std.proofs.lemmas.List.{take-append-le}
 use Rattle.edf_header.specs.Key.{Key}
 use Rattle.edf_fragment.specs.Fault.{IsFirstFault}
-use Rattle.edf_fragment.specs.Fragment.{DataRecord, Spells}
+use Rattle.edf_fragment.specs.Fragment.{DataRecord, IsFragmentFile}
 use Rattle.edf_fragment.specs.declared.fault.FragmentFault.{FragmentFault}
 use Rattle.edf_mend.specs.Answers.{IsRefusal, IsTrouble, IsEdf, Copies}
 use Rattle.edf_mend.specs.Counts.{CountsFault}
@@ -138,7 +138,8 @@ module _ (w : Wanted) (wanted : IsWanted w) (left : Option (List ℕ)) (why : Me
   total-so file is m = mendable-trouble each-is-mended w file why wanted m (refuses file is)
 
   pub copied-so : (file : List ℕ) (key : Key) (records : List DataRecord) (first : HeaderTexts)
-      (body : List ℕ) → left ≡ Some file → HasHeader file first body → Spells file key records →
+      (body : List ℕ) → left ≡ Some file → HasHeader file first body →
+      IsFragmentFile file key records →
       AsksNothing w first.fixed.patient → IsTrouble why
   copied-so file key records first body is has spells asks =
       copied-trouble w file key records first body has spells asks
@@ -200,7 +201,7 @@ module _ (w : Wanted) (wanted : IsWanted w) (left mid rest before after : Option
 
     pub copied-last : (file : List ℕ) (key : Key) (records : List DataRecord)
         (texts : HeaderTexts) (body : List ℕ) → left ≡ Some file → HasHeader file texts body →
-        Spells file key records → AsksNothing w texts.fixed.patient → MatchResult a
+        IsFragmentFile file key records → AsksNothing w texts.fixed.patient → MatchResult a
         (λ ledger. TellsNone ledger × Copies left rest before after) IsTrouble
     copied-last file key records texts body is has spells asks = on a mends refuses
       where

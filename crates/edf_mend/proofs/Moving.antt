@@ -18,7 +18,7 @@ use Rattle.edf_tal.specs.Block.{BlocksParseTo, BlockParsesTo}
 use Rattle.edf_tal.specs.declared.place.Place.TheVariants.{Any}
 use Rattle.edf_tal.proofs.OneBlock.{one-block}
 use Rattle.edf_tal.proofs.Cited.{one-read}
-use Rattle.edf_fragment.specs.Fragment.{blocks, outside, ordinary_bytes}
+use Rattle.edf_fragment.specs.Fragment.{blocks, bytes_outside, ordinary_bytes}
 use Rattle.edf_mend.specs.Edits.{Edit, AreEdited}
 use Rattle.edf_mend.specs.Told.{pair, edits_from}
 use Rattle.edf_mend.specs.declared.field.Field.TheVariants.{Blocks}
@@ -55,10 +55,10 @@ others-same from to (k ∷ bs) a b same (low, more) =
     cc
 
 outside-same : (from to : ℕ) (bs : List Block) (a b : List ℕ) → drop from a ≡ drop from b →
-    AreApart from bs to → outside from bs a ≡ outside from bs b
+    AreApart from bs to → bytes_outside from bs a ≡ bytes_outside from bs b
 outside-same from to [] a b same lie = same
 outside-same from to (k ∷ bs) a b same (low, more) =
-    ap (λ (x : List ℕ). x ++ outside (k.at + k.bytes) bs a)
+    ap (λ (x : List ℕ). x ++ bytes_outside (k.at + k.bytes) bs a)
     (field-back from from (k.at - from) a b same (omega arith))
     ∙ ap (λ (x : List ℕ). field b from (k.at - from) ++ x)
     (outside-same (k.at + k.bytes) to bs a b
@@ -192,10 +192,10 @@ module _ (l : Layout) (first : Block) (others : List Block) (to : ℕ)
       IsCutAt first new front block' back → ordinary_bytes l new ≡ ordinary_bytes l old
   samples-same old new front block block' back p q =
       let by_first : (bytes : List ℕ) → ordinary_bytes l bytes
-      ≡ field bytes 0 (first.at - 0) ++ outside (first.at + first.bytes) others bytes =
-      λ bytes. ap (λ (bs : List Block). outside 0 bs bytes) are in
+      ≡ field bytes 0 (first.at - 0) ++ bytes_outside (first.at + first.bytes) others bytes =
+      λ bytes. ap (λ (bs : List Block). bytes_outside 0 bs bytes) are in
       by_first new
-      ∙ ap (λ (x : List ℕ). x ++ outside (first.at + first.bytes) others new)
+      ∙ ap (λ (x : List ℕ). x ++ bytes_outside (first.at + first.bytes) others new)
       (cut-front first new front block' back q ∙ sym (cut-front first old front block back p))
       ∙ ap (λ (x : List ℕ). field old 0 (first.at - 0) ++ x)
       (outside-same (first.at + first.bytes) to others new old

@@ -9,7 +9,7 @@ use Rattle.edf_header.specs.Header.{AreApart}
 use Rattle.edf_header.specs.declared.header.Block.{Block}
 use Rattle.edf_fragment.proofs.Fronts.{same_front}
 use Rattle.edf_fragment.proofs.Layouts.{apart-within}
-use Rattle.edf_fragment.specs.Fragment.{outside}
+use Rattle.edf_fragment.specs.Fragment.{bytes_outside}
 use Rattle.edf_mend.specs.Header.{SignalTexts, HeaderTexts, fixed_of, signal_of}
 use Rattle.edf_mend.specs.Header.{texts_of, fixed_bytes, header_bytes, HasHeader}
 
@@ -119,7 +119,7 @@ bytes-are file t body has = sym (bytes-again has.header has.n has.len)
 
 -- what is outside of blocks and what is in them is all of it
 pub rebuilt : (from : ℕ) (bs : List Block) (a b : List ℕ) → AreApart from bs (length a) →
-    length a ≡ length b → outside from bs a ≡ outside from bs b →
+    length a ≡ length b → bytes_outside from bs a ≡ bytes_outside from bs b →
     map (λ (x : Block). field a x.at x.bytes) bs ≡ map (λ (x : Block). field b x.at x.bytes) bs →
     drop from a ≡ drop from b
 rebuilt from [] a b apart len e blocks = e
@@ -129,8 +129,9 @@ rebuilt from (x ∷ xs) a b apart len e blocks =
     let gap : from + (x.at - from) ≡ x.at = omega arith in
     let la = length-field a from (x.at - from) (omega arith) in
     let lb = length-field b from (x.at - from) (omega arith) in
-    let s = same_front (outside from (x ∷ xs) a) (field a from (x.at - from))
-    (outside (x.at + x.bytes) xs a) (field b from (x.at - from)) (outside (x.at + x.bytes) xs b)
+    let s = same_front (bytes_outside from (x ∷ xs) a) (field a from (x.at - from))
+    (bytes_outside (x.at + x.bytes) xs a) (field b from (x.at - from))
+    (bytes_outside (x.at + x.bytes) xs b)
     refl e (la ∙ sym lb) in
     let head : field a x.at x.bytes ≡ field b x.at x.bytes = cc in
     let tail : map (λ (y : Block). field a y.at y.bytes) xs

@@ -12,7 +12,7 @@ use Rattle.std.specs.List.{AllZip}
 use Rattle.edf_field.specs.Number.{field}
 use Rattle.edf_header.specs.Header.{Layout, AreApart}
 use Rattle.edf_header.specs.declared.header.Block.{Block}
-use Rattle.edf_fragment.specs.Fragment.{outside}
+use Rattle.edf_fragment.specs.Fragment.{bytes_outside}
 use Rattle.edf_mend.specs.Edits.{Edit}
 use Rattle.edf_mend.specs.Texts.{IsBlockMade, IsBlockTold, AreBlocksTold, IsRespelled}
 
@@ -25,7 +25,7 @@ apart-to from to (b ∷ bs) (first, more) =
 -- from one place on, the blocks were made so, nothing else changed, and that is told
 pub record Respells (from : ℕ) (bs : List Block) (old new : List ℕ) (edits : List Edit) : Type 0
   where
-    pub samples : outside from bs new ≡ outside from bs old
+    pub samples : bytes_outside from bs new ≡ bytes_outside from bs old
     pub each : AllZip IsBlockMade (map (λ (b : Block). field old b.at b.bytes) bs)
         (map (λ (b : Block). field new b.at b.bytes) bs)
     pub told : AreBlocksTold bs old new edits
@@ -146,7 +146,7 @@ respelled-more all left b to old now now' made edits edits' here s w is told mor
           subst (λ (x : List Edit). Respells 0 all old new x)
           (sym (append_assoc edits here rest) ∙ ap (λ (x : List Edit). x ++ rest) (sym more))
           (s.whole new (here ++ rest) begun len (record {
-            samples = ap (λ (x : List ℕ). x ++ outside (b.at + b.bytes) left new) gap
+            samples = ap (λ (x : List ℕ). x ++ bytes_outside (b.at + b.bytes) left new) gap
                 ∙ ap (λ (x : List ℕ). field old s.from (b.at - s.from) ++ x) others.samples;
             each = (
               subst (λ (x : List ℕ). IsBlockMade x (field new b.at b.bytes)) same_block

@@ -12,7 +12,7 @@ use Rattle.edf_header.specs.Key.{Key}
 use Rattle.edf_header.specs.Header.{HeaderRecord, IsHeader, Layout, layout_of, least_records}
 use Rattle.edf_header.specs.Header.{most_records}
 use Rattle.edf_tal.specs.declared.place.Place.TheVariants.{First}
-use Rattle.edf_fragment.specs.Fragment.{DataRecord, AreDataRecords, Spells}
+use Rattle.edf_fragment.specs.Fragment.{DataRecord, AreDataRecords, IsFragmentFile}
 use Rattle.edf_fragment.specs.Sound.{AreSound}
 use Rattle.edf_fragment.specs.declared.advance.Progress.{Progress}
 use Rattle.edf_fragment.proofs.Runs.{IsHeader-more}
@@ -211,7 +211,7 @@ module _ (w : Wanted) (first t : HeaderTexts) (steps : List RuleEdits) (added : 
 
       -- a fragment
       pub spells : (o : HeaderRecord) → IsHeader (header_bytes t) o [] → l ≡ layout_of o →
-          Spells (header_bytes t ++ concatenated u.carries.all.so.news) l.key put_of.records
+          IsFragmentFile (header_bytes t ++ concatenated u.carries.all.so.news) l.key put_of.records
       spells o is_header same_layout = record {
         header = o;
         rest = concatenated u.carries.all.so.news;

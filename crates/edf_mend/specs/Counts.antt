@@ -1,13 +1,15 @@
 -- Which calls of the input and of the output failed.
 use Rattle.std.specs.Prelude.{◌≡◌, ℕ, Result, MatchResult}
-use Rattle.edf_fragment.specs.Failures.{one_more}
+use Rattle.edf_fragment.specs.Failures.{saturating_increment}
 use Rattle.edf_mend.specs.declared.fault.MendFault.{MendFault}
 use Rattle.edf_mend.specs.declared.fault.MendFault.TheVariants.{Read, Write}
 
 -- a read failed where the fault is `Read`, a write where it is `Write`, and none before another
 abbrev pub CountsFault : ℕ → ℕ → ℕ → ℕ → MendFault → Type 0
-CountsFault reads reads' writes writes' Read = (reads' ≡ one_more reads) × (writes' ≡ writes)
-CountsFault reads reads' writes writes' Write = (reads' ≡ reads) × (writes' ≡ one_more writes)
+CountsFault reads reads' writes writes' Read = (reads' ≡ saturating_increment reads)
+    × (writes' ≡ writes)
+CountsFault reads reads' writes writes' Write = (reads' ≡ reads)
+    × (writes' ≡ saturating_increment writes)
 CountsFault reads reads' writes writes' fault = (reads' ≡ reads) × (writes' ≡ writes)
 
 -- and none failed where the file was written whole

@@ -8,7 +8,7 @@ use Rattle.edf_field.specs.Text.{subfields}
 use Rattle.edf_header.specs.Key.{Key}
 use Rattle.edf_header.specs.Signal.{IsLabelled}
 use Rattle.edf_header.specs.Header.{layout_of}
-use Rattle.edf_fragment.specs.Fragment.{DataRecord, Spells, ordinary_bytes}
+use Rattle.edf_fragment.specs.Fragment.{DataRecord, IsFragmentFile, ordinary_bytes}
 use Rattle.edf_mend.specs.Code.{IsCode}
 use Rattle.edf_mend.specs.Answers.{IsRefusal, IsTrouble}
 use Rattle.edf_mend.specs.Counted.{record_size}
@@ -161,7 +161,7 @@ EachByteStays = (w : Wanted) (a c : List ℕ) (l : Ledger) (first after : Header
 abbrev pub AFragmentStays : Type 0
 AFragmentStays = (w : Wanted) (a c : List ℕ) (l : Ledger) (key : Key) (records : List DataRecord)
     (first : HeaderTexts) (body : List ℕ) → HasHeader a first body →
-    AsksNothing w first.fixed.patient → Spells a key records → Leaves w a l c →
+    AsksNothing w first.fixed.patient → IsFragmentFile a key records → Leaves w a l c →
     (c ≡ a) × TellsNone l
 
 -- **mended twice is mended once**

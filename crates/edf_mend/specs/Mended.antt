@@ -6,7 +6,7 @@ use Rattle.std.specs.Io.KnownBytes.{Consumes, Appends, IsAtEnd}
 use Rattle.edf_field.specs.Number.{duration_of}
 use Rattle.edf_header.specs.Key.{Key}
 use Rattle.edf_header.specs.Header.{HeaderRecord, IsHeader, Layout, layout_of}
-use Rattle.edf_fragment.specs.Fragment.{DataRecord, Spells}
+use Rattle.edf_fragment.specs.Fragment.{DataRecord, IsFragmentFile}
 use Rattle.edf_mend.specs.Carried.{AreCarried}
 use Rattle.edf_mend.specs.Counted.{record_size, LeavesOut}
 use Rattle.edf_mend.specs.Header.{HeaderTexts, HasHeader, header_bytes}
@@ -105,7 +105,7 @@ pub record IsMended (w : Wanted) (old : List ℕ) (ledger : Ledger) (new : List 
   pub unasked : HasNone w leaves.first leaves.body
   pub key : Key
   pub records : List DataRecord
-  pub spells : Spells new key records
+  pub spells : IsFragmentFile new key records
 
 -- of a file for others it is told how many texts of annotations nobody looked at
 abbrev pub IsUnreadTold : Wanted → Ledger → List DataRecord → Type 0

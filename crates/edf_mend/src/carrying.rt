@@ -4,7 +4,7 @@ ghost use Rattle.std.specs.Prelude.{◌≡◌, ◌≢◌, ◌⊎◌, ◌+◌, �
 ghost use Rattle.std.specs.Prelude.{IfOk, IfErr, IfSome, OnOk, OnErr, IsTrue, Some, true, false};
 ghost use Rattle.std.specs.Prelude.{◌↔◌};
 ghost use Rattle.std.specs.Io.KnownBytes.{Consumes, Appends};
-ghost use Rattle.edf_fragment.specs.Reading.{at_first};
+ghost use Rattle.edf_fragment.specs.Reading.{initial_progress};
 ghost use Rattle.edf_fragment.specs.declared.advance.ReaderState.TheVariants.{Reading};
 ghost use Rattle.edf_canonical.specs.Output.{buffered};
 ghost use Rattle.edf_mend.specs.Answers.{IsTrouble, GoesOn};
@@ -254,7 +254,7 @@ fn carry_records<R: Input, W: Output>(
     is_retold: bool,
     told: &mut Told,
 ) -> Result<Starts, MendFault>
-    requires first { fragment.old.progress ≡ at_first }
+    requires first { fragment.old.progress ≡ initial_progress }
     requires fitting { IsFitting fragment.old.header shape }
     requires none { told.old.fault ≡ None }
     requires fresh { TellsNoRecords told.old.ledger }
@@ -322,7 +322,7 @@ pub(crate) fn carry_file<R: Input, W: Output>(
     told: &mut Told,
 ) -> Result<Starts, MendFault>
     requires few { length ground.first.now.signals ≤ 1000 }
-    requires first { fragment.old.progress ≡ at_first }
+    requires first { fragment.old.progress ≡ initial_progress }
     requires fitting { IsFitting fragment.old.header shape }
     requires none { told.old.fault ≡ None }
     requires fresh { TellsNoRecords told.old.ledger }

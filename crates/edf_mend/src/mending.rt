@@ -4,7 +4,7 @@ ghost use Rattle.std.specs.Prelude.{◌≡◌, ◌≢◌, ◌+◌, ◌≤◌, �
 ghost use Rattle.std.specs.Prelude.{IfOk, IfErr, IfSome, OnErr, MatchResult};
 ghost use Rattle.std.specs.Io.KnownBytes.{Consumes};
 ghost use Rattle.edf_header.specs.Key.{Key};
-ghost use Rattle.edf_fragment.specs.Fragment.{DataRecord, Spells};
+ghost use Rattle.edf_fragment.specs.Fragment.{DataRecord, IsFragmentFile};
 ghost use Rattle.edf_fragment.specs.declared.fault.FragmentFault.{FragmentFault};
 ghost use Rattle.edf_mend.specs.Answers.{IsRefusal, IsTrouble, GoesOn, WritesLeft, Copies};
 ghost use Rattle.edf_mend.specs.Counts.{CountsCalls, CountsFault};
@@ -236,7 +236,7 @@ pub fn mend<R: Input, W: Output>(
         IfErr result IsTrouble }
     ensures copied { (file : List ℕ) (key : Key) (records : List DataRecord)
         (first : HeaderTexts) (body : List ℕ) → R.remaining input.old ≡ Some file →
-        HasHeader file first body → Spells file key records →
+        HasHeader file first body → IsFragmentFile file key records →
         AsksNothing wanted.now first.fixed.patient → MatchResult result
         (λ ledger. TellsNone ledger × Copies (R.remaining input.old) (R.remaining input.new)
         (W.contents out.old) (W.contents out.new)) IsTrouble }

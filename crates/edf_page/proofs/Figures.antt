@@ -11,7 +11,7 @@ use Rattle.edf_field.specs.declared.number.TheConstants.{MOST_DURATION}
 use Rattle.edf_header.specs.Key.{Key}
 use Rattle.edf_header.proofs.Cited.{key-duration-bound}
 use Rattle.edf_tal.specs.Tal.{Annotation, IsAnnotation}
-use Rattle.edf_fragment.specs.Fragment.{DataRecord, Spells}
+use Rattle.edf_fragment.specs.Fragment.{DataRecord, IsFragmentFile}
 use Rattle.edf_fragment.specs.Sound.{AreSound}
 use Rattle.edf_fragment.proofs.Fragments.{fragment_of_all}
 use Rattle.edf_fragment.proofs.OneFragment.{one-fragment}

@@ -323,7 +323,7 @@ calm-replies old new (from ∷ froms) (to ∷ tos) (a ∷ answers) are calm =
     )
 
 will-tell : (froms : List InputState) (files : List (List ℕ)) (tolds : List Parsed) →
-    map (λ (f : InputState). f.left) froms ≡ map Some files → AllZip ParsesTo files tolds →
+    map (λ (f : InputState). f.remaining) froms ≡ map Some files → AllZip ParsesTo files tolds →
     AllZip WillParseTo froms tolds
 will-tell [] [] [] same all = tt
 will-tell [] [] (t ∷ tolds) same all = absurd all
@@ -331,8 +331,14 @@ will-tell [] (b ∷ files) tolds same all = absurd (cc)
 will-tell (f ∷ froms) [] tolds same all = absurd (cc)
 will-tell (f ∷ froms) (b ∷ files) [] same all = absurd all
 will-tell (f ∷ froms) (b ∷ files) (t ∷ tolds) same all = (
-  (b, head-is f.left (Some b) (map (λ (g : InputState). g.left) froms) (map Some files) same, all.0),
-  will-tell froms files tolds (tail-is f.left (Some b) (map (λ (g : InputState). g.left) froms)
+  (
+    b,
+    head-is f.remaining (Some b) (map (λ (g : InputState). g.remaining) froms)
+        (map Some files) same,
+    all.0,
+  ),
+  will-tell froms files tolds (tail-is f.remaining (Some b)
+      (map (λ (g : InputState). g.remaining) froms)
       (map Some files) same) all.1,
 )
 

@@ -42,7 +42,8 @@ first-is : (one other : Reply) → one ∷ [] ≡ other ∷ [] → one ≡ other
 first-is one other same = cc
 
 pub submits-one : (old new : StoreModel MemStore) (from to : InputState) (bytes : List ℕ)
-    (answer : Answer) → from.left ≡ Some bytes → SubmitsOne over_memory old new from to answer →
+    (answer : Answer) → from.remaining ≡ Some bytes →
+    SubmitsOne over_memory old new from to answer →
     new.cap ≡ old.cap → stop_in answer ≡ None → Submits old new bytes answer
 submits-one old new from to bytes answer left one kept calm h told has tells =
     let all = answers_all over_memory old new (from ∷ []) (to ∷ []) (answer ∷ [])

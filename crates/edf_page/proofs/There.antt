@@ -129,7 +129,7 @@ module _ (own bytes : List ℕ) where
           record {
             others = λ other differs. all other;
             gone = λ has. absurd (none has);
-            left = λ why. all file.name;
+            unchanged = λ why. all file.name;
           }
 
       pub gone-there : (name : List ℕ) → name ≡ file.name → HasName file →
@@ -147,7 +147,7 @@ module _ (own bytes : List ℕ) where
             file.name (if bytes_eq own file.name then Some bytes else None))))
             (fewer file.name ∙ ap (λ (b : Bool). not b && is_among names file.name)
             ((bytes_eq-Decides file.name name).1 (sym is)));
-        left = λ why. absurd (of why);
+        unchanged = λ why. absurd (of why);
       }
         where
           of : (¬ HasName file) ⊎ (true ≡ false) → ⊥

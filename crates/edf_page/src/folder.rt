@@ -11,7 +11,7 @@ use crate::begun::{BegunFiles, NamedFile};
 use crate::given::GivenFile;
 use crate::names::Names;
 use crate::text::Text;
-use edf_fragment::one_more;
+use edf_fragment::saturating_increment;
 use edf_program::{FileStage, NewFiles, Unfinished};
 use std::alloc::{AllocError, Global};
 use std::io;
@@ -122,10 +122,10 @@ impl<'a> NewFiles for Folder<'a> {
     fn create(&mut self, alloc: Global, name: &str) -> io::Result<Text> {
         let is_refused = self.is_forgotten || self.names.have(name);
         if is_refused || self.files.push(alloc, name).is_err() {
-            self.failed = one_more(self.failed);
+            self.failed = saturating_increment(self.failed);
             return Err(io::Error::from(io::ErrorKind::AlreadyExists));
         }
-        self.begun_count = one_more(self.begun_count);
+        self.begun_count = saturating_increment(self.begun_count);
         Ok(Text::new(alloc))
     }
 
@@ -136,7 +136,7 @@ impl<'a> NewFiles for Folder<'a> {
                 self.files
                     .give_back(FileStage::Removed, false, Some(bytes), Some(why));
             }
-            self.failed = one_more(self.failed);
+            self.failed = saturating_increment(self.failed);
             return Err(why);
         }
         let count = bytes.len() as u64;

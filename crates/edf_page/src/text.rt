@@ -2,7 +2,7 @@
 
 ghost use Rattle.std.specs.Prelude.{◌≡◌, []};
 
-use edf_fragment::{Output, one_more};
+use edf_fragment::{Output, saturating_increment};
 use std::alloc::Global;
 use std::io;
 
@@ -37,7 +37,7 @@ impl Output for Text {
         match self.bytes.extend_from_slice(buf) {
             Ok(()) => Ok(buf.len()),
             Err(error) => {
-                self.failures = one_more(self.failures);
+                self.failures = saturating_increment(self.failures);
                 Err(io::Error::from(error))
             }
         }

@@ -8,7 +8,7 @@ use Rattle.std.proofs.lemmas.Bool.{false≢true}
 use Rattle.std.proofs.KnownBytes.{Appends-nil, Appends-trans}
 use Rattle.std.specs.Bool.{MatchBool}
 use Rattle.std.specs.Io.KnownBytes.{Appends}
-use Rattle.edf_fragment.specs.Failures.{one_more}
+use Rattle.edf_fragment.specs.Failures.{saturating_increment}
 use Rattle.edf_fragment.specs.declared.streams.Output.{Ghosts}
 use Rattle.edf_program.specs.Output.{Growth, growth, Gets, GetsFront, LacksText, IsPut, IsLinePut}
 use Rattle.edf_program.specs.Output.{IsWritten, IsTextTold, AreTold}
@@ -29,7 +29,8 @@ grown before failed_before after failed_after =
 abbrev pub IsSentBy : Option (List ℕ) → ℕ → Option (List ℕ) → ℕ → List ℕ → Bool → Type 0
 IsSentBy before old after new bytes written = MatchBool written
     (Appends before after bytes × (new ≡ old))
-    ((n : ℕ) × (n < length bytes) × Appends before after (take n bytes) × (new ≡ one_more old))
+    ((n : ℕ) × (n < length bytes) × Appends before after (take n bytes)
+    × (new ≡ saturating_increment old))
 
 pub put-sent : (before : Option (List ℕ)) (old : ℕ) (after : Option (List ℕ)) (new : ℕ)
     (bytes : List ℕ) (written : Bool)
@@ -38,7 +39,7 @@ put-sent before old after new bytes true s = s
 put-sent before old after new bytes false s = (
   record {
     front = take s.0 bytes;
-    left = drop s.0 bytes;
+    remaining = drop s.0 bytes;
     parts = sym (take-append-drop s.0 bytes);
     wrote = s.2;
   },
@@ -143,13 +144,13 @@ module _ (a : Option (List ℕ)) (old : ℕ) (b : Option (List ℕ)) (mid : ℕ)
   front-after done line rest all e first then = (
     record {
       front = done ++ then.0.front;
-      left = then.0.left ++ rest;
+      remaining = then.0.remaining ++ rest;
       parts = e ∙ ap (λ (l : List ℕ). done ++ (l ++ rest)) then.0.parts
-          ∙ ap (λ (l : List ℕ). done ++ l) (append_assoc then.0.front then.0.left rest)
-          ∙ sym (append_assoc done then.0.front (then.0.left ++ rest));
+          ∙ ap (λ (l : List ℕ). done ++ l) (append_assoc then.0.front then.0.remaining rest)
+          ∙ sym (append_assoc done then.0.front (then.0.remaining ++ rest));
       wrote = Appends-trans a b c done then.0.front first.0 then.0.wrote;
     },
-    then.1 ∙ ap one_more first.1,
+    then.1 ∙ ap saturating_increment first.1,
   )
 
   -- some lines were written, and the next one was not

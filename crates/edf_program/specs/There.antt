@@ -51,4 +51,4 @@ HasName file = (file.whole ≡ true) × (file.stage ≢ Removed)
 pub record IsTakenAway (old new : There) (file : MadeFile) (is_gone : Bool) : Type 0 where
   pub others : IsSameBut old new file.name
   pub gone : HasName file → is_gone ≡ true → Becomes (old file.name) (new file.name) None
-  pub left : (¬ HasName file) ⊎ (is_gone ≡ false) → new file.name ≡ old file.name
+  pub unchanged : (¬ HasName file) ⊎ (is_gone ≡ false) → new file.name ≡ old file.name

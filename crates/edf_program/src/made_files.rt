@@ -3,12 +3,12 @@
 ghost use Rattle.std.specs.Prelude.{◌≡◌, ◌≤◌, ◌++◌, ◌∷◌, [], ℕ, true, false, List, MatchResult};
 ghost use Rattle.std.specs.Prelude.{length, option_map, slice_get};
 ghost use Rattle.std.specs.Bool.{MatchBool};
-ghost use Rattle.edf_fragment.specs.Failures.{one_more};
+ghost use Rattle.edf_fragment.specs.Failures.{saturating_increment};
 ghost use Rattle.edf_program.specs.Made.{MadeFile, made_file, begun, half, finished, removed};
 ghost use Rattle.edf_program.specs.Made.{kept, unnamed, stage_after, WritesNone, failed_with};
 
 use crate::new_files::{FileStage, Unfinished};
-use edf_fragment::one_more;
+use edf_fragment::saturating_increment;
 use std::alloc::{AllocError, Global};
 use std::marker::Model;
 
@@ -141,13 +141,13 @@ impl MadeFiles {
             (λ _. self.new.files ≡ self.old.files) }
         ensures failed { MatchResult result
             (λ _. self.new.failed ≡ self.old.failed)
-            (λ _. self.new.failed ≡ one_more self.old.failed) }
+            (λ _. self.new.failed ≡ saturating_increment self.old.failed) }
         ensures begun_count { self.new.begun_count ≡ self.old.begun_count }
     {
         match self.push(alloc, name) {
             Ok(()) => Ok(()),
             Err(error) => {
-                self.failed = one_more(self.failed);
+                self.failed = saturating_increment(self.failed);
                 Err(error)
             }
         }
@@ -157,9 +157,9 @@ impl MadeFiles {
     pub fn confirm(&mut self)
         ensures files { self.new.files ≡ self.old.files }
         ensures failed { self.new.failed ≡ self.old.failed }
-        ensures begun_count { self.new.begun_count ≡ one_more self.old.begun_count }
+        ensures begun_count { self.new.begun_count ≡ saturating_increment self.old.begun_count }
     {
-        self.begun_count = one_more(self.begun_count);
+        self.begun_count = saturating_increment(self.begun_count);
     }
 
     /// Strikes out the file that was noted last: it could not be begun.
@@ -167,11 +167,11 @@ impl MadeFiles {
         ensures files { (files : List MadeFile) (file : MadeFile) →
             self.old.files ≡ files ++ (file ∷ []) → self.new.files ≡ files }
         ensures none { self.old.files ≡ [] → self.new.files ≡ [] }
-        ensures failed { self.new.failed ≡ one_more self.old.failed }
+        ensures failed { self.new.failed ≡ saturating_increment self.old.failed }
         ensures begun_count { self.new.begun_count ≡ self.old.begun_count }
     {
         self.entries.pop();
-        self.failed = one_more(self.failed);
+        self.failed = saturating_increment(self.failed);
     }
 
     /// Notes how far the file is that is written, whose writer was given back.
@@ -214,11 +214,11 @@ impl MadeFiles {
             self.old.files ≡ files ++ (begun name ∷ []) → self.new.files ≡ files
             ++ (unnamed name why (option_map (λ bytes. bytes.items) bytes) is_gone ∷ []) }
         ensures none { WritesNone self.old.files → self.new.files ≡ self.old.files }
-        ensures failed { self.new.failed ≡ one_more self.old.failed }
+        ensures failed { self.new.failed ≡ saturating_increment self.old.failed }
         ensures begun_count { self.new.begun_count ≡ self.old.begun_count }
     {
         self.give_back(stage_after(is_gone), false, bytes, Some(why));
-        self.failed = one_more(self.failed);
+        self.failed = saturating_increment(self.failed);
     }
 
     /// Notes that the file that is written is left with these bytes, after so many failures.

@@ -3,7 +3,7 @@
 ghost use Rattle.std.specs.Prelude.{◌≡◌, ◌≤◌, ◌++◌, ◌∷◌, [], ℕ, Bool, true, false, List, Some};
 ghost use Rattle.std.specs.Prelude.{IfOk, IfSome, MatchResult, length};
 ghost use Rattle.std.specs.Bool.{MatchBool};
-ghost use Rattle.edf_fragment.specs.Failures.{one_more};
+ghost use Rattle.edf_fragment.specs.Failures.{saturating_increment};
 ghost use Rattle.edf_program.specs.Made.{MadeFile, begun, half, removed, kept};
 ghost use Rattle.edf_program.specs.Made.{IsEnded, WritesNone, failed_with};
 ghost use Rattle.edf_program.specs.There.{There, IsVacant, MayBeThere, IsSame, IsNamed};
@@ -85,11 +85,11 @@ pub trait NewFiles {
             (λ _. made self.new ≡ made self.old ++ (begun name.now ∷ []))
             (λ _. made self.new ≡ made self.old) }
         ensures begun_count { MatchResult result
-            (λ _. begun_count self.new ≡ one_more (begun_count self.old))
+            (λ _. begun_count self.new ≡ saturating_increment (begun_count self.old))
             (λ _. begun_count self.new ≡ begun_count self.old) }
         ensures failed { MatchResult result
             (λ _. failed self.new ≡ failed self.old)
-            (λ _. failed self.new ≡ one_more (failed self.old)) }
+            (λ _. failed self.new ≡ saturating_increment (failed self.old)) }
         ensures empty { IfOk result (λ writer. known self.old ≡ true →
             Self.Writer.contents writer ≡ Some []) }
         ensures unfailed { IfOk result (λ writer. Self.Writer.failures writer ≡ 0) }
@@ -112,7 +112,7 @@ pub trait NewFiles {
         ensures begun_count { begun_count self.new ≡ begun_count self.old }
         ensures failed { MatchResult result
             (λ _. failed self.new ≡ failed self.old)
-            (λ _. failed self.new ≡ one_more (failed self.old)) }
+            (λ _. failed self.new ≡ saturating_increment (failed self.old)) }
         ensures whole { IfOk result (λ bytes. (Self.Writer.failures writer ≡ 0)
             × IfSome (Self.Writer.contents writer) (λ held. length held ≡ bytes)) }
         ensures there { (files : List MadeFile) (name : List ℕ) →

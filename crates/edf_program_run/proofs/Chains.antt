@@ -125,10 +125,10 @@ with_next : (cap : ℕ) (h : Holdings) (given rest : List (Option (List ℕ))) (
 with_next cap h given rest first t later told tolds each gave heard are =
     let last = answered t told in
     let same : given_in (first ++ t ∷ later) ≡ given_in (first ++ last ∷ []) ++ given_in later =
-    map-append (λ (u : Turn). u.from.left) first (t ∷ later)
-    ∙ sym (append_assoc (given_in first) (t.from.left ∷ []) (given_in later))
+    map-append (λ (u : Turn). u.from.remaining) first (t ∷ later)
+    ∙ sym (append_assoc (given_in first) (t.from.remaining ∷ []) (given_in later))
     ∙ ap (λ (l : List (Option (List ℕ))). l ++ given_in later)
-    (sym (map-append (λ (u : Turn). u.from.left) first (last ∷ []))) in (
+    (sym (map-append (λ (u : Turn). u.from.remaining) first (last ∷ []))) in (
       first ++ last ∷ [],
       given_in later ++ rest,
       gave ∙ ap (λ (l : List (Option (List ℕ))). l ++ rest) same
@@ -149,7 +149,7 @@ front_may cap h given rest turns tolds all gave it =
         it.first,
         given_in it.rest ++ rest,
         gave' ∙ ap (λ (l : List (Option (List ℕ))). l ++ rest)
-            (map-append (λ (u : Turn). u.from.left) it.first it.rest)
+            (map-append (λ (u : Turn). u.from.remaining) it.first it.rest)
             ∙ append_assoc (given_in it.first) (given_in it.rest) rest,
         each,
         told,

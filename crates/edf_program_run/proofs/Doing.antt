@@ -167,8 +167,8 @@ module _ {D : Type 0} {g : disk.Ghosts D} (bytes : List ℕ → Option (List ℕ
           inl t,
           opened,
           inl (
-            sym (map-map (λ (f : InputState). f.left) (λ (u : Turn). u.from) s.turns)
-                ∙ ap (λ (l : List InputState). map (λ (f : InputState). f.left) l) s.froms_are
+            sym (map-map (λ (f : InputState). f.remaining) (λ (u : Turn). u.from) s.turns)
+                ∙ ap (λ (l : List InputState). map (λ (f : InputState). f.remaining) l) s.froms_are
                 ∙ t.opened,
             λ spell spells. subst (λ (answers : List Answer). AreTold out
                 (first_take_lines spell files answers) (length answers) (take_status answers)
@@ -181,7 +181,7 @@ module _ {D : Type 0} {g : disk.Ghosts D} (bytes : List ℕ → Option (List ℕ
   one_done : (name : List ℕ) (old mid new : StoreModel (FileStore D g)) (status : Status)
       (from to : InputState) (answer : Answer) →
       IsDone over_files old new out err bytes (convert name) status →
-      HasOpened before after (name ∷ []) status → from.left ≡ bytes name →
+      HasOpened before after (name ∷ []) status → from.remaining ≡ bytes name →
       IsSubmitted over_files old mid from to answer →
       ((turns : List Turn) → TakesTurns over_files old mid turns →
       TakesTurns over_files old new turns) →

@@ -43,7 +43,7 @@ pub record IsFront (turns : List Turn) (submissions : List Parsed) : Type 0 wher
 
 -- what the files gave, where that is known
 abbrev pub given_in : List Turn → List (Option (List ℕ))
-given_in turns = map (λ (t : Turn). t.from.left) turns
+given_in turns = map (λ (t : Turn). t.from.remaining) turns
 
 -- ---- many runs
 

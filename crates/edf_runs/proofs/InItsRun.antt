@@ -12,7 +12,7 @@ use Rattle.std.proofs.lemmas.List.Sorted.{IsPermutation-sym}
 use Rattle.edf_field.specs.Number.{duration_of}
 use Rattle.edf_header.specs.Key.{Key}
 use Rattle.edf_tal.specs.Tal.{Annotation}
-use Rattle.edf_fragment.specs.Fragment.{DataRecord, Spells}
+use Rattle.edf_fragment.specs.Fragment.{DataRecord, IsFragmentFile}
 use Rattle.edf_fragment.proofs.OneFragment.{one-fragment}
 use Rattle.edf_runs.specs.ByOnset.{annotations_of, AreAlike, by_onset, Covers, BeginsBy}
 use Rattle.edf_runs.specs.ByOnset.{BeginsAfter, IsLastBegun, AreWhereCovered, AreWhereBegun}
@@ -213,7 +213,7 @@ module _ (d : ℕ) (records : List DataRecord) (runs : List (List DataRecord))
 
 spell-runs : (k : Key) (files : List (List ℕ)) (runs spelled : List (List DataRecord)) →
     AllZip (λ file run. IsRunFile file k run) files runs →
-    AllZip (λ file run. Spells file k run) files spelled → runs ≡ spelled
+    AllZip (λ file run. IsFragmentFile file k run) files spelled → runs ≡ spelled
 spell-runs k [] [] [] are spell = refl
 spell-runs k [] [] (s ∷ ss) are spell = absurd spell
 spell-runs k [] (run ∷ runs) spelled are spell = absurd are

@@ -2,7 +2,7 @@
 use Rattle.std.proofs.Common.{ℕ, List}
 use Rattle.std.proofs.Common.{sym, subst}
 use Rattle.edf_header.specs.Key.{Key, MayStart}
-use Rattle.edf_fragment.specs.Fragment.{DataRecord, Spells}
+use Rattle.edf_fragment.specs.Fragment.{DataRecord, IsFragmentFile}
 use Rattle.edf_fragment.specs.Sound.{MayBegin}
 use Rattle.edf_fragment.proofs.Sound.{spelled-begins}
 use Rattle.edf_canonical.specs.Measure.{IsMeasured}
@@ -10,7 +10,7 @@ use Rattle.edf_canonical.specs.declared.measure.Measure.{Measure}
 
 -- a recording may start with the first of what bytes spell
 pub measured_starts : (bytes : List ℕ) (k : Key) (records : List DataRecord) (m : Measure) →
-    Spells bytes k records → IsMeasured records m → MayStart k m.first
+    IsFragmentFile bytes k records → IsMeasured records m → MayStart k m.first
 measured_starts bytes k records m spells is =
     subst (MayStart k) (sym is.start) (subst (MayBegin k) is.parts
     (spelled-begins bytes k records spells))

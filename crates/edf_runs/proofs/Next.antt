@@ -12,7 +12,8 @@ use Rattle.edf_tal.specs.declared.place.TalFault.{TalFault}
 use Rattle.edf_tal.proofs.Cited.{blocks-read-no-fault}
 use Rattle.edf_fragment.specs.Fragment.{DataRecord, IsDataRecord, AreDataRecords, place_after}
 use Rattle.edf_fragment.specs.Fragment.{blocks}
-use Rattle.edf_fragment.specs.Reading.{IsAnswer, AnswersIn, IsNext, GivesRecord, EndsThere}
+use Rattle.edf_fragment.specs.Reading.{IsAnswer, IsAnswerInState, IsNext, ReadsRecord}
+use Rattle.edf_fragment.specs.Reading.{IsEndOfRecords}
 use Rattle.edf_fragment.specs.Stops.{EndsInRecord, RefusesBlock}
 use Rattle.edf_fragment.specs.declared.advance.Progress.{Progress}
 use Rattle.edf_fragment.specs.declared.advance.ReaderState.{ReaderState}
@@ -74,7 +75,7 @@ record Follows (l : Layout) (rest : Option (List ℕ)) (x r : DataRecord) (xs : 
 
 follows : (l : Layout) (from : Progress) (left rest : Option (List ℕ)) (all : List ℕ)
     (x r : DataRecord) (xs : List DataRecord) (last : Place) (after : List ℕ) → left ≡ Some all
-    → AreDataRecords l from.place all (x ∷ xs) last after → GivesRecord l from left rest r →
+    → AreDataRecords l from.place all (x ∷ xs) last after → ReadsRecord l from left rest r →
     Follows l rest x r xs last after
 follows l from left rest all x r xs last after is (front, back, parts, one, more) gives =
     let k = known left rest all gives.bytes is gives.read in
@@ -97,7 +98,7 @@ follows l from left rest all x r xs last after is (front, back, parts, one, more
 no_end : (l : Layout) (from : Progress) (left rest : Option (List ℕ)) (all : List ℕ)
     (x : DataRecord) (xs : List DataRecord) (last : Place) (after : List ℕ) → IsLayout l →
     left ≡ Some all
-    → AreDataRecords l from.place all (x ∷ xs) last after → ¬ EndsThere l from left rest
+    → AreDataRecords l from.place all (x ∷ xs) last after → ¬ IsEndOfRecords l from left rest
 no_end l from left rest all x xs last after layout is (front, back, parts, one, more) ends =
     let none = all_read left rest all [] is ends.read ends.end in
     let len : length all ≡ length front + length back = ap (λ (z : List ℕ). length z) parts
@@ -141,8 +142,8 @@ reading : (l : Layout) (from to : Progress) (left rest : Option (List ℕ))
     IsAnswer l from to left rest answer
     → IsNext l from left rest answer
 reading l from to left rest answer going is =
-    let a : AnswersIn Reading l from to left rest answer =
-    subst (λ (s : ReaderState). AnswersIn s l from to left rest answer) going is in
+    let a : IsAnswerInState Reading l from to left rest answer =
+    subst (λ (s : ReaderState). IsAnswerInState s l from to left rest answer) going is in
     a.1
 
 pub has_all : (l : Layout) (from : Progress) (left : Option (List ℕ)) (run : Run)

@@ -8,10 +8,10 @@ use Rattle.std.specs.Io.KnownBytes.{Appends}
 use Rattle.edf_header.specs.Key.{Key}
 use Rattle.edf_header.specs.Header.{Layout, IsLayout}
 use Rattle.edf_header.specs.Signal.{samples_in_all}
-use Rattle.edf_fragment.specs.Fragment.{DataRecord, Spells}
-use Rattle.edf_fragment.specs.Reading.{ReadsHeader, IsAnswer, at_first}
+use Rattle.edf_fragment.specs.Fragment.{DataRecord, IsFragmentFile}
+use Rattle.edf_fragment.specs.Reading.{ReadsHeader, IsAnswer, initial_progress}
 use Rattle.edf_fragment.specs.Sound.{IsSoundRecord, AreSound}
-use Rattle.edf_fragment.specs.Whole.{HasRead}
+use Rattle.edf_fragment.specs.Whole.{HasReadRecords}
 use Rattle.edf_fragment.specs.declared.advance.Progress.{Progress}
 use Rattle.edf_fragment.specs.declared.advance.ReaderState.TheVariants.{Reading}
 use Rattle.edf_fragment.specs.declared.fault.FragmentFault.{FragmentFault}
@@ -51,7 +51,7 @@ module _ {R : Type 0} (g : Ghosts R) (l : Layout) (kept : List DataRecord)
     header : now.file.header ≡ l
     nth : now.source.nth ≡ length rs
     going : now.file.progress.state ≡ Reading
-    read : HasRead l left (g.remaining now.input) rs now.file.progress
+    read : HasReadRecords l left (g.remaining now.input) rs now.file.progress
     alike : StartAlike kept rs
     sound : AllByRecursion (IsSoundRecord l.key) rs
     counted : g.failures now.input ≡ reads
@@ -108,7 +108,7 @@ module _ {R : Type 0} {g : Ghosts R} {l : Layout} {kept : List DataRecord}
 
   module _ (from : At WholeAgain OpenFragment R) (keeps : from.source.kept.now ≡ kept)
       (is : from.file.header ≡ l) (nth : from.source.nth ≡ 0)
-      (first : from.file.progress ≡ at_first) (starts : left ≡ g.remaining from.input)
+      (first : from.file.progress ≡ initial_progress) (starts : left ≡ g.remaining from.input)
       (counts : reads ≡ g.failures from.input) where
     all-read : (mid : At WholeAgain OpenFragment R) (rs : List DataRecord) →
         Gives (ReadsAgain g) from mid rs → HasReadAgain g l kept left reads mid rs
@@ -118,8 +118,9 @@ module _ {R : Type 0} {g : Ghosts R} {l : Layout} {kept : List DataRecord}
           header = is;
           nth = nth;
           going = ap (λ (x : Progress). x.state) first;
-          read = subst (λ (x : Progress). HasRead l left (g.remaining from.input) [] x) (sym first)
-              (subst (λ (x : Option (List ℕ)). HasRead l left x [] at_first) starts
+          read = subst (λ (x : Progress). HasReadRecords l left (g.remaining from.input) [] x)
+              (sym first)
+              (subst (λ (x : Option (List ℕ)). HasReadRecords l left x [] initial_progress) starts
               (reads_none l left));
           alike = alike-none kept;
           sound = tt;
@@ -148,7 +149,7 @@ module _ {R : Type 0} {g : Ghosts R} {l : Layout} {kept : List DataRecord}
 
       -- an input that spells what was measured
       module _ (bytes : List ℕ) (k : Key) (spelled : List DataRecord)
-          (opens : ReadsHeader (Some bytes) left l) (spells : Spells bytes k spelled)
+          (opens : ReadsHeader (Some bytes) left l) (spells : IsFragmentFile bytes k spelled)
           (alike : StartAlike kept spelled) (measured : IsMeasured (annotated kept spelled) m) where
         fits : (mid : At WholeAgain OpenFragment R) (rs : List DataRecord) → HasReadAgain g l kept left reads mid rs →
             MayComeFirst (annotated kept rs) m
@@ -225,7 +226,7 @@ once {g = g} {l = l} mid to (Err fault) same is = inr (
 module _ {R : Type 0} {g : Ghosts R} {l : Layout} {left file : Option (List ℕ)} {reads : ℕ}
     (layout : IsLayout l) (from : At WholeAgain OpenFragment R) (plan : CanonicalPlan)
     (keeps : from.source.kept.now ≡ plan.kept.items) (is : from.file.header ≡ l)
-    (nth : from.source.nth ≡ 0) (first : from.file.progress ≡ at_first)
+    (nth : from.source.nth ≡ 0) (first : from.file.progress ≡ initial_progress)
     (starts : left ≡ g.remaining from.input) (counts : reads ≡ g.failures from.input)
     (opens : ReadsHeader file left l) (same : l.key ≡ plan.identity)
     (to : At WholeAgain OpenFragment R) (header : List ℕ) (before after : Option (List ℕ))

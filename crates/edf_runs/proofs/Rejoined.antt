@@ -6,7 +6,7 @@ use Rattle.std.proofs.lemmas.List.Elements.{Contains-append_left, Contains-appen
 use Rattle.std.proofs.lemmas.List.Elements.{Contains-append_cases}
 use Rattle.edf_field.specs.Number.{duration_of}
 use Rattle.edf_header.specs.Key.{Key}
-use Rattle.edf_fragment.specs.Fragment.{DataRecord, Spells}
+use Rattle.edf_fragment.specs.Fragment.{DataRecord, IsFragmentFile}
 use Rattle.edf_fragment.specs.Parsed.{Parsed, Fragment, ParsesTo}
 use Rattle.edf_fragment.proofs.Parsed.{one-parse}
 use Rattle.edf_holdings.specs.Clash.{NoClash}
@@ -108,14 +108,14 @@ told-sound (file ∷ files) (told ∷ tolds) tell =
 -- what a file of the list tells is told
 pub file-told : (files : List (List ℕ)) (tolds : List Parsed) (file : List ℕ) (k q : Key)
     (run : List DataRecord) (r : DataRecord) → AllZip ParsesTo files tolds → Contains files file
-    → Spells file k run → Has q r (Fragment k run) → IsAmong q r tolds
+    → IsFragmentFile file k run → Has q r (Fragment k run) → IsAmong q r tolds
 file-told [] tolds file k q run r tell c spells has = absurd (omega (arith, c.1))
 file-told (first ∷ files) [] file k q run r tell c spells has = absurd tell
 file-told (first ∷ files) (told ∷ tolds) file k q run r tell c spells has =
     elim (contains-cases first files file c) [
       | inl same ↦
           let is = one-parse first told (Fragment k run) tell.0
-          (subst (λ (l : List ℕ). Spells l k run) (sym same) spells) in
+          (subst (λ (l : List ℕ). IsFragmentFile l k run) (sym same) spells) in
           inl (subst (Has q r) (sym is) has)
       | inr later ↦ inr (file-told files tolds file k q run r tell.1 later spells has)
     ]

@@ -14,7 +14,7 @@ use Rattle.edf_header.specs.Header.{HeaderRecord, FixedPart, IsFixedHeader, IsHe
 use Rattle.edf_header.specs.Key.{Key, IsKey}
 use Rattle.edf_header.proofs.SpelledTexts.{printable-by}
 use Rattle.edf_header.specs.declared.limits.TheConstants.{MOST_RECORDS}
-use Rattle.edf_fragment.specs.Fragment.{DataRecord, Spells}
+use Rattle.edf_fragment.specs.Fragment.{DataRecord, IsFragmentFile}
 use Rattle.edf_fragment.specs.Sound.{AreSound, MayBegin}
 use Rattle.edf_canonical.proofs.Files.{one-file, its-own}
 use Rattle.edf_canonical.proofs.SomeFile.{some-file}
@@ -162,8 +162,9 @@ marked-header bytes h rest is = record {
   signals = is.signals;
 }
 
-marked-spells : (bytes : List ℕ) (k : Key) (records : List DataRecord) → Spells bytes k records →
-    Spells (marked_continuous bytes) k records
+marked-spells : (bytes : List ℕ) (k : Key) (records : List DataRecord) →
+    IsFragmentFile bytes k records →
+    IsFragmentFile (marked_continuous bytes) k records
 marked-spells bytes k records s = record {
   header = s.header;
   rest = s.rest;
@@ -208,9 +209,9 @@ one-run-file a b k run x y = x.marked
     ∙ sym y.marked
 
 pub run-file-spells : (file : List ℕ) (k : Key) (run : List DataRecord) → IsRunFile file k run →
-    Spells file k run
+    IsFragmentFile file k run
 run-file-spells file k run is =
-    subst (λ (l : List ℕ). Spells l k run) (sym is.marked)
+    subst (λ (l : List ℕ). IsFragmentFile l k run) (sym is.marked)
     (marked-spells is.canonical k run (its-own is.canonical k run is.is_canonical))
 
 pub run-file-read : (file : List ℕ) (k : Key) (run : List DataRecord) → IsRunFile file k run →

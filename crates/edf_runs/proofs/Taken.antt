@@ -7,7 +7,7 @@ use Rattle.std.proofs.lemmas.List.Elements.{All-weaker, All-contains, All-contai
 use Rattle.std.proofs.lemmas.List.Elements.{Contains-append_right, length_all_zip}
 use Rattle.edf_field.specs.Number.{duration_of}
 use Rattle.edf_header.specs.Key.{Key}
-use Rattle.edf_fragment.specs.Fragment.{DataRecord, Spells}
+use Rattle.edf_fragment.specs.Fragment.{DataRecord, IsFragmentFile}
 use Rattle.edf_fragment.specs.Sound.{AreSound}
 use Rattle.edf_fragment.specs.Parsed.{Parsed, Fragment, ParsesTo}
 use Rattle.edf_fragment.proofs.Parsed.{one-parse}
@@ -31,7 +31,7 @@ use Rattle.edf_runs.proofs.Rejoined.{whole, file-told, told-sound, told-as-whole
 record IsPart (k : Key) (rs : List DataRecord) (file : List ℕ) : Type 0 where
   part : List DataRecord
   among : All (Contains rs) part
-  spells : Spells file k part
+  spells : IsFragmentFile file k part
 
 record TellsPart (k : Key) (rs : List DataRecord) (told : Parsed) : Type 0 where
   part : List DataRecord
@@ -70,7 +70,8 @@ module _ (k : Key) (rs : List DataRecord) where
 
 -- where one of the files spells them all
 same-as-whole : (k : Key) (rs : List DataRecord) (file : List ℕ) (files : List (List ℕ))
-    (tolds : List Parsed) → Spells file k rs → Contains files file → All (IsPart k rs) files →
+    (tolds : List Parsed) → IsFragmentFile file k rs → Contains files file →
+    All (IsPart k rs) files →
     AllZip ParsesTo files tolds → SameRecords (whole k rs) tolds
 same-as-whole k rs file files tolds spells is-one are tell q r = (
   (λ any. Any-from_IsAmong q r tolds (forth (IsAmong-from_Any q r (whole k rs) any))),

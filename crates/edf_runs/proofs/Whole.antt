@@ -7,9 +7,9 @@ use Rattle.edf_runs.specs.Canonical.{AreAsPlanned, StartAlike}
 use Rattle.edf_canonical.specs.Kept.{annotated}
 use Rattle.edf_canonical.proofs.Annotated.{annotated-front}
 use Rattle.edf_header.specs.Header.{Layout}
-use Rattle.edf_fragment.specs.Fragment.{DataRecord, Spells}
+use Rattle.edf_fragment.specs.Fragment.{DataRecord, IsFragmentFile}
 use Rattle.edf_fragment.specs.Reading.{ReadsHeader, IsAnswer}
-use Rattle.edf_fragment.specs.Whole.{HasRead, ReadsFragment}
+use Rattle.edf_fragment.specs.Whole.{HasReadRecords, ReadsFragment}
 use Rattle.edf_fragment.specs.declared.advance.Progress.{Progress}
 use Rattle.edf_fragment.specs.declared.advance.ReaderState.TheVariants.{Reading}
 use Rattle.edf_fragment.specs.declared.fault.FragmentFault.{FragmentFault}
@@ -30,7 +30,7 @@ use Rattle.edf_canonical.specs.Measure.{planned_text}
 use Rattle.edf_runs.specs.Canonical.{IsCanonicalWritten}
 use Rattle.std.specs.Io.KnownBytes.{Appends}
 use Rattle.edf_runs.specs.declared.canonical_plan.CanonicalPlan.{CanonicalPlan}
-use Rattle.edf_fragment.specs.Reading.{at_first}
+use Rattle.edf_fragment.specs.Reading.{initial_progress}
 use Rattle.edf_fragment.specs.declared.fault.FragmentFault.TheVariants.{Header as BadHeader}
 use Rattle.edf_fragment.proofs.Fragments.{open_refused, reads_none}
 use Rattle.edf_runs.specs.Again.{fault_again, IsNotReopened}
@@ -49,8 +49,8 @@ use Rattle.edf_canonical.proofs.Measures.{front_first}
 -- those that were read may come first
 pub front_fits : (bytes : List ℕ) (k : Key) (spelled : List DataRecord) (whole : Measure)
     (kept : List DataRecord) (l : Layout) (left rest : Option (List ℕ)) (rs : List DataRecord)
-    (p : Progress) → ReadsHeader (Some bytes) left l → HasRead l left rest rs p →
-    Spells bytes k spelled → IsMeasured (annotated kept spelled) whole →
+    (p : Progress) → ReadsHeader (Some bytes) left l → HasReadRecords l left rest rs p →
+    IsFragmentFile bytes k spelled → IsMeasured (annotated kept spelled) whole →
     MayComeFirst (annotated kept rs) whole
 front_fits bytes k spelled whole kept l left rest rs p header read spells is =
     let front = read-front bytes left rest l rs p k spelled header read spells in
@@ -61,9 +61,9 @@ front_fits bytes k spelled whole kept l left rest rs p header read spells is =
 module _ (bytes : List ℕ) (k : Key) (spelled : List DataRecord) (whole : Measure)
     (kept : List DataRecord) (l : Layout)
     (left mid rest : Option (List ℕ)) (rs : List DataRecord) (p q : Progress)
-    (header : ReadsHeader (Some bytes) left l) (spells : Spells bytes k spelled)
+    (header : ReadsHeader (Some bytes) left l) (spells : IsFragmentFile bytes k spelled)
     (alike : StartAlike kept spelled) (is : IsMeasured (annotated kept spelled) whole)
-    (going : p.state ≡ Reading) (read : HasRead l left mid rs p) where
+    (going : p.state ≡ Reading) (read : HasReadRecords l left mid rs p) where
   -- at the end all were read
   pub all_at_end : IsAnswer l p q mid rest (Ok None) → IsMeasured (annotated kept rs) whole
   all_at_end answer =
@@ -143,7 +143,7 @@ planned_written left rest before after plan l records header len read is sound i
 -- ---- a header that is read again
 
 pub header_unchanged : (bytes : List ℕ) (rest : Option (List ℕ)) (k key : Key)
-    (records : List DataRecord) (fault : WriteFault) → Spells bytes k records → key ≡ k →
+    (records : List DataRecord) (fault : WriteFault) → IsFragmentFile bytes k records → key ≡ k →
     IsNotReopened (Some bytes) rest key fault → fault ≡ Changed → ⊥
 header_unchanged bytes rest k key records fault spells same why is =
     elim (subst (IsNotReopened (Some bytes) rest key) is why) [
@@ -162,7 +162,7 @@ header_unchanged bytes rest k key records fault spells same why is =
                 ]
           ]
       | inr (l, reads, other) ↦
-          let front = read-front bytes rest rest l [] at_first k records reads
+          let front = read-front bytes rest rest l [] initial_progress k records reads
           (reads_none l rest) spells in
           other (sym front.0 ∙ sym same)
     ]
@@ -175,7 +175,7 @@ file-sound file k [] is = tt
 file-sound file k (r ∷ rs) is = spelled-sound file k (r ∷ rs) is.0
 
 front_in_file : (bytes : List ℕ) (rest before after : Option (List ℕ)) (plan : CanonicalPlan)
-    (k : Key) (records : List DataRecord) (file : List ℕ) → Spells bytes k records →
+    (k : Key) (records : List DataRecord) (file : List ℕ) → IsFragmentFile bytes k records →
     AreAsPlanned k records plan → IsCanonicalFile file k (annotated plan.kept.items records) →
     (s : StopsInFile (Some bytes) rest before after plan) →
     WritesPlannedFront before after plan (annotated plan.kept.items s.records) → Keeps before after

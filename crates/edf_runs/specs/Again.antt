@@ -7,7 +7,7 @@ use Rattle.edf_header.specs.Key.{Key}
 use Rattle.edf_header.specs.Header.{Layout, most_records}
 use Rattle.edf_header.specs.declared.fault.HeaderFault.{HeaderFault}
 use Rattle.edf_tal.specs.declared.place.Place.{Place}
-use Rattle.edf_fragment.specs.Failures.{one_more}
+use Rattle.edf_fragment.specs.Failures.{saturating_increment}
 use Rattle.edf_fragment.specs.Fragment.{DataRecord, AreDataRecords}
 use Rattle.edf_fragment.specs.Reading.{ReadsHeader, IsOpenFault, IsAnswer}
 use Rattle.edf_fragment.specs.declared.advance.Progress.{Progress}
@@ -85,7 +85,7 @@ pub record RereadsRun {A : Type 0} (old new : OpenFragment) (left : Option (List
 abbrev pub CountsRereadFault : ℕ → ℕ → WriteFault → Type 0
 CountsRereadFault old new Undated = ⊥
 CountsRereadFault old new Changed = new ≡ old
-CountsRereadFault old new Read = new ≡ one_more old
+CountsRereadFault old new Read = new ≡ saturating_increment old
 CountsRereadFault old new Memory = new ≡ old
 CountsRereadFault old new Write = ⊥
 

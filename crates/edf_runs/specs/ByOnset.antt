@@ -7,7 +7,7 @@ use Rattle.edf_field.specs.Number.{duration_of}
 use Rattle.edf_header.specs.Key.{Key, IsKey}
 use Rattle.edf_tal.specs.Block.{IsWithinLimits}
 use Rattle.edf_tal.specs.Tal.{Annotation}
-use Rattle.edf_fragment.specs.Fragment.{DataRecord, Spells}
+use Rattle.edf_fragment.specs.Fragment.{DataRecord, IsFragmentFile}
 use Rattle.edf_fragment.specs.Sound.{AreSound}
 use Rattle.edf_runs.specs.File.{IsRunFile}
 use Rattle.edf_runs.specs.Order.{in_order, AreInOrder}
@@ -101,7 +101,7 @@ EachInItsRun = (k : Key) (records : List DataRecord) (runs spelled : List (List 
     (files : List (List ℕ)) → IsKey k → AreSound k 0 records →
     IsRuns (duration_of k.duration) (by_onset records) runs →
     AllZip (λ file run. IsRunFile file k run) files runs →
-    AllZip (λ file run. Spells file k run) files spelled →
+    AllZip (λ file run. IsFragmentFile file k run) files spelled →
     IsPermutation (flat_map annotations_of spelled) (annotations_of records)
     × AreWhereCovered (duration_of k.duration) spelled × AreWhereBegun spelled
     × AllZip AreAlike (flat_map (λ run. run) spelled) records

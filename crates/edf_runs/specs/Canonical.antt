@@ -5,9 +5,9 @@ use Rattle.std.specs.Io.KnownBytes.{Appends, Keeps}
 use Rattle.edf_header.specs.Key.{Key}
 use Rattle.edf_header.specs.Header.{Layout}
 use Rattle.edf_header.specs.Canonical.{IsCanonicalHeader}
-use Rattle.edf_fragment.specs.Fragment.{DataRecord, Spells}
+use Rattle.edf_fragment.specs.Fragment.{DataRecord, IsFragmentFile}
 use Rattle.edf_fragment.specs.Reading.{ReadsHeader, IsAnswer}
-use Rattle.edf_fragment.specs.Whole.{ReadsFragment, HasRead}
+use Rattle.edf_fragment.specs.Whole.{ReadsFragment, HasReadRecords}
 use Rattle.edf_fragment.specs.declared.advance.Progress.{Progress}
 use Rattle.edf_fragment.specs.declared.fault.FragmentFault.{FragmentFault}
 use Rattle.edf_canonical.specs.File.{IsCanonicalFile}
@@ -88,7 +88,7 @@ pub record StopsInFile (left rest before after : Option (List ℕ)) (plan : Cano
     pub records : List DataRecord
     pub middle : Option (List ℕ)
     pub progress : Progress
-    pub read : HasRead layout opened middle records progress
+    pub read : HasReadRecords layout opened middle records progress
     pub alike : StartAlike plan.kept.items records
     pub first : MayComeFirst (annotated plan.kept.items records) plan.measure
     pub front : WritesPlannedFront before after plan (annotated plan.kept.items records)
@@ -106,7 +106,7 @@ IsNotCanonical left rest before after plan fault = (fault ≢ Undated)
 abbrev pub IsToldUnchanged : {A : Type 0} → Option (List ℕ) → CanonicalPlan →
     Result A WriteFault → Type 0
 IsToldUnchanged left plan result = (bytes : List ℕ) (k : Key) (records : List DataRecord) →
-    left ≡ Some bytes → Spells bytes k records → AreAsPlanned k records plan →
+    left ≡ Some bytes → IsFragmentFile bytes k records → AreAsPlanned k records plan →
     result ≢ Err Changed
 
 -- where the input spells what was planned, nothing went out before a fault, or a front of its
@@ -114,7 +114,7 @@ IsToldUnchanged left plan result = (bytes : List ℕ) (k : Key) (records : List 
 abbrev pub LeavesFrontOfFile : Type 0
 LeavesFrontOfFile = (left rest before after : Option (List ℕ)) (plan : CanonicalPlan)
     (fault : WriteFault) (bytes : List ℕ) (k : Key) (records : List DataRecord) (file : List ℕ) →
-    left ≡ Some bytes → Spells bytes k records → AreAsPlanned k records plan →
+    left ≡ Some bytes → IsFragmentFile bytes k records → AreAsPlanned k records plan →
     IsCanonicalFile file k (annotated plan.kept.items records) →
     IsNotCanonical left rest before after plan fault →
     Keeps before after ⊎ WritesFront before after file

@@ -3,7 +3,7 @@ use Rattle.std.specs.Prelude.{◌≡◌, ℕ, List, ◌++◌, take, drop, codes}
 use Rattle.edf_field.specs.Number.{duration_of}
 use Rattle.edf_header.specs.Key.{Key}
 use Rattle.edf_header.specs.Fields.{reserved_field}
-use Rattle.edf_fragment.specs.Fragment.{DataRecord, Spells}
+use Rattle.edf_fragment.specs.Fragment.{DataRecord, IsFragmentFile}
 use Rattle.edf_canonical.specs.File.{IsCanonicalFile}
 use Rattle.edf_runs.specs.Runs.{IsTouching}
 
@@ -23,5 +23,5 @@ pub record IsRunFile (bytes : List ℕ) (k : Key) (run : List DataRecord) : Type
 -- of which starts where the one before ends
 pub record IsContinuous (bytes : List ℕ) (k : Key) (run : List DataRecord) : Type 0 where
   pub mark : take 5 (reserved_field bytes) ≡ codes "EDF+C"
-  pub spells : Spells bytes k run
+  pub spells : IsFragmentFile bytes k run
   pub no_gap : IsTouching (duration_of k.duration) run

@@ -7,7 +7,7 @@ use Rattle.edf_field.specs.Number.{duration_of}
 use Rattle.edf_header.specs.Header.{Layout}
 use Rattle.edf_header.specs.Key.{Key}
 use Rattle.edf_tal.specs.Block.{IsWithinLimits}
-use Rattle.edf_fragment.specs.Fragment.{DataRecord, Spells}
+use Rattle.edf_fragment.specs.Fragment.{DataRecord, IsFragmentFile}
 use Rattle.edf_fragment.specs.Whole.{ReadsFragment}
 use Rattle.edf_canonical.specs.File.{IsCanonicalFile}
 use Rattle.edf_runs.specs.ByOnset.{annotations_of, by_onset, AreAlike}
@@ -31,7 +31,8 @@ pub record ReadsPlanByOnset (left rest : Option (List ℕ)) (plan : CanonicalPla
 -- as one that changed
 abbrev pub StaysAsPlanned : Type 0
 StaysAsPlanned = (bytes : List ℕ) (k : Key) (records : List DataRecord) (rest : Option (List ℕ))
-    (plan : CanonicalPlan) → Spells bytes k records → ReadsPlanByOnset (Some bytes) rest plan →
+    (plan : CanonicalPlan) → IsFragmentFile bytes k records →
+    ReadsPlanByOnset (Some bytes) rest plan →
     AreAsPlanned k records plan
 
 -- a file, which has the same bytes in both readings, was planned by onset, and this went out by the
@@ -47,7 +48,7 @@ pub record GoesOutByOnset (bytes : List ℕ) (before after : Option (List ℕ)) 
 -- it is the canonical file of the data records by onset
 abbrev pub WritesByOnset : Type 0
 WritesByOnset = (bytes : List ℕ) (k : Key) (records : List DataRecord)
-    (before after : Option (List ℕ)) → Spells bytes k records →
+    (before after : Option (List ℕ)) → IsFragmentFile bytes k records →
     GoesOutByOnset bytes before after →
     (file : List ℕ) × IsCanonicalFile file k (by_onset records) × Appends before after file
 
@@ -56,7 +57,8 @@ WritesByOnset = (bytes : List ℕ) (k : Key) (records : List DataRecord)
 -- file, which both have by onset
 abbrev pub WritesAlike : Type 0
 WritesAlike = (bytes other : List ℕ) (k : Key) (records others : List DataRecord)
-    (before after from to : Option (List ℕ)) → Spells bytes k records → Spells other k others →
+    (before after from to : Option (List ℕ)) → IsFragmentFile bytes k records →
+    IsFragmentFile other k others →
     AllZip AreAlike records others →
     IsPermutation (annotations_of records) (annotations_of others) →
     GoesOutByOnset bytes before after → GoesOutByOnset other from to →

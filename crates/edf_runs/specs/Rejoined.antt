@@ -3,7 +3,7 @@ use Rattle.std.specs.Prelude.{◌≡◌, ℕ, ◌≤◌, List, [], length, All, 
 use Rattle.std.specs.List.{AllZip}
 use Rattle.edf_field.specs.Number.{duration_of}
 use Rattle.edf_header.specs.Key.{Key}
-use Rattle.edf_fragment.specs.Fragment.{DataRecord, Spells}
+use Rattle.edf_fragment.specs.Fragment.{DataRecord, IsFragmentFile}
 use Rattle.edf_fragment.specs.Parsed.{Parsed, ParsesTo}
 use Rattle.edf_holdings.specs.Holdings.{Holdings, IsSound, put}
 use Rattle.edf_holdings.specs.Reply.{after, IsAccepted, replies}
@@ -26,7 +26,7 @@ abbrev pub RunsRejoin : Type 0
 RunsRejoin = (cap : ℕ) (h : Holdings) (bytes : List ℕ) (k : Key) (records : List DataRecord)
     (runs : List (List DataRecord))
     (files : List (List ℕ)) (submissions : List Parsed) → IsSound cap h → h k ≡ [] →
-    Spells bytes k records → length records ≤ cap →
+    IsFragmentFile bytes k records → length records ≤ cap →
     IsRuns (duration_of k.duration) records runs → AreRunFiles k runs files →
     AllZip ParsesTo files submissions →
     All IsAccepted (replies cap h submissions) × (after cap h submissions ≡ put k records h)

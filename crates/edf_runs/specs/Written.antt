@@ -7,7 +7,7 @@ use Rattle.edf_field.specs.Number.{duration_of}
 use Rattle.edf_header.specs.Key.{Key, MayStart}
 use Rattle.edf_header.specs.Header.{Layout}
 use Rattle.edf_header.specs.Canonical.{IsCanonicalHeader}
-use Rattle.edf_fragment.specs.Failures.{one_more}
+use Rattle.edf_fragment.specs.Failures.{saturating_increment}
 use Rattle.edf_fragment.specs.Fragment.{DataRecord}
 use Rattle.edf_fragment.specs.Reading.{IsAnswer}
 use Rattle.edf_fragment.specs.declared.advance.Progress.{Progress}
@@ -105,9 +105,11 @@ IsRunUnwritten l from to left rest before after run Write =
 abbrev pub CountsFault : ℕ → ℕ → ℕ → ℕ → WriteFault → Type 0
 CountsFault reads reads' writes writes' Undated = (reads' ≡ reads) × (writes' ≡ writes)
 CountsFault reads reads' writes writes' Changed = (reads' ≡ reads) × (writes' ≡ writes)
-CountsFault reads reads' writes writes' Read = (reads' ≡ one_more reads) × (writes' ≡ writes)
+CountsFault reads reads' writes writes' Read = (reads' ≡ saturating_increment reads)
+    × (writes' ≡ writes)
 CountsFault reads reads' writes writes' Memory = (reads' ≡ reads) × (writes' ≡ writes)
-CountsFault reads reads' writes writes' Write = (reads' ≡ reads) × (writes' ≡ one_more writes)
+CountsFault reads reads' writes writes' Write = (reads' ≡ reads)
+    × (writes' ≡ saturating_increment writes)
 
 -- and none failed where the file went out whole
 abbrev pub CountsCalls : {A : Type 0} → ℕ → ℕ → ℕ → ℕ → Result A WriteFault → Type 0

@@ -2,7 +2,7 @@
 
 ghost use Rattle.std.specs.Prelude.{◌≡◌, ◌++◌, ◌∷◌, [], ℕ, List, MatchResult, IfOk, OnOk, map};
 ghost use Rattle.edf_fragment.specs.Fragment.{DataRecord};
-ghost use Rattle.edf_fragment.specs.Reading.{CountsAnswer, at_first};
+ghost use Rattle.edf_fragment.specs.Reading.{CountsAnswer, initial_progress};
 ghost use Rattle.edf_fragment.specs.Whole.{FailsAfterRecords};
 ghost use Rattle.edf_fragment.specs.Inside.Steps.{ReadsRecords};
 ghost use Rattle.edf_runs.specs.ByOnset.{by_onset};
@@ -48,7 +48,7 @@ pub(crate) fn gather<R: Input>(
     fragment: &mut OpenFragment,
     input: &mut R,
 ) -> Result<Gathered, FragmentFault>
-    requires { fragment.old.progress ≡ at_first }
+    requires { fragment.old.progress ≡ initial_progress }
     ensures header { fragment.new.header ≡ fragment.old.header }
     ensures answer { MatchResult result
         (λ gathered. (records : List DataRecord) × ReadsRecords fragment.old.header

@@ -2,7 +2,7 @@
 
 ghost use Rattle.std.specs.Prelude.{◌≡◌, List, MatchResult};
 ghost use Rattle.edf_fragment.specs.Fragment.{DataRecord};
-ghost use Rattle.edf_fragment.specs.Reading.{CountsAnswer, at_first};
+ghost use Rattle.edf_fragment.specs.Reading.{CountsAnswer, initial_progress};
 ghost use Rattle.edf_fragment.specs.Whole.{FailsAfterRecords, IsFragmentFault};
 ghost use Rattle.edf_fragment.specs.Inside.Steps.{ReadsRecords};
 ghost use Rattle.edf_canonical.specs.Measure.{IsMeasuredSoFar};
@@ -19,7 +19,7 @@ fn measure_records<R: Input>(
     fragment: &mut OpenFragment,
     input: &mut R,
 ) -> Result<Option<Measure>, FragmentFault>
-    requires { fragment.old.progress ≡ at_first }
+    requires { fragment.old.progress ≡ initial_progress }
     ensures header { fragment.new.header ≡ fragment.old.header }
     ensures answer { MatchResult result
         (λ measure. (records : List DataRecord) × ReadsRecords fragment.old.header

@@ -1,7 +1,7 @@
 //! Data records of a file that is read a second time.
 
 ghost use Rattle.std.specs.Prelude.{◌≡◌, MatchResult};
-ghost use Rattle.edf_fragment.specs.Reading.{ReadsHeader, at_first};
+ghost use Rattle.edf_fragment.specs.Reading.{ReadsHeader, initial_progress};
 ghost use Rattle.edf_runs.specs.Again.{fault_again, CountsRereads, IsNotReopened, StopsAt};
 ghost use Rattle.edf_runs.specs.Inside.Steps.{StepsOn};
 
@@ -31,7 +31,7 @@ pub(crate) fn open_again<R: Input>(
 ) -> Result<OpenFragment, WriteFault>
     ensures answer { MatchResult result
         (λ fragment. ReadsHeader (R.remaining input.old) (R.remaining input.new) fragment.header
-        × (fragment.progress ≡ at_first) × (fragment.header.key ≡ identity.now))
+        × (fragment.progress ≡ initial_progress) × (fragment.header.key ≡ identity.now))
         (IsNotReopened (R.remaining input.old) (R.remaining input.new) identity.now) }
     ensures counted { CountsRereads (R.failures input.old) (R.failures input.new) result }
 {
@@ -59,7 +59,7 @@ pub fn reopen_listed<R: Input>(
 ) -> Result<OpenFragment, WriteFault>
     ensures answer { MatchResult result
         (λ fragment. ReadsHeader (R.remaining input.old) (R.remaining input.new) fragment.header
-        × (fragment.progress ≡ at_first) × (fragment.header.key ≡ listing.now.identity))
+        × (fragment.progress ≡ initial_progress) × (fragment.header.key ≡ listing.now.identity))
         (IsNotReopened (R.remaining input.old) (R.remaining input.new) listing.now.identity) }
     ensures counted { CountsRereads (R.failures input.old) (R.failures input.new) result }
 {

@@ -1,6 +1,6 @@
 ghost use Rattle.std.specs.Prelude.{◌≡◌, ◌≤◌, List, MatchResult};
 ghost use Rattle.edf_fragment.specs.Fragment.{DataRecord};
-ghost use Rattle.edf_fragment.specs.Reading.{CountsAnswer, at_first};
+ghost use Rattle.edf_fragment.specs.Reading.{CountsAnswer, initial_progress};
 ghost use Rattle.edf_fragment.specs.Whole.{FailsAfterRecords, IsFragmentFault};
 ghost use Rattle.edf_fragment.specs.Inside.Steps.{ReadsRecords};
 ghost use Rattle.edf_runs.specs.Runs.{AreListed};
@@ -30,7 +30,7 @@ fn list_records<R: Input>(
     input: &mut R,
     duration: u64,
 ) -> Result<Vec<Run>, FragmentFault>
-    requires first { fragment.old.progress ≡ at_first }
+    requires first { fragment.old.progress ≡ initial_progress }
     requires duration { duration ≤ MOST_DURATION }
     ensures header { fragment.new.header ≡ fragment.old.header }
     ensures answer { MatchResult result

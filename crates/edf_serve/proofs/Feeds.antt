@@ -16,7 +16,7 @@ use Rattle.std.proofs.lemmas.List.Quantifiers.{position-Some}
 use Rattle.std.proofs.lemmas.Grind.{common_steps}
 use Rattle.std.proofs.Common.{append-nil, take_at, drop_at, get_or, append_assoc}
 use Rattle.std.proofs.KnownBytes.{Consumes-trans}
-use Rattle.edf_fragment.specs.Failures.{one_more}
+use Rattle.edf_fragment.specs.Failures.{saturating_increment}
 use Rattle.edf_serve.specs.Lines.{BeginsWith, Coming, IsNext, lines_of, without_empty_last}
 use Rattle.edf_serve.specs.declared.lines.Next.{Next}
 use Rattle.edf_serve.specs.declared.lines.Next.TheVariants.{Line, Ended, Failed}
@@ -281,7 +281,8 @@ pub is-next : (before after : Coming) (F T G : List ℕ) (old new : Option (List
     before.left ≡ option_map (λ xs. F ++ xs) old → after.left ≡ option_map (λ ys. T ++ ys) new →
     ((more : List ℕ) × Consumes old new more × (G ≡ F ++ more)) →
     (n ≡ Line → IfSome new (BeginsWith G after.line T)) → (n ≢ Line → T ≡ G) →
-    (n ≡ Ended → (G ≡ []) × IsAtEnd new) → (n ≡ Failed → after.failed ≡ one_more before.failed) →
+    (n ≡ Ended → (G ≡ []) × IsAtEnd new) →
+    (n ≡ Failed → after.failed ≡ saturating_increment before.failed) →
     (n ≢ Failed → after.failed ≡ before.failed) → IsNext before after n
 is-next before after F T G old new Line el ek g line none ended failed unfailed = record {
   first = gives-first before.left after.left after.line F T G old new el ek g (line refl);

@@ -23,7 +23,7 @@ module _ {S : Type 0} (g : Ghosts S) (folder : Option (List ℕ)) (w : Work S) w
     pub it : Submission
     pub is_it : w.submission ≡ Some it
     pub submitted : IsSubmitted g w.old.store w.new.store it.from it.to it.answer
-    pub given : it.from.left ≡ w.old.paths.bytes it.path
+    pub given : it.from.remaining ≡ w.old.paths.bytes it.path
     pub below : LiesBelow folder it.path
     pub paths : w.new.paths ≡ opens w.old.paths it.path
 

@@ -58,7 +58,7 @@ module _ {S : Type 0} (g : Ghosts S) (folder : Option (List ℕ)) (a : Point S) 
   pub record Took (b : Point S) (all : List Submission) : Type 0 where
     pub submitted : AreSubmittedInTurn g a.store b.store all
     pub opened : b.paths ≡ opened-with a.paths (map (λ (s : Submission). s.path) all)
-    pub given : AllByRecursion (λ (s : Submission). (s.from.left ≡ a.paths.bytes s.path)
+    pub given : AllByRecursion (λ (s : Submission). (s.from.remaining ≡ a.paths.bytes s.path)
         × LiesBelow folder s.path) all
 
   took-same : (b c : Point S) (all : List Submission) → Took b all → c.store ≡ b.store →
@@ -80,14 +80,14 @@ module _ {S : Type 0} (g : Ghosts S) (folder : Option (List ℕ)) (a : Point S) 
 
   took-more : (b c : Point S) (all : List Submission) (s : Submission) → Took b all →
       AreSubmittedInTurn g a.store c.store (all ++ (s ∷ [])) →
-      s.from.left ≡ b.paths.bytes s.path → LiesBelow folder s.path →
+      s.from.remaining ≡ b.paths.bytes s.path → LiesBelow folder s.path →
       c.paths ≡ opens b.paths s.path → Took c (all ++ (s ∷ []))
   took-more b c all s took submitted given below paths = record {
     submitted = submitted;
     opened = paths ∙ (ap (λ (p : Paths). opens p s.path) took.opened
         ∙ (one-opened a.paths (map (λ (s : Submission). s.path) all) s.path
         ∙ ap (opened-with a.paths) (sym (map-next (λ (s : Submission). s.path) all s))));
-    given = all-append (λ (s : Submission). (s.from.left ≡ a.paths.bytes s.path)
+    given = all-append (λ (s : Submission). (s.from.remaining ≡ a.paths.bytes s.path)
         × LiesBelow folder s.path) all (s ∷ []) took.given
         ((given ∙ ap (λ (p : Paths). p.bytes s.path) took.opened, below), tt);
   }

@@ -3,7 +3,7 @@ use Rattle.std.specs.Prelude.{◌≡◌, ℕ, Bool, true, false, List, ◌∷◌
 use Rattle.sqlite_trees.specs.declared.store.Store.{Ghosts}
 use Rattle.sqlite.specs.State.{HasCleanDisk}
 use Rattle.edf_fragment.specs.Call.{InputState}
-use Rattle.edf_fragment.specs.Failures.{one_more}
+use Rattle.edf_fragment.specs.Failures.{saturating_increment}
 use Rattle.edf_store.specs.Held.{StoreModel, at}
 use Rattle.edf_intake.specs.Submitted.{IsSubmitted}
 use Rattle.edf_intake.specs.declared.answer.Receipt.{Receipt}
@@ -36,8 +36,8 @@ abbrev pub Looks : Type 0
 Looks = ℕ × ℕ
 
 abbrev pub looked : Looks → Bool → Looks
-looked looks true = (one_more looks.0, looks.1)
-looked looks false = (looks.0, one_more looks.1)
+looked looks true = (saturating_increment looks.0, looks.1)
+looked looks false = (looks.0, saturating_increment looks.1)
 
 module _ {S : Type 0} (g : Ghosts S) where
   -- no transaction is open, on a disk that returned what was written

@@ -2,7 +2,7 @@
 use Rattle.std.specs.Prelude.{◌≡◌, ℕ, ◌≤◌, cond, ◌==◌, List, [], ◌∷◌, ◌++◌, length, take}
 use Rattle.std.specs.Prelude.{Option, Some, IfSome, option_map}
 use Rattle.std.specs.List.{slice_split}
-use Rattle.edf_fragment.specs.Failures.{one_more}
+use Rattle.edf_fragment.specs.Failures.{saturating_increment}
 use Rattle.edf_serve.specs.declared.lines.Next.{Next}
 use Rattle.edf_serve.specs.declared.lines.Next.TheVariants.{Line, Ended, Failed}
 
@@ -63,4 +63,4 @@ abbrev pub IsNext : Coming → Coming → Next → Type 0
 IsNext before after Line = GivesLine before after
 IsNext before after Ended = GivesNone before after before.failed
     × IfSome (lines_in before) (λ lines. lines ≡ [])
-IsNext before after Failed = GivesNone before after (one_more before.failed)
+IsNext before after Failed = GivesNone before after (saturating_increment before.failed)

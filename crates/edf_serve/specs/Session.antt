@@ -93,5 +93,5 @@ module _ {S : Type 0} (g : Ghosts S) (folder : Option (List ℕ)) where
       opened = option_map (λ (before : List (List ℕ)). before
           ++ map (λ (s : Submission). s.path) (submissions all)) a.at.paths.opened;
     }
-    pub given : AllByRecursion (λ (s : Submission). (s.from.left ≡ a.at.paths.bytes s.path)
+    pub given : AllByRecursion (λ (s : Submission). (s.from.remaining ≡ a.at.paths.bytes s.path)
         × LiesBelow folder s.path) (submissions all)

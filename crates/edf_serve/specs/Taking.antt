@@ -41,7 +41,7 @@ module _ {S : Type 0} (g : Ghosts S) (w : Work S) (name : List ℕ) where
   pub record SubmitsFile (path : List ℕ) : Type 0 where
     pub it : Submission
     pub is_it : (w.submission ≡ Some it) × (it.name ≡ name) × (it.path ≡ path)
-    pub given : it.from.left ≡ w.old.paths.bytes path
+    pub given : it.from.remaining ≡ w.old.paths.bytes path
     pub submitted : IsSubmitted g w.old.store w.new.store it.from it.to it.answer
     pub ended : IsEnded g w.new.store it.answer
     pub said : IsAnswerSaid (grown w.old.out w.new.out) name it.answer w.outcome

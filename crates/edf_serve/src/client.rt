@@ -3,7 +3,7 @@
 ghost use Rattle.std.specs.Prelude.{◌≡◌, ◌⊎◌, ℕ, true, List, Option, ◌++◌};
 ghost use Rattle.std.specs.Prelude.{OnOk, OnErr};
 ghost use Rattle.std.specs.List.{flat_map};
-ghost use Rattle.edf_fragment.specs.Failures.{one_more};
+ghost use Rattle.edf_fragment.specs.Failures.{saturating_increment};
 ghost use Rattle.edf_command.specs.Lines.{accepted_line};
 ghost use Rattle.edf_program.specs.Output.{IsPut, growth};
 ghost use Rattle.edf_program.specs.declared.status.Status.TheVariants.{Done};
@@ -60,7 +60,7 @@ pub trait Flush: Output {
         ensures contents { Self.contents self.new ≡ Self.contents self.old }
         ensures sent { OnOk result (sent self.new ≡ Self.contents self.new) }
         ensures failed { OnErr result
-            (Self.failures self.new ≡ one_more (Self.failures self.old)) }
+            (Self.failures self.new ≡ saturating_increment (Self.failures self.old)) }
         ensures done { OnOk result (Self.failures self.new ≡ Self.failures self.old) };
 }
 

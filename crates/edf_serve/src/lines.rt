@@ -3,7 +3,7 @@
 ghost use Rattle.std.specs.Prelude.{◌≡◌, ◌≢◌, ◌++◌, ◌==◌, ◌≤◌, ℕ, IfOk, IfSome, List, length};
 ghost use Rattle.std.specs.Prelude.{position, take, slice_range, option_map};
 ghost use Rattle.std.specs.Io.KnownBytes.{Consumes, IsAtEnd};
-ghost use Rattle.edf_fragment.specs.Failures.{one_more};
+ghost use Rattle.edf_fragment.specs.Failures.{saturating_increment};
 ghost use Rattle.edf_serve.specs.Lines.{BeginsWith, Coming, IsNext};
 
 use crate::line::LONGEST_LINE;
@@ -171,7 +171,7 @@ fn gather<R: Input>(input: &mut R, buffer: &mut [u8], end: usize) -> Found
     ensures ended { result.next ≡ Next.Ended →
         (result.end ≡ 0) × IsAtEnd (R.remaining input.new) }
     ensures failed { result.next ≡ Next.Failed →
-        R.failures input.new ≡ one_more (R.failures input.old) }
+        R.failures input.new ≡ saturating_increment (R.failures input.old) }
     ensures unfailed { result.next ≢ Next.Failed → R.failures input.new ≡ R.failures input.old }
 {
     let mut to = end;

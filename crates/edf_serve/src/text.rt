@@ -3,7 +3,7 @@
 ghost use Rattle.std.specs.Prelude.{◌≡◌, [], Some};
 ghost use Rattle.edf_serve.specs.Lines.{whole_lines};
 
-use edf_fragment::{Output, one_more};
+use edf_fragment::{Output, saturating_increment};
 use std::alloc::Global;
 use std::io;
 
@@ -68,7 +68,7 @@ impl Output for Text {
         match self.bytes.extend_from_slice(buf) {
             Ok(()) => Ok(buf.len()),
             Err(error) => {
-                self.failures = one_more(self.failures);
+                self.failures = saturating_increment(self.failures);
                 Err(io::Error::from(error))
             }
         }

@@ -4,7 +4,7 @@ ghost use Rattle.std.specs.Prelude.{◌≡◌, None, IfOk};
 
 use crate::cause::{tell_system_error, tell_unmade};
 use crate::terminal::Terminal;
-use edf_fragment::{Output, one_more};
+use edf_fragment::{Output, saturating_increment};
 use std::fs::{self, File};
 use std::io::{self, ErrorKind, Write};
 use std::path::Path;
@@ -60,13 +60,13 @@ impl Output for NewFile<'_> {
         match self.file.write(buf) {
             Ok(count) => {
                 if count == 0 && !buf.is_empty() {
-                    self.failures = one_more(self.failures);
+                    self.failures = saturating_increment(self.failures);
                 }
                 self.bytes = self.bytes.saturating_add(count as u64);
                 Ok(count)
             }
             Err(error) => {
-                self.failures = one_more(self.failures);
+                self.failures = saturating_increment(self.failures);
                 tell_system_error(self.terminal, self.part.as_str(), &error);
                 Err(error)
             }

@@ -3,7 +3,7 @@ use Rattle.std.proofs.Common.{◌≡◌, ◌≢◌, ℕ, List, [], ◌∷◌, �
 use Rattle.std.proofs.Common.{true, false, Option, Some, None, refl, ap, sym, ◌∙◌, subst, inl, inr}
 use Rattle.std.specs.Prelude.{Result, Ok, Err, IfOk, IfErr, MatchResult, IfSome, ◌⊎◌}
 use Rattle.std.proofs.KnownBytes.{Consumes-whole}
-use Rattle.edf_fragment.specs.Failures.{one_more}
+use Rattle.edf_fragment.specs.Failures.{saturating_increment}
 use Rattle.edf_mend.specs.Answers.{IsRefusal}
 use Rattle.edf_mend.specs.Mended.{Mends}
 use Rattle.edf_mend.specs.Survey.{IsSurveyOf}
@@ -93,7 +93,7 @@ unread bytes w why (inr is) = subst (IsNotMended bytes w) (sym is) (no-memory by
 pub abandoned : (failed failed' start end : ℕ) (why : MendFault) → start ≡ 0 →
     CountsWrite start end why → failed' ≡ failed_with failed end → CountsWrite failed failed' why
 abandoned failed failed' start end Write none counts is =
-    is ∙ ap (failed_with failed) (counts ∙ ap one_more none)
+    is ∙ ap (failed_with failed) (counts ∙ ap saturating_increment none)
 abandoned failed failed' start end why none counts is =
     is ∙ ap (failed_with failed) (counts ∙ none)
 

@@ -77,9 +77,9 @@ pub front-longer : (w : Growth) (bytes more : List ℕ) → GetsFront w bytes �
 front-longer w bytes more front = (
   record {
     front = front.0.front;
-    left = front.0.left ++ more;
+    remaining = front.0.remaining ++ more;
     parts = ap (λ (t : List ℕ). t ++ more) front.0.parts
-        ∙ append_assoc front.0.front front.0.left more;
+        ∙ append_assoc front.0.front front.0.remaining more;
     wrote = front.0.wrote;
   },
   front.1,

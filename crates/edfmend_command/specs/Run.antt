@@ -3,7 +3,7 @@
 use Rattle.std.specs.Prelude.{◌≡◌, ◌≢◌, ◌⊎◌, ℕ, ◌≤◌, List, [], ◌∷◌, ◌++◌, Option, Some, None}
 use Rattle.std.specs.Prelude.{IfSome, option_map, string_bytes, replicate, Bool, true, false}
 use Rattle.std.specs.Bool.{MatchBool}
-use Rattle.edf_fragment.specs.Failures.{one_more}
+use Rattle.edf_fragment.specs.Failures.{saturating_increment}
 use Rattle.edf_mend.specs.Answers.{IsRefusal}
 use Rattle.edf_mend.specs.Mended.{IsMended, IsUnreadTold}
 use Rattle.edf_mend.specs.declared.fault.MendFault.{MendFault}
@@ -72,7 +72,7 @@ SaysWhy err old_name new_name why kept status =
 -- one more call failed where a failed write is the reason, and none before another: the file could
 -- not be made or ended, or a write to it failed
 abbrev pub CountsWrite : ℕ → ℕ → MendFault → Type 0
-CountsWrite failed failed' fault.Write = failed' ≡ one_more failed
+CountsWrite failed failed' fault.Write = failed' ≡ saturating_increment failed
 CountsWrite failed failed' why = failed' ≡ failed
 
 -- nothing was made, or just a part of a file of this name, which was removed again, or is left

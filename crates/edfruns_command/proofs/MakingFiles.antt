@@ -7,9 +7,9 @@ use Rattle.std.specs.List.{AllZip}
 use Rattle.std.proofs.lemmas.List.{take_more, drop_more, map-append, length-take-le}
 use Rattle.edf_field.specs.Number.{duration_of}
 use Rattle.edf_header.specs.Header.{Layout}
-use Rattle.edf_fragment.specs.Failures.{one_more}
+use Rattle.edf_fragment.specs.Failures.{saturating_increment}
 use Rattle.edf_fragment.specs.Fragment.{DataRecord}
-use Rattle.edf_fragment.specs.Reading.{at_first}
+use Rattle.edf_fragment.specs.Reading.{initial_progress}
 use Rattle.edf_fragment.specs.declared.advance.Progress.{Progress}
 use Rattle.edf_runs.specs.Read.{ReadsOn}
 use Rattle.edf_runs.specs.Again.{ComesNext}
@@ -131,9 +131,10 @@ module _ (a b : Making) (known : b.known ≡ a.known) (before : b.before ≡ a.a
     parts = so_far.parts ++ (one.records ∷ []);
     listed = one-more (IsListed (duration_of l.key.duration)) so_far.parts runs i one.records run
         lt is so_far.listed one.listed;
-    read = subst (ReadsOn l at_first to left rest)
+    read = subst (ReadsOn l initial_progress to left rest)
         (sym (joined_more so_far.parts one.records))
-        (reads-then l at_first mid to left middle rest _ one.records refl so_far.read one.read);
+        (reads-then l initial_progress mid to left middle rest _ one.records refl so_far.read
+        one.read);
     files = so_far.files ++ (one.file ∷ []);
     made = more-made one.file one.made;
     named = names-more so_far.files one.file names i name named is_name one.named so_far.named;
@@ -259,7 +260,7 @@ module _ (a b : Making) (known : b.known ≡ a.known) (before : b.before ≡ a.a
         failed = one.failed ∙ failed ∙ so_far.unfailed;
       }
   stops-each (stop.Output output) got one =
-      let more = one.failed ∙ ap one_more (failed ∙ so_far.unfailed) in
+      let more = one.failed ∙ ap saturating_increment (failed ∙ so_far.unfailed) in
       elim one.stops.1 [
         | inl same ↦ record {
           count = i;
@@ -280,15 +281,15 @@ module _ (a b : Making) (known : b.known ≡ a.known) (before : b.before ≡ a.a
 -- ---- no file yet
 
 pub first-none : (m : Making) (names : List (List ℕ)) (l : Layout) (to : Progress)
-    (left : Option (List ℕ)) (runs : List Run) (text : List ℕ) → to ≡ at_first →
+    (left : Option (List ℕ)) (runs : List Run) (text : List ℕ) → to ≡ initial_progress →
     m.after ≡ m.before → m.failed_after ≡ m.failed_before → text ≡ [] →
     MakesFirst m names l to left left runs 0 text
 first-none m names l to left runs text first made failed none = record {
   each = record {
     parts = [];
     listed = tt;
-    read = subst (λ (p : Progress). ReadsOn l at_first p left left []) (sym first)
-        (none_read l at_first left (omega arith));
+    read = subst (λ (p : Progress). ReadsOn l initial_progress p left left []) (sym first)
+        (none_read l initial_progress left (omega arith));
     files = [];
     made = made ∙ sym (append-nil m.before);
     named = refl;
@@ -334,7 +335,7 @@ module _ (m : Making) (name : List ℕ) (l : Layout) (from to : Progress)
   half-made fault.Write (stop.Reading why) is not same dated counts = absurd is
   half-made fault.Write (stop.Output output) is not same dated counts = record {
     stops = (is, inr made);
-    failed = failed ∙ ap (failed_with m.failed_before) (counts.1 ∙ ap one_more none);
+    failed = failed ∙ ap (failed_with m.failed_before) (counts.1 ∙ ap saturating_increment none);
   }
   half-made fault.Changed (stop.Output output) is not same dated counts = absurd is
   half-made fault.Changed (stop.Reading why) is not same dated counts =

@@ -25,9 +25,9 @@ module _ (a : Option (List ℕ)) (old : ℕ) (b : Option (List ℕ)) (mid : ℕ)
   front-kept text more first none = (
     record {
       front = first.0.front;
-      left = first.0.left ++ more;
+      remaining = first.0.remaining ++ more;
       parts = ap (λ (t : List ℕ). t ++ more) first.0.parts
-          ∙ append_assoc first.0.front first.0.left more;
+          ∙ append_assoc first.0.front first.0.remaining more;
       wrote = subst (Appends a c) (append-nil first.0.front)
           (Appends-trans a b c first.0.front [] first.0.wrote none.0);
     },
@@ -48,7 +48,7 @@ module _ (a : Option (List ℕ)) (old : ℕ) (b : Option (List ℕ)) (mid : ℕ)
 pub record RemovedSoFar (base made now : List MadeFile) (k : ℕ) (w : Growth) (line : List ℕ)
     (told : Bool) : Type 0 where
   pub files : List MadeFile
-  pub left : now ≡ base ++ (files ++ drop k made)
+  pub remaining : now ≡ base ++ (files ++ drop k made)
   pub same : map as_begun files ≡ map as_begun (take k made)
   pub over : All (λ (file : MadeFile). IsOver file.stage) files
   pub said : IsPut w (line ++ flat_map left_text files) told
@@ -60,7 +60,7 @@ module _ (base made now : List MadeFile) (k : ℕ) (lt : k < length made) (w : G
     (line : List ℕ) (told : Bool) (so : RemovedSoFar base made now k w line told) where
   pub next-there : now ≡ (base ++ so.files) ++ (nth made k ∷ drop (k + 1) made)
   next-there =
-      so.left
+      so.remaining
       ∙ ap (λ (fs : List MadeFile). base ++ (so.files ++ fs)) (drop_more made k (begun []) lt)
       ∙ sym (append_assoc base so.files (nth made k ∷ drop (k + 1) made))
 
@@ -81,7 +81,7 @@ module _ (a : Option (List ℕ)) (old : ℕ) (b : Option (List ℕ)) (mid : ℕ)
   pub removes-more : RemovedSoFar base made later (k + 1) (grown a old c new) line then
   removes-more = record {
     files = so.files ++ (one.over ∷ []);
-    left = one.made
+    remaining = one.made
         ∙ append_assoc base so.files (one.over ∷ drop (k + 1) made)
         ∙ ap (λ (fs : List MadeFile). base ++ fs)
         (sym (append_assoc so.files (one.over ∷ []) (drop (k + 1) made)));
@@ -109,7 +109,7 @@ pub removes-all : (first k : ℕ) (old new : List MadeFile) (w : Growth) (line :
     RemovesFrom first old new w line Trouble
 removes-all first k old new w line told most so = record {
   files = so.files;
-  made = so.left ∙ ap (λ (fs : List MadeFile). take first old ++ (so.files ++ fs))
+  made = so.remaining ∙ ap (λ (fs : List MadeFile). take first old ++ (so.files ++ fs))
       (drop_all k (drop first old) most)
       ∙ ap (λ (fs : List MadeFile). take first old ++ fs) (append-nil so.files);
   same = so.same ∙ ap (map as_begun) (take_all k (drop first old) most);
@@ -122,7 +122,7 @@ pub removes-none : (first : ℕ) (old : List MadeFile) (w : Growth) (line : List
     IsPut w line told → RemovedSoFar (take first old) (drop first old) old 0 w line told
 removes-none first old w line told put = record {
   files = [];
-  left = sym (take-append-drop first old);
+  remaining = sym (take-append-drop first old);
   same = refl;
   over = All-nil (λ (f : MadeFile). IsOver f.stage);
   said = subst (λ (t : List ℕ). IsPut w t told) (sym (append-nil line)) put;

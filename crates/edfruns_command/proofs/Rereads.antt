@@ -9,7 +9,7 @@ use Rattle.edf_field.specs.Number.{duration_of}
 use Rattle.edf_header.specs.Key.{Key}
 use Rattle.edf_header.specs.Header.{Layout}
 use Rattle.edf_fragment.specs.Fragment.{DataRecord}
-use Rattle.edf_fragment.specs.Reading.{AnswersIn, EndsThere}
+use Rattle.edf_fragment.specs.Reading.{IsAnswerInState, IsEndOfRecords}
 use Rattle.edf_fragment.specs.declared.advance.Progress.{Progress}
 use Rattle.edf_fragment.specs.declared.advance.ReaderState.{ReaderState}
 use Rattle.edf_fragment.specs.declared.advance.ReaderState.TheVariants.{Reading}
@@ -111,10 +111,10 @@ module _ (m : Making) (bytes : Option (List ℕ)) (listing : Listing) (names : L
       failed = makes.unfailed;
     })
 
-    ended : IsAtEnd l mid to left rest → EndsThere l mid left rest
+    ended : IsAtEnd l mid to left rest → IsEndOfRecords l mid left rest
     ended ends =
-        let a : AnswersIn Reading l mid to left rest (Ok None) =
-        subst (λ (s : ReaderState). AnswersIn s l mid to left rest (Ok None)) makes.read.state
+        let a : IsAnswerInState Reading l mid to left rest (Ok None) =
+        subst (λ (s : ReaderState). IsAnswerInState s l mid to left rest (Ok None)) makes.read.state
         ends in
         a.1
 

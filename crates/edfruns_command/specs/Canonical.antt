@@ -1,6 +1,6 @@
 -- What `canonical` does: what it writes, and the status that it answers.
 use Rattle.std.specs.Prelude.{◌≡◌, ◌⊎◌, ℕ, zero, suc, List, [], Bool, true, false, Option, Err}
-use Rattle.edf_fragment.specs.Failures.{one_more}
+use Rattle.edf_fragment.specs.Failures.{saturating_increment}
 use Rattle.edf_fragment.specs.declared.fault.FragmentFault.TheVariants.{Memory as NoMemory}
 use Rattle.edf_program.specs.Output.{Growth, Gets, IsWritten, Explains}
 use Rattle.edf_program.specs.declared.status.Status.{Status}
@@ -48,7 +48,7 @@ module _ (out err : Growth) (bytes : Option (List ℕ)) (name : List ℕ) (statu
 
 -- one more write failed where a failed write is the fault, and none before another
 abbrev pub CountsWrite : Growth → WriteFault → Type 0
-CountsWrite w fault.Write = w.failed_after ≡ one_more w.failed_before
+CountsWrite w fault.Write = w.failed_after ≡ saturating_increment w.failed_before
 CountsWrite w why = w.failed_after ≡ w.failed_before
 
 module _ (out : Growth) (bytes : Option (List ℕ)) (plan : CanonicalPlan) where

@@ -5,7 +5,7 @@ use Rattle.std.specs.List.{flat_map, AllZip}
 use Rattle.edf_field.specs.Number.{duration_of}
 use Rattle.edf_header.specs.Header.{Layout}
 use Rattle.edf_fragment.specs.Fragment.{DataRecord}
-use Rattle.edf_fragment.specs.Reading.{IsAnswer, at_first}
+use Rattle.edf_fragment.specs.Reading.{IsAnswer, initial_progress}
 use Rattle.edf_fragment.specs.declared.advance.Progress.{Progress}
 use Rattle.edf_fragment.specs.declared.fault.FragmentFault.{FragmentFault}
 use Rattle.edf_runs.specs.Again.{ComesNext}
@@ -92,7 +92,7 @@ pub record MakesEach (m : Making) (names : List (List ℕ)) (l : Layout) (to : P
     (left rest : Option (List ℕ)) (runs : List Run) : Type 0 where
   pub parts : List (List DataRecord)
   pub listed : AllZip (IsListed (duration_of l.key.duration)) parts runs
-  pub read : ReadsOn l at_first to left rest (flat_map (λ part. part) parts)
+  pub read : ReadsOn l initial_progress to left rest (flat_map (λ part. part) parts)
   pub files : List MadeFile
   pub made : m.after ≡ m.before ++ files
   pub named : names_of files ≡ names

@@ -5,9 +5,9 @@ use Rattle.std.specs.List.{flat_map, AllZip}
 use Rattle.edf_field.specs.Number.{duration_of}
 use Rattle.edf_header.specs.Header.{Layout}
 use Rattle.edf_header.specs.Key.{Key}
-use Rattle.edf_fragment.specs.Failures.{one_more}
+use Rattle.edf_fragment.specs.Failures.{saturating_increment}
 use Rattle.edf_fragment.specs.Fragment.{DataRecord}
-use Rattle.edf_fragment.specs.Reading.{ReadsHeader, IsAnswer, at_first}
+use Rattle.edf_fragment.specs.Reading.{ReadsHeader, IsAnswer, initial_progress}
 use Rattle.edf_fragment.specs.declared.advance.Progress.{Progress}
 use Rattle.edf_fragment.specs.declared.fault.FragmentFault.{FragmentFault}
 use Rattle.edf_runs.specs.Again.{IsNotReopened, ComesNext, fault_again}
@@ -43,7 +43,7 @@ pub record PassesRuns (l : Layout) (to : Progress) (left rest : Option (List ℕ
     (runs : List Run) : Type 0 where
   pub passed : List (List DataRecord)
   pub are_passed : AllZip (IsPassed (duration_of l.key.duration)) passed runs
-  pub read : ReadsOn l at_first to left rest (flat_map (λ records. records) passed)
+  pub read : ReadsOn l initial_progress to left rest (flat_map (λ records. records) passed)
 
 -- after the header just the data records of the runs before this one were read, which are so many
 pub record IsAtRun (l : Layout) (from : Progress) (start left : Option (List ℕ)) (runs : List Run)
@@ -125,4 +125,4 @@ StopsRereading bytes listing names count whole why =
 -- how many calls of what makes files failed, of so many before
 abbrev pub failed_by : Stop → ℕ → ℕ
 failed_by (stop.Reading why) failed = failed
-failed_by (stop.Output output) failed = one_more failed
+failed_by (stop.Output output) failed = saturating_increment failed

@@ -4,7 +4,7 @@ ghost use Rattle.std.specs.Prelude.{◌≡◌, ◌≤◌, ◌++◌, ℕ, List, A
 ghost use Rattle.std.specs.Prelude.{replicate, string_bytes};
 ghost use Rattle.edf_field.specs.Number.{duration_of};
 ghost use Rattle.edf_header.specs.Key.{MayStart};
-ghost use Rattle.edf_fragment.specs.Reading.{at_first};
+ghost use Rattle.edf_fragment.specs.Reading.{initial_progress};
 ghost use Rattle.edf_runs.specs.declared.run.Run.{Run as ListedRun};
 ghost use Rattle.edf_program.specs.Making.{making};
 ghost use Rattle.edfruns_command.specs.Inside.{OpensUpTo};
@@ -104,7 +104,7 @@ fn make_each<'a, R: Input, P: NewFiles>(
 ) -> Result<MadeLines<'a>, Stop<'a>>
     requires duration { duration ≡ duration_of fragment.old.header.key.duration }
     requires most { duration ≤ MOST_DURATION }
-    requires first { fragment.old.progress ≡ at_first }
+    requires first { fragment.old.progress ≡ initial_progress }
     requires names { length names.now ≡ length runs.now }
     requires dated { All (λ (run : ListedRun). MayStart fragment.old.header.key run.first)
         runs.now }

@@ -2,7 +2,7 @@
 
 ghost use Rattle.std.specs.Prelude.{◌≡◌, ◌⊎◌, ◌++◌, ◌≤◌, ℕ, List, MatchResult, replicate};
 ghost use Rattle.edf_fragment.specs.Fragment.{DataRecord};
-ghost use Rattle.edf_fragment.specs.Reading.{at_first};
+ghost use Rattle.edf_fragment.specs.Reading.{initial_progress};
 ghost use Rattle.edf_fragment.specs.Whole.{FailsAfterRecords, IsFragmentFault};
 ghost use Rattle.edf_fragment.specs.Inside.Steps.{ReadsRecords};
 ghost use Rattle.edf_program.specs.Output.{growth};
@@ -95,7 +95,7 @@ fn see_records<R: Input>(
     input: &mut R,
     duration: u64,
 ) -> Result<Sight, FragmentFault>
-    requires first { fragment.old.progress ≡ at_first }
+    requires first { fragment.old.progress ≡ initial_progress }
     requires duration { duration ≤ MOST_DURATION }
     ensures header { fragment.new.header ≡ fragment.old.header }
     ensures answer { MatchResult result

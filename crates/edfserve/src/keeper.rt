@@ -1,6 +1,6 @@
 //! Whether the files of the store stand, and how often that was asked.
 
-use edf_fragment::one_more;
+use edf_fragment::saturating_increment;
 use edf_intake::Receipt;
 use edf_serve::StoreFiles;
 use edf_store::Store;
@@ -30,10 +30,10 @@ impl StoreFiles for Keeper<'_> {
 
     fn stand<S: Alter>(&mut self, _store: &Store<S>, _receipt: &Receipt) -> bool {
         if self.standing.stands() {
-            self.stood = one_more(self.stood);
+            self.stood = saturating_increment(self.stood);
             true
         } else {
-            self.lost = one_more(self.lost);
+            self.lost = saturating_increment(self.lost);
             false
         }
     }

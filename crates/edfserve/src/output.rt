@@ -2,7 +2,7 @@
 
 ghost use Rattle.std.specs.Prelude.{None};
 
-use edf_fragment::{Output, one_more};
+use edf_fragment::{Output, saturating_increment};
 use edf_serve::Flush;
 use std::io::{self, Stdout, Write};
 
@@ -31,12 +31,12 @@ impl Output for StandardOutput {
         match self.stream.write(buf) {
             Ok(count) => {
                 if count == 0 && !buf.is_empty() {
-                    self.failures = one_more(self.failures);
+                    self.failures = saturating_increment(self.failures);
                 }
                 Ok(count)
             }
             Err(error) => {
-                self.failures = one_more(self.failures);
+                self.failures = saturating_increment(self.failures);
                 Err(error)
             }
         }
@@ -50,7 +50,7 @@ impl Flush for StandardOutput {
         match self.stream.flush() {
             Ok(()) => Ok(()),
             Err(error) => {
-                self.failures = one_more(self.failures);
+                self.failures = saturating_increment(self.failures);
                 Err(error)
             }
         }

@@ -2,7 +2,7 @@
 use Rattle.std.specs.Prelude.{◌≡◌, ℕ, ⊤, Result, MatchResult}
 use Rattle.sqlite_trees.specs.declared.store.Store.{Ghosts}
 use Rattle.sqlite.specs.State.{State, HasCleanDisk}
-use Rattle.edf_fragment.specs.Failures.{one_more}
+use Rattle.edf_fragment.specs.Failures.{saturating_increment}
 use Rattle.edf_store.specs.Fault.{MayRefuse}
 use Rattle.edf_store.specs.Held.{at, Stays}
 use Rattle.edf_store.specs.declared.cursor.Cursor.{Cursor}
@@ -27,7 +27,7 @@ CountsWritingFault IfBusy old new NoRecording = ⊥
 CountsWritingFault IfBusy old new (Store fault) = (new ≡ old)
     × MayRefuse IfBusy ⊤ ⊥ fault
 CountsWritingFault IfBusy old new Memory = new ≡ old
-CountsWritingFault IfBusy old new Write = new ≡ one_more old
+CountsWritingFault IfBusy old new Write = new ≡ saturating_increment old
 
 abbrev pub CountsWriting : {A : Type 0} → (IfBusy : Type 0) → ℕ → ℕ → Result A ExportFault → Type 0
 CountsWriting IfBusy old new result =

@@ -35,12 +35,12 @@ abbrev pub HaltsThere : {S : Type 0} → Ghosts S → StoreTx S → InputState �
     Type 0
 HaltsThere g tx from to (Input refusal) = (fault : FragmentFault)
     × (refusal ≡ fragment_refusal fault)
-    × IsFragmentFault from.left to.left fault × CountsFault from.failed to.failed fault
+    × IsFragmentFault from.remaining to.remaining fault × CountsFault from.failed to.failed fault
 HaltsThere g tx from to (Store fault) = ReadsSome from to × HasCauseOrIsUnclean g tx fault
 
 -- the same, said of what was read of the input from its header on
 abbrev pub HaltsAfterHeader : {S : Type 0} → Ghosts S → StoreTx S → Layout → InputState →
     InputState → Stop → Type 0
 HaltsAfterHeader g tx layout from to stop = (before : Option (List ℕ)) →
-    ReadsHeader before from.left layout →
-    HaltsThere g tx (record from { left = before }) to stop
+    ReadsHeader before from.remaining layout →
+    HaltsThere g tx (record from { remaining = before }) to stop

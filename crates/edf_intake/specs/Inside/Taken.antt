@@ -6,7 +6,7 @@ use Rattle.edf_header.specs.Key.{Key}
 use Rattle.edf_header.specs.Header.{Layout}
 use Rattle.edf_fragment.specs.Fragment.{DataRecord}
 use Rattle.edf_fragment.specs.Parsed.{Fragment}
-use Rattle.edf_fragment.specs.Reading.{ReadsHeader, at_first}
+use Rattle.edf_fragment.specs.Reading.{ReadsHeader, initial_progress}
 use Rattle.edf_fragment.specs.Whole.{ReadsFragment}
 use Rattle.edf_fragment.specs.declared.advance.Progress.{Progress}
 use Rattle.edf_holdings.specs.Holdings.{Holdings, put}
@@ -45,7 +45,7 @@ pub record HasReadHeader (left : Option (List ℕ)) (layout : Layout) (progress 
   where
     pub before : Option (List ℕ)
     pub header : ReadsHeader before left layout
-    pub none_read : progress ≡ at_first
+    pub none_read : progress ≡ initial_progress
 
 module _ {S : Type 0} (g : Ghosts S) (old new : StoreTx S) where
   -- the key's recording, which was there or was made, and no other was; with room for what is asked
@@ -63,8 +63,8 @@ module _ {S : Type 0} (g : Ghosts S) (old new : StoreTx S) where
     pub only : HasNoMore g old.store.now new.store.now
     pub counted : to.failed ≡ from.failed
     pub records : List DataRecord
-    pub read : (before : Option (List ℕ)) → ReadsHeader before from.left layout →
-        ReadsFragment before to.left layout records
+    pub read : (before : Option (List ℕ)) → ReadsHeader before from.remaining layout →
+        ReadsFragment before to.remaining layout records
     pub found : HasCleanDisk (at g new.store.now) → (h : Holdings) → Sees g old.store.now h →
         AreFindings layout.key h records findings
         × (MayBeAccepted room findings → Sees g new.store.now (put layout.key records h))

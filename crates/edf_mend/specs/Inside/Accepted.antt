@@ -3,7 +3,7 @@ use Rattle.std.specs.Prelude.{◌≡◌, ◌≢◌, ◌⊎◌, List, ℕ, [], So
 use Rattle.edf_header.specs.Header.{HeaderRecord, IsHeader, Layout, layout_of}
 use Rattle.edf_fragment.specs.Fault.{IsFirstFault}
 use Rattle.edf_fragment.specs.Fragment.{DataRecord}
-use Rattle.edf_fragment.specs.Reading.{at_first, IsNextFault, GivesRecord}
+use Rattle.edf_fragment.specs.Reading.{initial_progress, IsNextFault, ReadsRecord}
 use Rattle.edf_fragment.specs.Reading.{progress_after}
 use Rattle.std.specs.Prelude.{Ok}
 use Rattle.edf_fragment.specs.declared.advance.Progress.{Progress}
@@ -18,7 +18,7 @@ pub record IsHeaderOpen (bytes : List ℕ) (o : OpenFragment) : Type 0 where
   pub header : HeaderRecord
   pub is_header : IsHeader bytes header []
   pub layout_is : o.header ≡ layout_of header
-  pub progress : o.progress ≡ at_first
+  pub progress : o.progress ≡ initial_progress
 
 -- they are none
 abbrev pub NoHeader : List ℕ → Type 0
@@ -38,7 +38,7 @@ RefusesHeader bytes why = ⊥
 -- bytes were read as the next data record
 pub record IsNextRead (l : Layout) (from to : Progress) (bytes : List ℕ) (r : DataRecord) : Type 0
   where
-    pub gives : GivesRecord l from (Some bytes) (Some []) r
+    pub gives : ReadsRecord l from (Some bytes) (Some []) r
     pub to_is : to ≡ progress_after l from (Ok (Some r))
 
 -- a fault of bytes, and not of a call or of memory

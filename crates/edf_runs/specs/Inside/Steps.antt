@@ -6,7 +6,7 @@ use Rattle.edf_header.specs.Header.{Layout, most_records}
 use Rattle.edf_tal.specs.declared.place.Place.{Place}
 use Rattle.edf_fragment.specs.Fragment.{DataRecord, AreDataRecords}
 use Rattle.edf_fragment.specs.Sound.{IsSoundRecord}
-use Rattle.edf_fragment.specs.Reading.{GivesRecord, IsAnswer, progress_after}
+use Rattle.edf_fragment.specs.Reading.{ReadsRecord, IsAnswer, progress_after}
 use Rattle.edf_fragment.specs.declared.advance.Progress.{Progress}
 use Rattle.edf_fragment.specs.declared.advance.ReaderState.TheVariants.{Reading}
 use Rattle.edf_canonical.specs.declared.fault.OutputFault.{OutputFault}
@@ -46,7 +46,7 @@ pub record StepsOn (l : Layout) (from to : Progress) (left rest : Option (List �
   pub going : from.state ≡ Reading
   pub is_answer : IsAnswer l from to left rest (Ok (Some r))
   pub progress : to ≡ progress_after l from (Ok (Some r))
-  pub gives : GivesRecord l from left rest r
+  pub gives : ReadsRecord l from left rest r
   pub sound : IsSoundRecord l.key r
   pub start : r.start ≡ instant
 

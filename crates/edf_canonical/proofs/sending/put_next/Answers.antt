@@ -80,7 +80,7 @@ returns-in_err-put_annotated g c records before =
       record {
         first = may_come _ m whole measured
             (c.may_come_first.ensures.0 c.if-not-may_come_first.false);
-        left = e.0.0;
+        remaining = e.0.0;
         wrote = subst (λ x. Writes b d x e.0.0) text e.0.1;
       },
       e.1,

@@ -33,7 +33,7 @@ returns-then-put_answers-clause-taken g c =
       tos = map state c.submit_all.new.inputs;
       answers = c.in-Ok-submit_all.answers.items;
       opened =
-          map-map (λ (f : InputState). f.left) state c.as_mut_slice.result.now
+          map-map (λ (f : InputState). f.remaining) state c.as_mut_slice.result.now
           ∙ ap (λ (l : List Reader). map left l) c.as_mut_slice.ensures.value
           ∙ c.in-Ok.ensures.opened ∙ sym (map-map bytes string_bytes files);
       submitted = c.in-Ok-submit_all.ensures.submitted;
@@ -63,7 +63,7 @@ returns-clause-taken g c =
       tos = map state c.submit_all.new.inputs;
       answers = c.in-Ok-submit_all.answers.items;
       opened =
-          map-map (λ (f : InputState). f.left) state c.as_mut_slice.result.now
+          map-map (λ (f : InputState). f.remaining) state c.as_mut_slice.result.now
           ∙ ap (λ (l : List Reader). map left l) c.as_mut_slice.ensures.value
           ∙ c.in-Ok.ensures.opened ∙ sym (map-map bytes string_bytes files);
       submitted = c.in-Ok-submit_all.ensures.submitted;

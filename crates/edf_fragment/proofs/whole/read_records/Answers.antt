@@ -1,8 +1,8 @@
 use Rattle.std.proofs.Common.{◌≡◌, List, ◌++◌, ◌∷◌, [], ap, ◌∙◌, sym, subst, rules, Ok, Some}
 use Rattle.edf_header.specs.Header.{Layout}
 use Rattle.edf_fragment.specs.Fragment.{DataRecord}
-use Rattle.edf_fragment.specs.Reading.{progress_after, GivesRecord}
-use Rattle.edf_fragment.specs.Whole.{HasRead}
+use Rattle.edf_fragment.specs.Reading.{progress_after, ReadsRecord}
+use Rattle.edf_fragment.specs.Whole.{HasReadRecords}
 use Rattle.edf_fragment.specs.declared.advance.Progress.{Progress}
 use Rattle.edf_fragment.proofs.Runs.{next_of, reads_more}
 use Rattle.edf_fragment.proofs.whole.read_records.Goals as goal
@@ -20,8 +20,8 @@ records-preserved g c =
     before.status c.in_ok-record.ensures.answer c.in-Some.is in
     let to_is : to ≡ progress_after l from (Ok (Some r)) =
     subst (λ (x : Layout). to ≡ progress_after x from (Ok (Some r))) before.header step.0 in
-    let gives : GivesRecord l from mid rest r =
-    subst (λ (x : Layout). GivesRecord x from mid rest r) before.header step.1 in
+    let gives : ReadsRecord l from mid rest r =
+    subst (λ (x : Layout). ReadsRecord x from mid rest r) before.header step.1 in
     let list : c.push.new.self.items ≡ c.records.records.items ++ r ∷ [] = search rules in
     let read = reads_more l (g.R.Input.remaining c.args.input.now) mid rest c.records.records.items
     from to r before.so_far to_is gives in
@@ -29,6 +29,6 @@ records-preserved g c =
       header = c.in_ok-record.ensures.header ∙ before.header;
       status = ap (λ (x : Progress). x.state) to_is;
       so_far = subst (λ (x : List DataRecord).
-          HasRead l (g.R.Input.remaining c.args.input.now) rest x to) (sym list) read;
+          HasReadRecords l (g.R.Input.remaining c.args.input.now) rest x to) (sym list) read;
       count = c.in_ok-record.ensures.counted ∙ before.count;
     }

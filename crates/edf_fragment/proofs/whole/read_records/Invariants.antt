@@ -1,14 +1,14 @@
 use Rattle.std.proofs.Common.{◌≡◌, ◌-◌}
 use Rattle.edf_header.specs.Header.{most_records}
 use Rattle.edf_fragment.specs.declared.advance.ReaderState.TheVariants.{Reading}
-use Rattle.edf_fragment.specs.Whole.{HasRead}
+use Rattle.edf_fragment.specs.Whole.{HasReadRecords}
 use Rattle.edf_fragment.proofs.whole.read_records.Given as goal
 
 abbrev pub invariant-records : goal.invariant-records
 invariant-records g l = record {
   header : l.fragment.header ≡ l.initial.fragment.header;
   status : l.fragment.progress.state ≡ Reading;
-  so_far : HasRead l.initial.fragment.header (g.R.Input.remaining l.initial.input)
+  so_far : HasReadRecords l.initial.fragment.header (g.R.Input.remaining l.initial.input)
       (g.R.Input.remaining l.input) l.records.items l.fragment.progress;
   count : g.R.Input.failures l.input ≡ g.R.Input.failures l.initial.input;
 }

@@ -5,7 +5,7 @@ use Rattle.edf_header.specs.Key.{Key, MayStart}
 use Rattle.edf_header.specs.Header.{Layout, IsLayout}
 use Rattle.edf_header.proofs.Cited.{header-has-layout}
 use Rattle.edf_fragment.specs.Fragment.{DataRecord}
-use Rattle.edf_fragment.specs.Reading.{IsAnswer, CountsFault, at_first}
+use Rattle.edf_fragment.specs.Reading.{IsAnswer, CountsFault, initial_progress}
 use Rattle.edf_fragment.specs.declared.advance.Progress.{Progress}
 use Rattle.edf_fragment.proofs.Runs.{next_of}
 use Rattle.edf_fragment.proofs.Fragments.{one_more_read, refused_then}
@@ -28,7 +28,7 @@ records-init g c =
     let header = c.args.fragment.now.header in
     let findings : Findings = record { new = 0; known = 0; clash = None } in
     let fresh = c.requires.header in
-    let begun : MetSoFar g.S.Store store store header left left at_first findings =
+    let begun : MetSoFar g.S.Store store store header left left initial_progress findings =
     at_start g.S.Store store header fresh.before left fresh.header c.args.destination.room
     c.requires.room in
     record {

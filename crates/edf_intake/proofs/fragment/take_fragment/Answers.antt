@@ -70,7 +70,7 @@ returns-in_err-fragment-clause-stopped g c =
     (λ (r : Result Receipt Stop). IfErr r (IsStop g.S.Store tx tx from to))
     c.from_residual.ensures.1
     (stopped_by g.S.Store tx tx from to fault
-    (open_refused from.left to.left fault c.in_err-fragment.ensures.step)
+    (open_refused from.remaining to.remaining fault c.in_err-fragment.ensures.step)
     c.in_err-fragment.ensures.counted)
 
 pub returns-in_err-destination-clause-leaves : goal.returns-in_err-destination-clause-leaves
@@ -228,6 +228,7 @@ returns-in_err-findings-clause-stopped g c =
     (λ (r : Result Receipt Stop). IfErr r (IsStop g.S.Store first last from to))
     c.from_residual-in_err-findings.ensures.1
     (halted g.S.Store first last from to stop
-    (subst (λ (n : ℕ). HaltsThere g.S.Store last (record { left = from.left; failed = n }) to stop)
+    (subst (λ (n : ℕ). HaltsThere g.S.Store last
+    (record { remaining = from.remaining; failed = n }) to stop)
     c.in_ok-fragment.ensures.counted
-    (c.in_err-findings.ensures.halted from.left c.in_ok-fragment.ensures.step.0)))
+    (c.in_err-findings.ensures.halted from.remaining c.in_ok-fragment.ensures.step.0)))

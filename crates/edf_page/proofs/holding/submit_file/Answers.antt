@@ -15,6 +15,9 @@ returns c = IfOk-weaker c.of_file.result _ _
       submitted = c.submit.ensures.submitted;
       ended = c.submit.ensures.ended;
       busy = λ is.
-          let it = c.submit.ensures.busy is in
-          (ap {B = InputState} (λ r. record { left = Some r.inner.now; failed = r.count }) it.0, it.1);
+          let it = c.submit.ensures.busy is in (
+            ap {B = InputState} (λ r. record { remaining = Some r.inner.now; failed = r.count })
+                it.0,
+            it.1,
+          );
     }) c.submit.ensures.cap same.1)) c.of_file.ensures

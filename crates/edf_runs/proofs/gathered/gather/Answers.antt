@@ -1,8 +1,8 @@
 use Rattle.std.proofs.Common.{◌≡◌, List, ◌++◌, ◌∷◌, [], refl, ap, ◌∙◌, sym, subst, Ok, Some, rules}
 use Rattle.edf_header.specs.Header.{Layout}
-use Rattle.edf_fragment.specs.Reading.{progress_after, GivesRecord}
+use Rattle.edf_fragment.specs.Reading.{progress_after, ReadsRecord}
 use Rattle.edf_fragment.specs.Fragment.{DataRecord}
-use Rattle.edf_fragment.specs.Whole.{HasRead}
+use Rattle.edf_fragment.specs.Whole.{HasReadRecords}
 use Rattle.edf_fragment.specs.declared.advance.Progress.{Progress}
 use Rattle.edf_fragment.proofs.Fragments.{reads_none}
 use Rattle.edf_fragment.proofs.Runs.{next_of, reads_more}
@@ -17,7 +17,7 @@ records-init g c =
       state = ap (λ (x : Progress). x.state) c.requires;
       so_far = (
         [],
-        subst (λ (p : Progress). HasRead c.args.fragment.now.header left left [] p)
+        subst (λ (p : Progress). HasReadRecords c.args.fragment.now.header left left [] p)
             (sym c.requires) (reads_none c.args.fragment.now.header left),
         record { starts = c.new.ensures.items; all = c.new-2.ensures.items },
       );
@@ -38,8 +38,8 @@ records-preserved g c =
     before.state c.in_ok-data_record.ensures.answer c.in-Some.is in
     let to_is : to ≡ progress_after l from (Ok (Some r)) =
     subst (λ (x : Layout). to ≡ progress_after x from (Ok (Some r))) before.header step.0 in
-    let gives : GivesRecord l from mid rest r =
-    subst (λ (x : Layout). GivesRecord x from mid rest r) before.header step.1 in
+    let gives : ReadsRecord l from mid rest r =
+    subst (λ (x : Layout). ReadsRecord x from mid rest r) before.header step.1 in
     let read = reads_more l (g.R.Input.remaining c.args.input.now) mid rest records from to r
     before.so_far.1 to_is gives in
     let grows : (rs : List DataRecord) → IsGathered rs c.records.gathered →

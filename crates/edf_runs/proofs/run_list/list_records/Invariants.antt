@@ -2,7 +2,7 @@ use Rattle.std.proofs.Common.{◌≡◌, ◌-◌, List}
 use Rattle.edf_header.specs.Header.{most_records}
 use Rattle.edf_fragment.specs.Fragment.{DataRecord}
 use Rattle.edf_fragment.specs.declared.advance.ReaderState.TheVariants.{Reading}
-use Rattle.edf_fragment.specs.Whole.{HasRead}
+use Rattle.edf_fragment.specs.Whole.{HasReadRecords}
 use Rattle.edf_runs.specs.Runs.{AreListed}
 use Rattle.edf_runs.proofs.run_list.list_records.Given as goal
 
@@ -11,7 +11,7 @@ invariant-records g l = record {
   header : l.fragment.header ≡ l.initial.fragment.header;
   state : l.fragment.progress.state ≡ Reading;
   so_far : (records : List DataRecord)
-      × HasRead l.initial.fragment.header (g.R.Input.remaining l.initial.input)
+      × HasReadRecords l.initial.fragment.header (g.R.Input.remaining l.initial.input)
       (g.R.Input.remaining l.input) records l.fragment.progress
       × AreListed l.fn.duration records l.runs.items;
   count : g.R.Input.failures l.input ≡ g.R.Input.failures l.initial.input;

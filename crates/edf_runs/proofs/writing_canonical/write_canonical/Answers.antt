@@ -9,7 +9,7 @@ use Rattle.edf_header.specs.Signal.{samples_in_all}
 use Rattle.edf_header.specs.declared.limits.TheConstants.{MOST_RECORDS, MOST_BLOCK_BYTES}
 use Rattle.edf_tal.specs.declared.limits.TheConstants.{MOST_CANONICAL_BLOCK_SAMPLES}
 use Rattle.edf_fragment.specs.Reading.{ReadsHeader}
-use Rattle.edf_fragment.specs.Whole.{HasRead}
+use Rattle.edf_fragment.specs.Whole.{HasReadRecords}
 use Rattle.edf_fragment.specs.declared.advance.Progress.{Progress}
 use Rattle.edf_fragment.proofs.Fragments.{reads_none}
 use Rattle.edf_runs.specs.Again.{IsNotReopened}
@@ -55,7 +55,7 @@ returns-in_default-clause-refused g c =
         records = [];
         middle = opened;
         progress = c.in_ok-fragment.fragment.progress;
-        read = subst (λ (x : Progress). HasRead l opened opened [] x) (sym a.1)
+        read = subst (λ (x : Progress). HasReadRecords l opened opened [] x) (sym a.1)
             (reads_none l opened);
         alike = alike-none c.args.plan.now.kept.items;
         first = none-first c.args.plan.now.measure c.args.plan.now.kept.items;

@@ -1,5 +1,5 @@
 use Rattle.std.proofs.Common.{◌∙◌, ap, refl, inr, Err}
-use Rattle.edf_fragment.specs.Failures.{one_more}
+use Rattle.edf_fragment.specs.Failures.{saturating_increment}
 use Rattle.edf_runs.specs.declared.fault.WriteFault.{WriteFault}
 use Rattle.edf_program.specs.Made.{finished, half, unnamed, failed_with}
 use Rattle.edf_program.specs.Making.{making}
@@ -49,7 +49,7 @@ returns-in-Err-finish-clause-answer g c =
           is_half = refl;
         }),
       );
-      failed = c.in-Err-finish.ensures.failed ∙ ap one_more c.in-Ok.ensures.failed;
+      failed = c.in-Err-finish.ensures.failed ∙ ap saturating_increment c.in-Ok.ensures.failed;
     }
 
 pub returns-in-Err-clause-answer : goal.returns-in-Err-clause-answer

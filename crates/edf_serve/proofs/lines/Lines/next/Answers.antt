@@ -1,6 +1,6 @@
 use Rattle.std.proofs.Common.{◌≡◌, ◌++◌, ◌∙◌, List, ℕ, take, slice_range, option_map, sym, ap, arith}
 use Rattle.std.proofs.lemmas.Grind.{common_steps}
-use Rattle.edf_fragment.specs.Failures.{one_more}
+use Rattle.edf_fragment.specs.Failures.{saturating_increment}
 use Rattle.std.specs.Vec.{with_items}
 use Rattle.std.proofs.lemmas.List.{with_items_is}
 use Rattle.edf_serve.specs.Lines.{Coming}
@@ -31,5 +31,5 @@ returns g c =
     (λ is. rw items-are (ens.line is))
     (λ no. ap (λ (n : ℕ). slice_range B n found.end) (ens.none no) ∙ slice-front B found.end)
     (λ is. (ap (λ (n : ℕ). take n B) (ens.ended is).0, (ens.ended is).1))
-    (λ is. ens.failed is ∙ ap one_more (sym failed-is))
+    (λ is. ens.failed is ∙ ap saturating_increment (sym failed-is))
     (λ no. ens.unfailed no ∙ sym failed-is)
