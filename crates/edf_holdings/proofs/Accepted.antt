@@ -4,7 +4,7 @@ use Rattle.std.proofs.lemmas.Bool.{cond-true, cond-false, cases_Bool, both_ways}
 use Rattle.edf_header.specs.Key.{Key}
 use Rattle.edf_fragment.specs.Fragment.{DataRecord}
 use Rattle.edf_fragment.specs.Parsed.{Parsed, Fragment, Fault}
-use Rattle.edf_holdings.specs.Holdings.{Holdings, put}
+use Rattle.edf_holdings.specs.Holdings.{Holdings, with_records}
 use Rattle.edf_holdings.specs.Reply.{IsWellFormed, fits, after_one, after, reply, IsAccepted}
 use Rattle.edf_holdings.specs.ConflictFree.{Has}
 use Rattle.edf_holdings.specs.Laws.{AreWellFormed}
@@ -35,8 +35,8 @@ met cap h (Fault fault) w g = record {
 }
 met cap h (Fragment key records) w g = elim (cases_Bool (fits cap key records h)) [
   | inl t ↦
-      let a : after_one cap h (Fragment key records) ≡ put key records h =
-      cond-true (fits cap key records h) (put key records h) h t in
+      let a : after_one cap h (Fragment key records) ≡ with_records key records h =
+      cond-true (fits cap key records h) (with_records key records h) h t in
       let i : IsAccepted (reply cap h (Fragment key records)) =
       subst IsAccepted (sym (accepted_from_MayJoin cap h key records w g
       (MayJoin-from_fits cap key records h t))) tt in
@@ -54,7 +54,7 @@ met cap h (Fragment key records) w g = elim (cases_Bool (fits cap key records h)
       }
   | inr t ↦
       let a : after_one cap h (Fragment key records) ≡ h =
-      cond-false (fits cap key records h) (put key records h) h t in
+      cond-false (fits cap key records h) (with_records key records h) h t in
       let n : IsAccepted (reply cap h (Fragment key records)) → ⊥ =
       λ i. both_ways _ t (fits_from_MayJoin cap key records h
       (MayJoin-from_accepted cap h key records w g i)) in

@@ -6,9 +6,9 @@ use Rattle.edf_field.specs.Number.{duration_of}
 use Rattle.edf_fragment.specs.Fragment.{DataRecord}
 use Rattle.edf_fragment.specs.Sound.{AreSound}
 use Rattle.edf_holdings.specs.Same.{same_record}
-use Rattle.edf_holdings.specs.Clash.{clashes, meets, near_of}
-use Rattle.edf_holdings.specs.Rising.{inserted}
-use Rattle.edf_holdings.specs.Holdings.{put, nothing_held}
+use Rattle.edf_holdings.specs.Clash.{clashes, intervals_overlap, near_of}
+use Rattle.edf_holdings.specs.Rising.{insert}
+use Rattle.edf_holdings.specs.Holdings.{with_records, nothing_held}
 use Rattle.edf_holdings.specs.Laws.{NothingIsSound, AddStaysSound}
 use Rattle.edf_holdings.proofs.Same.{clashes-true}
 use Rattle.edf_holdings.proofs.Members.{In, AreFree}
@@ -17,14 +17,14 @@ use Rattle.edf_holdings.proofs.Sound.{IsSound-from, HasHolders-put, HasHolders-f
 
 -- where nothing is near, nothing meets
 none_meets : (d start : ℕ) (xs : List DataRecord) → near_of d start xs ≡ [] → (x : DataRecord) →
-    In x xs → meets d start x ≡ true → ⊥
+    In x xs → intervals_overlap d start x ≡ true → ⊥
 none_meets d start [] e x m t = m
 none_meets d start (y ∷ ys) e x (inl p) t =
-    cc (sym (cond-true (meets d start y) (y ∷ near_of d start ys) (near_of d start ys)
-    (subst (λ (u : DataRecord). meets d start u ≡ true) (sym p) t)) ∙ e)
+    cc (sym (cond-true (intervals_overlap d start y) (y ∷ near_of d start ys) (near_of d start ys)
+    (subst (λ (u : DataRecord). intervals_overlap d start u ≡ true) (sym p) t)) ∙ e)
 none_meets d start (y ∷ ys) e x (inr m) t =
     none_meets d start ys
-    (cond_both (meets d start y) (y ∷ near_of d start ys) (near_of d start ys)
+    (cond_both (intervals_overlap d start y) (y ∷ near_of d start ys) (near_of d start ys)
     (λ (l : List DataRecord). l ≡ [] → near_of d start ys ≡ []) (λ _ q. cc q) (λ _ q. q) e)
     x m t
 
@@ -37,14 +37,14 @@ free_where_none_near d r xs e q x (inl p) m =
     (nat_lt x.start (r.start + d)) (lt-ltb _ _ c.1) (lt-ltb _ _ c.2))))
 free_where_none_near d r xs e q x (inr n) m = absurd n
 
-inserted_short : (r : DataRecord) (xs : List DataRecord) → length (inserted r xs) ≤ length xs + 1
+inserted_short : (r : DataRecord) (xs : List DataRecord) → length (insert r xs) ≤ length xs + 1
 inserted_short r [] = omega arith
 inserted_short r (x ∷ xs) =
     cond_both (same_record x r) (x ∷ xs)
-    (cond (nat_lt r.start x.start) (r ∷ x ∷ xs) (x ∷ inserted r xs)) (λ (l : List DataRecord).
+    (cond (nat_lt r.start x.start) (r ∷ x ∷ xs) (x ∷ insert r xs)) (λ (l : List DataRecord).
     length l ≤ length (x ∷ xs) + 1)
     (λ _. omega arith)
-    (λ _. cond_both (nat_lt r.start x.start) (r ∷ x ∷ xs) (x ∷ inserted r xs)
+    (λ _. cond_both (nat_lt r.start x.start) (r ∷ x ∷ xs) (x ∷ insert r xs)
     (λ (l : List DataRecord). length l ≤ length (x ∷ xs) + 1)
     (λ _. omega arith) (λ _. omega (arith, inserted_short r xs)))
 
@@ -55,7 +55,7 @@ add_stays_sound cap h key r s w sound none room first =
       free = free_where_none_near (duration_of key.duration) r (h key) none;
       room = inr (omega (arith, inserted_short r (h key), room));
     } in
-    IsSound-from cap (put key (r ∷ []) h)
+    IsSound-from cap (with_records key (r ∷ []) h)
     (IsGood-put cap key (r ∷ []) h w (apart-sound key 0 (r ∷ []) one) (IsGood-from_sound cap h s)
     may)
     (HasHolders-put key (r ∷ []) h w one first (HasHolders-from_sound cap h s))

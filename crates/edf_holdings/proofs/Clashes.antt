@@ -5,9 +5,10 @@ use Rattle.std.proofs.lemmas.Bool.{cond-true, cond-false, cases_Bool, both_ways,
 use Rattle.edf_field.specs.Number.{duration_of}
 use Rattle.edf_fragment.specs.Fragment.{DataRecord}
 use Rattle.edf_holdings.specs.Clash.{Clash, clashes}
-use Rattle.edf_holdings.specs.Rising.{IsApart, IsRising}
+use Rattle.edf_holdings.specs.Rising.{StartsAreSpaced, IsRising}
 use Rattle.edf_holdings.specs.Reply.{clash_or, first_clash}
-use Rattle.edf_holdings.specs.Meaning.{IsFirstClash, ClashIsThere, CountsAreNamed, NewIsCounted}
+use Rattle.edf_holdings.specs.Meaning.{IsFirstClash, FirstClashExists, CountsAreNamed}
+use Rattle.edf_holdings.specs.Meaning.{NewRecordsAreCounted}
 use Rattle.edf_holdings.proofs.Same.{Clash-from_test, test_from_Clash}
 use Rattle.edf_holdings.proofs.Members.{In, AreFree, in_rest, length_joined}
 use Rattle.edf_holdings.proofs.Joining.{IsGood-from_sound, In-from_Contains, Contains-from_In}
@@ -20,7 +21,7 @@ record IsEarliest (d : ℕ) (r s : DataRecord) (xs : List DataRecord) : Type 0 w
   clash : clashes d r s ≡ true
   earliest : (x : DataRecord) → In x xs → clashes d r x ≡ true → s.start ≤ x.start
 
-find_some : (d low : ℕ) (r s : DataRecord) (xs : List DataRecord) → IsApart 1 low xs →
+find_some : (d low : ℕ) (r s : DataRecord) (xs : List DataRecord) → StartsAreSpaced 1 low xs →
     find (clashes d r) xs ≡ Some s → IsEarliest d r s xs
 find_some d low r s [] a e = cc e
 find_some d low r s (y ∷ ys) a e =
@@ -91,7 +92,7 @@ first_some d xs (r ∷ rs) p a e = go (find (clashes d r) xs) refl (first_some d
           earliest = λ x n c. i.earliest x (In-from_Contains xs x n) (test_from_Clash d r x c);
         })
 
-pub clash_is_there : ClashIsThere
+pub clash_is_there : FirstClashExists
 clash_is_there cap h key records r s sound m n c =
     go (first_clash (duration_of key.duration) (h key) records) refl
   where
@@ -121,7 +122,7 @@ counts_are_named cap h key records clear = counts-named cap h key records
     (no_first (duration_of key.duration) (h key) records
     (free_of_clashes (duration_of key.duration) (h key) records clear))
 
-pub new_is_counted : NewIsCounted
+pub new_is_counted : NewRecordsAreCounted
 new_is_counted cap h key records s w n =
     length_joined (duration_of key.duration) 0 0 (h key) records (lasting key w.0)
     (apart-sound key 0 records w.1) ((IsGood-from_sound cap h s).apart key)

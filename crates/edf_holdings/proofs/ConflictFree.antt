@@ -10,11 +10,11 @@ use Rattle.edf_header.specs.Key.{Key}
 use Rattle.edf_fragment.specs.Fragment.{DataRecord}
 use Rattle.edf_fragment.specs.Parsed.{Parsed, Fragment, Fault}
 use Rattle.edf_holdings.specs.Same.{same_record}
-use Rattle.edf_holdings.specs.Rising.{inserted, united, IsRising}
-use Rattle.edf_holdings.specs.Holdings.{Holdings, put}
+use Rattle.edf_holdings.specs.Rising.{insert, union, IsRising}
+use Rattle.edf_holdings.specs.Holdings.{Holdings, with_records}
 use Rattle.edf_holdings.specs.Reply.{IsWellFormed, fits, after_one, after, reply, replies}
 use Rattle.edf_holdings.specs.Reply.{IsAccepted}
-use Rattle.edf_holdings.specs.ConflictFree.{with_one, with_all, IsConflictFree, Has}
+use Rattle.edf_holdings.specs.ConflictFree.{union_with, union_with_all, IsConflictFree, Has}
 use Rattle.edf_holdings.specs.Laws.{AreWellFormed, AnyOrder, Recut}
 use Rattle.edf_holdings.proofs.Same.{Clash-from_test}
 use Rattle.edf_holdings.proofs.Members.{In, Within, AreFree, in_joined, joined_has, joined_keeps}
@@ -27,30 +27,31 @@ use Rattle.edf_holdings.proofs.Replies.{accepted_from_MayJoin}
 
 -- joining makes no list shorter
 
-inserted_longer : (r : DataRecord) (xs : List DataRecord) → length xs ≤ length (inserted r xs)
+inserted_longer : (r : DataRecord) (xs : List DataRecord) → length xs ≤ length (insert r xs)
 inserted_longer r [] = omega arith
 inserted_longer r (x ∷ xs) =
     cond_both (same_record x r) (x ∷ xs)
-    (cond (nat_lt r.start x.start) (r ∷ x ∷ xs) (x ∷ inserted r xs)) (λ (l : List DataRecord).
+    (cond (nat_lt r.start x.start) (r ∷ x ∷ xs) (x ∷ insert r xs)) (λ (l : List DataRecord).
     length (x ∷ xs) ≤ length l)
     (λ _. omega arith)
-    (λ _. cond_both (nat_lt r.start x.start) (r ∷ x ∷ xs) (x ∷ inserted r xs)
+    (λ _. cond_both (nat_lt r.start x.start) (r ∷ x ∷ xs) (x ∷ insert r xs)
     (λ (l : List DataRecord). length (x ∷ xs) ≤ length l)
     (λ _. omega arith) (λ _. omega (arith, inserted_longer r xs)))
 
-joined_longer : (xs rs : List DataRecord) → length xs ≤ length (united xs rs)
+joined_longer : (xs rs : List DataRecord) → length xs ≤ length (union xs rs)
 joined_longer xs [] = omega arith
-joined_longer xs (r ∷ rs) = omega (arith, inserted_longer r xs, joined_longer (inserted r xs) rs)
+joined_longer xs (r ∷ rs) = omega (arith, inserted_longer r xs, joined_longer (insert r xs) rs)
 
-one_longer : (h : Holdings) (t : Parsed) (k : Key) → length (h k) ≤ length (with_one h t k)
+one_longer : (h : Holdings) (t : Parsed) (k : Key) → length (h k) ≤ length (union_with h t k)
 one_longer h (Fault fault) k = omega arith
 one_longer h (Fragment key records) k =
     put_cases key records h (λ q l. length (h q) ≤ length l) (joined_longer (h key) records)
     (λ q. omega arith) k
 
-all_longer : (h : Holdings) (ts : List Parsed) (k : Key) → length (h k) ≤ length (with_all h ts k)
+all_longer : (h : Holdings) (ts : List Parsed) (k : Key) →
+    length (h k) ≤ length (union_with_all h ts k)
 all_longer h [] k = omega arith
-all_longer h (t ∷ ts) k = omega (arith, one_longer h t k, all_longer (with_one h t) ts k)
+all_longer h (t ∷ ts) k = omega (arith, one_longer h t k, all_longer (union_with h t) ts k)
 
 -- what is in holdings joined with all records of a list
 
@@ -59,7 +60,8 @@ abbrev pub IsAmong : Key → DataRecord → List Parsed → Type 0
 IsAmong k r [] = ⊥
 IsAmong k r (t ∷ ts) = Has k r t ⊎ IsAmong k r ts
 
-in_one : (h : Holdings) (t : Parsed) (k : Key) (y : DataRecord) → In y (with_one h t k) → In y (h k)
+in_one : (h : Holdings) (t : Parsed) (k : Key) (y : DataRecord) → In y (union_with h t k) →
+    In y (h k)
     ⊎ Has k y t
 in_one h (Fault fault) k y m = inl m
 in_one h (Fragment key records) k y m =
@@ -72,38 +74,40 @@ in_one h (Fragment key records) k y m =
     (λ q p. inl p) k m
 
 pub put_has : (h : Holdings) (key : Key) (records : List DataRecord) (k : Key) (y : DataRecord) →
-    Has k y (Fragment key records) → In y (put key records h k)
+    Has k y (Fragment key records) → In y (with_records key records h k)
 put_has h key records k y s =
-    subst (λ (q : Key). In y (put key records h q)) s.0
+    subst (λ (q : Key). In y (with_records key records h q)) s.0
     (subst (λ (l : List DataRecord). In y l) (sym (put_here key records h))
     (joined_has (h key) records y (In-from_Contains records y s.1)))
 
-one_has : (h : Holdings) (t : Parsed) (k : Key) (y : DataRecord) → Has k y t → In y (with_one h t k)
+one_has : (h : Holdings) (t : Parsed) (k : Key) (y : DataRecord) → Has k y t →
+    In y (union_with h t k)
 one_has h (Fault fault) k y s = absurd s
 one_has h (Fragment key records) k y s = put_has h key records k y s
 
-with_one_grows : (h : Holdings) (t : Parsed) → Grows h (with_one h t)
+with_one_grows : (h : Holdings) (t : Parsed) → Grows h (union_with h t)
 with_one_grows h (Fault fault) = λ k y m. m
 with_one_grows h (Fragment key records) = put_grows key records h
 
-pub all_grows : (h : Holdings) (ts : List Parsed) → Grows h (with_all h ts)
+pub all_grows : (h : Holdings) (ts : List Parsed) → Grows h (union_with_all h ts)
 all_grows h [] k y m = m
-all_grows h (t ∷ ts) k y m = all_grows (with_one h t) ts k y (with_one_grows h t k y m)
+all_grows h (t ∷ ts) k y m = all_grows (union_with h t) ts k y (with_one_grows h t k y m)
 
-pub in_all : (h : Holdings) (ts : List Parsed) (k : Key) (y : DataRecord) → In y (with_all h ts k) →
+pub in_all : (h : Holdings) (ts : List Parsed) (k : Key) (y : DataRecord) →
+    In y (union_with_all h ts k) →
     In y (h k) ⊎ IsAmong k y ts
 in_all h [] k y m = inl m
 in_all h (t ∷ ts) k y m =
-    elim (in_all (with_one h t) ts k y m) [
+    elim (in_all (union_with h t) ts k y m) [
       | inr n ↦ inr (inr n)
       | inl n ↦ elim (in_one h t k y n) [ inl q ↦ inl q | inr q ↦ inr (inl q) ]
     ]
 
 pub all_has : (h : Holdings) (ts : List Parsed) (k : Key) (y : DataRecord) → IsAmong k y ts →
-    In y (with_all h ts k)
+    In y (union_with_all h ts k)
 all_has h [] k y m = absurd m
-all_has h (t ∷ ts) k y (inl s) = all_grows (with_one h t) ts k y (one_has h t k y s)
-all_has h (t ∷ ts) k y (inr n) = all_has (with_one h t) ts k y n
+all_has h (t ∷ ts) k y (inl s) = all_grows (union_with h t) ts k y (one_has h t k y s)
+all_has h (t ∷ ts) k y (inr n) = all_has (union_with h t) ts k y n
 
 pub IsAmong-from_Any : (k : Key) (r : DataRecord) (ts : List Parsed) → Any (Has k r) ts →
     IsAmong k r ts
@@ -129,10 +133,10 @@ MayJoin-from_free : (cap : ℕ) (h : Holdings) (key : Key) (records : List DataR
 MayJoin-from_free cap h key records ts i = record { free = free; room = inr room }
   where
     all : List DataRecord
-    all = with_all (put key records h) ts key
+    all = union_with_all (with_records key records h) ts key
 
-    up : Within (united (h key) records) all
-    up y m = all_grows (put key records h) ts key y
+    up : Within (union (h key) records) all
+    up y m = all_grows (with_records key records h) ts key y
         (subst (λ (l : List DataRecord). In y l) (sym (put_here key records h)) m)
 
     free : AreFree (duration_of key.duration) (h key) records
@@ -141,18 +145,18 @@ MayJoin-from_free cap h key records ts i = record { free = free; room = inr room
         (Contains-from_In all s (up s (joined_keeps (h key) records s n)))
         (Clash-from_test (duration_of key.duration) r s t))
 
-    room : length (united (h key) records) ≤ cap
+    room : length (union (h key) records) ≤ cap
     room = omega (
       arith,
       i.few key,
-      all_longer (put key records h) ts key,
+      all_longer (with_records key records h) ts key,
       ap (λ (l : List DataRecord). length l) (put_here key records h),
     )
 
 -- what the first member of a free list does
 record FirstOf (cap : ℕ) (h : Holdings) (t : Parsed) : Type 0 where
   accepted : IsAccepted (reply cap h t)
-  joins : after_one cap h t ≡ with_one h t
+  joins : after_one cap h t ≡ union_with h t
 
 first_of_free : (cap : ℕ) (h : Holdings) (t : Parsed) (ts : List Parsed) → IsWellFormed t →
     IsGood cap h → IsConflictFree cap h (t ∷ ts) → FirstOf cap h t
@@ -162,21 +166,21 @@ first_of_free cap h (Fragment key records) ts w g i =
     let m = MayJoin-from_free cap h key records ts i in
     record {
       accepted = subst IsAccepted (sym (accepted_from_MayJoin cap h key records w g m)) tt;
-      joins = cond-true (fits cap key records h) (put key records h) h
+      joins = cond-true (fits cap key records h) (with_records key records h) h
           (fits_from_MayJoin cap key records h m);
     }
 
 record WholeOf (cap : ℕ) (h : Holdings) (ts : List Parsed) : Type 0 where
   accepted : All IsAccepted (replies cap h ts)
-  joins : after cap h ts ≡ with_all h ts
+  joins : after cap h ts ≡ union_with_all h ts
 
 whole_of_free : (cap : ℕ) (h : Holdings) (ts : List Parsed) → AreWellFormed ts → IsGood cap h →
     IsConflictFree cap h ts → WholeOf cap h ts
 whole_of_free cap h [] w g i = record { accepted = All-nil IsAccepted; joins = refl }
 whole_of_free cap h (t ∷ ts) w g i =
     let one : FirstOf cap h t = first_of_free cap h t ts w.0 g i in
-    let rest : WholeOf cap (with_one h t) ts =
-    whole_of_free cap (with_one h t) ts w.1
+    let rest : WholeOf cap (union_with h t) ts =
+    whole_of_free cap (union_with h t) ts w.1
     (subst (IsGood cap) one.joins (IsGood-one cap h t w.0 g))
     (record { fragments = i.fragments.1; no_clash = i.no_clash; few = i.few }) in
     record {
@@ -195,7 +199,7 @@ any_order_law cap h ts s w i = let a = whole_of_free cap h ts w (IsGood-from_sou
 
 pub all_within : (h : Holdings) (ts us : List Parsed) (k : Key) →
     ((y : DataRecord) → IsAmong k y ts → IsAmong k y us) →
-    Within (with_all h ts k) (with_all h us k)
+    Within (union_with_all h ts k) (union_with_all h us k)
 all_within h ts us k w y m = elim (in_all h ts k y m) [
   | inl n ↦ all_grows h us k y n
   | inr n ↦
@@ -204,7 +208,8 @@ all_within h ts us k w y m = elim (in_all h ts k y m) [
 
 pub recut_law : Recut
 recut_law cap h ts us s w v i j same =
-    a.joins ∙ (fun_ext (λ k. same_lists 1 0 0 (with_all h ts k) (with_all h us k) (omega arith)
+    a.joins ∙ (fun_ext (λ k. same_lists 1 0 0 (union_with_all h ts k) (union_with_all h us k)
+    (omega arith)
     (subst (λ (z : Holdings). IsRising (z k)) a.joins ((IsGood-after cap h ts w g).rising k))
     (subst (λ (z : Holdings). IsRising (z k)) b.joins ((IsGood-after cap h us v g).rising k))
     (all_within h ts us k (λ y m. IsAmong-from_Any k y us

@@ -11,17 +11,18 @@ use Rattle.edf_fragment.specs.Fragment.{DataRecord}
 use Rattle.edf_fragment.specs.Parsed.{Fragment}
 use Rattle.edf_holdings.specs.Same.{same_key}
 use Rattle.edf_holdings.specs.Clash.{clashes}
-use Rattle.edf_holdings.specs.Rising.{united, new_of, IsApart, IsRising}
+use Rattle.edf_holdings.specs.Rising.{union, count_new, StartsAreSpaced, IsRising}
 use Rattle.edf_fragment.specs.Sound.{IsSoundRecord, AreSound}
-use Rattle.edf_holdings.specs.Holdings.{Holdings, IsSound, put, nothing_held}
+use Rattle.edf_holdings.specs.Holdings.{Holdings, IsSound, with_records, nothing_held}
 use Rattle.edf_holdings.specs.Reply.{IsWellFormed, fits, after_one, Accepted, Differs, Overlap}
 use Rattle.edf_holdings.specs.Reply.{Conflict, Conflicts, conflict_of_clash}
 use Rattle.edf_holdings.specs.Reply.{clash_or, first_clash, reply_to_clash, reply, IsAccepted}
-use Rattle.edf_holdings.specs.ConflictFree.{with_all}
+use Rattle.edf_holdings.specs.ConflictFree.{union_with_all}
 use Rattle.edf_holdings.specs.Meaning.{SameKeyIsEqual, SameRecordIsEqual, TestIsClash}
-use Rattle.edf_holdings.specs.Meaning.{HoldsIsContains, ListIsSet, HoldingsAreSets, JoinedHasBoth}
+use Rattle.edf_holdings.specs.Meaning.{TestIsContains, ListIsSet, HoldingsAreSets, JoinedHasBoth}
 use Rattle.edf_holdings.specs.Meaning.{AllHasBoth, Fits, TestIsFits, AcceptedWhereFits}
-use Rattle.edf_holdings.specs.Meaning.{IsFirstClash, ClashIsNamed, OwnList, NearTwo}
+use Rattle.edf_holdings.specs.Meaning.{IsFirstClash, RepliesNameTheClash, OwnRecordsAreKnown}
+use Rattle.edf_holdings.specs.Meaning.{NearTwo}
 use Rattle.edf_holdings.proofs.Same.{same_key-Decides, same_record-Decides, Clash-from_test}
 use Rattle.edf_holdings.proofs.Same.{test_from_Clash}
 use Rattle.edf_holdings.proofs.Members.{In, Within, AreFree, In-from_holds, holds_from_In}
@@ -46,7 +47,7 @@ same_record_is_equal r s = ((same_record-Decides r s).0, (same_record-Decides r 
 pub test_is_clash : TestIsClash
 test_is_clash d r s = (Clash-from_test d r s, test_from_Clash d r s)
 
-pub holds_is_contains : HoldsIsContains
+pub holds_is_contains : TestIsContains
 holds_is_contains xs r = (
   (λ e. Contains-from_In xs r (In-from_holds xs r e)),
   (λ m. holds_from_In xs r (In-from_Contains xs r m)),
@@ -66,12 +67,12 @@ holdings_are_sets cap h other s t m =
 
 pub joined_has_both : JoinedHasBoth
 joined_has_both xs rs r = (
-  (λ m. elim (in_joined r xs rs (In-from_Contains (united xs rs) r m)) [
+  (λ m. elim (in_joined r xs rs (In-from_Contains (union xs rs) r m)) [
     | inl n ↦
         inl (Contains-from_In xs r n)
     | inr n ↦ inr (Contains-from_In rs r n)
   ]),
-  (λ m. Contains-from_In (united xs rs) r
+  (λ m. Contains-from_In (union xs rs) r
       (elim m [
         | inl n ↦ joined_keeps xs rs r (In-from_Contains xs r n)
         | inr n ↦
@@ -81,12 +82,12 @@ joined_has_both xs rs r = (
 
 pub all_has_both : AllHasBoth
 all_has_both h ts k r = (
-  (λ m. elim (in_all h ts k r (In-from_Contains (with_all h ts k) r m)) [
+  (λ m. elim (in_all h ts k r (In-from_Contains (union_with_all h ts k) r m)) [
     | inl n ↦
         inl (Contains-from_In (h k) r n)
     | inr n ↦ inr (Any-from_IsAmong k r ts n)
   ]),
-  (λ m. Contains-from_In (with_all h ts k) r
+  (λ m. Contains-from_In (union_with_all h ts k) r
       (elim m [
         | inl n ↦ all_grows h ts k r (In-from_Contains (h k) r n)
         | inr n ↦
@@ -140,7 +141,8 @@ accepted_where_fits cap h key records s w =
 -- the clash that is named
 
 -- of those that clash, the first in a rising list is the earliest
-find_earliest : (d low : ℕ) (r s : DataRecord) (xs : List DataRecord) → IsApart 1 low xs → In s xs →
+find_earliest : (d low : ℕ) (r s : DataRecord) (xs : List DataRecord) → StartsAreSpaced 1 low xs →
+    In s xs →
     clashes d r s ≡ true
     → ((x : DataRecord) → In x xs → clashes d r x ≡ true → s.start ≤ x.start) →
     find (clashes d r) xs ≡ Some s
@@ -171,7 +173,7 @@ first_clash_found d xs rs r s a i =
         i.none_before q x (Contains-from_In i.before q m) (Contains-from_In xs x n)
         (Clash-from_test d q x t))
 
-pub clash_is_named : ClashIsNamed
+pub clash_is_named : RepliesNameTheClash
 unfolding reply
 clash_is_named cap h key records r s t i = (
   (λ p. is ∙ ap (λ (c : Conflict). Conflicts c)
@@ -193,20 +195,22 @@ clash_is_named cap h key records r s t i = (
 none_held : (cap : ℕ) → IsGood cap nothing_held
 none_held cap = record { rising = λ k. tt; apart = λ k. tt; few = λ k. omega arith }
 
-pub from_nothing : (d low : ℕ) (rs : List DataRecord) → 0 < d → IsApart d low rs → IsApart d 0 rs →
-    united [] rs ≡ rs
+pub from_nothing : (d low : ℕ) (rs : List DataRecord) → 0 < d → StartsAreSpaced d low rs →
+    StartsAreSpaced d 0 rs →
+    union [] rs ≡ rs
 from_nothing d low rs z a b =
-    same_lists d 0 0 (united [] rs) rs z (apart_joined d low [] rs tt a (λ r x m n. absurd n)) b
+    same_lists d 0 0 (union [] rs) rs z (apart_joined d low [] rs tt a (λ r x m n. absurd n)) b
     (λ y m. elim (in_joined y [] rs m) [ inl n ↦ absurd n | inr n ↦ n ])
     (joined_has [] rs)
 
-new_from_nothing : (rs : List DataRecord) → new_of [] rs ≡ length rs
+new_from_nothing : (rs : List DataRecord) → count_new [] rs ≡ length rs
 new_from_nothing [] = refl
 new_from_nothing (r ∷ rs) = omega (arith, new_from_nothing rs)
 
 -- records that lie apart and are each sound are sound together
 pub are-sound-from : (k : Key) (low : ℕ) (rs : List DataRecord) →
-    IsApart (duration_of k.duration) low rs → ((r : DataRecord) → In r rs → IsSoundRecord k r) →
+    StartsAreSpaced (duration_of k.duration) low rs →
+    ((r : DataRecord) → In r rs → IsSoundRecord k r) →
     AreSound k low rs
 are-sound-from k low [] a e = tt
 are-sound-from k low (r ∷ rs) a e = (
@@ -226,12 +230,12 @@ held-sound cap h k s some = (
   s.begins k,
 )
 
-pub own_list : OwnList
+pub own_list : OwnRecordsAreKnown
 unfolding after_one
 own_list cap h k s some = (
   held_reply cap h k (h k) w g (λ y m. m),
   accepted_from_MayJoin cap nothing_held k (h k) w (none_held cap) may ∙ counted,
-  cond-true (fits cap k (h k) nothing_held) (put k (h k) nothing_held) nothing_held
+  cond-true (fits cap k (h k) nothing_held) (with_records k (h k) nothing_held) nothing_held
       (fits_from_MayJoin cap k (h k) nothing_held may)
       ∙ fun_ext (λ q. ap (λ (l : List DataRecord). cond (same_key k q) l []) whole),
 )
@@ -242,7 +246,7 @@ own_list cap h k s some = (
     g : IsGood cap h
     g = IsGood-from_sound cap h s
 
-    whole : united [] (h k) ≡ h k
+    whole : union [] (h k) ≡ h k
     whole = from_nothing (duration_of k.duration) 0 (h k) (lasting k w.0) (g.apart k) (g.apart k)
 
     may : MayJoin cap k (h k) nothing_held
@@ -254,7 +258,7 @@ own_list cap h k s some = (
 
     counted : answered k (h k) [] ≡ Accepted k (length (h k)) 0
     counted =
-        let p : length (h k) - new_of [] (h k) ≡ 0 = omega (arith, new_from_nothing (h k)) in
+        let p : length (h k) - count_new [] (h k) ≡ 0 = omega (arith, new_from_nothing (h k)) in
         cc (new_from_nothing (h k), p)
 
 pub near_two_law : NearTwo

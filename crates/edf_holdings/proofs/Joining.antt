@@ -13,9 +13,9 @@ use Rattle.edf_fragment.specs.Fragment.{DataRecord}
 use Rattle.edf_header.proofs.Cited.{key-duration-some}
 use Rattle.edf_holdings.specs.Same.{same_key}
 use Rattle.edf_holdings.specs.Clash.{clashes}
-use Rattle.edf_holdings.specs.Rising.{united, IsApart, IsRising}
+use Rattle.edf_holdings.specs.Rising.{union, StartsAreSpaced, IsRising}
 use Rattle.edf_fragment.specs.Sound.{AreSound}
-use Rattle.edf_holdings.specs.Holdings.{Holdings, IsSound, put}
+use Rattle.edf_holdings.specs.Holdings.{Holdings, IsSound, with_records}
 use Rattle.edf_holdings.specs.Reply.{has_no_clash, fits}
 use Rattle.edf_holdings.proofs.Same.{same_key-true, same_key-refl, clashes-true, clashes_near}
 use Rattle.edf_holdings.proofs.Same.{clashes-false, Clash-from_test}
@@ -48,13 +48,13 @@ pub clashes-sym : (d : ℕ) (r s : DataRecord) → clashes d r s ≡ false → c
 clashes-sym d r s e = false_from_ne_true _ (λ t. let c = clashes-true d s r t in
     both_ways _ e (clashes_near d r s (λ p. c.0 (sym p)) c.2 c.1))
 
-raised : (d low low' : ℕ) (xs : List DataRecord) → IsApart d low xs →
-    ((y : DataRecord) → In y xs → low' ≤ y.start) → IsApart d low' xs
+raised : (d low low' : ℕ) (xs : List DataRecord) → StartsAreSpaced d low xs →
+    ((y : DataRecord) → In y xs → low' ≤ y.start) → StartsAreSpaced d low' xs
 raised d low low' [] a w = tt
 raised d low low' (x ∷ xs) a w = (w x (inl refl), a.1)
 
-pub apart_from_rising : (d low : ℕ) (xs : List DataRecord) → IsApart 1 low xs →
-    ((r s : DataRecord) → In r xs → In s xs → clashes d r s ≡ false) → IsApart d low xs
+pub apart_from_rising : (d low : ℕ) (xs : List DataRecord) → StartsAreSpaced 1 low xs →
+    ((r s : DataRecord) → In r xs → In s xs → clashes d r s ≡ false) → StartsAreSpaced d low xs
 apart_from_rising d low [] a n = tt
 apart_from_rising d low (x ∷ xs) a n = (
   a.0,
@@ -70,8 +70,8 @@ apart_from_rising d low (x ∷ xs) a n = (
           | inr q ↦ elim q [ inl c ↦ omega arith | inr c ↦ c ]
         ]
 
-pub rising_from_apart : (d low : ℕ) (xs : List DataRecord) → 0 < d → IsApart d low xs →
-    IsApart 1 low xs
+pub rising_from_apart : (d low : ℕ) (xs : List DataRecord) → 0 < d → StartsAreSpaced d low xs →
+    StartsAreSpaced 1 low xs
 rising_from_apart d low [] z a = tt
 rising_from_apart d low (x ∷ xs) z a = (
   a.0,
@@ -83,7 +83,8 @@ far_free : (d : ℕ) (r s : DataRecord) → r.start + d ≤ s.start → clashes 
 far_free d r s l = false_from_ne_true _ (λ e. let c = clashes-true d r s e in
     absurd (omega (arith, c.2)))
 
-pub free_from_apart : (d low : ℕ) (xs : List DataRecord) → IsApart d low xs → (r s : DataRecord) →
+pub free_from_apart : (d low : ℕ) (xs : List DataRecord) → StartsAreSpaced d low xs →
+    (r s : DataRecord) →
     In r xs → In s xs → clashes d r s ≡ false
 free_from_apart d low [] a r s m k = absurd m
 free_from_apart d low (x ∷ xs) a r s (inl p) (inl q) =
@@ -131,7 +132,7 @@ test_from_AreFree d xs (s ∷ rs) f =
 -- what proofs use of sound holdings
 pub record IsGood (cap : ℕ) (h : Holdings) : Type 0 where
   pub rising : (k : Key) → IsRising (h k)
-  pub apart : (k : Key) → IsApart (duration_of k.duration) 0 (h k)
+  pub apart : (k : Key) → StartsAreSpaced (duration_of k.duration) 0 (h k)
   pub few : (k : Key) → length (h k) ≤ cap
 
 pub IsGood-from_sound : (cap : ℕ) (h : Holdings) → IsSound cap h → IsGood cap h
@@ -149,7 +150,7 @@ pub lasting : (k : Key) → IsKey k → 0 < duration_of k.duration
 lasting k i = key-duration-some k i
 
 pub apart-sound : (k : Key) (low : ℕ) (rs : List DataRecord) → AreSound k low rs →
-    IsApart (duration_of k.duration) low rs
+    StartsAreSpaced (duration_of k.duration) low rs
 apart-sound k low [] s = tt
 apart-sound k low (r ∷ rs) s = (s.1, apart-sound k (r.start + duration_of k.duration) rs s.2)
 
@@ -157,22 +158,22 @@ apart-sound k low (r ∷ rs) s = (s.1, apart-sound k (r.start + duration_of k.du
 
 -- it joins the records of its key
 pub put_here : (key : Key) (records : List DataRecord) (h : Holdings) →
-    put key records h key ≡ united (h key) records
+    with_records key records h key ≡ union (h key) records
 put_here key records h = cond-true _ _ _ (same_key-refl key)
 
 -- each key's set is joined with those records, or stays
 pub put_cases : (key : Key) (records : List DataRecord) (h : Holdings) (P : Key → List DataRecord →
-    Type 0) → P key (united (h key) records) → ((k : Key) → P k (h k)) → (k : Key) →
-    P k (put key records h k)
+    Type 0) → P key (union (h key) records) → ((k : Key) → P k (h k)) → (k : Key) →
+    P k (with_records key records h k)
 put_cases key records h P here there k =
-    cond_both (same_key key k) (united (h k) records) (h k) (P k)
-    (λ e. subst (λ (q : Key). P q (united (h q) records)) (same_key-true key k e) here)
+    cond_both (same_key key k) (union (h k) records) (h k) (P k)
+    (λ e. subst (λ (q : Key). P q (union (h q) records)) (same_key-true key k e) here)
     (λ e. there k)
 
 -- it may join: no clash with what its key holds, and all is held or there is room
 pub record MayJoin (cap : ℕ) (key : Key) (records : List DataRecord) (h : Holdings) : Type 0 where
   pub free : AreFree (duration_of key.duration) (h key) records
-  pub room : Within records (h key) ⊎ (length (united (h key) records) ≤ cap)
+  pub room : Within records (h key) ⊎ (length (union (h key) records) ≤ cap)
 
 pub MayJoin-from_fits : (cap : ℕ) (key : Key) (records : List DataRecord) (h : Holdings) →
     fits cap key records h ≡ true → MayJoin cap key records h
@@ -198,7 +199,7 @@ fits_from_MayJoin cap key records h m =
 
 -- where all its records are held, it changes nothing
 pub put_held : (cap : ℕ) (key : Key) (records : List DataRecord) (h : Holdings) → IsKey key →
-    IsGood cap h → Within records (h key) → put key records h ≡ h
+    IsGood cap h → Within records (h key) → with_records key records h ≡ h
 put_held cap key records h w g i =
     fun_ext (put_cases key records h (λ k l. l ≡ h k)
     (joined_held (duration_of key.duration) 0 (h key) records (lasting key w) (g.apart key) i)
@@ -216,14 +217,15 @@ MayJoin-from_held cap key records h g i =
 
 -- what joins keeps the holdings good
 pub IsGood-put : (cap : ℕ) (key : Key) (records : List DataRecord) (h : Holdings) → IsKey key →
-    IsApart (duration_of key.duration) 0 records → IsGood cap h → MayJoin cap key records h →
-    IsGood cap (put key records h)
+    StartsAreSpaced (duration_of key.duration) 0 records → IsGood cap h →
+    MayJoin cap key records h →
+    IsGood cap (with_records key records h)
 IsGood-put cap key records h w a g m = record {
   rising = put_cases key records h (λ k l. IsRising l)
-      (rising_from_apart (duration_of key.duration) 0 (united (h key) records) (lasting key w)
+      (rising_from_apart (duration_of key.duration) 0 (union (h key) records) (lasting key w)
       (apart_joined (duration_of key.duration) 0 (h key) records (g.apart key) a m.free))
       g.rising;
-  apart = put_cases key records h (λ k l. IsApart (duration_of k.duration) 0 l)
+  apart = put_cases key records h (λ k l. StartsAreSpaced (duration_of k.duration) 0 l)
       (apart_joined (duration_of key.duration) 0 (h key) records (g.apart key) a m.free) g.apart;
   few = put_cases key records h (λ k l. length l ≤ cap)
       (elim m.room [
@@ -239,13 +241,15 @@ IsGood-put cap key records h w a g m = record {
 abbrev pub Grows : Holdings → Holdings → Type 0
 Grows h h' = (k : Key) → Within (h k) (h' k)
 
-pub put_grows : (key : Key) (records : List DataRecord) (h : Holdings) → Grows h (put key records h)
+pub put_grows : (key : Key) (records : List DataRecord) (h : Holdings) →
+    Grows h (with_records key records h)
 put_grows key records h = put_cases key records h (λ k l. Within (h k) l)
     (joined_keeps (h key) records) (λ k y m. m)
 
 -- what may join the larger holdings may join the smaller ones
 pub MayJoin-smaller : (cap : ℕ) (key : Key) (records : List DataRecord) (h h' : Holdings) →
-    IsKey key → IsApart (duration_of key.duration) 0 records → IsGood cap h → IsGood cap h' →
+    IsKey key → StartsAreSpaced (duration_of key.duration) 0 records → IsGood cap h →
+    IsGood cap h' →
     Grows h h' → MayJoin cap key records h' → MayJoin cap key records h
 MayJoin-smaller cap key records h h' w a g g' up m =
     record { free = free; room = inr (elim m.room [ inl i ↦ held i | inr l ↦ room l ]) }
@@ -253,23 +257,23 @@ MayJoin-smaller cap key records h h' w a g g' up m =
     free : AreFree (duration_of key.duration) (h key) records
     free r s n k = m.free r s n (up key s k)
 
-    apart : IsApart (duration_of key.duration) 0 (united (h key) records)
+    apart : StartsAreSpaced (duration_of key.duration) 0 (union (h key) records)
     apart = apart_joined (duration_of key.duration) 0 (h key) records (g.apart key) a free
 
-    held : Within records (h' key) → length (united (h key) records) ≤ cap
+    held : Within records (h' key) → length (union (h key) records) ≤ cap
     held i = omega (
       arith,
       g'.few key,
-      within_shorter (duration_of key.duration) 0 0 (united (h key) records) (h' key)
+      within_shorter (duration_of key.duration) 0 0 (union (h key) records) (h' key)
           (lasting key w) apart (g'.apart key)
           (λ y n. elim (in_joined y (h key) records n) [ inl k ↦ up key y k | inr k ↦ i y k ]),
     )
 
-    room : length (united (h' key) records) ≤ cap → length (united (h key) records) ≤ cap
+    room : length (union (h' key) records) ≤ cap → length (union (h key) records) ≤ cap
     room l = omega (
       arith,
-      within_shorter (duration_of key.duration) 0 0 (united (h key) records)
-          (united (h' key) records) (lasting key w) apart
+      within_shorter (duration_of key.duration) 0 0 (union (h key) records)
+          (union (h' key) records) (lasting key w) apart
           (apart_joined (duration_of key.duration) 0 (h' key) records (g'.apart key) a m.free)
           (λ y n. elim (in_joined y (h key) records n) [
             | inl k ↦

@@ -7,7 +7,7 @@ use Rattle.std.proofs.lemmas.Bool.{le-ltb}
 use Rattle.edf_fragment.specs.Fragment.{DataRecord}
 use Rattle.edf_holdings.specs.Same.{same_record}
 use Rattle.edf_holdings.specs.Clash.{clashes}
-use Rattle.edf_holdings.specs.Rising.{contains_record, inserted, united, new_of, IsApart}
+use Rattle.edf_holdings.specs.Rising.{contains_record, insert, union, count_new, StartsAreSpaced}
 use Rattle.edf_holdings.proofs.Same.{same_record-true, same_record-refl, same_record-false}
 use Rattle.edf_holdings.proofs.Same.{same_record_no, clashes-false, clashes-true}
 
@@ -36,15 +36,15 @@ holds_from_In (x ∷ xs) r (inr h) = or_right _ _ (holds_from_In xs r h)
 
 -- one record put in
 
-pub in_inserted : (r y : DataRecord) (xs : List DataRecord) → In y (inserted r xs) → (r ≡ y)
+pub in_inserted : (r y : DataRecord) (xs : List DataRecord) → In y (insert r xs) → (r ≡ y)
     ⊎ In y xs
 in_inserted r y [] h = h
 in_inserted r y (x ∷ xs) h =
     cond_both (same_record x r) (x ∷ xs)
-    (cond (nat_lt r.start x.start) (r ∷ x ∷ xs) (x ∷ inserted r xs))
+    (cond (nat_lt r.start x.start) (r ∷ x ∷ xs) (x ∷ insert r xs))
     (λ (l : List DataRecord). In y l → (r ≡ y) ⊎ In y (x ∷ xs))
     (λ e k. inr k)
-    (λ e. cond_both (nat_lt r.start x.start) (r ∷ x ∷ xs) (x ∷ inserted r xs)
+    (λ e. cond_both (nat_lt r.start x.start) (r ∷ x ∷ xs) (x ∷ insert r xs)
     (λ (l : List DataRecord). In y l → (r ≡ y) ⊎ In y (x ∷ xs))
     (λ _ k. k)
     (λ _ k. elim k [
@@ -54,70 +54,73 @@ in_inserted r y (x ∷ xs) h =
     ]))
     h
 
-pub inserted_has : (r : DataRecord) (xs : List DataRecord) → In r (inserted r xs)
+pub inserted_has : (r : DataRecord) (xs : List DataRecord) → In r (insert r xs)
 inserted_has r [] = inl refl
 inserted_has r (x ∷ xs) =
     cond_both (same_record x r) (x ∷ xs)
-    (cond (nat_lt r.start x.start) (r ∷ x ∷ xs) (x ∷ inserted r xs))
+    (cond (nat_lt r.start x.start) (r ∷ x ∷ xs) (x ∷ insert r xs))
     (In r)
     (λ e. inl (same_record-true x r e))
-    (λ e. cond_both (nat_lt r.start x.start) (r ∷ x ∷ xs) (x ∷ inserted r xs) (In r)
+    (λ e. cond_both (nat_lt r.start x.start) (r ∷ x ∷ xs) (x ∷ insert r xs) (In r)
     (λ _. inl refl)
     (λ _. inr (inserted_has r xs)))
 
-pub inserted_keeps : (r : DataRecord) (xs : List DataRecord) → Within xs (inserted r xs)
+pub inserted_keeps : (r : DataRecord) (xs : List DataRecord) → Within xs (insert r xs)
 inserted_keeps r [] y h = absurd h
 inserted_keeps r (x ∷ xs) y h =
     cond_both (same_record x r) (x ∷ xs)
-    (cond (nat_lt r.start x.start) (r ∷ x ∷ xs) (x ∷ inserted r xs))
+    (cond (nat_lt r.start x.start) (r ∷ x ∷ xs) (x ∷ insert r xs))
     (In y)
     (λ e. h)
-    (λ e. cond_both (nat_lt r.start x.start) (r ∷ x ∷ xs) (x ∷ inserted r xs) (In y)
+    (λ e. cond_both (nat_lt r.start x.start) (r ∷ x ∷ xs) (x ∷ insert r xs) (In y)
     (λ _. inr h)
     (λ _. elim h [ inl p ↦ inl p | inr m ↦ inr (inserted_keeps r xs y m) ]))
 
 pub length_inserted_new : (r : DataRecord) (xs : List DataRecord) → contains_record xs r ≡ false →
-    length (inserted r xs) ≡ length xs + 1
+    length (insert r xs) ≡ length xs + 1
 length_inserted_new r [] e = refl
 length_inserted_new r (x ∷ xs) e =
     let p = or_parts _ _ e in
     cond_both (same_record x r) (x ∷ xs)
-    (cond (nat_lt r.start x.start) (r ∷ x ∷ xs) (x ∷ inserted r xs))
+    (cond (nat_lt r.start x.start) (r ∷ x ∷ xs) (x ∷ insert r xs))
     (λ (l : List DataRecord). length l ≡ length (x ∷ xs) + 1)
     (λ t. absurd (both_ways _ p.0 t))
-    (λ _. cond_both (nat_lt r.start x.start) (r ∷ x ∷ xs) (x ∷ inserted r xs)
+    (λ _. cond_both (nat_lt r.start x.start) (r ∷ x ∷ xs) (x ∷ insert r xs)
     (λ (l : List DataRecord). length l ≡ length (x ∷ xs) + 1)
     (λ _. omega arith)
     (λ _. omega (arith, length_inserted_new r xs p.1)))
 
 -- order
 
-pub apart_weaker : (d low low' : ℕ) (xs : List DataRecord) → low' ≤ low → IsApart d low xs →
-    IsApart d low' xs
+pub apart_weaker : (d low low' : ℕ) (xs : List DataRecord) → low' ≤ low → StartsAreSpaced d low xs →
+    StartsAreSpaced d low' xs
 apart_weaker d low low' [] l h = tt
 apart_weaker d low low' (x ∷ xs) l h = (omega (arith, h.0), h.1)
 
-pub in_apart : (d low : ℕ) (y : DataRecord) (xs : List DataRecord) → IsApart d low xs → In y xs →
+pub in_apart : (d low : ℕ) (y : DataRecord) (xs : List DataRecord) → StartsAreSpaced d low xs →
+    In y xs →
     low ≤ y.start
 in_apart d low y [] a h = absurd h
 in_apart d low y (x ∷ xs) a (inl p) = subst (λ (t : DataRecord). low ≤ t.start) p a.0
 in_apart d low y (x ∷ xs) a (inr h) = omega (arith, a.0, in_apart d (x.start + d) y xs a.1 h)
 
 -- what is in the rest of the list starts later than its first
-pub in_rest : (d low : ℕ) (x y : DataRecord) (xs : List DataRecord) → IsApart d low (x ∷ xs) →
+pub in_rest : (d low : ℕ) (x y : DataRecord) (xs : List DataRecord) →
+    StartsAreSpaced d low (x ∷ xs) →
     In y xs → x.start + d ≤ y.start
 in_rest d low x y xs a h = in_apart d (x.start + d) y xs a.1 h
 
-pub apart_inserted : (d low : ℕ) (r : DataRecord) (xs : List DataRecord) → IsApart d low xs →
+pub apart_inserted : (d low : ℕ) (r : DataRecord) (xs : List DataRecord) →
+    StartsAreSpaced d low xs →
     low ≤ r.start → ((y : DataRecord) → In y xs → clashes d r y ≡ false) →
-    IsApart d low (inserted r xs)
+    StartsAreSpaced d low (insert r xs)
 apart_inserted d low r [] a l n = (l, tt)
 apart_inserted d low r (x ∷ xs) a l n =
     cond_both (same_record x r) (x ∷ xs)
-    (cond (nat_lt r.start x.start) (r ∷ x ∷ xs) (x ∷ inserted r xs))
-    (IsApart d low)
+    (cond (nat_lt r.start x.start) (r ∷ x ∷ xs) (x ∷ insert r xs))
+    (StartsAreSpaced d low)
     (λ e. a)
-    (λ e. cond_both (nat_lt r.start x.start) (r ∷ x ∷ xs) (x ∷ inserted r xs) (IsApart d low)
+    (λ e. cond_both (nat_lt r.start x.start) (r ∷ x ∷ xs) (x ∷ insert r xs) (StartsAreSpaced d low)
     (λ t. (l, (before e (ltb-true _ _ t), a.1)))
     (λ t. (
       a.0,
@@ -142,8 +145,9 @@ apart_inserted d low r (x ∷ xs) a l n =
     ]
 
 -- a record that is there changes nothing
-pub inserted_held : (d low : ℕ) (r : DataRecord) (xs : List DataRecord) → 0 < d → IsApart d low xs →
-    In r xs → inserted r xs ≡ xs
+pub inserted_held : (d low : ℕ) (r : DataRecord) (xs : List DataRecord) → 0 < d →
+    StartsAreSpaced d low xs →
+    In r xs → insert r xs ≡ xs
 inserted_held d low r [] z a h = absurd h
 inserted_held d low r (x ∷ xs) z a (inl p) =
     cond-true _ _ _ (subst (λ (t : DataRecord). same_record x t ≡ true) p (same_record-refl x))
@@ -158,8 +162,8 @@ inserted_held d low r (x ∷ xs) z a (inr h) =
     differ p l = omega (arith, ap (λ (t : DataRecord). t.start) p)
 
 -- two lists in order with the same records are equal
-pub same_lists : (d low low' : ℕ) (xs ys : List DataRecord) → 0 < d → IsApart d low xs →
-    IsApart d low' ys → Within xs ys → Within ys xs → xs ≡ ys
+pub same_lists : (d low low' : ℕ) (xs ys : List DataRecord) → 0 < d → StartsAreSpaced d low xs →
+    StartsAreSpaced d low' ys → Within xs ys → Within ys xs → xs ≡ ys
 same_lists d low low' [] [] z a b f g = refl
 same_lists d low low' [] (y ∷ ys) z a b f g = absurd (g y (inl refl))
 same_lists d low low' (x ∷ xs) [] z a b f g = absurd (f x (inl refl))
@@ -201,8 +205,8 @@ same_lists d low low' (x ∷ xs) (y ∷ ys) z a b f g =
     ]
 
 -- a list in order whose records are all in another one is no longer than that one
-pub within_shorter : (d low low' : ℕ) (xs ys : List DataRecord) → 0 < d → IsApart d low xs →
-    IsApart d low' ys → Within xs ys → length xs ≤ length ys
+pub within_shorter : (d low low' : ℕ) (xs ys : List DataRecord) → 0 < d → StartsAreSpaced d low xs →
+    StartsAreSpaced d low' ys → Within xs ys → length xs ≤ length ys
 within_shorter d low low' [] ys z a b f = omega arith
 within_shorter d low low' (x ∷ xs) [] z a b f = absurd (f x (inl refl))
 within_shorter d low low' (x ∷ xs) (y ∷ ys) z a b f =
@@ -228,30 +232,31 @@ within_shorter d low low' (x ∷ xs) (y ∷ ys) z a b f =
 
 -- many records put in
 
-pub in_joined : (y : DataRecord) (xs rs : List DataRecord) → In y (united xs rs) → In y xs ⊎ In y rs
+pub in_joined : (y : DataRecord) (xs rs : List DataRecord) → In y (union xs rs) → In y xs ⊎ In y rs
 in_joined y xs [] h = inl h
 in_joined y xs (r ∷ rs) h =
-    elim (in_joined y (inserted r xs) rs h) [
+    elim (in_joined y (insert r xs) rs h) [
       | inr k ↦ inr (inr k)
       | inl k ↦ elim (in_inserted r y xs k) [ inl p ↦ inr (inl p) | inr m ↦ inl m ]
     ]
 
-pub joined_keeps : (xs rs : List DataRecord) → Within xs (united xs rs)
+pub joined_keeps : (xs rs : List DataRecord) → Within xs (union xs rs)
 joined_keeps xs [] y h = h
-joined_keeps xs (r ∷ rs) y h = joined_keeps (inserted r xs) rs y (inserted_keeps r xs y h)
+joined_keeps xs (r ∷ rs) y h = joined_keeps (insert r xs) rs y (inserted_keeps r xs y h)
 
-pub joined_has : (xs rs : List DataRecord) → Within rs (united xs rs)
+pub joined_has : (xs rs : List DataRecord) → Within rs (union xs rs)
 joined_has xs [] y h = absurd h
 joined_has xs (r ∷ rs) y (inl p) =
-    joined_keeps (inserted r xs) rs y (subst (λ (t : DataRecord). In t (inserted r xs)) p
+    joined_keeps (insert r xs) rs y (subst (λ (t : DataRecord). In t (insert r xs)) p
     (inserted_has r xs))
-joined_has xs (r ∷ rs) y (inr h) = joined_has (inserted r xs) rs y h
+joined_has xs (r ∷ rs) y (inr h) = joined_has (insert r xs) rs y h
 
-pub joined_held : (d low : ℕ) (xs rs : List DataRecord) → 0 < d → IsApart d low xs → Within rs xs →
-    united xs rs ≡ xs
+pub joined_held : (d low : ℕ) (xs rs : List DataRecord) → 0 < d → StartsAreSpaced d low xs →
+    Within rs xs →
+    union xs rs ≡ xs
 joined_held d low xs [] z a w = refl
 joined_held d low xs (r ∷ rs) z a w =
-    ap (λ l. united l rs) (inserted_held d low r xs z a (w r (inl refl)))
+    ap (λ l. union l rs) (inserted_held d low r xs z a (w r (inl refl)))
     ∙ joined_held d low xs rs z a (λ y m. w y (inr m))
 
 -- no record of the one list clashes with one of the other
@@ -259,7 +264,8 @@ abbrev pub AreFree : ℕ → List DataRecord → List DataRecord → Type 0
 AreFree d xs rs = (r x : DataRecord) → In r rs → In x xs → clashes d r x ≡ false
 
 -- records that lie apart don't clash
-pub apart_first : (d low : ℕ) (r s : DataRecord) (rs : List DataRecord) → IsApart d low (r ∷ rs) →
+pub apart_first : (d low : ℕ) (r s : DataRecord) (rs : List DataRecord) →
+    StartsAreSpaced d low (r ∷ rs) →
     In s rs → clashes d s r ≡ false
 apart_first d low r s rs a h = elim (cases_Bool (clashes d s r)) [
   | inr e ↦ e
@@ -270,19 +276,21 @@ apart_first d low r s rs a h = elim (cases_Bool (clashes d s r)) [
     close : (s ≢ r) × (s.start < r.start + d) × (r.start < s.start + d) → ⊥
     close c = omega (arith, in_rest d low r s rs a h, c.1)
 
-pub free_tail : (d low : ℕ) (r : DataRecord) (xs rs : List DataRecord) → IsApart d low (r ∷ rs) →
-    AreFree d xs (r ∷ rs) → AreFree d (inserted r xs) rs
+pub free_tail : (d low : ℕ) (r : DataRecord) (xs rs : List DataRecord) →
+    StartsAreSpaced d low (r ∷ rs) →
+    AreFree d xs (r ∷ rs) → AreFree d (insert r xs) rs
 free_tail d low r xs rs a f s y m n =
     elim (in_inserted r y xs n) [
       | inr k ↦ f s y (inr m) k
       | inl p ↦ subst (λ (t : DataRecord). clashes d s t ≡ false) p (apart_first d low r s rs a m)
     ]
 
-pub apart_joined : (d low : ℕ) (xs rs : List DataRecord) → IsApart d 0 xs → IsApart d low rs →
-    AreFree d xs rs → IsApart d 0 (united xs rs)
+pub apart_joined : (d low : ℕ) (xs rs : List DataRecord) → StartsAreSpaced d 0 xs →
+    StartsAreSpaced d low rs →
+    AreFree d xs rs → StartsAreSpaced d 0 (union xs rs)
 apart_joined d low xs [] a b f = a
 apart_joined d low xs (r ∷ rs) a b f =
-    apart_joined d (r.start + d) (inserted r xs) rs
+    apart_joined d (r.start + d) (insert r xs) rs
     (apart_inserted d 0 r xs a (omega arith) (λ y m. f r y (inl refl) m)) b.1
     (free_tail d low r xs rs b f)
 
@@ -294,7 +302,7 @@ same_Bool false false f g = refl
 -- two sets that have the same of a list's records lack the same number of them
 pub new_same : (xs ys rs : List DataRecord) →
     ((y : DataRecord) → In y rs → (In y ys → In y xs) × (In y xs → In y ys)) →
-    new_of ys rs ≡ new_of xs rs
+    count_new ys rs ≡ count_new xs rs
 new_same xs ys [] w = refl
 new_same xs ys (s ∷ rs) w =
     cc (
@@ -306,11 +314,11 @@ new_same xs ys (s ∷ rs) w =
 
 -- records later than r are new after r was put in where they were before
 pub new_tail : (d low : ℕ) (r : DataRecord) (xs rs : List DataRecord) → 0 < d →
-    IsApart d low (r ∷ rs) → new_of (inserted r xs) rs ≡ new_of xs rs
-new_tail d low r xs rs z a = new_same xs (inserted r xs) rs
+    StartsAreSpaced d low (r ∷ rs) → count_new (insert r xs) rs ≡ count_new xs rs
+new_tail d low r xs rs z a = new_same xs (insert r xs) rs
     (λ y m. (λ n. old y m n, inserted_keeps r xs y))
   where
-    old : (y : DataRecord) → In y rs → In y (inserted r xs) → In y xs
+    old : (y : DataRecord) → In y rs → In y (insert r xs) → In y xs
     old y m n = elim (in_inserted r y xs n) [
       | inr k ↦ k
       | inl p ↦
@@ -318,28 +326,28 @@ new_tail d low r xs rs z a = new_same xs (inserted r xs) rs
     ]
 
 -- the set grows by the number of the records that are new
-pub length_joined : (d low low' : ℕ) (xs rs : List DataRecord) → 0 < d → IsApart d low rs →
-    IsApart d low' xs → AreFree d xs rs → length (united xs rs) ≡ length xs + new_of xs rs
+pub length_joined : (d low low' : ℕ) (xs rs : List DataRecord) → 0 < d → StartsAreSpaced d low rs →
+    StartsAreSpaced d low' xs → AreFree d xs rs → length (union xs rs) ≡ length xs + count_new xs rs
 length_joined d low low' xs [] z a b f = omega arith
 length_joined d low low' xs (r ∷ rs) z a b f =
-    cond_both (contains_record xs r) (new_of xs rs) (1 + new_of xs rs)
-    (λ n. length (united (inserted r xs) rs) ≡ length xs + n)
-    (λ e. ap (λ l. length (united l rs)) (same e)
+    cond_both (contains_record xs r) (count_new xs rs) (1 + count_new xs rs)
+    (λ n. length (union (insert r xs) rs) ≡ length xs + n)
+    (λ e. ap (λ l. length (union l rs)) (same e)
     ∙ length_joined d (r.start + d) low' xs rs z a.1 b (λ s x m n. f s x (inr m) n))
     (λ e. omega (
       arith,
-      length_joined d (r.start + d) 0 (inserted r xs) rs z a.1
+      length_joined d (r.start + d) 0 (insert r xs) rs z a.1
           (apart_inserted d 0 r xs (apart_weaker d low' 0 xs (omega arith) b) (omega arith)
           (λ y m. f r y (inl refl) m)) (free_tail d low r xs rs a f),
       new_tail d low r xs rs z a,
       length_inserted_new r xs e,
     ))
   where
-    same : contains_record xs r ≡ true → inserted r xs ≡ xs
+    same : contains_record xs r ≡ true → insert r xs ≡ xs
     same e = inserted_held d low' r xs z b (In-from_holds xs r e)
 
 -- nothing is new exactly where all is held
-pub within_from_none_new : (xs rs : List DataRecord) → new_of xs rs ≡ 0 → Within rs xs
+pub within_from_none_new : (xs rs : List DataRecord) → count_new xs rs ≡ 0 → Within rs xs
 within_from_none_new xs [] e y h = absurd h
 within_from_none_new xs (r ∷ rs) e y h =
     elim (cases_Bool (contains_record xs r)) [
@@ -349,11 +357,11 @@ within_from_none_new xs (r ∷ rs) e y h =
       ]
       | inr t ↦ absurd (omega (
         arith,
-        sym (cond-false (contains_record xs r) (new_of xs rs) (1 + new_of xs rs) t) ∙ e,
+        sym (cond-false (contains_record xs r) (count_new xs rs) (1 + count_new xs rs) t) ∙ e,
       ))
     ]
 
-pub none_new : (xs rs : List DataRecord) → Within rs xs → new_of xs rs ≡ 0
+pub none_new : (xs rs : List DataRecord) → Within rs xs → count_new xs rs ≡ 0
 none_new xs [] w = refl
 none_new xs (r ∷ rs) w = cond-true _ _ _ (holds_from_In xs r (w r (inl refl)))
     ∙ none_new xs rs (λ y m. w y (inr m))

@@ -7,8 +7,8 @@ use Rattle.std.proofs.lemmas.Bool.{and_parts, and_from, and_right, ltb-true, lt-
 use Rattle.std.specs.Option.{option_or}
 use Rattle.edf_fragment.specs.Fragment.{DataRecord}
 use Rattle.edf_holdings.specs.Same.{same_record}
-use Rattle.edf_holdings.specs.Clash.{clashes, meets, near_of, other_of}
-use Rattle.edf_holdings.specs.Rising.{contains_record, inserted, united, new_of, IsApart}
+use Rattle.edf_holdings.specs.Clash.{clashes, intervals_overlap, near_of, first_other}
+use Rattle.edf_holdings.specs.Rising.{contains_record, insert, union, count_new, StartsAreSpaced}
 use Rattle.edf_holdings.specs.Reply.{clash_or, first_clash}
 use Rattle.edf_holdings.proofs.Same.{same_record-true, same_record-refl, same_record_no}
 use Rattle.edf_holdings.proofs.Members.{In, In-from_holds, holds_from_In, in_joined, joined_keeps}
@@ -16,30 +16,30 @@ use Rattle.edf_holdings.proofs.Members.{same_Bool}
 
 -- at most two
 
-near_none : (d low start : ℕ) (xs : List DataRecord) → start + d ≤ low → IsApart d low xs →
+near_none : (d low start : ℕ) (xs : List DataRecord) → start + d ≤ low → StartsAreSpaced d low xs →
     length (near_of d start xs) ≤ 0
 near_none d low start [] l a = omega arith
 near_none d low start (x ∷ xs) l a =
-    cond_both (meets d start x) (x ∷ near_of d start xs) (near_of d start xs)
+    cond_both (intervals_overlap d start x) (x ∷ near_of d start xs) (near_of d start xs)
     (λ (z : List DataRecord). length z ≤ 0)
     (λ e. let p = and_parts (nat_lt start (x.start + d)) (nat_lt x.start (start + d)) e in let q =
     ltb-true _ _ p.1 in absurd (omega (arith, a.0, q)))
     (λ e. near_none d (x.start + d) start xs (omega (arith, a.0)) a.1)
 
-near_one : (d low start : ℕ) (xs : List DataRecord) → start ≤ low → IsApart d low xs →
+near_one : (d low start : ℕ) (xs : List DataRecord) → start ≤ low → StartsAreSpaced d low xs →
     length (near_of d start xs) ≤ 1
 near_one d low start [] l a = omega arith
 near_one d low start (x ∷ xs) l a =
-    cond_both (meets d start x) (x ∷ near_of d start xs) (near_of d start xs)
+    cond_both (intervals_overlap d start x) (x ∷ near_of d start xs) (near_of d start xs)
     (λ (z : List DataRecord). length z ≤ 1)
     (λ e. omega (arith, near_none d (x.start + d) start xs (omega (arith, a.0)) a.1))
     (λ e. near_one d (x.start + d) start xs (omega (arith, a.0)) a.1)
 
-pub near_two : (d low start : ℕ) (xs : List DataRecord) → IsApart d low xs →
+pub near_two : (d low start : ℕ) (xs : List DataRecord) → StartsAreSpaced d low xs →
     length (near_of d start xs) ≤ 2
 near_two d low start [] a = omega arith
 near_two d low start (x ∷ xs) a =
-    cond_both (meets d start x) (x ∷ near_of d start xs) (near_of d start xs)
+    cond_both (intervals_overlap d start x) (x ∷ near_of d start xs) (near_of d start xs)
     (λ (z : List DataRecord). length z ≤ 2)
     (λ e. let p = and_parts (nat_lt start (x.start + d)) (nat_lt x.start (start + d)) e in let q =
     ltb-true _ _ p.0 in
@@ -67,9 +67,9 @@ find_both p q (x ∷ xs) =
     kept e = ap (find p) (cond-true (q x) (x ∷ filter q xs) (filter q xs) e)
 
 pub earliest_near : (d : ℕ) (r : DataRecord) (xs : List DataRecord) →
-    find (clashes d r) xs ≡ other_of r (near_of d r.start xs)
+    find (clashes d r) xs ≡ first_other r (near_of d r.start xs)
 unfolding clashes
-earliest_near d r xs = find_both (λ s. not (same_record r s)) (meets d r.start) xs
+earliest_near d r xs = find_both (λ s. not (same_record r s)) (intervals_overlap d r.start) xs
 
 -- a record is held where it is near
 
@@ -77,42 +77,45 @@ pub held_near : (d : ℕ) (r : DataRecord) (xs : List DataRecord) → 0 < d →
     contains_record (near_of d r.start xs) r ≡ contains_record xs r
 held_near d r [] z = refl
 held_near d r (x ∷ xs) z =
-    elim (cases_Bool (meets d r.start x)) [
+    elim (cases_Bool (intervals_overlap d r.start x)) [
       | inl e ↦ ap (λ (l : List DataRecord). contains_record l r)
-          (cond-true (meets d r.start x) (x ∷ near_of d r.start xs) (near_of d r.start xs) e)
+          (cond-true (intervals_overlap d r.start x) (x ∷ near_of d r.start xs)
+          (near_of d r.start xs) e)
           ∙ ap (λ b. same_record x r || b) (held_near d r xs z)
       | inr e ↦ ap (λ (l : List DataRecord). contains_record l r)
-          (cond-false (meets d r.start x) (x ∷ near_of d r.start xs) (near_of d r.start xs) e)
+          (cond-false (intervals_overlap d r.start x) (x ∷ near_of d r.start xs)
+          (near_of d r.start xs) e)
           ∙ (held_near d r xs z ∙ ap (λ b. b || contains_record xs r)
           (sym (same_record_no x r (apart e))))
     ]
   where
-    apart : meets d r.start x ≡ false → x ≢ r
+    apart : intervals_overlap d r.start x ≡ false → x ≢ r
     apart e p = let q = ap (λ (t : DataRecord). t.start) p in
         both_ways _ e (and_from (nat_lt r.start (x.start + d)) (nat_lt x.start (r.start + d))
         (lt-ltb _ _ (omega (arith, q))) (lt-ltb _ _ (omega (arith, q))))
 
-pub held_where_near : (r n : DataRecord) (ns : List DataRecord) → other_of r (n ∷ ns) ≡ None →
+pub held_where_near : (r n : DataRecord) (ns : List DataRecord) → first_other r (n ∷ ns) ≡ None →
     contains_record (n ∷ ns) r ≡ true
 held_where_near r n ns o =
     elim (cases_Bool (same_record r n)) [
       | inl t ↦ or_left (same_record n r) (contains_record ns r)
           (subst (λ (u : DataRecord). same_record n u ≡ true) (sym (same_record-true r n t))
           (same_record-refl n))
-      | inr t ↦ cc (sym (cond-true (not (same_record r n)) (Some n) (other_of r ns) (ap not t)) ∙ o)
+      | inr t ↦ cc (sym (cond-true (not (same_record r n)) (Some n) (first_other r ns) (ap not t))
+          ∙ o)
     ]
 
 -- records put in that don't clash with r hide none that does
 
 pub earliest_inserted : (d : ℕ) (r q : DataRecord) (xs : List DataRecord) → clashes d r q ≡ false →
-    find (clashes d r) (inserted q xs) ≡ find (clashes d r) xs
+    find (clashes d r) (insert q xs) ≡ find (clashes d r) xs
 earliest_inserted d r q [] e = cond-false (clashes d r q) (Some q) None e
 earliest_inserted d r q (x ∷ xs) e =
     cond_both (same_record x q) (x ∷ xs)
-    (cond (nat_lt q.start x.start) (q ∷ x ∷ xs) (x ∷ inserted q xs))
+    (cond (nat_lt q.start x.start) (q ∷ x ∷ xs) (x ∷ insert q xs))
     (λ (l : List DataRecord). find (clashes d r) l ≡ find (clashes d r) (x ∷ xs))
     (λ _. refl)
-    (λ _. cond_both (nat_lt q.start x.start) (q ∷ x ∷ xs) (x ∷ inserted q xs)
+    (λ _. cond_both (nat_lt q.start x.start) (q ∷ x ∷ xs) (x ∷ insert q xs)
     (λ (l : List DataRecord). find (clashes d r) l ≡ find (clashes d r) (x ∷ xs))
     (λ _. cond-false (clashes d r q) (Some q) (find (clashes d r) (x ∷ xs)) e)
     (λ _. ap (λ (o : Option DataRecord). cond (clashes d r x) (Some x) o)
@@ -120,49 +123,52 @@ earliest_inserted d r q (x ∷ xs) e =
 
 pub earliest_joined : (d : ℕ) (r : DataRecord) (xs qs : List DataRecord) →
     ((q : DataRecord) → In q qs → clashes d r q ≡ false) →
-    find (clashes d r) (united xs qs) ≡ find (clashes d r) xs
+    find (clashes d r) (union xs qs) ≡ find (clashes d r) xs
 earliest_joined d r xs [] w = refl
-earliest_joined d r xs (q ∷ qs) w = earliest_joined d r (inserted q xs) qs (λ p m. w p (inr m))
+earliest_joined d r xs (q ∷ qs) w = earliest_joined d r (insert q xs) qs (λ p m. w p (inr m))
     ∙ earliest_inserted d r q xs (w q (inl refl))
 
 pub held_joined : (r : DataRecord) (xs qs : List DataRecord) → (In r qs → ⊥) →
-    contains_record (united xs qs) r ≡ contains_record xs r
-held_joined r xs qs n = same_Bool (contains_record (united xs qs) r) (contains_record xs r)
-    (λ e. elim (in_joined r xs qs (In-from_holds (united xs qs) r e)) [
+    contains_record (union xs qs) r ≡ contains_record xs r
+held_joined r xs qs n = same_Bool (contains_record (union xs qs) r) (contains_record xs r)
+    (λ e. elim (in_joined r xs qs (In-from_holds (union xs qs) r e)) [
       | inl m ↦ holds_from_In xs r m
       | inr m ↦ absurd (n m)
     ])
-    (λ e. holds_from_In (united xs qs) r (joined_keeps xs qs r (In-from_holds xs r e)))
+    (λ e. holds_from_In (union xs qs) r (joined_keeps xs qs r (In-from_holds xs r e)))
 
 -- one more record of the file
 
 pub joined-append : (xs rs : List DataRecord) (r : DataRecord) →
-    united xs (rs ++ r ∷ []) ≡ inserted r (united xs rs)
+    union xs (rs ++ r ∷ []) ≡ insert r (union xs rs)
 joined-append xs [] r = refl
-joined-append xs (q ∷ qs) r = joined-append (inserted q xs) qs r
+joined-append xs (q ∷ qs) r = joined-append (insert q xs) qs r
 
 pub new_of-append : (xs rs : List DataRecord) (r : DataRecord) →
-    new_of xs (rs ++ r ∷ []) ≡ cond (contains_record xs r) (new_of xs rs) (new_of xs rs + 1)
+    count_new xs (rs ++ r ∷ []) ≡ cond (contains_record xs r) (count_new xs rs)
+    (count_new xs rs + 1)
 new_of-append xs [] r = refl
 new_of-append xs (q ∷ qs) r =
     elim (cases_Bool (contains_record xs r)) [
       | inl e ↦ both true (new_of-append xs qs r ∙ cond-true _ _ _ e)
-          ∙ sym (cond-true (contains_record xs r) (new_of xs (q ∷ qs)) (new_of xs (q ∷ qs) + 1) e)
+          ∙ sym (cond-true (contains_record xs r) (count_new xs (q ∷ qs))
+          (count_new xs (q ∷ qs) + 1) e)
       | inr e ↦ more (new_of-append xs qs r ∙ cond-false _ _ _ e)
-          ∙ sym (cond-false (contains_record xs r) (new_of xs (q ∷ qs)) (new_of xs (q ∷ qs) + 1) e)
+          ∙ sym (cond-false (contains_record xs r) (count_new xs (q ∷ qs))
+          (count_new xs (q ∷ qs) + 1) e)
     ]
   where
-    both : Bool → new_of xs (qs ++ r ∷ []) ≡ new_of xs qs →
-        new_of xs (q ∷ (qs ++ r ∷ [])) ≡ new_of xs (q ∷ qs)
+    both : Bool → count_new xs (qs ++ r ∷ []) ≡ count_new xs qs →
+        count_new xs (q ∷ (qs ++ r ∷ [])) ≡ count_new xs (q ∷ qs)
     both b e = ap (λ n. cond (contains_record xs q) n (1 + n)) e
 
-    more : new_of xs (qs ++ r ∷ []) ≡ new_of xs qs + 1 →
-        new_of xs (q ∷ (qs ++ r ∷ [])) ≡ new_of xs (q ∷ qs) + 1
+    more : count_new xs (qs ++ r ∷ []) ≡ count_new xs qs + 1 →
+        count_new xs (q ∷ (qs ++ r ∷ [])) ≡ count_new xs (q ∷ qs) + 1
     more e = ap (λ n. cond (contains_record xs q) n (1 + n)) e ∙
-        cond_both (contains_record xs q) (new_of xs qs) (1 + new_of xs qs)
-        (λ n. cond (contains_record xs q) (new_of xs qs + 1) (1 + (new_of xs qs + 1)) ≡ n + 1)
+        cond_both (contains_record xs q) (count_new xs qs) (1 + count_new xs qs)
+        (λ n. cond (contains_record xs q) (count_new xs qs + 1) (1 + (count_new xs qs + 1)) ≡ n + 1)
         (λ t. cond-true _ _ _ t)
-        (λ t. cond-false (contains_record xs q) (new_of xs qs + 1) (1 + (new_of xs qs + 1)) t
+        (λ t. cond-false (contains_record xs q) (count_new xs qs + 1) (1 + (count_new xs qs + 1)) t
         ∙ omega arith)
 
 clash_or-or : (r : DataRecord) (o : Option DataRecord) (a b : Option (DataRecord × DataRecord)) →

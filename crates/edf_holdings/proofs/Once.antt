@@ -6,10 +6,10 @@ use Rattle.std.proofs.lemmas.Bool.{cond_both}
 use Rattle.edf_header.specs.Key.{Key}
 use Rattle.edf_fragment.specs.Fragment.{DataRecord}
 use Rattle.edf_fragment.specs.Parsed.{Parsed, Fragment}
-use Rattle.edf_holdings.specs.Holdings.{Holdings, put}
+use Rattle.edf_holdings.specs.Holdings.{Holdings, with_records}
 use Rattle.edf_holdings.specs.Reply.{IsWellFormed, fits, after_one, after, reply, replies}
-use Rattle.edf_holdings.specs.Laws.{HeldIsKnown, AcceptedAgain, RefusedAgain, RepeatTakenOut}
-use Rattle.edf_holdings.specs.Laws.{FromTheFront, with_member}
+use Rattle.edf_holdings.specs.Laws.{HeldIsKnown, AcceptedAgain, RefusedAgain, RepeatsChangeNothing}
+use Rattle.edf_holdings.specs.Laws.{ResentFromStart, with_member}
 use Rattle.edf_holdings.proofs.Members.{Within}
 use Rattle.edf_holdings.proofs.Joining.{IsGood, Grows, IsGood-from_sound, In-from_Contains}
 use Rattle.edf_holdings.proofs.Joining.{put_held}
@@ -24,7 +24,7 @@ pub held_fragment : (cap : ℕ) (h : Holdings) (key : Key) (records : List DataR
     after_one cap h (Fragment key records) ≡ h
 unfolding after_one
 held_fragment cap h key records w g i =
-    cond_both (fits cap key records h) (put key records h) h (λ (z : Holdings). z ≡ h)
+    cond_both (fits cap key records h) (with_records key records h) h (λ (z : Holdings). z ≡ h)
     (λ _. put_held cap key records h w.0 g i) (λ _. refl)
 
 pub held_is_known : HeldIsKnown
@@ -61,7 +61,7 @@ refused_again_law cap h ts t us s w not_then =
       λ e q. fault_again cap (after cap h ts) (after cap h (with_member ts t us)) t e q,
     )
 
-pub repeat_taken_out : RepeatTakenOut
+pub repeat_taken_out : RepeatsChangeNothing
 repeat_taken_out cap h ts t us vs s w = (
   after-append cap h (with_member ts t us) (t ∷ vs)
       ∙ (ap (λ (z : Holdings). after cap z vs) still
@@ -88,5 +88,5 @@ repeat_taken_out cap h ts t us vs s w = (
     none : n - n ≡ 0
     none = omega arith
 
-pub from_the_front : FromTheFront
+pub from_the_front : ResentFromStart
 from_the_front cap h ps qs s w = again_from_front cap h ps qs w (IsGood-from_sound cap h s)

@@ -11,9 +11,9 @@ use Rattle.edf_header.specs.Key.{Key, IsKey}
 use Rattle.edf_fragment.specs.Fragment.{DataRecord}
 use Rattle.edf_fragment.specs.Parsed.{Fragment}
 use Rattle.edf_holdings.specs.Same.{same_key}
-use Rattle.edf_holdings.specs.Clash.{clashes, near_of, other_of}
-use Rattle.edf_holdings.specs.Rising.{contains_record, inserted, united, new_of, IsApart}
-use Rattle.edf_holdings.specs.Holdings.{Holdings, put}
+use Rattle.edf_holdings.specs.Clash.{clashes, near_of, first_other}
+use Rattle.edf_holdings.specs.Rising.{contains_record, insert, union, count_new, StartsAreSpaced}
+use Rattle.edf_holdings.specs.Holdings.{Holdings, with_records}
 use Rattle.edf_holdings.specs.Reply.{IsWellFormed, after_one, Conflicts, conflict_of_clash}
 use Rattle.edf_holdings.specs.Reply.{clash_or}
 use Rattle.edf_holdings.specs.Reply.{first_clash, reply_to_counts, reply_to_clash, reply, fits}
@@ -27,20 +27,21 @@ use Rattle.edf_holdings.proofs.Near.{joined-append, new_of-append, first_clash-a
 
 -- one record more, after those of a list
 
-apart_last : (d low : ℕ) (rs : List DataRecord) (r : DataRecord) → IsApart d low (rs ++ r ∷ []) →
+apart_last : (d low : ℕ) (rs : List DataRecord) (r : DataRecord) →
+    StartsAreSpaced d low (rs ++ r ∷ []) →
     low ≤ r.start
 apart_last d low [] r a = a.0
 apart_last d low (q ∷ qs) r a = omega (arith, a.0, apart_last d (q.start + d) qs r a.1)
 
-later : (d low : ℕ) (rs : List DataRecord) (r : DataRecord) → IsApart d low (rs ++ r ∷ []) →
+later : (d low : ℕ) (rs : List DataRecord) (r : DataRecord) → StartsAreSpaced d low (rs ++ r ∷ []) →
     (q : DataRecord) → In q rs → q.start + d ≤ r.start
 later d low [] r a q m = absurd m
 later d low (p ∷ ps) r a q (inl e) =
     subst (λ (u : DataRecord). u.start + d ≤ r.start) e (apart_last d (p.start + d) ps r a.1)
 later d low (p ∷ ps) r a q (inr m) = later d (p.start + d) ps r a.1 q m
 
-pub apart_front : (d low : ℕ) (rs qs : List DataRecord) → IsApart d low (rs ++ qs) →
-    IsApart d low rs
+pub apart_front : (d low : ℕ) (rs qs : List DataRecord) → StartsAreSpaced d low (rs ++ qs) →
+    StartsAreSpaced d low rs
 apart_front d low [] qs a = tt
 apart_front d low (r ∷ rs) qs a = (a.0, apart_front d (r.start + d) rs qs a.1)
 
@@ -58,37 +59,40 @@ in_snoc y r (p ∷ ps) rs w (inr m) = in_snoc y r ps rs (λ z n. w z (inr n)) m
 
 -- records put in one after the other are put in together
 pub put-append : (key : Key) (ps : List DataRecord) (r : DataRecord) (h : Holdings) →
-    put key (r ∷ []) (put key ps h) ≡ put key (ps ++ r ∷ []) h
+    with_records key (r ∷ []) (with_records key ps h) ≡ with_records key (ps ++ r ∷ []) h
 put-append key ps r h = fun_ext (λ k. step k (same_key key k) refl)
   where
     step : (k : Key) (b : Bool) → same_key key k ≡ b →
-        put key (r ∷ []) (put key ps h) k ≡ put key (ps ++ r ∷ []) h k
+        with_records key (r ∷ []) (with_records key ps h) k ≡ with_records key (ps ++ r ∷ []) h k
     step k true e =
-        cond-true (same_key key k) (united (put key ps h k) (r ∷ [])) (put key ps h k) e
-        ∙ (ap (inserted r) (cond-true (same_key key k) (united (h k) ps) (h k) e)
+        cond-true (same_key key k) (union (with_records key ps h k) (r ∷ []))
+        (with_records key ps h k) e
+        ∙ (ap (insert r) (cond-true (same_key key k) (union (h k) ps) (h k) e)
         ∙ (sym (joined-append (h k) ps r)
-        ∙ sym (cond-true (same_key key k) (united (h k) (ps ++ r ∷ [])) (h k) e)))
+        ∙ sym (cond-true (same_key key k) (union (h k) (ps ++ r ∷ [])) (h k) e)))
     step k false e =
-        cond-false (same_key key k) (united (put key ps h k) (r ∷ [])) (put key ps h k) e
-        ∙ (cond-false (same_key key k) (united (h k) ps) (h k) e
-        ∙ sym (cond-false (same_key key k) (united (h k) (ps ++ r ∷ [])) (h k) e))
+        cond-false (same_key key k) (union (with_records key ps h k) (r ∷ []))
+        (with_records key ps h k) e
+        ∙ (cond-false (same_key key k) (union (h k) ps) (h k) e
+        ∙ sym (cond-false (same_key key k) (union (h k) (ps ++ r ∷ [])) (h k) e))
 
 put_same : (key : Key) (ps qs : List DataRecord) (h : Holdings) →
-    united (h key) ps ≡ united (h key) qs → put key ps h ≡ put key qs h
+    union (h key) ps ≡ union (h key) qs → with_records key ps h ≡ with_records key qs h
 put_same key ps qs h e = fun_ext (λ k. step k (same_key key k) refl)
   where
-    step : (k : Key) (b : Bool) → same_key key k ≡ b → put key ps h k ≡ put key qs h k
+    step : (k : Key) (b : Bool) → same_key key k ≡ b →
+        with_records key ps h k ≡ with_records key qs h k
     step k true s =
         let p : key ≡ k = same_key-true key k s in
-        subst (λ (q : Key). put key ps h q ≡ put key qs h q) p (put_here key ps h
+        subst (λ (q : Key). with_records key ps h q ≡ with_records key qs h q) p (put_here key ps h
         ∙ (e ∙ sym (put_here key qs h)))
-    step k false s = cond-false (same_key key k) (united (h k) ps) (h k) s
-        ∙ sym (cond-false (same_key key k) (united (h k) qs) (h k) s)
+    step k false s = cond-false (same_key key k) (union (h k) ps) (h k) s
+        ∙ sym (cond-false (same_key key k) (union (h k) qs) (h k) s)
 
-put_none : (key : Key) (h : Holdings) → put key [] h ≡ h
+put_none : (key : Key) (h : Holdings) → with_records key [] h ≡ h
 put_none key h = fun_ext (λ k. step k (same_key key k) refl)
   where
-    step : (k : Key) (b : Bool) → same_key key k ≡ b → put key [] h k ≡ h k
+    step : (k : Key) (b : Bool) → same_key key k ≡ b → with_records key [] h k ≡ h k
     step k true e = cond-true (same_key key k) (h k) (h k) e
     step k false e = cond-false (same_key key k) (h k) (h k) e
 
@@ -97,12 +101,12 @@ put_none key h = fun_ext (λ k. step k (same_key key k) refl)
 pub record Taken (cap : ℕ) (key : Key) (h : Holdings) (rs : List DataRecord) (t : Holdings)
     (new known : ℕ) : Type 0 where
   pub free : first_clash (duration_of key.duration) (h key) rs ≡ None
-  pub new_is : new ≡ new_of (h key) rs
+  pub new_is : new ≡ count_new (h key) rs
   pub all : known + new ≡ length rs
   pub put_in : List DataRecord
   pub part : Within put_in rs
-  pub table : t ≡ put key put_in h
-  pub whole : length (h key) + new ≤ cap → t ≡ put key rs h
+  pub table : t ≡ with_records key put_in h
+  pub whole : length (h key) + new ≤ cap → t ≡ with_records key rs h
 
 -- or a first clash was met, at these starts
 pub record Stopped (key : Key) (h : Holdings) (rs : List DataRecord) (starts : ℕ × ℕ) : Type 0 where
@@ -145,10 +149,11 @@ still_stopped key h rs r starts c = record {
 
 -- one record more
 module _ (cap : ℕ) (key : Key) (h : Holdings) (is_key : IsKey key)
-    (held : IsApart (duration_of key.duration) 0 (h key)) (rs : List DataRecord) (r : DataRecord)
-    (a : IsApart (duration_of key.duration) 0 (rs ++ r ∷ [])) (t : Holdings) (new known : ℕ)
+    (held : StartsAreSpaced (duration_of key.duration) 0 (h key)) (rs : List DataRecord)
+    (r : DataRecord)
+    (a : StartsAreSpaced (duration_of key.duration) 0 (rs ++ r ∷ [])) (t : Holdings) (new known : ℕ)
     (k : Taken cap key h rs t new known) where
-  here : t key ≡ united (h key) k.put_in
+  here : t key ≡ union (h key) k.put_in
   here = ap (λ (z : Holdings). z key) k.table ∙ put_here key k.put_in h
 
   no_clash_with : (q : DataRecord) → In q k.put_in → clashes (duration_of key.duration) r q ≡ false
@@ -167,7 +172,7 @@ module _ (cap : ℕ) (key : Key) (h : Holdings) (is_key : IsKey key)
   )
 
   -- what the records near it say is what those say that were held at the start
-  pub near_other : other_of r (near_of (duration_of key.duration) r.start (t key)) ≡ find
+  pub near_other : first_other r (near_of (duration_of key.duration) r.start (t key)) ≡ find
       (clashes (duration_of key.duration) r) (h key)
   near_other = sym (earliest_near (duration_of key.duration) r (t key))
       ∙ (ap (find (clashes (duration_of key.duration) r)) here
@@ -185,13 +190,13 @@ module _ (cap : ℕ) (key : Key) (h : Holdings) (is_key : IsKey key)
       ∙ ap (λ (o : Option (DataRecord × DataRecord)).
       option_or o (first_clash (duration_of key.duration) (h key) (r ∷ []))) k.free
 
-  none_next : other_of r (near_of (duration_of key.duration) r.start (t key)) ≡ None →
+  none_next : first_other r (near_of (duration_of key.duration) r.start (t key)) ≡ None →
       first_clash (duration_of key.duration) (h key) (rs ++ r ∷ []) ≡ None
   none_next e = first_next ∙ ap (λ (o : Option DataRecord). clash_or r o None) (sym near_other ∙ e)
 
   -- another record is near it
   pub after_clash : (s : DataRecord) →
-      other_of r (near_of (duration_of key.duration) r.start (t key)) ≡ Some s →
+      first_other r (near_of (duration_of key.duration) r.start (t key)) ≡ Some s →
       Stopped key h (rs ++ r ∷ []) (r.start, s.start)
   after_clash s e = record {
     pair = (r, s);
@@ -201,13 +206,14 @@ module _ (cap : ℕ) (key : Key) (h : Holdings) (is_key : IsKey key)
   }
 
   -- it is there itself
-  pub after_known : other_of r (near_of (duration_of key.duration) r.start (t key)) ≡ None →
+  pub after_known : first_other r (near_of (duration_of key.duration) r.start (t key)) ≡ None →
       contains_record (near_of (duration_of key.duration) r.start (t key)) r ≡ true →
       Taken cap key h (rs ++ r ∷ []) t new (known + 1)
   after_known e there_near = record {
     free = none_next e;
     new_is = k.new_is ∙ sym (new_of-append (h key) rs r
-        ∙ cond-true (contains_record (h key) r) (new_of (h key) rs) (new_of (h key) rs + 1) there);
+        ∙ cond-true (contains_record (h key) r) (count_new (h key) rs)
+        (count_new (h key) rs + 1) there);
     all = omega (arith, k.all, length-append rs (r ∷ []));
     put_in = k.put_in;
     part = λ y m. in_left y rs (r ∷ []) (k.part y m);
@@ -218,15 +224,15 @@ module _ (cap : ℕ) (key : Key) (h : Holdings) (is_key : IsKey key)
       there : contains_record (h key) r ≡ true
       there = sym near_holds ∙ there_near
 
-      all_apart : IsApart (duration_of key.duration) 0 (united (h key) rs)
+      all_apart : StartsAreSpaced (duration_of key.duration) 0 (union (h key) rs)
       all_apart = apart_joined (duration_of key.duration) 0 (h key) rs held
           (apart_front (duration_of key.duration) 0 rs (r ∷ []) a)
           (AreFree-from_first (duration_of key.duration) (h key) rs k.free)
 
-      same : put key rs h ≡ put key (rs ++ r ∷ []) h
+      same : with_records key rs h ≡ with_records key (rs ++ r ∷ []) h
       same = put_same key rs (rs ++ r ∷ []) h
           (sym (joined-append (h key) rs r
-          ∙ inserted_held (duration_of key.duration) 0 r (united (h key) rs) (lasting key is_key)
+          ∙ inserted_held (duration_of key.duration) 0 r (union (h key) rs) (lasting key is_key)
           all_apart (joined_keeps (h key) rs r (In-from_holds (h key) r there))))
 
   is_new : near_of (duration_of key.duration) r.start (t key) ≡ [] →
@@ -234,31 +240,32 @@ module _ (cap : ℕ) (key : Key) (h : Holdings) (is_key : IsKey key)
   is_new e = sym near_holds ∙ ap (λ (l : List DataRecord). contains_record l r) e
 
   new_next : near_of (duration_of key.duration) r.start (t key) ≡ [] →
-      new + 1 ≡ new_of (h key) (rs ++ r ∷ [])
+      new + 1 ≡ count_new (h key) (rs ++ r ∷ [])
   new_next e = ap (λ n. n + 1) k.new_is
       ∙ sym (new_of-append (h key) rs r
-      ∙ cond-false (contains_record (h key) r) (new_of (h key) rs) (new_of (h key) rs + 1)
+      ∙ cond-false (contains_record (h key) r) (count_new (h key) rs) (count_new (h key) rs + 1)
       (is_new e))
 
   -- nothing is near it, and it is put in
   pub after_added : (t' : Holdings) → near_of (duration_of key.duration) r.start (t key) ≡ [] →
-      length (h key) + new < cap → t' ≡ put key (r ∷ []) t →
+      length (h key) + new < cap → t' ≡ with_records key (r ∷ []) t →
       Taken cap key h (rs ++ r ∷ []) t' (new + 1) known
   after_added t' e l f = record {
-    free = none_next (ap (other_of r) e);
+    free = none_next (ap (first_other r) e);
     new_is = new_next e;
     all = omega (arith, k.all, length-append rs (r ∷ []));
     put_in = k.put_in ++ r ∷ [];
     part = λ y m. in_snoc y r k.put_in rs k.part m;
-    table = f ∙ (ap (put key (r ∷ [])) k.table ∙ put-append key k.put_in r h);
-    whole = λ _. f ∙ (ap (put key (r ∷ [])) (k.whole (omega arith)) ∙ put-append key rs r h);
+    table = f ∙ (ap (with_records key (r ∷ [])) k.table ∙ put-append key k.put_in r h);
+    whole = λ _. f ∙ (ap (with_records key (r ∷ [])) (k.whole (omega arith))
+        ∙ put-append key rs r h);
   }
 
   -- nothing is near it, and there is no room
   pub after_full : near_of (duration_of key.duration) r.start (t key) ≡ [] →
       cap ≤ length (h key) + new → Taken cap key h (rs ++ r ∷ []) t (new + 1) known
   after_full e l = record {
-    free = none_next (ap (other_of r) e);
+    free = none_next (ap (first_other r) e);
     new_is = new_next e;
     all = omega (arith, k.all, length-append rs (r ∷ []));
     put_in = k.put_in;
@@ -269,8 +276,8 @@ module _ (cap : ℕ) (key : Key) (h : Holdings) (is_key : IsKey key)
 
 -- while there is room, the key has what it held and what is new
 pub taken_room : (cap : ℕ) (key : Key) (h : Holdings) (rs : List DataRecord) (t : Holdings)
-    (new known : ℕ) → IsKey key → IsApart (duration_of key.duration) 0 (h key) →
-    IsApart (duration_of key.duration) 0 rs
+    (new known : ℕ) → IsKey key → StartsAreSpaced (duration_of key.duration) 0 (h key) →
+    StartsAreSpaced (duration_of key.duration) 0 rs
     → Taken cap key h rs t new known → length (h key) + new < cap → length (t key) < cap
 taken_room cap key h rs t new known is_key held a k l =
     omega (
@@ -307,7 +314,7 @@ pub after_accepted : (cap : ℕ) (key : Key) (h : Holdings) (rs : List DataRecor
     → t ≡ after_one cap h (Fragment key rs)
 unfolding after_one
 after_accepted cap key h rs t new known w g k l =
-    k.whole l ∙ sym (cond-true (fits cap key rs h) (put key rs h) h
+    k.whole l ∙ sym (cond-true (fits cap key rs h) (with_records key rs h) h
     (fits_from_MayJoin cap key rs h (record {
       free = AreFree-from_first d (h key) rs k.free;
       room = inr (omega (

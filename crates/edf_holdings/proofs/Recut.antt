@@ -9,10 +9,11 @@ use Rattle.edf_header.specs.Key.{Key}
 use Rattle.edf_fragment.specs.Fragment.{DataRecord}
 use Rattle.edf_fragment.specs.Parsed.{Parsed, Fragment, Fault}
 use Rattle.edf_holdings.specs.Clash.{NoClash}
-use Rattle.edf_holdings.specs.Rising.{united, IsApart, IsRising}
-use Rattle.edf_holdings.specs.Holdings.{Holdings, IsSound, put, nothing_held}
+use Rattle.edf_holdings.specs.Rising.{union, StartsAreSpaced, IsRising}
+use Rattle.edf_holdings.specs.Holdings.{Holdings, IsSound, with_records, nothing_held}
 use Rattle.edf_holdings.specs.Reply.{IsWellFormed}
-use Rattle.edf_holdings.specs.ConflictFree.{IsFragment, with_one, with_all, IsConflictFree, Has}
+use Rattle.edf_holdings.specs.ConflictFree.{IsFragment, union_with, union_with_all, IsConflictFree}
+use Rattle.edf_holdings.specs.ConflictFree.{Has}
 use Rattle.edf_holdings.specs.ConflictFree.{SameRecords}
 use Rattle.edf_holdings.specs.Laws.{AreWellFormed, Reordered, SameRecordsStayConflictFree}
 use Rattle.edf_holdings.specs.Laws.{OneIsConflictFree}
@@ -29,25 +30,26 @@ use Rattle.edf_holdings.proofs.InSets.{from_nothing}
 
 -- each key's records rise and lie apart
 abbrev AreInOrder : Holdings → Type 0
-AreInOrder h = (k : Key) → IsRising (h k) × IsApart (duration_of k.duration) 0 (h k)
+AreInOrder h = (k : Key) → IsRising (h k) × StartsAreSpaced (duration_of k.duration) 0 (h k)
 
 -- they do so with one fragment more, where in the end nothing clashes
 order-one : (h : Holdings) (t : Parsed) (ts : List Parsed) → IsWellFormed t →
-    ((k : Key) → NoClash (duration_of k.duration) (with_all (with_one h t) ts k)) → AreInOrder h →
-    AreInOrder (with_one h t)
+    ((k : Key) → NoClash (duration_of k.duration) (union_with_all (union_with h t) ts k)) →
+    AreInOrder h →
+    AreInOrder (union_with h t)
 order-one h (Fault fault) ts w n o = o
 order-one h (Fragment key records) ts w n o =
-    put_cases key records h (λ k l. IsRising l × IsApart (duration_of k.duration) 0 l) (
-      rising_from_apart (duration_of key.duration) 0 (united (h key) records) (lasting key w.0)
+    put_cases key records h (λ k l. IsRising l × StartsAreSpaced (duration_of k.duration) 0 l) (
+      rising_from_apart (duration_of key.duration) 0 (union (h key) records) (lasting key w.0)
           apart,
       apart,
     ) o
   where
     all : List DataRecord
-    all = with_all (put key records h) ts key
+    all = union_with_all (with_records key records h) ts key
 
-    up : Within (united (h key) records) all
-    up y m = all_grows (put key records h) ts key y
+    up : Within (union (h key) records) all
+    up y m = all_grows (with_records key records h) ts key y
         (subst (λ (l : List DataRecord). In y l) (sym (put_here key records h)) m)
 
     free : AreFree (duration_of key.duration) (h key) records
@@ -56,38 +58,41 @@ order-one h (Fragment key records) ts w n o =
         (Contains-from_In all s (up s (joined_keeps (h key) records s k)))
         (Clash-from_test (duration_of key.duration) r s t))
 
-    apart : IsApart (duration_of key.duration) 0 (united (h key) records)
+    apart : StartsAreSpaced (duration_of key.duration) 0 (union (h key) records)
     apart = apart_joined (duration_of key.duration) 0 (h key) records (o key).1
         (apart-sound key 0 records w.1) free
 
 order-all : (h : Holdings) (ts : List Parsed) → AreWellFormed ts →
-    ((k : Key) → NoClash (duration_of k.duration) (with_all h ts k)) → AreInOrder h →
-    AreInOrder (with_all h ts)
+    ((k : Key) → NoClash (duration_of k.duration) (union_with_all h ts k)) → AreInOrder h →
+    AreInOrder (union_with_all h ts)
 order-all h [] w n o = o
-order-all h (t ∷ ts) w n o = order-all (with_one h t) ts w.1 n (order-one h t ts w.0 n o)
+order-all h (t ∷ ts) w n o = order-all (union_with h t) ts w.1 n (order-one h t ts w.0 n o)
 
 -- lists with the same records, of which one is free, give the same
 module _ (cap : ℕ) (h : Holdings) (ts us : List Parsed) (s : IsSound cap h) (w : AreWellFormed ts)
     (v : AreWellFormed us) (i : IsConflictFree cap h ts) (same : SameRecords ts us) where
-  there : (k : Key) → Within (with_all h us k) (with_all h ts k)
+  there : (k : Key) → Within (union_with_all h us k) (union_with_all h ts k)
   there k = all_within h us ts k (λ y m.
       IsAmong-from_Any k y ts ((same k y).1 (Any-from_IsAmong k y us m)))
 
-  back : (k : Key) → Within (with_all h ts k) (with_all h us k)
+  back : (k : Key) → Within (union_with_all h ts k) (union_with_all h us k)
   back k = all_within h ts us k (λ y m.
       IsAmong-from_Any k y us ((same k y).0 (Any-from_IsAmong k y ts m)))
 
-  no_clash : (k : Key) → NoClash (duration_of k.duration) (with_all h us k)
+  no_clash : (k : Key) → NoClash (duration_of k.duration) (union_with_all h us k)
   no_clash k r x m n =
       i.no_clash k r x
-      (Contains-from_In (with_all h ts k) r (there k r (In-from_Contains (with_all h us k) r m)))
-      (Contains-from_In (with_all h ts k) x (there k x (In-from_Contains (with_all h us k) x n)))
+      (Contains-from_In (union_with_all h ts k) r
+      (there k r (In-from_Contains (union_with_all h us k) r m)))
+      (Contains-from_In (union_with_all h ts k) x
+      (there k x (In-from_Contains (union_with_all h us k) x n)))
 
   at_first : AreInOrder h
   at_first k = let g = IsGood-from_sound cap h s in (g.rising k, g.apart k)
 
-  pub same_all : with_all h us ≡ with_all h ts
-  same_all = fun_ext (λ k. same_lists 1 0 0 (with_all h us k) (with_all h ts k) (omega arith)
+  pub same_all : union_with_all h us ≡ union_with_all h ts
+  same_all = fun_ext (λ k. same_lists 1 0 0 (union_with_all h us k) (union_with_all h ts k)
+      (omega arith)
       (order-all h us v no_clash at_first k).0 (order-all h ts w i.no_clash at_first k).0 (there k)
       (back k))
 
@@ -152,18 +157,19 @@ pub alone_is_free : OneIsConflictFree
 alone_is_free cap key records w few = record {
   fragments = (tt, tt);
   no_clash = put_cases key records nothing_held (λ k l. NoClash (duration_of k.duration) l)
-      (λ r s m n c. both_ways _ (free_from_apart (duration_of key.duration) 0 (united [] records)
-      apart r s (In-from_Contains (united [] records) r m)
-      (In-from_Contains (united [] records) s n))
+      (λ r s m n c. both_ways _ (free_from_apart (duration_of key.duration) 0 (union [] records)
+      apart r s (In-from_Contains (union [] records) r m)
+      (In-from_Contains (union [] records) s n))
       (test_from_Clash (duration_of key.duration) r s c))
       (λ k r s m n c. absurd (In-from_Contains [] r m));
   few = put_cases key records nothing_held (λ k l. length l ≤ cap)
       (omega (arith, few, ap (λ (l : List DataRecord). length l) whole)) (λ k. omega arith);
 }
   where
-    whole : united [] records ≡ records
+    whole : union [] records ≡ records
     whole = from_nothing (duration_of key.duration) 0 records (lasting key w.0)
         (apart-sound key 0 records w.1) (apart-sound key 0 records w.1)
 
-    apart : IsApart (duration_of key.duration) 0 (united [] records)
-    apart = subst (IsApart (duration_of key.duration) 0) (sym whole) (apart-sound key 0 records w.1)
+    apart : StartsAreSpaced (duration_of key.duration) 0 (union [] records)
+    apart = subst (StartsAreSpaced (duration_of key.duration) 0) (sym whole)
+        (apart-sound key 0 records w.1)

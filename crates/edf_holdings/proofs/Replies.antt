@@ -10,11 +10,11 @@ use Rattle.edf_fragment.specs.Fragment.{DataRecord}
 use Rattle.edf_fragment.specs.declared.fault.FragmentFault.{FragmentFault}
 use Rattle.edf_fragment.specs.Parsed.{Parsed, Fragment, Fault}
 use Rattle.edf_holdings.specs.Clash.{clashes}
-use Rattle.edf_holdings.specs.Rising.{contains_record, united, new_of}
-use Rattle.edf_holdings.specs.Holdings.{Holdings, put}
+use Rattle.edf_holdings.specs.Rising.{contains_record, union, count_new}
+use Rattle.edf_holdings.specs.Holdings.{Holdings, with_records}
 use Rattle.edf_holdings.specs.Reply.{IsWellFormed, fits, after_one, after, Reply, Form, Conflicts}
 use Rattle.edf_holdings.specs.Reply.{Full, Accepted, IsAccepted, clash_or, first_clash}
-use Rattle.edf_holdings.specs.Reply.{is_past, reply_to_counts, reply_to_clash, reply, replies}
+use Rattle.edf_holdings.specs.Reply.{exceeds_cap, reply_to_counts, reply_to_clash, reply, replies}
 use Rattle.edf_holdings.specs.Meaning.{AreCountsNamed}
 use Rattle.edf_holdings.proofs.Members.{In, Within, AreFree, joined_has, length_joined, none_new}
 use Rattle.edf_holdings.proofs.Members.{within_from_none_new}
@@ -65,31 +65,34 @@ no_first d xs (s ∷ rs) f =
 
 -- what is answered to a fragment where nothing clashes and there is room
 abbrev pub answered : Key → List DataRecord → List DataRecord → Reply
-answered key records xs = Accepted key (new_of xs records) (length records - new_of xs records)
+answered key records xs = Accepted key (count_new xs records)
+    (length records - count_new xs records)
 
 -- where there is no room
 abbrev pub no_room : ℕ → List DataRecord → List DataRecord → Reply
-no_room cap records xs = Conflicts (Full (length xs) (new_of xs records) cap)
+no_room cap records xs = Conflicts (Full (length xs) (count_new xs records) cap)
 
 -- the answer where nothing clashes, by the counts
 pub by-counts : (cap : ℕ) (h : Holdings) (key : Key) (records : List DataRecord) →
     first_clash (duration_of key.duration) (h key) records ≡ None →
     reply cap h (Fragment key records) ≡ reply_to_counts cap key (length (h key))
-    (new_of (h key) records) (length records)
+    (count_new (h key) records) (length records)
 unfolding reply
 by-counts cap h key records none = ap (reply_to_clash cap key records (h key)) none
 
 pub full-by-counts : (cap : ℕ) (key : Key) (held new all : ℕ) → 0 < new → cap < held + new →
     reply_to_counts cap key held new all ≡ Conflicts (Full held new cap)
 full-by-counts cap key held new all some past =
-    cond-true (is_past cap held new) (Conflicts (Full held new cap)) (Accepted key new (all - new))
+    cond-true (exceeds_cap cap held new) (Conflicts (Full held new cap))
+    (Accepted key new (all - new))
     (and_from _ _ (lt-ltb 0 new some) (lt-ltb cap (held + new) past))
 
 pub accepted-by-counts : (cap : ℕ) (key : Key) (held new all : ℕ) →
     (new ≡ 0) ⊎ (held + new ≤ cap) →
     reply_to_counts cap key held new all ≡ Accepted key new (all - new)
 accepted-by-counts cap key held new all fits =
-    cond-false (is_past cap held new) (Conflicts (Full held new cap)) (Accepted key new (all - new))
+    cond-false (exceeds_cap cap held new) (Conflicts (Full held new cap))
+    (Accepted key new (all - new))
     (elim fits [
       | inl z ↦ and_left _ _ (le-ltb 0 new (omega (arith, z)))
       | inr l ↦ and_right _ _ (le-ltb cap (held + new) l)
@@ -100,10 +103,10 @@ pub counts-named : (cap : ℕ) (h : Holdings) (key : Key) (records : List DataRe
     AreCountsNamed cap h key records
 counts-named cap h key records none = (
   (λ some past. by-counts cap h key records none
-      ∙ full-by-counts cap key (length (h key)) (new_of (h key) records) (length records) some
+      ∙ full-by-counts cap key (length (h key)) (count_new (h key) records) (length records) some
       past),
   (λ fits. by-counts cap h key records none
-      ∙ accepted-by-counts cap key (length (h key)) (new_of (h key) records) (length records)
+      ∙ accepted-by-counts cap key (length (h key)) (count_new (h key) records) (length records)
       fits),
 )
 
@@ -112,7 +115,7 @@ pub accepted_from_MayJoin : (cap : ℕ) (h : Holdings) (key : Key) (records : Li
     reply cap h (Fragment key records) ≡ answered key records (h key)
 accepted_from_MayJoin cap h key records w g m =
     by-counts cap h key records (no_first (duration_of key.duration) (h key) records m.free)
-    ∙ accepted-by-counts cap key (length (h key)) (new_of (h key) records) (length records)
+    ∙ accepted-by-counts cap key (length (h key)) (count_new (h key) records) (length records)
     (elim m.room [
       | inl i ↦ inl (omega (arith, none_new (h key) records i))
       | inr l ↦ inr (omega (
@@ -132,15 +135,15 @@ MayJoin-from_clash cap h key records None w g q i = record { free = free; room =
     free : AreFree (duration_of key.duration) (h key) records
     free = AreFree-from_first (duration_of key.duration) (h key) records q
 
-    room : Within records (h key) ⊎ (length (united (h key) records) ≤ cap)
+    room : Within records (h key) ⊎ (length (union (h key) records) ≤ cap)
     room =
-        elim (cases_Bool (is_past cap (length (h key)) (new_of (h key) records))) [
+        elim (cases_Bool (exceeds_cap cap (length (h key)) (count_new (h key) records))) [
           | inl t ↦ absurd (subst IsAccepted
               (cond-true _ (no_room cap records (h key)) (answered key records (h key)) t) i)
           | inr t ↦ elim (and_cases _ _ t) [
             | inl u ↦ inl (within_from_none_new (h key) records (let l =
-                ltb-false 0 (new_of (h key) records) u in omega (arith, l)))
-            | inr u ↦ inr (let l = ltb-false cap (length (h key) + new_of (h key) records) u in
+                ltb-false 0 (count_new (h key) records) u in omega (arith, l)))
+            | inr u ↦ inr (let l = ltb-false cap (length (h key) + count_new (h key) records) u in
                 omega (
                   arith,
                   l,
@@ -158,9 +161,9 @@ MayJoin-from_accepted cap h key records w g i =
     MayJoin-from_clash cap h key records (first_clash (duration_of key.duration) (h key) records) w
     g refl i
 
-new_of-le : (xs rs : List DataRecord) → new_of xs rs ≤ length rs
+new_of-le : (xs rs : List DataRecord) → count_new xs rs ≤ length rs
 new_of-le xs [] = omega arith
-new_of-le xs (r ∷ rs) = cond_both (contains_record xs r) (new_of xs rs) (1 + new_of xs rs)
+new_of-le xs (r ∷ rs) = cond_both (contains_record xs r) (count_new xs rs) (1 + count_new xs rs)
     (λ n. n ≤ length (r ∷ rs)) (λ _. omega (arith, new_of-le xs rs))
     (λ _. omega (arith, new_of-le xs rs))
 
@@ -172,7 +175,7 @@ held_reply cap h key records w g i =
     accepted_from_MayJoin cap h key records w g (MayJoin-from_held cap key records h g i)
     ∙ cc (none_new (h key) records i, all)
   where
-    all : length records - new_of (h key) records ≡ length records
+    all : length records - count_new (h key) records ≡ length records
     all = omega (arith, none_new (h key) records i)
 
 -- what was accepted is in larger holdings
@@ -182,7 +185,7 @@ held_after : (cap : ℕ) (h h' : Holdings) (key : Key) (records : List DataRecor
 unfolding after_one
 held_after cap h h' key records m up y n =
     up key y (subst (λ (z : Holdings). In y (z key))
-    (sym (cond-true (fits cap key records h) (put key records h) h
+    (sym (cond-true (fits cap key records h) (with_records key records h) h
     (fits_from_MayJoin cap key records h m)))
     (subst (λ (l : List DataRecord). In y l) (sym (put_here key records h))
     (joined_has (h key) records y n)))
@@ -204,8 +207,8 @@ again_fragment cap h h' key records w g g' up k new known q =
     same : Accepted key 0 (length records) ≡ Accepted k 0 (new + known)
     same =
         let p : key ≡ k = cc both in
-        let s : new_of (h key) records ≡ new = cc both in
-        let t : length records - new_of (h key) records ≡ known = cc both in
+        let s : count_new (h key) records ≡ new = cc both in
+        let t : length records - count_new (h key) records ≡ known = cc both in
         let l = new_of-le (h key) records in
         let u : length records ≡ new + known = omega arith in
         cc
@@ -243,7 +246,7 @@ no_fault cap h key records fault q = go (first_clash (duration_of key.duration) 
     go : (o : Option (DataRecord × DataRecord)) →
         reply_to_clash cap key records (h key) o ≡ Form fault → ⊥
     go (Some p) r = cc
-    go None r = cond_both (is_past cap (length (h key)) (new_of (h key) records))
+    go None r = cond_both (exceeds_cap cap (length (h key)) (count_new (h key) records))
         (no_room cap records (h key)) (answered key records (h key))
         (λ (z : Reply). z ≡ Form fault → ⊥) (λ _ s. cc) (λ _ s. cc) r
 

@@ -5,17 +5,18 @@ use Rattle.std.proofs.lemmas.Bool.{cond_both, cond-true, cond-false, cases_Bool,
 use Rattle.std.proofs.lemmas.Bool.{and_from, ltb-true, lt-ltb}
 use Rattle.edf_field.specs.Number.{duration_of}
 use Rattle.edf_fragment.specs.Fragment.{DataRecord}
-use Rattle.edf_holdings.specs.Clash.{meets, near_of}
-use Rattle.edf_holdings.specs.Rising.{IsApart}
+use Rattle.edf_holdings.specs.Clash.{intervals_overlap, near_of}
+use Rattle.edf_holdings.specs.Rising.{StartsAreSpaced}
 use Rattle.edf_holdings.specs.Meaning.{NearIsSelected}
 use Rattle.edf_holdings.proofs.Members.{In, apart_weaker, same_lists}
 use Rattle.edf_holdings.proofs.Joining.{In-from_Contains, Contains-from_In}
 
-apart_filter : (p : DataRecord → Bool) (d low : ℕ) (xs : List DataRecord) → IsApart d low xs →
-    IsApart d low (filter p xs)
+apart_filter : (p : DataRecord → Bool) (d low : ℕ) (xs : List DataRecord) →
+    StartsAreSpaced d low xs →
+    StartsAreSpaced d low (filter p xs)
 apart_filter p d low [] a = tt
 apart_filter p d low (x ∷ xs) a =
-    cond_both (p x) (x ∷ filter p xs) (filter p xs) (IsApart d low)
+    cond_both (p x) (x ∷ filter p xs) (filter p xs) (StartsAreSpaced d low)
     (λ _. (a.0, apart_filter p d (x.start + d) xs a.1))
     (λ _. apart_weaker d (x.start + d) low (filter p xs) (omega (arith, a.0))
     (apart_filter p d (x.start + d) xs a.1))
@@ -51,12 +52,12 @@ filter_has p y (x ∷ xs) (inr m) e =
 pub near_is_selected : NearIsSelected
 near_is_selected cap h k start ys s a m =
     same_lists 1 0 0 ys (near_of d start (h k)) (omega arith) a
-    (apart_filter (meets d start) 1 0 (h k) (s.rising k))
+    (apart_filter (intervals_overlap d start) 1 0 (h k) (s.rising k))
     (λ y n. let t = (m y).0 (Contains-from_In ys y n) in
-    filter_has (meets d start) y (h k) (In-from_Contains (h k) y t.0)
+    filter_has (intervals_overlap d start) y (h k) (In-from_Contains (h k) y t.0)
     (and_from (nat_lt start (y.start + d)) (nat_lt y.start (start + d)) (lt-ltb _ _ t.2)
     (lt-ltb _ _ t.1)))
-    (λ y n. let t = in_filter (meets d start) y (h k) n in let u =
+    (λ y n. let t = in_filter (intervals_overlap d start) y (h k) n in let u =
     and_parts (nat_lt start (y.start + d)) (nat_lt y.start (start + d)) t.1 in
     In-from_Contains ys y ((m y).1 (
       Contains-from_In (h k) y t.0,

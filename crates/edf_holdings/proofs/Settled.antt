@@ -5,7 +5,7 @@ use Rattle.std.proofs.lemmas.Bool.{cond_both, cond-true, cond-false, both_ways, 
 use Rattle.std.proofs.lemmas.Bool.{false_from_ne_true}
 use Rattle.edf_fragment.specs.Fragment.{DataRecord}
 use Rattle.edf_fragment.specs.Parsed.{Parsed, Fragment, Fault}
-use Rattle.edf_holdings.specs.Holdings.{Holdings, put}
+use Rattle.edf_holdings.specs.Holdings.{Holdings, with_records}
 use Rattle.edf_holdings.specs.Reply.{IsWellFormed, fits, after_one, after}
 use Rattle.edf_holdings.specs.Laws.{AreWellFormed}
 use Rattle.edf_holdings.proofs.Members.{In, Within, joined_has}
@@ -20,7 +20,7 @@ pub IsGood-one : (cap : ℕ) (h : Holdings) (t : Parsed) → IsWellFormed t → 
 unfolding after_one
 IsGood-one cap h (Fault fault) w g = g
 IsGood-one cap h (Fragment key records) w g =
-    cond_both (fits cap key records h) (put key records h) h (IsGood cap)
+    cond_both (fits cap key records h) (with_records key records h) h (IsGood cap)
     (λ e. IsGood-put cap key records h w.0 (apart-sound key 0 records w.1) g
     (MayJoin-from_fits cap key records h e))
     (λ _. g)
@@ -29,7 +29,7 @@ pub one_grows : (cap : ℕ) (h : Holdings) (t : Parsed) → Grows h (after_one c
 unfolding after_one
 one_grows cap h (Fault fault) = λ k y m. m
 one_grows cap h (Fragment key records) =
-    cond_both (fits cap key records h) (put key records h) h (Grows h)
+    cond_both (fits cap key records h) (with_records key records h) h (Grows h)
     (λ _. put_grows key records h) (λ _ k y m. m)
 
 -- what was met once changes larger holdings no more
@@ -39,7 +39,7 @@ unfolding after_one
 one_settled cap h h' (Fault fault) w g g' up = refl
 one_settled cap h h' (Fragment key records) w g g' up =
     elim (cases_Bool (fits cap key records h)) [
-      | inl e ↦ cond_both (fits cap key records h') (put key records h') h'
+      | inl e ↦ cond_both (fits cap key records h') (with_records key records h') h'
           (λ (z : Holdings). z ≡ h') (λ _. put_held cap key records h' w.0 g' (held e)) (λ _. refl)
       | inr e ↦ cond-false _ _ _ (false_from_ne_true _
           (λ t. both_ways _ e (fits_from_MayJoin cap key records h
@@ -49,13 +49,13 @@ one_settled cap h h' (Fragment key records) w g g' up =
   where
     held : fits cap key records h ≡ true → Within records (h' key)
     held e y m = up key y (subst (λ (z : Holdings). In y (z key))
-        (sym (cond-true (fits cap key records h) (put key records h) h e))
+        (sym (cond-true (fits cap key records h) (with_records key records h) h e))
         (subst (λ (l : List DataRecord). In y l) (sym (put_here key records h))
         (joined_has (h key) records y m)))
 
     kept : fits cap key records h ≡ false → Grows h h'
     kept e = subst (λ (z : Holdings). Grows z h')
-        (cond-false (fits cap key records h) (put key records h) h e) up
+        (cond-false (fits cap key records h) (with_records key records h) h e) up
 
 -- lists of submissions
 

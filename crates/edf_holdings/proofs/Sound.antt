@@ -8,9 +8,9 @@ use Rattle.edf_header.specs.Key.{Key, IsKey, MayStart}
 use Rattle.edf_fragment.specs.Fragment.{DataRecord}
 use Rattle.edf_fragment.specs.Parsed.{Parsed, Fragment, Fault}
 use Rattle.edf_holdings.specs.Same.{same_key, same_record}
-use Rattle.edf_holdings.specs.Rising.{inserted, united}
+use Rattle.edf_holdings.specs.Rising.{insert, union}
 use Rattle.edf_fragment.specs.Sound.{IsSoundRecord, AreSound, MayBegin}
-use Rattle.edf_holdings.specs.Holdings.{Holdings, IsSound, put}
+use Rattle.edf_holdings.specs.Holdings.{Holdings, IsSound, with_records}
 use Rattle.edf_holdings.specs.Reply.{IsWellFormed, fits, after_one}
 use Rattle.edf_holdings.specs.Laws.{StaysSound}
 use Rattle.edf_holdings.proofs.Same.{same_key-true, test_from_Clash}
@@ -39,31 +39,31 @@ each-sound k low (r ∷ rs) s y (inr m) = each-sound k (r.start + duration_of k.
 
 -- a recording begins with what is there, or with an earlier record: where it may start with that,
 -- it may with this
-pub inserted-some : (r : DataRecord) (xs : List DataRecord) → inserted r xs ≢ []
+pub inserted-some : (r : DataRecord) (xs : List DataRecord) → insert r xs ≢ []
 inserted-some r [] = λ e. cc
 inserted-some r (x ∷ xs) =
     cond_both (same_record x r) (x ∷ xs)
-    (cond (nat_lt r.start x.start) (r ∷ x ∷ xs) (x ∷ inserted r xs)) (λ (l : List DataRecord).
+    (cond (nat_lt r.start x.start) (r ∷ x ∷ xs) (x ∷ insert r xs)) (λ (l : List DataRecord).
     l ≢ [])
     (λ _ e. cc)
-    (λ _. cond_both (nat_lt r.start x.start) (r ∷ x ∷ xs) (x ∷ inserted r xs)
+    (λ _. cond_both (nat_lt r.start x.start) (r ∷ x ∷ xs) (x ∷ insert r xs)
     (λ (l : List DataRecord). l ≢ []) (λ _ e. cc) (λ _ e. cc))
 
 inserted-begins : (k : Key) (r : DataRecord) (xs : List DataRecord) → MayBegin k xs →
-    (xs ≡ [] → MayStart k r.start) → MayBegin k (inserted r xs)
+    (xs ≡ [] → MayStart k r.start) → MayBegin k (insert r xs)
 inserted-begins k r [] old first = first refl
 inserted-begins k r (x ∷ xs) old first =
     cond_both (same_record x r) (x ∷ xs)
-    (cond (nat_lt r.start x.start) (r ∷ x ∷ xs) (x ∷ inserted r xs)) (MayBegin k)
+    (cond (nat_lt r.start x.start) (r ∷ x ∷ xs) (x ∷ insert r xs)) (MayBegin k)
     (λ _. old)
-    (λ _. cond_both (nat_lt r.start x.start) (r ∷ x ∷ xs) (x ∷ inserted r xs) (MayBegin k)
+    (λ _. cond_both (nat_lt r.start x.start) (r ∷ x ∷ xs) (x ∷ insert r xs) (MayBegin k)
     (λ e undated. omega (arith, ltb-true _ _ e, old undated)) (λ _. old))
 
 pub joined-begins : (k : Key) (xs records : List DataRecord) → MayBegin k xs →
-    (xs ≡ [] → MayBegin k records) → MayBegin k (united xs records)
+    (xs ≡ [] → MayBegin k records) → MayBegin k (union xs records)
 joined-begins k xs [] old first = old
 joined-begins k xs (r ∷ rs) old first =
-    joined-begins k (inserted r xs) rs (inserted-begins k r xs old first)
+    joined-begins k (insert r xs) rs (inserted-begins k r xs old first)
     (λ none. absurd (inserted-some r xs none))
 
 -- what soundness asks beside what `IsGood` has
@@ -76,7 +76,7 @@ pub record HasHolders (h : Holdings) : Type 0 where
 
 pub HasHolders-put : (key : Key) (records : List DataRecord) (h : Holdings) → IsKey key →
     AreSound key 0 records → (h key ≡ [] → MayBegin key records) → HasHolders h →
-    HasHolders (put key records h)
+    HasHolders (with_records key records h)
 HasHolders-put key records h is_key sound first p = record {
   records = put_cases key records h (λ q l. Each (IsSoundRecord q) l)
       (λ y m. elim (in_joined y (h key) records m) [
@@ -89,7 +89,7 @@ HasHolders-put key records h is_key sound first p = record {
       p.begins;
   holders = put_cases key records h (λ q l. l ≢ [] → IsKey q) (λ _. is_key) p.holders;
   finite = key ∷ p.finite;
-  all = λ k. cond_both (same_key key k) (united (h k) records) (h k) (λ (l : List DataRecord).
+  all = λ k. cond_both (same_key key k) (union (h k) records) (h k) (λ (l : List DataRecord).
       l ≢ [] → Contains (key ∷ p.finite) k)
       (λ e _. (0, omega arith, same_key-true key k e))
       (λ _ n. let c = p.all k n in (suc c.0, omega (arith, c.1), c.2));
@@ -100,7 +100,7 @@ HasHolders-one : (cap : ℕ) (h : Holdings) (t : Parsed) → IsWellFormed t → 
 unfolding after_one
 HasHolders-one cap h (Fault fault) w p = p
 HasHolders-one cap h (Fragment key records) w p =
-    cond_both (fits cap key records h) (put key records h) h HasHolders
+    cond_both (fits cap key records h) (with_records key records h) h HasHolders
     (λ _. HasHolders-put key records h w.0 w.1 (λ _. w.2) p) (λ _. p)
 
 pub IsSound-from : (cap : ℕ) (h : Holdings) → IsGood cap h → HasHolders h → IsSound cap h

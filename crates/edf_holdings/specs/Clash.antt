@@ -5,30 +5,31 @@ use Rattle.edf_fragment.specs.Fragment.{DataRecord}
 use Rattle.edf_holdings.specs.Same.{same_record}
 
 -- the instant lies in the record's interval, which begins with its start and lasts d
-pub record Covers (d : ℕ) (r : DataRecord) (instant : ℕ) : Type 0 where
+pub record IntervalContains (d : ℕ) (r : DataRecord) (instant : ℕ) : Type 0 where
   pub begun : r.start ≤ instant
   pub not_over : instant < r.start + d
 
 -- the intervals have an instant in common, and the records are not the same
 abbrev pub Clash : ℕ → DataRecord → DataRecord → Type 0
-Clash d r s = ((instant : ℕ) × Covers d r instant × Covers d s instant) × (¬ (r ≡ s))
+Clash d r s = ((instant : ℕ) × IntervalContains d r instant × IntervalContains d s instant)
+    × (¬ (r ≡ s))
 
 -- no two of the records clash
 abbrev pub NoClash : ℕ → List DataRecord → Type 0
 NoClash d xs = (r s : DataRecord) → Contains xs r → Contains xs s → ¬ Clash d r s
 
 -- the record's interval meets the one that begins at this start
-abbrev pub meets : ℕ → ℕ → DataRecord → Bool
-meets d start s = nat_lt start (s.start + d) && nat_lt s.start (start + d)
+abbrev pub intervals_overlap : ℕ → ℕ → DataRecord → Bool
+intervals_overlap d start s = nat_lt start (s.start + d) && nat_lt s.start (start + d)
 
 -- a test; a law says that it is `Clash`
 unfoldable pub clashes : ℕ → DataRecord → DataRecord → Bool
-clashes d r s = not (same_record r s) && meets d r.start s
+clashes d r s = not (same_record r s) && intervals_overlap d r.start s
 
 -- the records whose intervals meet the one that begins at this start, in their order
 abbrev pub near_of : ℕ → ℕ → List DataRecord → List DataRecord
-near_of d start xs = filter (meets d start) xs
+near_of d start xs = filter (intervals_overlap d start) xs
 
 -- the first of them that is not the record itself
-abbrev pub other_of : DataRecord → List DataRecord → Option DataRecord
-other_of r xs = find (λ s. not (same_record r s)) xs
+abbrev pub first_other : DataRecord → List DataRecord → Option DataRecord
+first_other r xs = find (λ s. not (same_record r s)) xs

@@ -6,27 +6,27 @@ use Rattle.edf_header.specs.Key.{Key}
 use Rattle.edf_fragment.specs.Fragment.{DataRecord}
 use Rattle.edf_fragment.specs.Parsed.{Parsed, Fragment, Fault}
 use Rattle.edf_holdings.specs.Clash.{NoClash}
-use Rattle.edf_holdings.specs.Holdings.{Holdings, put}
+use Rattle.edf_holdings.specs.Holdings.{Holdings, with_records}
 
 abbrev pub IsFragment : Parsed → Type 0
 IsFragment (Fragment key records) = Unit {0}
 IsFragment (Fault fault) = ⊥
 
 -- the holdings with all records of a submission, whether or not they clash
-abbrev pub with_one : Holdings → Parsed → Holdings
-with_one h (Fragment key records) = put key records h
-with_one h (Fault fault) = h
+abbrev pub union_with : Holdings → Parsed → Holdings
+union_with h (Fragment key records) = with_records key records h
+union_with h (Fault fault) = h
 
-abbrev pub with_all : Holdings → List Parsed → Holdings
-with_all h [] = h
-with_all h (submission ∷ submissions) = with_all (with_one h submission) submissions
+abbrev pub union_with_all : Holdings → List Parsed → Holdings
+union_with_all h [] = h
+union_with_all h (submission ∷ submissions) = union_with_all (union_with h submission) submissions
 
 -- each is a fragment, and in the holdings with all their records no two of a key clash and none has
 -- more than the cap
 pub record IsConflictFree (cap : ℕ) (h : Holdings) (submissions : List Parsed) : Type 0 where
   pub fragments : AllByRecursion IsFragment submissions
-  pub no_clash : (k : Key) → NoClash (duration_of k.duration) (with_all h submissions k)
-  pub few : (k : Key) → length (with_all h submissions k) ≤ cap
+  pub no_clash : (k : Key) → NoClash (duration_of k.duration) (union_with_all h submissions k)
+  pub few : (k : Key) → length (union_with_all h submissions k) ≤ cap
 
 -- the submission has the record under this key
 abbrev pub Has : Key → DataRecord → Parsed → Type 0

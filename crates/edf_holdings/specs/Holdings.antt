@@ -5,7 +5,7 @@ use Rattle.edf_header.specs.Key.{Key, IsKey}
 use Rattle.edf_fragment.specs.Fragment.{DataRecord}
 use Rattle.edf_holdings.specs.Same.{same_key}
 use Rattle.edf_holdings.specs.Clash.{NoClash}
-use Rattle.edf_holdings.specs.Rising.{IsRising, united}
+use Rattle.edf_holdings.specs.Rising.{IsRising, union}
 use Rattle.edf_fragment.specs.Sound.{IsSoundRecord, MayBegin}
 
 -- each key's data records by rising starts, none where nothing is held
@@ -27,5 +27,5 @@ pub record IsSound (cap : ℕ) (h : Holdings) : Type 0 where
   pub finite : (keys : List Key) × ((k : Key) → h k ≢ [] → Contains keys k)
 
 -- the holdings with these records under the key beside those that it holds
-abbrev pub put : Key → List DataRecord → Holdings → Holdings
-put key records h = λ k. cond (same_key key k) (united (h k) records) (h k)
+abbrev pub with_records : Key → List DataRecord → Holdings → Holdings
+with_records key records h = λ k. cond (same_key key k) (union (h k) records) (h k)

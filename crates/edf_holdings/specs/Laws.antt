@@ -10,10 +10,10 @@ use Rattle.edf_fragment.specs.declared.fault.FragmentFault.{FragmentFault}
 use Rattle.edf_fragment.specs.Parsed.{Parsed, Fragment, ParsesTo}
 use Rattle.edf_holdings.specs.Clash.{near_of}
 use Rattle.edf_fragment.specs.Sound.{IsSoundRecord}
-use Rattle.edf_holdings.specs.Holdings.{Holdings, IsSound, nothing_held, put}
+use Rattle.edf_holdings.specs.Holdings.{Holdings, IsSound, nothing_held, with_records}
 use Rattle.edf_holdings.specs.Reply.{IsWellFormed, after_one, after, Form, Accepted, IsAccepted}
 use Rattle.edf_holdings.specs.Reply.{reply, replies}
-use Rattle.edf_holdings.specs.ConflictFree.{IsFragment, with_all, IsConflictFree, SameRecords}
+use Rattle.edf_holdings.specs.ConflictFree.{IsFragment, union_with_all, IsConflictFree, SameRecords}
 
 abbrev pub AreWellFormed : List Parsed → Type 0
 AreWellFormed submissions = AllByRecursion IsWellFormed submissions
@@ -40,7 +40,7 @@ AddStaysSound = (cap : ℕ) (h : Holdings) (key : Key) (r : DataRecord) → IsSo
     IsSoundRecord key r →
     near_of (duration_of key.duration) r.start (h key) ≡ [] → length (h key) < cap →
     (h key ≡ [] → MayStart key r.start) →
-    IsSound cap (put key (r ∷ []) h)
+    IsSound cap (with_records key (r ∷ []) h)
 
 -- a fragment whose records are all held is accepted with nothing new, and changes nothing
 abbrev pub HeldIsKnown : Type 0
@@ -74,8 +74,8 @@ RefusedAgain = (cap : ℕ) (h : Holdings) (earlier : List Parsed) (submission : 
     reply cap (after cap h (with_member earlier submission between)) submission ≡ Form fault)
 
 -- without the repeat the holdings at the end and all other replies are the same
-abbrev pub RepeatTakenOut : Type 0
-RepeatTakenOut = (cap : ℕ) (h : Holdings) (earlier : List Parsed) (submission : Parsed)
+abbrev pub RepeatsChangeNothing : Type 0
+RepeatsChangeNothing = (cap : ℕ) (h : Holdings) (earlier : List Parsed) (submission : Parsed)
     (between later : List Parsed) →
     IsSound cap h → AreWellFormed (with_member earlier submission between) →
     (after cap h (with_member earlier submission between
@@ -85,8 +85,8 @@ RepeatTakenOut = (cap : ℕ) (h : Holdings) (earlier : List Parsed) (submission 
     ≡ replies cap h (with_member earlier submission between ++ later))
 
 -- a list broken off after `front` and sent again from its front ends as the list sent once
-abbrev pub FromTheFront : Type 0
-FromTheFront = (cap : ℕ) (h : Holdings) (front rest : List Parsed) → IsSound cap h →
+abbrev pub ResentFromStart : Type 0
+ResentFromStart = (cap : ℕ) (h : Holdings) (front rest : List Parsed) → IsSound cap h →
     AreWellFormed front →
     after cap (after cap h front) (front ++ rest) ≡ after cap h (front ++ rest)
 
@@ -96,7 +96,8 @@ abbrev pub AnyOrder : Type 0
 AnyOrder = (cap : ℕ) (h : Holdings) (submissions : List Parsed) → IsSound cap h →
     AreWellFormed submissions →
     IsConflictFree cap h submissions →
-    All IsAccepted (replies cap h submissions) × (after cap h submissions ≡ with_all h submissions)
+    All IsAccepted (replies cap h submissions)
+    × (after cap h submissions ≡ union_with_all h submissions)
 
 -- the same submissions in another order, or more often or less, are free too and end alike
 abbrev pub Reordered : Type 0

@@ -7,11 +7,11 @@ use Rattle.edf_fragment.specs.Fragment.{DataRecord}
 use Rattle.edf_fragment.specs.Parsed.{Parsed, Fragment}
 use Rattle.edf_holdings.specs.Same.{same_key, same_record}
 use Rattle.edf_holdings.specs.Clash.{Clash, clashes, near_of}
-use Rattle.edf_holdings.specs.Rising.{IsRising, contains_record, united, new_of}
+use Rattle.edf_holdings.specs.Rising.{IsRising, contains_record, union, count_new}
 use Rattle.edf_holdings.specs.Holdings.{Holdings, IsSound, nothing_held}
 use Rattle.edf_holdings.specs.Reply.{IsWellFormed, fits, after_one, after, Overlap, Differs, Full}
 use Rattle.edf_holdings.specs.Reply.{Conflicts, Accepted, reply, IsAccepted}
-use Rattle.edf_holdings.specs.ConflictFree.{with_all, Has}
+use Rattle.edf_holdings.specs.ConflictFree.{union_with_all, Has}
 use Rattle.edf_holdings.specs.Laws.{AreWellFormed}
 
 -- the tests are what they are named for
@@ -24,8 +24,8 @@ SameRecordIsEqual = (r s : DataRecord) → IsTrue (same_record r s) ↔ (r ≡ s
 abbrev pub TestIsClash : Type 0
 TestIsClash = (d : ℕ) (r s : DataRecord) → IsTrue (clashes d r s) ↔ Clash d r s
 
-abbrev pub HoldsIsContains : Type 0
-HoldsIsContains = (xs : List DataRecord) (r : DataRecord) →
+abbrev pub TestIsContains : Type 0
+TestIsContains = (xs : List DataRecord) (r : DataRecord) →
     IsTrue (contains_record xs r) ↔ Contains xs r
 
 -- the same records, in whatever order
@@ -44,12 +44,12 @@ HoldingsAreSets = (cap : ℕ) (h other : Holdings) → IsSound cap h → IsSound
 -- a joined list has the records of both, and no others
 abbrev pub JoinedHasBoth : Type 0
 JoinedHasBoth = (xs records : List DataRecord) (r : DataRecord) →
-    Contains (united xs records) r ↔ (Contains xs r ⊎ Contains records r)
+    Contains (union xs records) r ↔ (Contains xs r ⊎ Contains records r)
 
 -- holdings with all that the submissions have: what was held and what they have, and nothing else
 abbrev pub AllHasBoth : Type 0
 AllHasBoth = (h : Holdings) (submissions : List Parsed) (k : Key) (r : DataRecord) →
-    Contains (with_all h submissions k) r ↔ (Contains (h k) r ⊎ Any (Has k r) submissions)
+    Contains (union_with_all h submissions k) r ↔ (Contains (h k) r ⊎ Any (Has k r) submissions)
 
 -- none of the records clashes with one of the key
 abbrev pub IsClear : Holdings → Key → List DataRecord → Type 0
@@ -59,7 +59,7 @@ IsClear h key records = (r s : DataRecord) → Contains records r → Contains (
 -- so, and joined with them the key has what it had, or at most the cap
 pub record Fits (cap : ℕ) (key : Key) (records : List DataRecord) (h : Holdings) : Type 0 where
   pub clear : IsClear h key records
-  pub room : (united (h key) records ≡ h key) ⊎ (length (united (h key) records) ≤ cap)
+  pub room : (union (h key) records ≡ h key) ⊎ (length (union (h key) records) ≤ cap)
 
 abbrev pub TestIsFits : Type 0
 TestIsFits = (cap : ℕ) (h : Holdings) (key : Key) (records : List DataRecord) → IsSound cap h →
@@ -84,8 +84,9 @@ pub record IsFirstClash (d : ℕ) (xs records : List DataRecord) (r s : DataReco
   pub earliest : (x : DataRecord) → Contains xs x → Clash d r x → s.start ≤ x.start
 
 -- the answer names that clash
-abbrev pub ClashIsNamed : Type 0
-ClashIsNamed = (cap : ℕ) (h : Holdings) (key : Key) (records : List DataRecord) (r s : DataRecord) →
+abbrev pub RepliesNameTheClash : Type 0
+RepliesNameTheClash = (cap : ℕ) (h : Holdings) (key : Key) (records : List DataRecord)
+    (r s : DataRecord) →
     IsSound cap h →
     IsFirstClash (duration_of key.duration) (h key) records r s →
     (r.start ≡ s.start → reply cap h (Fragment key records) ≡ Conflicts (Differs r.start)) ×
@@ -93,8 +94,9 @@ ClashIsNamed = (cap : ℕ) (h : Holdings) (key : Key) (records : List DataRecord
     ≡ Conflicts (Overlap r.start s.start))
 
 -- and there is a first one wherever records clash
-abbrev pub ClashIsThere : Type 0
-ClashIsThere = (cap : ℕ) (h : Holdings) (key : Key) (records : List DataRecord) (r s : DataRecord) →
+abbrev pub FirstClashExists : Type 0
+FirstClashExists = (cap : ℕ) (h : Holdings) (key : Key) (records : List DataRecord)
+    (r s : DataRecord) →
     IsSound cap h →
     Contains records r → Contains (h key) s → Clash (duration_of key.duration) r s →
     (q : DataRecord) × (x : DataRecord)
@@ -103,12 +105,12 @@ ClashIsThere = (cap : ℕ) (h : Holdings) (key : Key) (records : List DataRecord
 -- the answer is `Full` exactly where some are new and are too many, else that it is accepted
 abbrev pub AreCountsNamed : ℕ → Holdings → Key → List DataRecord → Type 0
 AreCountsNamed cap h key records =
-    (0 < new_of (h key) records → cap < length (h key) + new_of (h key) records →
+    (0 < count_new (h key) records → cap < length (h key) + count_new (h key) records →
     reply cap h (Fragment key records)
-    ≡ Conflicts (Full (length (h key)) (new_of (h key) records) cap)) ×
-    ((new_of (h key) records ≡ 0) ⊎ (length (h key) + new_of (h key) records ≤ cap) →
-    reply cap h (Fragment key records) ≡ Accepted key (new_of (h key) records)
-    (length records - new_of (h key) records))
+    ≡ Conflicts (Full (length (h key)) (count_new (h key) records) cap)) ×
+    ((count_new (h key) records ≡ 0) ⊎ (length (h key) + count_new (h key) records ≤ cap) →
+    reply cap h (Fragment key records) ≡ Accepted key (count_new (h key) records)
+    (length records - count_new (h key) records))
 
 -- where nothing clashes
 abbrev pub CountsAreNamed : Type 0
@@ -116,10 +118,11 @@ CountsAreNamed = (cap : ℕ) (h : Holdings) (key : Key) (records : List DataReco
     IsClear h key records → AreCountsNamed cap h key records
 
 -- and the new ones are those by which the recording grows
-abbrev pub NewIsCounted : Type 0
-NewIsCounted = (cap : ℕ) (h : Holdings) (key : Key) (records : List DataRecord) → IsSound cap h →
+abbrev pub NewRecordsAreCounted : Type 0
+NewRecordsAreCounted = (cap : ℕ) (h : Holdings) (key : Key) (records : List DataRecord) →
+    IsSound cap h →
     IsWellFormed (Fragment key records) →
-    IsClear h key records → length (united (h key) records) ≡ length (h key) + new_of (h key)
+    IsClear h key records → length (union (h key) records) ≡ length (h key) + count_new (h key)
     records
 
 -- a member of the list that was accepted when it came has the record under the key
@@ -146,8 +149,8 @@ RefusedChangesNothing = (cap : ℕ) (h : Holdings) (submission : Parsed) → IsS
 
 -- A recording's own records are accepted by its holdings with nothing new.
 -- Where nothing is held they are all new, and leave exactly that recording.
-abbrev pub OwnList : Type 0
-OwnList = (cap : ℕ) (h : Holdings) (k : Key) → IsSound cap h → h k ≢ [] →
+abbrev pub OwnRecordsAreKnown : Type 0
+OwnRecordsAreKnown = (cap : ℕ) (h : Holdings) (k : Key) → IsSound cap h → h k ≢ [] →
     (reply cap h (Fragment k (h k)) ≡ Accepted k 0 (length (h k))) ×
     (reply cap nothing_held (Fragment k (h k)) ≡ Accepted k (length (h k)) 0) ×
     (after_one cap nothing_held (Fragment k (h k)) ≡ (λ q. cond (same_key k q) (h k) []))

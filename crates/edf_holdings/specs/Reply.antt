@@ -10,8 +10,8 @@ use Rattle.edf_fragment.specs.declared.fault.FragmentFault.{FragmentFault}
 use Rattle.edf_fragment.specs.Parsed.{Parsed, Fragment, Fault}
 use Rattle.edf_fragment.specs.Sound.{AreSound, MayBegin}
 use Rattle.edf_holdings.specs.Clash.{clashes}
-use Rattle.edf_holdings.specs.Rising.{united, new_of}
-use Rattle.edf_holdings.specs.Holdings.{Holdings, put}
+use Rattle.edf_holdings.specs.Rising.{union, count_new}
+use Rattle.edf_holdings.specs.Holdings.{Holdings, with_records}
 
 -- a fragment as bytes spell them: by a law bytes amount to nothing else
 abbrev pub IsWellFormed : Parsed → Type 0
@@ -27,12 +27,13 @@ has_no_clash d xs records = list_all (λ r. list_all (λ s. not (clashes d r s))
 abbrev pub fits : ℕ → Key → List DataRecord → Holdings → Bool
 fits cap key records h =
     has_no_clash (duration_of key.duration) (h key) records
-    && (nat_eq (new_of (h key) records) 0 || nat_le (length (united (h key) records)) cap)
+    && (nat_eq (count_new (h key) records) 0 || nat_le (length (union (h key) records)) cap)
 
 -- what one submission leaves: the records of a fragment that fits join those of its key, and
 -- nothing else changes anything
 unfoldable pub after_one : ℕ → Holdings → Parsed → Holdings
-after_one cap h (Fragment key records) = cond (fits cap key records h) (put key records h) h
+after_one cap h (Fragment key records) =
+    cond (fits cap key records h) (with_records key records h) h
 after_one cap h (Fault fault) = h
 
 -- what a list of submissions leaves: each meets what those before it left
@@ -71,13 +72,13 @@ first_clash d xs [] = None
 first_clash d xs (r ∷ rs) = clash_or r (find (clashes d r) xs) (first_clash d xs rs)
 
 -- some are new, and there is no room for them
-abbrev pub is_past : ℕ → ℕ → ℕ → Bool
-is_past cap held new = nat_lt 0 new && nat_lt cap (held + new)
+abbrev pub exceeds_cap : ℕ → ℕ → ℕ → Bool
+exceeds_cap cap held new = nat_lt 0 new && nat_lt cap (held + new)
 
 -- the answer where `held` are held and `new` of `all` would be new
 abbrev pub reply_to_counts : ℕ → Key → ℕ → ℕ → ℕ → Reply
 reply_to_counts cap key held new all =
-    cond (is_past cap held new) (Conflicts (Full held new cap)) (Accepted key new (all - new))
+    cond (exceeds_cap cap held new) (Conflicts (Full held new cap)) (Accepted key new (all - new))
 
 -- the conflict of a clash between records that start here and there
 abbrev pub conflict_of_clash : ℕ → ℕ → Conflict
@@ -89,7 +90,7 @@ abbrev pub reply_to_clash : ℕ → Key → List DataRecord → List DataRecord 
 reply_to_clash cap key records xs (Some p) =
     Conflicts (conflict_of_clash p.0.start p.1.start)
 reply_to_clash cap key records xs None =
-    reply_to_counts cap key (length xs) (new_of xs records) (length records)
+    reply_to_counts cap key (length xs) (count_new xs records) (length records)
 
 -- what is answered to one submission: its fault of form, else its first clash, else `Full`, else
 -- that it is accepted

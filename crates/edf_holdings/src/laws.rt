@@ -2,8 +2,9 @@
 
 ghost use Rattle.edf_holdings.specs.Laws.{ParsedIsWellFormed, NothingIsSound, StaysSound};
 ghost use Rattle.edf_holdings.specs.Laws.{AddStaysSound};
-ghost use Rattle.edf_holdings.specs.Laws.{HeldIsKnown, AcceptedAgain, RefusedAgain, RepeatTakenOut};
-ghost use Rattle.edf_holdings.specs.Laws.{FromTheFront, AnyOrder, Reordered, OneIsConflictFree};
+ghost use Rattle.edf_holdings.specs.Laws.{HeldIsKnown, AcceptedAgain, RefusedAgain};
+ghost use Rattle.edf_holdings.specs.Laws.{RepeatsChangeNothing};
+ghost use Rattle.edf_holdings.specs.Laws.{ResentFromStart, AnyOrder, Reordered, OneIsConflictFree};
 ghost use Rattle.edf_holdings.specs.Laws.{Recut};
 ghost use Rattle.edf_holdings.specs.Laws.{SameRecordsStayConflictFree};
 
@@ -21,8 +22,8 @@ pub fn once()
     ensures held { HeldIsKnown }
     ensures accepted { AcceptedAgain }
     ensures refused { RefusedAgain }
-    ensures taken_out { RepeatTakenOut }
-    ensures front { FromTheFront }
+    ensures taken_out { RepeatsChangeNothing }
+    ensures front { ResentFromStart }
 {}
 
 /// A list that is free of conflicts is accepted whole; reordered, or with repeats, it is as free

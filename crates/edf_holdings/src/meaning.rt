@@ -2,11 +2,13 @@
 //! nothing.
 
 ghost use Rattle.edf_holdings.specs.Meaning.{SameKeyIsEqual, SameRecordIsEqual, TestIsClash};
-ghost use Rattle.edf_holdings.specs.Meaning.{HoldsIsContains, ListIsSet, HoldingsAreSets};
+ghost use Rattle.edf_holdings.specs.Meaning.{TestIsContains, ListIsSet, HoldingsAreSets};
 ghost use Rattle.edf_holdings.specs.Meaning.{JoinedHasBoth, AllHasBoth, TestIsFits};
-ghost use Rattle.edf_holdings.specs.Meaning.{AcceptedWhereFits, ClashIsNamed, ClashIsThere};
-ghost use Rattle.edf_holdings.specs.Meaning.{CountsAreNamed, NewIsCounted, AfterHasAccepted};
-ghost use Rattle.edf_holdings.specs.Meaning.{RefusedChangesNothing, OwnList, NearTwo};
+ghost use Rattle.edf_holdings.specs.Meaning.{AcceptedWhereFits, RepliesNameTheClash};
+ghost use Rattle.edf_holdings.specs.Meaning.{FirstClashExists};
+ghost use Rattle.edf_holdings.specs.Meaning.{CountsAreNamed, NewRecordsAreCounted};
+ghost use Rattle.edf_holdings.specs.Meaning.{AfterHasAccepted};
+ghost use Rattle.edf_holdings.specs.Meaning.{RefusedChangesNothing, OwnRecordsAreKnown, NearTwo};
 ghost use Rattle.edf_holdings.specs.Meaning.{NearIsSelected};
 ghost use Rattle.edf_holdings.specs.Keys.{KeysAreOne};
 
@@ -15,7 +17,7 @@ pub fn tests()
     ensures key { SameKeyIsEqual }
     ensures record { SameRecordIsEqual }
     ensures clash { TestIsClash }
-    ensures holds { HoldsIsContains }
+    ensures holds { TestIsContains }
 {}
 
 /// Rising lists and sound holdings are sets of data records, and the lists of keys that hold any
@@ -32,13 +34,13 @@ pub fn sets()
 pub fn intake()
     ensures fits { TestIsFits }
     ensures accepted { AcceptedWhereFits }
-    ensures named { ClashIsNamed }
-    ensures there { ClashIsThere }
+    ensures named { RepliesNameTheClash }
+    ensures there { FirstClashExists }
     ensures counts { CountsAreNamed }
-    ensures new { NewIsCounted }
+    ensures new { NewRecordsAreCounted }
     ensures after { AfterHasAccepted }
     ensures refused { RefusedChangesNothing }
-    ensures own { OwnList }
+    ensures own { OwnRecordsAreKnown }
 {}
 
 /// The records near a start are two at most, and what is selected by their starts.

@@ -7,7 +7,7 @@ use Rattle.std.proofs.lemmas.Bool.{cond-true, cond-false}
 use Rattle.edf_header.specs.Key.{Key}
 use Rattle.edf_fragment.specs.Fragment.{DataRecord}
 use Rattle.edf_fragment.specs.Parsed.{Fragment}
-use Rattle.edf_holdings.specs.Holdings.{Holdings, put}
+use Rattle.edf_holdings.specs.Holdings.{Holdings, with_records}
 use Rattle.edf_holdings.specs.Reply.{Conflict, Overlap, Differs, Full, conflict_of_clash}
 use Rattle.edf_holdings.specs.Reply.{IsWellFormed, Reply, Conflicts, Accepted, reply, after_one}
 use Rattle.edf_holdings.proofs.Joining.{IsGood}
@@ -56,7 +56,7 @@ names_clash key h records findings starts some met =
 pub taken_of : (cap : ℕ) (key : Key) (h : Holdings) (records : List DataRecord)
     (findings : Findings) →
     CountsAll key h records findings →
-    Taken cap key h records (put key records h) findings.new findings.known
+    Taken cap key h records (with_records key records h) findings.new findings.known
 taken_of cap key h records findings k = record {
   free = k.free;
   new_is = k.new_is;
@@ -111,7 +111,7 @@ full_here cap room key h records findings k it past =
     let all : length (h key) + room ≡ cap =
     elim it.enough [ inl same ↦ same | inr many ↦ absurd (omega (arith, many, past, k.all)) ] in
     let same : length (h key) ≡ cap - room = omega (arith, all) in
-    reply_counted cap key h records (put key records h) findings.new findings.known
+    reply_counted cap key h records (with_records key records h) findings.new findings.known
     (taken_of cap key h records findings k)
     ∙ full-by-counts cap key (length (h key)) findings.new (findings.known + findings.new)
     (omega (arith, past)) (omega (arith, past, all))
@@ -123,7 +123,7 @@ pub accepted_here : (cap room : ℕ) (key : Key) (h : Holdings) (records : List 
     reply cap h (Fragment key records) ≡ Accepted key findings.new findings.known
 accepted_here cap room key h records findings k all low =
     let known : findings.known + findings.new - findings.new ≡ findings.known = omega arith in
-    reply_counted cap key h records (put key records h) findings.new findings.known
+    reply_counted cap key h records (with_records key records h) findings.new findings.known
     (taken_of cap key h records findings k)
     ∙ accepted-by-counts cap key (length (h key)) findings.new (findings.known + findings.new)
     (inr (omega (arith, low, all)))
@@ -133,7 +133,8 @@ pub left_here : (cap room : ℕ) (key : Key) (h : Holdings) (records : List Data
     (findings : Findings) → IsWellFormed (Fragment key records) → IsGood cap h →
     CountsAll key h records findings
     → length (h key) + room ≤ cap → findings.new ≤ room →
-    put key records h ≡ after_one cap h (Fragment key records)
+    with_records key records h ≡ after_one cap h (Fragment key records)
 left_here cap room key h records findings sound good k all low =
-    after_accepted cap key h records (put key records h) findings.new findings.known sound good
+    after_accepted cap key h records
+    (with_records key records h) findings.new findings.known sound good
     (taken_of cap key h records findings k) (omega (arith, low, all))

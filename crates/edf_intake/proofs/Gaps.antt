@@ -8,9 +8,9 @@ use Rattle.std.proofs.lemmas.List.Elements.{All-cons, All-head, All-tail, All-we
 use Rattle.edf_header.specs.Key.{Key}
 use Rattle.edf_fragment.specs.Fragment.{DataRecord}
 use Rattle.edf_holdings.specs.Same.{same_record}
-use Rattle.edf_holdings.specs.Clash.{meets, near_of}
-use Rattle.edf_holdings.specs.Rising.{inserted}
-use Rattle.edf_holdings.specs.Holdings.{Holdings, put}
+use Rattle.edf_holdings.specs.Clash.{intervals_overlap, near_of}
+use Rattle.edf_holdings.specs.Rising.{insert}
+use Rattle.edf_holdings.specs.Holdings.{Holdings, with_records}
 use Rattle.edf_holdings.proofs.Joining.{put_here}
 use Rattle.edf_store.specs.Transaction.{IsNextStart}
 use Rattle.edf_intake.specs.Inside.Gap.{IsOutside, IsGap}
@@ -18,7 +18,7 @@ use Rattle.edf_intake.specs.declared.gap.Gap.{Gap}
 
 misses : (d start from : ℕ) (until : Option ℕ) (x : DataRecord) → from + d ≤ start →
     IfSome until (λ u. start + d ≤ u)
-    → (x.start ≤ from) ⊎ IsSomeAnd until (λ u. u ≤ x.start) → meets d start x ≡ false
+    → (x.start ≤ from) ⊎ IsSomeAnd until (λ u. u ≤ x.start) → intervals_overlap d start x ≡ false
 misses d start from until x late early (inl before) =
     and_left (nat_lt start (x.start + d)) (nat_lt x.start (start + d))
     (le-ltb start (x.start + d) (omega (arith, late, before)))
@@ -32,7 +32,7 @@ pub none_near : (d start : ℕ) (gap : Gap) (records : List DataRecord) → gap.
 none_near d start gap [] late early all = refl
 none_near d start gap (x ∷ xs) late early all =
     let out = λ (r : DataRecord). IsOutside gap r.start in
-    cond-false (meets d start x) (x ∷ near_of d start xs) (near_of d start xs)
+    cond-false (intervals_overlap d start x) (x ∷ near_of d start xs) (near_of d start xs)
     (misses d start gap.from gap.until x late early (All-head out x xs all))
     ∙ none_near d start gap xs late early (All-tail out x xs all)
 
@@ -51,22 +51,22 @@ next_gap start records (Some u) (later, there, all) =
 
 -- a record put in
 inserted_all : (P : DataRecord → Type 0) (r : DataRecord) (xs : List DataRecord) → P r → All P xs →
-    All P (inserted r xs)
+    All P (insert r xs)
 inserted_all P r [] it all = All-cons P r [] it all
 inserted_all P r (x ∷ xs) it all =
     cond_both (same_record x r) (x ∷ xs)
-    (cond (nat_lt r.start x.start) (r ∷ x ∷ xs) (x ∷ inserted r xs)) (λ (l : List DataRecord).
+    (cond (nat_lt r.start x.start) (r ∷ x ∷ xs) (x ∷ insert r xs)) (λ (l : List DataRecord).
     All P l)
     (λ _. all)
-    (λ _. cond_both (nat_lt r.start x.start) (r ∷ x ∷ xs) (x ∷ inserted r xs)
+    (λ _. cond_both (nat_lt r.start x.start) (r ∷ x ∷ xs) (x ∷ insert r xs)
     (λ (l : List DataRecord). All P l)
     (λ _. All-cons P r (x ∷ xs) it all)
-    (λ _. All-cons P x (inserted r xs) (All-head P x xs all)
+    (λ _. All-cons P x (insert r xs) (All-head P x xs all)
     (inserted_all P r xs it (All-tail P x xs all))))
 
 pub put_gap : (key : Key) (r : DataRecord) (h : Holdings) (gap : Option Gap) →
     IfSome gap (λ it. it.from ≡ r.start) → IfSome gap (IsGap (h key)) →
-    IfSome gap (IsGap (put key (r ∷ []) h key))
+    IfSome gap (IsGap (with_records key (r ∷ []) h key))
 put_gap key r h None is all = tt
 put_gap key r h (Some gap) is all =
     subst (λ (l : List DataRecord). IsGap l gap) (sym (put_here key (r ∷ []) h))

@@ -11,7 +11,7 @@ use Rattle.edf_fragment.specs.Fragment.{DataRecord}
 use Rattle.edf_fragment.specs.Whole.{HasReadRecords}
 use Rattle.edf_fragment.specs.declared.advance.Progress.{Progress}
 use Rattle.edf_holdings.specs.Clash.{near_of}
-use Rattle.edf_holdings.specs.Rising.{IsApart}
+use Rattle.edf_holdings.specs.Rising.{StartsAreSpaced}
 use Rattle.edf_holdings.specs.Holdings.{Holdings}
 use Rattle.edf_holdings.proofs.OneByOne.{Taken, Stopped, TakenOrStopped, still_stopped, after_clash}
 use Rattle.edf_holdings.proofs.OneByOne.{after_known, after_added, after_full}
@@ -86,9 +86,10 @@ next_in_all cap held asked room key r h from t to it below next =
 
 -- one record more
 module _ (cap room : ℕ) (key : Key) (h : Holdings) (is_key : IsKey key)
-    (held : IsApart (duration_of key.duration) 0 (h key)) (space : length (h key) + room ≡ cap)
+    (held : StartsAreSpaced (duration_of key.duration) 0 (h key))
+    (space : length (h key) + room ≡ cap)
     (rs : List DataRecord) (r : DataRecord)
-    (a : IsApart (duration_of key.duration) 0 (rs ++ r ∷ [])) (t : Holdings) where
+    (a : StartsAreSpaced (duration_of key.duration) 0 (rs ++ r ∷ [])) (t : Holdings) where
   counted_next : (new known : ℕ) (t' : Holdings) (to : Findings) (verdict : Verdict) →
       Taken cap key h rs t new known
       → IsVerdict r (near_of (duration_of key.duration) r.start (t key)) verdict

@@ -14,8 +14,8 @@ use Rattle.edf_fragment.specs.declared.advance.Progress.{Progress}
 use Rattle.edf_fragment.specs.declared.advance.ReaderState.TheVariants.{Reading}
 use Rattle.edf_fragment.proofs.Fragments.{reads_none, one_more_read, all_read}
 use Rattle.edf_fragment.proofs.Sound.{read-key, read-sound, read-begins}
-use Rattle.edf_holdings.specs.Rising.{IsApart, united}
-use Rattle.edf_holdings.specs.Holdings.{Holdings, put}
+use Rattle.edf_holdings.specs.Rising.{StartsAreSpaced, union}
+use Rattle.edf_holdings.specs.Holdings.{Holdings, with_records}
 use Rattle.edf_holdings.proofs.Members.{In, Within, joined_has}
 use Rattle.edf_holdings.proofs.Joining.{IsGood-from_sound, apart-sound, put_here}
 use Rattle.edf_holdings.proofs.OneByOne.{Taken, TakenOrStopped, nothing_read, taken_room}
@@ -45,11 +45,11 @@ module _ {S : Type 0} (g : Ghosts S) (first : StoreModel S) (l : Layout)
     (space : HasCleanDisk (at g first) → (h : Holdings) → Sees g first h →
     IsRoom first.cap (length (h l.key)) (most_records l.count) room) where
   held_apart : HasCleanDisk (at g first) → (h : Holdings) → Sees g first h →
-      IsApart (duration_of l.key.duration) 0 (h l.key)
+      StartsAreSpaced (duration_of l.key.duration) 0 (h l.key)
   held_apart clean h seen = (IsGood-from_sound first.cap h (seen clean).sound).apart l.key
 
   read_apart : (rest : Option (List ℕ)) (records : List DataRecord) (p : Progress) →
-      HasReadRecords l left rest records p → IsApart (duration_of l.key.duration) 0 records
+      HasReadRecords l left rest records p → StartsAreSpaced (duration_of l.key.duration) 0 records
   read_apart rest records p read =
       apart-sound l.key 0 records (read-sound before left rest l records p header read)
 
@@ -101,12 +101,13 @@ module _ {S : Type 0} (g : Ghosts S) (first : StoreModel S) (l : Layout)
       let taken : Taken first.cap l.key some.0 w.records m.0 findings.new findings.known =
       subst (λ (o : Option Starts). TakenOrStopped first.cap l.key some.0 w.records m.0 findings.new
       findings.known (starts_of o)) none m.2 in
-      let held : h ≡ put l.key w.records some.0 = sym (seen_is_one g now m.0 h clean m.1 seen)
+      let held : h ≡ with_records l.key w.records some.0 =
+      sym (seen_is_one g now m.0 h clean m.1 seen)
       ∙ taken.whole (omega (arith, low, (space (was clean) some.0 start).fits)) in
-      let all : h l.key ≡ united (some.0 l.key) w.records = ap (λ (z : Holdings). z l.key) held
+      let all : h l.key ≡ union (some.0 l.key) w.records = ap (λ (z : Holdings). z l.key) held
       ∙ put_here l.key w.records some.0 in
       let before_it : w.records ≡ [] =
-      empty_within w.records (united (some.0 l.key) w.records)
+      empty_within w.records (union (some.0 l.key) w.records)
       (joined_has (some.0 l.key) w.records) (sym all ∙ empty) in
       let read : HasReadRecords l left rest (w.records ++ r ∷ []) q =
       (one_more_read l left mid rest w.records p q r w.read going answer).0 in
@@ -165,7 +166,7 @@ module _ {S : Type 0} (g : Ghosts S) (first : StoreModel S) (l : Layout)
       ReadsFragment other rest l w.records)
       × (HasCleanDisk (at g now) → (h : Holdings) → Sees g first h →
       AreFindings l.key h w.records findings
-      × (MayBeAccepted room findings → Sees g now (put l.key w.records h)))
+      × (MayBeAccepted room findings → Sees g now (with_records l.key w.records h)))
   at_end now mid rest p q findings w going answer was = (
     (λ other head. all_read l other left mid rest w.records p q head w.read going answer),
     (λ clean h seen.

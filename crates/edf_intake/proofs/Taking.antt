@@ -9,7 +9,7 @@ use Rattle.edf_field.specs.Number.{duration_of}
 use Rattle.edf_header.specs.Key.{Key}
 use Rattle.edf_fragment.specs.Fragment.{DataRecord}
 use Rattle.edf_holdings.specs.Clash.{near_of}
-use Rattle.edf_holdings.specs.Holdings.{Holdings, put}
+use Rattle.edf_holdings.specs.Holdings.{Holdings, with_records}
 use Rattle.edf_store.specs.Held.{StoreModel, at, Stays}
 use Rattle.edf_store.specs.Transaction.{AreSeen, Sees, SeesHoldings, IsOf, SeesOn, SeesAsBefore}
 use Rattle.edf_store.specs.Transaction.{HasNoMore, AreNear, IsNextStartOf, MayTake, IsAdded}
@@ -248,7 +248,7 @@ module _ {S : Type 0} (g : Ghosts S) (id : ℤ) (key : Key) (r : DataRecord) (ro
         module _ (w : StoreTx S) (stayed : Stays g u.store.now w.store.now)
             (added : IsAdded g u.store.now w.store.now id r) where
           added_seen : (h : Holdings) → Sees g s.store.now h →
-              Sees g w.store.now (put key (r ∷ []) h)
+              Sees g w.store.now (with_records key (r ∷ []) h)
           added_seen h seen =
               let seen_then : AreSeen w.store.now.cap (at g u.store.now) h =
               subst (λ (n : ℕ). AreSeen n (at g u.store.now) h) (sym stayed.cap)
@@ -261,8 +261,8 @@ module _ {S : Type 0} (g : Ghosts S) (id : ℤ) (key : Key) (r : DataRecord) (ro
               let was : HasCleanDisk (at g u.store.now) = omega (arith, stayed.crash.clean) in
               let some = running.running.sees (omega (arith, read.stays.crash.clean, was)) in
               let first : Sees g s.store.now some.0 = λ _. some.1 in
-              let one : put key (r ∷ []) some.0 ≡ t =
-              seen_is_one g w.store.now (put key (r ∷ []) some.0) t clean
+              let one : with_records key (r ∷ []) some.0 ≡ t =
+              seen_is_one g w.store.now (with_records key (r ∷ []) some.0) t clean
               (added_seen some.0 first) seen in
               subst (λ (z : Holdings). IfSome found.gap (IsGap (z key))) one
               (put_gap key r some.0 found.gap is.from (is.gap was some.0 first))
@@ -279,9 +279,9 @@ module _ {S : Type 0} (g : Ghosts S) (id : ℤ) (key : Key) (r : DataRecord) (ro
             recording = added.ids id key there;
             only = no_more g s.store.now u.store.now w.store.now stayed read.only added.only;
             counts = λ clean h seen. (
-              put key (r ∷ []) h,
+              with_records key (r ∷ []) h,
               added_seen h seen,
-              verdict_next room key r from.findings _ New none h (put key (r ∷ []) h)
+              verdict_next room key r from.findings _ New none h (with_records key (r ∷ []) h)
                   (verdict_is New same (omega (arith, stayed.crash.clean)) h seen)
                   ((λ _. refl), (λ full. absurd (omega (arith, low, full))), refl),
             );

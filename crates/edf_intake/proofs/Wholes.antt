@@ -10,8 +10,8 @@ use Rattle.edf_fragment.specs.Parsed.{Fragment}
 use Rattle.edf_fragment.specs.Reading.{ReadsHeader}
 use Rattle.edf_fragment.specs.Whole.{ReadsFragment}
 use Rattle.edf_fragment.proofs.Sound.{spelled-key, spelled-sound, spelled-begins, spelled-some}
-use Rattle.edf_holdings.specs.Rising.{united}
-use Rattle.edf_holdings.specs.Holdings.{Holdings, put}
+use Rattle.edf_holdings.specs.Rising.{union}
+use Rattle.edf_holdings.specs.Holdings.{Holdings, with_records}
 use Rattle.edf_holdings.specs.Reply.{IsWellFormed, reply}
 use Rattle.edf_holdings.proofs.Members.{joined_has}
 use Rattle.edf_holdings.proofs.Joining.{IsGood-from_sound, put_here, put_grows}
@@ -44,21 +44,22 @@ pub still_whole : {S : Type 0} (g : Ghosts S) (first made last : StoreModel S) (
     → (HasCleanDisk (at g last) → HasCleanDisk (at g made)) →
     (HasCleanDisk (at g made) → HasCleanDisk (at g first))
     → (HasCleanDisk (at g last) → (h : Holdings) → Sees g first h →
-    Sees g last (put key records h)) → EachHasRecord g last
+    Sees g last (with_records key records h)) → EachHasRecord g last
 still_whole g first made last key records some whole running most none was_made was_first then clean
     h id k seen under =
     let start = running (was_first (was_made clean)) in
     let begun : Sees g first start.0 = λ _. start.1 in
-    let one : put key records start.0 ≡ h =
-    seen_is_one g last (put key records start.0) h clean (then clean start.0 begun) seen in
+    let one : with_records key records start.0 ≡ h =
+    seen_is_one g last (with_records key records start.0) h clean (then clean start.0 begun) seen in
     let there = none clean id k (under.there clean) in
     subst (λ (z : Holdings). z k ≢ []) one
     (elim (most (was_made clean) id k there) [
       | inl old ↦ λ e. whole (was_first (was_made clean)) start.0 id k begun
           (record { key = old.key; there = λ _. old })
-          (empty_within (start.0 k) (put key records start.0 k) (put_grows key records start.0 k) e)
-      | inr same ↦ subst (λ (q : Key). put key records start.0 q ≢ []) (sym same)
-          (λ e. none_there records some (empty_within records (united (start.0 key) records)
+          (empty_within (start.0 k) (with_records key records start.0 k)
+          (put_grows key records start.0 k) e)
+      | inr same ↦ subst (λ (q : Key). with_records key records start.0 q ≢ []) (sym same)
+          (λ e. none_there records some (empty_within records (union (start.0 key) records)
           (joined_has (start.0 key) records) (sym (put_here key records start.0) ∙ e)))
     ])
 
@@ -118,7 +119,7 @@ module _ {S : Type 0} (g : Ghosts S) (first made last : StoreTx S) (from mid to 
       (few_records from.remaining to.remaining l taken.records fragment) (there.room clean h seen))
 
   put_seen : MayBeAccepted d.room findings → HasCleanDisk (at g last.store.now) → (h : Holdings) →
-      Sees g first.store.now h → Sees g last.store.now (put l.key taken.records h)
+      Sees g first.store.now h → Sees g last.store.now (with_records l.key taken.records h)
   put_seen may clean h seen = (taken.found clean h (there.same h seen)).1 may
 
   pub is_accepted : MayBeAccepted d.room findings → EachHasRecord g first.store.now →

@@ -1,10 +1,11 @@
 //! Laws of lists of submissions: each function has laws for a contract, and does nothing.
 
-ghost use Rattle.edf_holdings.specs.Laws.{HeldIsKnown, AcceptedAgain, RefusedAgain, RepeatTakenOut};
-ghost use Rattle.edf_holdings.specs.Laws.{FromTheFront, AnyOrder, Reordered, OneIsConflictFree};
+ghost use Rattle.edf_holdings.specs.Laws.{HeldIsKnown, AcceptedAgain, RefusedAgain};
+ghost use Rattle.edf_holdings.specs.Laws.{RepeatsChangeNothing};
+ghost use Rattle.edf_holdings.specs.Laws.{ResentFromStart, AnyOrder, Reordered, OneIsConflictFree};
 ghost use Rattle.edf_holdings.specs.Laws.{Recut};
 ghost use Rattle.edf_holdings.specs.Laws.{SameRecordsStayConflictFree};
-ghost use Rattle.edf_holdings.specs.Meaning.{OwnList};
+ghost use Rattle.edf_holdings.specs.Meaning.{OwnRecordsAreKnown};
 ghost use Rattle.edf_intake.specs.Batch.{InTurnIsAsList};
 
 use sqlite::Alter;
@@ -17,8 +18,8 @@ pub fn once()
     ensures held { HeldIsKnown }
     ensures accepted { AcceptedAgain }
     ensures refused { RefusedAgain }
-    ensures taken_out { RepeatTakenOut }
-    ensures front { FromTheFront }
+    ensures taken_out { RepeatsChangeNothing }
+    ensures front { ResentFromStart }
 {
     edf_holdings::laws::once();
 }
@@ -39,7 +40,7 @@ pub fn any_order()
 pub fn recut()
     ensures same { Recut }
     ensures free { SameRecordsStayConflictFree }
-    ensures own { OwnList }
+    ensures own { OwnRecordsAreKnown }
 {
     edf_holdings::laws::recut();
     edf_holdings::meaning::intake();

@@ -22,7 +22,7 @@ use Rattle.edf_tal.proofs.Cited.{one-writing}
 use Rattle.edf_fragment.specs.Fragment.{DataRecord}
 use Rattle.edf_holdings.specs.Same.{same_key}
 use Rattle.edf_fragment.specs.Sound.{IsSoundRecord, MayBegin}
-use Rattle.edf_holdings.specs.Rising.{IsApart}
+use Rattle.edf_holdings.specs.Rising.{StartsAreSpaced}
 use Rattle.edf_holdings.specs.Holdings.{Holdings, IsSound}
 use Rattle.edf_holdings.proofs.Same.{same_key-Decides, same_key-true}
 use Rattle.edf_holdings.proofs.Joining.{IsGood-from_sound}
@@ -181,7 +181,7 @@ past first d n low =
     let b : nat_lt n (first + d) ≡ false = grind (arith, nat_tests) in
     rw (a, b) refl
 
-none_past : (first d low : ℕ) (xs : List DataRecord) → first + d ≤ low → IsApart d low xs →
+none_past : (first d low : ℕ) (xs : List DataRecord) → first + d ≤ low → StartsAreSpaced d low xs →
     sum_by (row_hits first d) (map record_cells xs) ≡ 0
 none_past first d low [] far apart = refl
 none_past first d low (x ∷ xs) far apart =
@@ -190,7 +190,7 @@ none_past first d low (x ∷ xs) far apart =
     let sum = sum_by-cons (row_hits first d) (record_cells x) (map record_cells xs) in
     omega (arith, one, more, sum)
 
-one_inside : (first d low : ℕ) (xs : List DataRecord) → IsApart d low xs →
+one_inside : (first d low : ℕ) (xs : List DataRecord) → StartsAreSpaced d low xs →
     sum_by (row_hits first d) (map record_cells xs) ≤ 1
 one_inside first d low [] apart = omega arith
 one_inside first d low (x ∷ xs) apart =
@@ -215,7 +215,7 @@ one_inside first d low (x ∷ xs) apart =
         let sum = sum_by-cons (row_hits first d) (record_cells x) (map record_cells xs) in
         omega (arith, zero_here, more, sum)
 
-pub not-near : (d low : ℕ) (xs : List DataRecord) → IsApart d low xs →
+pub not-near : (d low : ℕ) (xs : List DataRecord) → StartsAreSpaced d low xs →
     ¬ AreTooNear (map record_cells xs) d
 not-near d low xs apart near =
     let f = row_hits near.first d in
@@ -251,7 +251,8 @@ not-late k (x ∷ xs) begins (start, is, late) =
     begins)
 
 pub not-bad-records : (cap : ℕ) (k : Key) (xs : List DataRecord) →
-    AllByRecursion (IsSoundRecord k) xs → IsApart (duration_of k.duration) 0 xs → MayBegin k xs →
+    AllByRecursion (IsSoundRecord k) xs → StartsAreSpaced (duration_of k.duration) 0 xs →
+    MayBegin k xs →
     length xs ≤ cap → map record_cells xs ≢ []
     → ¬ AreBadRecords cap k (map record_cells xs)
 not-bad-records cap k xs sound apart begins few some (bad_row row c bad) =

@@ -10,8 +10,8 @@ use Rattle.edf_fragment.specs.Fragment.{DataRecord, IsFragmentFile}
 use Rattle.edf_fragment.specs.Parsed.{Parsed, Fragment, ParsesTo}
 use Rattle.edf_fragment.proofs.Parsed.{one-parse}
 use Rattle.edf_holdings.specs.Clash.{NoClash}
-use Rattle.edf_holdings.specs.Rising.{united}
-use Rattle.edf_holdings.specs.Holdings.{Holdings, IsSound, put, nothing_held}
+use Rattle.edf_holdings.specs.Rising.{union}
+use Rattle.edf_holdings.specs.Holdings.{Holdings, IsSound, with_records, nothing_held}
 use Rattle.edf_holdings.specs.Reply.{IsWellFormed, IsAccepted, after, replies}
 use Rattle.edf_holdings.specs.ConflictFree.{IsFragment, IsConflictFree, Has, SameRecords}
 use Rattle.edf_holdings.specs.Laws.{AreWellFormed}
@@ -128,9 +128,9 @@ whole k records = Fragment k records ∷ []
 module _ (cap : ℕ) (h : Holdings) (k : Key) (records : List DataRecord) (sound : IsSound cap h)
     (none : h k ≡ []) (told : IsWellFormed (Fragment k records)) where
   -- what the key holds with them is what it would hold where nothing was held
-  as-from-nothing : put k records nothing_held k ≡ united (h k) records
+  as-from-nothing : with_records k records nothing_held k ≡ union (h k) records
   as-from-nothing = put_here k records nothing_held
-      ∙ ap (λ (l : List DataRecord). united l records) (sym none)
+      ∙ ap (λ (l : List DataRecord). union l records) (sym none)
 
   alone-free : length records ≤ cap → IsConflictFree cap h (whole k records)
   alone-free few =
@@ -152,7 +152,7 @@ module _ (cap : ℕ) (h : Holdings) (k : Key) (records : List DataRecord) (sound
         told,
         tt,
       ) (alone-free few)).1
-      ∙ put_here k records h ∙ ap (λ (l : List DataRecord). united l records) none
+      ∙ put_here k records h ∙ ap (λ (l : List DataRecord). union l records) none
       ∙ from_nothing (duration_of k.duration) 0 records (lasting k told.0) apart apart
 
 -- submissions that hold just the data records of the whole file
@@ -160,7 +160,7 @@ pub told-as-whole : (cap : ℕ) (h : Holdings) (k : Key) (records : List DataRec
     (tolds : List Parsed) → IsSound cap h → h k ≡ [] → IsWellFormed (Fragment k records) →
     length records ≤ cap → AreWellFormed tolds → AllByRecursion IsFragment tolds →
     SameRecords (whole k records) tolds →
-    All IsAccepted (replies cap h tolds) × (after cap h tolds ≡ put k records h)
+    All IsAccepted (replies cap h tolds) × (after cap h tolds ≡ with_records k records h)
     × (after cap h tolds k ≡ records)
 told-as-whole cap h k records tolds sound none told few each fragments same =
     let free = alone-free cap h k records sound none told few in

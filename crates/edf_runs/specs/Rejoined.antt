@@ -5,7 +5,7 @@ use Rattle.edf_field.specs.Number.{duration_of}
 use Rattle.edf_header.specs.Key.{Key}
 use Rattle.edf_fragment.specs.Fragment.{DataRecord, IsFragmentFile}
 use Rattle.edf_fragment.specs.Parsed.{Parsed, ParsesTo}
-use Rattle.edf_holdings.specs.Holdings.{Holdings, IsSound, put}
+use Rattle.edf_holdings.specs.Holdings.{Holdings, IsSound, with_records}
 use Rattle.edf_holdings.specs.Reply.{after, IsAccepted, replies}
 use Rattle.edf_runs.specs.Runs.{IsRuns}
 use Rattle.edf_runs.specs.File.{IsRunFile}
@@ -29,5 +29,6 @@ RunsRejoin = (cap : ℕ) (h : Holdings) (bytes : List ℕ) (k : Key) (records : 
     IsFragmentFile bytes k records → length records ≤ cap →
     IsRuns (duration_of k.duration) records runs → AreRunFiles k runs files →
     AllZip ParsesTo files submissions →
-    All IsAccepted (replies cap h submissions) × (after cap h submissions ≡ put k records h)
+    All IsAccepted (replies cap h submissions)
+    × (after cap h submissions ≡ with_records k records h)
     × (after cap h submissions k ≡ records)

@@ -7,7 +7,7 @@ use Rattle.edf_fragment.specs.Fragment.{DataRecord}
 use Rattle.edf_fragment.specs.Sound.{AreSound}
 use Rattle.edf_fragment.specs.Parsed.{Parsed, ParsesTo}
 use Rattle.edf_canonical.specs.File.{IsCanonicalFile}
-use Rattle.edf_holdings.specs.Holdings.{Holdings, IsSound, put}
+use Rattle.edf_holdings.specs.Holdings.{Holdings, IsSound, with_records}
 use Rattle.edf_holdings.specs.Reply.{after, IsAccepted, replies}
 use Rattle.edf_runs.specs.ByOnset.{by_onset}
 use Rattle.edf_runs.specs.OneByOnset.{IsPieceOf, outside_count}
@@ -29,5 +29,5 @@ PiecesAndCardAreTaken = (cap : ℕ) (h : Holdings) (k : Key) (card : List DataRe
     All (λ piece. AreSound k 0 piece × IsPieceOf (duration_of k.duration) card piece) pieces →
     AreByOnsetOf k (card ∷ pieces) files → AllZip ParsesTo files submissions →
     All IsAccepted (replies cap h submissions)
-    × (Contains files whole → (after cap h submissions ≡ put k (by_onset card) h)
+    × (Contains files whole → (after cap h submissions ≡ with_records k (by_onset card) h)
     × (after cap h submissions k ≡ by_onset card))

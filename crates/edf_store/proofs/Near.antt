@@ -12,8 +12,8 @@ use Rattle.sqlite_value.proofs.OrderLemmas.{value_cmp-Int}
 use Rattle.sqlite_trees.specs.Tree.{Trees}
 use Rattle.edf_header.specs.Key.{Key}
 use Rattle.edf_fragment.specs.Fragment.{DataRecord}
-use Rattle.edf_holdings.specs.Clash.{meets, near_of}
-use Rattle.edf_holdings.specs.Rising.{IsApart}
+use Rattle.edf_holdings.specs.Clash.{intervals_overlap, near_of}
+use Rattle.edf_holdings.specs.Rising.{StartsAreSpaced}
 use Rattle.edf_holdings.specs.Holdings.{Holdings, IsSound}
 use Rattle.edf_tables.specs.Records.{records_of, shown_record, starts_between, starts_after}
 use Rattle.edf_tables.specs.Records.{HaveRisingStarts}
@@ -53,7 +53,7 @@ before_test start d s = elim (cases_Bool (nat_lt s (start + d))) [
     go (above l) m = absurd (omega (arith, l, m))
 
 near_test : (start d : ℕ) (row : Row) (x : DataRecord) → column row 2 ≡ Int (pos x.start) →
-    starts_between (pos start -ℤ pos d) (pos start +ℤ pos d) row ≡ meets d start x
+    starts_between (pos start -ℤ pos d) (pos start +ℤ pos d) row ≡ intervals_overlap d start x
 near_test start d row x e =
     ap (λ v. is_gt (value_cmp v (Int (pos start -ℤ pos d))) && is_lt
     (value_cmp v (Int (pos start +ℤ pos d)))) e
@@ -65,7 +65,8 @@ pub near_shown : (trees : Trees) (h : Holdings) (id : ℤ) (k : Key) (start d : 
     → map shown_record (filter (starts_between (pos start -ℤ pos d) (pos start +ℤ pos d))
     (records_of id (trees 2))) ≡ map record_cells (near_of d start (h k))
 near_shown trees h id k start d stand there =
-    from_show _ _ (show_filter _ (meets d start) (near_test start d) (records_of id (trees 2)) (h k)
+    from_show _ _ (show_filter _ (intervals_overlap d start) (near_test start d)
+    (records_of id (trees 2)) (h k)
     (shown_of trees h stand id k there))
 
 later_test : (after : ℤ) (row : Row) (x : DataRecord) → column row 2 ≡ Int (pos x.start) →
@@ -93,14 +94,15 @@ rows_rising trees cap h id k stand sound there =
     rows_rise 0 _ _ (shown_of trees h stand id k there) (sound.rising k)
 
 -- ---- one step of a walk
-pub low_first : (low : ℕ) (xs : List DataRecord) → IsApart 1 low xs → (n : ℕ) (r : DataRecord) →
+pub low_first : (low : ℕ) (xs : List DataRecord) → StartsAreSpaced 1 low xs →
+    (n : ℕ) (r : DataRecord) →
     slice_get xs n ≡ Some r → low ≤ r.start
 low_first low [] a n r e = absurd (let x : ◌≡◌ {A = Option DataRecord} None (Some r) = e in cc)
 low_first low (x ∷ xs) a zero r e = let same : x ≡ r = cc in
     omega (arith, a.0, ap (λ (y : DataRecord). y.start) same)
 low_first low (x ∷ xs) a (suc n) r e = omega (arith, a.0, low_first (x.start + 1) xs a.1 n r e)
 
-later_all : (after low : ℕ) (xs : List DataRecord) → IsApart 1 low xs → after < low →
+later_all : (after low : ℕ) (xs : List DataRecord) → StartsAreSpaced 1 low xs → after < low →
     filter (λ (r : DataRecord). is_gt (int_cmp (pos r.start) (pos after))) xs ≡ xs
 later_all after low [] a l = refl
 later_all after low (x ∷ xs) a l =
@@ -112,7 +114,8 @@ later_all after low (x ∷ xs) a l =
     (later_all after (x.start + 1) xs a.1 (omega (arith, a.0, l))))
 
 -- after the record at a place of a rising list come those that follow it
-pub later_place : (low : ℕ) (xs : List DataRecord) → IsApart 1 low xs → (n : ℕ) (r : DataRecord) →
+pub later_place : (low : ℕ) (xs : List DataRecord) → StartsAreSpaced 1 low xs →
+    (n : ℕ) (r : DataRecord) →
     slice_get xs n ≡ Some r → filter (λ (y : DataRecord).
     is_gt (int_cmp (pos y.start) (pos r.start))) xs ≡ drop (suc n) xs
 later_place low [] a n r e = absurd (let x : ◌≡◌ {A = Option DataRecord} None (Some r) = e in cc)
@@ -132,7 +135,7 @@ later_place low (x ∷ xs) a (suc n) r e =
     (pos_less x.start r.start (omega (arith, up)))) in
     rw no (later_place (x.start + 1) xs a.1 n r e)
 
-pub later_start : (low : ℕ) (xs : List DataRecord) → IsApart 1 low xs → (after : ℤ) →
+pub later_start : (low : ℕ) (xs : List DataRecord) → StartsAreSpaced 1 low xs → (after : ℤ) →
     after <ℤ pos low → filter (λ (r : DataRecord). is_gt (int_cmp (pos r.start) after)) xs ≡ xs
 later_start low [] a after l = refl
 later_start low (x ∷ xs) a after l =

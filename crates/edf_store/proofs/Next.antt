@@ -16,7 +16,7 @@ use Rattle.edf_time.specs.Civil.{window}
 use Rattle.edf_header.specs.Key.{Key}
 use Rattle.edf_fragment.specs.Fragment.{DataRecord}
 use Rattle.edf_fragment.specs.Sound.{IsSoundRecord}
-use Rattle.edf_holdings.specs.Rising.{IsApart}
+use Rattle.edf_holdings.specs.Rising.{StartsAreSpaced}
 use Rattle.edf_holdings.specs.Holdings.{Holdings}
 use Rattle.edf_tables.specs.Records.{records_of, starts_from}
 use Rattle.edf_rows.specs.Rows.{IsThere, StandFor}
@@ -60,13 +60,14 @@ IsNextOf from xs None = AllByRecursion (Earlier from) xs
 IsNextOf from xs (Some start) = (from ≤ start) × Contains (map (λ r. r.start) xs) start
     × AllByRecursion (Outside from start) xs
 
-all_later : (from start low : ℕ) (xs : List DataRecord) → IsApart 1 low xs → start ≤ low →
+all_later : (from start low : ℕ) (xs : List DataRecord) → StartsAreSpaced 1 low xs → start ≤ low →
     AllByRecursion (Outside from start) xs
 all_later from start low [] a l = tt
 all_later from start low (x ∷ xs) a l =
     (inr (omega (arith, a.0, l)), all_later from start (x.start + 1) xs a.1 (omega (arith, a.0, l)))
 
-first_from : (from : ℕ) (x : DataRecord) (xs : List DataRecord) → IsApart 1 (x.start + 1) xs →
+first_from : (from : ℕ) (x : DataRecord) (xs : List DataRecord) →
+    StartsAreSpaced 1 (x.start + 1) xs →
     from ≤ x.start → (start : Option ℕ) → option_map pos start ≡ Some (pos x.start) →
     IsNextOf from (x ∷ xs) start
 first_from from x xs a low None e = absurd (let n : ◌≡◌ {A = Option ℤ} None (Some (pos x.start)) =
@@ -85,7 +86,7 @@ later_from from x xs low None it = (low, it)
 later_from from x xs low (Some start) it =
     (it.0, there x.start start (map (λ (r : DataRecord). r.start) xs) it.1, (inl low, it.2))
 
-next_of : (from low : ℕ) (xs : List DataRecord) → IsApart 1 low xs → (start : Option ℕ) →
+next_of : (from low : ℕ) (xs : List DataRecord) → StartsAreSpaced 1 low xs → (start : Option ℕ) →
     option_map pos start ≡ number_at (filter (is_from from) xs) → IsNextOf from xs start
 next_of from low [] a None e = tt
 next_of from low [] a (Some start) e =

@@ -14,7 +14,7 @@ use Rattle.edf_field.specs.Number.{duration_of}
 use Rattle.edf_header.specs.Key.{Key}
 use Rattle.edf_fragment.specs.Fragment.{DataRecord}
 use Rattle.edf_holdings.specs.Holdings.{Holdings}
-use Rattle.edf_holdings.specs.Rising.{IsApart}
+use Rattle.edf_holdings.specs.Rising.{StartsAreSpaced}
 use Rattle.edf_holdings.proofs.Joining.{IsGood-from_sound}
 use Rattle.edf_tables.specs.Records.{records_of}
 use Rattle.edf_store.specs.Transaction.{AreSeen, IsUnder, SeesOn, MakesNone}
@@ -29,7 +29,8 @@ one_more : (m d : ℕ) → suc m * d ≡ d + m * d
 one_more m d = omega arith
 
 -- records that lie apart reach as far as there are many of them
-far : (d : ℕ) (x : DataRecord) (xs acc : List DataRecord) → IsApart d (x.start + d) xs → (b : ℤ) →
+far : (d : ℕ) (x : DataRecord) (xs acc : List DataRecord) → StartsAreSpaced d (x.start + d) xs →
+    (b : ℤ) →
     number_at (reverse_aux xs (x ∷ acc)) ≡ Some b → (n : ℕ) × (b ≡ pos n)
     × (x.start + length xs * d ≤ n)
 far d x [] acc a b e = (x.start, (let same : pos x.start ≡ b = cc in sym same), omega arith)
@@ -52,7 +53,7 @@ fewer m n d l = elim (cases_lt m n) [
 ]
 
 -- a list that reaches over less time than `most` durations has at most `most` records
-short_list : (d most : ℕ) (xs : List DataRecord) → IsApart d 0 xs → (a b : ℤ) →
+short_list : (d most : ℕ) (xs : List DataRecord) → StartsAreSpaced d 0 xs → (a b : ℤ) →
     number_at xs ≡ Some a → number_at (reverse xs) ≡ Some b → unsigned_abs (b -ℤ a) < most * d →
     (0 < length xs) × (length xs ≤ most)
 short_list d most [] apart a b first last l =

@@ -21,8 +21,8 @@ use Rattle.edf_tal.specs.Canonical.{block_text}
 use Rattle.edf_fragment.specs.Fragment.{DataRecord}
 use Rattle.edf_holdings.specs.Same.{same_key}
 use Rattle.edf_holdings.specs.Clash.{near_of}
-use Rattle.edf_holdings.specs.Rising.{inserted, united}
-use Rattle.edf_holdings.specs.Holdings.{Holdings, put}
+use Rattle.edf_holdings.specs.Rising.{insert, union}
+use Rattle.edf_holdings.specs.Holdings.{Holdings, with_records}
 use Rattle.edf_holdings.proofs.Same.{same_key-true, same_key-Decides}
 use Rattle.edf_holdings.proofs.Joining.{lasting, put_here}
 use Rattle.edf_tables.specs.Row.{cells, new_row, HasRecord}
@@ -118,7 +118,7 @@ module _ (old new : State) (id : ℤ) (k : Key) (r : DataRecord) (h : Holdings)
   apart : NotAt r.start (h k)
   apart = not_at (duration_of k.duration) r.start (h k) (lasting k there.key) none
 
-  own : map shown_record (records_of id (new.now.trees 2)) ≡ map record_cells (inserted r (h k))
+  own : map shown_record (records_of id (new.now.trees 2)) ≡ map record_cells (insert r (h k))
   own =
       let shown = shown_of old.now.trees h stand id k there in
       ap (map shown_record) (own_records old new id (pos r.start) r.samples
@@ -127,19 +127,20 @@ module _ (old new : State) (id : ℤ) (k : Key) (r : DataRecord) (h : Holdings)
       ∙ from_show _ _ (show_more r row (records_of id (old.now.trees 2)) (h k) refl apart shown)
 
   held_now : (m : ℤ) (q : Key) → IsThere new.now.trees m q →
-      records_in new.now.trees m ≡ map record_cells (put k (r ∷ []) h q)
+      records_in new.now.trees m ≡ map record_cells (with_records k (r ∷ []) h q)
   held_now m q it = go (cases_id id m)
     where
       was : IsThere old.now.trees m q
       was = there_same m q it
 
-      go : (id ≡ m) ⊎ (id ≢ m) → records_in new.now.trees m ≡ map record_cells (put k (r ∷ []) h q)
+      go : (id ≡ m) ⊎ (id ≢ m) → records_in new.now.trees m
+          ≡ map record_cells (with_records k (r ∷ []) h q)
       go (inl e) =
           let same : k ≡ q = one_key old.now.trees h stand m k q
           (subst (λ (n : ℤ). IsThere old.now.trees n k) e there) was in
           ap (records_in new.now.trees) (sym e) ∙ own
           ∙ ap (map record_cells) (sym (put_here k (r ∷ []) h))
-          ∙ ap (λ (p : Key). map record_cells (put k (r ∷ []) h p)) same
+          ∙ ap (λ (p : Key). map record_cells (with_records k (r ∷ []) h p)) same
       go (inr other) =
           let differ : same_key k q ≡ false = elim (cases_Bool (same_key k q)) [
             | inl e ↦ absurd (other (one_id old.now.trees h stand id m q
@@ -149,14 +150,14 @@ module _ (old new : State) (id : ℤ) (k : Key) (r : DataRecord) (h : Holdings)
           ap (map shown_record) (other_records old new m id (pos r.start) r.samples
           (block_text 0 r.start r.annotations) has (other_id id m other))
           ∙ stand.held m q was ∙ ap (map record_cells)
-          (sym (cond-false (same_key k q) (united (h q) (r ∷ [])) (h q) differ))
+          (sym (cond-false (same_key k q) (union (h q) (r ∷ [])) (h q) differ))
 
   owned_now : AllByRecursion (IsOwned new.now.trees) (old.now.trees 2) → IsOwned new.now.trees row →
       AllByRecursion (IsOwned new.now.trees) (new.now.trees 2)
   owned_now all one = subst (AllByRecursion (IsOwned new.now.trees)) (sym has.records)
       (all_put (IsOwned new.now.trees) row (old.now.trees 2) one all)
 
-  pub stand_more : StandFor new.now.trees (put k (r ∷ []) h)
+  pub stand_more : StandFor new.now.trees (with_records k (r ∷ []) h)
   stand_more = record {
     recordings = subst (λ (rows : List Row).
         All IsRecordingRow (map (λ row. column row 0 ∷ column row 2 ∷ []) rows))
@@ -182,7 +183,7 @@ module _ (old new : State) (id : ℤ) (k : Key) (r : DataRecord) (h : Holdings)
               (subst (IsThere old.now.trees id) (same_key-true k q e) there)))
           | inr e ↦ e
         ] in
-        cond-false (same_key k q) (united (h q) (r ∷ [])) (h q) differ
+        cond-false (same_key k q) (union (h q) (r ∷ [])) (h q) differ
         ∙ stand.others q (λ m it. gone m (there_too m q it));
   }
     where

@@ -12,8 +12,8 @@ use Rattle.edf_field.specs.Number.{duration_of}
 use Rattle.edf_header.specs.Key.{Key, IsKey, key_bytes}
 use Rattle.edf_tal.specs.Canonical.{block_text}
 use Rattle.edf_fragment.specs.Fragment.{DataRecord}
-use Rattle.edf_holdings.specs.Holdings.{Holdings, IsSound, put}
-use Rattle.edf_holdings.specs.Clash.{near_of, meets}
+use Rattle.edf_holdings.specs.Holdings.{Holdings, IsSound, with_records}
+use Rattle.edf_holdings.specs.Clash.{near_of, intervals_overlap}
 use Rattle.edf_fragment.specs.Sound.{IsSoundRecord}
 use Rattle.edf_holdings.proofs.Near.{near_two}
 use Rattle.edf_holdings.proofs.Joining.{IsGood-from_sound}
@@ -89,7 +89,7 @@ module _ (cap : ℕ) (old new : State) (P : Trees → Type 0) (s : Survives old 
       MayTakeIn cap old id r → SeesSome cap old → IsAddedIn cap old new id r
   added_in id r has may running = record {
     running = λ clean. let it = running (was_clean clean) in
-        (put may.key (r ∷ []) it.0, more it.0 may.key clean it.1 may.is_under);
+        (with_records may.key (r ∷ []) it.0, more it.0 may.key clean it.1 may.is_under);
     holdings = λ h k seen under clean. more h k clean (seen (was_clean clean)) under;
     ids = λ m q under. record {
       key = under.key;
@@ -108,13 +108,13 @@ module _ (cap : ℕ) (old new : State) (P : Trees → Type 0) (s : Survives old 
           there_too old new id may.key r it.0 (has clean) it.1.stand mine room.none_near m q is
 
       more : (h : Holdings) (k : Key) → HasCleanDisk new → IsTransactionOf cap old h →
-          IsUnder old id k → IsTransactionOf cap new (put k (r ∷ []) h)
+          IsUnder old id k → IsTransactionOf cap new (with_records k (r ∷ []) h)
       more h k clean it under =
           let mine = may.is_under.there (was_clean clean) in
           let key : may.key ≡ k = one_key old.now.trees h it.stand id may.key k mine
           (under.there (was_clean clean)) in
           let room = may.room (was_clean clean) h (λ _. it) in
-          subst (λ (q : Key). IsTransactionOf cap new (put q (r ∷ []) h)) key (record {
+          subst (λ (q : Key). IsTransactionOf cap new (with_records q (r ∷ []) h)) key (record {
             is_open = (has clean).shown.is_open;
             inside = record_inside old new _ (has clean);
             stand = stand_more old new id may.key r h (has clean) it.stand mine room.none_near;
@@ -287,7 +287,7 @@ two_near cap s id k start records under running clean near =
 pub sound_near : (cap : ℕ) (h : Holdings) (k : Key) (d start : ℕ) → IsSound cap h →
     AllByRecursion (IsSoundRecord k) (near_of d start (h k))
 sound_near cap h k d start sound =
-    all-filter (IsSoundRecord k) (meets d start) (h k)
+    all-filter (IsSoundRecord k) (intervals_overlap d start) (h k)
     (recursion_from_All (IsSoundRecord k) (h k) (sound.records k))
 
 -- what is held when a transaction begins has a record in each recording

@@ -16,8 +16,8 @@ use Rattle.sqlite_trees.specs.Tree.{put_row, rowid, IsAscending}
 use Rattle.sqlite_keyed.specs.Lists.{insert_sorted}
 use Rattle.edf_fragment.specs.Fragment.{DataRecord}
 use Rattle.edf_holdings.specs.Same.{same_record}
-use Rattle.edf_holdings.specs.Rising.{inserted, IsApart}
-use Rattle.edf_holdings.specs.Clash.{meets, near_of}
+use Rattle.edf_holdings.specs.Rising.{insert, StartsAreSpaced}
+use Rattle.edf_holdings.specs.Clash.{intervals_overlap, near_of}
 use Rattle.edf_holdings.proofs.Same.{same_record_no}
 use Rattle.edf_tables.specs.Records.{shown_record}
 use Rattle.edf_tables.specs.Columns.{by_column}
@@ -90,19 +90,21 @@ three a b = elim (cases_Bool (nat_lt a b)) [
 abbrev pub NotAt : ℕ → List DataRecord → Type 0
 NotAt start = AllByRecursion (λ (y : DataRecord). y.start ≢ start)
 
-met : (d start : ℕ) (x : DataRecord) → 0 < d → x.start ≡ start → meets d start x ≡ true
+met : (d start : ℕ) (x : DataRecord) → 0 < d → x.start ≡ start → intervals_overlap d start x ≡ true
 met d start x some e = and_from (nat_lt start (x.start + d)) (nat_lt x.start (start + d))
     (lt-ltb _ _ (omega (arith, some, e))) (lt-ltb _ _ (omega (arith, some, e)))
 
 pub not_at : (d start : ℕ) (xs : List DataRecord) → 0 < d → near_of d start xs ≡ [] → NotAt start xs
 not_at d start [] some none = tt
-not_at d start (x ∷ xs) some none = go (meets d start x) refl none (not_at d start xs some)
+not_at d start (x ∷ xs) some none =
+    go (intervals_overlap d start x) refl none (not_at d start xs some)
   where
-    go : (b : Bool) → meets d start x ≡ b → near_of d start (x ∷ xs) ≡ [] →
+    go : (b : Bool) → intervals_overlap d start x ≡ b → near_of d start (x ∷ xs) ≡ [] →
         (near_of d start xs ≡ [] → NotAt start xs) → NotAt start (x ∷ xs)
     go true e none more = absurd (let n : ◌≡◌ {A = ℕ} (length (near_of d start (x ∷ xs))) 0 =
         ap length none in let c =
-        ap length (cond-true (meets d start x) (x ∷ near_of d start xs) (near_of d start xs) e) in
+        ap length (cond-true (intervals_overlap d start x) (x ∷ near_of d start xs)
+        (near_of d start xs) e) in
         omega (arith, n, c))
     go false e none more = (
       (λ same. true≢false (sym (met d start x some same) ∙ e)),
@@ -112,7 +114,7 @@ not_at d start (x ∷ xs) some none = go (meets d start x) refl none (not_at d s
 -- one row more shows one record more, in its place
 pub show_more : (r : DataRecord) (new : Row) (rows : List Row) (xs : List DataRecord) →
     shown_record new ≡ record_cells r → NotAt r.start xs → Show rows xs →
-    Show (insert_sorted (by_column 2) new rows) (inserted r xs)
+    Show (insert_sorted (by_column 2) new rows) (insert r xs)
 show_more r new [] [] e apart s = (e, tt)
 show_more r new [] (x ∷ xs) e apart s = absurd s
 show_more r new (row ∷ rows) [] e apart s = absurd s
@@ -122,8 +124,8 @@ show_more r new (row ∷ rows) (x ∷ xs) e apart s =
     other : same_record x r ≡ false
     other = same_record_no x r (λ p. apart.0 (ap (λ (y : DataRecord). y.start) p))
 
-    go : Three r.start x.start → Show (insert_sorted (by_column 2) new rows) (inserted r xs) →
-        Show (insert_sorted (by_column 2) new (row ∷ rows)) (inserted r (x ∷ xs))
+    go : Three r.start x.start → Show (insert_sorted (by_column 2) new rows) (insert r xs) →
+        Show (insert_sorted (by_column 2) new (row ∷ rows)) (insert r (x ∷ xs))
     go (below l) more =
         let c : by_column 2 new row ≡ Less =
         ap₂ value_cmp (start_cell new r e) (start_cell row x s.0)
@@ -161,7 +163,7 @@ others_at r new (row ∷ rows) (x ∷ xs) e apart s =
 
 -- rows that show records in rising starts rise
 pub rows_rise : (low : ℕ) (rows : List Row) (xs : List DataRecord) → Show rows xs →
-    IsApart 1 low xs → IsAscending (λ a b. by_column 2 a b ≡ Less) rows
+    StartsAreSpaced 1 low xs → IsAscending (λ a b. by_column 2 a b ≡ Less) rows
 rows_rise low [] [] s a = tt
 rows_rise low [] (x ∷ xs) s a = absurd s
 rows_rise low (row ∷ rows) [] s a = absurd s
@@ -169,7 +171,7 @@ rows_rise low (row ∷ rows) (x ∷ xs) s a =
     (later x.start rows xs (omega arith) s.1 a.1, rows_rise (x.start + 1) rows xs s.1 a.1)
   where
     later : (low : ℕ) (rows : List Row) (xs : List DataRecord) → x.start ≤ low → Show rows xs →
-        IsApart 1 (low + 1) xs → AllByRecursion (λ b. by_column 2 row b ≡ Less) rows
+        StartsAreSpaced 1 (low + 1) xs → AllByRecursion (λ b. by_column 2 row b ≡ Less) rows
     later low [] [] le s' a' = tt
     later low [] (y ∷ ys) le s' a' = absurd s'
     later low (b ∷ bs) [] le s' a' = absurd s'

@@ -6,8 +6,8 @@ use Rattle.sqlite.specs.State.{State, HasCleanDisk}
 use Rattle.edf_header.specs.Key.{Key}
 use Rattle.edf_fragment.specs.Fragment.{DataRecord}
 use Rattle.edf_holdings.specs.Same.{same_key}
-use Rattle.edf_holdings.specs.Rising.{united}
-use Rattle.edf_holdings.specs.Holdings.{Holdings, put}
+use Rattle.edf_holdings.specs.Rising.{union}
+use Rattle.edf_holdings.specs.Holdings.{Holdings, with_records}
 use Rattle.edf_holdings.proofs.Same.{same_key-Decides}
 use Rattle.edf_rows.proofs.Rows.{one-holdings}
 use Rattle.edf_store.specs.Transaction.{AreSeen, SeesSome, SeesOn, IsUnder, MakesNone, MakesOnly}
@@ -61,17 +61,17 @@ module _ (cap : ℕ) (a b : State) (was : HasCleanDisk b → HasCleanDisk a) (ru
         let it = running (was clean) in
         let then = added.holdings it.0 made (λ _. it.1) mine clean in
         let now = seen clean in
-        let same : put made (r ∷ []) it.0 ≡ h =
-        one-holdings b.now.trees (put made (r ∷ []) it.0) h cap cap then.stand then.sound
+        let same : with_records made (r ∷ []) it.0 ≡ h =
+        one-holdings b.now.trees (with_records made (r ∷ []) it.0) h cap cap then.stand then.sound
         now.stand now.sound in
         subst (λ (g : Holdings). g k ≢ []) same
         (go it.0 (whole (was clean) it.0 m k (λ _. it.1) (under_before clean added.only m k under))
         (same_key made k) refl)
       where
         go : (g : Holdings) → (k ≢ made → g k ≢ []) → (s : Bool) → same_key made k ≡ s →
-            put made (r ∷ []) g k ≢ []
+            with_records made (r ∷ []) g k ≢ []
         go g held true e empty = inserted-some r (g k)
-            (sym (cond-true (same_key made k) (united (g k) (r ∷ [])) (g k) e) ∙ empty)
+            (sym (cond-true (same_key made k) (union (g k) (r ∷ [])) (g k) e) ∙ empty)
         go g held false e empty =
             held (λ p. true≢false (sym ((same_key-Decides made k).1 (sym p)) ∙ e))
-            (sym (cond-false (same_key made k) (united (g k) (r ∷ [])) (g k) e) ∙ empty)
+            (sym (cond-false (same_key made k) (union (g k) (r ∷ [])) (g k) e) ∙ empty)

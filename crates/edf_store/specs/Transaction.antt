@@ -9,7 +9,7 @@ use Rattle.edf_header.specs.Key.{Key, IsKey, MayStart}
 use Rattle.edf_fragment.specs.Fragment.{DataRecord}
 use Rattle.edf_holdings.specs.Clash.{near_of}
 use Rattle.edf_fragment.specs.Sound.{IsSoundRecord}
-use Rattle.edf_holdings.specs.Holdings.{Holdings, IsSound, put}
+use Rattle.edf_holdings.specs.Holdings.{Holdings, IsSound, with_records}
 use Rattle.edf_tables.specs.Row.{IsInside}
 use Rattle.edf_tables.specs.Others.{KeepsOthers}
 use Rattle.edf_rows.specs.Rows.{IsThere, StandFor, AreKept}
@@ -96,7 +96,7 @@ pub record MayTakeIn (cap : ℕ) (s : State) (id : ℤ) (r : DataRecord) : Type 
 pub record IsAddedIn (cap : ℕ) (old new : State) (id : ℤ) (r : DataRecord) : Type 0 where
   pub running : SeesSome cap new
   pub holdings : (h : Holdings) (k : Key) → AreSeen cap old h → IsUnder old id k →
-      AreSeen cap new (put k (r ∷ []) h)
+      AreSeen cap new (with_records k (r ∷ []) h)
   pub ids : (id : ℤ) (k : Key) → IsUnder old id k → IsUnder new id k
   pub only : MakesNone old new
 

@@ -9,7 +9,7 @@ use Rattle.edf_fragment.specs.Parsed.{Fragment}
 use Rattle.edf_fragment.specs.Reading.{ReadsHeader, initial_progress}
 use Rattle.edf_fragment.specs.Whole.{ReadsFragment}
 use Rattle.edf_fragment.specs.declared.advance.Progress.{Progress}
-use Rattle.edf_holdings.specs.Holdings.{Holdings, put}
+use Rattle.edf_holdings.specs.Holdings.{Holdings, with_records}
 use Rattle.edf_holdings.specs.Reply.{Reply, Conflicts, Accepted, reply, after_one}
 use Rattle.edf_store.specs.Held.{at}
 use Rattle.edf_store.specs.Transaction.{Sees, IsOf, HasNoMore, HasAtMost, EachHasRecord}
@@ -67,7 +67,7 @@ module _ {S : Type 0} (g : Ghosts S) (old new : StoreTx S) where
         ReadsFragment before to.remaining layout records
     pub found : HasCleanDisk (at g new.store.now) → (h : Holdings) → Sees g old.store.now h →
         AreFindings layout.key h records findings
-        × (MayBeAccepted room findings → Sees g new.store.now (put layout.key records h))
+        × (MayBeAccepted room findings → Sees g new.store.now (with_records layout.key records h))
 
   module _ (from to : InputState) where
     -- the fragment is accepted so; the transaction sees what it leaves, and may be committed

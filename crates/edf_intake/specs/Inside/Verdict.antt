@@ -7,9 +7,9 @@ use Rattle.sqlite.specs.State.{HasCleanDisk}
 use Rattle.edf_field.specs.Number.{duration_of}
 use Rattle.edf_header.specs.Key.{Key}
 use Rattle.edf_fragment.specs.Fragment.{DataRecord}
-use Rattle.edf_holdings.specs.Clash.{near_of, other_of}
-use Rattle.edf_holdings.specs.Rising.{contains_record, new_of}
-use Rattle.edf_holdings.specs.Holdings.{Holdings, put}
+use Rattle.edf_holdings.specs.Clash.{near_of, first_other}
+use Rattle.edf_holdings.specs.Rising.{contains_record, count_new}
+use Rattle.edf_holdings.specs.Holdings.{Holdings, with_records}
 use Rattle.edf_holdings.specs.Reply.{first_clash}
 use Rattle.edf_store.specs.Held.{StoreModel, at}
 use Rattle.edf_store.specs.Transaction.{Sees}
@@ -33,9 +33,9 @@ IsRoomInside g tx key asked room = HasCleanDisk (at g tx.store.now) → (h : Hol
 
 -- what the stored records near one say of it
 abbrev pub IsVerdict : DataRecord → List DataRecord → Verdict → Type 0
-IsVerdict r near (Clashes stored) = (s : DataRecord) × (other_of r near ≡ Some s)
+IsVerdict r near (Clashes stored) = (s : DataRecord) × (first_other r near ≡ Some s)
     × (stored ≡ s.start)
-IsVerdict r near Known = (other_of r near ≡ None) × (contains_record near r ≡ true)
+IsVerdict r near Known = (first_other r near ≡ None) × (contains_record near r ≡ true)
 IsVerdict r near New = near ≡ []
 
 -- the same of those of the key's records that the transaction sees
@@ -52,7 +52,7 @@ CountsVerdict room key r near h from t to (Clashes stored) = (t ≡ h)
 CountsVerdict room key r near h from t to Known = (t ≡ h)
     × (to ≡ record from { known = from.known + 1 })
 CountsVerdict room key r near h from t to New =
-    (from.new < room → t ≡ put key (r ∷ []) h) × (room ≤ from.new → t ≡ h)
+    (from.new < room → t ≡ with_records key (r ∷ []) h) × (room ≤ from.new → t ≡ h)
     × (to ≡ record from { new = from.new + 1 })
 
 -- after a clash nothing counts
@@ -68,7 +68,7 @@ pub record CountsAll (key : Key) (h : Holdings) (records : List DataRecord)
     (findings : Findings) : Type 0
   where
     pub free : first_clash (duration_of key.duration) (h key) records ≡ None
-    pub new_is : findings.new ≡ new_of (h key) records
+    pub new_is : findings.new ≡ count_new (h key) records
     pub all : findings.known + findings.new ≡ length records
 
 -- the first that clashes starts here, and the earliest that it clashes with there

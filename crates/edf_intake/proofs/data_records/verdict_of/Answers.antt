@@ -1,7 +1,7 @@
 use Rattle.std.proofs.Common.{◌≡◌, ◌≢◌, ◌<◌, length, None, sym, ◌∙◌, arith}
 use Rattle.std.proofs.lemmas.Bool.{both_ways}
 use Rattle.std.proofs.lemmas.Bool.Decides.{nat_tests}
-use Rattle.edf_holdings.specs.Clash.{other_of}
+use Rattle.edf_holdings.specs.Clash.{first_other}
 use Rattle.edf_intake.proofs.Passed.{other_here, same_here, none_left, held_of_near}
 use Rattle.edf_intake.proofs.data_records.verdict_of.Goals as goal
 
@@ -22,7 +22,8 @@ loop-stored-preserved c =
 
 pub returns-else-is_empty : goal.returns-else-is_empty
 returns-else-is_empty c =
-    let none : other_of c.args.data_record.now c.args.near.now ≡ None = sym c.loop-stored.invariant
+    let none : first_other c.args.data_record.now c.args.near.now
+    ≡ None = sym c.loop-stored.invariant
     ∙ none_left _ _ _ c.loop-stored-test.false in
     let some : 0 < length c.args.near.now = grind (arith, nat_tests) in
     (none, held_of_near _ _ some none)
