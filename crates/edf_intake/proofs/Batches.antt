@@ -20,7 +20,7 @@ use Rattle.edf_holdings.specs.Holdings.{Holdings}
 use Rattle.edf_holdings.specs.Reply.{Reply, replies, after}
 use Rattle.edf_holdings.proofs.Replies.{replies-append}
 use Rattle.edf_holdings.proofs.Settled.{after-append}
-use Rattle.edf_rows.specs.Rows.{AreKept}
+use Rattle.edf_rows.specs.Rows.{RepresentCommitted}
 use Rattle.edf_store.specs.Held.{StoreModel, at, Holds, Stays}
 use Rattle.edf_store.proofs.Begun.{stays_same}
 use Rattle.edf_store.proofs.Held.{others_committed_then}
@@ -93,14 +93,16 @@ left-more cap h turns t rows l = record {
 }
 
 left-last : (cap : ℕ) (h : Holdings) (turns : List Turn) (t : Turn) (rows : Trees)
-    → AreKept cap rows (after cap (after cap h (submissions_in turns)) (somes (t.submission ∷ [])))
+    → RepresentCommitted cap rows (after cap (after cap h (submissions_in turns))
+    (somes (t.submission ∷ [])))
     ⊎ AreUnended cap (after cap h (submissions_in turns)) (t ∷ []) rows →
     AreLeftBy cap h (turns ++ t ∷ []) rows
 left-last cap h turns t rows (inl kept) = record {
   first = turns ++ t ∷ [];
   rest = [];
   splits = sym (append-nil (turns ++ t ∷ []));
-  stand = inl (subst (λ (z : Holdings). AreKept cap rows z) (after-next cap h turns t) kept);
+  stand = inl (subst (λ (z : Holdings). RepresentCommitted cap rows z)
+      (after-next cap h turns t) kept);
 }
 left-last cap h turns t rows (inr unended) =
     record { first = turns; rest = t ∷ []; splits = refl; stand = inr unended }
@@ -166,7 +168,7 @@ module _ {S : Type 0} (g : Ghosts S) where
       crash = survives_then (at g old) (at g mid) (at g new) _ _ _
           (λ clean rows left h held. left-more old.cap h all.turns t rows (left h held))
           (λ clean rows left h held. left-last old.cap h all.turns t rows
-          (subst (λ (n : ℕ). AreKept n rows
+          (subst (λ (n : ℕ). RepresentCommitted n rows
           (after n (after old.cap h (submissions_in all.turns)) (somes (t.submission ∷ [])))
           ⊎ AreUnended n (after old.cap h (submissions_in all.turns)) (t ∷ []) rows) capped
           (left (after old.cap h (submissions_in all.turns)) (all.holdings h held))))

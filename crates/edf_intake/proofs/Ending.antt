@@ -10,7 +10,7 @@ use Rattle.edf_fragment.specs.Fragment.{DataRecord}
 use Rattle.edf_fragment.specs.Parsed.{Parsed, Fragment, Fault}
 use Rattle.edf_holdings.specs.Holdings.{Holdings}
 use Rattle.edf_holdings.specs.Reply.{Reply, reply, after_one}
-use Rattle.edf_rows.specs.Rows.{AreKept}
+use Rattle.edf_rows.specs.Rows.{RepresentCommitted}
 use Rattle.edf_tables.proofs.Commits.{quiet_then}
 use Rattle.edf_store.specs.Held.{StoreModel, at, Holds, Stays}
 use Rattle.edf_store.proofs.Held.{others_committed_then}
@@ -116,7 +116,8 @@ module _ {S : Type 0} (g : Ghosts S) (old : StoreModel S) (first last : StoreTx 
         quiet_then (at g old) (at g last.store.now) (at g new) (AreLeft g old new told) stays.crash
         (survives_weaker (at g last.store.now) (at g new) (IsSeen g last.store.now)
         (AreLeft g old new told)
-        (λ clean rows seen h held. subst (λ (n : ℕ). AreKept n rows (after_one old.cap h told))
+        (λ clean rows seen h held. subst
+        (λ (n : ℕ). RepresentCommitted n rows (after_one old.cap h told))
         stays.cap (seen (after_one old.cap h told) (left told is h held))) survives)
 
     pub accepts : {X E : Type 0} (x : X) (receipt : Receipt) →

@@ -12,7 +12,7 @@ use Rattle.edf_holdings.specs.Holdings.{Holdings, IsSound}
 use Rattle.edf_holdings.specs.Reply.{Conflict, IsWellFormed, Reply, Form, Conflicts, Accepted}
 use Rattle.edf_holdings.specs.Reply.{IsAccepted, reply, replies, after}
 use Rattle.edf_holdings.proofs.Accepted.{refused_changes_nothing}
-use Rattle.edf_rows.specs.Rows.{AreKept}
+use Rattle.edf_rows.specs.Rows.{RepresentCommitted}
 use Rattle.edf_store.specs.Held.{StoreModel, at, Holds, Stays, KeepsCommittedOthers}
 use Rattle.edf_store.specs.Call.{IsBusy}
 use Rattle.edf_store.specs.declared.fault.StoreFault.{StoreFault}
@@ -70,7 +70,7 @@ pub record IsMade {S : Type 0} (g : Ghosts S) (old new : StoreModel S) (t : Turn
       Holds g new (after old.cap h (somes (t.submission ∷ [])))
   pub others : KeepsCommittedOthers (at g old) (at g new)
   pub crash : Survives (at g old) (at g new) (λ rows. (h : Holdings) → Holds g old h →
-      AreKept old.cap rows (after old.cap h (somes (t.submission ∷ [])))
+      RepresentCommitted old.cap rows (after old.cap h (somes (t.submission ∷ [])))
       ⊎ AreUnended old.cap h (t ∷ []) rows)
 
 pub sound_told : (from to : InputState) (told : Parsed) → ReadsAs from to told → IsWellFormed told
@@ -119,7 +119,8 @@ module _ {S : Type 0} (g : Ghosts S) (old new : StoreModel S) (from to : InputSt
         let sound : IsSound old.cap h = subst (λ (n : ℕ). IsSound n h) r.stays.cap kept.sound in
         let same = refused_changes_nothing old.cap h told sound (sound_told from to told r.read)
         (λ yes. never (subst IsAccepted (r.reply_is clean h held) yes)) in
-        subst (λ (z : Holdings). AreKept new.cap (at g new).committed.trees z) (sym same) kept;
+        subst (λ (z : Holdings). RepresentCommitted new.cap (at g new).committed.trees z)
+        (sym same) kept;
     others = r.stays.others;
     crash = survives_weaker (at g old) (at g new) (λ _. ⊥) _ (λ clean rows none. absurd none)
         r.stays.crash;

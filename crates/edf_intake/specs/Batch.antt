@@ -9,7 +9,7 @@ use Rattle.sqlite.specs.State.{HasCleanDisk, Survives}
 use Rattle.edf_fragment.specs.Parsed.{Parsed, Fragment, Fault, ParsesTo}
 use Rattle.edf_holdings.specs.Holdings.{Holdings}
 use Rattle.edf_holdings.specs.Reply.{Reply, Form, Accepted, after_one, after, replies}
-use Rattle.edf_rows.specs.Rows.{AreKept}
+use Rattle.edf_rows.specs.Rows.{RepresentCommitted}
 use Rattle.edf_store.specs.Call.{IsBusy}
 use Rattle.edf_store.specs.Held.{StoreModel, at, Holds, KeepsCommittedOthers}
 use Rattle.edf_intake.specs.Refusal.{Answer, reply_of, IsStopped, IsInDoubt, cause}
@@ -105,7 +105,7 @@ abbrev pub AreUnended : ℕ → Holdings → List Turn → Trees → Type 0
 AreUnended cap h [] rows = ⊥
 AreUnended cap h (t ∷ ts) rows = IsInDoubt t.answer
     × ((submission : Parsed) × ReadsAs t.from t.to submission
-    × AreKept cap rows (after_one cap h submission))
+    × RepresentCommitted cap rows (after_one cap h submission))
 
 -- what a crash may leave: rows that stand for what some first inputs leave, or for that and the
 -- next
@@ -113,7 +113,7 @@ pub record AreLeftBy (cap : ℕ) (h : Holdings) (turns : List Turn) (rows : Tree
   pub first : List Turn
   pub rest : List Turn
   pub splits : turns ≡ first ++ rest
-  pub stand : AreKept cap rows (after cap h (submissions_in first))
+  pub stand : RepresentCommitted cap rows (after cap h (submissions_in first))
       ⊎ AreUnended cap (after cap h (submissions_in first)) rest rows
 
 module _ {S : Type 0} (g : Ghosts S) (old new : StoreModel S) where

@@ -9,7 +9,7 @@ use Rattle.edf_fragment.specs.Fragment.{DataRecord}
 use Rattle.edf_fragment.specs.Parsed.{Parsed, Fragment, Fault}
 use Rattle.edf_holdings.specs.Holdings.{Holdings}
 use Rattle.edf_holdings.specs.Reply.{Reply, Form, Conflicts, Accepted, reply, after_one}
-use Rattle.edf_rows.specs.Rows.{AreKept}
+use Rattle.edf_rows.specs.Rows.{RepresentCommitted}
 use Rattle.edf_store.specs.Held.{StoreModel, at, Holds, KeepsCommittedOthers, Stays}
 use Rattle.edf_store.specs.Fault.{MayRefuse}
 use Rattle.edf_store.specs.Call.{IsBusy, IsUnclean}
@@ -40,7 +40,7 @@ module _ {S : Type 0} (g : Ghosts S) (old new : StoreModel S) where
   -- submitted
   abbrev pub AreLeft : Parsed → Trees → Type 0
   AreLeft submission rows = (h : Holdings) → Holds g old h →
-      AreKept old.cap rows (after_one old.cap h submission)
+      RepresentCommitted old.cap rows (after_one old.cap h submission)
 
   -- what the input tells was submitted: the store holds what that leaves, with what was beside it,
   -- and is open; a crash leaves what it could leave before, or that

@@ -13,7 +13,7 @@ use Rattle.edf_tables.proofs.Commits.{survives_same}
 use Rattle.edf_tables.proofs.Others.{others_same}
 use Rattle.edf_holdings.specs.Holdings.{Holdings}
 use Rattle.edf_holdings.specs.Reply.{after}
-use Rattle.edf_rows.specs.Rows.{AreKept}
+use Rattle.edf_rows.specs.Rows.{RepresentCommitted}
 use Rattle.edf_store.specs.Held.{StoreModel, at, KeepsCommittedOthers, Stays}
 use Rattle.edf_store.proofs.Held.{others_committed_then}
 use Rattle.edf_intake.specs.Refusal.{Answer}
@@ -70,7 +70,8 @@ module _ {S : Type 0} (g : Ghosts S) where
   -- ---- one
 
   left_by : (cap : ℕ) (h : Holdings) (u : Turn) (rows : Trees) →
-      AreKept cap rows (after cap h (somes (u.submission ∷ []))) ⊎ AreUnended cap h (u ∷ []) rows →
+      RepresentCommitted cap rows (after cap h (somes (u.submission ∷ [])))
+      ⊎ AreUnended cap h (u ∷ []) rows →
       AreLeftBy cap h (u ∷ []) rows
   left_by cap h u rows (inl kept) = record {
     first = u ∷ [];

@@ -26,7 +26,7 @@ use Rattle.edf_rows.specs.File.{IsForeignFile}
 use Rattle.edf_fragment.specs.Parsed.{Parsed}
 use Rattle.edf_holdings.specs.Holdings.{Holdings}
 use Rattle.edf_holdings.specs.Reply.{after, replies}
-use Rattle.edf_rows.specs.Rows.{AreKept}
+use Rattle.edf_rows.specs.Rows.{RepresentCommitted}
 use Rattle.edf_store.specs.Fault.{HasCause, HasCauseOrIsForeign}
 use Rattle.edf_store.specs.Held.{at, Holds}
 use Rattle.edf_store.specs.declared.fault.StoreFault.{StoreFault}
@@ -127,7 +127,8 @@ module _ {D : Type 0} {g : Ghosts D} (stays : SeenMayStay g) (r : ProgramRun g) 
         let was = was_clean r first it (late gave) in
         let kept = own_keeps r.cap (file_state first).now (at over_files it.old).committed
         (it.opened.tables was) (subst (λ (n : ℕ). (h : Holdings)
-        × AreKept n (at over_files it.old).committed.trees h) it.cap_is (it.opened.holdings was))
+        × RepresentCommitted n (at over_files it.old).committed.trees h) it.cap_is
+        (it.opened.holdings was))
         (subst (λ (n : ℕ). ¬ IsForeignFile n (file_state first).now) it.cap_is
         (it.opened.own was)) in
         (kept.0, subst (λ (d : Database). Keeps r.cap d kept.0) (settled early gave) kept.1)

@@ -21,7 +21,7 @@ use Rattle.edf_tables.specs.Others.{KeepsTrees}
 use Rattle.edf_tables.proofs.Schemas.{none_not_one, none_not_both, one_not_both, made_both}
 use Rattle.edf_holdings.specs.Holdings.{Holdings, nothing_held}
 use Rattle.edf_rows.specs.File.{IsForeignFile, other_schema, foreign_rows, only_recordings}
-use Rattle.edf_rows.specs.Rows.{AreKept}
+use Rattle.edf_rows.specs.Rows.{RepresentCommitted}
 use Rattle.edf_rows.proofs.Rows.{one-holdings, not-foreign}
 use Rattle.edf_store.specs.Held.{StoreModel, at, Holds}
 use Rattle.edf_store.specs.Open.{IsOpened}
@@ -44,7 +44,7 @@ empty_of cap db h (one_table is empty none) now = (empty, none)
 empty_of cap db h (both_tables both kept) now = absurd (one_not_both db.schema now both)
 
 kept_of : (cap : ℕ) (db : Database) (h : Holdings) → Keeps cap db h → HasBoth db.schema →
-    AreKept cap db.trees h
+    RepresentCommitted cap db.trees h
 kept_of cap db h (no_table is none) now = absurd (none_not_both db.schema is now)
 kept_of cap db h (one_table is empty none) now = absurd (one_not_both db.schema is now)
 kept_of cap db h (both_tables both kept) now = kept
@@ -55,7 +55,7 @@ no_rows (r ∷ rs) never = absurd (never (λ e. absurd (cc)))
 
 -- a file of ours that isn't foreign keeps some holdings
 pub own_keeps : (cap : ℕ) (old new : Database) → HasTables old new →
-    ((h : Holdings) × AreKept cap new.trees h) → ¬ IsForeignFile cap old →
+    ((h : Holdings) × RepresentCommitted cap new.trees h) → ¬ IsForeignFile cap old →
     (h : Holdings) × Keeps cap old h
 own_keeps cap old new (from_none none both first second) kept own = (
   nothing_held,
@@ -68,7 +68,7 @@ own_keeps cap old new (from_one one both same second) kept own = (
 )
 own_keeps cap old new (from_both both same) kept own = (
   kept.0,
-  both_tables both (subst (λ (d : Database). AreKept cap d.trees kept.0) same kept.1),
+  both_tables both (subst (λ (d : Database). RepresentCommitted cap d.trees kept.0) same kept.1),
 )
 
 -- and one that keeps some is not foreign
@@ -139,15 +139,17 @@ both_same old new (from_one one made same second) both = absurd (one_not_both ol
 both_same old new (from_both was same) both = same
 
 pub tables_keep : (cap : ℕ) (old new : Database) (h : Holdings) → Keeps cap old h →
-    HasTables old new → AreKept cap new.trees h
+    HasTables old new → RepresentCommitted cap new.trees h
 tables_keep cap old new h it (from_none none both first second) =
-    subst (AreKept cap new.trees) (sym (nothing_of cap old h it none))
+    subst (RepresentCommitted cap new.trees) (sym (nothing_of cap old h it none))
     (nothing_kept cap new.trees first second)
 tables_keep cap old new h it (from_one one both same second) =
     let was = empty_of cap old h it one in
-    subst (AreKept cap new.trees) (sym was.1) (nothing_kept cap new.trees (same ∙ was.0) second)
+    subst (RepresentCommitted cap new.trees) (sym was.1)
+    (nothing_kept cap new.trees (same ∙ was.0) second)
 tables_keep cap old new h it (from_both both same) =
-    subst (λ (d : Database). AreKept cap d.trees h) (sym same) (kept_of cap old h it both)
+    subst (λ (d : Database). RepresentCommitted cap d.trees h) (sym same)
+    (kept_of cap old h it both)
 
 pub opened_holds : {S : Type 0} (g : Ghosts S) (conn : Held S) (store : StoreModel S) →
     IsOpened g conn store → (h : Holdings) → Keeps store.cap (state g conn).now h → Holds g store h
@@ -163,15 +165,15 @@ made_keeps cap old rows h it (left_first none made empty) schema sound =
     one_table (schema_once rows schema one_schema sound made) empty (nothing_of cap old h it none)
 made_keeps cap old rows h it (left_both none made first second) schema sound =
     both_tables (made_both schema (schema_once rows schema both_schema sound made))
-    (subst (AreKept cap rows) (sym (nothing_of cap old h it none))
+    (subst (RepresentCommitted cap rows) (sym (nothing_of cap old h it none))
     (nothing_kept cap rows first second))
 made_keeps cap old rows h it (left_second one made same second) schema sound =
     let was = empty_of cap old h it one in
     both_tables (made_both schema (schema_once rows schema both_schema sound made))
-    (subst (AreKept cap rows) (sym was.1) (nothing_kept cap rows (same ∙ was.0) second))
+    (subst (RepresentCommitted cap rows) (sym was.1) (nothing_kept cap rows (same ∙ was.0) second))
 
 pub left_keeps : (cap : ℕ) (old : Database) (rows : Trees) (left : Holdings) → HasBoth old.schema →
-    IsDatabase old → KeepsTrees old.schema old.trees rows → AreKept cap rows left →
+    IsDatabase old → KeepsTrees old.schema old.trees rows → RepresentCommitted cap rows left →
     (schema : Schema) → IsDatabase (record { schema = schema; trees = rows }) →
     Keeps cap (record { schema = schema; trees = rows }) left
 left_keeps cap old rows left both sound keeps kept schema now =
@@ -180,8 +182,9 @@ left_keeps cap old rows left both sound keeps kept schema now =
 
 -- ---- under a greater cap
 
-wider_kept : (cap more : ℕ) → cap ≤ more → (trees : Trees) (h : Holdings) → AreKept cap trees h →
-    AreKept more trees h
+wider_kept : (cap more : ℕ) → cap ≤ more → (trees : Trees) (h : Holdings) →
+    RepresentCommitted cap trees h →
+    RepresentCommitted more trees h
 wider_kept cap more wide trees h kept =
     let s = kept.sound in
     record {

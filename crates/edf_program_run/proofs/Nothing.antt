@@ -28,7 +28,8 @@ use Rattle.edf_header.specs.Key.{Key}
 use Rattle.edf_holdings.specs.Holdings.{nothing_held}
 use Rattle.edf_holdings.proofs.Added.{nothing_is_sound}
 use Rattle.edf_rows.specs.Cells.{recording_cells, recordings_in}
-use Rattle.edf_rows.specs.Rows.{IsThere, IsRecordingRow, IsOwned, AreKept}
+use Rattle.edf_rows.specs.Rows.{HasRecordingRow, IsRecordingRow, BelongsToRecording}
+use Rattle.edf_rows.specs.Rows.{RepresentCommitted}
 use Rattle.edf_rows.proofs.Rows.{no_member}
 
 -- ---- no database
@@ -121,11 +122,12 @@ nothing_found image db nothing (inl found) =
 -- ---- no rows
 
 pub nothing_kept : (cap : ℕ) (trees : Trees) → stored_recordings trees ≡ [] →
-    stored_records trees ≡ [] → AreKept cap trees nothing_held
+    stored_records trees ≡ [] → RepresentCommitted cap trees nothing_held
 nothing_kept cap trees first second =
     let none : recordings_in trees ≡ [] = ap (λ (rows : List Row). map
     (λ row. stored_id row ∷ stored_identity row ∷ []) rows) first in
-    let never = λ (id : ℤ) (k : Key) (there : IsThere trees id k). no_member (recording_cells id k)
+    let never = λ (id : ℤ) (k : Key) (there : HasRecordingRow trees id k). no_member
+    (recording_cells id k)
     (subst (λ (rows : List Row). Contains rows (recording_cells id k)) none there.row) in
     record {
       stand = record {
@@ -133,7 +135,8 @@ nothing_kept cap trees first second =
             (All-from_recursion IsRecordingRow [] tt);
         apart = λ a b two. absurd (let n = length_permutation (recordings_in trees) _ two.1 in
             let m = ap (λ (rows : List Row). length rows) none in omega (arith, n, m));
-        owned = subst (All (IsOwned trees)) (sym second) (All-from_recursion (IsOwned trees) [] tt);
+        owned = subst (All (BelongsToRecording trees)) (sym second)
+            (All-from_recursion (BelongsToRecording trees) [] tt);
         held = λ id k there. absurd (never id k there);
         others = λ k no. refl;
       };

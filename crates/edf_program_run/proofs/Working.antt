@@ -17,7 +17,7 @@ use Rattle.edf_fragment.specs.Parsed.{Parsed}
 use Rattle.edf_holdings.specs.Holdings.{Holdings}
 use Rattle.edf_holdings.specs.Reply.{after}
 use Rattle.edf_holdings.proofs.Settled.{after-append}
-use Rattle.edf_rows.specs.Rows.{AreKept}
+use Rattle.edf_rows.specs.Rows.{RepresentCommitted}
 use Rattle.edf_store.specs.Held.{StoreModel, at, Holds}
 use Rattle.edf_store.specs.Open.{IsOpened, IsGivenBack}
 use Rattle.edf_store.specs.declared.fault.StoreFault.{StoreFault}
@@ -38,7 +38,7 @@ no_front turns = record { first = []; rest = turns; splits = refl; are = inl ref
 pub record FrontKept (cap : ℕ) (turns : List Turn) (h : Holdings) (rows : Trees) : Type 0 where
   pub submissions : List Parsed
   pub front : IsFront turns submissions
-  pub kept : AreKept cap rows (after cap h submissions)
+  pub kept : RepresentCommitted cap rows (after cap h submissions)
 
 unended_front : (cap : ℕ) (turns first rest : List Turn) (h : Holdings) (rows : Trees) →
     turns ≡ first ++ rest → AreUnended cap (after cap h (submissions_in first)) rest rows →
@@ -52,7 +52,8 @@ unended_front cap turns first (t ∷ ts) h rows splits u = record {
     splits = splits;
     are = inr (t, ts, u.1.0, refl, u.0, u.1.1, refl);
   };
-  kept = subst (AreKept cap rows) (sym (after-append cap h (submissions_in first) (u.1.0 ∷ [])))
+  kept = subst (RepresentCommitted cap rows)
+      (sym (after-append cap h (submissions_in first) (u.1.0 ∷ [])))
       u.1.2;
 }
 
@@ -139,7 +140,7 @@ module _ {D : Type 0} {g : Ghosts D} (r : ProgramRun g) (first : Held (FileStore
     keeps_last clean is_open h held = both_tables
         (subst HasBoth (sym (it.takes.others.others clean is_open).schema)
         (tables_both _ _ (it.opened.tables (was_clean clean))))
-        (subst (λ (n : ℕ). AreKept n (at over_files it.new).committed.trees h)
+        (subst (λ (n : ℕ). RepresentCommitted n (at over_files it.new).committed.trees h)
         (it.takes.cap ∙ it.cap_is) (held clean is_open))
 
     pub others_last : HasCleanDisk (at over_files it.new) → IsTrue (at over_files it.new).is_open →

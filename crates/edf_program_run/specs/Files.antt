@@ -8,7 +8,7 @@ use Rattle.sqlite.specs.Files.{HoldsDatabase, IsNothing, AreFoundIn}
 use Rattle.edf_tables.specs.Columns.{stored_recordings}
 use Rattle.edf_tables.specs.Schema.{no_schema, one_schema, HasBoth}
 use Rattle.edf_holdings.specs.Holdings.{Holdings, nothing_held}
-use Rattle.edf_rows.specs.Rows.{AreKept}
+use Rattle.edf_rows.specs.Rows.{RepresentCommitted}
 
 -- a database keeps these: it has no table at all, or only our first, without a row, and nothing is
 -- held; or it has both, whose rows stand for them
@@ -16,7 +16,7 @@ pub data Keeps (cap : ℕ) (db : Database) (h : Holdings) : Type 0 where
   no_table : db.schema ≡ no_schema → h ≡ nothing_held → Keeps cap db h
   one_table : db.schema ≡ one_schema → stored_recordings db.trees ≡ [] → h ≡ nothing_held →
       Keeps cap db h
-  both_tables : HasBoth db.schema → AreKept cap db.trees h → Keeps cap db h
+  both_tables : HasBoth db.schema → RepresentCommitted cap db.trees h → Keeps cap db h
 
 -- the trees are those of such a database
 pub record TreesKeep (cap : ℕ) (trees : Trees) (h : Holdings) : Type 0 where

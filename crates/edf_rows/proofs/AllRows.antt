@@ -27,7 +27,7 @@ use Rattle.edf_tables.specs.declared.row.TheConstants.{MOST_COUNTED}
 use Rattle.edf_tables.specs.Schema.{Others, schema_with, HasBoth}
 use Rattle.edf_tables.proofs.Keeping.{same_left, same_keeps, keeps_then}
 use Rattle.edf_rows.specs.Cells.{recording_cells, recordings_in}
-use Rattle.edf_rows.specs.Rows.{IsOwned, AreTwoOf, AreOther}
+use Rattle.edf_rows.specs.Rows.{BelongsToRecording, AreTwoOf, DifferInIdAndKey}
 use Rattle.edf_rows.specs.Foreign.{IsForeign, without_recording, twice}
 use Rattle.edf_rows.specs.Inside.Shape.{HasRecords}
 use Rattle.edf_rows.proofs.Rows.{here, there, cases_first, no_member}
@@ -120,7 +120,7 @@ one_missing p (x ∷ xs) other = go (p x) refl (one_missing p xs)
 -- a record that one of the recordings owns
 pub owned_by_one : (cap : ℕ) (trees : Trees) (rows : List Row) (r : Row) →
     IsPermutation (recordings_in trees) rows → AllByRecursion (HasRecords cap trees) rows →
-    list_any (λ g. owns g r) rows ≡ true → IsOwned trees r
+    list_any (λ g. owns g r) rows ≡ true → BelongsToRecording trees r
 owned_by_one cap trees rows r same all h =
     let it = owner cap trees rows r all h in
     let has = it.1 in
@@ -139,7 +139,7 @@ module _ (cap : ℕ) (trees : Trees) (rows : List Row) (sum : ℕ)
     (same : IsPermutation (recordings_in trees) rows) (counted : AreCounted cap trees rows sum)
   where
     all_owned : (rs : List Row) → AllByRecursion (λ r. list_any (λ g. owns g r) rows ≡ true) rs →
-        AllByRecursion (IsOwned trees) rs
+        AllByRecursion (BelongsToRecording trees) rs
     all_owned [] all = tt
     all_owned (r ∷ rs) all = (
       owned_by_one cap trees rows r same counted.has all.0,
@@ -164,15 +164,15 @@ module _ (cap : ℕ) (trees : Trees) (rows : List Row) (sum : ℕ)
         Contains (recordings_in trees) b = λ a b two.
         Contains-permutation _ _ b (IsPermutation-sym _ _ two.1)
         (there a b (b ∷ two.0) (here b two.0)) in
-        let apart : (a b : Row) → AreTwoOf (recordings_in trees) a b → AreOther a b =
+        let apart : (a b : Row) → AreTwoOf (recordings_in trees) a b → DifferInIdAndKey a b =
         λ a b two. record {
           id = ids a b two;
           identity =
               other_identities cap trees o obeys has a b (first a b two) (second a b two)
               (ids a b two);
         } in
-        let owners : All (IsOwned trees) (trees 2) =
-        All-from_recursion (IsOwned trees) (trees 2)
+        let owners : All (BelongsToRecording trees) (trees 2) =
+        All-from_recursion (BelongsToRecording trees) (trees 2)
         (all_owned (trees 2) (all_full (λ r. list_any (λ g. owns g r) rows) (trees 2)
         (sym counted.sums ∙ full))) in
         (held_of cap trees (recordings_in trees) has, are-kept cap trees has apart owners)

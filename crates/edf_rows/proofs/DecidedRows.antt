@@ -28,7 +28,7 @@ use Rattle.edf_holdings.specs.Holdings.{Holdings}
 use Rattle.edf_tables.specs.Cells.{first_three}
 use Rattle.edf_rows.specs.Cells.{record_cells, recording_cells, recordings_in, records_in}
 use Rattle.edf_tables.specs.Columns.{by_column}
-use Rattle.edf_rows.specs.Rows.{IsOwned, AreTwoOf, AreOther, AreKept}
+use Rattle.edf_rows.specs.Rows.{BelongsToRecording, AreTwoOf, DifferInIdAndKey, RepresentCommitted}
 use Rattle.edf_rows.specs.Foreign.{IsBadRow, AreTooNear, BeginsTooLate, AreBadRecords, bad_row}
 use Rattle.edf_rows.specs.Foreign.{too_near, too_late, too_few, too_many, IsForeign, bad_recording}
 use Rattle.edf_rows.specs.Foreign.{bad_records, without_recording, twice}
@@ -275,7 +275,7 @@ record IsOnce (all : List Row) (row : Row) : Type 0 where
   one_identity : length (filter (λ (r : Row). has_bytes bytes (column r 1)) all) ≤ 1
 
 apart_from : (all : List Row) → AllByRecursion (IsOnce all) all → (a b : Row) → AreTwoOf all a b →
-    AreOther a b
+    DifferInIdAndKey a b
 apart_from all once a b two =
     let c : Contains all b = Contains-permutation (a ∷ b ∷ two.0) all b
     (IsPermutation-sym _ _ two.1) (there a b (b ∷ two.0) (here b two.0)) in
@@ -331,7 +331,7 @@ module _ (cap : ℕ) (trees : Trees) where
   -- ---- each record has its recording
   owned_or : AllByRecursion (HasRecords cap trees) (recordings_in trees) → (rows : List Row) →
       ((row : Row) → Contains rows row → Contains (trees 2) row) →
-      AllByRecursion (IsOwned trees) rows ⊎ IsForeign cap trees
+      AllByRecursion (BelongsToRecording trees) rows ⊎ IsForeign cap trees
   owned_or has [] in_all = inl tt
   owned_or has (row ∷ rows) in_all =
       elim (cases_Bool (list_any (λ g. owns g row) (recordings_in trees))) [
@@ -349,7 +349,7 @@ module _ (cap : ℕ) (trees : Trees) where
       ]
 
 -- rows are kept, or foreign
-pub kept_or_foreign : (cap : ℕ) (trees : Trees) → ((h : Holdings) × AreKept cap trees h)
+pub kept_or_foreign : (cap : ℕ) (trees : Trees) → ((h : Holdings) × RepresentCommitted cap trees h)
     ⊎ IsForeign cap trees
 kept_or_foreign cap trees =
     let rows = recordings_in trees in
@@ -362,7 +362,7 @@ kept_or_foreign cap trees =
           | inl own ↦ inl (
             held_of cap trees rows has,
             are-kept cap trees has (apart_from rows once)
-                (All-from_recursion (IsOwned trees) (trees 2) own),
+                (All-from_recursion (BelongsToRecording trees) (trees 2) own),
           )
         ]
       ]

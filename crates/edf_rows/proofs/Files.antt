@@ -13,7 +13,7 @@ use Rattle.edf_holdings.specs.Holdings.{Holdings}
 use Rattle.edf_tables.proofs.Schemas.{none_not_one, none_not_both, one_not_both}
 use Rattle.edf_tables.specs.Made.{IsOurs, HasTables, from_none, from_one, from_both}
 use Rattle.edf_rows.specs.Cells.{recordings_in, records_in, recording_cells}
-use Rattle.edf_rows.specs.Rows.{IsRecordingRow, AreKept}
+use Rattle.edf_rows.specs.Rows.{IsRecordingRow, RepresentCommitted}
 use Rattle.edf_rows.specs.Foreign.{IsForeign, bad_recording, bad_records, without_recording, twice}
 use Rattle.edf_rows.proofs.Rows.{here, no_member, not-foreign}
 use Rattle.edf_rows.specs.Inside.All.{Answers}
@@ -48,7 +48,8 @@ were_foreign cap old new (from_both both same) foreign =
     foreign_rows both (subst (λ (d : Database). IsForeign cap d.trees) same foreign)
 
 -- a recording that is kept has a record
-recorded : (cap : ℕ) (trees : Trees) (h : Holdings) → AreKept cap trees h → trees 2 ≡ [] →
+recorded : (cap : ℕ) (trees : Trees) (h : Holdings) → RepresentCommitted cap trees h →
+    trees 2 ≡ [] →
     trees 0 ≡ []
 recorded cap trees h kept none = go (trees 0) refl
   where
@@ -76,7 +77,7 @@ had_ours old new (from_both both same) = inr (inr both)
 
 -- rows that are kept were not foreign
 were_own : (cap : ℕ) (old new : Database) (h : Holdings) → HasTables old new →
-    AreKept cap new.trees h → ¬ IsForeignFile cap old
+    RepresentCommitted cap new.trees h → ¬ IsForeignFile cap old
 were_own cap old new h tables kept (other_schema none) = none (had_ours old new tables)
 were_own cap old new h (from_none none both first second) kept (foreign_rows was foreign) =
     none_not_both old.schema none was

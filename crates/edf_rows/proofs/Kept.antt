@@ -21,7 +21,8 @@ use Rattle.edf_holdings.proofs.Same.{same_key-Decides, same_key-true, test_from_
 use Rattle.edf_holdings.proofs.Joining.{apart-sound, rising_from_apart, free_from_apart, lasting}
 use Rattle.edf_holdings.proofs.Joining.{In-from_Contains}
 use Rattle.edf_rows.specs.Cells.{record_cells, recording_cells, recordings_in, records_in}
-use Rattle.edf_rows.specs.Rows.{IsRecordingRow, IsOwned, AreTwoOf, AreOther, AreKept}
+use Rattle.edf_rows.specs.Rows.{IsRecordingRow, BelongsToRecording, AreTwoOf, DifferInIdAndKey}
+use Rattle.edf_rows.specs.Rows.{RepresentCommitted}
 use Rattle.edf_rows.specs.Inside.Shape.{HasRecords}
 use Rattle.edf_rows.proofs.Rows.{here, there, cases_first, no_member, same-recordings}
 
@@ -80,7 +81,7 @@ held_keeps cap trees P none each (row ∷ rows) all k =
 
 held_here : (cap : ℕ) (trees : Trees) (rows : List Row)
     (all : AllByRecursion (HasRecords cap trees) rows) →
-    ((a b : Row) → AreTwoOf rows a b → AreOther a b)
+    ((a b : Row) → AreTwoOf rows a b → DifferInIdAndKey a b)
     → (id : ℤ) (k : Key) → IsKey k → Contains rows (recording_cells id k) →
     records_in trees id ≡ map record_cells (held_of cap trees rows all k)
 held_here cap trees [] all apart id k key c = absurd (no_member (recording_cells id k) c)
@@ -190,9 +191,9 @@ some_there cap trees (row ∷ rows) all id k key c none =
 
 pub are-kept : (cap : ℕ) (trees : Trees)
     (all : AllByRecursion (HasRecords cap trees) (recordings_in trees)) →
-    ((a b : Row) → AreTwoOf (recordings_in trees) a b → AreOther a b) →
-    All (IsOwned trees) (trees 2)
-    → AreKept cap trees (held_of cap trees (recordings_in trees) all)
+    ((a b : Row) → AreTwoOf (recordings_in trees) a b → DifferInIdAndKey a b) →
+    All (BelongsToRecording trees) (trees 2)
+    → RepresentCommitted cap trees (held_of cap trees (recordings_in trees) all)
 are-kept cap trees all apart owned =
     let rows = recordings_in trees in
     record {

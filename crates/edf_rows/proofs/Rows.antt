@@ -27,7 +27,8 @@ use Rattle.edf_holdings.specs.Holdings.{Holdings, IsSound}
 use Rattle.edf_holdings.proofs.Same.{same_key-Decides, same_key-true}
 use Rattle.edf_holdings.proofs.Joining.{IsGood-from_sound}
 use Rattle.edf_rows.specs.Cells.{record_cells, recording_cells, recordings_in}
-use Rattle.edf_rows.specs.Rows.{IsThere, IsRecordingRow, IsOwned, StandFor, AreKept}
+use Rattle.edf_rows.specs.Rows.{HasRecordingRow, IsRecordingRow, BelongsToRecording, Represent}
+use Rattle.edf_rows.specs.Rows.{RepresentCommitted}
 use Rattle.edf_rows.specs.Foreign.{IsBadRow, bad_start, bad_samples, bad_block, AreTooNear}
 use Rattle.edf_rows.specs.Foreign.{BeginsTooLate, AreBadRecords, bad_row, too_near, too_late}
 use Rattle.edf_rows.specs.Foreign.{too_few, too_many, IsForeign, bad_recording, bad_records}
@@ -140,15 +141,15 @@ finds (row ∷ rows) all k = go (same_key all.0.key k) refl (finds rows all.1 k)
             ∙ e)
         last id key (inr c) = none id c key
 
-pub one-holdings : (trees : Trees) (h i : Holdings) (c d : ℕ) → StandFor trees h → IsSound c h →
-    StandFor trees i → IsSound d i → h ≡ i
+pub one-holdings : (trees : Trees) (h i : Holdings) (c d : ℕ) → Represent trees h → IsSound c h →
+    Represent trees i → IsSound d i → h ≡ i
 one-holdings trees h i c d a s b t =
     fun_ext (λ k. go k (finds (recordings_in trees)
     (recursion_from_All IsRecordingRow (recordings_in trees) a.recordings) k))
   where
     go : (k : Key) → Finds (recordings_in trees) k → h k ≡ i k
     go k (inl found) =
-        let is : IsThere trees found.0 k = record { row = found.1; key = found.2 } in
+        let is : HasRecordingRow trees found.0 k = record { row = found.1; key = found.2 } in
         same-lists k (h k) (i k) (recursion_from_All (IsSoundRecord k) (h k) (s.records k))
         (recursion_from_All (IsSoundRecord k) (i k) (t.records k)) (sym (a.held found.0 k is)
         ∙ b.held found.0 k is)
@@ -265,7 +266,7 @@ not-bad-records cap k xs sound apart begins few some (too_few none) = some none
 not-bad-records cap k xs sound apart begins few some (too_many more) =
     absurd (let n = length-map xs record_cells in omega (arith, n, more, few))
 
-pub not-foreign : (cap : ℕ) (trees : Trees) (h : Holdings) → AreKept cap trees h →
+pub not-foreign : (cap : ℕ) (trees : Trees) (h : Holdings) → RepresentCommitted cap trees h →
     ¬ IsForeign cap trees
 not-foreign cap trees h kept (bad_recording row c bad) =
     bad (All-contains IsRecordingRow (recordings_in trees) row kept.stand.recordings c)
@@ -276,7 +277,8 @@ not-foreign cap trees h kept (bad_records id k is bad) =
     (good.apart k) (kept.sound.begins k) (good.few k) (λ none. kept.each id k is (rows ∙ none))
     (subst (AreBadRecords cap k) rows bad)
 not-foreign cap trees h kept (without_recording row c none) =
-    let own : IsOwned trees row = All-contains (IsOwned trees) (trees 2) row kept.stand.owned c in
+    let own : BelongsToRecording trees row =
+    All-contains (BelongsToRecording trees) (trees 2) row kept.stand.owned c in
     none own.id own.key own.there own.owned
 not-foreign cap trees h kept (twice a b two (inl e)) = (kept.stand.apart a b two).id e
 not-foreign cap trees h kept (twice a b two (inr e)) = (kept.stand.apart a b two).identity e

@@ -6,7 +6,7 @@ use Rattle.edf_holdings.specs.Holdings.{Holdings}
 use Rattle.edf_tables.specs.Columns.{stored_recordings}
 use Rattle.edf_tables.specs.Schema.{one_schema, HasBoth}
 use Rattle.edf_tables.specs.Made.{IsOurs, HasTables}
-use Rattle.edf_rows.specs.Rows.{AreKept}
+use Rattle.edf_rows.specs.Rows.{RepresentCommitted}
 use Rattle.edf_rows.specs.Foreign.{IsForeign}
 
 -- why a file is refused: its schema is not ours; no submissions under the cap leave its rows; or it
@@ -23,7 +23,7 @@ pub record PassesAudit (cap : ℕ) (old new : State) : Type 0 where
   pub tables : HasTables old.now new.now
   pub settled : new.committed ≡ new.now
   pub idle : new.in_transaction ≡ false
-  pub holdings : (h : Holdings) × AreKept cap new.now.trees h
+  pub holdings : (h : Holdings) × RepresentCommitted cap new.now.trees h
   pub own : ¬ IsForeignFile cap old.now
 
 -- the answer of the check

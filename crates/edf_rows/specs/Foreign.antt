@@ -15,7 +15,7 @@ use Rattle.edf_tal.specs.Canonical.{block_text}
 use Rattle.edf_rows.specs.Cells.{recordings_in, records_in}
 use Rattle.edf_tables.specs.Columns.{the_id, the_identity, the_start, the_samples, the_block}
 use Rattle.edf_tables.specs.Columns.{stored_records, is_of}
-use Rattle.edf_rows.specs.Rows.{IsThere, IsRecordingRow, AreTwoOf}
+use Rattle.edf_rows.specs.Rows.{HasRecordingRow, IsRecordingRow, AreTwoOf}
 
 -- the cell is an instant of the window
 abbrev pub IsStart : Row → ℕ → Type 0
@@ -28,7 +28,7 @@ AreSamples k row = (samples : List ℕ) × (the_samples row ≡ Blob samples)
 
 -- the cell is the block that is written for what is read of it, and the start that is read is the
 -- row's
-pub record IsOwnBlock (row : Row) : Type 0 where
+pub record IsCanonicalBlock (row : Row) : Type 0 where
   pub block : List ℕ
   pub start : ℕ
   pub list : List Annotation
@@ -41,7 +41,7 @@ pub record IsOwnBlock (row : Row) : Type 0 where
 pub data IsBadRow (k : Key) (row : Row) : Type 0 where
   bad_start : ((start : ℕ) → ¬ IsStart row start) → IsBadRow k row
   bad_samples : ¬ AreSamples k row → IsBadRow k row
-  bad_block : ¬ IsOwnBlock row → IsBadRow k row
+  bad_block : ¬ IsCanonicalBlock row → IsBadRow k row
 
 -- two records of a recording start less than its duration apart
 pub record AreTooNear (rows : List Row) (duration : ℕ) : Type 0 where
@@ -76,9 +76,10 @@ pub data AreBadRecords (cap : ℕ) (k : Key) (rows : List Row) : Type 0 where
 pub data IsForeign (cap : ℕ) (trees : Trees) : Type 0 where
   bad_recording : (row : Row) → Contains (recordings_in trees) row → ¬ IsRecordingRow row →
       IsForeign cap trees
-  bad_records : (id : ℤ) (k : Key) → IsThere trees id k →
+  bad_records : (id : ℤ) (k : Key) → HasRecordingRow trees id k →
       AreBadRecords cap k (records_in trees id) → IsForeign cap trees
   without_recording : (row : Row) → Contains (stored_records trees) row →
-      ((id : ℤ) (k : Key) → IsThere trees id k → ¬ IsTrue (is_of id row)) → IsForeign cap trees
+      ((id : ℤ) (k : Key) → HasRecordingRow trees id k → ¬ IsTrue (is_of id row)) →
+      IsForeign cap trees
   twice : (a b : Row) → AreTwoOf (recordings_in trees) a b → (the_id a ≡ the_id b)
       ⊎ (the_identity a ≡ the_identity b) → IsForeign cap trees

@@ -13,7 +13,7 @@ use Rattle.edf_fragment.specs.Fragment.{DataRecord, IsWithinSize}
 use Rattle.edf_fragment.specs.Sound.{IsSoundRecord}
 
 -- the key's recording is there, under this id
-pub record IsThere (trees : Trees) (id : ℤ) (k : Key) : Type 0 where
+pub record HasRecordingRow (trees : Trees) (id : ℤ) (k : Key) : Type 0 where
   pub row : Contains (recordings_in trees) (recording_cells id k)
   pub key : IsKey k
 
@@ -25,10 +25,10 @@ pub record IsRecordingRow (row : Row) : Type 0 where
   pub is_key : IsKey key
 
 -- the record belongs to a recording that is there
-pub record IsOwned (trees : Trees) (row : Row) : Type 0 where
+pub record BelongsToRecording (trees : Trees) (row : Row) : Type 0 where
   pub id : ℤ
   pub key : Key
-  pub there : IsThere trees id key
+  pub there : HasRecordingRow trees id key
   pub owned : IsTrue (is_of id row)
 
 -- a and b are two members of the list
@@ -36,7 +36,7 @@ abbrev pub AreTwoOf : List Row → Row → Row → Type 0
 AreTwoOf rows a b = (rest : List Row) × IsPermutation rows (a ∷ b ∷ rest)
 
 -- they have neither one id nor one identity
-pub record AreOther (a b : Row) : Type 0 where
+pub record DifferInIdAndKey (a b : Row) : Type 0 where
   pub id : the_id a ≢ the_id b
   pub identity : the_identity a ≢ the_identity b
 
@@ -44,18 +44,19 @@ pub record AreOther (a b : Row) : Type 0 where
 -- and no key occurs twice, each record belongs to a recording, and a recording's records by rising
 -- starts are what its key holds. A key without a recording holds nothing; a recording without a
 -- record is possible inside a transaction
-pub record StandFor (trees : Trees) (h : Holdings) : Type 0 where
+pub record Represent (trees : Trees) (h : Holdings) : Type 0 where
   pub recordings : All IsRecordingRow (recordings_in trees)
-  pub apart : (a b : Row) → AreTwoOf (recordings_in trees) a b → AreOther a b
-  pub owned : All (IsOwned trees) (stored_records trees)
-  pub held : (id : ℤ) (k : Key) → IsThere trees id k → records_in trees id ≡ map record_cells (h k)
-  pub others : (k : Key) → ((id : ℤ) → ¬ IsThere trees id k) → h k ≡ []
+  pub apart : (a b : Row) → AreTwoOf (recordings_in trees) a b → DifferInIdAndKey a b
+  pub owned : All (BelongsToRecording trees) (stored_records trees)
+  pub held : (id : ℤ) (k : Key) → HasRecordingRow trees id k →
+      records_in trees id ≡ map record_cells (h k)
+  pub others : (k : Key) → ((id : ℤ) → ¬ HasRecordingRow trees id k) → h k ≡ []
 
 -- the rows that are kept: they stand for sound holdings, and each recording has a record
-pub record AreKept (cap : ℕ) (trees : Trees) (h : Holdings) : Type 0 where
-  pub stand : StandFor trees h
+pub record RepresentCommitted (cap : ℕ) (trees : Trees) (h : Holdings) : Type 0 where
+  pub stand : Represent trees h
   pub sound : IsSound cap h
-  pub each : (id : ℤ) (k : Key) → IsThere trees id k → records_in trees id ≢ []
+  pub each : (id : ℤ) (k : Key) → HasRecordingRow trees id k → records_in trees id ≢ []
 
 -- the row is this data record's, which is a sound one of the key
 pub record IsRowOf (k : Key) (r : DataRecord) (row : Row) : Type 0 where

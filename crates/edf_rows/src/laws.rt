@@ -7,14 +7,14 @@ ghost use Rattle.edf_fragment.specs.Fragment.{DataRecord};
 ghost use Rattle.edf_fragment.specs.Sound.{IsSoundRecord};
 ghost use Rattle.edf_holdings.specs.Holdings.{Holdings, IsSound};
 ghost use Rattle.edf_rows.specs.Cells.{record_cells};
-ghost use Rattle.edf_rows.specs.Rows.{StandFor, AreKept};
+ghost use Rattle.edf_rows.specs.Rows.{Represent, RepresentCommitted};
 ghost use Rattle.edf_rows.specs.Foreign.{IsBadRow, IsForeign};
 ghost use Rattle.std.specs.Prelude.{◌⊎◌};
 
 /// Two sound holdings that the same rows stand for are equal.
 pub fn one_holdings()
-    ensures { (trees : Trees) (h i : Holdings) (c d : ℕ) → StandFor trees h → IsSound c h →
-        StandFor trees i → IsSound d i → h ≡ i }
+    ensures { (trees : Trees) (h i : Holdings) (c d : ℕ) → Represent trees h → IsSound c h →
+        Represent trees i → IsSound d i → h ≡ i }
 {}
 
 /// No two sound data records of a key have the same cells, and none has those of a bad row.
@@ -26,7 +26,7 @@ pub fn one_record()
 
 /// Rows that stand for sound holdings, each recording with a record, are not foreign.
 pub fn kept_is_not_foreign()
-    ensures { (cap : ℕ) (trees : Trees) (h : Holdings) → AreKept cap trees h →
+    ensures { (cap : ℕ) (trees : Trees) (h : Holdings) → RepresentCommitted cap trees h →
         ¬ IsForeign cap trees }
 {}
 
@@ -34,5 +34,5 @@ pub fn kept_is_not_foreign()
 /// foreign. That they are never both is the law `kept_is_not_foreign` of `edf_rows`.
 pub fn kept_or_foreign()
     ensures { (cap : ℕ) (trees : Trees) →
-        ((h : Holdings) × AreKept cap trees h) ⊎ IsForeign cap trees }
+        ((h : Holdings) × RepresentCommitted cap trees h) ⊎ IsForeign cap trees }
 {}

@@ -5,7 +5,7 @@ use Rattle.sqlite.specs.Tree.{Trees}
 use Rattle.sqlite.specs.Effect.{Database}
 use Rattle.sqlite.specs.State.{State, HasCleanDisk, Survives, Shows}
 use Rattle.edf_holdings.specs.Holdings.{Holdings}
-use Rattle.edf_rows.specs.Rows.{StandFor}
+use Rattle.edf_rows.specs.Rows.{Represent}
 use Rattle.edf_tables.specs.Schema.{HasBoth}
 use Rattle.edf_tables.specs.Others.{KeepsOthers}
 use Rattle.edf_tables.proofs.Commits.{survives_same}
@@ -32,7 +32,7 @@ module _ (cap : ℕ) (old new : State) (P : Trees →
               (sound.schema was begun.was_open);
           mode = begun.mode;
         };
-        stand = subst (λ (d : Database). StandFor d.trees h) (sym same) kept.stand;
+        stand = subst (λ (d : Database). Represent d.trees h) (sym same) kept.stand;
         sound = kept.sound;
         others = subst₂ KeepsOthers (sym begun.committed_is) (sym same) (others_same old.committed);
       }

@@ -27,7 +27,8 @@ use Rattle.edf_tables.specs.Columns.{by_column, is_of}
 use Rattle.edf_tables.specs.Recordings.{named}
 use Rattle.edf_tables.proofs.Apart.{equal_of}
 use Rattle.edf_rows.specs.Cells.{record_cells, recording_cells, recordings_in, records_in}
-use Rattle.edf_rows.specs.Rows.{IsThere, IsRecordingRow, IsOwned, AreTwoOf, AreOther, StandFor}
+use Rattle.edf_rows.specs.Rows.{HasRecordingRow, IsRecordingRow, BelongsToRecording, AreTwoOf}
+use Rattle.edf_rows.specs.Rows.{DifferInIdAndKey, Represent}
 use Rattle.edf_rows.proofs.Rows.{here, there, cases_first, no_member, same-recordings}
 use Rattle.edf_rows.proofs.Kept.{first_two, two_later}
 use Rattle.edf_store.proofs.Standing.{other_id}
@@ -74,9 +75,9 @@ found_in id k (row ∷ rows) all c =
         pick (inr m) more = there (shown row) (recording_cells id k) (map shown rows) (more m)
 
 -- a row with the identity of a key is its recording
-pub found : (trees : Trees) (h : Holdings) (id : ℤ) (k : Key) → StandFor trees h → IsKey k →
+pub found : (trees : Trees) (h : Holdings) (id : ℤ) (k : Key) → Represent trees h → IsKey k →
     Contains (map (λ row. column row 0) (named (key_bytes k) (trees 0))) (Int id) →
-    IsThere trees id k
+    HasRecordingRow trees id k
 found trees h id k stand key c =
     record {
       row = found_in id k (trees 0)
@@ -116,7 +117,7 @@ absent_in id k (row ∷ rows) none c =
     go (inr m) more = more m
 
 pub absent : (trees : Trees) (k : Key) → named (key_bytes k) (trees 0) ≡ [] → (id : ℤ) →
-    ¬ IsThere trees id k
+    ¬ HasRecordingRow trees id k
 absent trees k none id it = absent_in id k (trees 0) (unnamed k (trees 0) none) it.row
 
 -- ---- permutations
@@ -139,12 +140,13 @@ member_along = along_permutation (λ xs ys. (x : Row) → Contains xs x → Cont
     ])
     (λ xs ys zs f g x c. g x (f x c))
 
-turned : (a b : Row) → AreOther a b → AreOther b a
+turned : (a b : Row) → DifferInIdAndKey a b → DifferInIdAndKey b a
 turned a b o = record { id = λ p. o.id (sym p); identity = λ p. o.identity (sym p) }
 
 abbrev pub PairsAlong : List Row → List Row → Type 0
-PairsAlong xs ys = ((x : Row) → AllByRecursion (AreOther x) xs → AllByRecursion (AreOther x) ys)
-    × (IsAscending AreOther xs → IsAscending AreOther ys)
+PairsAlong xs ys = ((x : Row) → AllByRecursion (DifferInIdAndKey x) xs →
+    AllByRecursion (DifferInIdAndKey x) ys)
+    × (IsAscending DifferInIdAndKey xs → IsAscending DifferInIdAndKey ys)
 
 pub pairs_along : (xs ys : List Row) → IsPermutation xs ys → PairsAlong xs ys
 pairs_along = along_permutation PairsAlong (λ xs. ((λ x all. all), (λ all. all)))
@@ -163,16 +165,17 @@ all_members P (x ∷ xs) each = (
   all_members P xs (λ y c. each y (there x y xs c)),
 )
 
-pub pairs_of : (rows : List Row) → ((a b : Row) → AreTwoOf rows a b → AreOther a b) →
-    IsAscending AreOther rows
+pub pairs_of : (rows : List Row) → ((a b : Row) → AreTwoOf rows a b → DifferInIdAndKey a b) →
+    IsAscending DifferInIdAndKey rows
 pairs_of [] apart = tt
 pairs_of (row ∷ rows) apart = (
-  all_members (AreOther row) rows (λ x c. apart row x (first_two row x rows c)),
+  all_members (DifferInIdAndKey row) rows (λ x c. apart row x (first_two row x rows c)),
   pairs_of rows (λ a b two. apart a b (two_later row a b rows two)),
 )
 
-from_pairs : (rows : List Row) → IsAscending AreOther rows → (a b : Row) → AreTwoOf rows a b →
-    AreOther a b
+from_pairs : (rows : List Row) → IsAscending DifferInIdAndKey rows → (a b : Row) →
+    AreTwoOf rows a b →
+    DifferInIdAndKey a b
 from_pairs rows pairs a b two = ((pairs_along rows (a ∷ b ∷ two.0) two.1).1 pairs).0.0
 
 put_permutes : (new : Row) (rows : List Row) →
@@ -194,7 +197,7 @@ put_permutes new (r ∷ rows) fresh =
 module _ (old new : State) (id : ℤ) (k : Key) (h : Holdings)
     (has : HasRecording old new (named_cells (key_bytes k)))
     (is_id : id ≡ next_rowid (old.now.trees 0))
-    (stand : StandFor old.now.trees h) (key : IsKey k)
+    (stand : Represent old.now.trees h) (key : IsKey k)
     (none : named (key_bytes k) (old.now.trees 0) ≡ []) where
   abbrev row : Row
   row = new_row (old.now.trees 0) (named_cells (key_bytes k))
@@ -213,7 +216,7 @@ module _ (old new : State) (id : ℤ) (k : Key) (h : Holdings)
 
   others_in : (rows : List Row) →
       AllByRecursion (λ r. is_eq (value_cmp (rowid r) (rowid row)) ≡ false) rows →
-      IsUnnamed k rows → AllByRecursion (AreOther (shown row)) (map shown rows)
+      IsUnnamed k rows → AllByRecursion (DifferInIdAndKey (shown row)) (map shown rows)
   others_in [] apart other = tt
   others_in (r ∷ rows) apart other = (
     record {
@@ -225,10 +228,10 @@ module _ (old new : State) (id : ℤ) (k : Key) (h : Holdings)
     others_in rows apart.1 other.1,
   )
 
-  others : AllByRecursion (AreOther (shown row)) (recordings_in old.now.trees)
+  others : AllByRecursion (DifferInIdAndKey (shown row)) (recordings_in old.now.trees)
   others = others_in (old.now.trees 0) fresh (unnamed k (old.now.trees 0) none)
 
-  pub there_now : IsThere new.now.trees id k
+  pub there_now : HasRecordingRow new.now.trees id k
   there_now = record {
     row = member_along _ _ moved (recording_cells id k)
         (subst (λ r. Contains (r ∷ recordings_in old.now.trees) (recording_cells id k)) (sym own)
@@ -236,7 +239,8 @@ module _ (old new : State) (id : ℤ) (k : Key) (h : Holdings)
     key = key;
   }
 
-  pub there_still : (m : ℤ) (q : Key) → IsThere old.now.trees m q → IsThere new.now.trees m q
+  pub there_still : (m : ℤ) (q : Key) → HasRecordingRow old.now.trees m q →
+      HasRecordingRow new.now.trees m q
   there_still m q it = record {
     row =
         member_along _ _ moved (recording_cells m q)
@@ -244,8 +248,8 @@ module _ (old new : State) (id : ℤ) (k : Key) (h : Holdings)
     key = it.key;
   }
 
-  pub there_cases : (m : ℤ) (q : Key) → IsThere new.now.trees m q →
-      (shown row ≡ recording_cells m q) ⊎ IsThere old.now.trees m q
+  pub there_cases : (m : ℤ) (q : Key) → HasRecordingRow new.now.trees m q →
+      (shown row ≡ recording_cells m q) ⊎ HasRecordingRow old.now.trees m q
   there_cases m q it =
       elim (cases_first (shown row) (recording_cells m q) (recordings_in old.now.trees)
       (member_along _ _ (IsPermutation-sym _ _ moved) (recording_cells m q) it.row)) [
@@ -253,9 +257,9 @@ module _ (old new : State) (id : ℤ) (k : Key) (h : Holdings)
         | inr c ↦ inr (record { row = c; key = it.key })
       ]
 
-  is_other : (r : Row) → IsOwned old.now.trees r → is_of id r ≡ false
+  is_other : (r : Row) → BelongsToRecording old.now.trees r → is_of id r ≡ false
   is_other r owner =
-      let apart = All-contains (AreOther (shown row)) (recordings_in old.now.trees)
+      let apart = All-contains (DifferInIdAndKey (shown row)) (recordings_in old.now.trees)
       (recording_cells owner.id owner.key) (All-from_recursion _ _ others) owner.there.row in
       let ids : id ≢ owner.id = λ p. apart.id (ap (λ (n : ℤ). Int n) (sym is_id ∙ p)) in
       let compared : value_cmp (Int id) (column r 1) ≡ int_cmp id owner.id =
@@ -273,13 +277,14 @@ module _ (old new : State) (id : ℤ) (k : Key) (h : Holdings)
   empty : records_in old.now.trees id ≡ []
   empty = ap (λ (rows : List Row). map shown_record (sort_by (by_column 2) rows))
       (filter_none (is_of id) (old.now.trees 2)
-      (all_weaker (IsOwned old.now.trees) (λ r. is_of id r ≡ false) is_other (old.now.trees 2)
-      (recursion_from_All (IsOwned old.now.trees) (old.now.trees 2) stand.owned)))
+      (all_weaker (BelongsToRecording old.now.trees) (λ r. is_of id r ≡ false) is_other
+      (old.now.trees 2)
+      (recursion_from_All (BelongsToRecording old.now.trees) (old.now.trees 2) stand.owned)))
 
   same_rows : (m : ℤ) → records_in new.now.trees m ≡ records_in old.now.trees m
   same_rows m = ap (λ (rows : List Row). map shown_record (records_of m rows)) has.records
 
-  pub stand_named : StandFor new.now.trees h
+  pub stand_named : Represent new.now.trees h
   stand_named = record {
     recordings = All-from_recursion IsRecordingRow (recordings_in new.now.trees)
         (all_members IsRecordingRow (recordings_in new.now.trees) (λ x c.
@@ -290,9 +295,10 @@ module _ (old new : State) (id : ℤ) (k : Key) (h : Holdings)
         ]));
     apart = from_pairs (recordings_in new.now.trees)
         ((pairs_along _ _ moved).1 (others, pairs_of (recordings_in old.now.trees) stand.apart));
-    owned = subst (λ (rows : List Row). All (IsOwned new.now.trees) rows) (sym has.records)
-        (All-from_recursion (IsOwned new.now.trees) (old.now.trees 2)
-        (all_weaker (IsOwned old.now.trees) (IsOwned new.now.trees)
+    owned = subst (λ (rows : List Row). All (BelongsToRecording new.now.trees) rows)
+        (sym has.records)
+        (All-from_recursion (BelongsToRecording new.now.trees) (old.now.trees 2)
+        (all_weaker (BelongsToRecording old.now.trees) (BelongsToRecording new.now.trees)
         (λ one owner. record {
           id = owner.id;
           key = owner.key;
@@ -300,7 +306,7 @@ module _ (old new : State) (id : ℤ) (k : Key) (h : Holdings)
               there_still owner.id owner.key owner.there;
           owned = owner.owned;
         }) (old.now.trees 2)
-        (recursion_from_All (IsOwned old.now.trees) (old.now.trees 2) stand.owned)));
+        (recursion_from_All (BelongsToRecording old.now.trees) (old.now.trees 2) stand.owned)));
     held = λ m q it. elim (there_cases m q it) [
       | inl p ↦
           let same = same-recordings id m k q key it.key (sym own ∙ p) in

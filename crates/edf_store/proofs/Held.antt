@@ -5,7 +5,7 @@ use Rattle.sqlite.specs.Effect.{Database}
 use Rattle.sqlite.specs.State.{State, HasCleanDisk, Survives, KeepsCommit, IsUnchanged, Shows}
 use Rattle.edf_header.specs.Key.{Key}
 use Rattle.edf_holdings.specs.Holdings.{Holdings}
-use Rattle.edf_rows.specs.Rows.{AreKept, StandFor, IsThere}
+use Rattle.edf_rows.specs.Rows.{RepresentCommitted, Represent, HasRecordingRow}
 use Rattle.edf_tables.specs.Schema.{HasBoth}
 use Rattle.sqlite.specs.Schema.{Schema}
 use Rattle.sqlite.proofs.StateLemmas.{survives_weaker, survives_then}
@@ -29,7 +29,7 @@ still_sound cap old new P s keeps sound = record {
       let it = keeps clean in
       let had = sound.holdings (omega (arith, s.clean)) (it.was_open is_open) in (
         had.0,
-        subst (λ (d : Database). AreKept cap d.trees had.0) (sym (it.committed is_open))
+        subst (λ (d : Database). RepresentCommitted cap d.trees had.0) (sym (it.committed is_open))
             had.1,
       );
 }
@@ -40,7 +40,7 @@ pub still_held : (cap : ℕ) (old new : State) (P : Trees → Type 0) → Surviv
     AreHeld cap new h
 still_held cap old new P s keeps h held clean is_open =
     let it = keeps clean in
-    subst (λ (d : Database). AreKept cap d.trees h) (sym (it.committed is_open))
+    subst (λ (d : Database). RepresentCommitted cap d.trees h) (sym (it.committed is_open))
     (held (omega (arith, s.clean)) (it.was_open is_open))
 
 -- and what is beside it
@@ -122,7 +122,7 @@ still_inside cap old new h same it = record {
         it.inside.schema;
     mode = subst IsTrue (sym same.0.mode) it.inside.mode;
   };
-  stand = subst (λ (d : Database). StandFor d.trees h) (sym same.0.now_is) it.stand;
+  stand = subst (λ (d : Database). Represent d.trees h) (sym same.0.now_is) it.stand;
   sound = it.sound;
   others = subst₂ KeepsOthers (sym same.0.committed_is) (sym same.0.now_is) it.others;
 }
@@ -132,7 +132,8 @@ pub still_under : (old new : State) (P : Trees → Type 0) → Survives old new 
     IsUnder new id k
 still_under old new P s same id k it = record {
   key = it.key;
-  there = λ clean. subst (λ (d : Database). IsThere d.trees id k) (sym (same clean).0.now_is)
+  there = λ clean. subst (λ (d : Database). HasRecordingRow d.trees id k)
+      (sym (same clean).0.now_is)
       (it.there (omega (arith, s.clean)));
 }
 

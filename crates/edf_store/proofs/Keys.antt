@@ -26,7 +26,8 @@ use Rattle.edf_tables.specs.Recordings.{by_identity}
 use Rattle.edf_tables.proofs.Answers.{column_total}
 use Rattle.edf_tables.proofs.Sorting.{rising_sort}
 use Rattle.edf_rows.specs.Cells.{record_cells, recording_cells, recordings_in}
-use Rattle.edf_rows.specs.Rows.{IsThere, IsRecordingRow, AreOther, StandFor, AreKept}
+use Rattle.edf_rows.specs.Rows.{HasRecordingRow, IsRecordingRow, DifferInIdAndKey, Represent}
+use Rattle.edf_rows.specs.Rows.{RepresentCommitted}
 use Rattle.edf_rows.proofs.Rows.{here, there, cases_first, no_member, same-keys, finds, Finds}
 use Rattle.edf_store.proofs.StoredRows.{Show, start_cell}
 use Rattle.edf_store.proofs.Found.{pairs_of, pairs_along, member_along, shown}
@@ -49,7 +50,7 @@ abbrev AtMost : Row → Row → Type 0
 AtMost a b = is_gt (by_column 2 a b) ≡ false
 
 abbrev Differ : Row → Row → Type 0
-Differ a b = AreOther (shown a) (shown b)
+Differ a b = DifferInIdAndKey (shown a) (shown b)
 
 below_of : (a b : Row) → IsRecordingRow (shown a) → IsRecordingRow (shown b) → AtMost a b →
     Differ a b → by_column 2 a b ≡ Less
@@ -71,14 +72,14 @@ below_of a b p q most other = go (by_column 2 a b) refl most
         absurd (other.identity (left ∙ ap (λ (l : List ℕ). Blob l) bytes ∙ sym right))
     go Greater e m = absurd (true≢false (sym (ap is_gt e) ∙ m))
 
-pub identities_rise : (trees : Trees) (h : Holdings) → StandFor trees h →
+pub identities_rise : (trees : Trees) (h : Holdings) → Represent trees h →
     IsAscending (λ a b. by_column 2 a b ≡ Less) (by_identity (trees 0))
 identities_rise trees h stand =
     let moved = IsPermutation-sym _ _ (IsPermutation-sort_by (by_column 2) (column_total 2)
     (trees 0)) in
     let all = all_unmap IsRecordingRow shown (trees 0)
     (recursion_from_All IsRecordingRow (recordings_in trees) stand.recordings) in
-    let pairs = ascending_from_map AreOther shown (by_identity (trees 0))
+    let pairs = ascending_from_map DifferInIdAndKey shown (by_identity (trees 0))
     ((pairs_along _ _ (IsPermutation-map shown (trees 0) (by_identity (trees 0)) moved)).1
     (pairs_of (recordings_in trees) stand.apart)) in
     asc_all (λ r. IsRecordingRow (shown r)) AtMost Differ (λ a b. by_column 2 a b ≡ Less) below_of
@@ -121,7 +122,8 @@ sorted_keys [] up = tt
 sorted_keys (k ∷ keys) up = (up.0, sorted_keys keys up.1)
 
 -- the keys whose bytes are the identities in their order are those that hold records
-pub are_keys : (cap : ℕ) (trees : Trees) (h : Holdings) (keys : List Key) → AreKept cap trees h →
+pub are_keys : (cap : ℕ) (trees : Trees) (h : Holdings) (keys : List Key) →
+    RepresentCommitted cap trees h →
     AllByRecursion IsKey keys → map cell_of keys ≡ map identity_of (by_identity (trees 0)) →
     AreKeysOf h keys
 are_keys cap trees h keys kept good same =
@@ -139,7 +141,7 @@ are_keys cap trees h keys kept good same =
         (ascending-map (λ u v. value_cmp u v ≡ Less) identity_of (by_identity (trees 0))
         (identities_rise trees h kept.stand)))))
 
-    holds_some : (id : ℤ) (k : Key) → IsThere trees id k → h k ≢ []
+    holds_some : (id : ℤ) (k : Key) → HasRecordingRow trees id k → h k ≢ []
     holds_some id k there none = kept.each id k there (kept.stand.held id k there
         ∙ ap (map record_cells) none)
 

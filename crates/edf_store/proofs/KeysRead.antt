@@ -18,7 +18,7 @@ use Rattle.edf_tables.specs.Columns.{by_column}
 use Rattle.edf_tables.specs.Recordings.{by_identity}
 use Rattle.edf_tables.proofs.Answers.{column_total}
 use Rattle.edf_rows.specs.Cells.{recordings_in}
-use Rattle.edf_rows.specs.Rows.{IsRecordingRow, StandFor, AreKept}
+use Rattle.edf_rows.specs.Rows.{IsRecordingRow, Represent, RepresentCommitted}
 use Rattle.edf_store.proofs.Found.{shown}
 use Rattle.edf_store.proofs.Keys.{are_keys}
 use Rattle.std.specs.List.{AllByRecursion}
@@ -67,7 +67,7 @@ of_keys (b ∷ all) (row ∷ rows) good e =
       of_keys all rows good.1 rest,
     )
 
-pub identities_of_keys : (trees : Trees) (h : Holdings) (all : List Bytes) → StandFor trees h →
+pub identities_of_keys : (trees : Trees) (h : Holdings) (all : List Bytes) → Represent trees h →
     map (λ (b : Bytes). Blob b.items) all ≡ map (λ row. column row 2) (by_identity (trees 0)) →
     AllByRecursion IsOfKey all
 identities_of_keys trees h all stand e =
@@ -96,7 +96,8 @@ same_cells (k ∷ keys) (b ∷ all) e =
     λ i. cells i ∷ more i
 
 pub keys_read : (cap : ℕ) (trees : Trees) (h : Holdings) (all : List Bytes) (keys : List Key) →
-    AreKept cap trees h → map (λ (b : Bytes). Blob b.items) all ≡ map (λ row. column row 2)
+    RepresentCommitted cap trees h →
+    map (λ (b : Bytes). Blob b.items) all ≡ map (λ row. column row 2)
     (by_identity (trees 0)) → map key_bytes keys ≡ map (λ (b : Bytes). b.items) all →
     AllByRecursion IsKey keys → AreKeysOf h keys
 keys_read cap trees h all keys kept rows bytes good =

@@ -18,7 +18,7 @@ use Rattle.edf_holdings.specs.Holdings.{Holdings, IsSound}
 use Rattle.edf_tables.specs.Records.{records_of, shown_record, starts_between, starts_after}
 use Rattle.edf_tables.specs.Records.{HaveRisingStarts}
 use Rattle.edf_rows.specs.Cells.{record_cells}
-use Rattle.edf_rows.specs.Rows.{IsThere, StandFor}
+use Rattle.edf_rows.specs.Rows.{HasRecordingRow, Represent}
 use Rattle.edf_store.proofs.StoredRows.{from_show, show_filter, show_take, show_length, rows_rise}
 use Rattle.edf_store.proofs.StoredRows.{cell_less, cell_more, cell_same, pos_less, Three, below}
 use Rattle.edf_store.proofs.StoredRows.{level, above, three}
@@ -61,7 +61,7 @@ near_test start d row x e =
 
 -- the rows of the query for the records near a start show these
 pub near_shown : (trees : Trees) (h : Holdings) (id : ℤ) (k : Key) (start d : ℕ) →
-    StandFor trees h → IsThere trees id k
+    Represent trees h → HasRecordingRow trees id k
     → map shown_record (filter (starts_between (pos start -ℤ pos d) (pos start +ℤ pos d))
     (records_of id (trees 2))) ≡ map record_cells (near_of d start (h k))
 near_shown trees h id k start d stand there =
@@ -75,7 +75,7 @@ later_test after row x e = ap (λ v. is_gt (value_cmp v (Int after))) e
     ∙ ap is_gt (value_cmp-Int (pos x.start) after)
 
 pub later_shown : (trees : Trees) (h : Holdings) (id : ℤ) (k : Key) (after : ℤ) (n : ℕ) →
-    StandFor trees h → IsThere trees id k
+    Represent trees h → HasRecordingRow trees id k
     → map shown_record (take n (filter (starts_after after) (records_of id (trees 2)))) ≡ map
     record_cells (take n (filter (λ (r : DataRecord). is_gt (int_cmp (pos r.start) after))
     (h k)))
@@ -84,12 +84,12 @@ later_shown trees h id k after n stand there =
     (λ (r : DataRecord). is_gt (int_cmp (pos r.start) after)) (later_test after)
     (records_of id (trees 2)) (h k) (shown_of trees h stand id k there)))
 
-pub count_shown : (trees : Trees) (h : Holdings) (id : ℤ) (k : Key) → StandFor trees h →
-    IsThere trees id k → length (records_of id (trees 2)) ≡ length (h k)
+pub count_shown : (trees : Trees) (h : Holdings) (id : ℤ) (k : Key) → Represent trees h →
+    HasRecordingRow trees id k → length (records_of id (trees 2)) ≡ length (h k)
 count_shown trees h id k stand there = show_length _ _ (shown_of trees h stand id k there)
 
-pub rows_rising : (trees : Trees) (cap : ℕ) (h : Holdings) (id : ℤ) (k : Key) → StandFor trees h →
-    IsSound cap h → IsThere trees id k → HaveRisingStarts (records_of id (trees 2))
+pub rows_rising : (trees : Trees) (cap : ℕ) (h : Holdings) (id : ℤ) (k : Key) → Represent trees h →
+    IsSound cap h → HasRecordingRow trees id k → HaveRisingStarts (records_of id (trees 2))
 rows_rising trees cap h id k stand sound there =
     rows_rise 0 _ _ (shown_of trees h stand id k there) (sound.rising k)
 

@@ -19,7 +19,7 @@ use Rattle.edf_fragment.specs.Sound.{IsSoundRecord}
 use Rattle.edf_holdings.specs.Rising.{StartsAreSpaced}
 use Rattle.edf_holdings.specs.Holdings.{Holdings}
 use Rattle.edf_tables.specs.Records.{records_of, starts_from}
-use Rattle.edf_rows.specs.Rows.{IsThere, StandFor}
+use Rattle.edf_rows.specs.Rows.{HasRecordingRow, Represent}
 use Rattle.edf_rows.proofs.Rows.{here, there}
 use Rattle.edf_store.specs.Transaction.{SeesSome, IsUnder, IsNextStart, IsNextStartIn}
 use Rattle.edf_store.proofs.StoredRows.{show_filter, cell_less, cell_more, cell_same, pos_less}
@@ -133,7 +133,7 @@ module _ (cap : ℕ) (old new : State) (P : Trees → Type 0) (s : Survives old 
   was_clean : HasCleanDisk old
   was_clean = omega (arith, s.clean, clean)
 
-  told : (h : Holdings) (k : Key) → StandFor old.now.trees h → IsThere old.now.trees id k →
+  told : (h : Holdings) (k : Key) → Represent old.now.trees h → HasRecordingRow old.now.trees id k →
       next ≡ number_at (filter (is_from from) (h k))
   told h k stand there =
       first_is (filter (starts_from (pos from)) (records_of id (old.now.trees 2)))

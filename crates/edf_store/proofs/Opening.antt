@@ -6,7 +6,7 @@ use Rattle.sqlite.specs.Held.{Held, state}
 use Rattle.sqlite.specs.State.{State, HasCleanDisk, Survives}
 use Rattle.edf_tables.specs.Made.{HasTables, IsMadeOf}
 use Rattle.edf_header.specs.declared.limits.TheConstants.{MOST_RECORDS}
-use Rattle.edf_rows.specs.Rows.{AreKept}
+use Rattle.edf_rows.specs.Rows.{RepresentCommitted}
 use Rattle.edf_rows.specs.File.{PassesAudit}
 use Rattle.edf_tables.specs.Schema.{HasBoth}
 use Rattle.edf_tables.proofs.File.{tables_both}
@@ -23,7 +23,7 @@ sound_opened cap old new from to kept = record {
       (tables_both old.now new.now it.tables);
   holdings = λ clean is_open. let it = kept clean in (
     it.holdings.0,
-    subst (λ (d : Database). AreKept cap d.trees it.holdings.0) (sym it.settled)
+    subst (λ (d : Database). RepresentCommitted cap d.trees it.holdings.0) (sym it.settled)
         it.holdings.1,
   );
 }
@@ -39,7 +39,7 @@ opened g cap old new kept survives = record {
       subst (λ (d : Database). HasTables (state g old).now d) (sym it.settled) it.tables;
   holdings = λ clean. let it = kept clean in (
     it.holdings.0,
-    subst (λ (d : Database). AreKept cap d.trees it.holdings.0) (sym it.settled)
+    subst (λ (d : Database). RepresentCommitted cap d.trees it.holdings.0) (sym it.settled)
         it.holdings.1,
   );
   own = λ clean. (kept clean).own;

@@ -16,7 +16,7 @@ use Rattle.edf_holdings.specs.Holdings.{Holdings}
 use Rattle.edf_tables.specs.Recordings.{AreNamedApart, IsIdIn, named}
 use Rattle.edf_tables.proofs.Commits.{commits_as, quiet_then}
 use Rattle.edf_tables.proofs.Keeping.{keeps_then}
-use Rattle.edf_rows.specs.Rows.{AreKept}
+use Rattle.edf_rows.specs.Rows.{RepresentCommitted}
 use Rattle.edf_store.specs.Held.{StoreModel, AreHeld, IsSoundStore, Stays}
 use Rattle.edf_store.specs.Inside.Settled.{IsSettled, IsFoundIn}
 use Rattle.sqlite_trees.specs.declared.store.Store.{Ghosts}
@@ -61,13 +61,18 @@ settled_now cap old new P s clean same none settles sound =
       settled = now ∙ sym same.0.committed_is;
       schema = subst (λ (d : Database). HasBoth d.schema) (sym now)
           (sound.schema was_clean was_open);
-      holdings = (held.0, subst (λ (d : Database). AreKept cap d.trees held.0) (sym now) held.1);
+      holdings = (
+        held.0,
+        subst (λ (d : Database). RepresentCommitted cap d.trees held.0)
+            (sym now) held.1,
+      );
     }
 
 -- what is held is what the tables show
 pub held_now : (cap : ℕ) (s : State) → HasCleanDisk s → IsSettled cap s → (h : Holdings) →
-    AreHeld cap s h → AreKept cap s.now.trees h
-held_now cap s clean it h held = subst (λ (d : Database). AreKept cap d.trees h) (sym it.settled)
+    AreHeld cap s h → RepresentCommitted cap s.now.trees h
+held_now cap s clean it h held = subst (λ (d : Database). RepresentCommitted cap d.trees h)
+    (sym it.settled)
     (held clean it.is_open)
 
 pub named_apart : (cap : ℕ) (s : State) → IsSettled cap s → AreNamedApart s
@@ -86,7 +91,7 @@ still_settled cap old new same it = record {
   schema = subst (λ (d : Database). HasBoth d.schema) (sym same.0.now_is) it.schema;
   holdings = (
     it.holdings.0,
-    subst (λ (d : Database). AreKept cap d.trees it.holdings.0)
+    subst (λ (d : Database). RepresentCommitted cap d.trees it.holdings.0)
         (sym same.0.now_is) it.holdings.1,
   );
 }
@@ -94,7 +99,8 @@ still_settled cap old new same it = record {
 -- the answer of a look for a key's recording
 pub found_now : (cap : ℕ) (old new : State) (k : Key) (bytes : List ℕ) (id : Option ℤ)
     (h : Holdings) → bytes ≡ key_bytes k → IsKey k → IsUnchanged old new →
-    IsIdIn (named bytes (old.now.trees 0)) id → AreKept cap new.now.trees h → IsFoundIn new k h id
+    IsIdIn (named bytes (old.now.trees 0)) id → RepresentCommitted cap new.now.trees h →
+    IsFoundIn new k h id
 found_now cap old new k bytes id h is key same found_there kept =
     go id (subst (λ (d : Database). IsIdIn (named (key_bytes k) (d.trees 0)) id) (sym same.0.now_is)
     (subst (λ (l : List ℕ). IsIdIn (named l (old.now.trees 0)) id) is found_there))

@@ -30,7 +30,8 @@ use Rattle.edf_tables.specs.Records.{records_of, shown_record}
 use Rattle.edf_tables.proofs.Held.{own_records, other_records}
 use Rattle.edf_rows.specs.Cells.{record_cells, recording_cells, recordings_in, records_in}
 use Rattle.edf_tables.specs.Columns.{is_of}
-use Rattle.edf_rows.specs.Rows.{IsThere, IsRecordingRow, IsOwned, AreTwoOf, AreOther, StandFor}
+use Rattle.edf_rows.specs.Rows.{HasRecordingRow, IsRecordingRow, BelongsToRecording, AreTwoOf}
+use Rattle.edf_rows.specs.Rows.{DifferInIdAndKey, Represent}
 use Rattle.edf_rows.proofs.Rows.{same-recordings}
 use Rattle.edf_store.proofs.StoredRows.{Show, show_from, from_show, NotAt, not_at, show_more}
 use Rattle.edf_store.proofs.StoredRows.{others_at, all_put, two_of}
@@ -59,8 +60,8 @@ cases_id m n = go (int_cmp m n) refl
         ∙ sym (int_cmp_is m n Equal p) in cc))
 
 -- one recording's id is no other's
-pub one_key : (trees : Trees) (h : Holdings) → StandFor trees h → (id : ℤ) (k q : Key) →
-    IsThere trees id k → IsThere trees id q → k ≡ q
+pub one_key : (trees : Trees) (h : Holdings) → Represent trees h → (id : ℤ) (k q : Key) →
+    HasRecordingRow trees id k → HasRecordingRow trees id q → k ≡ q
 one_key trees h stand id k q a b = go (same_key k q) refl
   where
     go : (s : Bool) → same_key k q ≡ s → k ≡ q
@@ -72,8 +73,8 @@ one_key trees h stand id k q a b = go (same_key k q) refl
         absurd ((stand.apart (recording_cells id k) (recording_cells id q)
         (two_of (recordings_in trees) _ _ a.row b.row apart)).id refl)
 
-pub one_id : (trees : Trees) (h : Holdings) → StandFor trees h → (m n : ℤ) (k : Key) →
-    IsThere trees m k → IsThere trees n k → m ≡ n
+pub one_id : (trees : Trees) (h : Holdings) → Represent trees h → (m n : ℤ) (k : Key) →
+    HasRecordingRow trees m k → HasRecordingRow trees n k → m ≡ n
 one_id trees h stand m n k a b = elim (cases_id m n) [
   | inl e ↦ e
   | inr apart ↦
@@ -84,8 +85,8 @@ one_id trees h stand m n k a b = elim (cases_id m n) [
 ]
 
 -- the rows of a recording show its records
-pub shown_of : (trees : Trees) (h : Holdings) → StandFor trees h → (id : ℤ) (k : Key) →
-    IsThere trees id k → Show (records_of id (trees 2)) (h k)
+pub shown_of : (trees : Trees) (h : Holdings) → Represent trees h → (id : ℤ) (k : Key) →
+    HasRecordingRow trees id k → Show (records_of id (trees 2)) (h k)
 shown_of trees h stand id k there =
     show_from (records_of id (trees 2)) (h k) (stand.held id k there)
 
@@ -93,9 +94,10 @@ shown_of trees h stand id k there =
 module _ (old new : State) (id : ℤ) (k : Key) (r : DataRecord) (h : Holdings)
     (has : HasRecord old new (cells id (pos r.start) r.samples
     (block_text 0 r.start r.annotations)))
-    (stand : StandFor old.now.trees h) (there : IsThere old.now.trees id k)
+    (stand : Represent old.now.trees h) (there : HasRecordingRow old.now.trees id k)
     (none : near_of (duration_of k.duration) r.start (h k) ≡ []) where
-  pub there_same : (m : ℤ) (q : Key) → IsThere new.now.trees m q → IsThere old.now.trees m q
+  pub there_same : (m : ℤ) (q : Key) → HasRecordingRow new.now.trees m q →
+      HasRecordingRow old.now.trees m q
   there_same m q it = record {
     row =
         subst (λ (rows : List Row). Contains (map (λ row. column row 0 ∷ column row 2 ∷ []) rows)
@@ -103,7 +105,8 @@ module _ (old new : State) (id : ℤ) (k : Key) (r : DataRecord) (h : Holdings)
     key = it.key;
   }
 
-  pub there_too : (m : ℤ) (q : Key) → IsThere old.now.trees m q → IsThere new.now.trees m q
+  pub there_too : (m : ℤ) (q : Key) → HasRecordingRow old.now.trees m q →
+      HasRecordingRow new.now.trees m q
   there_too m q it = record {
     row =
         subst (λ (rows : List Row). Contains (map (λ row. column row 0 ∷ column row 2 ∷ []) rows)
@@ -126,25 +129,25 @@ module _ (old new : State) (id : ℤ) (k : Key) (r : DataRecord) (h : Holdings)
       (others_at r row (records_of id (old.now.trees 2)) (h k) refl apart shown))
       ∙ from_show _ _ (show_more r row (records_of id (old.now.trees 2)) (h k) refl apart shown)
 
-  held_now : (m : ℤ) (q : Key) → IsThere new.now.trees m q →
+  held_now : (m : ℤ) (q : Key) → HasRecordingRow new.now.trees m q →
       records_in new.now.trees m ≡ map record_cells (with_records k (r ∷ []) h q)
   held_now m q it = go (cases_id id m)
     where
-      was : IsThere old.now.trees m q
+      was : HasRecordingRow old.now.trees m q
       was = there_same m q it
 
       go : (id ≡ m) ⊎ (id ≢ m) → records_in new.now.trees m
           ≡ map record_cells (with_records k (r ∷ []) h q)
       go (inl e) =
           let same : k ≡ q = one_key old.now.trees h stand m k q
-          (subst (λ (n : ℤ). IsThere old.now.trees n k) e there) was in
+          (subst (λ (n : ℤ). HasRecordingRow old.now.trees n k) e there) was in
           ap (records_in new.now.trees) (sym e) ∙ own
           ∙ ap (map record_cells) (sym (put_here k (r ∷ []) h))
           ∙ ap (λ (p : Key). map record_cells (with_records k (r ∷ []) h p)) same
       go (inr other) =
           let differ : same_key k q ≡ false = elim (cases_Bool (same_key k q)) [
             | inl e ↦ absurd (other (one_id old.now.trees h stand id m q
-                (subst (IsThere old.now.trees id) (same_key-true k q e) there) was))
+                (subst (HasRecordingRow old.now.trees id) (same_key-true k q e) there) was))
             | inr e ↦ e
           ] in
           ap (map shown_record) (other_records old new m id (pos r.start) r.samples
@@ -152,21 +155,22 @@ module _ (old new : State) (id : ℤ) (k : Key) (r : DataRecord) (h : Holdings)
           ∙ stand.held m q was ∙ ap (map record_cells)
           (sym (cond-false (same_key k q) (union (h q) (r ∷ [])) (h q) differ))
 
-  owned_now : AllByRecursion (IsOwned new.now.trees) (old.now.trees 2) → IsOwned new.now.trees row →
-      AllByRecursion (IsOwned new.now.trees) (new.now.trees 2)
-  owned_now all one = subst (AllByRecursion (IsOwned new.now.trees)) (sym has.records)
-      (all_put (IsOwned new.now.trees) row (old.now.trees 2) one all)
+  owned_now : AllByRecursion (BelongsToRecording new.now.trees) (old.now.trees 2) →
+      BelongsToRecording new.now.trees row →
+      AllByRecursion (BelongsToRecording new.now.trees) (new.now.trees 2)
+  owned_now all one = subst (AllByRecursion (BelongsToRecording new.now.trees)) (sym has.records)
+      (all_put (BelongsToRecording new.now.trees) row (old.now.trees 2) one all)
 
-  pub stand_more : StandFor new.now.trees (with_records k (r ∷ []) h)
+  pub stand_more : Represent new.now.trees (with_records k (r ∷ []) h)
   stand_more = record {
     recordings = subst (λ (rows : List Row).
         All IsRecordingRow (map (λ row. column row 0 ∷ column row 2 ∷ []) rows))
         (sym has.recordings) stand.recordings;
     apart = subst (λ (rows : List Row). (a b : Row) →
         AreTwoOf (map (λ row. column row 0 ∷ column row 2 ∷ []) rows) a b →
-        AreOther a b) (sym has.recordings) stand.apart;
-    owned = All-from_recursion (IsOwned new.now.trees) (new.now.trees 2) (owned_now
-        (all_weaker (IsOwned old.now.trees) (IsOwned new.now.trees)
+        DifferInIdAndKey a b) (sym has.recordings) stand.apart;
+    owned = All-from_recursion (BelongsToRecording new.now.trees) (new.now.trees 2) (owned_now
+        (all_weaker (BelongsToRecording old.now.trees) (BelongsToRecording new.now.trees)
         (λ one own. record {
           id = own.id;
           key = own.key;
@@ -174,13 +178,13 @@ module _ (old new : State) (id : ℤ) (k : Key) (r : DataRecord) (h : Holdings)
               there_too own.id own.key own.there;
           owned = own.owned;
         }) (old.now.trees 2)
-        (recursion_from_All (IsOwned old.now.trees) (old.now.trees 2) stand.owned))
+        (recursion_from_All (BelongsToRecording old.now.trees) (old.now.trees 2) stand.owned))
         (record { id = id; key = k; there = there_too id k there; owned = is_own }));
     held = held_now;
     others = λ q gone.
         let differ : same_key k q ≡ false = elim (cases_Bool (same_key k q)) [
           | inl e ↦ absurd (gone id (there_too id q
-              (subst (IsThere old.now.trees id) (same_key-true k q e) there)))
+              (subst (HasRecordingRow old.now.trees id) (same_key-true k q e) there)))
           | inr e ↦ e
         ] in
         cond-false (same_key k q) (union (h q) (r ∷ [])) (h q) differ

@@ -28,7 +28,7 @@ use Rattle.edf_tables.proofs.Keeping.{keeps_then, same_left}
 use Rattle.edf_tables.proofs.Held.{record_inside, recording_inside, recording_keeps}
 use Rattle.edf_header.specs.declared.limits.TheConstants.{MOST_RECORDS}
 use Rattle.edf_rows.specs.Cells.{record_cells, recording_cells, records_in}
-use Rattle.edf_rows.specs.Rows.{IsThere, AreKept}
+use Rattle.edf_rows.specs.Rows.{HasRecordingRow, RepresentCommitted}
 use Rattle.edf_rows.proofs.Rows.{same-recordings}
 use Rattle.edf_store.specs.Held.{AreHeld, IsSoundStore}
 use Rattle.edf_store.specs.Transaction.{AreSeen, SeesSome, IsTransactionOf, IsUnder, SeesOn}
@@ -42,7 +42,7 @@ use Rattle.edf_store.proofs.Near.{count_shown, near_shown, rows_rising}
 
 pub none_made : (old new : State) → (HasCleanDisk new → IsUnchanged old new) → MakesNone old new
 none_made old new same clean id k it =
-    subst (λ (d : Database). IsThere d.trees id k) (same clean).0.now_is it
+    subst (λ (d : Database). HasRecordingRow d.trees id k) (same clean).0.now_is it
 
 pub none_added : (old new : State) (row : Row) → (HasCleanDisk new → HasRecord old new row) →
     MakesNone old new
@@ -99,8 +99,8 @@ module _ (cap : ℕ) (old new : State) (P : Trees → Type 0) (s : Survives old 
     only = none_added old new _ has;
   }
     where
-      there_again : (m : ℤ) (q : Key) → HasCleanDisk new → IsThere old.now.trees m q →
-          IsThere new.now.trees m q
+      there_again : (m : ℤ) (q : Key) → HasCleanDisk new → HasRecordingRow old.now.trees m q →
+          HasRecordingRow new.now.trees m q
       there_again m q clean is =
           let it = running (was_clean clean) in
           let mine = may.is_under.there (was_clean clean) in
@@ -125,7 +125,7 @@ module _ (cap : ℕ) (old new : State) (P : Trees → Type 0) (s : Survives old 
 
   -- what is seen is kept where each recording holds a record
   kept_of : EachHasRecordIn cap old → HasCleanDisk old → (h : Holdings) →
-      IsTransactionOf cap old h → AreKept cap old.now.trees h
+      IsTransactionOf cap old h → RepresentCommitted cap old.now.trees h
   kept_of whole clean h it = record {
     stand = it.stand;
     sound = it.sound;
@@ -141,7 +141,7 @@ module _ (cap : ℕ) (old new : State) (P : Trees → Type 0) (s : Survives old 
   pub committed_held : (HasCleanDisk new → Shows old new old.now old.now false) →
       EachHasRecordIn cap old → (h : Holdings) → AreSeen cap old h → AreHeld cap new h
   committed_held shows whole h seen clean is_open =
-      subst (λ (d : Database). AreKept cap d.trees h) (sym (shows clean).committed_is)
+      subst (λ (d : Database). RepresentCommitted cap d.trees h) (sym (shows clean).committed_is)
       (kept_of whole (was_clean clean) h (seen (was_clean clean)))
 
   pub committed_sound : (HasCleanDisk new → Shows old new old.now old.now false) →
@@ -161,7 +161,7 @@ pub seen_survives : (cap : ℕ) (old new : State) → Survives old new (λ db. d
 seen_survives cap old new s whole =
     survives_weaker old new _ (AreSeenRows cap old) (λ clean db made h seen.
     let old_clean : HasCleanDisk old = omega (arith, s.clean) in
-    subst (λ (t : Trees). AreKept cap t h) (sym made)
+    subst (λ (t : Trees). RepresentCommitted cap t h) (sym made)
     (kept_of cap old new _ s whole old_clean h (seen old_clean))) s
 
 module _ (cap : ℕ) (a b : State) (id : ℤ) (k : Key) (bytes : List ℕ) (is : bytes ≡ key_bytes k)
@@ -173,7 +173,7 @@ module _ (cap : ℕ) (a b : State) (id : ℤ) (k : Key) (bytes : List ℕ) (is :
     key = key;
     there = λ clean.
         let it = running (omega (arith, one.clean)) in
-        subst (λ (d : Database). IsThere d.trees id k) (sym (same clean).0.now_is)
+        subst (λ (d : Database). HasRecordingRow d.trees id k) (sym (same clean).0.now_is)
         (found a.now.trees it.0 id k it.1.stand key
         (subst (λ (l : List ℕ). IsIdIn (named l (a.now.trees 0)) (Some id)) is (has clean)));
   }
@@ -216,8 +216,8 @@ module _ (cap : ℕ) (a b : State) (id : ℤ) (k : Key) (bytes : List ℕ) (is :
           others = others_on b c (has clean).others (has clean).shown.committed_is then.others;
         }
 
-    still_there : (m : ℤ) (q : Key) → HasCleanDisk c → IsThere b.now.trees m q →
-        IsThere c.now.trees m q
+    still_there : (m : ℤ) (q : Key) → HasCleanDisk c → HasRecordingRow b.now.trees m q →
+        HasRecordingRow c.now.trees m q
     still_there m q clean it =
         let had = running (clean_a clean) in
         there_still b c id k had.0 (has clean) (made clean).1
@@ -252,7 +252,7 @@ module _ (cap : ℕ) (a b : State) (id : ℤ) (k : Key) (bytes : List ℕ) (is :
         it) [
           | inl p ↦ inr (sym (same-recordings id m k q key it.key
               (sym (ap (λ n. recording_cells n k) (sym (made clean).1)) ∙ p)).1)
-          | inr was ↦ inl (subst (λ (d : Database). IsThere d.trees m q)
+          | inr was ↦ inl (subst (λ (d : Database). HasRecordingRow d.trees m q)
               (same (clean_b clean)).0.now_is was)
         ]
 
@@ -298,7 +298,7 @@ whole_begun cap old new P s shows settled sound clean h id k seen under none =
     let begun = shows clean in
     let kept = sound.holdings (omega (arith, s.clean)) begun.was_open in
     let same : new.now ≡ old.committed = begun.now_is ∙ settled begun.was_open in
-    let there = subst (λ (d : Database). IsThere d.trees id k) same (under.there clean) in
+    let there = subst (λ (d : Database). HasRecordingRow d.trees id k) same (under.there clean) in
     let shown = (seen clean).stand.held id k (under.there clean) in
     kept.1.each id k there (subst (λ (d : Database). records_in d.trees id ≡ map record_cells (h k))
     same shown ∙ ap (map record_cells) none)

@@ -22,7 +22,7 @@ use Rattle.edf_tables.specs.Schema.{HasBoth}
 use Rattle.edf_tables.specs.Records.{records_of, shown_record, IsReady, HaveRisingStarts}
 use Rattle.edf_header.specs.declared.limits.TheConstants.{MOST_RECORDS}
 use Rattle.edf_rows.specs.Cells.{record_cells}
-use Rattle.edf_rows.specs.Rows.{IsThere, AreKept}
+use Rattle.edf_rows.specs.Rows.{HasRecordingRow, RepresentCommitted}
 use Rattle.edf_store.specs.Overview.{IsSummary, start_at}
 use Rattle.edf_store.specs.Held.{AreHeld}
 use Rattle.edf_store.specs.Inside.Settled.{IsSettled}
@@ -55,7 +55,7 @@ start_is (x ∷ xs) n e = let same : n ≡ x.start = cc in ap (λ (m : ℕ). Som
 
 -- the rows are ready to be read by their starts
 pub ready_at : (cap : ℕ) (s : State) (id : ℤ) (k : Key) → IsSettled cap s →
-    IsThere s.now.trees id k → IsReady id s
+    HasRecordingRow s.now.trees id k → IsReady id s
 ready_at cap s id k it there = record {
   schema = it.schema;
   rising =
@@ -70,8 +70,9 @@ still_ready old new id same it =
           (sym same.0.now_is) it.rising;
     }
 
-module _ (cap : ℕ) (trees : Trees) (h : Holdings) (id : ℤ) (k : Key) (kept : AreKept cap trees h)
-    (there : IsThere trees id k) (small : cap ≤ MOST_RECORDS) where
+module _ (cap : ℕ) (trees : Trees) (h : Holdings) (id : ℤ) (k : Key)
+    (kept : RepresentCommitted cap trees h)
+    (there : HasRecordingRow trees id k) (small : cap ≤ MOST_RECORDS) where
   shown : Show (records_of id (trees 2)) (h k)
   shown = shown_of trees h kept.stand id k there
 
@@ -186,13 +187,14 @@ module _ (cap : ℕ) (a b c d : State) (id : ℤ) (count : ℕ) (first last : Op
 
     pub summary_read : (summary : Summary) → (summary.records ≡ count)
         × (first ≡ Some (pos summary.first)) × (last ≡ Some (pos summary.last)) →
-        (h : Holdings) (k : Key) → AreHeld cap a h → IsThere a.now.trees id k →
+        (h : Holdings) (k : Key) → AreHeld cap a h → HasRecordingRow a.now.trees id k →
         IsSummary (h k) (Some summary)
     summary_read summary is h k held there =
         summary_is cap a.now.trees h id k (held_now cap a clean_a (settled clean_a) h held) there
         small count first last summary (counted clean_b) began_then ended_then is
 
-    pub bounds_read : (HasCleanDisk a → (k : Key) × IsThere a.now.trees id k) → (E : Type 0) →
+    pub bounds_read : (HasCleanDisk a → (k : Key) × HasRecordingRow a.now.trees id k) →
+        (E : Type 0) →
         ((x y : ℕ) → count ≤ MOST_RECORDS → x < window → y < window → first ≡ Some (pos x) →
         last ≡ Some (pos y) → E) → E
     bounds_read there E make =

@@ -14,7 +14,7 @@ use Rattle.edf_tables.specs.Cells.{cells_of}
 use Rattle.edf_tables.specs.declared.row.RecordRow.{RecordRow}
 use Rattle.edf_tables.specs.Records.{records_of, shown_record, starts_after, IsReady}
 use Rattle.edf_rows.specs.Cells.{record_cells}
-use Rattle.edf_rows.specs.Rows.{IsThere, AreKept}
+use Rattle.edf_rows.specs.Rows.{HasRecordingRow, RepresentCommitted}
 use Rattle.edf_store.specs.Walk.{starts_later, IsWalkAfter, IsSomeWalk}
 use Rattle.edf_store.specs.declared.cursor.Cursor.{Cursor}
 use Rattle.edf_store.proofs.Near.{later_shown, later_place, later_start, rows_rising}
@@ -120,9 +120,9 @@ module _ (cap : ℕ) (s : State) (id : ℤ) (cursor : Cursor) (h : Holdings) (k 
     idle = same.0.mode ∙ it.idle;
     settled = same.0.now_is ∙ it.settled ∙ sym same.0.committed_is;
     schema = subst (λ (d : Database). HasBoth d.schema) (sym same.0.now_is) it.schema;
-    kept = subst (λ (d : Database). AreKept cap d.trees h) (sym same.0.now_is) it.kept;
+    kept = subst (λ (d : Database). RepresentCommitted cap d.trees h) (sym same.0.now_is) it.kept;
     key = it.key;
-    found = subst (λ (d : Database). IsThere d.trees id k) (sym same.0.now_is) it.found;
+    found = subst (λ (d : Database). HasRecordingRow d.trees id k) (sym same.0.now_is) it.found;
     within = it.within;
     some = it.some;
     later = it.later;
@@ -219,7 +219,7 @@ module _ (cap : ℕ) (s : State) (id : ℤ) (cursor : Cursor) (h : Holdings) (k 
 -- where a walk begins
 pub at_start : (cap : ℕ) (s : State) (id : Option ℤ) (cursor : Cursor) (h : Holdings) (k : Key) →
     cursor.start <ℤ pos 0 → 1 ≤ cursor.limit → cursor.rows.items ≡ [] → IsSettled cap s →
-    AreKept cap s.now.trees h → IsKey k → IsFoundIn s k h id
+    RepresentCommitted cap s.now.trees h → IsKey k → IsFoundIn s k h id
     → IsWalkAfter cap s id cursor h k 0
 at_start cap s id cursor h k low some none it kept key found = record {
   is_open = it.is_open;
@@ -236,6 +236,6 @@ at_start cap s id cursor h k low some none it kept key found = record {
 }
   where
     go : (id : Option ℤ) → IsFoundIn s k h id →
-        MatchOption id (0 ≡ length (h k)) (λ m. IsThere s.now.trees m k)
+        MatchOption id (0 ≡ length (h k)) (λ m. HasRecordingRow s.now.trees m k)
     go None none = sym (ap length none)
     go (Some m) there = there

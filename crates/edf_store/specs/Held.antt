@@ -8,7 +8,7 @@ use Rattle.edf_header.specs.declared.limits.TheConstants.{MOST_RECORDS}
 use Rattle.edf_tables.specs.Schema.{HasBoth}
 use Rattle.edf_tables.specs.Others.{KeepsTrees, KeepsOthers}
 use Rattle.edf_holdings.specs.Holdings.{Holdings}
-use Rattle.edf_rows.specs.Rows.{AreKept}
+use Rattle.edf_rows.specs.Rows.{RepresentCommitted}
 
 -- a store: its connection, and how many records a recording may have
 pub record StoreModel (S : Type 0) : Type 0 where
@@ -25,7 +25,7 @@ at g store = state g store.connection
 
 -- what is committed stands for these holdings
 abbrev pub AreHeld : ℕ → State → Holdings → Type 0
-AreHeld cap s h = HasCleanDisk s → IsTrue s.is_open → AreKept cap s.committed.trees h
+AreHeld cap s h = HasCleanDisk s → IsTrue s.is_open → RepresentCommitted cap s.committed.trees h
 
 -- these are the store's holdings
 abbrev pub Holds : {S : Type 0} → Ghosts S → StoreModel S → Holdings → Type 0
@@ -37,7 +37,7 @@ pub record IsSoundStore (cap : ℕ) (s : State) : Type 0 where
   pub cap_to : cap ≤ MOST_RECORDS
   pub schema : HasCleanDisk s → IsTrue s.is_open → HasBoth s.committed.schema
   pub holdings : HasCleanDisk s → IsTrue s.is_open → (h : Holdings)
-      × AreKept cap s.committed.trees h
+      × RepresentCommitted cap s.committed.trees h
 
 -- what is committed beside our two tables is as it was, where the connection is still open after
 -- the call; what a crash in the call may leave has it too

@@ -5,7 +5,7 @@ use Rattle.sqlite.specs.Held.{Held, state}
 use Rattle.sqlite.specs.State.{HasCleanDisk, Survives}
 use Rattle.edf_holdings.specs.Holdings.{Holdings}
 use Rattle.edf_tables.specs.Made.{IsOurs, HasTables, KeepsFile, IsMadeOf}
-use Rattle.edf_rows.specs.Rows.{AreKept}
+use Rattle.edf_rows.specs.Rows.{RepresentCommitted}
 use Rattle.edf_rows.specs.File.{IsForeignFile}
 use Rattle.edf_store.specs.Held.{StoreModel, at}
 use Rattle.edf_store.specs.Fault.{HasCauseOrIsForeign}
@@ -20,7 +20,7 @@ pub record IsOpened {S : Type 0} (g : Ghosts S) (conn : Held S) (store : StoreMo
     pub idle : HasCleanDisk (at g store) → (at g store).in_transaction ≡ false
     pub tables : HasCleanDisk (at g store) → HasTables (state g conn).now (at g store).committed
     pub holdings : HasCleanDisk (at g store) → (h : Holdings)
-        × AreKept store.cap (at g store).committed.trees h
+        × RepresentCommitted store.cap (at g store).committed.trees h
     pub own : HasCleanDisk (at g store) → ¬ IsForeignFile store.cap (state g conn).now
     pub crash : Survives (state g conn) (at g store) (IsMadeOf (state g conn).now)
 

@@ -12,7 +12,7 @@ use Rattle.edf_fragment.specs.Sound.{IsSoundRecord}
 use Rattle.edf_holdings.specs.Holdings.{Holdings, IsSound, with_records}
 use Rattle.edf_tables.specs.Row.{IsInside}
 use Rattle.edf_tables.specs.Others.{KeepsOthers}
-use Rattle.edf_rows.specs.Rows.{IsThere, StandFor, AreKept}
+use Rattle.edf_rows.specs.Rows.{HasRecordingRow, Represent, RepresentCommitted}
 use Rattle.edf_store.specs.Held.{StoreModel, at}
 
 -- a transaction is open, and its rows stand for these sound holdings; what is beside them is as the
@@ -20,7 +20,7 @@ use Rattle.edf_store.specs.Held.{StoreModel, at}
 pub record IsTransactionOf (cap : ℕ) (s : State) (h : Holdings) : Type 0 where
   pub is_open : IsTrue s.is_open
   pub inside : IsInside s
-  pub stand : StandFor s.now.trees h
+  pub stand : Represent s.now.trees h
   pub sound : IsSound cap h
   pub others : KeepsOthers s.committed s.now
 
@@ -33,7 +33,7 @@ SeesSome cap s = HasCleanDisk s → (h : Holdings) × IsTransactionOf cap s h
 -- the key's recording is there under this id
 pub record IsUnder (s : State) (id : ℤ) (k : Key) : Type 0 where
   pub key : IsKey k
-  pub there : HasCleanDisk s → IsThere s.now.trees id k
+  pub there : HasCleanDisk s → HasRecordingRow s.now.trees id k
 
 -- what was seen is seen, and the recordings are there under the ids that they had
 pub record SeesOn (cap : ℕ) (old new : State) : Type 0 where
@@ -43,13 +43,14 @@ pub record SeesOn (cap : ℕ) (old new : State) : Type 0 where
 
 -- no recording is made
 abbrev pub MakesNone : State → State → Type 0
-MakesNone old new = HasCleanDisk new → (id : ℤ) (k : Key) → IsThere new.now.trees id k →
-    IsThere old.now.trees id k
+MakesNone old new = HasCleanDisk new → (id : ℤ) (k : Key) → HasRecordingRow new.now.trees id k →
+    HasRecordingRow old.now.trees id k
 
 -- no recording but this one is made
 abbrev pub MakesOnly : Key → State → State → Type 0
-MakesOnly made old new = HasCleanDisk new → (id : ℤ) (k : Key) → IsThere new.now.trees id k →
-    IsThere old.now.trees id k ⊎ (k ≡ made)
+MakesOnly made old new = HasCleanDisk new → (id : ℤ) (k : Key) →
+    HasRecordingRow new.now.trees id k →
+    HasRecordingRow old.now.trees id k ⊎ (k ≡ made)
 
 -- these are the records of the recording that lie near the start
 abbrev pub AreNearIn : ℕ → State → ℤ → ℕ → List DataRecord → Type 0
@@ -113,7 +114,7 @@ EachHasRecordIn cap s = HasCleanDisk s → (h : Holdings) (id : ℤ) (k : Key) �
 
 -- these rows are what a commit would leave
 abbrev pub AreSeenRows : ℕ → State → Trees → Type 0
-AreSeenRows cap s db = (h : Holdings) → AreSeen cap s h → AreKept cap db h
+AreSeenRows cap s db = (h : Holdings) → AreSeen cap s h → RepresentCommitted cap db h
 
 module _ {S : Type 0} (g : Ghosts S) where
   -- the transaction sees these holdings

@@ -11,7 +11,7 @@ use Rattle.edf_holdings.specs.Holdings.{Holdings}
 use Rattle.edf_tables.specs.Schema.{HasBoth}
 use Rattle.edf_tables.specs.Cells.{cells_of}
 use Rattle.edf_rows.specs.Cells.{record_cells}
-use Rattle.edf_rows.specs.Rows.{IsThere, AreKept}
+use Rattle.edf_rows.specs.Rows.{HasRecordingRow, RepresentCommitted}
 use Rattle.edf_store.specs.Fault.{MayRefuse}
 use Rattle.edf_store.specs.Held.{StoreModel, at, Holds, Stays}
 use Rattle.edf_store.specs.Call.{IsUnclean}
@@ -32,9 +32,9 @@ pub record IsWalkAfter (cap : ℕ) (s : State) (recording : Option ℤ) (cursor 
   pub idle : s.in_transaction ≡ false
   pub settled : s.now ≡ s.committed
   pub schema : HasBoth s.now.schema
-  pub kept : AreKept cap s.now.trees h
+  pub kept : RepresentCommitted cap s.now.trees h
   pub key : IsKey k
-  pub found : MatchOption recording (n ≡ length (h k)) (λ id. IsThere s.now.trees id k)
+  pub found : MatchOption recording (n ≡ length (h k)) (λ id. HasRecordingRow s.now.trees id k)
   pub within : n ≤ length (h k)
   pub some : 1 ≤ cursor.limit
   pub later : filter (starts_later cursor.start) (h k) ≡ drop n (h k)

@@ -7,7 +7,7 @@ ghost use Rattle.sqlite.specs.State.{HasCleanDisk};
 ghost use Rattle.edf_time.specs.Civil.{window};
 ghost use Rattle.edf_header.specs.Key.{Key, IsKey, key_bytes};
 ghost use Rattle.edf_holdings.specs.Holdings.{Holdings};
-ghost use Rattle.edf_rows.specs.Rows.{IsThere};
+ghost use Rattle.edf_rows.specs.Rows.{HasRecordingRow};
 ghost use Rattle.edf_store.specs.Held.{at, Holds};
 ghost use Rattle.edf_store.specs.Overview.{AreKeysHeld, IsSummary, IsSummaryOf};
 ghost use Rattle.edf_store.specs.Call.{AnswersWith, IsUnclean, ReadsOutside, IsRefusedIfBusy};
@@ -102,11 +102,11 @@ fn identities_in(alloc: Global, all: Vec<Vec<u8>>) -> Result<Vec<Identity>, RowF
 fn summary_of<S: Alter>(store: &mut Store<S>, id: i64) -> Result<Summary, RowFault>
     requires settled { IsAtRest S.Store store.old }
     requires there { HasCleanDisk (at S.Store store.old) →
-        (k : Key) × IsThere (at S.Store store.old).now.trees id k }
+        (k : Key) × HasRecordingRow (at S.Store store.old).now.trees id k }
     ensures leaves { ReadsOutside S.Store store.old store.new result }
     ensures summary { ReadsOurRows S.Store store.new result (λ summary.
         (h : Holdings) (k : Key) → Holds S.Store store.old h →
-        IsThere (at S.Store store.old).now.trees id k → IsSummary (h k) (Some summary)) }
+        HasRecordingRow (at S.Store store.old).now.trees id k → IsSummary (h k) (Some summary)) }
 {
     let count = count_rows(&mut store.conn, id)?;
     let first = first_start(&mut store.conn, id)?;

@@ -2,7 +2,7 @@
 
 ghost use Rattle.edf_header.specs.Key.{IsKey};
 ghost use Rattle.edf_holdings.specs.Holdings.{Holdings};
-ghost use Rattle.edf_rows.specs.Rows.{AreKept};
+ghost use Rattle.edf_rows.specs.Rows.{RepresentCommitted};
 ghost use Rattle.edf_store.specs.Held.{at};
 ghost use Rattle.edf_store.specs.Inside.Settled.{IsFoundIn, IsAtRest, Settles};
 ghost use Rattle.edf_store.specs.Call.{AnswersWith, IsRefusedIfBusy};
@@ -46,7 +46,7 @@ pub(crate) fn find<S: Alter>(
     ensures key { IsKey identity.now }
     ensures settles { Settles S.Store store.old store.new result }
     ensures found { AnswersWith S.Store store.new result (λ id.
-        (h : Holdings) → AreKept store.new.cap (at S.Store store.new).now.trees h →
+        (h : Holdings) → RepresentCommitted store.new.cap (at S.Store store.new).now.trees h →
         IsFoundIn (at S.Store store.new) identity.now h id) }
 {
     let bytes = identity.to_bytes(store.alloc)?;

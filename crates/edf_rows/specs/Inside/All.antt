@@ -11,7 +11,7 @@ use Rattle.sqlite_value.specs.Order.{value_cmp}
 use Rattle.sqlite_trees.specs.Tree.{IsAscending}
 use Rattle.edf_tables.specs.Columns.{the_id, stored_records, stored_recording, id_order}
 use Rattle.edf_holdings.specs.Holdings.{Holdings}
-use Rattle.edf_rows.specs.Rows.{AreKept}
+use Rattle.edf_rows.specs.Rows.{RepresentCommitted}
 use Rattle.edf_rows.specs.Foreign.{IsForeign}
 use Rattle.edf_rows.specs.Inside.Shape.{HasRecords}
 
@@ -44,5 +44,5 @@ Counts cap trees rows (Some sum) = AreCounted cap trees rows sum
 
 -- the rows are kept for some holdings, or foreign
 abbrev pub Answers : ℕ → Trees → Bool → Type 0
-Answers cap trees true = (h : Holdings) × AreKept cap trees h
+Answers cap trees true = (h : Holdings) × RepresentCommitted cap trees h
 Answers cap trees false = IsForeign cap trees

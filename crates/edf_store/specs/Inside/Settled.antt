@@ -5,7 +5,7 @@ use Rattle.sqlite.specs.State.{State, HasCleanDisk}
 use Rattle.edf_header.specs.Key.{Key}
 use Rattle.edf_holdings.specs.Holdings.{Holdings}
 use Rattle.edf_tables.specs.Schema.{HasBoth}
-use Rattle.edf_rows.specs.Rows.{IsThere, AreKept}
+use Rattle.edf_rows.specs.Rows.{HasRecordingRow, RepresentCommitted}
 use Rattle.edf_store.specs.Held.{StoreModel, at, Stays}
 
 -- no transaction is open, and the tables are what is held
@@ -14,7 +14,7 @@ pub record IsSettled (cap : ℕ) (s : State) : Type 0 where
   pub idle : s.in_transaction ≡ false
   pub settled : s.now ≡ s.committed
   pub schema : HasBoth s.now.schema
-  pub holdings : (h : Holdings) × AreKept cap s.now.trees h
+  pub holdings : (h : Holdings) × RepresentCommitted cap s.now.trees h
 
 abbrev pub IsAtRest : {S : Type 0} → Ghosts S → StoreModel S → Type 0
 IsAtRest g store = HasCleanDisk (at g store) → IsSettled store.cap (at g store)
@@ -27,4 +27,4 @@ pub record Settles {S X E : Type 0} (g : Ghosts S) (old new : StoreModel S)
 
 -- the key's recording is under this id, or it holds nothing
 abbrev pub IsFoundIn : State → Key → Holdings → Option ℤ → Type 0
-IsFoundIn s k h id = MatchOption id (h k ≡ []) (λ id. IsThere s.now.trees id k)
+IsFoundIn s k h id = MatchOption id (h k ≡ []) (λ id. HasRecordingRow s.now.trees id k)
