@@ -6,7 +6,7 @@ use Rattle.edf_header.specs.Key.{Key}
 use Rattle.edf_holdings.specs.Holdings.{Holdings}
 use Rattle.edf_holdings.specs.Keys.{AreKeysOf}
 use Rattle.edf_store.specs.Fault.{IsStoreRefusal}
-use Rattle.edf_store.specs.Held.{StoreModel, at, Holds, Stays}
+use Rattle.edf_store.specs.Held.{StoreModel, at, Holds, KeepsHoldings}
 use Rattle.edf_store.specs.declared.fault.StoreFault.{StoreFault}
 use Rattle.edf_store.specs.declared.fault.StoreFault.TheVariants.{Failed}
 use Rattle.edf_export.specs.Export.{IsExported, IsNotExported, CountsExportFault}
@@ -66,7 +66,7 @@ module _ (out err : Growth) where
 
 module _ {S : Type 0} (g : Ghosts S) (old new : StoreModel S) (out err : Growth) where
   pub record IsPlaceExported (place : ℕ) (status : Status) : Type 0 where
-    pub stays : Stays g old new
+    pub stays : KeepsHoldings g old new
     pub told : TellsWrites out err status
         ⊎ Explains out err (no_recording_line place) Refused status
     pub exported : HasCleanDisk (at g new) → (h : Holdings) → Holds g old h →

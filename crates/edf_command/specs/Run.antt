@@ -4,7 +4,7 @@ use Rattle.sqlite_trees.specs.declared.store.Store.{Ghosts}
 use Rattle.sqlite.specs.State.{HasCleanDisk}
 use Rattle.edf_fragment.specs.Call.{InputState}
 use Rattle.edf_holdings.specs.Holdings.{Holdings}
-use Rattle.edf_store.specs.Held.{StoreModel, at, Holds, Stays}
+use Rattle.edf_store.specs.Held.{StoreModel, at, Holds, KeepsHoldings}
 use Rattle.edf_intake.specs.Refusal.{refusal_number}
 use Rattle.edf_intake.specs.Submitted.{IsSubmitted}
 use Rattle.edf_intake.specs.declared.answer.Receipt.{Receipt}
@@ -51,7 +51,7 @@ module _ {S : Type 0} (g : Ghosts S) (old new : StoreModel S) (out err : Growth)
     pub mid : StoreModel S
     pub opened : from.remaining ≡ bytes
     pub submitted : IsSubmitted g old mid from to (Ok receipt)
-    pub stays : Stays g mid new
+    pub stays : KeepsHoldings g mid new
     pub told : TellsWrites out err status
     pub exported : HasCleanDisk (at g new) → (h : Holdings) → Holds g mid h →
         IsRecordingExported out err h receipt.identity status

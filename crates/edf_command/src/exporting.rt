@@ -3,7 +3,7 @@
 ghost use Rattle.std.specs.Prelude.{◌≡◌, option_map};
 ghost use Rattle.sqlite.specs.State.{HasCleanDisk};
 ghost use Rattle.edf_holdings.specs.Holdings.{Holdings};
-ghost use Rattle.edf_store.specs.Held.{at, Holds, Stays};
+ghost use Rattle.edf_store.specs.Held.{at, Holds, KeepsHoldings};
 ghost use Rattle.edf_command.specs.Lines.{export_refused_line, export_status, no_recording_line};
 ghost use Rattle.edf_program.specs.Output.{growth, IsWritten};
 ghost use Rattle.edf_command.specs.Exporting.{IsRecordingExported, IsPlaceExported, TellsWrites};
@@ -50,7 +50,7 @@ pub(crate) fn export_recording<S: Alter, O: Output, F: Output>(
     out: &mut O,
     err: &mut F,
 ) -> Status
-    ensures stays { Stays S.Store store.old store.new }
+    ensures stays { KeepsHoldings S.Store store.old store.new }
     ensures told { TellsWrites
         (growth O.Output out.old out.new) (growth F.Output err.old err.new) result }
     ensures exported { HasCleanDisk (at S.Store store.new) → (h : Holdings) →

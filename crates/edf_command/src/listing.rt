@@ -6,7 +6,7 @@ ghost use Rattle.sqlite.specs.State.{HasCleanDisk};
 ghost use Rattle.edf_fragment.specs.Fragment.{DataRecord};
 ghost use Rattle.edf_holdings.specs.Holdings.{Holdings};
 ghost use Rattle.edf_store.specs.Fault.{IsStoreRefusal};
-ghost use Rattle.edf_store.specs.Held.{at, Holds, Stays};
+ghost use Rattle.edf_store.specs.Held.{at, Holds, KeepsHoldings};
 ghost use Rattle.edf_store.specs.Overview.{IsSummary};
 ghost use Rattle.edf_command.specs.Lines.{list_line, first_list_lines, list_refused_line};
 ghost use Rattle.edf_program.specs.Output.{growth, Gets, IsLinePut, AreLinesPut, IsWritten};
@@ -57,7 +57,7 @@ fn put_recording<S: Alter, O: Output>(
     place: usize,
     identity: &Identity,
 ) -> Result<bool, StoreFault>
-    ensures stays { Stays S.Store store.old store.new }
+    ensures stays { KeepsHoldings S.Store store.old store.new }
     ensures put { HasCleanDisk (at S.Store store.new) →
         IfOk result (λ written. (h : Holdings) (spell : ℕ → List ℕ) → Holds S.Store store.old h →
         h identity.now ≢ [] → IsSpelling spell →
@@ -84,7 +84,7 @@ fn put_recordings<S: Alter, O: Output>(
     out: &mut O,
     recordings: &[Identity],
 ) -> Result<bool, StoreFault>
-    ensures stays { Stays S.Store store.old store.new }
+    ensures stays { KeepsHoldings S.Store store.old store.new }
     ensures counted { MatchResult result (λ written. written ≡ true →
         O.failures out.new ≡ O.failures out.old) (λ _. O.failures out.new ≡ O.failures out.old) }
     ensures unfailed { IfErr result (λ fault. fault ≢ StoreFault.Failed) }

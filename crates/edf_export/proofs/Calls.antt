@@ -4,8 +4,8 @@ use Rattle.std.specs.Prelude.{⊤}
 use Rattle.sqlite_trees.specs.declared.store.Store.{Ghosts}
 use Rattle.sqlite.specs.State.{State, HasCleanDisk}
 use Rattle.edf_store.specs.Fault.{MayRefuse}
-use Rattle.edf_store.specs.Held.{at, Stays}
-use Rattle.edf_store.specs.Walk.{WalksOn}
+use Rattle.edf_store.specs.Held.{at, KeepsHoldings}
+use Rattle.edf_store.specs.Walk.{IsWalkStep}
 use Rattle.edf_store.specs.declared.cursor.Cursor.{Cursor}
 use Rattle.edf_store.specs.declared.records.Records.{Records}
 use Rattle.edf_store.specs.declared.fault.StoreFault.{StoreFault}
@@ -21,7 +21,7 @@ use Rattle.edf_export.proofs.Walks.{refusal_why}
 -- one more step of a walk
 pub leaves_on : {S X : Type 0} (g : Ghosts S) (Left : State → Type 0) (a b c : Records S Cursor)
     (result : Result (Option X) StoreFault) → b.store.ghost_name ≡ a.store.ghost_name →
-    Stays g a.store.now b.store.now → WalksOn g b c result →
+    KeepsHoldings g a.store.now b.store.now → IsWalkStep g b c result →
     (HasCleanDisk (at g c.store.now) → Left (at g c.store.now)) → LeavesWalk g a c Left
 leaves_on g Left a b c result same stays step left = record {
   same_reference = step.same_reference ∙ same;

@@ -10,8 +10,8 @@ use Rattle.sqlite.specs.State.{HasCleanDisk}
 use Rattle.edf_header.specs.Key.{Key}
 use Rattle.edf_fragment.specs.Fragment.{DataRecord}
 use Rattle.edf_holdings.specs.Holdings.{Holdings}
-use Rattle.edf_store.specs.Held.{at, Stays}
-use Rattle.edf_store.specs.Walk.{HasGiven, IsWalking}
+use Rattle.edf_store.specs.Held.{at, KeepsHoldings}
+use Rattle.edf_store.specs.Walk.{HasYielded, IsWalking}
 use Rattle.edf_store.specs.declared.cursor.Cursor.{Cursor}
 use Rattle.edf_store.specs.declared.fault.StoreFault.{StoreFault}
 use Rattle.edf_store.specs.declared.records.Records.{Records}
@@ -50,11 +50,11 @@ module _ {S : Type 0} (g : Ghosts S) (from : At Walked (Records S Cursor) (Unit 
     pub going : mid.file.failed ≡ false
     pub walking : IsWalking g mid.file
     pub same_reference : mid.file.store.ghost_name ≡ from.file.store.ghost_name
-    pub stays : Stays g from.file.store.now mid.file.store.now
-    pub moved : (h : Holdings) (k : Key) → HasGiven g from.file h k 0 →
-        HasGiven g mid.file h k (length records)
+    pub stays : KeepsHoldings g from.file.store.now mid.file.store.now
+    pub moved : (h : Holdings) (k : Key) → HasYielded g from.file h k 0 →
+        HasYielded g mid.file h k (length records)
     pub first : HasCleanDisk (at g mid.file.store.now) → (h : Holdings) (k : Key) →
-        HasGiven g from.file h k 0 → records ≡ take (length records) (h k)
+        HasYielded g from.file h k 0 → records ≡ take (length records) (h k)
 
   one-more : (mid to : At Walked (Records S Cursor) (Unit {0})) (rs : List DataRecord)
       (r : DataRecord) → HasGivenThese mid rs → Answers (Steps g) mid to (Ok (Some r)) →
@@ -67,7 +67,7 @@ module _ {S : Type 0} (g : Ghosts S) (from : At Walked (Records S Cursor) (Unit 
         same_reference = step.leaves.same_reference ∙ so.same_reference;
         stays = stays_then g from.file.store.now mid.file.store.now to.file.store.now so.stays
             step.leaves.stays;
-        moved = λ h k walked. subst (λ n. HasGiven g to.file h k n) (sym more)
+        moved = λ h k walked. subst (λ n. HasYielded g to.file h k n) (sym more)
             (step.moved h k (length rs) (so.moved h k walked));
         first = λ clean h k walked.
             let was = clean_before g mid.file.store.now to.file.store.now step.leaves.stays clean in
@@ -93,7 +93,7 @@ module _ {S : Type 0} (g : Ghosts S) (from : At Walked (Records S Cursor) (Unit 
       at-end : (mid : At Walked (Records S Cursor) (Unit {0})) (rs : List DataRecord) →
           HasGivenThese mid rs → Answers (Steps g) mid to (Ok None) →
           HasCleanDisk (at g to.file.store.now) → (h : Holdings) (k : Key) →
-          HasGiven g from.file h k 0 → rs ≡ h k
+          HasYielded g from.file h k 0 → rs ≡ h k
       at-end mid rs so end clean h k walked =
           let was = clean_before g mid.file.store.now to.file.store.now end.leaves.stays clean in
           let all : length rs ≡ length (h k) = end.step clean h k (length rs) (so.moved h k walked)
@@ -111,7 +111,7 @@ module _ {S : Type 0} (g : Ghosts S) (from : At Walked (Records S Cursor) (Unit 
             so-all.stays s.end.leaves (λ clean. (s.end.leaves.walking clean).3.idle)
 
         pub sent-text : HasCleanDisk (at g to.file.store.now) → (h : Holdings) (k : Key) →
-            HasGiven g from.file h k 0 → Text (h k)
+            HasYielded g from.file h k 0 → Text (h k)
         sent-text clean h k walked = subst Text
             (at-end s.mid s.records so-all s.end clean h k walked) s.wrote
 
@@ -119,9 +119,9 @@ module _ {S : Type 0} (g : Ghosts S) (from : At Walked (Records S Cursor) (Unit 
       module _ (mid : At Walked (Records S Cursor) (Unit {0})) (rs : List DataRecord)
           (so : HasGivenThese mid rs) where
         stays-on : (fault : SendFault StoreFault) → StopsFor (Steps g) from to whole [] mid rs fault →
-            Stays g mid.file.store.now to.file.store.now
+            KeepsHoldings g mid.file.store.now to.file.store.now
         stays-on fault why = elim (asked (Steps g) from to whole [] mid rs fault why) [
-          | inl same ↦ subst (λ x. Stays g mid.file.store.now x.file.store.now) (sym same)
+          | inl same ↦ subst (λ x. KeepsHoldings g mid.file.store.now x.file.store.now) (sym same)
               (stays_same g mid.file.store.now)
           | inr (answer, is) ↦ is.leaves.stays
         ]
@@ -150,7 +150,7 @@ module _ {S : Type 0} (g : Ghosts S) (from : At Walked (Records S Cursor) (Unit 
         counts old new (Output Memory) why counted = counted
 
         module _ (clean : HasCleanDisk (at g to.file.store.now)) (h : Holdings) (k : Key)
-            (walked : HasGiven g from.file h k 0) (measured : IsMeasured (h k) whole) where
+            (walked : HasYielded g from.file h k 0) (measured : IsMeasured (h k) whole) where
           unlike : StopsFor (Steps g) from to whole [] mid rs Unlike → ⊥
           unlike (inl (r, step, not)) =
               let all = (one-more mid to rs r so step).first clean h k walked in
@@ -210,7 +210,7 @@ module _ {S : Type 0} (g : Ghosts S) (from : At Walked (Records S Cursor) (Unit 
           (header : List ℕ) → StopsAfter (Steps g) from to whole []
           (λ rs. WritesFront before after (planned_text header whole rs)) fault →
           HasCleanDisk (at g to.file.store.now) → (h : Holdings) (k : Key) →
-          HasGiven g from.file h k 0 → IsMeasured (h k) whole →
+          HasYielded g from.file h k 0 → IsMeasured (h k) whole →
           WritesFront before after (planned_text header whole (h k))
           × IsWritingFault (export_fault_of fault)
       stopped-text fault before after header s clean h k walked measured =

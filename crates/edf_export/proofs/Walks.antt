@@ -12,8 +12,8 @@ use Rattle.edf_holdings.proofs.Joining.{IsGood-from_sound}
 use Rattle.edf_holdings.proofs.Sound.{Each-from_All}
 use Rattle.edf_holdings.proofs.InSets.{are-sound-from}
 use Rattle.edf_store.specs.Fault.{MayRefuse}
-use Rattle.edf_store.specs.Held.{StoreModel, at, Stays}
-use Rattle.edf_store.specs.Walk.{IsWalkAfter}
+use Rattle.edf_store.specs.Held.{StoreModel, at, KeepsHoldings}
+use Rattle.edf_store.specs.Walk.{IsCursorAfter}
 use Rattle.edf_store.specs.declared.fault.StoreFault.{StoreFault}
 use Rattle.edf_store.specs.declared.fault.StoreFault.TheVariants.{Memory, Store, Foreign, Failed}
 use Rattle.edf_canonical.specs.Measure.{IsMeasured}
@@ -58,7 +58,7 @@ may_start k records m is begins =
 
 -- the recording that a walk is in is sound
 pub sound_recording : (cap : ℕ) (s : State) (recording : Option ℤ) (cursor : _) (h : Holdings)
-    (k : Key) (n : ℕ) → IsWalkAfter cap s recording cursor h k n
+    (k : Key) (n : ℕ) → IsCursorAfter cap s recording cursor h k n
     → IsSoundRecording cap k (h k)
 sound_recording cap s recording cursor h k n it =
     let sound : IsSound cap h = it.kept.sound in
@@ -72,13 +72,13 @@ sound_recording cap s recording cursor h k n it =
 
 -- it has no more than the store may hold of one
 pub few_records : (cap : ℕ) (s : State) (recording : Option ℤ) (cursor : _) (h : Holdings)
-    (k : Key) (n : ℕ) → IsWalkAfter cap s recording cursor h k n → length (h k) ≤ cap
+    (k : Key) (n : ℕ) → IsCursorAfter cap s recording cursor h k n → length (h k) ≤ cap
 few_records cap s recording cursor h k n it =
     (sound_recording cap s recording cursor h k n it).few
 
 -- ---- the store
 
 -- what was clean
-pub clean_before : {S : Type 0} (g : Ghosts S) (old new : StoreModel S) → Stays g old new →
+pub clean_before : {S : Type 0} (g : Ghosts S) (old new : StoreModel S) → KeepsHoldings g old new →
     HasCleanDisk (at g new) → HasCleanDisk (at g old)
 clean_before g old new s clean = omega (arith, s.crash.clean, clean)

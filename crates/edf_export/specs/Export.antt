@@ -9,7 +9,7 @@ use Rattle.edf_fragment.specs.Failures.{saturating_increment}
 use Rattle.edf_fragment.specs.Fragment.{DataRecord}
 use Rattle.edf_store.specs.Call.{IsBusy}
 use Rattle.edf_store.specs.Fault.{number, store_fault_name, IsStoreRefusal}
-use Rattle.edf_store.specs.Held.{StoreModel, at, Stays}
+use Rattle.edf_store.specs.Held.{StoreModel, at, KeepsHoldings}
 use Rattle.edf_store.specs.declared.fault.StoreFault.TheVariants as store
 use Rattle.edf_canonical.specs.File.{IsCanonicalFile}
 use Rattle.edf_canonical.specs.Output.{WritesFront}
@@ -90,7 +90,7 @@ module _ {S A : Type 0} (g : Ghosts S) (old new : StoreModel S) (result : Result
     -- what is held stays; where the disk returned what was written, no transaction is open, but for
     -- a refusal of the store
     pub record LeavesStore : Type 0 where
-      pub stays : Stays g old new
+      pub stays : KeepsHoldings g old new
       pub idle : HasCleanDisk (at g new) → LeavesIdle (at g new) result
 
     -- where the connection is found in a transaction, that is the answer, on any disk; and where

@@ -5,10 +5,10 @@ ghost use Rattle.std.specs.Prelude.{IfSome, MatchResult, ⊤};
 ghost use Rattle.sqlite.specs.State.{HasCleanDisk};
 ghost use Rattle.edf_header.specs.Key.{Key, MayStart};
 ghost use Rattle.edf_holdings.specs.Holdings.{Holdings};
-ghost use Rattle.edf_store.specs.Call.{IsBusy, ReadsOutside};
+ghost use Rattle.edf_store.specs.Call.{IsBusy, ReadsOutsideTransaction};
 ghost use Rattle.edf_store.specs.Fault.{HasCauseOrIsForeign, MayRefuse, IsStoreRefusal};
 ghost use Rattle.edf_store.specs.Held.{at, Holds};
-ghost use Rattle.edf_store.specs.Walk.{HasGiven, IsWalking};
+ghost use Rattle.edf_store.specs.Walk.{HasYielded, IsWalking};
 ghost use Rattle.edf_canonical.specs.Measure.{IsMeasuredSoFar};
 ghost use Rattle.edf_export.specs.Inside.Calls.{LeavesWalk};
 ghost use Rattle.edf_export.specs.Inside.Walks.{IsPlanned, IsSoundRecording};
@@ -28,7 +28,7 @@ fn plan_walk<S: Alter>(walk: &mut Records<'_, S>) -> Result<Option<Measure>, Sto
     ensures leaves { LeavesWalk S.Store walk.old walk.new
         (λ s. OnOk result (s.in_transaction ≡ false)) }
     ensures walked { HasCleanDisk (at S.Store walk.new.store.now) → (h : Holdings) (k : Key) →
-        HasGiven S.Store walk.old h k 0 →
+        HasYielded S.Store walk.old h k 0 →
         MatchResult result (IsMeasuredSoFar (h k)) IsStoreRefusal }
     ensures why { IfErr result HasCauseOrIsForeign }
 {
@@ -49,7 +49,7 @@ fn plan_held<S: Alter>(
     cap: u32,
 ) -> Result<Option<Measure>, StoreFault>
     requires { (cap ≡ store.old.cap) × (cap ≤ MOST_RECORDS) }
-    ensures leaves { ReadsOutside S.Store store.old store.new result }
+    ensures leaves { ReadsOutsideTransaction S.Store store.old store.new result }
     ensures walked { HasCleanDisk (at S.Store store.new) → (h : Holdings) →
         Holds S.Store store.old h →
         MatchResult result
@@ -69,7 +69,7 @@ pub(crate) fn plan_file<S: Alter>(
     store: &mut Store<S>,
     identity: &Identity,
 ) -> Result<Option<Measure>, StoreFault>
-    ensures leaves { ReadsOutside S.Store store.old store.new result }
+    ensures leaves { ReadsOutsideTransaction S.Store store.old store.new result }
     ensures planned { HasCleanDisk (at S.Store store.new) → (h : Holdings) →
         Holds S.Store store.old h →
         MatchResult result (IsPlanned identity.now (h identity.now)) IsStoreRefusal }

@@ -6,7 +6,7 @@ ghost use Rattle.edf_header.specs.Key.{Key, MayStart};
 ghost use Rattle.edf_holdings.specs.Holdings.{Holdings};
 ghost use Rattle.edf_store.specs.Call.{IsBusy};
 ghost use Rattle.edf_store.specs.Held.{at, Holds};
-ghost use Rattle.edf_store.specs.Walk.{HasGiven, IsWalking};
+ghost use Rattle.edf_store.specs.Walk.{HasYielded, IsWalking};
 ghost use Rattle.edf_canonical.specs.Measure.{planned_text};
 ghost use Rattle.edf_export.specs.Export.{IsExported, IsNotExported, LeavesIdle, LeavesStore};
 ghost use Rattle.edf_export.specs.Inside.Calls.{LeavesWalk, CountsWriting};
@@ -32,7 +32,7 @@ fn send_walk<S: Alter, W: Output>(
     requires ready { (walk.old.failed ≡ false) × IsWalking S.Store walk.old }
     ensures leaves { LeavesWalk S.Store walk.old walk.new (λ s. LeavesIdle s result) }
     ensures sent { HasCleanDisk (at S.Store walk.new.store.now) → (h : Holdings) (k : Key) →
-        HasGiven S.Store walk.old h k 0 →
+        HasYielded S.Store walk.old h k 0 →
         IsPlanOf k (h k) plan → IsSentOut (W.contents out.old) (W.contents out.new)
         (planned_text header.now plan (h k)) result }
     ensures counted { CountsWriting ⊥ (W.failures out.old) (W.failures out.new) result }

@@ -21,7 +21,7 @@ use Rattle.edf_holdings.specs.Reply.{Reply, replies, after}
 use Rattle.edf_holdings.proofs.Replies.{replies-append}
 use Rattle.edf_holdings.proofs.Settled.{after-append}
 use Rattle.edf_rows.specs.Rows.{RepresentCommitted}
-use Rattle.edf_store.specs.Held.{StoreModel, at, Holds, Stays}
+use Rattle.edf_store.specs.Held.{StoreModel, at, Holds, KeepsHoldings}
 use Rattle.edf_store.proofs.Begun.{stays_same}
 use Rattle.edf_store.proofs.Held.{others_committed_then}
 use Rattle.edf_intake.specs.Refusal.{Cause, OfForm, OfConflict, OfRead, OfMemory, OfStore}
@@ -115,7 +115,7 @@ ended-next g old new (a ∷ []) last ended = ended
 ended-next g old new (a ∷ b ∷ more) last ended = ended-next g old new (b ∷ more) last ended
 
 module _ {S : Type 0} (g : Ghosts S) where
-  pub none_submitted : (old : StoreModel S) → Stays g old old →
+  pub none_submitted : (old : StoreModel S) → KeepsHoldings g old old →
       AreSubmittedAsList g old old [] [] []
   none_submitted old stays = record {
     turns = [];

@@ -12,7 +12,7 @@ use Rattle.edf_holdings.specs.Holdings.{Holdings}
 use Rattle.edf_holdings.specs.Reply.{Reply, reply, after_one}
 use Rattle.edf_rows.specs.Rows.{RepresentCommitted}
 use Rattle.edf_tables.proofs.Commits.{quiet_then}
-use Rattle.edf_store.specs.Held.{StoreModel, at, Holds, Stays}
+use Rattle.edf_store.specs.Held.{StoreModel, at, Holds, KeepsHoldings}
 use Rattle.edf_store.proofs.Held.{others_committed_then}
 use Rattle.edf_store.specs.Fault.{MayRefuse, HasCause}
 use Rattle.edf_store.specs.Call.{IsBusy, IsUnclean}
@@ -84,11 +84,11 @@ in_doubt Failed cause = absurd cause
 -- old was held, a transaction saw it as first, and last as it was to end, and new is held then
 module _ {S : Type 0} (g : Ghosts S) (old : StoreModel S) (first last : StoreTx S)
     (from to : InputState) (begun : IsBegun g old first)
-    (taken : Stays g first.store.now last.store.now) where
+    (taken : KeepsHoldings g first.store.now last.store.now) where
   capped : first.store.now.cap ≡ old.cap
   capped = begun.stays.cap
 
-  stays : Stays g old last.store.now
+  stays : KeepsHoldings g old last.store.now
   stays = stays_then g old first.store.now last.store.now begun.stays taken
 
   replied : (told : Parsed) (answer : Reply) →
@@ -162,8 +162,8 @@ module _ {S : Type 0} (g : Ghosts S) (old : StoreModel S) (first last : StoreTx 
     )
 
     -- the transaction was given up
-    module _ (undone : Stays g last.store.now new) where
-      pub all_stays : Stays g old new
+    module _ (undone : KeepsHoldings g last.store.now new) where
+      pub all_stays : KeepsHoldings g old new
       all_stays = stays_then g old last.store.now new stays undone
 
       was : HasCleanDisk (at g new) → HasCleanDisk (at g last.store.now)

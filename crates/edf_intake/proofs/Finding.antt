@@ -5,23 +5,24 @@ use Rattle.sqlite_trees.specs.declared.store.Store.{Ghosts}
 use Rattle.sqlite.specs.State.{HasCleanDisk}
 use Rattle.edf_header.specs.Key.{Key}
 use Rattle.edf_holdings.specs.Holdings.{Holdings}
-use Rattle.edf_store.specs.Held.{StoreModel, at, Stays}
-use Rattle.edf_store.specs.Transaction.{Sees, HasNoMore, HasAtMost, IsCountOf, TellsRoom}
-use Rattle.edf_store.specs.StoreTx.{ReadsInside}
+use Rattle.edf_store.specs.Held.{StoreModel, at, KeepsHoldings}
+use Rattle.edf_store.specs.Transaction.{Sees, AddsNoRecording, AddsOnlyRecording, IsCountOf}
+use Rattle.edf_store.specs.Transaction.{IsCapacityAnswer}
+use Rattle.edf_store.specs.StoreTx.{ReadsInTransaction}
 use Rattle.edf_store.specs.declared.fault.StoreFault.{StoreFault}
 use Rattle.edf_store.specs.declared.transaction.StoreTx.{StoreTx}
 use Rattle.edf_intake.specs.Inside.Transaction.{IsRunningFor}
 use Rattle.edf_intake.specs.Inside.Verdict.{IsRoomInside}
 use Rattle.edf_intake.proofs.Taking.{seen_before}
 
-pub at_most : {S : Type 0} (g : Ghosts S) (key : Key) (a b c : StoreModel S) → Stays g b c →
-    HasAtMost g key a b → HasNoMore g b c → HasAtMost g key a c
+pub at_most : {S : Type 0} (g : Ghosts S) (key : Key) (a b c : StoreModel S) → KeepsHoldings g b c →
+    AddsOnlyRecording g key a b → AddsNoRecording g b c → AddsOnlyRecording g key a c
 at_most g key a b c stays most none clean id k there =
     most (omega (arith, stays.crash.clean)) id k (none clean id k there)
 
 module _ {S : Type 0} (g : Ghosts S) (old new : StoreTx S) (id : ℤ) (key : Key)
     (running : IsRunningFor g old id key) {X : Type 0} (x : X) (Why : StoreFault → Type 0)
-    (read : ReadsInside g old new (Ok x) Why) where
+    (read : ReadsInTransaction g old new (Ok x) Why) where
   seen_first : HasCleanDisk (at g new.store.now) → (h : Holdings) → Sees g new.store.now h →
       Sees g old.store.now h
   seen_first =
@@ -29,7 +30,7 @@ module _ {S : Type 0} (g : Ghosts S) (old new : StoreTx S) (id : ℤ) (key : Key
 
   -- room for the number that was asked for
   pub room_now : (more : ℕ) → (HasCleanDisk (at g new.store.now) →
-      TellsRoom g old.store.now id more true) → IsRoomInside g new key more more
+      IsCapacityAnswer g old.store.now id more true) → IsRoomInside g new key more more
   room_now more tells clean h seen =
       let fits : length (h key) + more ≤ old.store.now.cap =
       leb-true (length (h key) + more) old.store.now.cap

@@ -10,10 +10,10 @@ use Rattle.edf_header.specs.Key.{Key}
 use Rattle.edf_fragment.specs.Fragment.{DataRecord}
 use Rattle.edf_holdings.specs.Clash.{near_of}
 use Rattle.edf_holdings.specs.Holdings.{Holdings, with_records}
-use Rattle.edf_store.specs.Held.{StoreModel, at, Stays}
-use Rattle.edf_store.specs.Transaction.{AreSeen, Sees, SeesHoldings, IsOf, SeesOn, SeesAsBefore}
-use Rattle.edf_store.specs.Transaction.{HasNoMore, AreNear, IsNextStartOf, MayTake, IsAdded}
-use Rattle.edf_store.specs.StoreTx.{ReadsInside}
+use Rattle.edf_store.specs.Held.{StoreModel, at, KeepsHoldings}
+use Rattle.edf_store.specs.Transaction.{AreSeen, Sees, SeesHoldings, IsOf, StillSees, SeesAsBefore}
+use Rattle.edf_store.specs.Transaction.{AddsNoRecording, AreNear, IsNextStartOf, MayAddTo, IsAdded}
+use Rattle.edf_store.specs.StoreTx.{ReadsInTransaction}
 use Rattle.edf_store.specs.declared.fault.StoreFault.{StoreFault}
 use Rattle.edf_store.specs.declared.transaction.StoreTx.{StoreTx}
 use Rattle.edf_store.proofs.Short.{sees_twice}
@@ -46,8 +46,8 @@ still_next room key r h from some = go from.new from.known from.clash some
     go new known (Some starts) e = refl
 
 -- no recording is made by two calls
-pub no_more : {S : Type 0} (g : Ghosts S) (a b c : StoreModel S) → Stays g b c →
-    HasNoMore g a b → HasNoMore g b c → HasNoMore g a c
+pub no_more : {S : Type 0} (g : Ghosts S) (a b c : StoreModel S) → KeepsHoldings g b c →
+    AddsNoRecording g a b → AddsNoRecording g b c → AddsNoRecording g a c
 no_more g a b c stays p q clean id k there =
     p (omega (arith, stays.crash.clean)) id k (q clean id k there)
 
@@ -57,7 +57,7 @@ sees_as g s u cap same h seen =
     same.holdings h (subst (λ (n : ℕ). AreSeen n (at g s) h) (sym cap) seen)
 
 -- what is seen after a call that only read was seen before it
-pub seen_before : {S : Type 0} (g : Ghosts S) (s u : StoreModel S) → Stays g s u →
+pub seen_before : {S : Type 0} (g : Ghosts S) (s u : StoreModel S) → KeepsHoldings g s u →
     SeesHoldings g s →
     SeesAsBefore g s u → HasCleanDisk (at g u) → (h : Holdings) → Sees g u h → Sees g s h
 seen_before g s u stays running same clean h seen =
@@ -78,7 +78,7 @@ sees_on g s running = record {
 pub sees_then : {S : Type 0} (g : Ghosts S) (a b c : StoreModel S) → c.cap ≡ b.cap →
     SeesAsBefore g a b → SeesAsBefore g b c → SeesAsBefore g a c
 sees_then g a b c cap p q = sees_twice c.cap (at g a) (at g b) (at g c)
-    (subst (λ (n : ℕ). SeesOn n (at g a) (at g b)) (sym cap) p) q
+    (subst (λ (n : ℕ). StillSees n (at g a) (at g b)) (sym cap) p) q
 
 -- what is near a data record, at its start and of its duration
 pub near_there : (d d' start start' : ℕ) (near records : List DataRecord) → d ≡ d' →
@@ -132,7 +132,7 @@ module _ {S : Type 0} (g : Ghosts S) (id : ℤ) (key : Key) (r : DataRecord) (ro
   }
 
   module _ (u : StoreTx S) (Why : StoreFault → Type 0) (found : Found)
-      (read : ReadsInside g s u (Ok found) Why) (is : IsFoundFor g s u key r found)
+      (read : ReadsInTransaction g s u (Ok found) Why) (is : IsFoundFor g s u key r found)
       (none : from.findings.clash ≡ None) where
     there : IsOf g u.store.now id key
     there = read.same.ids id key running.recording
@@ -229,7 +229,7 @@ module _ {S : Type 0} (g : Ghosts S) (id : ℤ) (key : Key) (r : DataRecord) (ro
 
       module _ (low : from.findings.new < room) where
         -- a record may be added where nothing is near it
-        pub may_take : MayBeNext g s key r room from → MayTake g u.store.now id r
+        pub may_take : MayBeNext g s key r room from → MayAddTo g u.store.now id r
         may_take may = record {
           key = key;
           is_under = there;
@@ -245,7 +245,7 @@ module _ {S : Type 0} (g : Ghosts S) (id : ℤ) (key : Key) (r : DataRecord) (ro
         }
 
         -- w is the transaction after it was added
-        module _ (w : StoreTx S) (stayed : Stays g u.store.now w.store.now)
+        module _ (w : StoreTx S) (stayed : KeepsHoldings g u.store.now w.store.now)
             (added : IsAdded g u.store.now w.store.now id r) where
           added_seen : (h : Holdings) → Sees g s.store.now h →
               Sees g w.store.now (with_records key (r ∷ []) h)

@@ -2,9 +2,9 @@
 use Rattle.std.proofs.Common.{◌≡◌, Result, Ok, Err, refl, sym, subst, ◌∙◌, rules}
 use Rattle.std.specs.Result.{IsErrAnd}
 use Rattle.sqlite_trees.specs.declared.store.Store.{Ghosts}
-use Rattle.edf_store.specs.Held.{StoreModel, Stays}
+use Rattle.edf_store.specs.Held.{StoreModel, KeepsHoldings}
 use Rattle.edf_store.specs.Fault.{HasCause}
-use Rattle.edf_store.specs.StoreTx.{IsRunning, StaysInside, ReadsInside}
+use Rattle.edf_store.specs.StoreTx.{IsRunning, KeepsTransaction, ReadsInTransaction}
 use Rattle.edf_store.specs.declared.fault.StoreFault.{StoreFault}
 use Rattle.edf_store.specs.declared.transaction.StoreTx.{StoreTx}
 use Rattle.edf_store.proofs.Readiness.{stays_then}
@@ -18,12 +18,12 @@ passed_on (Ok x) fault P is p = absurd is
 passed_on {X} {E} (Err e) fault P is p = subst (λ (f : E). P (Err f)) (sym is) p
 
 module _ {S : Type 0} (g : Ghosts S) where
-  pub stays_here : (store : StoreModel S) → Stays g store store
+  pub stays_here : (store : StoreModel S) → KeepsHoldings g store store
   stays_here store = search rules
 
   -- no call at all
   pub reads_none : {X : Type 0} (tx : StoreTx S) (Why : StoreFault → Type 0) (x : X) →
-      IsRunning g tx → ReadsInside g tx tx (Ok x) Why
+      IsRunning g tx → ReadsInTransaction g tx tx (Ok x) Why
   reads_none tx Why x running = record {
     same_reference = refl;
     stays = stays_here tx.store.now;
@@ -36,7 +36,7 @@ module _ {S : Type 0} (g : Ghosts S) where
 
   -- one call, and another answer
   pub reads_as : {X Y : Type 0} (a b : StoreTx S) (Why : StoreFault → Type 0) (x : X) (y : Y) →
-      ReadsInside g a b (Ok x) Why → ReadsInside g a b (Ok y) Why
+      ReadsInTransaction g a b (Ok x) Why → ReadsInTransaction g a b (Ok y) Why
   reads_as a b Why x y p = record {
     same_reference = p.same_reference;
     stays = p.stays;
@@ -49,8 +49,8 @@ module _ {S : Type 0} (g : Ghosts S) where
 
   -- one call that is refused
   pub reads_refused : {X Y : Type 0} (a b : StoreTx S) (Why : StoreFault → Type 0)
-      (fault : StoreFault) → ReadsInside g {X = X} a b (Err fault) Why →
-      ReadsInside g {X = Y} a b (Err fault) Why
+      (fault : StoreFault) → ReadsInTransaction g {X = X} a b (Err fault) Why →
+      ReadsInTransaction g {X = Y} a b (Err fault) Why
   reads_refused a b Why fault p = record {
     same_reference = p.same_reference;
     stays = p.stays;
@@ -62,10 +62,10 @@ module _ {S : Type 0} (g : Ghosts S) where
   }
 
   module _ {X Y Z : Type 0} (a b c : StoreTx S) (Before Why : StoreFault → Type 0) (x : X)
-      (p : ReadsInside g a b (Ok x) Before) where
+      (p : ReadsInTransaction g a b (Ok x) Before) where
     -- two calls
-    pub reads_then : (y : Y) (z : Z) → ReadsInside g b c (Ok y) Why →
-        ReadsInside g a c (Ok z) Why
+    pub reads_then : (y : Y) (z : Z) → ReadsInTransaction g b c (Ok y) Why →
+        ReadsInTransaction g a c (Ok z) Why
     reads_then y z q = record {
       same_reference = q.same_reference ∙ p.same_reference;
       stays = stays_then g a.store.now b.store.now c.store.now p.stays q.stays;
@@ -77,8 +77,9 @@ module _ {S : Type 0} (g : Ghosts S) where
     }
 
     -- two calls, of which the second is refused
-    pub reads_then_refused : (fault : StoreFault) → ReadsInside g {X = Y} b c (Err fault) Why →
-        ReadsInside g {X = Z} a c (Err fault) Why
+    pub reads_then_refused : (fault : StoreFault) →
+        ReadsInTransaction g {X = Y} b c (Err fault) Why →
+        ReadsInTransaction g {X = Z} a c (Err fault) Why
     reads_then_refused fault q = record {
       same_reference = q.same_reference ∙ p.same_reference;
       stays = stays_then g a.store.now b.store.now c.store.now p.stays q.stays;
@@ -92,9 +93,9 @@ module _ {S : Type 0} (g : Ghosts S) where
   -- ---- what may add
 
   -- a call that may add, and one that only reads after it
-  module _ {X Y Z : Type 0} (a b c : StoreTx S) (x : X) (p : StaysInside g a b (Ok x)) where
-    pub stays_read : (y : Y) (z : Z) → ReadsInside g b c (Ok y) HasCause →
-        StaysInside g a c (Ok z)
+  module _ {X Y Z : Type 0} (a b c : StoreTx S) (x : X) (p : KeepsTransaction g a b (Ok x)) where
+    pub stays_read : (y : Y) (z : Z) → ReadsInTransaction g b c (Ok y) HasCause →
+        KeepsTransaction g a c (Ok z)
     stays_read y z q = record {
       same_reference = q.same_reference ∙ p.same_reference;
       stays = stays_then g a.store.now b.store.now c.store.now p.stays q.stays;
@@ -104,7 +105,8 @@ module _ {S : Type 0} (g : Ghosts S) where
     }
 
     pub stays_read_refused : (fault : StoreFault) →
-        ReadsInside g {X = Y} b c (Err fault) HasCause → StaysInside g {X = Z} a c (Err fault)
+        ReadsInTransaction g {X = Y} b c (Err fault) HasCause →
+        KeepsTransaction g {X = Z} a c (Err fault)
     stays_read_refused fault q = record {
       same_reference = q.same_reference ∙ p.same_reference;
       stays = stays_then g a.store.now b.store.now c.store.now p.stays q.stays;
@@ -114,7 +116,7 @@ module _ {S : Type 0} (g : Ghosts S) where
     }
 
   pub stays_refused : {X Y : Type 0} (a b : StoreTx S) (fault : StoreFault) →
-      StaysInside g {X = X} a b (Err fault) → StaysInside g {X = Y} a b (Err fault)
+      KeepsTransaction g {X = X} a b (Err fault) → KeepsTransaction g {X = Y} a b (Err fault)
   stays_refused a b fault p = record {
     same_reference = p.same_reference;
     stays = p.stays;

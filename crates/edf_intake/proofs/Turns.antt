@@ -13,7 +13,7 @@ use Rattle.edf_holdings.specs.Reply.{Conflict, IsWellFormed, Reply, Form, Confli
 use Rattle.edf_holdings.specs.Reply.{IsAccepted, reply, replies, after}
 use Rattle.edf_holdings.proofs.Accepted.{refused_changes_nothing}
 use Rattle.edf_rows.specs.Rows.{RepresentCommitted}
-use Rattle.edf_store.specs.Held.{StoreModel, at, Holds, Stays, KeepsCommittedOthers}
+use Rattle.edf_store.specs.Held.{StoreModel, at, Holds, KeepsHoldings, KeepsOtherTables}
 use Rattle.edf_store.specs.Call.{IsBusy}
 use Rattle.edf_store.specs.declared.fault.StoreFault.{StoreFault}
 use Rattle.edf_store.specs.declared.fault.StoreFault.TheVariants.{Memory, Store, Foreign, Failed}
@@ -68,7 +68,7 @@ pub record IsMade {S : Type 0} (g : Ghosts S) (old new : StoreModel S) (t : Turn
       somes (reply_of t.answer ∷ []) ≡ replies old.cap h (somes (t.submission ∷ []))
   pub holdings : (h : Holdings) → Holds g old h →
       Holds g new (after old.cap h (somes (t.submission ∷ [])))
-  pub others : KeepsCommittedOthers (at g old) (at g new)
+  pub others : KeepsOtherTables (at g old) (at g new)
   pub crash : Survives (at g old) (at g new) (λ rows. (h : Holdings) → Holds g old h →
       RepresentCommitted old.cap rows (after old.cap h (somes (t.submission ∷ [])))
       ⊎ AreUnended old.cap h (t ∷ []) rows)
@@ -127,7 +127,7 @@ module _ {S : Type 0} (g : Ghosts S) (old new : StoreModel S) (from to : InputSt
   }
 
   silent_turn : (answer : Answer) → IsOwnRefusal g new answer → reply_of answer ≡ None →
-      (FailsToRead from to ⊎ IsStopped answer) → ReadsFront from to → Stays g old new
+      (FailsToRead from to ⊎ IsStopped answer) → ReadsFront from to → KeepsHoldings g old new
       → IsMade g old new (record { from = from; to = to; answer = answer; submission = None })
   silent_turn answer own tells why front stays = record {
     own = own;

@@ -15,8 +15,9 @@ use Rattle.edf_holdings.specs.Holdings.{Holdings, with_records}
 use Rattle.edf_holdings.specs.Reply.{IsWellFormed, reply}
 use Rattle.edf_holdings.proofs.Members.{joined_has}
 use Rattle.edf_holdings.proofs.Joining.{IsGood-from_sound, put_here, put_grows}
-use Rattle.edf_store.specs.Held.{StoreModel, at, Stays}
-use Rattle.edf_store.specs.Transaction.{Sees, SeesHoldings, HasAtMost, HasNoMore, EachHasRecord}
+use Rattle.edf_store.specs.Held.{StoreModel, at, KeepsHoldings}
+use Rattle.edf_store.specs.Transaction.{Sees, SeesHoldings, AddsOnlyRecording, AddsNoRecording}
+use Rattle.edf_store.specs.Transaction.{EachHasRecord}
 use Rattle.edf_store.specs.declared.transaction.StoreTx.{StoreTx}
 use Rattle.edf_intake.specs.Refusal.{Cause, OfForm, OfConflict, OfRead, OfMemory, OfStore}
 use Rattle.edf_intake.specs.Refusal.{reply_for, reply_of, cause}
@@ -39,8 +40,8 @@ none_there xs some e = absurd (omega (arith, some, ap (λ (l : List DataRecord).
 -- each recording holds a record, if each did and the one that was made takes some
 pub still_whole : {S : Type 0} (g : Ghosts S) (first made last : StoreModel S) (key : Key)
     (records : List DataRecord) → 1 ≤ length records
-    → EachHasRecord g first → SeesHoldings g first → HasAtMost g key first made →
-    HasNoMore g made last
+    → EachHasRecord g first → SeesHoldings g first → AddsOnlyRecording g key first made →
+    AddsNoRecording g made last
     → (HasCleanDisk (at g last) → HasCleanDisk (at g made)) →
     (HasCleanDisk (at g made) → HasCleanDisk (at g first))
     → (HasCleanDisk (at g last) → (h : Holdings) → Sees g first h →
@@ -87,8 +88,8 @@ few_records left rest l records read =
 module _ {S : Type 0} (g : Ghosts S) (first made last : StoreTx S) (from mid to : InputState)
     (l : Layout) (d : Destination) (findings : Findings)
     (header : ReadsHeader from.remaining mid.remaining l) (unfailed : mid.failed ≡ from.failed)
-    (begun : Stays g first.store.now made.store.now)
-    (stayed : Stays g made.store.now last.store.now)
+    (begun : KeepsHoldings g first.store.now made.store.now)
+    (stayed : KeepsHoldings g made.store.now last.store.now)
     (there : IsDestination g first made l.key (most_records l.count) d)
     (taken : AreTaken g made last l d.room mid to findings) where
   was_made : HasCleanDisk (at g last.store.now) → HasCleanDisk (at g made.store.now)

@@ -11,7 +11,7 @@ use Rattle.edf_holdings.specs.Holdings.{Holdings}
 use Rattle.edf_holdings.specs.Reply.{Reply, Form, Accepted, after_one, after, replies}
 use Rattle.edf_rows.specs.Rows.{RepresentCommitted}
 use Rattle.edf_store.specs.Call.{IsBusy}
-use Rattle.edf_store.specs.Held.{StoreModel, at, Holds, KeepsCommittedOthers}
+use Rattle.edf_store.specs.Held.{StoreModel, at, Holds, KeepsOtherTables}
 use Rattle.edf_intake.specs.Refusal.{Answer, reply_of, IsStopped, IsInDoubt, cause}
 use Rattle.edf_intake.specs.Refusal.{Cause, OfStore}
 use Rattle.edf_intake.specs.Submitted.{IsRefusal, IsSubmitted, IsEnded, found_busy}
@@ -132,7 +132,7 @@ module _ {S : Type 0} (g : Ghosts S) (old new : StoreModel S) where
           replies_in turns ≡ replies old.cap h (submissions_in turns)
       pub holdings : (h : Holdings) → Holds g old h →
           Holds g new (after old.cap h (submissions_in turns))
-      pub others : KeepsCommittedOthers (at g old) (at g new)
+      pub others : KeepsOtherTables (at g old) (at g new)
       pub crash : Survives (at g old) (at g new) (λ rows. (h : Holdings) → Holds g old h →
           AreLeftBy old.cap h turns rows)
 

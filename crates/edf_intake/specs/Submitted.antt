@@ -10,7 +10,7 @@ use Rattle.edf_fragment.specs.Parsed.{Parsed, Fragment, Fault}
 use Rattle.edf_holdings.specs.Holdings.{Holdings}
 use Rattle.edf_holdings.specs.Reply.{Reply, Form, Conflicts, Accepted, reply, after_one}
 use Rattle.edf_rows.specs.Rows.{RepresentCommitted}
-use Rattle.edf_store.specs.Held.{StoreModel, at, Holds, KeepsCommittedOthers, Stays}
+use Rattle.edf_store.specs.Held.{StoreModel, at, Holds, KeepsOtherTables, KeepsHoldings}
 use Rattle.edf_store.specs.Fault.{MayRefuse}
 use Rattle.edf_store.specs.Call.{IsBusy, IsUnclean}
 use Rattle.edf_store.specs.declared.fault.StoreFault.{StoreFault}
@@ -47,7 +47,7 @@ module _ {S : Type 0} (g : Ghosts S) (old new : StoreModel S) where
   pub record LeavesSubmitted (submission : Parsed) : Type 0 where
     pub cap : new.cap ≡ old.cap
     pub holdings : (h : Holdings) → Holds g old h → Holds g new (after_one old.cap h submission)
-    pub others : KeepsCommittedOthers (at g old) (at g new)
+    pub others : KeepsOtherTables (at g old) (at g new)
     pub is_open : HasCleanDisk (at g new) → IsTrue (at g new).is_open
     pub crash : Survives (at g old) (at g new) (AreLeft submission)
 
@@ -56,7 +56,7 @@ module _ {S : Type 0} (g : Ghosts S) (old new : StoreModel S) where
   pub record MayLeave (submission : Parsed) : Type 0 where
     pub cap : new.cap ≡ old.cap
     pub holdings : (h : Holdings) → Holds g old h → Holds g new h
-    pub others : KeepsCommittedOthers (at g old) (at g new)
+    pub others : KeepsOtherTables (at g old) (at g new)
     pub crash : Survives (at g old) (at g new) (AreLeft submission)
 
   module _ (from to : InputState) where
@@ -73,7 +73,7 @@ module _ {S : Type 0} (g : Ghosts S) (old new : StoreModel S) where
     pub record Refuses (submission : Parsed) (answer : Reply) : Type 0 where
       pub read : ReadsAs from to submission
       pub reply_is : RepliesWith submission answer
-      pub stays : Stays g old new
+      pub stays : KeepsHoldings g old new
 
     abbrev pub RefusesFragment : Reply → Type 0
     RefusesFragment answer = (key : Key) × (records : List DataRecord)
@@ -82,12 +82,12 @@ module _ {S : Type 0} (g : Ghosts S) (old new : StoreModel S) where
     -- a read failed; what is held stays, and a crash leaves what it could leave before
     pub record FailsThere : Type 0 where
       pub read : FailsToRead from to
-      pub stays : Stays g old new
+      pub stays : KeepsHoldings g old new
 
     -- memory ran out or the store refused; what is held stays. Only after E41 and E42, and where
     -- the whole input was read and tells a fragment, may a crash leave that it was submitted
     abbrev pub StopsThere : Answer → Type 0
-    StopsThere answer = (Stays g old new × ReadsFront from to)
+    StopsThere answer = (KeepsHoldings g old new × ReadsFront from to)
         ⊎ (IsInDoubt answer × ((key : Key) × (records : List DataRecord)
         × ReadsWhole from to key records × MayLeave (Fragment key records)))
 

@@ -2,7 +2,7 @@
 
 ghost use Rattle.std.specs.Prelude.{◌≡◌, IfOk, IfErr};
 ghost use Rattle.edf_header.specs.Header.{most_records};
-ghost use Rattle.edf_store.specs.StoreTx.{HasCauseOrIsUnclean, ReadsInside};
+ghost use Rattle.edf_store.specs.StoreTx.{HasCauseOrIsUnclean, ReadsInTransaction};
 ghost use Rattle.edf_fragment.specs.Call.{input_state};
 ghost use Rattle.edf_intake.specs.Inside.Transaction.{IsRunningFor, KeepsRunning};
 ghost use Rattle.edf_intake.specs.Inside.Gap.{IsGapInside};
@@ -100,7 +100,7 @@ fn find_verdict<S: Alter>(
     requires running { IsRunningFor S.Store transaction.old id.row identity.now }
     requires gap { IsGapInside S.Store transaction.old identity.now gap }
     // Nothing is added, so the verdict is on what the transaction sees then, too.
-    ensures leaves { ReadsInside S.Store transaction.old transaction.new result
+    ensures leaves { ReadsInTransaction S.Store transaction.old transaction.new result
         (HasCauseOrIsUnclean S.Store transaction.new) }
     ensures found { IfOk result
         (IsFoundFor S.Store transaction.old transaction.new identity.now data_record.now) }

@@ -4,7 +4,7 @@ ghost use Rattle.std.specs.Prelude.{◌≡◌, IfOk, IfErr, IfSome};
 ghost use Rattle.edf_header.specs.Header.{most_records};
 ghost use Rattle.edf_store.specs.Fault.{HasCause};
 ghost use Rattle.edf_store.specs.Transaction.{EachHasRecord};
-ghost use Rattle.edf_store.specs.StoreTx.{IsRunning, ReadsInside, StaysInside};
+ghost use Rattle.edf_store.specs.StoreTx.{IsRunning, ReadsInTransaction, KeepsTransaction};
 ghost use Rattle.edf_fragment.specs.Call.{input_state};
 ghost use Rattle.edf_intake.specs.Inside.Transaction.{IsRunningFor, KeepsRunning};
 ghost use Rattle.edf_intake.specs.Inside.Verdict.{IsRoomInside};
@@ -27,7 +27,7 @@ fn known_room<S: Alter>(
     count: Option<u32>,
 ) -> Result<Option<u32>, StoreFault>
     requires running { IsRunningFor S.Store transaction.old id.row identity.now }
-    ensures leaves { ReadsInside S.Store transaction.old transaction.new result HasCause }
+    ensures leaves { ReadsInTransaction S.Store transaction.old transaction.new result HasCause }
     ensures room { IfOk result (λ found. IfSome found
         (IsRoomInside S.Store transaction.new identity.now (most_records count))) }
 {
@@ -49,7 +49,7 @@ fn find_destination<S: Alter>(
     requires running { IsRunning S.Store transaction.old }
     requires cap { cap ≡ transaction.old.store.now.cap }
     // A recording that is made holds nothing yet, so what the transaction sees stays.
-    ensures leaves { StaysInside S.Store transaction.old transaction.new result }
+    ensures leaves { KeepsTransaction S.Store transaction.old transaction.new result }
     ensures found { IfOk result (IsDestination S.Store transaction.old transaction.new
         identity.now (most_records count)) }
 {

@@ -14,7 +14,7 @@ use Rattle.edf_fragment.specs.Fault.{fragment_fault_number}
 use Rattle.edf_fragment.proofs.Fragments.{fragment_of_all}
 use Rattle.edf_fragment.proofs.OneFragment.{one-fragment}
 use Rattle.edf_holdings.specs.Holdings.{Holdings}
-use Rattle.edf_store.specs.Held.{StoreModel, Stays}
+use Rattle.edf_store.specs.Held.{StoreModel, KeepsHoldings}
 use Rattle.edf_canonical.proofs.Files.{its-own}
 use Rattle.edf_program.specs.Making.{Making}
 use Rattle.edf_canonical.specs.File.{IsCanonicalFile}
@@ -84,7 +84,8 @@ worse-done Trouble is = absurd (cc)
 
 -- ---- a store
 
-pub holds_still : (old new : StoreModel MemStore) → Stays over_memory old new → HoldsStill old new
+pub holds_still : (old new : StoreModel MemStore) → KeepsHoldings over_memory old new →
+    HoldsStill old new
 holds_still old new stays h has = record {
   cap_is = stays.cap ∙ has.cap_is;
   holds = stays.holdings h has.holds;

@@ -14,7 +14,7 @@ use Rattle.edf_tables.proofs.Others.{others_same}
 use Rattle.edf_holdings.specs.Holdings.{Holdings}
 use Rattle.edf_holdings.specs.Reply.{after}
 use Rattle.edf_rows.specs.Rows.{RepresentCommitted}
-use Rattle.edf_store.specs.Held.{StoreModel, at, KeepsCommittedOthers, Stays}
+use Rattle.edf_store.specs.Held.{StoreModel, at, KeepsOtherTables, KeepsHoldings}
 use Rattle.edf_store.proofs.Held.{others_committed_then}
 use Rattle.edf_intake.specs.Refusal.{Answer}
 use Rattle.edf_fragment.specs.Call.{InputState}
@@ -38,7 +38,7 @@ use Rattle.edf_program_run.specs.Turns.{TakesTurns}
 module _ {S : Type 0} (g : Ghosts S) where
   -- ---- no turn
 
-  stays_turns : (old new : StoreModel S) → Stays g old new → TakesTurns g old new []
+  stays_turns : (old new : StoreModel S) → KeepsHoldings g old new → TakesTurns g old new []
   stays_turns old new stays = record {
     cap = stays.cap;
     each = tt;
@@ -49,7 +49,7 @@ module _ {S : Type 0} (g : Ghosts S) where
         stays.crash;
   }
 
-  same_others : (old : StoreModel S) → KeepsCommittedOthers (at g old) (at g old)
+  same_others : (old : StoreModel S) → KeepsOtherTables (at g old) (at g old)
   same_others old = record {
     was_open = λ _ o. o;
     others = λ _ _. others_same (at g old).committed;
@@ -100,7 +100,7 @@ module _ {S : Type 0} (g : Ghosts S) where
 
   -- what comes after the turns leaves what is held
   pub then_stays : (old mid new : StoreModel S) (turns : List Turn) →
-      TakesTurns g old mid turns → Stays g mid new → TakesTurns g old new turns
+      TakesTurns g old mid turns → KeepsHoldings g mid new → TakesTurns g old new turns
   then_stays old mid new turns it stays = record {
     cap = stays.cap ∙ it.cap;
     each = it.each;
@@ -126,7 +126,7 @@ module _ {D : Type 0} {g : disk.Ghosts D} (bytes : List ℕ → Option (List ℕ
   idle_done : (asked : Asked) (old new : StoreModel (FileStore D g)) (status : Status) →
       IsDone over_files old new out err bytes asked status →
       HasOpened before after (files_of asked) status → files_of asked ≡ [] →
-      Prints out asked [] status → Stays over_files old new →
+      Prints out asked [] status → KeepsHoldings over_files old new →
       Turned (asked, bytes, before, after, out) old new err status
   idle_done asked old new status done opened none prints stays = record {
     turns = [];

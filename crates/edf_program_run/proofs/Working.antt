@@ -19,7 +19,7 @@ use Rattle.edf_holdings.specs.Reply.{after}
 use Rattle.edf_holdings.proofs.Settled.{after-append}
 use Rattle.edf_rows.specs.Rows.{RepresentCommitted}
 use Rattle.edf_store.specs.Held.{StoreModel, at, Holds}
-use Rattle.edf_store.specs.Open.{IsOpened, IsGivenBack}
+use Rattle.edf_store.specs.Open.{IsOpened, IsReturned}
 use Rattle.edf_store.specs.declared.fault.StoreFault.{StoreFault}
 use Rattle.edf_intake.specs.Batch.{Turn, submissions_in, AreUnended, AreLeftBy}
 use Rattle.edf_program.specs.Output.{Growth}
@@ -120,7 +120,7 @@ module _ {D : Type 0} {g : Ghosts D} (r : ProgramRun g) (first : Held (FileStore
   -- or it was refused, and the connection came back
   pub record Returns (last : Held (FileStore D g)) (status : Status) : Type 0 where
     pub fault : StoreFault
-    pub back : IsGivenBack over_files first r.cap fault last
+    pub back : IsReturned over_files first r.cap fault last
     pub ours : Bool
     pub ours_is : IsTrue ours ↔ AreOurs (file_state first).now.schema
     pub refuses : Refuses r fault ours status

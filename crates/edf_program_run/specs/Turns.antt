@@ -9,7 +9,7 @@ use Rattle.edf_fragment.specs.Parsed.{Parsed}
 use Rattle.edf_holdings.specs.Holdings.{Holdings}
 use Rattle.edf_holdings.specs.Reply.{after, replies}
 use Rattle.edf_holdings.specs.Laws.{AreWellFormed}
-use Rattle.edf_store.specs.Held.{StoreModel, at, Holds, KeepsCommittedOthers}
+use Rattle.edf_store.specs.Held.{StoreModel, at, Holds, KeepsOtherTables}
 use Rattle.edf_intake.specs.Refusal.{IsInDoubt}
 use Rattle.edf_intake.specs.Input.{ReadsAs}
 use Rattle.edf_intake.specs.Batch.{Turn, IsTurn, submissions_in, replies_in, AreLeftBy}
@@ -27,7 +27,7 @@ pub record TakesTurns {S : Type 0} (g : Ghosts S) (old new : StoreModel S) (turn
       replies_in turns ≡ replies old.cap h (submissions_in turns)
   pub holdings : (h : Holdings) → Holds g old h →
       Holds g new (after old.cap h (submissions_in turns))
-  pub others : KeepsCommittedOthers (at g old) (at g new)
+  pub others : KeepsOtherTables (at g old) (at g new)
   pub crash : Survives (at g old) (at g new) (λ rows. (h : Holdings) → Holds g old h →
       AreLeftBy old.cap h turns rows)
 

@@ -1,7 +1,7 @@
 -- What a session needs to know of the work of any command.
 use Rattle.std.proofs.Common.{◌≡◌, ◌⊎◌, ◌∙◌, ℕ, List, Option, Some, None, sym, ap, subst, inl, inr}
 use Rattle.sqlite_trees.specs.declared.store.Store.{Ghosts}
-use Rattle.edf_store.specs.Held.{Stays}
+use Rattle.edf_store.specs.Held.{KeepsHoldings}
 use Rattle.edf_store.proofs.Begun.{stays_same}
 use Rattle.edf_intake.specs.Submitted.{IsSubmitted}
 use Rattle.edf_serve.specs.Exchange.{IsWorked}
@@ -15,7 +15,7 @@ module _ {S : Type 0} (g : Ghosts S) (folder : Option (List ℕ)) (w : Work S) w
   -- nothing was submitted: the store holds what it held
   pub record SubmitsNone : Type 0 where
     pub none : w.submission ≡ None
-    pub stays : Stays g w.old.store w.new.store
+    pub stays : KeepsHoldings g w.old.store w.new.store
     pub paths : w.new.paths ≡ w.old.paths
 
   -- or one file was, which was opened for that, and lies below the folder
@@ -48,8 +48,8 @@ module _ {S : Type 0} (g : Ghosts S) (folder : Option (List ℕ)) (w : Work S) w
     paths = ap (λ (p : Point S). p.paths) t.same ∙ ap (opens w.old.paths) (sym t.is_it.2);
   }
 
-  same : w.new.store ≡ w.old.store → Stays g w.old.store w.new.store
-  same is = subst (Stays g w.old.store) (sym is) (stays_same g w.old.store)
+  same : w.new.store ≡ w.old.store → KeepsHoldings g w.old.store w.new.store
+  same is = subst (KeepsHoldings g w.old.store) (sym is) (stays_same g w.old.store)
 
   pub orderly : (asked : Option LineAsked) → IsWorked g folder w asked → IsOrderly g folder w
   orderly None is = inl (record {

@@ -5,7 +5,7 @@ use Rattle.std.proofs.lemmas.List.{append-nil}
 use Rattle.std.specs.List.{AllByRecursion}
 use Rattle.std.specs.Option.{option_map, option_to_list}
 use Rattle.sqlite_trees.specs.declared.store.Store.{Ghosts}
-use Rattle.edf_store.specs.Held.{StoreModel, Stays}
+use Rattle.edf_store.specs.Held.{StoreModel, KeepsHoldings}
 use Rattle.edf_store.proofs.Begun.{stays_same}
 use Rattle.edf_intake.proofs.Batches.{none_submitted}
 use Rattle.edf_intake.proofs.Turns.{map-next}
@@ -70,7 +70,8 @@ module _ {S : Type 0} (g : Ghosts S) (folder : Option (List ℕ)) (a : Point S) 
     given = took.given;
   }
 
-  took-none : (b c : Point S) (all : List Submission) → Took b all → Stays g b.store c.store →
+  took-none : (b c : Point S) (all : List Submission) → Took b all →
+      KeepsHoldings g b.store c.store →
       c.paths ≡ b.paths → Took c all
   took-none b c all took stays paths = record {
     submitted = stays-in_turn g a.store b.store c.store all took.submitted stays;

@@ -5,7 +5,7 @@ use Rattle.sqlite_trees.specs.declared.store.Store.{Ghosts}
 use Rattle.sqlite.specs.State.{HasCleanDisk}
 use Rattle.sqlite.proofs.StateLemmas.{survives_then}
 use Rattle.edf_fragment.specs.Call.{InputState}
-use Rattle.edf_store.specs.Held.{StoreModel, at, Stays}
+use Rattle.edf_store.specs.Held.{StoreModel, at, KeepsHoldings}
 use Rattle.edf_store.proofs.Held.{others_committed_then}
 use Rattle.edf_intake.specs.Refusal.{Answer}
 use Rattle.edf_intake.specs.Submitted.{IsSubmitted}
@@ -27,7 +27,7 @@ answers all = map (λ (s : Submission). s.answer) all
 module _ {S : Type 0} (g : Ghosts S) (old mid new : StoreModel S) where
   -- a call that changes nothing of what is held
   later : (fs ts : List InputState) (rs : List Answer) → AreSubmittedAsList g old mid fs ts rs →
-      Stays g mid new → AreSubmittedAsList g old new fs ts rs
+      KeepsHoldings g mid new → AreSubmittedAsList g old new fs ts rs
   later fs ts rs all stays = record {
     turns = all.turns;
     froms_are = all.froms_are;
@@ -45,7 +45,7 @@ module _ {S : Type 0} (g : Ghosts S) (old mid new : StoreModel S) where
   }
 
   pub stays-in_turn : (all : List Submission) → AreSubmittedInTurn g old mid all →
-      Stays g mid new → AreSubmittedInTurn g old new all
+      KeepsHoldings g mid new → AreSubmittedInTurn g old new all
   stays-in_turn all before stays = record {
     cap = stays.cap ∙ before.cap;
     submitted = later (froms all) (tos all) (answers all) before.submitted stays;

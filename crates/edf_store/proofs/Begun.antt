@@ -10,7 +10,7 @@ use Rattle.edf_tables.specs.Schema.{HasBoth}
 use Rattle.edf_tables.specs.Others.{KeepsOthers}
 use Rattle.edf_tables.proofs.Commits.{survives_same}
 use Rattle.edf_tables.proofs.Others.{others_same}
-use Rattle.edf_store.specs.Held.{StoreModel, at, AreHeld, IsSoundStore, Stays}
+use Rattle.edf_store.specs.Held.{StoreModel, at, AreHeld, IsSoundStore, KeepsHoldings}
 use Rattle.edf_store.specs.Transaction.{AreSeen, SeesSome}
 use Rattle.edf_store.proofs.Held.{others_committed_same}
 
@@ -42,7 +42,7 @@ module _ (cap : ℕ) (old new : State) (P : Trees →
       let had = sound.holdings (omega (arith, s.clean)) (shows clean).was_open in
       (had.0, begun_sees had.0 (λ _ _. had.1) clean)
 
-pub stays_same : {S : Type 0} (g : Ghosts S) (store : StoreModel S) → Stays g store store
+pub stays_same : {S : Type 0} (g : Ghosts S) (store : StoreModel S) → KeepsHoldings g store store
 stays_same g store = record {
   cap = refl;
   holdings = λ h held. held;

@@ -13,8 +13,8 @@ use Rattle.sqlite_rules.specs.Edit.{IsNoIndex}
 use Rattle.edf_tables.specs.Others.{KeepsTrees, KeepsOthers}
 use Rattle.edf_tables.proofs.Commits.{survives_same}
 use Rattle.edf_tables.proofs.Others.{others_same, others_then}
-use Rattle.edf_store.specs.Held.{AreHeld, IsSoundStore, KeepsCommittedOthers}
-use Rattle.edf_store.specs.Transaction.{SeesSome, IsTransactionOf, IsUnder, SeesOn}
+use Rattle.edf_store.specs.Held.{AreHeld, IsSoundStore, KeepsOtherTables}
+use Rattle.edf_store.specs.Transaction.{SeesSome, IsTransactionOf, HasRowId, StillSees}
 
 -- what keeps the commit keeps what is true of a store
 pub still_sound : (cap : ℕ) (old new : State) (P : Trees → Type 0) → Survives old new P →
@@ -45,7 +45,7 @@ still_held cap old new P s keeps h held clean is_open =
 
 -- and what is beside it
 pub still_others : (old new : State) → Survives old new (λ _. ⊥) →
-    (HasCleanDisk new → KeepsCommit old new) → KeepsCommittedOthers old new
+    (HasCleanDisk new → KeepsCommit old new) → KeepsOtherTables old new
 still_others old new s keeps = record {
   was_open = λ clean is_open. (keeps clean).was_open is_open;
   others = λ clean is_open. subst (KeepsOthers old.committed)
@@ -72,7 +72,7 @@ module _ (cap : ℕ) (old new : State) (s : Survives old new (λ db. db ≡ old.
       )) s
 
   pub committed_others : (HasCleanDisk new → Shows old new old.now old.now false) →
-      KeepsCommittedOthers old new
+      KeepsOtherTables old new
   committed_others shows = record {
     was_open = λ clean is_open. (shows clean).was_open;
     others = λ clean is_open. subst (KeepsOthers old.committed) (sym (shows clean).committed_is)
@@ -80,7 +80,7 @@ module _ (cap : ℕ) (old new : State) (s : Survives old new (λ db. db ≡ old.
     crash = crash_others;
   }
 
-  pub refused_others : (HasCleanDisk new → KeepsCommit old new) → KeepsCommittedOthers old new
+  pub refused_others : (HasCleanDisk new → KeepsCommit old new) → KeepsOtherTables old new
   refused_others keeps = record {
     was_open = λ clean is_open. (keeps clean).was_open is_open;
     others = λ clean is_open. subst (KeepsOthers old.committed)
@@ -88,7 +88,7 @@ module _ (cap : ℕ) (old new : State) (s : Survives old new (λ db. db ≡ old.
     crash = crash_others;
   }
 
-pub others_committed_same : (s : State) → KeepsCommittedOthers s s
+pub others_committed_same : (s : State) → KeepsOtherTables s s
 others_committed_same s = record {
   was_open = λ clean is_open. is_open;
   others =
@@ -96,8 +96,8 @@ others_committed_same s = record {
   crash = survives_same s _;
 }
 
-pub others_committed_then : (a b c : State) → KeepsCommittedOthers a b → KeepsCommittedOthers b c →
-    KeepsCommittedOthers a c
+pub others_committed_then : (a b c : State) → KeepsOtherTables a b → KeepsOtherTables b c →
+    KeepsOtherTables a c
 others_committed_then a b c p q = record {
   was_open = λ clean is_open. p.was_open (omega (arith, q.crash.clean)) (q.was_open clean is_open);
   others = λ clean is_open. others_then a.committed b.committed c.committed
@@ -128,8 +128,8 @@ still_inside cap old new h same it = record {
 }
 
 pub still_under : (old new : State) (P : Trees → Type 0) → Survives old new P →
-    (HasCleanDisk new → IsUnchanged old new) → (id : ℤ) (k : Key) → IsUnder old id k →
-    IsUnder new id k
+    (HasCleanDisk new → IsUnchanged old new) → (id : ℤ) (k : Key) → HasRowId old id k →
+    HasRowId new id k
 still_under old new P s same id k it = record {
   key = it.key;
   there = λ clean. subst (λ (d : Database). HasRecordingRow d.trees id k)
@@ -138,7 +138,7 @@ still_under old new P s same id k it = record {
 }
 
 pub sees_on : (cap : ℕ) (old new : State) (P : Trees → Type 0) → Survives old new P →
-    (HasCleanDisk new → IsUnchanged old new) → SeesSome cap old → SeesOn cap old new
+    (HasCleanDisk new → IsUnchanged old new) → SeesSome cap old → StillSees cap old new
 sees_on cap old new P s same running = record {
   running = λ clean. let it = running (omega (arith, s.clean)) in
       (it.0, still_inside cap old new it.0 (same clean) it.1);

@@ -21,7 +21,7 @@ use Rattle.edf_holdings.specs.Holdings.{Holdings}
 use Rattle.edf_tables.specs.Records.{records_of, starts_from}
 use Rattle.edf_rows.specs.Rows.{HasRecordingRow, Represent}
 use Rattle.edf_rows.proofs.Rows.{here, there}
-use Rattle.edf_store.specs.Transaction.{SeesSome, IsUnder, IsNextStart, IsNextStartIn}
+use Rattle.edf_store.specs.Transaction.{SeesSome, HasRowId, IsNextStart, IsNextStartIn}
 use Rattle.edf_store.proofs.StoredRows.{show_filter, cell_less, cell_more, cell_same, pos_less}
 use Rattle.edf_store.proofs.StoredRows.{Three, below, level, above, three}
 use Rattle.edf_store.proofs.Standing.{shown_of}
@@ -149,7 +149,7 @@ module _ (cap : ℕ) (old new : State) (P : Trees → Type 0) (s : Survives old 
       ∙ told h k it.stand (under.there was_clean)))
 
   -- on a clean disk it is an instant, or there is none
-  pub next_reads : (k : Key) → IsUnder old id k → SeesSome cap old → next ≢ None →
+  pub next_reads : (k : Key) → HasRowId old id k → SeesSome cap old → next ≢ None →
       ((n : ℕ) → n < window → next ≢ Some (pos n)) → ⊥
   next_reads k under running =
       let it = running was_clean in

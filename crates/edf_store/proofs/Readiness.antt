@@ -17,7 +17,7 @@ use Rattle.edf_tables.specs.Recordings.{AreNamedApart, IsIdIn, named}
 use Rattle.edf_tables.proofs.Commits.{commits_as, quiet_then}
 use Rattle.edf_tables.proofs.Keeping.{keeps_then}
 use Rattle.edf_rows.specs.Rows.{RepresentCommitted}
-use Rattle.edf_store.specs.Held.{StoreModel, AreHeld, IsSoundStore, Stays}
+use Rattle.edf_store.specs.Held.{StoreModel, AreHeld, IsSoundStore, KeepsHoldings}
 use Rattle.edf_store.specs.Inside.Settled.{IsSettled, IsFoundIn}
 use Rattle.sqlite_trees.specs.declared.store.Store.{Ghosts}
 use Rattle.sqlite.specs.Held.{Held, state}
@@ -126,7 +126,8 @@ module _ (a b c d : State) (one : Survives a b (λ _. ⊥)) (two : Survives b c 
 pub stays_so : {S : Type 0} (g : Ghosts S) (cap : ℕ) (old new : Held S) →
     Survives (state g old) (state g new) (λ _. ⊥) →
     (HasCleanDisk (state g new) → KeepsCommit (state g old) (state g new)) →
-    Stays g (record { connection = old; cap = cap }) (record { connection = new; cap = cap })
+    KeepsHoldings g (record { connection = old; cap = cap })
+    (record { connection = new; cap = cap })
 stays_so g cap old new s keeps = record {
   cap = refl;
   holdings =
@@ -137,8 +138,9 @@ stays_so g cap old new s keeps = record {
 }
 
 -- one call after the other
-pub stays_then : {S : Type 0} (g : Ghosts S) (a b c : StoreModel S) → Stays g a b → Stays g b c →
-    Stays g a c
+pub stays_then : {S : Type 0} (g : Ghosts S) (a b c : StoreModel S) → KeepsHoldings g a b →
+    KeepsHoldings g b c →
+    KeepsHoldings g a c
 stays_then g a b c p q = record {
   cap = q.cap ∙ p.cap;
   holdings =

@@ -3,8 +3,8 @@ use Rattle.std.proofs.Common.{ℕ, Result, Ok, Err, IsErrAnd, subst, sym, arith}
 use Rattle.sqlite_trees.specs.declared.store.Store.{Ghosts}
 use Rattle.sqlite.specs.Held.{Held, state}
 use Rattle.sqlite.specs.State.{HasCleanDisk, Survives, KeepsCommit, IsUnchanged}
-use Rattle.edf_store.specs.Held.{StoreModel, at, Stays}
-use Rattle.edf_store.specs.Transaction.{SeesSome, SeesOn}
+use Rattle.edf_store.specs.Held.{StoreModel, at, KeepsHoldings}
+use Rattle.edf_store.specs.Transaction.{SeesSome, StillSees}
 use Rattle.edf_store.specs.Inside.Rows.{ReadsRows}
 use Rattle.edf_store.proofs.Faults.{on_ok}
 use Rattle.edf_store.proofs.Held.{sees_on}
@@ -14,7 +14,7 @@ use Rattle.edf_store.proofs.Steps.{none_made}
 
 module _ {S : Type 0} (g : Ghosts S) where
   pub reads_refused : {X E : Type 0} (Q : E → Type 0) (old new : StoreModel S) (r : Result X E) →
-      IsErrAnd r Q → Stays g old new → ReadsRows g old new r
+      IsErrAnd r Q → KeepsHoldings g old new → ReadsRows g old new r
   reads_refused Q old new (Ok x) is stays = absurd is
   reads_refused Q old new (Err e) is stays = record { stays = stays; same = tt; only = tt }
 
@@ -36,7 +36,7 @@ module _ {S : Type 0} (g : Ghosts S) where
   reads_then a b c x y r p q = record {
     stays = stays_then g a b c p.stays q.stays;
     same = on_ok r (sees_twice c.cap (at g a) (at g b) (at g c)
-        (subst (λ (n : ℕ). SeesOn n (at g a) (at g b)) (sym q.stays.cap) p.same) q.same);
+        (subst (λ (n : ℕ). StillSees n (at g a) (at g b)) (sym q.stays.cap) p.same) q.same);
     only = on_ok r (none_twice (at g a) (at g b) (at g c)
         (λ clean. omega (arith, q.stays.crash.clean)) p.only q.only);
   }

@@ -17,7 +17,7 @@ use Rattle.edf_holdings.specs.Holdings.{Holdings}
 use Rattle.edf_holdings.specs.Rising.{StartsAreSpaced}
 use Rattle.edf_holdings.proofs.Joining.{IsGood-from_sound}
 use Rattle.edf_tables.specs.Records.{records_of}
-use Rattle.edf_store.specs.Transaction.{AreSeen, IsUnder, SeesOn, MakesNone}
+use Rattle.edf_store.specs.Transaction.{AreSeen, HasRowId, StillSees, AddsNoRecordingIn}
 use Rattle.edf_store.proofs.Keys.{first_is}
 use Rattle.edf_store.proofs.Standing.{shown_of, one_key}
 use Rattle.edf_store.proofs.Summaries.{show_reverse, number_at, FirstAt, LastAt}
@@ -86,9 +86,9 @@ module _ (cap : ℕ) (a b c : State) (id : ℤ) (first last : Option ℤ)
       option_map Int last ≡ option_map (λ row. column row 2)
       (slice_get (reverse (records_of id (db.trees 2))) 0)) (same clean_b).0.now_is (ended clean)
 
-  pub short_read : (d most : ℕ) (k q : Key) → IsUnder a id k → d ≡ duration_of k.duration →
+  pub short_read : (d most : ℕ) (k q : Key) → HasRowId a id k → d ≡ duration_of k.duration →
       (x y : ℤ) → first ≡ Some x → last ≡ Some y → unsigned_abs (y -ℤ x) < most * d
-      → (h : Holdings) → AreSeen cap a h → IsUnder a id q → (0 < length (h q))
+      → (h : Holdings) → AreSeen cap a h → HasRowId a id q → (0 < length (h q))
       × (length (h q) ≤ most)
   short_read d most k q mine duration x y f l near h seen under =
       let it = seen clean_a in
@@ -115,13 +115,14 @@ room_counted cap more left held n is same few = elim (cases_Bool (nat_le (n + mo
 ]
 
 -- one call after the other
-pub sees_twice : (cap : ℕ) (a b c : State) → SeesOn cap a b → SeesOn cap b c → SeesOn cap a c
+pub sees_twice : (cap : ℕ) (a b c : State) → StillSees cap a b → StillSees cap b c →
+    StillSees cap a c
 sees_twice cap a b c p q = record {
   running = q.running;
   holdings = λ h seen. q.holdings h (p.holdings h seen);
   ids = λ id k under. q.ids id k (p.ids id k under);
 }
 
-pub none_twice : (a b c : State) → (HasCleanDisk c → HasCleanDisk b) → MakesNone a b →
-    MakesNone b c → MakesNone a c
+pub none_twice : (a b c : State) → (HasCleanDisk c → HasCleanDisk b) → AddsNoRecordingIn a b →
+    AddsNoRecordingIn b c → AddsNoRecordingIn a c
 none_twice a b c was p q clean id k it = p (was clean) id k (q clean id k it)

@@ -31,8 +31,9 @@ use Rattle.edf_rows.specs.Cells.{record_cells, recording_cells, records_in}
 use Rattle.edf_rows.specs.Rows.{HasRecordingRow, RepresentCommitted}
 use Rattle.edf_rows.proofs.Rows.{same-recordings}
 use Rattle.edf_store.specs.Held.{AreHeld, IsSoundStore}
-use Rattle.edf_store.specs.Transaction.{AreSeen, SeesSome, IsTransactionOf, IsUnder, SeesOn}
-use Rattle.edf_store.specs.Transaction.{IsCountIn, AreNearIn, MakesNone, MakesOnly, MayTakeIn}
+use Rattle.edf_store.specs.Transaction.{AreSeen, SeesSome, IsTransactionOf, HasRowId, StillSees}
+use Rattle.edf_store.specs.Transaction.{IsCountIn, AreNearIn, AddsNoRecordingIn}
+use Rattle.edf_store.specs.Transaction.{AddsOnlyRecordingIn, MayAddIn}
 use Rattle.edf_store.specs.Transaction.{IsAddedIn, IsFoundOrMadeIn, EachHasRecordIn, AreSeenRows}
 use Rattle.edf_tables.specs.Schema.{HasBoth}
 use Rattle.edf_store.proofs.Held.{still_inside, still_under, others_on, sees_on}
@@ -40,12 +41,13 @@ use Rattle.edf_store.proofs.Standing.{one_key, stand_more, there_too}
 use Rattle.edf_store.proofs.Found.{found, stand_named, there_now, there_still, there_cases}
 use Rattle.edf_store.proofs.Near.{count_shown, near_shown, rows_rising}
 
-pub none_made : (old new : State) → (HasCleanDisk new → IsUnchanged old new) → MakesNone old new
+pub none_made : (old new : State) → (HasCleanDisk new → IsUnchanged old new) →
+    AddsNoRecordingIn old new
 none_made old new same clean id k it =
     subst (λ (d : Database). HasRecordingRow d.trees id k) (same clean).0.now_is it
 
 pub none_added : (old new : State) (row : Row) → (HasCleanDisk new → HasRecord old new row) →
-    MakesNone old new
+    AddsNoRecordingIn old new
 none_added old new row has clean id k it = record {
   row = subst (λ (rows : List Row). Contains (map (λ row. column row 0 ∷ column row 2 ∷ []) rows)
       (recording_cells id k)) (has clean).recordings it.row;
@@ -68,7 +70,7 @@ module _ (cap : ℕ) (old new : State) (P : Trees → Type 0) (s : Survives old 
 
   -- the rows near are those of the records near
   pub near_is : (id : ℤ) (start d : ℕ) (k : Key) (records : List DataRecord) → HasCleanDisk new →
-      IsUnder old id k → d ≡ duration_of k.duration
+      HasRowId old id k → d ≡ duration_of k.duration
       → ((h : Holdings) → IsTransactionOf cap old h → IsKey k →
       map shown_record (filter (starts_between (pos start -ℤ pos d) (pos start +ℤ pos d))
       (records_of id (old.now.trees 2))) ≡ map record_cells (near_of d start (h k)) →
@@ -86,7 +88,7 @@ module _ (cap : ℕ) (old new : State) (P : Trees → Type 0) (s : Survives old 
   pub added_in : (id : ℤ) (r : DataRecord) →
       (HasCleanDisk new → HasRecord old new
       (cells id (pos r.start) r.samples (block_text 0 r.start r.annotations))) →
-      MayTakeIn cap old id r → SeesSome cap old → IsAddedIn cap old new id r
+      MayAddIn cap old id r → SeesSome cap old → IsAddedIn cap old new id r
   added_in id r has may running = record {
     running = λ clean. let it = running (was_clean clean) in
         (with_records may.key (r ∷ []) it.0, more it.0 may.key clean it.1 may.is_under);
@@ -108,7 +110,7 @@ module _ (cap : ℕ) (old new : State) (P : Trees → Type 0) (s : Survives old 
           there_too old new id may.key r it.0 (has clean) it.1.stand mine room.none_near m q is
 
       more : (h : Holdings) (k : Key) → HasCleanDisk new → IsTransactionOf cap old h →
-          IsUnder old id k → IsTransactionOf cap new (with_records k (r ∷ []) h)
+          HasRowId old id k → IsTransactionOf cap new (with_records k (r ∷ []) h)
       more h k clean it under =
           let mine = may.is_under.there (was_clean clean) in
           let key : may.key ≡ k = one_key old.now.trees h it.stand id may.key k mine
@@ -168,7 +170,7 @@ module _ (cap : ℕ) (a b : State) (id : ℤ) (k : Key) (bytes : List ℕ) (is :
     (key : IsKey k) (one : Survives a b (λ _. ⊥)) (same : HasCleanDisk b →
     IsUnchanged a b) (running : SeesSome cap a) where
   -- a recording is found
-  found_in : (HasCleanDisk b → IsIdIn (named bytes (a.now.trees 0)) (Some id)) → IsUnder b id k
+  found_in : (HasCleanDisk b → IsIdIn (named bytes (a.now.trees 0)) (Some id)) → HasRowId b id k
   found_in has = record {
     key = key;
     there = λ clean.
@@ -224,7 +226,7 @@ module _ (cap : ℕ) (a b : State) (id : ℤ) (k : Key) (bytes : List ℕ) (is :
         (still_inside cap a b had.0 (same (clean_b clean)) had.1).stand key (unnamed clean) m q
         it
 
-    made_under : IsUnder c id k
+    made_under : HasRowId c id k
     made_under = record {
       key = key;
       there = λ clean. let had = running (clean_a clean) in
@@ -232,7 +234,7 @@ module _ (cap : ℕ) (a b : State) (id : ℤ) (k : Key) (bytes : List ℕ) (is :
           (still_inside cap a b had.0 (same (clean_b clean)) had.1).stand key (unnamed clean);
     }
 
-    made_sees : SeesOn cap a c
+    made_sees : StillSees cap a c
     made_sees = record {
       running = λ clean. let it = running (clean_a clean) in (it.0, moved it.0 clean it.1);
       holdings = λ h seen clean. moved h clean (seen (clean_a clean));
@@ -244,7 +246,7 @@ module _ (cap : ℕ) (a b : State) (id : ℤ) (k : Key) (bytes : List ℕ) (is :
           };
     }
 
-    made_only : MakesOnly k a c
+    made_only : AddsOnlyRecordingIn k a c
     made_only clean m q it =
         let had = running (clean_a clean) in
         elim (there_cases b c id k had.0 (has clean) (made clean).1
@@ -264,7 +266,7 @@ module _ (cap : ℕ) (a b : State) (id : ℤ) (k : Key) (bytes : List ℕ) (is :
         (recording_keeps b c _ (has clean))
 
 -- the rows of a recording that is there rise
-pub ready_in : (cap : ℕ) (s : State) (id : ℤ) (k : Key) → IsUnder s id k → SeesSome cap s →
+pub ready_in : (cap : ℕ) (s : State) (id : ℤ) (k : Key) → HasRowId s id k → SeesSome cap s →
     HasCleanDisk s → IsReady id s
 ready_in cap s id k under running clean =
     let it = running clean in
@@ -276,7 +278,7 @@ ready_in cap s id k under running clean =
 
 -- at most two are near
 pub two_near : (cap : ℕ) (s : State) (id : ℤ) (k : Key) (start : ℕ) (records : List DataRecord) →
-    IsUnder s id k → SeesSome cap s → HasCleanDisk s → AreNearIn cap s id start records →
+    HasRowId s id k → SeesSome cap s → HasCleanDisk s → AreNearIn cap s id start records →
     length records ≤ 2
 two_near cap s id k start records under running clean near =
     let it = running clean in

@@ -15,7 +15,7 @@ use Rattle.edf_tables.specs.declared.row.RecordRow.{RecordRow}
 use Rattle.edf_tables.specs.Records.{records_of, shown_record, starts_after, IsReady}
 use Rattle.edf_rows.specs.Cells.{record_cells}
 use Rattle.edf_rows.specs.Rows.{HasRecordingRow, RepresentCommitted}
-use Rattle.edf_store.specs.Walk.{starts_later, IsWalkAfter, IsSomeWalk}
+use Rattle.edf_store.specs.Walk.{starts_later, IsCursorAfter, IsSomeWalk}
 use Rattle.edf_store.specs.declared.cursor.Cursor.{Cursor}
 use Rattle.edf_store.proofs.Near.{later_shown, later_place, later_start, rows_rising}
 use Rattle.edf_store.proofs.KeysRead.{all_place}
@@ -112,9 +112,9 @@ read_next k records n row rest r next read = next.place
     ∙ ap Some (sym (read next.data_record next.sound next.cells))
 
 module _ (cap : ℕ) (s : State) (id : ℤ) (cursor : Cursor) (h : Holdings) (k : Key) (n : ℕ)
-    (it : IsWalkAfter cap s (Some id) cursor h k n) where
+    (it : IsCursorAfter cap s (Some id) cursor h k n) where
   -- a statement that changes nothing leaves a walk where it is
-  pub still_walks : (t : State) → IsUnchanged s t → IsWalkAfter cap t (Some id) cursor h k n
+  pub still_walks : (t : State) → IsUnchanged s t → IsCursorAfter cap t (Some id) cursor h k n
   still_walks t same = record {
     is_open = same.0.is_open;
     idle = same.0.mode ∙ it.idle;
@@ -161,7 +161,7 @@ module _ (cap : ℕ) (s : State) (id : ℤ) (cursor : Cursor) (h : Holdings) (k 
   -- the walk with other rows that were read ahead
   module _ (next : Cursor) (limit : next.limit ≡ cursor.limit) where
     pub page_walks : next.start ≡ cursor.start → ShowFirst next.rows.items (drop n (h k)) →
-        IsWalkAfter cap s (Some id) next h k n
+        IsCursorAfter cap s (Some id) next h k n
     page_walks start ahead = record {
       is_open = it.is_open;
       idle = it.idle;
@@ -178,7 +178,7 @@ module _ (cap : ℕ) (s : State) (id : ℤ) (cursor : Cursor) (h : Holdings) (k 
     }
 
     pub walk_ended : next.start ≡ cursor.start → next.rows.items ≡ [] → n ≡ length (h k) →
-        IsWalkAfter cap s None next h k n
+        IsCursorAfter cap s None next h k n
     walk_ended start none all = record {
       is_open = it.is_open;
       idle = it.idle;
@@ -196,7 +196,7 @@ module _ (cap : ℕ) (s : State) (id : ℤ) (cursor : Cursor) (h : Holdings) (k 
 
     pub then_walks : (r : DataRecord) → slice_get (h k) n ≡ Some r → next.start ≡ pos r.start →
         ShowFirst next.rows.items (drop (suc n) (h k)) →
-        IsWalkAfter cap s (Some id) next h k (n + 1)
+        IsCursorAfter cap s (Some id) next h k (n + 1)
     then_walks r place start others = record {
       is_open = it.is_open;
       idle = it.idle;
@@ -220,7 +220,7 @@ module _ (cap : ℕ) (s : State) (id : ℤ) (cursor : Cursor) (h : Holdings) (k 
 pub at_start : (cap : ℕ) (s : State) (id : Option ℤ) (cursor : Cursor) (h : Holdings) (k : Key) →
     cursor.start <ℤ pos 0 → 1 ≤ cursor.limit → cursor.rows.items ≡ [] → IsSettled cap s →
     RepresentCommitted cap s.now.trees h → IsKey k → IsFoundIn s k h id
-    → IsWalkAfter cap s id cursor h k 0
+    → IsCursorAfter cap s id cursor h k 0
 at_start cap s id cursor h k low some none it kept key found = record {
   is_open = it.is_open;
   idle = it.idle;

@@ -10,23 +10,24 @@ use Rattle.edf_holdings.specs.Rising.{union}
 use Rattle.edf_holdings.specs.Holdings.{Holdings, with_records}
 use Rattle.edf_holdings.proofs.Same.{same_key-Decides}
 use Rattle.edf_rows.proofs.Rows.{one-holdings}
-use Rattle.edf_store.specs.Transaction.{AreSeen, SeesSome, SeesOn, IsUnder, MakesNone, MakesOnly}
+use Rattle.edf_store.specs.Transaction.{AreSeen, SeesSome, StillSees, HasRowId, AddsNoRecordingIn}
+use Rattle.edf_store.specs.Transaction.{AddsOnlyRecordingIn}
 use Rattle.edf_store.specs.Transaction.{IsAddedIn, EachHasRecordIn}
 use Rattle.edf_holdings.proofs.Sound.{inserted-some}
 
 -- each recording but this one holds a record
 abbrev pub IsWholeBut : Key → ℕ → State → Type 0
 IsWholeBut made cap s = HasCleanDisk s → (h : Holdings) (id : ℤ) (k : Key) → AreSeen cap s h →
-    IsUnder s id k → k ≢ made → h k ≢ []
+    HasRowId s id k → k ≢ made → h k ≢ []
 
 module _ (cap : ℕ) (a b : State) (was : HasCleanDisk b → HasCleanDisk a) (running : SeesSome cap a)
   where
-    under_before : HasCleanDisk b → MakesNone a b → (id : ℤ) (k : Key) → IsUnder b id k →
-        IsUnder a id k
+    under_before : HasCleanDisk b → AddsNoRecordingIn a b → (id : ℤ) (k : Key) → HasRowId b id k →
+        HasRowId a id k
     under_before clean none id k under =
         record { key = under.key; there = λ _. none clean id k (under.there clean) }
 
-    module _ (sees : SeesOn cap a b) where
+    module _ (sees : StillSees cap a b) where
       -- what is seen was seen
       pub seen_before : HasCleanDisk b → (h : Holdings) → AreSeen cap b h → AreSeen cap a h
       seen_before clean h seen =
@@ -36,11 +37,11 @@ module _ (cap : ℕ) (a b : State) (was : HasCleanDisk b → HasCleanDisk a) (ru
           subst (AreSeen cap a) (one-holdings b.now.trees it.0 h cap cap then.stand then.sound
           now.stand now.sound) (λ _. it.1)
 
-      pub still_whole : MakesNone a b → EachHasRecordIn cap a → EachHasRecordIn cap b
+      pub still_whole : AddsNoRecordingIn a b → EachHasRecordIn cap a → EachHasRecordIn cap b
       still_whole none whole clean h id k seen under =
           whole (was clean) h id k (seen_before clean h seen) (under_before clean none id k under)
 
-      pub whole_but : (made : Key) → MakesOnly made a b → EachHasRecordIn cap a →
+      pub whole_but : (made : Key) → AddsOnlyRecordingIn made a b → EachHasRecordIn cap a →
           IsWholeBut made cap b
       whole_but made only whole clean h id k seen under other =
           elim (only clean id k (under.there clean)) [
@@ -49,14 +50,15 @@ module _ (cap : ℕ) (a b : State) (was : HasCleanDisk b → HasCleanDisk a) (ru
             | inr same ↦ absurd (other same)
           ]
 
-      pub still_but : (made : Key) → MakesNone a b → IsWholeBut made cap a → IsWholeBut made cap b
+      pub still_but : (made : Key) → AddsNoRecordingIn a b → IsWholeBut made cap a →
+          IsWholeBut made cap b
       still_but made none whole clean h id k seen under other =
           whole (was clean) h id k (seen_before clean h seen) (under_before clean none id k under)
           other
 
     -- the recording that was made holds the record that is added
     pub whole_added : (made : Key) (id : ℤ) (r : DataRecord) → IsAddedIn cap a b id r →
-        IsUnder a id made → IsWholeBut made cap a → EachHasRecordIn cap b
+        HasRowId a id made → IsWholeBut made cap a → EachHasRecordIn cap b
     whole_added made id r added mine whole clean h m k seen under =
         let it = running (was clean) in
         let then = added.holdings it.0 made (λ _. it.1) mine clean in

@@ -3,7 +3,7 @@ use Rattle.std.specs.Prelude.{◌≡◌, false, None, Result, Err, IsTrue, IfOk,
 use Rattle.sqlite_trees.specs.declared.store.Store.{Ghosts}
 use Rattle.sqlite.specs.State.{HasCleanDisk}
 use Rattle.edf_store.specs.Fault.{MayRefuse}
-use Rattle.edf_store.specs.Held.{StoreModel, at, Stays}
+use Rattle.edf_store.specs.Held.{StoreModel, at, KeepsHoldings}
 use Rattle.edf_store.specs.declared.fault.StoreFault.{StoreFault}
 use Rattle.edf_store.specs.declared.fault.StoreFault.TheVariants.{Store}
 
@@ -21,8 +21,9 @@ module _ {S : Type 0} (g : Ghosts S) where
   AnswersWith new result P = HasCleanDisk (at g new) → IfOk result P
 
   -- a call that is done leaves no transaction open
-  abbrev pub EndsIdle : {X E : Type 0} → StoreModel S → Result X E → Type 0
-  EndsIdle new result = HasCleanDisk (at g new) → OnOk result ((at g new).in_transaction ≡ false)
+  abbrev pub EndsOutsideTransaction : {X E : Type 0} → StoreModel S → Result X E → Type 0
+  EndsOutsideTransaction new result = HasCleanDisk (at g new) →
+      OnOk result ((at g new).in_transaction ≡ false)
 
   -- A call that needs a connection outside a transaction. Where the connection is in one, the call
   -- is refused by E42 without a cause; elsewhere it never is so. It finds rows foreign only where
@@ -34,7 +35,8 @@ module _ {S : Type 0} (g : Ghosts S) where
 
   -- a call that reads outside a transaction: what is held stays, and no transaction is open after a
   -- call that is done
-  pub record ReadsOutside {X E : Type 0} (old new : StoreModel S) (result : Result X E) : Type 0
+  pub record ReadsOutsideTransaction {X E : Type 0} (old new : StoreModel S)
+      (result : Result X E) : Type 0
     where
-      pub stays : Stays g old new
-      pub idle : EndsIdle new result
+      pub stays : KeepsHoldings g old new
+      pub idle : EndsOutsideTransaction new result

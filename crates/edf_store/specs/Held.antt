@@ -41,7 +41,7 @@ pub record IsSoundStore (cap : ℕ) (s : State) : Type 0 where
 
 -- what is committed beside our two tables is as it was, where the connection is still open after
 -- the call; what a crash in the call may leave has it too
-pub record KeepsCommittedOthers (old new : State) : Type 0 where
+pub record KeepsOtherTables (old new : State) : Type 0 where
   pub was_open : HasCleanDisk new → IsTrue new.is_open → IsTrue old.is_open
   pub others : HasCleanDisk new → IsTrue new.is_open → KeepsOthers old.committed new.committed
   pub crash : Survives old new (λ rows. IsTrue old.is_open
@@ -49,8 +49,8 @@ pub record KeepsCommittedOthers (old new : State) : Type 0 where
 
 -- a call leaves the holdings as they are, and what is beside them; a crash in it leaves nothing but
 -- what it could leave before
-pub record Stays {S : Type 0} (g : Ghosts S) (old new : StoreModel S) : Type 0 where
+pub record KeepsHoldings {S : Type 0} (g : Ghosts S) (old new : StoreModel S) : Type 0 where
   pub cap : new.cap ≡ old.cap
   pub holdings : (h : Holdings) → Holds g old h → Holds g new h
-  pub others : KeepsCommittedOthers (at g old) (at g new)
+  pub others : KeepsOtherTables (at g old) (at g new)
   pub crash : Survives (at g old) (at g new) (λ _. ⊥)

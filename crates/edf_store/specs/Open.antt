@@ -27,7 +27,7 @@ pub record IsOpened {S : Type 0} (g : Ghosts S) (conn : Held S) (store : StoreMo
 -- The connection comes back as `end`. Where its disk is clean, its rows are as they were, whatever
 -- the refusal is. The refusal is E45, or it has a cause. E45 tells that the file was foreign, and
 -- tables of ours are made where they were missing. A crash leaves the same as above.
-pub record IsGivenBack {S : Type 0} (g : Ghosts S) (conn : Held S) (cap : ℕ)
+pub record IsReturned {S : Type 0} (g : Ghosts S) (conn : Held S) (cap : ℕ)
     (fault : StoreFault) (end : Held S) : Type 0 where
   pub why : HasCauseOrIsForeign fault
   pub foreign : fault ≡ Foreign → HasCleanDisk (state g end) → IsForeignFile cap (state g conn).now
@@ -37,10 +37,10 @@ pub record IsGivenBack {S : Type 0} (g : Ghosts S) (conn : Held S) (cap : ℕ)
   pub crash : Survives (state g conn) (state g end) (IsMadeOf (state g conn).now)
 
 -- the connection is given up as one that could have come back
-abbrev pub IsGivenUp : {S : Type 0} → Ghosts S → Held S → ℕ → StoreFault → Type 0
-IsGivenUp {S} g conn cap fault = (end : Held S) × IsGivenBack g conn cap fault end
+abbrev pub IsDropped : {S : Type 0} → Ghosts S → Held S → ℕ → StoreFault → Type 0
+IsDropped {S} g conn cap fault = (end : Held S) × IsReturned g conn cap fault end
 
 -- the disk is clean wherever the opening may come from here, as that of a store in memory always is
-abbrev pub StaysClean : {S : Type 0} → Ghosts S → Held S → Type 0
-StaysClean {S} g conn = (end : Held S) →
+abbrev pub DiskStaysClean : {S : Type 0} → Ghosts S → Held S → Type 0
+DiskStaysClean {S} g conn = (end : Held S) →
     Survives (state g conn) (state g end) (IsMadeOf (state g conn).now) → HasCleanDisk (state g end)

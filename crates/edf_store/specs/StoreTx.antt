@@ -4,9 +4,9 @@ use Rattle.sqlite_trees.specs.declared.store.Store.{Ghosts}
 use Rattle.sqlite.specs.State.{HasCleanDisk, Survives}
 use Rattle.edf_holdings.specs.Holdings.{Holdings}
 use Rattle.edf_store.specs.Fault.{HasCause, MayRefuse}
-use Rattle.edf_store.specs.Held.{StoreModel, at, Holds, KeepsCommittedOthers, Stays}
-use Rattle.edf_store.specs.Call.{EndsIdle, IsUnclean}
-use Rattle.edf_store.specs.Transaction.{Sees, SeesHoldings, SeesAsBefore, HasNoMore}
+use Rattle.edf_store.specs.Held.{StoreModel, at, Holds, KeepsOtherTables, KeepsHoldings}
+use Rattle.edf_store.specs.Call.{EndsOutsideTransaction, IsUnclean}
+use Rattle.edf_store.specs.Transaction.{Sees, SeesHoldings, SeesAsBefore, AddsNoRecording}
 use Rattle.edf_store.specs.Transaction.{EachHasRecord, IsSeen}
 use Rattle.edf_store.specs.declared.fault.StoreFault.{StoreFault}
 use Rattle.edf_store.specs.declared.transaction.StoreTx.{StoreTx}
@@ -19,7 +19,7 @@ module _ {S : Type 0} (g : Ghosts S) where
 
   -- a transaction that begins: what is held stays, and is what it sees
   pub record IsBegun (store : StoreModel S) (tx : StoreTx S) : Type 0 where
-    pub stays : Stays g store tx.store.now
+    pub stays : KeepsHoldings g store tx.store.now
     pub running : IsRunning tx
     pub sees : (h : Holdings) → Holds g store h → Sees g tx.store.now h
     pub whole : EachHasRecord g tx.store.now
@@ -29,22 +29,23 @@ module _ {S : Type 0} (g : Ghosts S) where
   HasCauseOrIsUnclean tx = MayRefuse ⊥ (IsUnclean g tx.store.now) ⊥
 
   -- what each call leaves: what is held, and the transaction running, or refused
-  pub record StaysInside {X : Type 0} (old new : StoreTx S) (result : Result X StoreFault) : Type 0
+  pub record KeepsTransaction {X : Type 0} (old new : StoreTx S)
+      (result : Result X StoreFault) : Type 0
     where
       pub same_reference : new.store.ghost_name ≡ old.store.ghost_name
-      pub stays : Stays g old.store.now new.store.now
+      pub stays : KeepsHoldings g old.store.now new.store.now
       pub running : OnOk result (IsRunning new)
       pub refused : OnErr result (new.refused ≡ true)
       pub why : IfErr result HasCause
 
   -- what a call leaves that only reads: what the transaction saw too
-  pub record ReadsInside {X : Type 0} (old new : StoreTx S) (result : Result X StoreFault)
+  pub record ReadsInTransaction {X : Type 0} (old new : StoreTx S) (result : Result X StoreFault)
       (Why : StoreFault → Type 0) : Type 0 where
     pub same_reference : new.store.ghost_name ≡ old.store.ghost_name
-    pub stays : Stays g old.store.now new.store.now
+    pub stays : KeepsHoldings g old.store.now new.store.now
     pub running : OnOk result (IsRunning new)
     pub same : OnOk result (SeesAsBefore g old.store.now new.store.now)
-    pub only : OnOk result (HasNoMore g old.store.now new.store.now)
+    pub only : OnOk result (AddsNoRecording g old.store.now new.store.now)
     pub refused : OnErr result (new.refused ≡ true)
     pub why : IfErr result Why
 
@@ -54,13 +55,13 @@ module _ {S : Type 0} (g : Ghosts S) where
     pub cap : new.cap ≡ old.cap
     pub committed : OnOk result ((h : Holdings) → Sees g old h → Holds g new h)
     pub refused : OnErr result ((h : Holdings) → Holds g old h → Holds g new h)
-    pub others : KeepsCommittedOthers (at g old) (at g new)
+    pub others : KeepsOtherTables (at g old) (at g new)
     pub survives : Survives (at g old) (at g new) (IsSeen g old)
     pub ended : HasCleanDisk (at g new) → (at g new).in_transaction ≡ false
     pub is_open : HasCleanDisk (at g new) → OnOk result (IsTrue (at g new).is_open)
 
   -- A transaction is given up: what was held before it stays, and nothing that it added is kept.
   -- Where that is done, no transaction is open.
-  pub record GivesUp {X E : Type 0} (old new : StoreModel S) (result : Result X E) : Type 0 where
-    pub stays : Stays g old new
-    pub ended : EndsIdle g new result
+  pub record RollsBack {X E : Type 0} (old new : StoreModel S) (result : Result X E) : Type 0 where
+    pub stays : KeepsHoldings g old new
+    pub ended : EndsOutsideTransaction g new result

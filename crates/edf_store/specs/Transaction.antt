@@ -31,30 +31,31 @@ abbrev pub SeesSome : ℕ → State → Type 0
 SeesSome cap s = HasCleanDisk s → (h : Holdings) × IsTransactionOf cap s h
 
 -- the key's recording is there under this id
-pub record IsUnder (s : State) (id : ℤ) (k : Key) : Type 0 where
+pub record HasRowId (s : State) (id : ℤ) (k : Key) : Type 0 where
   pub key : IsKey k
   pub there : HasCleanDisk s → HasRecordingRow s.now.trees id k
 
 -- what was seen is seen, and the recordings are there under the ids that they had
-pub record SeesOn (cap : ℕ) (old new : State) : Type 0 where
+pub record StillSees (cap : ℕ) (old new : State) : Type 0 where
   pub running : SeesSome cap new
   pub holdings : (h : Holdings) → AreSeen cap old h → AreSeen cap new h
-  pub ids : (id : ℤ) (k : Key) → IsUnder old id k → IsUnder new id k
+  pub ids : (id : ℤ) (k : Key) → HasRowId old id k → HasRowId new id k
 
 -- no recording is made
-abbrev pub MakesNone : State → State → Type 0
-MakesNone old new = HasCleanDisk new → (id : ℤ) (k : Key) → HasRecordingRow new.now.trees id k →
+abbrev pub AddsNoRecordingIn : State → State → Type 0
+AddsNoRecordingIn old new = HasCleanDisk new → (id : ℤ) (k : Key) →
+    HasRecordingRow new.now.trees id k →
     HasRecordingRow old.now.trees id k
 
 -- no recording but this one is made
-abbrev pub MakesOnly : Key → State → State → Type 0
-MakesOnly made old new = HasCleanDisk new → (id : ℤ) (k : Key) →
+abbrev pub AddsOnlyRecordingIn : Key → State → State → Type 0
+AddsOnlyRecordingIn made old new = HasCleanDisk new → (id : ℤ) (k : Key) →
     HasRecordingRow new.now.trees id k →
     HasRecordingRow old.now.trees id k ⊎ (k ≡ made)
 
 -- these are the records of the recording that lie near the start
 abbrev pub AreNearIn : ℕ → State → ℤ → ℕ → List DataRecord → Type 0
-AreNearIn cap s id start records = (h : Holdings) (k : Key) → AreSeen cap s h → IsUnder s id k →
+AreNearIn cap s id start records = (h : Holdings) (k : Key) → AreSeen cap s h → HasRowId s id k →
     records ≡ near_of (duration_of k.duration) start (h k)
 
 -- of the records' starts, the earliest that is `from` or later; none where there is no such start
@@ -65,52 +66,53 @@ IsNextStart from records (Some start) = (from ≤ start) × Contains (map (λ r.
 
 -- the same, of the recording's records
 abbrev pub IsNextStartIn : ℕ → State → ℤ → ℕ → Option ℕ → Type 0
-IsNextStartIn cap s id from answer = (h : Holdings) (k : Key) → AreSeen cap s h → IsUnder s id k →
+IsNextStartIn cap s id from answer = (h : Holdings) (k : Key) → AreSeen cap s h → HasRowId s id k →
     IsNextStart from (h k) answer
 
 -- the recording has `count` records
 abbrev pub IsCountIn : ℕ → State → ℤ → ℕ → Type 0
-IsCountIn cap s id count = (h : Holdings) (k : Key) → AreSeen cap s h → IsUnder s id k →
+IsCountIn cap s id count = (h : Holdings) (k : Key) → AreSeen cap s h → HasRowId s id k →
     count ≡ length (h k)
 
 -- the answer tells whether the recording would have at most the cap with `more` records more
-abbrev pub TellsRoomIn : ℕ → State → ℤ → ℕ → Bool → Type 0
-TellsRoomIn cap s id more answer = (h : Holdings) (k : Key) → AreSeen cap s h → IsUnder s id k →
+abbrev pub IsCapacityAnswerIn : ℕ → State → ℤ → ℕ → Bool → Type 0
+IsCapacityAnswerIn cap s id more answer = (h : Holdings) (k : Key) → AreSeen cap s h →
+    HasRowId s id k →
     answer ≡ nat_le (length (h k) + more) cap
 
 -- there is a place for the record: none is near it, there are fewer than the cap, and where the
 -- recording holds none, it may start with the record (one that holds some has a date or began
 -- before 2085, as sound holdings do)
-pub record HasPlace (cap : ℕ) (k : Key) (r : DataRecord) (h : Holdings) : Type 0 where
+pub record CanAdd (cap : ℕ) (k : Key) (r : DataRecord) (h : Holdings) : Type 0 where
   pub none_near : near_of (duration_of k.duration) r.start (h k) ≡ []
   pub few : length (h k) < cap
   pub first : h k ≡ [] → MayStart k r.start
 
 -- the recording may take the record, which is a sound one of its key
-pub record MayTakeIn (cap : ℕ) (s : State) (id : ℤ) (r : DataRecord) : Type 0 where
+pub record MayAddIn (cap : ℕ) (s : State) (id : ℤ) (r : DataRecord) : Type 0 where
   pub key : Key
-  pub is_under : IsUnder s id key
+  pub is_under : HasRowId s id key
   pub sound : IsSoundRecord key r
-  pub room : HasCleanDisk s → (h : Holdings) → AreSeen cap s h → HasPlace cap key r h
+  pub room : HasCleanDisk s → (h : Holdings) → AreSeen cap s h → CanAdd cap key r h
 
 -- the recording has the record beside those that it had, and all else is as it was
 pub record IsAddedIn (cap : ℕ) (old new : State) (id : ℤ) (r : DataRecord) : Type 0 where
   pub running : SeesSome cap new
-  pub holdings : (h : Holdings) (k : Key) → AreSeen cap old h → IsUnder old id k →
+  pub holdings : (h : Holdings) (k : Key) → AreSeen cap old h → HasRowId old id k →
       AreSeen cap new (with_records k (r ∷ []) h)
-  pub ids : (id : ℤ) (k : Key) → IsUnder old id k → IsUnder new id k
-  pub only : MakesNone old new
+  pub ids : (id : ℤ) (k : Key) → HasRowId old id k → HasRowId new id k
+  pub only : AddsNoRecordingIn old new
 
 -- the key's recording is under this id, and no other is made
 pub record IsFoundOrMadeIn (cap : ℕ) (old new : State) (k : Key) (id : ℤ) : Type 0 where
-  pub found : IsUnder new id k
-  pub same : SeesOn cap old new
-  pub only : MakesOnly k old new
+  pub found : HasRowId new id k
+  pub same : StillSees cap old new
+  pub only : AddsOnlyRecordingIn k old new
 
 -- each recording holds a record
 abbrev pub EachHasRecordIn : ℕ → State → Type 0
 EachHasRecordIn cap s = HasCleanDisk s → (h : Holdings) (id : ℤ) (k : Key) → AreSeen cap s h →
-    IsUnder s id k → h k ≢ []
+    HasRowId s id k → h k ≢ []
 
 -- these rows are what a commit would leave
 abbrev pub AreSeenRows : ℕ → State → Trees → Type 0
@@ -127,16 +129,16 @@ module _ {S : Type 0} (g : Ghosts S) where
 
   -- it has the key's recording under this id
   abbrev pub IsOf : StoreModel S → ℤ → Key → Type 0
-  IsOf store id k = IsUnder (at g store) id k
+  IsOf store id k = HasRowId (at g store) id k
 
   abbrev pub SeesAsBefore : StoreModel S → StoreModel S → Type 0
-  SeesAsBefore old new = SeesOn new.cap (at g old) (at g new)
+  SeesAsBefore old new = StillSees new.cap (at g old) (at g new)
 
-  abbrev pub HasNoMore : StoreModel S → StoreModel S → Type 0
-  HasNoMore old new = MakesNone (at g old) (at g new)
+  abbrev pub AddsNoRecording : StoreModel S → StoreModel S → Type 0
+  AddsNoRecording old new = AddsNoRecordingIn (at g old) (at g new)
 
-  abbrev pub HasAtMost : Key → StoreModel S → StoreModel S → Type 0
-  HasAtMost made old new = MakesOnly made (at g old) (at g new)
+  abbrev pub AddsOnlyRecording : Key → StoreModel S → StoreModel S → Type 0
+  AddsOnlyRecording made old new = AddsOnlyRecordingIn made (at g old) (at g new)
 
   abbrev pub AreNear : StoreModel S → ℤ → ℕ → List DataRecord → Type 0
   AreNear store = AreNearIn store.cap (at g store)
@@ -147,11 +149,11 @@ module _ {S : Type 0} (g : Ghosts S) where
   abbrev pub IsCountOf : StoreModel S → ℤ → ℕ → Type 0
   IsCountOf store = IsCountIn store.cap (at g store)
 
-  abbrev pub TellsRoom : StoreModel S → ℤ → ℕ → Bool → Type 0
-  TellsRoom store = TellsRoomIn store.cap (at g store)
+  abbrev pub IsCapacityAnswer : StoreModel S → ℤ → ℕ → Bool → Type 0
+  IsCapacityAnswer store = IsCapacityAnswerIn store.cap (at g store)
 
-  abbrev pub MayTake : StoreModel S → ℤ → DataRecord → Type 0
-  MayTake store = MayTakeIn store.cap (at g store)
+  abbrev pub MayAddTo : StoreModel S → ℤ → DataRecord → Type 0
+  MayAddTo store = MayAddIn store.cap (at g store)
 
   abbrev pub IsAdded : StoreModel S → StoreModel S → ℤ → DataRecord → Type 0
   IsAdded old new = IsAddedIn new.cap (at g old) (at g new)

@@ -13,7 +13,7 @@ use Rattle.edf_tables.specs.Cells.{cells_of}
 use Rattle.edf_rows.specs.Cells.{record_cells}
 use Rattle.edf_rows.specs.Rows.{HasRecordingRow, RepresentCommitted}
 use Rattle.edf_store.specs.Fault.{MayRefuse}
-use Rattle.edf_store.specs.Held.{StoreModel, at, Holds, Stays}
+use Rattle.edf_store.specs.Held.{StoreModel, at, Holds, KeepsHoldings}
 use Rattle.edf_store.specs.Call.{IsUnclean}
 use Rattle.edf_store.specs.declared.cursor.Cursor.{Cursor}
 use Rattle.edf_store.specs.declared.fault.StoreFault.{StoreFault}
@@ -26,7 +26,7 @@ starts_later after r = is_gt (int_cmp (pos r.start) after)
 -- no transaction is open, and the recording is the key's in these holdings. The first n of its
 -- records are given; those that start after `cursor.start`, which is -1 before the first, come
 -- next, and the rows that were read ahead show the first of them. Without a recording none is left
-pub record IsWalkAfter (cap : ℕ) (s : State) (recording : Option ℤ) (cursor : Cursor)
+pub record IsCursorAfter (cap : ℕ) (s : State) (recording : Option ℤ) (cursor : Cursor)
     (h : Holdings) (k : Key) (n : ℕ) : Type 0 where
   pub is_open : IsTrue s.is_open
   pub idle : s.in_transaction ≡ false
@@ -42,48 +42,48 @@ pub record IsWalkAfter (cap : ℕ) (s : State) (recording : Option ℤ) (cursor 
       (take (length cursor.rows.items) (drop n (h k)))
 
 -- so, on a disk that returns what was written
-abbrev pub HasGivenFirst : ℕ → State → Option ℤ → Cursor → Holdings → Key → ℕ → Type 0
-HasGivenFirst cap s recording cursor h k n = HasCleanDisk s →
-    IsWalkAfter cap s recording cursor h k n
+abbrev pub HasYieldedIn : ℕ → State → Option ℤ → Cursor → Holdings → Key → ℕ → Type 0
+HasYieldedIn cap s recording cursor h k n = HasCleanDisk s →
+    IsCursorAfter cap s recording cursor h k n
 
 -- the walk has given the first records of some key
 abbrev pub IsSomeWalk : ℕ → State → Option ℤ → Cursor → Type 0
 IsSomeWalk cap s recording cursor = HasCleanDisk s → (h : Holdings) × (k : Key) × (n : ℕ)
-    × IsWalkAfter cap s recording cursor h k n
+    × IsCursorAfter cap s recording cursor h k n
 
 -- the answer of one step: the record at this place of the list, or that there is no more
-abbrev pub GivesNext : List DataRecord → ℕ → Option DataRecord → Type 0
-GivesNext records n (Some r) = slice_get records n ≡ Some r
-GivesNext records n None = n ≡ length records
+abbrev pub IsNextRecord : List DataRecord → ℕ → Option DataRecord → Type 0
+IsNextRecord records n (Some r) = slice_get records n ≡ Some r
+IsNextRecord records n None = n ≡ length records
 
 -- how many records are given after that answer
-abbrev pub moved : {X : Type 0} → ℕ → Option X → ℕ
-moved n (Some x) = n + 1
-moved n None = n
+abbrev pub count_after : {X : Type 0} → ℕ → Option X → ℕ
+count_after n (Some x) = n + 1
+count_after n None = n
 
 module _ {S : Type 0} (g : Ghosts S) where
   -- the walk has given the first n records of the key, and gives the others next
-  abbrev pub HasGiven : Records S Cursor → Holdings → Key → ℕ → Type 0
-  HasGiven walk = HasGivenFirst walk.store.now.cap (at g walk.store.now) walk.recording walk.cursor
+  abbrev pub HasYielded : Records S Cursor → Holdings → Key → ℕ → Type 0
+  HasYielded walk = HasYieldedIn walk.store.now.cap (at g walk.store.now) walk.recording walk.cursor
 
   -- the walk has given the first records of some key that is held
   abbrev pub IsWalking : Records S Cursor → Type 0
   IsWalking walk = IsSomeWalk walk.store.now.cap (at g walk.store.now) walk.recording walk.cursor
 
   -- a walk that begins, over what is held of the key
-  pub record BeginsAt (store : StoreModel S) (k : Key) (walk : Records S Cursor) : Type 0 where
-    pub stays : Stays g store walk.store.now
+  pub record IsWalkBegun (store : StoreModel S) (k : Key) (walk : Records S Cursor) : Type 0 where
+    pub stays : KeepsHoldings g store walk.store.now
     pub going : walk.failed ≡ false
     pub walking : IsWalking walk
-    pub at_first : (h : Holdings) → Holds g store h → HasGiven walk h k 0
+    pub at_first : (h : Holdings) → Holds g store h → HasYielded walk h k 0
 
   -- What a step leaves: what is held, and a walk that goes on, is over or has failed. Once over it
   -- stays so. It refuses as foreign where the disk did not return what was written, and by `Failed`
   -- where it had a fault before, and only then.
-  pub record WalksOn {X : Type 0} (old new : Records S Cursor)
+  pub record IsWalkStep {X : Type 0} (old new : Records S Cursor)
       (result : Result (Option X) StoreFault) : Type 0 where
     pub same_reference : new.store.ghost_name ≡ old.store.ghost_name
-    pub stays : Stays g old.store.now new.store.now
+    pub stays : KeepsHoldings g old.store.now new.store.now
     pub going : OnOk result (new.failed ≡ false)
     pub walking : OnOk result (IsWalking new)
     pub ends : IfOk result (λ o. o ≡ None → new.recording ≡ None)

@@ -1,8 +1,8 @@
 //! One recording or one data record more.
 
 ghost use Rattle.std.specs.Prelude.{IfOk};
-ghost use Rattle.edf_store.specs.Held.{Stays};
-ghost use Rattle.edf_store.specs.Transaction.{SeesHoldings, IsFoundOrMade, MayTake, IsAdded};
+ghost use Rattle.edf_store.specs.Held.{KeepsHoldings};
+ghost use Rattle.edf_store.specs.Transaction.{SeesHoldings, IsFoundOrMade, MayAddTo, IsAdded};
 
 use crate::store::Store;
 use edf_fragment::Record;
@@ -17,7 +17,7 @@ pub(crate) fn find_or_make<S: Alter>(
     identity: &Identity,
 ) -> Result<i64, Error>
     requires sees { SeesHoldings S.Store store.old }
-    ensures stays { Stays S.Store store.old store.new }
+    ensures stays { KeepsHoldings S.Store store.old store.new }
     ensures found { IfOk result (IsFoundOrMade S.Store store.old store.new identity.now) }
 {
     let bytes = identity.to_bytes(store.alloc)?;
@@ -35,8 +35,8 @@ pub(crate) fn add_record<S: Alter>(
     data_record: &Record,
 ) -> Result<(), Error>
     requires sees { SeesHoldings S.Store store.old }
-    requires room { MayTake S.Store store.old id data_record.now }
-    ensures stays { Stays S.Store store.old store.new }
+    requires room { MayAddTo S.Store store.old id data_record.now }
+    ensures stays { KeepsHoldings S.Store store.old store.new }
     ensures added { IfOk result (λ _. IsAdded S.Store store.old store.new id data_record.now) }
 {
     let block = block_of(store.alloc, data_record)?;

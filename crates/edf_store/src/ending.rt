@@ -2,7 +2,7 @@
 
 ghost use Rattle.edf_store.specs.Transaction.{SeesHoldings, EachHasRecord};
 ghost use Rattle.edf_store.specs.Call.{IsRefusedIfBusy};
-ghost use Rattle.edf_store.specs.StoreTx.{Commits, GivesUp};
+ghost use Rattle.edf_store.specs.StoreTx.{Commits, RollsBack};
 ghost use Rattle.edf_store.specs.Inside.Rows.{Begins};
 
 use crate::fault::StoreFault;
@@ -34,7 +34,7 @@ pub(crate) fn commit_all<S: Alter>(store: &mut Store<S>) -> Result<(), Error>
 
 /// Undoes the transaction, if one is open.
 pub(crate) fn undo<S: Alter>(store: &mut Store<S>) -> Result<(), Error>
-    ensures { GivesUp S.Store store.old store.new result }
+    ensures { RollsBack S.Store store.old store.new result }
 {
     roll_back(&mut store.conn)?;
     Ok(())

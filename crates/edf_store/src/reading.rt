@@ -8,7 +8,7 @@ ghost use Rattle.edf_header.specs.Key.{Key};
 ghost use Rattle.edf_holdings.specs.Holdings.{Holdings};
 ghost use Rattle.edf_store.specs.Call.{AnswersWith};
 ghost use Rattle.edf_store.specs.Transaction.{Sees, IsOf, AreNear, IsNextStartOf, IsCountOf};
-ghost use Rattle.edf_store.specs.Transaction.{TellsRoom};
+ghost use Rattle.edf_store.specs.Transaction.{IsCapacityAnswer};
 ghost use Rattle.edf_store.specs.Inside.Rows.{HasRecording, HasRecordingOf, ReadsRows};
 ghost use Rattle.edf_store.specs.Inside.Rows.{ReadsOurRows};
 
@@ -98,7 +98,8 @@ pub(crate) fn has_room<S: Alter>(
 ) -> Result<bool, Error>
     requires recording { HasRecordingOf S.Store store.old id duration }
     ensures reads { ReadsRows S.Store store.old store.new result }
-    ensures room { AnswersWith S.Store store.new result (TellsRoom S.Store store.old id more) }
+    ensures room { AnswersWith S.Store store.new result
+        (IsCapacityAnswer S.Store store.old id more) }
 {
     let cap = store.cap;
     let short = is_short(store, id, duration, cap.saturating_sub(more))?;

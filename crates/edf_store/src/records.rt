@@ -6,9 +6,10 @@ ghost use Rattle.std.specs.Borrow.{sem, RestsIfErr};
 ghost use Rattle.sqlite.specs.State.{HasCleanDisk};
 ghost use Rattle.edf_header.specs.Key.{Key};
 ghost use Rattle.edf_holdings.specs.Holdings.{Holdings};
-ghost use Rattle.edf_store.specs.Held.{at, Stays};
+ghost use Rattle.edf_store.specs.Held.{at, KeepsHoldings};
 ghost use Rattle.edf_store.specs.Call.{AnswersWith, IsRefusedIfBusy};
-ghost use Rattle.edf_store.specs.Walk.{GivesNext, moved, IsWalking, HasGiven, BeginsAt, WalksOn};
+ghost use Rattle.edf_store.specs.Walk.{IsNextRecord, count_after, IsWalking, HasYielded};
+ghost use Rattle.edf_store.specs.Walk.{IsWalkBegun, IsWalkStep};
 ghost use Rattle.edf_store.specs.Inside.Rows.{HasWalked, MayWalk, ReadsOurRows};
 
 use crate::cursor::{Cursor, cursor_at_first};
@@ -30,7 +31,7 @@ fn read_ahead<S: Alter>(
     cursor: &mut Cursor,
 ) -> Result<(), Error>
     requires ready { MayWalk S.Store store.old (Some recording) cursor.old }
-    ensures stays { Stays S.Store store.old store.new }
+    ensures stays { KeepsHoldings S.Store store.old store.new }
     ensures ahead { OnOk result
         ((h : Holdings) (k : Key) (n : ℕ) →
         HasWalked S.Store store.old (Some recording) cursor.old h k n →
@@ -61,10 +62,10 @@ pub(crate) fn next_record<S: Alter>(
     cursor: &mut Cursor,
 ) -> Result<Option<Record>, RowFault>
     requires ready { MayWalk S.Store store.old (Some recording) cursor.old }
-    ensures stays { Stays S.Store store.old store.new }
+    ensures stays { KeepsHoldings S.Store store.old store.new }
     ensures step { ReadsOurRows S.Store store.new result (λ o.
         (h : Holdings) (k : Key) (n : ℕ) →
-        HasWalked S.Store store.old (Some recording) cursor.old h k n → GivesNext (h k) n o) }
+        HasWalked S.Store store.old (Some recording) cursor.old h k n → IsNextRecord (h k) n o) }
     ensures moved { IfOk result (λ o.
         (h : Holdings) (k : Key) (n : ℕ) →
         HasWalked S.Store store.old (Some recording) cursor.old h k n →
@@ -120,9 +121,9 @@ impl<S: Alter> Store<S> {
     pub fn records(&mut self, identity: &Identity) -> Result<Records<'_, S>, StoreFault>
         ensures* refused { sem 𝓛
             (RestsIfErr (the_row S.row S.Store) self.entry (λ it. it.store.ghost_name) result
-            (Stays S.Store self.old)) }
+            (KeepsHoldings S.Store self.old)) }
         ensures same_reference { IfOk result (λ it. it.store.ghost_name ≡ self.entry.ghost_name) }
-        ensures begun { IfOk result (BeginsAt S.Store self.old identity.now) }
+        ensures begun { IfOk result (IsWalkBegun S.Store self.old identity.now) }
         ensures refuses { IsRefusedIfBusy S.Store self.old result ⊥ }
     {
         ready(self)?;
@@ -145,13 +146,13 @@ impl<S: Alter> Records<'_, S> {
     /// written; and `Failed` at every later call.
     pub fn next(&mut self) -> Result<Option<Record>, StoreFault>
         requires ready { self.old.failed ≡ false → IsWalking S.Store self.old }
-        ensures leaves { WalksOn S.Store self.old self.new result }
+        ensures leaves { IsWalkStep S.Store self.old self.new result }
         ensures step { AnswersWith S.Store self.new.store.now result (λ o.
             (h : Holdings) (k : Key) (n : ℕ) →
-            HasGiven S.Store self.old h k n → GivesNext (h k) n o) }
+            HasYielded S.Store self.old h k n → IsNextRecord (h k) n o) }
         ensures moved { IfOk result (λ o.
             (h : Holdings) (k : Key) (n : ℕ) →
-            HasGiven S.Store self.old h k n → HasGiven S.Store self.new h k (moved n o)) }
+            HasYielded S.Store self.old h k n → HasYielded S.Store self.new h k (count_after n o)) }
     {
         if self.failed {
             return Err(StoreFault::Failed);

@@ -6,10 +6,10 @@ ghost use Rattle.sqlite.specs.Held.{state};
 ghost use Rattle.sqlite.specs.State.{IsLive};
 ghost use Rattle.edf_tables.specs.Made.{IsOurs};
 ghost use Rattle.edf_rows.specs.File.{IsForeignFile};
-ghost use Rattle.edf_store.specs.Held.{Stays, at};
+ghost use Rattle.edf_store.specs.Held.{KeepsHoldings, at};
 ghost use Rattle.edf_store.specs.Call.{IsRefusedIfBusy};
 ghost use Rattle.edf_store.specs.StoreTx.{IsBegun};
-ghost use Rattle.edf_store.specs.Open.{IsOpened, IsGivenBack, IsGivenUp, StaysClean};
+ghost use Rattle.edf_store.specs.Open.{IsOpened, IsReturned, IsDropped, DiskStaysClean};
 
 use crate::ending::begin_all;
 use crate::fault::StoreFault;
@@ -85,7 +85,7 @@ impl<S: Alter> Store<S> {
     pub fn transaction(&mut self) -> Result<StoreTx<'_, S>, StoreFault>
         ensures* refused { sem 𝓛
             (RestsIfErr (the_row S.row S.Store) self.entry (λ tx. tx.store.ghost_name) result
-            (Stays S.Store self.old)) }
+            (KeepsHoldings S.Store self.old)) }
         ensures same_reference { IfOk result (λ tx. tx.store.ghost_name ≡ self.entry.ghost_name) }
         ensures begun { IfOk result (IsBegun S.Store self.old) }
         ensures refuses { IsRefusedIfBusy S.Store self.old result ⊥ }
@@ -124,7 +124,7 @@ impl<S: Alter + Drop> Store<S> {
         ensures cap { IfOk result (λ store. store.cap ≡ cap) }
         ensures opened { IfOk result (IsOpened S.Store conn) }
         ensures live { IfOk result (λ store. IsLive (at S.Store store)) }
-        ensures given_back { IfErr result (λ e. IsGivenBack S.Store conn cap e.0 e.1) }
+        ensures given_back { IfErr result (λ e. IsReturned S.Store conn cap e.0 e.1) }
         ensures other { ¬ IsOurs (state S.Store conn).now → result ≡ Err (StoreFault.Foreign, conn) }
     {
         match audit(alloc, &mut conn, cap) {
@@ -150,9 +150,9 @@ impl<S: Alter + Drop> Store<S> {
         requires autocommit { (state S.Store conn).in_transaction ≡ false }
         ensures cap { IfOk result (λ store. store.cap ≡ cap) }
         ensures opened { IfOk result (IsOpened S.Store conn) }
-        ensures given_up { IfErr result (IsGivenUp S.Store conn cap) }
+        ensures given_up { IfErr result (IsDropped S.Store conn cap) }
         ensures other { ¬ IsOurs (state S.Store conn).now → result ≡ Err StoreFault.Foreign }
-        ensures foreign { StaysClean S.Store conn → result ≡ Err StoreFault.Foreign →
+        ensures foreign { DiskStaysClean S.Store conn → result ≡ Err StoreFault.Foreign →
             IsForeignFile cap (state S.Store conn).now }
     {
         match Store::open_or_return(alloc, conn, cap) {

@@ -6,9 +6,10 @@ ghost use Rattle.edf_header.specs.Key.{Key};
 ghost use Rattle.edf_store.specs.Fault.{HasCause};
 ghost use Rattle.edf_store.specs.Call.{AnswersWith};
 ghost use Rattle.edf_store.specs.Transaction.{IsOf, IsFoundOrMade, AreNear, IsNextStartOf};
-ghost use Rattle.edf_store.specs.Transaction.{IsCountOf, TellsRoom, MayTake, IsAdded};
+ghost use Rattle.edf_store.specs.Transaction.{IsCountOf, IsCapacityAnswer, MayAddTo, IsAdded};
 ghost use Rattle.edf_store.specs.Transaction.{EachHasRecord};
-ghost use Rattle.edf_store.specs.StoreTx.{IsRunning, StaysInside, ReadsInside, Commits, GivesUp};
+ghost use Rattle.edf_store.specs.StoreTx.{IsRunning, KeepsTransaction, ReadsInTransaction, Commits};
+ghost use Rattle.edf_store.specs.StoreTx.{RollsBack};
 ghost use Rattle.edf_store.specs.StoreTx.{HasCauseOrIsUnclean};
 
 use crate::adding::{add_record, find_or_make};
@@ -44,7 +45,7 @@ impl<S: Alter> StoreTx<'_, S> {
     /// `Memory` (E41) or `Store` (E42), and the transaction is to be given up.
     pub fn recording(&mut self, identity: &Identity) -> Result<RecordingId, StoreFault>
         requires running { IsRunning S.Store self.old }
-        ensures leaves { StaysInside S.Store self.old self.new result }
+        ensures leaves { KeepsTransaction S.Store self.old self.new result }
         ensures found { IfOk result (λ id.
             IsFoundOrMade S.Store self.old.store.now self.new.store.now identity.now id.row) }
     {
@@ -68,7 +69,7 @@ impl<S: Alter> StoreTx<'_, S> {
         requires running { IsRunning S.Store self.old }
         requires recording { (k : Key) × IsOf S.Store self.old.store.now id.row k
             × (duration ≡ duration_of k.duration) }
-        ensures leaves { ReadsInside S.Store self.old self.new result
+        ensures leaves { ReadsInTransaction S.Store self.old self.new result
             (HasCauseOrIsUnclean S.Store self.new) }
         ensures near { AnswersWith S.Store self.new.store.now result (λ records.
             AreNear S.Store self.old.store.now id.row start records.items) }
@@ -93,7 +94,7 @@ impl<S: Alter> StoreTx<'_, S> {
     ) -> Result<Option<Instant>, StoreFault>
         requires running { IsRunning S.Store self.old }
         requires recording { (k : Key) × IsOf S.Store self.old.store.now id.row k }
-        ensures leaves { ReadsInside S.Store self.old self.new result
+        ensures leaves { ReadsInTransaction S.Store self.old self.new result
             (HasCauseOrIsUnclean S.Store self.new) }
         ensures next { AnswersWith S.Store self.new.store.now result
             (IsNextStartOf S.Store self.old.store.now id.row from) }
@@ -110,7 +111,7 @@ impl<S: Alter> StoreTx<'_, S> {
     pub fn count(&mut self, id: RecordingId) -> Result<u32, StoreFault>
         requires running { IsRunning S.Store self.old }
         requires recording { (k : Key) × IsOf S.Store self.old.store.now id.row k }
-        ensures leaves { ReadsInside S.Store self.old self.new result HasCause }
+        ensures leaves { ReadsInTransaction S.Store self.old self.new result HasCause }
         ensures count { AnswersWith S.Store self.new.store.now result
             (IsCountOf S.Store self.old.store.now id.row) }
     {
@@ -137,9 +138,9 @@ impl<S: Alter> StoreTx<'_, S> {
         requires running { IsRunning S.Store self.old }
         requires recording { (k : Key) × IsOf S.Store self.old.store.now id.row k
             × (duration ≡ duration_of k.duration) }
-        ensures leaves { ReadsInside S.Store self.old self.new result HasCause }
+        ensures leaves { ReadsInTransaction S.Store self.old self.new result HasCause }
         ensures room { AnswersWith S.Store self.new.store.now result
-            (TellsRoom S.Store self.old.store.now id.row more) }
+            (IsCapacityAnswer S.Store self.old.store.now id.row more) }
     {
         let answer = reading::has_room(self.store, id.row, duration, more);
         self.refused = answer.is_err();
@@ -153,8 +154,8 @@ impl<S: Alter> StoreTx<'_, S> {
     /// `Memory` (E41) or `Store` (E42), and the transaction is to be given up.
     pub fn add(&mut self, id: RecordingId, data_record: &Record) -> Result<(), StoreFault>
         requires running { IsRunning S.Store self.old }
-        requires room { MayTake S.Store self.old.store.now id.row data_record.now }
-        ensures leaves { StaysInside S.Store self.old self.new result }
+        requires room { MayAddTo S.Store self.old.store.now id.row data_record.now }
+        ensures leaves { KeepsTransaction S.Store self.old self.new result }
         ensures added { IfOk result (λ _.
             IsAdded S.Store self.old.store.now self.new.store.now id.row data_record.now) }
     {
@@ -184,7 +185,7 @@ impl<S: Alter> StoreTx<'_, S> {
     /// # Errors
     /// `Memory` (E41) or `Store` (E42).
     pub fn give_up(self) -> Result<(), StoreFault>
-        ensures gives_up { GivesUp S.Store self.entry.store.now self.exit.0.now result }
+        ensures gives_up { RollsBack S.Store self.entry.store.now self.exit.0.now result }
         ensures why { IfErr result HasCause }
     {
         let StoreTx { store, refused: _ } = self;

@@ -4,18 +4,20 @@ use Rattle.sqlite.specs.State.{State, HasCleanDisk}
 use Rattle.edf_header.specs.Key.{Key, MayStart}
 use Rattle.edf_fragment.specs.Fragment.{DataRecord}
 use Rattle.edf_fragment.specs.Sound.{IsSoundRecord}
-use Rattle.edf_store.specs.Transaction.{SeesSome, SeesOn, IsUnder, IsCountIn, AreNearIn, MayTakeIn}
+use Rattle.edf_store.specs.Transaction.{SeesSome, StillSees, HasRowId, IsCountIn, AreNearIn}
+use Rattle.edf_store.specs.Transaction.{MayAddIn}
 use Rattle.edf_store.proofs.Whole.{seen_before}
 
 -- the count was taken between the first two states, and the near ones between the last two
 pub may_take : (cap : ℕ) (a b c : State) (was_a : HasCleanDisk b →
-    HasCleanDisk a) (was_b : HasCleanDisk c → HasCleanDisk b) → SeesSome cap a → SeesOn cap a b →
-    SeesOn cap b c
-    → (id : ℤ) (k : Key) (r : DataRecord) (count : ℕ) (records : List DataRecord) → IsUnder a id k →
+    HasCleanDisk a) (was_b : HasCleanDisk c → HasCleanDisk b) → SeesSome cap a → StillSees cap a b →
+    StillSees cap b c
+    → (id : ℤ) (k : Key) (r : DataRecord) (count : ℕ) (records : List DataRecord) →
+    HasRowId a id k →
     (HasCleanDisk b → IsCountIn cap a id count) →
     (HasCleanDisk c → AreNearIn cap b id r.start records)
     → records ≡ [] → count < cap → IsSoundRecord k r → (count ≡ 0 → MayStart k r.start) →
-    MayTakeIn cap c id r
+    MayAddIn cap c id r
 may_take cap a b c was_a was_b running ab bc id k r count records under counts near none few sound
     begins = record {
       key = k;

@@ -10,7 +10,7 @@ use Rattle.edf_rows.specs.File.{IsForeignFile}
 use Rattle.edf_holdings.specs.Holdings.{nothing_held}
 use Rattle.edf_store.specs.Fault.{HasCause, HasCauseOrIsForeign}
 use Rattle.edf_store.specs.Held.{StoreModel}
-use Rattle.edf_store.specs.Open.{IsOpened, IsGivenUp, StaysClean}
+use Rattle.edf_store.specs.Open.{IsOpened, IsDropped, DiskStaysClean}
 use Rattle.edf_store.specs.declared.fault.StoreFault.{StoreFault}
 use Rattle.edf_store.specs.declared.fault.StoreFault.TheVariants.{Memory, Store, Foreign, Failed}
 use Rattle.edf_program_run.specs.Files.{no_table}
@@ -41,8 +41,8 @@ not_foreign Failed why other = why
 
 pub refused_for_cause : (conn : Held MemStore)
     (result : Result (StoreModel MemStore) StoreFault) → IsEmpty (state over_memory conn) →
-    IfErr result (IsGivenUp over_memory conn MOST_RECORDS) →
-    (StaysClean over_memory conn → result ≡ Err Foreign →
+    IfErr result (IsDropped over_memory conn MOST_RECORDS) →
+    (DiskStaysClean over_memory conn → result ≡ Err Foreign →
     IsForeignFile MOST_RECORDS (state over_memory conn).now) → IfErr result HasCause
 refused_for_cause conn (Ok store) empty given foreign = tt
 refused_for_cause conn (Err fault) empty given foreign = not_foreign fault given.1.why

@@ -4,7 +4,7 @@ use Rattle.sqlite_trees.specs.declared.store.Store.{Ghosts}
 use Rattle.sqlite.specs.State.{State, HasCleanDisk}
 use Rattle.edf_fragment.specs.Failures.{saturating_increment}
 use Rattle.edf_store.specs.Fault.{MayRefuse}
-use Rattle.edf_store.specs.Held.{at, Stays}
+use Rattle.edf_store.specs.Held.{at, KeepsHoldings}
 use Rattle.edf_store.specs.declared.cursor.Cursor.{Cursor}
 use Rattle.edf_store.specs.declared.records.Records.{Records}
 use Rattle.edf_export.specs.declared.fault.ExportFault.{ExportFault}
@@ -16,7 +16,7 @@ use Rattle.edf_export.specs.declared.fault.ExportFault.TheVariants.{Write}
 pub record LeavesWalk {S : Type 0} (g : Ghosts S) (old new : Records S Cursor)
     (Left : State → Type 0) : Type 0 where
   pub same_reference : new.store.ghost_name ≡ old.store.ghost_name
-  pub stays : Stays g old.store.now new.store.now
+  pub stays : KeepsHoldings g old.store.now new.store.now
   pub left : HasCleanDisk (at g new.store.now) → Left (at g new.store.now)
 
 -- Why a file is not written, or not to its end. A read is refused, because the connection is in a

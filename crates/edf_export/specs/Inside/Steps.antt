@@ -5,7 +5,7 @@ use Rattle.edf_header.specs.Key.{Key}
 use Rattle.edf_fragment.specs.Fragment.{DataRecord}
 use Rattle.edf_holdings.specs.Holdings.{Holdings}
 use Rattle.edf_store.specs.Call.{AnswersWith}
-use Rattle.edf_store.specs.Walk.{GivesNext, HasGiven, WalksOn, moved}
+use Rattle.edf_store.specs.Walk.{IsNextRecord, HasYielded, IsWalkStep, count_after}
 use Rattle.edf_store.specs.declared.cursor.Cursor.{Cursor}
 use Rattle.edf_store.specs.declared.fault.StoreFault.{StoreFault}
 use Rattle.edf_store.specs.declared.records.Records.{Records}
@@ -14,8 +14,8 @@ use Rattle.edf_export.specs.declared.walked.Walked.{Walked}
 pub record Steps {S : Type 0} (g : Ghosts S) (source : Walked) (old : Records S Cursor)
     (input : Unit {0}) (source' : Walked) (new : Records S Cursor) (input' : Unit {0})
     (answer : Result (Option DataRecord) StoreFault) : Type 0 where
-  pub leaves : WalksOn g old new answer
+  pub leaves : IsWalkStep g old new answer
   pub step : AnswersWith g new.store.now answer (λ o. (h : Holdings) (k : Key) (n : ℕ) →
-      HasGiven g old h k n → GivesNext (h k) n o)
+      HasYielded g old h k n → IsNextRecord (h k) n o)
   pub moved : IfOk answer (λ o. (h : Holdings) (k : Key) (n : ℕ) →
-      HasGiven g old h k n → HasGiven g new h k (moved n o))
+      HasYielded g old h k n → HasYielded g new h k (count_after n o))

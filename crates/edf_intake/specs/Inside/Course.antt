@@ -7,7 +7,7 @@ use Rattle.edf_fragment.specs.Fragment.{DataRecord}
 use Rattle.edf_fragment.specs.Sound.{IsSoundRecord}
 use Rattle.edf_holdings.specs.Holdings.{Holdings}
 use Rattle.edf_store.specs.Held.{at}
-use Rattle.edf_store.specs.Transaction.{Sees, IsOf, HasNoMore}
+use Rattle.edf_store.specs.Transaction.{Sees, IsOf, AddsNoRecording}
 use Rattle.edf_store.specs.declared.transaction.StoreTx.{StoreTx}
 use Rattle.edf_intake.specs.Inside.Gap.{IsGapIn, IsGapInside}
 use Rattle.edf_intake.specs.Inside.Verdict.{IsVerdictIn, CountsNext}
@@ -44,7 +44,7 @@ module _ {S : Type 0} (g : Ghosts S) where
     -- under its id, and none was made; it is counted, and the gap is one
     pub record IsRecordTaken (id : ℤ) (room : ℕ) (from to : Course) : Type 0 where
       pub recording : IsOf g new.store.now id key
-      pub only : HasNoMore g old.store.now new.store.now
+      pub only : AddsNoRecording g old.store.now new.store.now
       pub counts : HasCleanDisk (at g new.store.now) → (h : Holdings) → Sees g old.store.now h →
           (t : Holdings) × Sees g new.store.now t
           × CountsNext room key r h from.findings t to.findings

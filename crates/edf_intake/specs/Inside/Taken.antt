@@ -12,7 +12,8 @@ use Rattle.edf_fragment.specs.declared.advance.Progress.{Progress}
 use Rattle.edf_holdings.specs.Holdings.{Holdings, with_records}
 use Rattle.edf_holdings.specs.Reply.{Reply, Conflicts, Accepted, reply, after_one}
 use Rattle.edf_store.specs.Held.{at}
-use Rattle.edf_store.specs.Transaction.{Sees, IsOf, HasNoMore, HasAtMost, EachHasRecord}
+use Rattle.edf_store.specs.Transaction.{Sees, IsOf, AddsNoRecording, AddsOnlyRecording}
+use Rattle.edf_store.specs.Transaction.{EachHasRecord}
 use Rattle.edf_store.specs.StoreTx.{HasCauseOrIsUnclean}
 use Rattle.edf_store.specs.declared.transaction.StoreTx.{StoreTx}
 use Rattle.edf_fragment.specs.Call.{InputState}
@@ -53,14 +54,14 @@ module _ {S : Type 0} (g : Ghosts S) (old new : StoreTx S) where
   pub record IsDestination (key : Key) (asked : ℕ) (destination : Destination) : Type 0 where
     pub recording : IsOf g new.store.now destination.id.row key
     pub same : (h : Holdings) → Sees g old.store.now h → Sees g new.store.now h
-    pub only : HasAtMost g key old.store.now new.store.now
+    pub only : AddsOnlyRecording g key old.store.now new.store.now
     pub room : IsRoomInside g new key asked destination.room
 
   -- all data records up to the end of the input were read, no read failed, and this was found of
   -- them; what is new was added, where the fragment may be accepted
   pub record AreTaken (layout : Layout) (room : ℕ) (from to : InputState)
       (findings : Findings) : Type 0 where
-    pub only : HasNoMore g old.store.now new.store.now
+    pub only : AddsNoRecording g old.store.now new.store.now
     pub counted : to.failed ≡ from.failed
     pub records : List DataRecord
     pub read : (before : Option (List ℕ)) → ReadsHeader before from.remaining layout →

@@ -2,7 +2,7 @@
 use Rattle.std.specs.Prelude.{◌≡◌, ℤ, Result, OnOk}
 use Rattle.sqlite_trees.specs.declared.store.Store.{Ghosts}
 use Rattle.edf_header.specs.Key.{Key}
-use Rattle.edf_store.specs.Held.{Stays}
+use Rattle.edf_store.specs.Held.{KeepsHoldings}
 use Rattle.edf_store.specs.Transaction.{IsOf}
 use Rattle.edf_store.specs.StoreTx.{IsRunning}
 use Rattle.edf_store.specs.declared.transaction.StoreTx.{StoreTx}
@@ -17,5 +17,5 @@ module _ {S : Type 0} (g : Ghosts S) where
   -- whatever the answer is; and where that is no fault, the transaction goes on
   pub record KeepsRunning {X E : Type 0} (old new : StoreTx S) (result : Result X E) : Type 0 where
     pub same_reference : new.store.ghost_name ≡ old.store.ghost_name
-    pub stays : Stays g old.store.now new.store.now
+    pub stays : KeepsHoldings g old.store.now new.store.now
     pub running : OnOk result (IsRunning g new)

@@ -5,10 +5,10 @@ use Rattle.sqlite.specs.State.{HasCleanDisk}
 use Rattle.edf_field.specs.Number.{duration_of}
 use Rattle.edf_header.specs.Key.{Key}
 use Rattle.edf_holdings.specs.Holdings.{Holdings}
-use Rattle.edf_store.specs.Held.{StoreModel, at, Holds, Stays}
-use Rattle.edf_store.specs.Transaction.{Sees, SeesHoldings, SeesAsBefore, IsOf, HasNoMore}
+use Rattle.edf_store.specs.Held.{StoreModel, at, Holds, KeepsHoldings}
+use Rattle.edf_store.specs.Transaction.{Sees, SeesHoldings, SeesAsBefore, IsOf, AddsNoRecording}
 use Rattle.edf_store.specs.Transaction.{EachHasRecord}
-use Rattle.edf_store.specs.Walk.{HasGivenFirst, IsSomeWalk}
+use Rattle.edf_store.specs.Walk.{HasYieldedIn, IsSomeWalk}
 use Rattle.edf_store.specs.declared.cursor.Cursor.{Cursor}
 use Rattle.edf_store.specs.declared.fault.RowFault.{RowFault}
 use Rattle.edf_store.specs.declared.fault.RowFault.TheVariants.{Foreign}
@@ -34,20 +34,20 @@ module _ {S : Type 0} (g : Ghosts S) where
 
   -- what a function leaves that only reads
   pub record ReadsRows {X E : Type 0} (old new : StoreModel S) (result : Result X E) : Type 0 where
-    pub stays : Stays g old new
+    pub stays : KeepsHoldings g old new
     pub same : OnOk result (SeesAsBefore g old new)
-    pub only : OnOk result (HasNoMore g old new)
+    pub only : OnOk result (AddsNoRecording g old new)
 
   -- what is held stays, and is what a transaction sees that begins
   pub record Begins {X E : Type 0} (old new : StoreModel S) (result : Result X E) : Type 0 where
-    pub stays : Stays g old new
+    pub stays : KeepsHoldings g old new
     pub running : OnOk result (SeesHoldings g new)
     pub sees : OnOk result ((h : Holdings) → Holds g old h → Sees g new h)
     pub whole : OnOk result (EachHasRecord g new)
 
   -- `HasGiven` of the parts of a walk: its store, its recording and its cursor
   abbrev pub HasWalked : StoreModel S → Option ℤ → Cursor → Holdings → Key → ℕ → Type 0
-  HasWalked store = HasGivenFirst store.cap (at g store)
+  HasWalked store = HasYieldedIn store.cap (at g store)
 
   -- `IsWalking` of the same parts
   abbrev pub MayWalk : StoreModel S → Option ℤ → Cursor → Type 0

@@ -6,7 +6,7 @@ use Rattle.edf_header.specs.Key.{Key}
 use Rattle.edf_holdings.specs.Holdings.{Holdings}
 use Rattle.edf_tables.specs.Schema.{HasBoth}
 use Rattle.edf_rows.specs.Rows.{HasRecordingRow, RepresentCommitted}
-use Rattle.edf_store.specs.Held.{StoreModel, at, Stays}
+use Rattle.edf_store.specs.Held.{StoreModel, at, KeepsHoldings}
 
 -- no transaction is open, and the tables are what is held
 pub record IsSettled (cap : ℕ) (s : State) : Type 0 where
@@ -22,7 +22,7 @@ IsAtRest g store = HasCleanDisk (at g store) → IsSettled store.cap (at g store
 -- what is held stays, and is what the tables are after a function that is done
 pub record Settles {S X E : Type 0} (g : Ghosts S) (old new : StoreModel S)
     (result : Result X E) : Type 0 where
-  pub stays : Stays g old new
+  pub stays : KeepsHoldings g old new
   pub settled : HasCleanDisk (at g new) → OnOk result (IsSettled new.cap (at g new))
 
 -- the key's recording is under this id, or it holds nothing

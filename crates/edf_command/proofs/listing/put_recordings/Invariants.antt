@@ -1,7 +1,7 @@
 use Rattle.std.proofs.Common.{◌≡◌, ℕ, List}
 use Rattle.sqlite.specs.State.{HasCleanDisk}
 use Rattle.edf_holdings.specs.Holdings.{Holdings}
-use Rattle.edf_store.specs.Held.{at, Holds, Stays}
+use Rattle.edf_store.specs.Held.{at, Holds, KeepsHoldings}
 use Rattle.edf_program.specs.Text.{IsSpelling}
 use Rattle.edf_command.specs.Lines.{first_list_lines}
 use Rattle.edf_program.specs.Output.{growth, Gets}
@@ -10,7 +10,7 @@ use Rattle.edf_command.proofs.listing.put_recordings.Given as goal
 
 abbrev pub invariant-loop-at : goal.invariant-loop-at
 invariant-loop-at g l = record {
-  stays : Stays g.S.Store l.fn.store l.store;
+  stays : KeepsHoldings g.S.Store l.fn.store l.store;
   counted : g.O.Output.failures l.out ≡ g.O.Output.failures l.fn.out;
   put : HasCleanDisk (at g.S.Store l.store) → (h : Holdings) → Holds g.S.Store l.fn.store h →
       AreHeldBy h l.recordings

@@ -1,7 +1,7 @@
 use Rattle.std.proofs.Common.{Result, Some, None, List, [], sym, subst, ◌∙◌, arith}
 use Rattle.edf_field.specs.Number.{duration_of}
 use Rattle.edf_fragment.specs.Fragment.{DataRecord}
-use Rattle.edf_store.specs.StoreTx.{HasCauseOrIsUnclean, ReadsInside}
+use Rattle.edf_store.specs.StoreTx.{HasCauseOrIsUnclean, ReadsInTransaction}
 use Rattle.edf_store.specs.declared.fault.StoreFault.{StoreFault}
 use Rattle.edf_intake.specs.Inside.Verdict.{IsVerdict}
 use Rattle.edf_intake.specs.declared.data_records.Found.{Found}
@@ -40,7 +40,7 @@ returns-in_err-near-clause-leaves g c =
     let last = c.near.new.self in
     let Why = HasCauseOrIsUnclean g.S.Store last in
     passed_on c.from_residual.result c.in_err-near.field-0.0
-    (λ (r : Result Found StoreFault). ReadsInside g.S.Store first last r Why)
+    (λ (r : Result Found StoreFault). ReadsInTransaction g.S.Store first last r Why)
     c.from_residual.ensures.1
     (reads_refused g.S.Store first last Why c.in_err-near.field-0.0 c.in_err-near.ensures.leaves)
 
@@ -59,7 +59,7 @@ returns-in_err-until-in-New-clause-leaves g c =
     let Why = HasCauseOrIsUnclean g.S.Store last in
     let fault = c.in_err-until-in-New.field-0.0 in
     passed_on c.from_residual-in_err-until-in-New.result fault
-    (λ (r : Result Found StoreFault). ReadsInside g.S.Store first last r Why)
+    (λ (r : Result Found StoreFault). ReadsInTransaction g.S.Store first last r Why)
     c.from_residual-in_err-until-in-New.ensures.1
     (reads_then_refused g.S.Store first mid last (HasCauseOrIsUnclean g.S.Store mid) Why
     c.in_ok-near.near c.in_ok-near.ensures.leaves fault c.in_err-until-in-New.ensures.leaves)

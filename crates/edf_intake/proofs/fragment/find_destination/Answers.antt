@@ -1,7 +1,7 @@
 use Rattle.std.proofs.Common.{Option, IfSome, Result, sym, subst, ◌∙◌, ℕ}
 use Rattle.edf_header.specs.Header.{most_records}
 use Rattle.edf_store.specs.Fault.{HasCause}
-use Rattle.edf_store.specs.StoreTx.{StaysInside}
+use Rattle.edf_store.specs.StoreTx.{KeepsTransaction}
 use Rattle.edf_store.specs.declared.fault.StoreFault.{StoreFault}
 use Rattle.edf_intake.specs.Inside.Verdict.{IsRoomInside}
 use Rattle.edf_intake.specs.declared.data_records.Destination.{Destination}
@@ -17,7 +17,7 @@ returns-in_err-id-clause-leaves g c =
     let made = c.recording.new.self in
     let fault = c.in_err-id.field-0.0 in
     passed_on c.from_residual.result fault
-    (λ (r : Result Destination StoreFault). StaysInside g.S.Store first made r)
+    (λ (r : Result Destination StoreFault). KeepsTransaction g.S.Store first made r)
     c.from_residual.ensures.1
     (stays_refused g.S.Store first made fault c.in_err-id.ensures.leaves)
 
@@ -36,7 +36,7 @@ returns-in_err-room-clause-leaves g c =
     let asked = c.known_room.new.transaction in
     let fault = c.in_err-room.field-0.0 in
     passed_on c.from_residual-in_err-room.result fault
-    (λ (r : Result Destination StoreFault). StaysInside g.S.Store first asked r)
+    (λ (r : Result Destination StoreFault). KeepsTransaction g.S.Store first asked r)
     c.from_residual-in_err-room.ensures.1
     (stays_read_refused g.S.Store first made asked c.in_ok-id.id c.in_ok-id.ensures.leaves fault
     c.in_err-room.ensures.leaves)
@@ -80,7 +80,7 @@ returns-in_err-held-clause-leaves g c =
     let last = c.count.new.self in
     let fault = c.in_err-held.field-0.0 in
     passed_on c.from_residual-in_err-held.result fault
-    (λ (r : Result Destination StoreFault). StaysInside g.S.Store first last r)
+    (λ (r : Result Destination StoreFault). KeepsTransaction g.S.Store first last r)
     c.from_residual-in_err-held.ensures.1
     (stays_read_refused g.S.Store first made last c.in_ok-id.id c.in_ok-id.ensures.leaves fault
     (reads_then_refused g.S.Store {Z = ℕ} made asked last HasCause HasCause c.in_ok-room.field-0

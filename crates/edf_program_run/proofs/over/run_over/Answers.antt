@@ -2,7 +2,7 @@ use Rattle.std.proofs.Common.{◌≡◌, ◌↔◌, ◌∙◌, IsTrue, inl, inr,
 use Rattle.sqlite.specs.Schema.{Schema}
 use Rattle.sqlite.specs.Files.{over_files}
 use Rattle.edf_tables.specs.Schema.{AreOurs}
-use Rattle.edf_store.specs.Open.{IsGivenBack}
+use Rattle.edf_store.specs.Open.{IsReturned}
 use Rattle.edf_command.specs.Arguments.{meaning}
 use Rattle.edf_program.specs.Output.{growth}
 use Rattle.edf_program.proofs.Puts.{nothing-gets}
@@ -71,7 +71,7 @@ returns-in-Err-clause-ran g c start opening =
     } in
     let it : Returns r c.args.conn c.in-Err.back c.leave.result.status = record {
       fault = c.in-Err.fault;
-      back = subst (λ (n : ℕ). IsGivenBack over_files c.args.conn n c.in-Err.fault c.in-Err.back)
+      back = subst (λ (n : ℕ). IsReturned over_files c.args.conn n c.in-Err.fault c.in-Err.back)
           c.records.ensures.value c.in-Err.ensures.given_back;
       ours = c.is_ours-has_our_tables.result;
       ours_is = subst (λ (s : Schema). IsTrue c.is_ours-has_our_tables.result ↔ AreOurs s)

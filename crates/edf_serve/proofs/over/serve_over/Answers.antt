@@ -5,7 +5,7 @@ use Rattle.sqlite_store.specs.declared.store.FileStore.{FileStore}
 use Rattle.sqlite.specs.Files.{over_files}
 use Rattle.edf_tables.specs.Schema.{AreOurs}
 use Rattle.edf_store.specs.Held.{StoreModel}
-use Rattle.edf_store.specs.Open.{IsGivenBack}
+use Rattle.edf_store.specs.Open.{IsReturned}
 use Rattle.edf_program.specs.Output.{growth}
 use Rattle.edf_program.proofs.Puts.{nothing-gets}
 use Rattle.edf_program_run.specs.ProgramRun.{IsNoticed, ProgramRun, Refuses}
@@ -92,7 +92,7 @@ returns-in-Err-clause-ran g c start opening =
     } in
     let back : Returns r c.args.conn c.in-Err.back left.result.status = record {
       fault = c.in-Err.fault;
-      back = subst (λ (n : ℕ). IsGivenBack over_files c.args.conn n c.in-Err.fault c.in-Err.back)
+      back = subst (λ (n : ℕ). IsReturned over_files c.args.conn n c.in-Err.fault c.in-Err.back)
           c.records.ensures.value c.in-Err.ensures.given_back;
       ours = ours;
       ours_is = subst (λ (s : Schema). IsTrue ours ↔ AreOurs s)

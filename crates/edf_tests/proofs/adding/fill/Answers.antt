@@ -2,8 +2,8 @@ use Rattle.std.proofs.Common.{◌≡◌, ℕ, ◌<◌, [], length, arith, rules,
 use Rattle.std.proofs.lemmas.List.{nil_from_length}
 use Rattle.sqlite.specs.State.{HasCleanDisk}
 use Rattle.edf_header.specs.Key.{MayStart}
-use Rattle.edf_store.specs.Held.{at, Stays}
-use Rattle.edf_store.specs.Transaction.{SeesOn, EachHasRecordIn, IsAddedIn, MayTakeIn, AreNearIn}
+use Rattle.edf_store.specs.Held.{at, KeepsHoldings}
+use Rattle.edf_store.specs.Transaction.{StillSees, EachHasRecordIn, IsAddedIn, MayAddIn, AreNearIn}
 use Rattle.edf_store.specs.Transaction.{IsCountIn}
 use Rattle.edf_store.proofs.Whole.{whole_but, still_but, whole_added}
 use Rattle.edf_tests.proofs.Rooms.{may_take}
@@ -30,15 +30,15 @@ add-requires-clause-room g c =
     let cap_a = c.recording.ensures.leaves.stays.cap in
     let cap_b = c.count.ensures.leaves.stays.cap ∙ cap_a in
     let cap_d = c.near.ensures.leaves.stays.cap ∙ cap_b in
-    let oa = subst (λ n. SeesOn n (at g.S.Store c.args.tx.now.store.now) a) cap_a
+    let oa = subst (λ n. StillSees n (at g.S.Store c.args.tx.now.store.now) a) cap_a
     c.in_ok-id.ensures.found.same in
-    let ab = subst (λ n. SeesOn n a b) cap_b c.in_ok-before.ensures.leaves.same in
-    let bd = subst (λ n. SeesOn n b d) cap_d c.in_ok-near.ensures.leaves.same in
+    let ab = subst (λ n. StillSees n a b) cap_b c.in_ok-before.ensures.leaves.same in
+    let bd = subst (λ n. StillSees n b d) cap_d c.in_ok-near.ensures.leaves.same in
     let few : c.in_ok-before.before < cap = omega (arith, c.if-before-cap.false, c.requires.cap) in
     let empty : length records ≡ 0 = search rules in
     let none : records ≡ [] = nil_from_length records empty in
     let kept = c.start-start.ensures.kept in
-    subst (λ n. MayTakeIn n d id r) (sym cap_d)
+    subst (λ n. MayAddIn n d id r) (sym cap_d)
     (may_take cap a b d (λ clean. omega (arith, c.count.ensures.leaves.stays.crash.clean, clean))
     (λ clean. omega (arith, c.near.ensures.leaves.stays.crash.clean, clean)) oa.running ab bd id k r
     c.in_ok-before.before records c.in_ok-id.ensures.found.found
@@ -73,9 +73,9 @@ look-requires-clause-whole g c =
     let cap_b = c.count.ensures.leaves.stays.cap ∙ cap_a in
     let cap_d = c.near.ensures.leaves.stays.cap ∙ cap_b in
     let cap_e = c.add.ensures.leaves.stays.cap ∙ cap_d in
-    let oa = subst (λ n. SeesOn n o a) cap_a c.in_ok-id.ensures.found.same in
-    let ab = subst (λ n. SeesOn n a b) cap_b c.in_ok-before.ensures.leaves.same in
-    let bd = subst (λ n. SeesOn n b d) cap_d c.in_ok-near.ensures.leaves.same in
+    let oa = subst (λ n. StillSees n o a) cap_a c.in_ok-id.ensures.found.same in
+    let ab = subst (λ n. StillSees n a b) cap_b c.in_ok-before.ensures.leaves.same in
+    let bd = subst (λ n. StillSees n b d) cap_d c.in_ok-near.ensures.leaves.same in
     let added = subst (λ n. IsAddedIn n d e id r) cap_e c.in_ok-add.ensures.added in
     let under = bd.ids id k (ab.ids id k c.in_ok-id.ensures.found.found) in
     let but_a = whole_but cap o a (λ clean. omega (

@@ -1,7 +1,7 @@
 use Rattle.std.proofs.Common.{◌≡◌, ℕ, arith, sym, subst, ◌∙◌}
 use Rattle.sqlite.specs.State.{HasCleanDisk}
-use Rattle.edf_store.specs.Held.{at, Stays}
-use Rattle.edf_store.specs.Transaction.{SeesOn, EachHasRecordIn}
+use Rattle.edf_store.specs.Held.{at, KeepsHoldings}
+use Rattle.edf_store.specs.Transaction.{StillSees, EachHasRecordIn}
 use Rattle.edf_store.proofs.Whole.{still_whole}
 use Rattle.edf_tests.proofs.adding.look.Goals as goal
 
@@ -21,8 +21,8 @@ returns-clause-whole g c =
     let cap = c.args.tx.now.store.now.cap in
     let cap_b = c.count.ensures.leaves.stays.cap in
     let cap_d = c.near.ensures.leaves.stays.cap ∙ cap_b in
-    let ab = subst (λ n. SeesOn n a b) cap_b c.in_ok-after.ensures.leaves.same in
-    let bd = subst (λ n. SeesOn n b d) cap_d c.in_ok-near.ensures.leaves.same in
+    let ab = subst (λ n. StillSees n a b) cap_b c.in_ok-after.ensures.leaves.same in
+    let bd = subst (λ n. StillSees n b d) cap_d c.in_ok-near.ensures.leaves.same in
     subst (λ n. EachHasRecordIn n d) (sym cap_d)
     (still_whole cap b d (λ clean. omega (arith, c.near.ensures.leaves.stays.crash.clean, clean))
     ab.running bd c.in_ok-near.ensures.leaves.only
