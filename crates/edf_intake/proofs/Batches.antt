@@ -27,14 +27,16 @@ use Rattle.edf_store.proofs.Held.{others_committed_then}
 use Rattle.edf_intake.specs.Refusal.{Cause, OfForm, OfConflict, OfRead, OfMemory, OfStore}
 use Rattle.edf_intake.specs.Refusal.{Answer, reply_of, cause}
 use Rattle.edf_fragment.specs.Call.{InputState}
-use Rattle.edf_intake.specs.Input.{IsOfForm, ReadsAs}
+use Rattle.edf_intake.specs.Input.{IsFormFault, ReadsAs}
 use Rattle.edf_store.specs.declared.fault.StoreFault.{StoreFault}
 use Rattle.edf_store.specs.declared.fault.StoreFault.TheVariants.{Store, Foreign}
 use Rattle.edf_store.specs.declared.fault.StoreFault.TheVariants.{Memory as NoMemory}
 use Rattle.edf_store.specs.declared.fault.StoreFault.TheVariants.{Failed as FailedBefore}
 use Rattle.edf_intake.specs.Submitted.{IsRefusal, IsSubmitted, IsEnded}
-use Rattle.edf_intake.specs.Batch.{Turn, somes, submissions_in, replies_in, MayBeAnswered, IsTurn}
-use Rattle.edf_intake.specs.Batch.{AreUnended, IsOwnCause, IsOwnRefusal, AreLeftBy, AreEnded}
+use Rattle.edf_intake.specs.Batch.{Turn, some_values, submissions_in, replies_in, IsPossibleReply}
+use Rattle.edf_intake.specs.Batch.{IsTurn}
+use Rattle.edf_intake.specs.Batch.{MayHaveCommittedNext, IsOwnCause, IsOwnRefusal}
+use Rattle.edf_intake.specs.Batch.{MayRemainAfterCrash, AreEnded}
 use Rattle.edf_intake.specs.Batch.{SubmitsOne, AreSubmitted, AreSubmittedAsList}
 use Rattle.edf_intake.specs.Batch.{InTurnIsAsList, AnswersAll}
 use Rattle.edf_intake.proofs.Turns.{IsMade, told-next, replies-next, map-next, all-next, turn_of}
@@ -69,18 +71,18 @@ own-later g mid new was (a ∷ rest) all =
 
 -- one turn more
 after-next : (cap : ℕ) (h : Holdings) (turns : List Turn) (t : Turn) →
-    after cap (after cap h (submissions_in turns)) (somes (t.submission ∷ [])) ≡ after cap h
+    after cap (after cap h (submissions_in turns)) (some_values (t.submission ∷ [])) ≡ after cap h
     (submissions_in (turns ++ t ∷ []))
 after-next cap h turns t = sym (ap (after cap h) (told-next turns t)
-    ∙ after-append cap h (submissions_in turns) (somes (t.submission ∷ [])))
+    ∙ after-append cap h (submissions_in turns) (some_values (t.submission ∷ [])))
 
 unended-more : (cap : ℕ) (h : Holdings) (rest : List Turn) (t : Turn) (rows : Trees) →
-    AreUnended cap h rest rows → AreUnended cap h (rest ++ t ∷ []) rows
+    MayHaveCommittedNext cap h rest rows → MayHaveCommittedNext cap h (rest ++ t ∷ []) rows
 unended-more cap h [] t rows none = absurd none
 unended-more cap h (u ∷ us) t rows it = it
 
 left-more : (cap : ℕ) (h : Holdings) (turns : List Turn) (t : Turn) (rows : Trees) →
-    AreLeftBy cap h turns rows → AreLeftBy cap h (turns ++ t ∷ []) rows
+    MayRemainAfterCrash cap h turns rows → MayRemainAfterCrash cap h (turns ++ t ∷ []) rows
 left-more cap h turns t rows l = record {
   first = l.first;
   rest = l.rest ++ t ∷ [];
@@ -94,9 +96,9 @@ left-more cap h turns t rows l = record {
 
 left-last : (cap : ℕ) (h : Holdings) (turns : List Turn) (t : Turn) (rows : Trees)
     → RepresentCommitted cap rows (after cap (after cap h (submissions_in turns))
-    (somes (t.submission ∷ [])))
-    ⊎ AreUnended cap (after cap h (submissions_in turns)) (t ∷ []) rows →
-    AreLeftBy cap h (turns ++ t ∷ []) rows
+    (some_values (t.submission ∷ [])))
+    ⊎ MayHaveCommittedNext cap (after cap h (submissions_in turns)) (t ∷ []) rows →
+    MayRemainAfterCrash cap h (turns ++ t ∷ []) rows
 left-last cap h turns t rows (inl kept) = record {
   first = turns ++ t ∷ [];
   rest = [];
@@ -150,27 +152,30 @@ module _ {S : Type 0} (g : Ghosts S) where
       replies_are = λ clean h held.
           let was : HasCleanDisk (at g mid) = omega (arith, m.crash.clean) in
           let first = all.replies_are was h held in
-          let one = subst (λ (n : ℕ). somes (reply_of t.answer ∷ []) ≡ replies n
-          (after old.cap h (submissions_in all.turns)) (somes (t.submission ∷ []))) capped
+          let one = subst (λ (n : ℕ). some_values (reply_of t.answer ∷ []) ≡ replies n
+          (after old.cap h (submissions_in all.turns)) (some_values (t.submission ∷ []))) capped
           (m.replied clean (after old.cap h (submissions_in all.turns)) (all.holdings h held)) in
           replies-next all.turns t
-          ∙ (ap (λ (l : List Reply). l ++ somes (reply_of t.answer ∷ [])) first
+          ∙ (ap (λ (l : List Reply). l ++ some_values (reply_of t.answer ∷ [])) first
           ∙ (ap (λ (l : List Reply). replies old.cap h (submissions_in all.turns) ++ l) one
-          ∙ (sym (replies-append old.cap h (submissions_in all.turns) (somes (t.submission ∷ [])))
+          ∙ (sym (replies-append old.cap h (submissions_in all.turns)
+          (some_values (t.submission ∷ [])))
           ∙ ap (replies old.cap h) (sym (told-next all.turns t)))));
       holdings = λ h held.
           let step = m.holdings (after old.cap h (submissions_in all.turns))
           (all.holdings h held) in
           subst (Holds g new) (ap (λ (n : ℕ).
-          after n (after old.cap h (submissions_in all.turns)) (somes (t.submission ∷ []))) capped
+          after n (after old.cap h (submissions_in all.turns))
+          (some_values (t.submission ∷ []))) capped
           ∙ after-next old.cap h all.turns t) step;
       others = others_committed_then (at g old) (at g mid) (at g new) all.others m.others;
       crash = survives_then (at g old) (at g mid) (at g new) _ _ _
           (λ clean rows left h held. left-more old.cap h all.turns t rows (left h held))
           (λ clean rows left h held. left-last old.cap h all.turns t rows
           (subst (λ (n : ℕ). RepresentCommitted n rows
-          (after n (after old.cap h (submissions_in all.turns)) (somes (t.submission ∷ [])))
-          ⊎ AreUnended n (after old.cap h (submissions_in all.turns)) (t ∷ []) rows) capped
+          (after n (after old.cap h (submissions_in all.turns)) (some_values (t.submission ∷ [])))
+          ⊎ MayHaveCommittedNext n (after old.cap h (submissions_in all.turns))
+          (t ∷ []) rows) capped
           (left (after old.cap h (submissions_in all.turns)) (all.holdings h held))))
           all.crash m.crash;
     }
@@ -232,7 +237,7 @@ in_turn g old new froms tos answers all = list_then g old old new [] [] [] froms
 
 -- ---- what known bytes tell
 
-first_known : (bytes : List ℕ) (fault : FragmentFault) → IsOfForm fault →
+first_known : (bytes : List ℕ) (fault : FragmentFault) → IsFormFault fault →
     IsFirstFaultIfKnown (Some bytes) fault → IsFirstFault bytes fault
 first_known bytes Read form first = absurd form
 first_known bytes Memory form first = absurd form
@@ -266,7 +271,7 @@ same_told t x y is (bytes, known, tells) given = go t.submission refl
   where
     go : (o : Option Parsed) → t.submission ≡ o → t.submission ≡ Some x
     go (Some told) e =
-        let heard : ReadsAs t.from t.to told × MayBeAnswered told y = rw (e, given) at is in
+        let heard : ReadsAs t.from t.to told × IsPossibleReply told y = rw (e, given) at is in
         e ∙ ap (λ (z : Parsed). Some z) (one-parse bytes told x
         (heard_tells t.from t.to bytes told known heard.0) tells)
     go None e = absurd (rw (e, given) at is)
@@ -286,9 +291,9 @@ all_told (t ∷ ts) (x ∷ xs) (y ∷ ys) each known e =
     cc in
     let told : t.submission ≡ Some x = same_told t x y each.0 known.0 first in
     let more = all_told ts xs ys each.1 known.1 rest in (
-      ap (λ (o : Option Parsed). somes (o ∷ map (λ (u : Turn). u.submission) ts)) told
+      ap (λ (o : Option Parsed). some_values (o ∷ map (λ (u : Turn). u.submission) ts)) told
           ∙ ap (λ (l : List Parsed). x ∷ l) more.0,
-      ap (λ (o : Option Reply). somes (o ∷ map (λ (u : Turn). reply_of u.answer) ts)) first
+      ap (λ (o : Option Reply). some_values (o ∷ map (λ (u : Turn). reply_of u.answer) ts)) first
           ∙ ap (λ (l : List Reply). y ∷ l) more.1,
     )
 

@@ -19,7 +19,7 @@ use Rattle.edf_store.specs.declared.fault.StoreFault.{StoreFault}
 use Rattle.edf_intake.specs.Refusal.{reply_of, OfConflict, cause}
 use Rattle.edf_intake.specs.declared.answer.Refusal.{Refusal}
 use Rattle.edf_intake.specs.declared.answer.Refusal.TheVariants as refusal
-use Rattle.edf_intake.specs.Inside.Verdict.{IsRoom, CountsAll, NamesClash, AreFindings}
+use Rattle.edf_intake.specs.Inside.Verdict.{IsSpare, CountsAll, NamesClash, AreFindings}
 use Rattle.edf_intake.specs.declared.data_records.Starts.{Starts}
 use Rattle.edf_intake.specs.declared.data_records.Findings.{Findings}
 
@@ -105,7 +105,7 @@ clash_told cap key h records starts told differs overlaps k =
 -- there is
 pub full_here : (cap room : ℕ) (key : Key) (h : Holdings) (records : List DataRecord)
     (findings : Findings) → CountsAll key h records findings
-    → IsRoom cap (length (h key)) (length records) room → room < findings.new →
+    → IsSpare cap (length (h key)) (length records) room → room < findings.new →
     reply cap h (Fragment key records) ≡ Conflicts (Full (cap - room) findings.new cap)
 full_here cap room key h records findings k it past =
     let all : length (h key) + room ≡ cap =

@@ -25,8 +25,9 @@ use Rattle.edf_store.proofs.Readiness.{stays_then}
 use Rattle.edf_intake.specs.Refusal.{Cause, OfForm, OfConflict, OfRead, OfMemory, OfStore}
 use Rattle.edf_intake.specs.Refusal.{Answer, IsStopped, IsInDoubt, cause}
 use Rattle.edf_fragment.specs.Call.{InputState}
-use Rattle.edf_intake.specs.Input.{ReadsFront}
-use Rattle.edf_intake.specs.Submitted.{AreLeft, Accepts, Refuses, StopsThere, IsRefusedFor}
+use Rattle.edf_intake.specs.Input.{ReadsPrefix}
+use Rattle.edf_intake.specs.Submitted.{RemainAfterCrash, Accepts, Refuses, IsInterrupted}
+use Rattle.edf_intake.specs.Submitted.{IsRefusedFor}
 use Rattle.edf_intake.specs.Submitted.{IsSubmitted}
 use Rattle.edf_intake.specs.Inside.Halt.{store_refusal}
 use Rattle.edf_intake.specs.Inside.Taken.{IsAcceptedInside, StopsFor, IsStop, IsConflictInside}
@@ -38,12 +39,12 @@ use Rattle.edf_holdings.proofs.Replies.{form_reply}
 -- the refusal for a fault of the store
 pub refused_by : {S : Type 0} (g : Ghosts S) (old new : StoreModel S) (from to : InputState)
     (fault : StoreFault) (refused : Refusal) → refused ≡ store_refusal fault →
-    StopsThere g old new from to (Err (store_refusal fault)) →
+    IsInterrupted g old new from to (Err (store_refusal fault)) →
     MayRefuse (IsBusy g old) (IsUnclean g new) ⊥ fault → IsSubmitted g old new from to (Err refused)
 refused_by g old new from to fault refused is stops why =
     subst (λ (r : Refusal). IsSubmitted g old new from to (Err r)) (sym is) (by fault stops why)
   where
-    by : (fault : StoreFault) → StopsThere g old new from to (Err (store_refusal fault)) →
+    by : (fault : StoreFault) → IsInterrupted g old new from to (Err (store_refusal fault)) →
         MayRefuse (IsBusy g old) (IsUnclean g new) ⊥ fault →
         IsSubmitted g old new from to (Err (store_refusal fault))
     by Memory stops why = stops
@@ -56,7 +57,7 @@ refused_by g old new from to fault refused is stops why =
 pub refused_on : {S : Type 0} (g : Ghosts S) (old new : StoreModel S) (from to : InputState)
     (fault : StoreFault) (answer : Answer) →
     IsErrAnd answer (λ refused. refused ≡ store_refusal fault) →
-    StopsThere g old new from to (Err (store_refusal fault)) →
+    IsInterrupted g old new from to (Err (store_refusal fault)) →
     MayRefuse (IsBusy g old) (IsUnclean g new) ⊥ fault → IsSubmitted g old new from to answer
 refused_on g old new from to fault (Ok receipt) is stops why = absurd is
 refused_on g old new from to fault (Err refused) is stops why =
@@ -111,11 +112,12 @@ module _ {S : Type 0} (g : Ghosts S) (old : StoreModel S) (first last : StoreTx 
     crash_left : (told : Parsed) → ((h : Holdings) → Sees g first.store.now h →
         Sees g last.store.now (after_one first.store.now.cap h told)) →
         Survives (at g last.store.now) (at g new) (IsSeen g last.store.now) →
-        Survives (at g old) (at g new) (AreLeft g old new told)
+        Survives (at g old) (at g new) (RemainAfterCrash g old new told)
     crash_left told is survives =
-        quiet_then (at g old) (at g last.store.now) (at g new) (AreLeft g old new told) stays.crash
+        quiet_then (at g old) (at g last.store.now) (at g new)
+        (RemainAfterCrash g old new told) stays.crash
         (survives_weaker (at g last.store.now) (at g new) (IsSeen g last.store.now)
-        (AreLeft g old new told)
+        (RemainAfterCrash g old new told)
         (λ clean rows seen h held. subst
         (λ (n : ℕ). RepresentCommitted n rows (after_one old.cap h told))
         stays.cap (seen (after_one old.cap h told) (left told is h held))) survives)
@@ -144,7 +146,7 @@ module _ {S : Type 0} (g : Ghosts S) (old : StoreModel S) (first last : StoreTx 
     pub stops_at_commit : {X : Type 0} (receipt : Receipt) →
         IsAcceptedInside g first last from to receipt → (fault : StoreFault) →
         Commits g {X = X} last.store.now new (Err fault) → HasCause fault →
-        StopsThere g old new from to (Err (store_refusal fault))
+        IsInterrupted g old new from to (Err (store_refusal fault))
     stops_at_commit receipt t fault refused cause = inr (
       in_doubt fault cause,
       (
@@ -200,7 +202,7 @@ module _ {S : Type 0} (g : Ghosts S) (old : StoreModel S) (first last : StoreTx 
           IsSubmitted g old new from to (Err told)
       submitted told r = refused (cause told) r
 
-      front_of : (c : Cause) → StopsFor g first last from to c → ReadsFront from to
+      front_of : (c : Cause) → StopsFor g first last from to c → ReadsPrefix from to
       front_of (OfForm fault) r = inr (inr (inr (inr (Fault fault, r))))
       front_of (OfConflict conflict) r =
           inr (inr (inr (inr (Fragment r.key r.records, r.read))))
@@ -210,10 +212,10 @@ module _ {S : Type 0} (g : Ghosts S) (old : StoreModel S) (first last : StoreTx 
 
       -- and that was refused
       pub stops_at_undo : (told : Refusal) → IsStop g first last from to (Input told) →
-          (fault : StoreFault) → StopsThere g old new from to (Err (store_refusal fault))
+          (fault : StoreFault) → IsInterrupted g old new from to (Err (store_refusal fault))
       stops_at_undo told r fault = inl (all_stays, front_of (cause told) r)
 
       -- or a call before it
-      pub stops_before : ReadsFront from to → (fault : StoreFault) →
-          StopsThere g old new from to (Err (store_refusal fault))
+      pub stops_before : ReadsPrefix from to → (fault : StoreFault) →
+          IsInterrupted g old new from to (Err (store_refusal fault))
       stops_before front fault = inl (all_stays, front)

@@ -13,15 +13,15 @@ use Rattle.edf_fragment.proofs.OneFragment.{spelled-no-fault}
 use Rattle.sqlite_trees.specs.declared.store.Store.{Ghosts}
 use Rattle.edf_store.specs.declared.transaction.StoreTx.{StoreTx}
 use Rattle.edf_fragment.specs.Call.{InputState}
-use Rattle.edf_intake.specs.Input.{SpellsNothing, ReadsWhole, ReadsSome}
-use Rattle.edf_intake.specs.Inside.Halt.{fragment_refusal, HaltsThere}
+use Rattle.edf_intake.specs.Input.{IsNoFragmentFile, ReadsWhole, ReadsSome}
+use Rattle.edf_intake.specs.Inside.Halt.{fragment_refusal, HaltsReading}
 use Rattle.edf_intake.specs.Inside.Taken.{IsStop}
 use Rattle.edf_intake.specs.declared.answer.Refusal.{Refusal}
 use Rattle.edf_intake.specs.declared.answer.Stop.{Stop}
 use Rattle.edf_intake.specs.declared.answer.Stop.TheVariants.{Input, Store}
 
 spells_none : (left : Option (List ℕ)) (fault : FragmentFault) →
-    IfSome left (λ all. IsFirstFault all fault) → IfSome left SpellsNothing
+    IfSome left (λ all. IsFirstFault all fault) → IfSome left IsNoFragmentFile
 spells_none None fault first = tt
 spells_none (Some all) fault first = λ k rs s. spelled-no-fault all k rs fault s first
 
@@ -70,7 +70,7 @@ reads_whole from to l records r n = record {
 
 -- why the data records stopped, said of the whole submission
 pub halted : {S : Type 0} (g : Ghosts S) (old new : StoreTx S) (from to : InputState)
-    (stop : Stop) → HaltsThere g new from to stop → IsStop g old new from to stop
+    (stop : Stop) → HaltsReading g new from to stop → IsStop g old new from to stop
 halted g old new from to (Input answer) (fault, is, reads, n) =
     subst (λ (r : Refusal). IsStop g old new from to (Input r)) (sym is)
     (stopped_by g old new from to fault reads n)

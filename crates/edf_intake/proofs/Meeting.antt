@@ -17,7 +17,7 @@ use Rattle.edf_holdings.proofs.OneByOne.{Taken, Stopped, TakenOrStopped, still_s
 use Rattle.edf_holdings.proofs.OneByOne.{after_known, after_added, after_full}
 use Rattle.edf_store.specs.Held.{StoreModel, at}
 use Rattle.edf_store.specs.Transaction.{Sees}
-use Rattle.edf_intake.specs.Inside.Verdict.{IsVerdict, IsRoom, CountsVerdict, CountsNext}
+use Rattle.edf_intake.specs.Inside.Verdict.{IsVerdict, IsSpare, CountsVerdict, CountsNext}
 use Rattle.edf_intake.specs.declared.data_records.Verdict.{Verdict}
 use Rattle.edf_intake.specs.declared.data_records.Verdict.TheVariants.{Clashes, Known, New}
 use Rattle.edf_intake.specs.declared.data_records.Starts.{Starts}
@@ -76,7 +76,7 @@ next_wider room full asked key r h new known (Some s) t to low enough below same
 
 -- the same for all the room that there is, where what was found is enough
 pub next_in_all : (cap held asked room : ℕ) (key : Key) (r : DataRecord) (h : Holdings)
-    (from : Findings) (t : Holdings) (to : Findings) → IsRoom cap held asked room →
+    (from : Findings) (t : Holdings) (to : Findings) → IsSpare cap held asked room →
     from.new < asked →
     CountsNext room key r h from t to → CountsNext (cap - held) key r h from t to
 next_in_all cap held asked room key r h from t to it below next =

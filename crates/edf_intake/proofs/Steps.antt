@@ -22,7 +22,7 @@ use Rattle.edf_holdings.proofs.OneByOne.{Taken, TakenOrStopped, nothing_read, ta
 use Rattle.edf_rows.proofs.Rows.{one-holdings}
 use Rattle.edf_store.specs.Held.{StoreModel, at}
 use Rattle.edf_store.specs.Transaction.{Sees, SeesHoldings}
-use Rattle.edf_intake.specs.Inside.Verdict.{CountsNext, IsRoom, AreFindings}
+use Rattle.edf_intake.specs.Inside.Verdict.{CountsNext, IsSpare, AreFindings}
 use Rattle.edf_intake.specs.Inside.Taken.{MayBeAccepted}
 use Rattle.edf_intake.specs.declared.data_records.Starts.{Starts}
 use Rattle.edf_intake.specs.declared.data_records.Findings.{Findings}
@@ -43,7 +43,7 @@ empty_within (x ∷ xs) ys w e = absurd (subst (λ (l : List DataRecord). In x l
 module _ {S : Type 0} (g : Ghosts S) (first : StoreModel S) (l : Layout)
     (before left : Option (List ℕ)) (header : ReadsHeader before left l) (room : ℕ)
     (space : HasCleanDisk (at g first) → (h : Holdings) → Sees g first h →
-    IsRoom first.cap (length (h l.key)) (most_records l.count) room) where
+    IsSpare first.cap (length (h l.key)) (most_records l.count) room) where
   held_apart : HasCleanDisk (at g first) → (h : Holdings) → Sees g first h →
       StartsAreSpaced (duration_of l.key.duration) 0 (h l.key)
   held_apart clean h seen = (IsGood-from_sound first.cap h (seen clean).sound).apart l.key

@@ -18,20 +18,23 @@ use Rattle.edf_store.specs.Call.{IsBusy}
 use Rattle.edf_store.specs.declared.fault.StoreFault.{StoreFault}
 use Rattle.edf_store.specs.declared.fault.StoreFault.TheVariants.{Memory, Store, Foreign, Failed}
 use Rattle.edf_intake.specs.Refusal.{Answer, reply_of, IsStopped, IsInDoubt, cause}
-use Rattle.edf_intake.specs.Refusal.{Cause, OfConflict, reply_for}
+use Rattle.edf_intake.specs.Refusal.{Cause, OfConflict, reply_of_cause}
 use Rattle.edf_fragment.specs.Call.{InputState}
-use Rattle.edf_intake.specs.Input.{ReadsAs, FailsToRead, ReadsFront}
-use Rattle.edf_intake.specs.Submitted.{IsRefusal, AreLeft, LeavesSubmitted, MayLeave, Refuses}
-use Rattle.edf_intake.specs.Submitted.{StopsThere, IsRefusedFor, IsSubmitted}
-use Rattle.edf_intake.specs.Batch.{Turn, somes, submissions_in, replies_in, AgreesWith, IsTurn}
-use Rattle.edf_intake.specs.Batch.{MayBeAnswered, AreUnended, IsOwnCause, IsOwnRefusal}
+use Rattle.edf_intake.specs.Input.{ReadsAs, FailsToRead, ReadsPrefix}
+use Rattle.edf_intake.specs.Submitted.{IsRefusal, RemainAfterCrash, CommitsSubmission}
+use Rattle.edf_intake.specs.Submitted.{MayHaveCommitted, Refuses}
+use Rattle.edf_intake.specs.Submitted.{IsInterrupted, IsRefusedFor, IsSubmitted}
+use Rattle.edf_intake.specs.Batch.{Turn, some_values, submissions_in, replies_in, AgreesWith}
+use Rattle.edf_intake.specs.Batch.{IsTurn}
+use Rattle.edf_intake.specs.Batch.{IsPossibleReply, MayHaveCommittedNext, IsOwnCause, IsOwnRefusal}
 use Rattle.edf_intake.specs.declared.answer.Refusal.{Refusal}
 use Rattle.edf_intake.specs.declared.answer.Refusal.TheVariants as refusal
 use Rattle.edf_intake.proofs.Conflicts.{by_cause}
 
 -- ---- lists
 
-pub somes-append : {A : Type 0} (os ps : List (Option A)) → somes (os ++ ps) ≡ somes os ++ somes ps
+pub somes-append : {A : Type 0} (os ps : List (Option A)) →
+    some_values (os ++ ps) ≡ some_values os ++ some_values ps
 somes-append [] ps = refl
 somes-append (None ∷ os) ps = somes-append os ps
 somes-append {A} (Some x ∷ os) ps = ap (λ (l : List A). x ∷ l) (somes-append os ps)
@@ -48,13 +51,13 @@ all-next P (y ∷ ys) x all p = (all.0, all-next P ys x all.1 p)
 
 pub told-next : (turns : List Turn) (t : Turn) →
     submissions_in (turns ++ t ∷ []) ≡ submissions_in turns
-    ++ somes (t.submission ∷ [])
-told-next turns t = ap somes (map-next (λ (u : Turn). u.submission) turns t)
+    ++ some_values (t.submission ∷ [])
+told-next turns t = ap some_values (map-next (λ (u : Turn). u.submission) turns t)
     ∙ somes-append (map (λ (u : Turn). u.submission) turns) (t.submission ∷ [])
 
 pub replies-next : (turns : List Turn) (t : Turn) → replies_in (turns ++ t ∷ []) ≡ replies_in turns
-    ++ somes (reply_of t.answer ∷ [])
-replies-next turns t = ap somes (map-next (λ (u : Turn). reply_of u.answer) turns t)
+    ++ some_values (reply_of t.answer ∷ [])
+replies-next turns t = ap some_values (map-next (λ (u : Turn). reply_of u.answer) turns t)
     ∙ somes-append (map (λ (u : Turn). reply_of u.answer) turns) (reply_of t.answer ∷ [])
 
 -- ---- one turn
@@ -65,13 +68,13 @@ pub record IsMade {S : Type 0} (g : Ghosts S) (old new : StoreModel S) (t : Turn
   pub own : IsOwnRefusal g new t.answer
   pub cap : new.cap ≡ old.cap
   pub replied : HasCleanDisk (at g new) → (h : Holdings) → Holds g old h →
-      somes (reply_of t.answer ∷ []) ≡ replies old.cap h (somes (t.submission ∷ []))
+      some_values (reply_of t.answer ∷ []) ≡ replies old.cap h (some_values (t.submission ∷ []))
   pub holdings : (h : Holdings) → Holds g old h →
-      Holds g new (after old.cap h (somes (t.submission ∷ [])))
+      Holds g new (after old.cap h (some_values (t.submission ∷ [])))
   pub others : KeepsOtherTables (at g old) (at g new)
   pub crash : Survives (at g old) (at g new) (λ rows. (h : Holdings) → Holds g old h →
-      RepresentCommitted old.cap rows (after old.cap h (somes (t.submission ∷ [])))
-      ⊎ AreUnended old.cap h (t ∷ []) rows)
+      RepresentCommitted old.cap rows (after old.cap h (some_values (t.submission ∷ [])))
+      ⊎ MayHaveCommittedNext old.cap h (t ∷ []) rows)
 
 pub sound_told : (from to : InputState) (told : Parsed) → ReadsAs from to told → IsWellFormed told
 sound_told from to (Fragment key records) r = (
@@ -83,9 +86,9 @@ sound_told from to (Fault fault) r = tt
 
 module _ {S : Type 0} (g : Ghosts S) (old new : StoreModel S) (from to : InputState) where
   accepted_turn : (answer : Answer) (told : Parsed) (given : Reply) → IsOwnRefusal g new answer →
-      reply_of answer ≡ Some given → MayBeAnswered told given → ReadsAs from to told
+      reply_of answer ≡ Some given → IsPossibleReply told given → ReadsAs from to told
       → (HasCleanDisk (at g new) → (h : Holdings) → Holds g old h → reply old.cap h told ≡ given) →
-      LeavesSubmitted g old new told
+      CommitsSubmission g old new told
       → IsMade g old new (record { from = from; to = to; answer = answer; submission = Some told })
   accepted_turn answer told given own tells may heard is leaves = record {
     own = own;
@@ -93,17 +96,17 @@ module _ {S : Type 0} (g : Ghosts S) (old new : StoreModel S) (from to : InputSt
         { from = from; to = to; answer = answer; submission = Some told })
         (Some told)) (sym tells) (heard, may);
     cap = leaves.cap;
-    replied = λ clean h held. ap (λ (o : Option Reply). somes (o ∷ [])) (tells
+    replied = λ clean h held. ap (λ (o : Option Reply). some_values (o ∷ [])) (tells
         ∙ ap (λ (r : Reply). Some r) (sym (is clean h held)));
     holdings = leaves.holdings;
     others = leaves.others;
-    crash = survives_weaker (at g old) (at g new) (AreLeft g old new told) _
+    crash = survives_weaker (at g old) (at g new) (RemainAfterCrash g old new told) _
         (λ clean rows left h held. inl (left h held)) leaves.crash;
   }
 
   -- a refused one changes nothing
   refused_turn : (answer : Answer) (told : Parsed) (given : Reply) → IsOwnRefusal g new answer →
-      reply_of answer ≡ Some given → MayBeAnswered told given → ¬ IsAccepted given →
+      reply_of answer ≡ Some given → IsPossibleReply told given → ¬ IsAccepted given →
       Refuses g old new from to told given
       → IsMade g old new (record { from = from; to = to; answer = answer; submission = Some told })
   refused_turn answer told given own tells may never r = record {
@@ -112,7 +115,7 @@ module _ {S : Type 0} (g : Ghosts S) (old new : StoreModel S) (from to : InputSt
         { from = from; to = to; answer = answer; submission = Some told })
         (Some told)) (sym tells) (r.read, may);
     cap = r.stays.cap;
-    replied = λ clean h held. ap (λ (o : Option Reply). somes (o ∷ [])) (tells
+    replied = λ clean h held. ap (λ (o : Option Reply). some_values (o ∷ [])) (tells
         ∙ ap (λ (x : Reply). Some x) (sym (r.reply_is clean h held)));
     holdings = λ h held clean is_open.
         let kept = r.stays.holdings h held clean is_open in
@@ -127,7 +130,7 @@ module _ {S : Type 0} (g : Ghosts S) (old new : StoreModel S) (from to : InputSt
   }
 
   silent_turn : (answer : Answer) → IsOwnRefusal g new answer → reply_of answer ≡ None →
-      (FailsToRead from to ⊎ IsStopped answer) → ReadsFront from to → KeepsHoldings g old new
+      (FailsToRead from to ⊎ IsStopped answer) → ReadsPrefix from to → KeepsHoldings g old new
       → IsMade g old new (record { from = from; to = to; answer = answer; submission = None })
   silent_turn answer own tells why front stays = record {
     own = own;
@@ -135,7 +138,7 @@ module _ {S : Type 0} (g : Ghosts S) (old new : StoreModel S) (from to : InputSt
         { from = from; to = to; answer = answer; submission = None }) None)
         (sym tells) (why, front);
     cap = stays.cap;
-    replied = λ clean h held. ap (λ (o : Option Reply). somes (o ∷ [])) tells;
+    replied = λ clean h held. ap (λ (o : Option Reply). some_values (o ∷ [])) tells;
     holdings = stays.holdings;
     others = stays.others;
     crash = survives_weaker (at g old) (at g new) (λ _. ⊥) _ (λ clean rows none. absurd none)
@@ -144,7 +147,7 @@ module _ {S : Type 0} (g : Ghosts S) (old new : StoreModel S) (from to : InputSt
 
   unended_turn : (answer : Answer) (told : Parsed) → IsOwnRefusal g new answer →
       reply_of answer ≡ None → IsStopped answer → IsInDoubt answer → ReadsAs from to told →
-      MayLeave g old new told
+      MayHaveCommitted g old new told
       → IsMade g old new (record { from = from; to = to; answer = answer; submission = None })
   unended_turn answer told own tells why doubt heard may = record {
     own = own;
@@ -152,15 +155,15 @@ module _ {S : Type 0} (g : Ghosts S) (old new : StoreModel S) (from to : InputSt
         { from = from; to = to; answer = answer; submission = None }) None)
         (sym tells) (inr why, inr (inr (inr (inr (told, heard)))));
     cap = may.cap;
-    replied = λ clean h held. ap (λ (o : Option Reply). somes (o ∷ [])) tells;
+    replied = λ clean h held. ap (λ (o : Option Reply). some_values (o ∷ [])) tells;
     holdings = may.holdings;
     others = may.others;
-    crash = survives_weaker (at g old) (at g new) (AreLeft g old new told) _
+    crash = survives_weaker (at g old) (at g new) (RemainAfterCrash g old new told) _
         (λ clean rows left h held. inr (doubt, (told, heard, left h held))) may.crash;
   }
 
   stopped_turn : (answer : Answer) → IsOwnRefusal g new answer → reply_of answer ≡ None →
-      IsStopped answer → StopsThere g old new from to answer
+      IsStopped answer → IsInterrupted g old new from to answer
       → (told : Option Parsed) × IsMade g old new
       (record { from = from; to = to; answer = answer; submission = told })
   stopped_turn answer own tells why (inl (stays, front)) =
@@ -194,7 +197,7 @@ module _ {S : Type 0} (g : Ghosts S) (old new : StoreModel S) (from to : InputSt
         Some (Fragment key records),
         refused_turn (Err refused) (Fragment key records) (Conflicts conflict)
             (subst (λ (c : Cause). IsOwnCause g new c) (sym of) tt)
-            (ap reply_for of) tt (λ yes. yes) r,
+            (ap reply_of_cause of) tt (λ yes. yes) r,
       )
 
   read_turn : HasTurn refusal.Read

@@ -20,10 +20,10 @@ use Rattle.edf_store.specs.Transaction.{Sees, SeesHoldings, AddsOnlyRecording, A
 use Rattle.edf_store.specs.Transaction.{EachHasRecord}
 use Rattle.edf_store.specs.declared.transaction.StoreTx.{StoreTx}
 use Rattle.edf_intake.specs.Refusal.{Cause, OfForm, OfConflict, OfRead, OfMemory, OfStore}
-use Rattle.edf_intake.specs.Refusal.{reply_for, reply_of, cause}
+use Rattle.edf_intake.specs.Refusal.{reply_of_cause, reply_of, cause}
 use Rattle.edf_fragment.specs.Call.{InputState}
 use Rattle.edf_intake.specs.Input.{ReadsWhole}
-use Rattle.edf_intake.specs.Inside.Verdict.{IsRoom, AreFindings}
+use Rattle.edf_intake.specs.Inside.Verdict.{IsSpare, AreFindings}
 use Rattle.edf_intake.specs.Inside.Taken.{IsConflict, MayBeAccepted, IsDestination, AreTaken}
 use Rattle.edf_intake.specs.Inside.Taken.{IsOfConflict, IsAcceptedInside, StopsFor, IsStop}
 use Rattle.edf_intake.specs.declared.data_records.Destination.{Destination}
@@ -65,8 +65,8 @@ still_whole g first made last key records some whole running most none was_made 
     ])
 
 -- room for more than there are is room for those
-fewer : (cap held asked fewer_asked room : ℕ) → fewer_asked ≤ asked → IsRoom cap held asked room →
-    IsRoom cap held fewer_asked room
+fewer : (cap held asked fewer_asked room : ℕ) → fewer_asked ≤ asked → IsSpare cap held asked room →
+    IsSpare cap held fewer_asked room
 fewer cap held asked fewer_asked room few found = record {
   fits = found.fits;
   enough = elim found.enough [
@@ -112,9 +112,9 @@ module _ {S : Type 0} (g : Ghosts S) (first made last : StoreTx S) (from mid to 
   )
 
   space : HasCleanDisk (at g made.store.now) → (h : Holdings) → Sees g made.store.now h →
-      IsRoom first.store.now.cap (length (h l.key)) (length taken.records) d.room
+      IsSpare first.store.now.cap (length (h l.key)) (length taken.records) d.room
   space clean h seen =
-      subst (λ (n : ℕ). IsRoom n (length (h l.key)) (length taken.records) d.room) begun.cap
+      subst (λ (n : ℕ). IsSpare n (length (h l.key)) (length taken.records) d.room) begun.cap
       (fewer made.store.now.cap (length (h l.key)) (most_records l.count) (length taken.records)
       d.room
       (few_records from.remaining to.remaining l taken.records fragment) (there.room clean h seen))
@@ -151,7 +151,7 @@ module _ {S : Type 0} (g : Ghosts S) (first made last : StoreTx S) (from mid to 
 
   -- and where it is refused
   pub is_refused : (answer : Refusal) → IsConflict answer
-      → ((h : Holdings) → IsRoom first.store.now.cap (length (h l.key)) (length taken.records)
+      → ((h : Holdings) → IsSpare first.store.now.cap (length (h l.key)) (length taken.records)
       d.room →
       AreFindings l.key h taken.records findings →
       reply_of (Err answer) ≡ Some (reply first.store.now.cap h (Fragment l.key taken.records)))
@@ -162,7 +162,7 @@ module _ {S : Type 0} (g : Ghosts S) (first made last : StoreTx S) (from mid to 
     where
       by : (c : Cause) → IsOfConflict c →
           (HasCleanDisk (at g last.store.now) → (h : Holdings) → Sees g first.store.now h →
-          reply_for c ≡ Some (reply first.store.now.cap h (Fragment l.key taken.records)))
+          reply_of_cause c ≡ Some (reply first.store.now.cap h (Fragment l.key taken.records)))
           → StopsFor g first last from to c
       by (OfConflict conflict) is_one e = record {
         key = l.key;

@@ -16,7 +16,7 @@ use Rattle.edf_intake.specs.Refusal.{Answer, reply_of, IsStopped, IsInDoubt, cau
 use Rattle.edf_intake.specs.Refusal.{Cause, OfStore}
 use Rattle.edf_intake.specs.Submitted.{IsRefusal, IsSubmitted, IsEnded, found_busy}
 use Rattle.edf_fragment.specs.Call.{InputState}
-use Rattle.edf_intake.specs.Input.{ReadsAs, FailsToRead, ReadsFront}
+use Rattle.edf_intake.specs.Input.{ReadsAs, FailsToRead, ReadsPrefix}
 
 -- one call of `submit`: its answer, what it leaves, and that no input is read where the store was
 -- found in a transaction
@@ -59,32 +59,32 @@ pub record Turn : Type 0 where
   pub submission : Option Parsed
 
 -- the members that are there
-abbrev pub somes : {A : Type 0} → List (Option A) → List A
-somes [] = []
-somes (None ∷ os) = somes os
-somes (Some x ∷ os) = x ∷ somes os
+abbrev pub some_values : {A : Type 0} → List (Option A) → List A
+some_values [] = []
+some_values (None ∷ os) = some_values os
+some_values (Some x ∷ os) = x ∷ some_values os
 
 -- what the inputs tell, and the replies that their answers tell, in their order
 abbrev pub submissions_in : List Turn → List Parsed
-submissions_in turns = somes (map (λ (t : Turn). t.submission) turns)
+submissions_in turns = some_values (map (λ (t : Turn). t.submission) turns)
 
 abbrev pub replies_in : List Turn → List Reply
-replies_in turns = somes (map (λ (t : Turn). reply_of t.answer) turns)
+replies_in turns = some_values (map (λ (t : Turn). reply_of t.answer) turns)
 
 -- the answer to a faulty file is `Form`, and that to a good one never is; `Accepted` has the file's
 -- own key
-abbrev pub MayBeAnswered : Parsed → Reply → Type 0
-MayBeAnswered (Fault fault) answer = answer ≡ Form fault
-MayBeAnswered (Fragment key records) (Form fault) = ⊥
-MayBeAnswered (Fragment key records) (Accepted k new known) = k ≡ key
-MayBeAnswered (Fragment key records) answer = Unit {0}
+abbrev pub IsPossibleReply : Parsed → Reply → Type 0
+IsPossibleReply (Fault fault) answer = answer ≡ Form fault
+IsPossibleReply (Fragment key records) (Form fault) = ⊥
+IsPossibleReply (Fragment key records) (Accepted k new known) = k ≡ key
+IsPossibleReply (Fragment key records) answer = Unit {0}
 
 -- the input was read as its answer says: it tells this, and the answer tells a reply; or neither
 -- tells anything
 abbrev pub AgreesWith : Turn → Option Parsed → Option Reply → Type 0
 AgreesWith t (Some submission) (Some answer) = ReadsAs t.from t.to submission
-    × MayBeAnswered submission answer
-AgreesWith t None None = (FailsToRead t.from t.to ⊎ IsStopped t.answer) × ReadsFront t.from t.to
+    × IsPossibleReply submission answer
+AgreesWith t None None = (FailsToRead t.from t.to ⊎ IsStopped t.answer) × ReadsPrefix t.from t.to
 AgreesWith t submission answer = ⊥
 
 abbrev pub IsTurn : Turn → Type 0
@@ -101,20 +101,21 @@ IsOwnRefusal g new (Err refused) = IsOwnCause g new (cause refused)
 
 -- the next input's answer is E41 or E42, and the rows stand for what is held and what that input
 -- tells, submitted to it
-abbrev pub AreUnended : ℕ → Holdings → List Turn → Trees → Type 0
-AreUnended cap h [] rows = ⊥
-AreUnended cap h (t ∷ ts) rows = IsInDoubt t.answer
+abbrev pub MayHaveCommittedNext : ℕ → Holdings → List Turn → Trees → Type 0
+MayHaveCommittedNext cap h [] rows = ⊥
+MayHaveCommittedNext cap h (t ∷ ts) rows = IsInDoubt t.answer
     × ((submission : Parsed) × ReadsAs t.from t.to submission
     × RepresentCommitted cap rows (after_one cap h submission))
 
 -- what a crash may leave: rows that stand for what some first inputs leave, or for that and the
 -- next
-pub record AreLeftBy (cap : ℕ) (h : Holdings) (turns : List Turn) (rows : Trees) : Type 0 where
+pub record MayRemainAfterCrash (cap : ℕ) (h : Holdings) (turns : List Turn)
+    (rows : Trees) : Type 0 where
   pub first : List Turn
   pub rest : List Turn
   pub splits : turns ≡ first ++ rest
   pub stand : RepresentCommitted cap rows (after cap h (submissions_in first))
-      ⊎ AreUnended cap (after cap h (submissions_in first)) rest rows
+      ⊎ MayHaveCommittedNext cap (after cap h (submissions_in first)) rest rows
 
 module _ {S : Type 0} (g : Ghosts S) (old new : StoreModel S) where
   -- every case: the inputs together are one list. Those answered E40 to E42 or E45 add nothing;
@@ -134,7 +135,7 @@ module _ {S : Type 0} (g : Ghosts S) (old new : StoreModel S) where
           Holds g new (after old.cap h (submissions_in turns))
       pub others : KeepsOtherTables (at g old) (at g new)
       pub crash : Survives (at g old) (at g new) (λ rows. (h : Holdings) → Holds g old h →
-          AreLeftBy old.cap h turns rows)
+          MayRemainAfterCrash old.cap h turns rows)
 
 -- what was submitted one after another is one list
 abbrev pub InTurnIsAsList : {S : Type 0} → Ghosts S → Type 0

@@ -13,14 +13,15 @@ use Rattle.edf_fragment.specs.declared.fault.FragmentFault.{FragmentFault}
 use Rattle.edf_fragment.specs.declared.fault.FragmentFault.TheVariants.{Read, Memory, Failed}
 
 -- of form
-abbrev pub IsOfForm : FragmentFault → Type 0
-IsOfForm Read = ⊥
-IsOfForm Memory = ⊥
-IsOfForm Failed = ⊥
-IsOfForm fault = Unit {0}
+abbrev pub IsFormFault : FragmentFault → Type 0
+IsFormFault Read = ⊥
+IsFormFault Memory = ⊥
+IsFormFault Failed = ⊥
+IsFormFault fault = Unit {0}
 
-abbrev pub SpellsNothing : List ℕ → Type 0
-SpellsNothing bytes = (key : Key) (records : List DataRecord) → ¬ IsFragmentFile bytes key records
+abbrev pub IsNoFragmentFile : List ℕ → Type 0
+IsNoFragmentFile bytes = (key : Key) (records : List DataRecord) →
+    ¬ IsFragmentFile bytes key records
 
 module _ (from to : InputState) where
   abbrev pub NoReadFailed : Type 0
@@ -36,9 +37,9 @@ module _ (from to : InputState) where
 
   -- this is why the input is no fragment; just what shows that was read, and no read failed
   pub record ReadsFault (fault : FragmentFault) : Type 0 where
-    pub of_form : IsOfForm fault
+    pub of_form : IsFormFault fault
     pub is_fault : IsFragmentFault from.remaining to.remaining fault
-    pub none : IfSome from.remaining SpellsNothing
+    pub none : IfSome from.remaining IsNoFragmentFile
     pub counted : NoReadFailed
 
   -- what the input tells
@@ -62,13 +63,14 @@ module _ (from to : InputState) where
     pub counted : NoReadFailed
 
   -- memory ran out while the input was read
-  pub record LacksMemory : Type 0 where
+  pub record RunsOutOfMemory : Type 0 where
     pub is_fault : IsFragmentFault from.remaining to.remaining Memory
     pub counted : NoReadFailed
 
   -- how far the input was read where memory ran out or the store refused: not at all; a header and
   -- some data records; up to where memory ran out; to where a read failed; or as far as a reply
   -- needs, which the store's refusal then stands in place of
-  abbrev pub ReadsFront : Type 0
-  ReadsFront = (to ≡ from)
-      ⊎ (ReadsSome ⊎ (LacksMemory ⊎ (FailsToRead ⊎ ((submission : Parsed) × ReadsAs submission))))
+  abbrev pub ReadsPrefix : Type 0
+  ReadsPrefix = (to ≡ from)
+      ⊎ (ReadsSome ⊎ (RunsOutOfMemory
+      ⊎ (FailsToRead ⊎ ((submission : Parsed) × ReadsAs submission))))

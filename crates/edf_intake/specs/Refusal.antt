@@ -52,17 +52,17 @@ abbrev pub Answer : Type 0
 Answer = Result Receipt Refusal
 
 -- the reply that a refusal tells; one for a failed read, want of memory or the store tells none
-abbrev pub reply_for : Cause → Option Reply
-reply_for (OfForm fault) = Some (Form fault)
-reply_for (OfConflict conflict) = Some (Conflicts conflict)
-reply_for OfRead = None
-reply_for OfMemory = None
-reply_for (OfStore fault) = None
+abbrev pub reply_of_cause : Cause → Option Reply
+reply_of_cause (OfForm fault) = Some (Form fault)
+reply_of_cause (OfConflict conflict) = Some (Conflicts conflict)
+reply_of_cause OfRead = None
+reply_of_cause OfMemory = None
+reply_of_cause (OfStore fault) = None
 
 -- the reply that an answer tells
 abbrev pub reply_of : Answer → Option Reply
 reply_of (Ok receipt) = Some (Accepted receipt.identity receipt.new receipt.known)
-reply_of (Err refused) = reply_for (cause refused)
+reply_of (Err refused) = reply_of_cause (cause refused)
 
 -- memory ran out, or the store refused
 abbrev pub IsStopped : Answer → Type 0

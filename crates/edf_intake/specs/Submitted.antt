@@ -18,7 +18,7 @@ use Rattle.edf_store.specs.declared.fault.StoreFault.TheVariants as store
 use Rattle.edf_intake.specs.Refusal.{Answer, IsStopped, IsInDoubt, cause}
 use Rattle.edf_intake.specs.Refusal.{Cause, OfForm, OfConflict, OfRead, OfMemory, OfStore}
 use Rattle.edf_fragment.specs.Call.{InputState}
-use Rattle.edf_intake.specs.Input.{ReadsAs, ReadsWhole, FailsToRead, ReadsFront}
+use Rattle.edf_intake.specs.Input.{ReadsAs, ReadsWhole, FailsToRead, ReadsPrefix}
 use Rattle.edf_intake.specs.declared.answer.Receipt.{Receipt}
 use Rattle.edf_intake.specs.declared.answer.Refusal.TheVariants as refusal
 
@@ -38,26 +38,26 @@ module _ {S : Type 0} (g : Ghosts S) (old new : StoreModel S) where
 
   -- what a crash may leave: rows that stand for what was held, after what the input tells was
   -- submitted
-  abbrev pub AreLeft : Parsed → Trees → Type 0
-  AreLeft submission rows = (h : Holdings) → Holds g old h →
+  abbrev pub RemainAfterCrash : Parsed → Trees → Type 0
+  RemainAfterCrash submission rows = (h : Holdings) → Holds g old h →
       RepresentCommitted old.cap rows (after_one old.cap h submission)
 
   -- what the input tells was submitted: the store holds what that leaves, with what was beside it,
   -- and is open; a crash leaves what it could leave before, or that
-  pub record LeavesSubmitted (submission : Parsed) : Type 0 where
+  pub record CommitsSubmission (submission : Parsed) : Type 0 where
     pub cap : new.cap ≡ old.cap
     pub holdings : (h : Holdings) → Holds g old h → Holds g new (after_one old.cap h submission)
     pub others : KeepsOtherTables (at g old) (at g new)
     pub is_open : HasCleanDisk (at g new) → IsTrue (at g new).is_open
-    pub crash : Survives (at g old) (at g new) (AreLeft submission)
+    pub crash : Survives (at g old) (at g new) (RemainAfterCrash submission)
 
   -- what is held stays, and what is beside it; yet after a crash the store may hold what the input
   -- tells too
-  pub record MayLeave (submission : Parsed) : Type 0 where
+  pub record MayHaveCommitted (submission : Parsed) : Type 0 where
     pub cap : new.cap ≡ old.cap
     pub holdings : (h : Holdings) → Holds g old h → Holds g new h
     pub others : KeepsOtherTables (at g old) (at g new)
-    pub crash : Survives (at g old) (at g new) (AreLeft submission)
+    pub crash : Survives (at g old) (at g new) (RemainAfterCrash submission)
 
   module _ (from to : InputState) where
     -- the whole input tells a fragment, and this is how it is accepted
@@ -66,7 +66,7 @@ module _ {S : Type 0} (g : Ghosts S) (old new : StoreModel S) where
       pub read : ReadsWhole from to receipt.identity records
       pub reply_is : RepliesWith (Fragment receipt.identity records)
           (Accepted receipt.identity receipt.new receipt.known)
-      pub leaves : LeavesSubmitted (Fragment receipt.identity records)
+      pub leaves : CommitsSubmission (Fragment receipt.identity records)
 
     -- the input tells this, and this is how it is refused; what is held stays, and a crash leaves
     -- what it could leave before
@@ -80,25 +80,25 @@ module _ {S : Type 0} (g : Ghosts S) (old new : StoreModel S) where
         × Refuses (Fragment key records) answer
 
     -- a read failed; what is held stays, and a crash leaves what it could leave before
-    pub record FailsThere : Type 0 where
+    pub record IsReadFailure : Type 0 where
       pub read : FailsToRead from to
       pub stays : KeepsHoldings g old new
 
     -- memory ran out or the store refused; what is held stays. Only after E41 and E42, and where
     -- the whole input was read and tells a fragment, may a crash leave that it was submitted
-    abbrev pub StopsThere : Answer → Type 0
-    StopsThere answer = (KeepsHoldings g old new × ReadsFront from to)
+    abbrev pub IsInterrupted : Answer → Type 0
+    IsInterrupted answer = (KeepsHoldings g old new × ReadsPrefix from to)
         ⊎ (IsInDoubt answer × ((key : Key) × (records : List DataRecord)
-        × ReadsWhole from to key records × MayLeave (Fragment key records)))
+        × ReadsWhole from to key records × MayHaveCommitted (Fragment key records)))
 
     -- each cause of a refusal, what it says of the input and what is left
     abbrev pub IsRefusedFor : Cause → Type 0
     IsRefusedFor (OfForm fault) = Refuses (Fault fault) (Form fault)  -- of form
     IsRefusedFor (OfConflict conflict) = RefusesFragment (Conflicts conflict)  -- from E30 on
-    IsRefusedFor OfRead = FailsThere  -- E40
-    IsRefusedFor OfMemory = StopsThere (Err refusal.Memory)  -- E41
+    IsRefusedFor OfRead = IsReadFailure  -- E40
+    IsRefusedFor OfMemory = IsInterrupted (Err refusal.Memory)  -- E41
     -- E42, E45
-    IsRefusedFor (OfStore fault) = StopsThere (Err (refusal.Store fault))
+    IsRefusedFor (OfStore fault) = IsInterrupted (Err (refusal.Store fault))
         × IsRefusal g (IsBusy g old) new fault
 
     -- each answer, what it says of the input and what it leaves

@@ -8,7 +8,7 @@ ghost use Rattle.edf_holdings.specs.Holdings.{Holdings};
 ghost use Rattle.edf_holdings.specs.Reply.{reply};
 ghost use Rattle.edf_intake.specs.Inside.Halt.{fragment_refusal};
 ghost use Rattle.edf_intake.specs.Inside.Taken.{IsConflict, MayBeAccepted};
-ghost use Rattle.edf_intake.specs.Inside.Verdict.{IsRoom, AreFindings};
+ghost use Rattle.edf_intake.specs.Inside.Verdict.{IsSpare, AreFindings};
 ghost use Rattle.edf_intake.specs.Refusal.{refusal_number, refusal_name, reply_of};
 
 use crate::data_records::{Destination, Findings, Starts};
@@ -168,7 +168,7 @@ pub(crate) fn conflict(destination: Destination, cap: u32, findings: Findings) -
     ensures refused { IfSome result IsConflict }
     ensures answer { IfSome result (λ refusal.
         (key : Key) (h : Holdings) (records : List DataRecord) →
-        IsRoom cap (length (h key)) (length records) destination.room →
+        IsSpare cap (length (h key)) (length records) destination.room →
         AreFindings key h records findings →
         reply_of (Err refusal) ≡ Some (reply cap h (Fragment key records))) }
 {

@@ -6,7 +6,7 @@ ghost use Rattle.edf_store.specs.StoreTx.{HasCauseOrIsUnclean, ReadsInTransactio
 ghost use Rattle.edf_fragment.specs.Call.{input_state};
 ghost use Rattle.edf_intake.specs.Inside.Transaction.{IsRunningFor, KeepsRunning};
 ghost use Rattle.edf_intake.specs.Inside.Gap.{IsGapInside};
-ghost use Rattle.edf_intake.specs.Inside.Verdict.{IsVerdict, IsRoomInside};
+ghost use Rattle.edf_intake.specs.Inside.Verdict.{IsVerdict, IsSpareInside};
 ghost use Rattle.edf_intake.specs.Inside.Course.{IsFoundFor, MayBeNext, IsRecordTaken};
 ghost use Rattle.edf_intake.specs.Inside.Halt.{HaltsAfterHeader};
 ghost use Rattle.edf_intake.specs.Inside.Taken.{HasReadHeader, AreTaken};
@@ -192,7 +192,7 @@ pub(crate) fn take_records<S: Alter, R: Input>(
     requires running { IsRunningFor S.Store transaction.old destination.id.row
         fragment.old.header.key }
     // As many are added as there is room for, so the room must not reach past the cap.
-    requires room { IsRoomInside S.Store transaction.old fragment.old.header.key
+    requires room { IsSpareInside S.Store transaction.old fragment.old.header.key
         (most_records fragment.old.header.count) destination.room }
     requires header { HasReadHeader (R.remaining input.old) fragment.old.header
         fragment.old.progress }

@@ -7,7 +7,7 @@ ghost use Rattle.edf_store.specs.Transaction.{EachHasRecord};
 ghost use Rattle.edf_store.specs.StoreTx.{IsRunning, ReadsInTransaction, KeepsTransaction};
 ghost use Rattle.edf_fragment.specs.Call.{input_state};
 ghost use Rattle.edf_intake.specs.Inside.Transaction.{IsRunningFor, KeepsRunning};
-ghost use Rattle.edf_intake.specs.Inside.Verdict.{IsRoomInside};
+ghost use Rattle.edf_intake.specs.Inside.Verdict.{IsSpareInside};
 ghost use Rattle.edf_intake.specs.Inside.Taken.{IsDestination, IsAcceptedInside, IsStop};
 
 use crate::answer::{Receipt, Stop, conflict};
@@ -29,7 +29,7 @@ fn known_room<S: Alter>(
     requires running { IsRunningFor S.Store transaction.old id.row identity.now }
     ensures leaves { ReadsInTransaction S.Store transaction.old transaction.new result HasCause }
     ensures room { IfOk result (λ found. IfSome found
-        (IsRoomInside S.Store transaction.new identity.now (most_records count))) }
+        (IsSpareInside S.Store transaction.new identity.now (most_records count))) }
 {
     let Some(count) = count else {
         return Ok(None);

@@ -15,8 +15,9 @@ use Rattle.edf_holdings.proofs.Accepted.{after_has_accepted}
 use Rattle.edf_holdings.proofs.Added.{nothing_is_sound}
 use Rattle.edf_holdings.proofs.Settled.{after-append}
 use Rattle.edf_intake.specs.Refusal.{reply_of}
-use Rattle.edf_intake.specs.Batch.{Turn, IsTurn, somes, submissions_in, replies_in, AgreesWith}
-use Rattle.edf_intake.specs.Batch.{MayBeAnswered}
+use Rattle.edf_intake.specs.Batch.{Turn, IsTurn, some_values, submissions_in, replies_in}
+use Rattle.edf_intake.specs.Batch.{AgreesWith}
+use Rattle.edf_intake.specs.Batch.{IsPossibleReply}
 use Rattle.edf_intake.specs.declared.answer.Receipt.{Receipt}
 use Rattle.edf_program_run.specs.Files.{Keeps, no_table, one_table, both_tables, FilesKeep}
 use Rattle.edf_program_run.specs.Turns.{ended, StepsBy}
@@ -42,12 +43,14 @@ same_told o k key records is told = told ∙ ap (λ (q : Key). Some (Fragment q 
 
 met_first : (cap : ℕ) (h : Holdings) (t : Turn) (o : Option Parsed) (p : Option Reply) (key : Key)
     (new known : ℕ) (os : List (Option Parsed)) (ps : List (Option Reply)) → AgreesWith t o p →
-    p ≡ Some (Accepted key new known) → somes (p ∷ ps) ≡ replies cap h (somes (o ∷ os)) →
+    p ≡ Some (Accepted key new known) →
+    some_values (p ∷ ps) ≡ replies cap h (some_values (o ∷ os)) →
     Met cap h o key new known
 met_first cap h t (Some (Fragment k records)) (Some answer) key new known os ps goes is same =
     let answered : answer ≡ Accepted key new known = cc in
     let head : answer ≡ reply cap h (Fragment k records) = cc in
-    let named : key ≡ k = subst (λ (r : Reply). MayBeAnswered (Fragment k records) r) answered goes.1
+    let named : key ≡ k = subst (λ (r : Reply). IsPossibleReply (Fragment k records) r) answered
+    goes.1
     in
     record {
       records = records;
@@ -63,8 +66,8 @@ met_first cap h t None None key new known os ps goes is same = absurd (cc)
 
 past_first : (cap : ℕ) (h : Holdings) (t : Turn) (o : Option Parsed) (p : Option Reply)
     (os : List (Option Parsed)) (ps : List (Option Reply)) → AgreesWith t o p →
-    somes (p ∷ ps) ≡ replies cap h (somes (o ∷ os)) →
-    somes ps ≡ replies cap (after cap h (somes (o ∷ []))) (somes os)
+    some_values (p ∷ ps) ≡ replies cap h (some_values (o ∷ os)) →
+    some_values ps ≡ replies cap (after cap h (some_values (o ∷ []))) (some_values os)
 past_first cap h t (Some told) (Some answer) os ps goes same = cc
 past_first cap h t (Some told) None os ps goes same = absurd goes
 past_first cap h t None (Some answer) os ps goes same = absurd goes
@@ -72,21 +75,22 @@ past_first cap h t None None os ps goes same = same
 
 met_at : (cap : ℕ) (h : Holdings) (before behind : List Turn) (t : Turn) (key : Key)
     (new known : ℕ) → AllByRecursion IsTurn (before ++ t ∷ behind) →
-    somes (replies_of (before ++ t ∷ behind))
-    ≡ replies cap h (somes (tolds_of (before ++ t ∷ behind))) →
+    some_values (replies_of (before ++ t ∷ behind))
+    ≡ replies cap h (some_values (tolds_of (before ++ t ∷ behind))) →
     reply_of t.answer ≡ Some (Accepted key new known) →
-    Met cap (after cap h (somes (tolds_of before))) t.submission key new known
+    Met cap (after cap h (some_values (tolds_of before))) t.submission key new known
 met_at cap h [] behind t key new known all same is =
     met_first cap h t t.submission (reply_of t.answer) key new known (tolds_of behind)
     (replies_of behind) all.0 is same
 met_at cap h (b ∷ bs) behind t key new known all same is =
     let next = past_first cap h b b.submission (reply_of b.answer) (tolds_of (bs ++ t ∷ behind))
     (replies_of (bs ++ t ∷ behind)) all.0 same in
-    let later = met_at cap (after cap h (somes (b.submission ∷ []))) bs behind t key new known all.1
+    let later = met_at cap (after cap h (some_values (b.submission ∷ []))) bs behind t key new known
+    all.1
     next
     is in
     subst (λ (k : Holdings). Met cap k t.submission key new known)
-    (sym (after-append cap h (somes (b.submission ∷ [])) (somes (tolds_of bs)))
+    (sym (after-append cap h (some_values (b.submission ∷ [])) (some_values (tolds_of bs)))
     ∙ sym (ap (after cap h) (somes_first b.submission (tolds_of bs)))) later
 
 -- ---- its data records are held in the end
@@ -122,10 +126,10 @@ has_accepted cap h turns sound each same before behind t receipt splits is =
     let list : submissions_in turns
     ≡ submissions_in before ++ (Fragment key it.records ∷ submissions_in behind) =
     ap submissions_in splits
-    ∙ ap somes (map-append (λ (u : Turn). u.submission) before (t ∷ behind))
+    ∙ ap some_values (map-append (λ (u : Turn). u.submission) before (t ∷ behind))
     ∙ somes-append (tolds_of before) (tolds_of (t ∷ behind))
     ∙ ap (λ (o : Option Parsed). submissions_in before
-    ++ somes (o ∷ tolds_of behind)) it.submission in (
+    ++ some_values (o ∷ tolds_of behind)) it.submission in (
       it.records,
       it.submission,
       λ r has. (after_has_accepted cap h (submissions_in turns) key r sound

@@ -12,7 +12,7 @@ use Rattle.edf_holdings.specs.Laws.{AreWellFormed}
 use Rattle.edf_holdings.proofs.Settled.{after-append}
 use Rattle.edf_intake.specs.Refusal.{Answer, reply_of}
 use Rattle.edf_intake.specs.Input.{ReadsAs}
-use Rattle.edf_intake.specs.Batch.{Turn, somes, submissions_in, AgreesWith, IsTurn}
+use Rattle.edf_intake.specs.Batch.{Turn, some_values, submissions_in, AgreesWith, IsTurn}
 use Rattle.edf_intake.specs.declared.answer.Refusal.TheVariants as refusal
 use Rattle.edf_intake.proofs.Turns.{told-next, all-next, sound_told}
 use Rattle.edf_export.proofs.Headline.{headline}
@@ -29,13 +29,13 @@ sound_append [] ys one two = two
 sound_append (x ∷ xs) ys one two = (one.0, sound_append xs ys one.1 two)
 
 sound_turn : (t : Turn) (told : Option Parsed) (r : Option Reply) → AgreesWith t told r →
-    AreWellFormed (somes (told ∷ []))
+    AreWellFormed (some_values (told ∷ []))
 sound_turn t (Some x) (Some answer) h = (sound_told t.from t.to x h.0, tt)
 sound_turn t (Some x) None h = absurd h
 sound_turn t None r h = tt
 
 pub somes_first : (o : Option Parsed) (os : List (Option Parsed)) →
-    somes (o ∷ os) ≡ somes (o ∷ []) ++ somes os
+    some_values (o ∷ os) ≡ some_values (o ∷ []) ++ some_values os
 somes_first (Some x) os = refl
 somes_first None os = refl
 

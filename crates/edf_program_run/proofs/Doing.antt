@@ -19,7 +19,7 @@ use Rattle.edf_store.proofs.Held.{others_committed_then}
 use Rattle.edf_intake.specs.Refusal.{Answer}
 use Rattle.edf_fragment.specs.Call.{InputState}
 use Rattle.edf_intake.specs.Submitted.{IsSubmitted}
-use Rattle.edf_intake.specs.Batch.{Turn, somes, AreUnended, AreLeftBy}
+use Rattle.edf_intake.specs.Batch.{Turn, some_values, MayHaveCommittedNext, MayRemainAfterCrash}
 use Rattle.edf_intake.proofs.Turns.{IsMade, turn_of}
 use Rattle.edf_intake.proofs.Batches.{in_turn}
 use Rattle.edf_command.specs.Arguments.{Asked}
@@ -70,9 +70,9 @@ module _ {S : Type 0} (g : Ghosts S) where
   -- ---- one
 
   left_by : (cap : ℕ) (h : Holdings) (u : Turn) (rows : Trees) →
-      RepresentCommitted cap rows (after cap h (somes (u.submission ∷ [])))
-      ⊎ AreUnended cap h (u ∷ []) rows →
-      AreLeftBy cap h (u ∷ []) rows
+      RepresentCommitted cap rows (after cap h (some_values (u.submission ∷ [])))
+      ⊎ MayHaveCommittedNext cap h (u ∷ []) rows →
+      MayRemainAfterCrash cap h (u ∷ []) rows
   left_by cap h u rows (inl kept) = record {
     first = u ∷ [];
     rest = [];

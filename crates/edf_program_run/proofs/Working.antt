@@ -21,7 +21,7 @@ use Rattle.edf_rows.specs.Rows.{RepresentCommitted}
 use Rattle.edf_store.specs.Held.{StoreModel, at, Holds}
 use Rattle.edf_store.specs.Open.{IsOpened, IsReturned}
 use Rattle.edf_store.specs.declared.fault.StoreFault.{StoreFault}
-use Rattle.edf_intake.specs.Batch.{Turn, submissions_in, AreUnended, AreLeftBy}
+use Rattle.edf_intake.specs.Batch.{Turn, submissions_in, MayHaveCommittedNext, MayRemainAfterCrash}
 use Rattle.edf_program.specs.Output.{Growth}
 use Rattle.edf_program.specs.declared.status.Status.{Status}
 use Rattle.edf_program_run.specs.Files.{Keeps, both_tables}
@@ -41,7 +41,8 @@ pub record FrontKept (cap : ℕ) (turns : List Turn) (h : Holdings) (rows : Tree
   pub kept : RepresentCommitted cap rows (after cap h submissions)
 
 unended_front : (cap : ℕ) (turns first rest : List Turn) (h : Holdings) (rows : Trees) →
-    turns ≡ first ++ rest → AreUnended cap (after cap h (submissions_in first)) rest rows →
+    turns ≡ first ++ rest → MayHaveCommittedNext cap
+    (after cap h (submissions_in first)) rest rows →
     FrontKept cap turns h rows
 unended_front cap turns first [] h rows splits none = absurd none
 unended_front cap turns first (t ∷ ts) h rows splits u = record {
@@ -58,7 +59,7 @@ unended_front cap turns first (t ∷ ts) h rows splits u = record {
 }
 
 front_kept : (cap : ℕ) (turns : List Turn) (h : Holdings) (rows : Trees) →
-    AreLeftBy cap h turns rows → FrontKept cap turns h rows
+    MayRemainAfterCrash cap h turns rows → FrontKept cap turns h rows
 front_kept cap turns h rows l = elim l.stand [
   | inl kept ↦ record {
     submissions = submissions_in l.first;

@@ -12,7 +12,7 @@ use Rattle.edf_holdings.specs.Laws.{AreWellFormed}
 use Rattle.edf_store.specs.Held.{StoreModel, at, Holds, KeepsOtherTables}
 use Rattle.edf_intake.specs.Refusal.{IsInDoubt}
 use Rattle.edf_intake.specs.Input.{ReadsAs}
-use Rattle.edf_intake.specs.Batch.{Turn, IsTurn, submissions_in, replies_in, AreLeftBy}
+use Rattle.edf_intake.specs.Batch.{Turn, IsTurn, submissions_in, replies_in, MayRemainAfterCrash}
 use Rattle.edf_export.specs.Headline.{Headline}
 use Rattle.edf_program_run.specs.Files.{FilesKeep}
 
@@ -29,7 +29,7 @@ pub record TakesTurns {S : Type 0} (g : Ghosts S) (old new : StoreModel S) (turn
       Holds g new (after old.cap h (submissions_in turns))
   pub others : KeepsOtherTables (at g old) (at g new)
   pub crash : Survives (at g old) (at g new) (λ rows. (h : Holdings) → Holds g old h →
-      AreLeftBy old.cap h turns rows)
+      MayRemainAfterCrash old.cap h turns rows)
 
 -- what some first of these turns submitted, and perhaps the next, whose answer is E41 or E42
 pub record IsFront (turns : List Turn) (submissions : List Parsed) : Type 0 where

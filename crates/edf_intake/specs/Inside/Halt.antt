@@ -31,16 +31,16 @@ store_refusal store.Memory = Memory
 store_refusal fault = Refused fault
 
 -- the input has a fault, or reading it failed; or the store refused after some data records
-abbrev pub HaltsThere : {S : Type 0} → Ghosts S → StoreTx S → InputState → InputState → Stop →
+abbrev pub HaltsReading : {S : Type 0} → Ghosts S → StoreTx S → InputState → InputState → Stop →
     Type 0
-HaltsThere g tx from to (Input refusal) = (fault : FragmentFault)
+HaltsReading g tx from to (Input refusal) = (fault : FragmentFault)
     × (refusal ≡ fragment_refusal fault)
     × IsFragmentFault from.remaining to.remaining fault × CountsFault from.failed to.failed fault
-HaltsThere g tx from to (Store fault) = ReadsSome from to × HasCauseOrIsUnclean g tx fault
+HaltsReading g tx from to (Store fault) = ReadsSome from to × HasCauseOrIsUnclean g tx fault
 
 -- the same, said of what was read of the input from its header on
 abbrev pub HaltsAfterHeader : {S : Type 0} → Ghosts S → StoreTx S → Layout → InputState →
     InputState → Stop → Type 0
 HaltsAfterHeader g tx layout from to stop = (before : Option (List ℕ)) →
     ReadsHeader before from.remaining layout →
-    HaltsThere g tx (record from { remaining = before }) to stop
+    HaltsReading g tx (record from { remaining = before }) to stop

@@ -18,8 +18,8 @@ use Rattle.edf_store.specs.StoreTx.{HasCauseOrIsUnclean}
 use Rattle.edf_store.specs.declared.transaction.StoreTx.{StoreTx}
 use Rattle.edf_fragment.specs.Call.{InputState}
 use Rattle.edf_intake.specs.Input.{ReadsWhole, ReadsFault, FailsToRead, ReadsSome}
-use Rattle.edf_intake.specs.Input.{LacksMemory}
-use Rattle.edf_intake.specs.Inside.Verdict.{IsRoomInside, AreFindings}
+use Rattle.edf_intake.specs.Input.{RunsOutOfMemory}
+use Rattle.edf_intake.specs.Inside.Verdict.{IsSpareInside, AreFindings}
 use Rattle.edf_intake.specs.declared.answer.Receipt.{Receipt}
 use Rattle.edf_intake.specs.declared.answer.Refusal.{Refusal}
 use Rattle.edf_intake.specs.Refusal.{Cause, OfForm, OfConflict, OfRead, OfMemory, OfStore}
@@ -55,7 +55,7 @@ module _ {S : Type 0} (g : Ghosts S) (old new : StoreTx S) where
     pub recording : IsOf g new.store.now destination.id.row key
     pub same : (h : Holdings) → Sees g old.store.now h → Sees g new.store.now h
     pub only : AddsOnlyRecording g key old.store.now new.store.now
-    pub room : IsRoomInside g new key asked destination.room
+    pub room : IsSpareInside g new key asked destination.room
 
   -- all data records up to the end of the input were read, no read failed, and this was found of
   -- them; what is new was added, where the fragment may be accepted
@@ -96,7 +96,7 @@ module _ {S : Type 0} (g : Ghosts S) (old new : StoreTx S) where
     StopsFor (OfForm fault) = ReadsFault from to fault
     StopsFor (OfConflict conflict) = IsConflictInside (Conflicts conflict)
     StopsFor OfRead = FailsToRead from to
-    StopsFor OfMemory = LacksMemory from to
+    StopsFor OfMemory = RunsOutOfMemory from to
     StopsFor (OfStore fault) = ⊥
 
     -- why nothing is to be committed

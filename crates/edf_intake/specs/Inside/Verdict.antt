@@ -21,15 +21,15 @@ use Rattle.edf_intake.specs.declared.data_records.Findings.{Findings}
 
 -- room in a recording that holds `held`, never past the cap: all that the cap leaves, or at least
 -- what is asked for
-pub record IsRoom (cap held asked room : ℕ) : Type 0 where
+pub record IsSpare (cap held asked room : ℕ) : Type 0 where
   pub fits : held + room ≤ cap
   pub enough : (held + room ≡ cap) ⊎ (asked ≤ room)
 
 -- the key's recording has this room, as the transaction sees it on a disk that returns what was
 -- written
-abbrev pub IsRoomInside : {S : Type 0} → Ghosts S → StoreTx S → Key → ℕ → ℕ → Type 0
-IsRoomInside g tx key asked room = HasCleanDisk (at g tx.store.now) → (h : Holdings) →
-    Sees g tx.store.now h → IsRoom tx.store.now.cap (length (h key)) asked room
+abbrev pub IsSpareInside : {S : Type 0} → Ghosts S → StoreTx S → Key → ℕ → ℕ → Type 0
+IsSpareInside g tx key asked room = HasCleanDisk (at g tx.store.now) → (h : Holdings) →
+    Sees g tx.store.now h → IsSpare tx.store.now.cap (length (h key)) asked room
 
 -- what the stored records near one say of it
 abbrev pub IsVerdict : DataRecord → List DataRecord → Verdict → Type 0

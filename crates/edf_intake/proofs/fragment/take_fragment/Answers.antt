@@ -15,9 +15,9 @@ use Rattle.edf_store.proofs.Faults.{with_cause}
 use Rattle.edf_store.proofs.Readiness.{stays_then}
 use Rattle.edf_fragment.specs.Call.{input_state}
 use Rattle.edf_intake.specs.Refusal.{reply_of}
-use Rattle.edf_intake.specs.Inside.Verdict.{IsRoom, AreFindings}
+use Rattle.edf_intake.specs.Inside.Verdict.{IsSpare, AreFindings}
 use Rattle.edf_intake.specs.Inside.Transaction.{IsRunningFor, KeepsRunning}
-use Rattle.edf_intake.specs.Inside.Halt.{fragment_refusal, HaltsThere}
+use Rattle.edf_intake.specs.Inside.Halt.{fragment_refusal, HaltsReading}
 use Rattle.edf_intake.specs.Inside.Taken.{IsDestination, IsAcceptedInside, IsStop}
 use Rattle.edf_intake.specs.declared.data_records.Destination.{Destination}
 use Rattle.edf_intake.specs.declared.data_records.Findings.{Findings}
@@ -45,14 +45,14 @@ destination_of g first made k l count d named counted there =
 -- the answer to the whole fragment, under the cap that the store has
 answered : (m n room : ℕ) (k : Key) (records : List DataRecord) (findings : Findings)
     (refusal : Refusal) → m ≡ n
-    → ((h : Holdings) → IsRoom m (length (h k)) (length records) room →
+    → ((h : Holdings) → IsSpare m (length (h k)) (length records) room →
     AreFindings k h records findings →
     reply_of (Err refusal) ≡ Some (reply m h (Fragment k records)))
-    → (h : Holdings) → IsRoom n (length (h k)) (length records) room →
+    → (h : Holdings) → IsSpare n (length (h k)) (length records) room →
     AreFindings k h records findings →
     reply_of (Err refusal) ≡ Some (reply n h (Fragment k records))
 answered m n room k records findings refusal capped answer =
-    subst (λ (x : ℕ). (h : Holdings) → IsRoom x (length (h k)) (length records) room →
+    subst (λ (x : ℕ). (h : Holdings) → IsSpare x (length (h k)) (length records) room →
     AreFindings k h records findings →
     reply_of (Err refusal) ≡ Some (reply x h (Fragment k records))) capped answer
 
@@ -228,7 +228,7 @@ returns-in_err-findings-clause-stopped g c =
     (λ (r : Result Receipt Stop). IfErr r (IsStop g.S.Store first last from to))
     c.from_residual-in_err-findings.ensures.1
     (halted g.S.Store first last from to stop
-    (subst (λ (n : ℕ). HaltsThere g.S.Store last
+    (subst (λ (n : ℕ). HaltsReading g.S.Store last
     (record { remaining = from.remaining; failed = n }) to stop)
     c.in_ok-fragment.ensures.counted
     (c.in_err-findings.ensures.halted from.remaining c.in_ok-fragment.ensures.step.0)))
