@@ -11,7 +11,7 @@ use Rattle.edf_fragment.specs.Sound.{AreSound}
 use Rattle.edf_fragment.proofs.Sound.{sound_sizes}
 use Rattle.edf_canonical.specs.File.{second_of, record_text, BlocksFit, IsCanonicalFile}
 use Rattle.edf_canonical.specs.Measure.{IsMeasured, records_text, planned_text}
-use Rattle.edf_canonical.specs.Output.{WritesFront}
+use Rattle.edf_canonical.specs.Output.{WritesPrefix}
 use Rattle.edf_canonical.specs.declared.measure.Measure.{Measure}
 use Rattle.edf_canonical.proofs.Files.{canonical}
 use Rattle.edf_canonical.proofs.Written.{laid-out, file-length}
@@ -53,7 +53,7 @@ length_of k rs m header sound is =
 
 -- a front of a text is one of the text and more
 pub front_more : (before after : Option (List ℕ)) (text more file : List ℕ) → file ≡ text ++ more →
-    WritesFront before after text → WritesFront before after file
+    WritesPrefix before after text → WritesPrefix before after file
 front_more before after text more file is w = record {
   front = w.front;
   remaining = w.remaining ++ more;

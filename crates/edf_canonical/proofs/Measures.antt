@@ -10,7 +10,7 @@ use Rattle.std.proofs.lemmas.List.Elements.{Contains-push}
 use Rattle.edf_header.specs.declared.limits.TheConstants.{MOST_RECORDS}
 use Rattle.edf_fragment.specs.Fragment.{DataRecord}
 use Rattle.edf_canonical.specs.File.{second_of, block_of, record_text, BlocksFit}
-use Rattle.edf_canonical.specs.Measure.{IsMeasured, IsNoMore, StartsAt, MayComeFirst}
+use Rattle.edf_canonical.specs.Measure.{IsMeasured, IsWithinMeasure, StartsAt, MayBePrefix}
 use Rattle.edf_canonical.specs.Measure.{records_text}
 use Rattle.edf_canonical.specs.Output.{Buffered, Writes}
 use Rattle.edf_canonical.specs.declared.measure.Measure.{Measure}
@@ -74,7 +74,7 @@ first_start (r ∷ rs) = r.start
 
 -- the first ones have no more, and no longer blocks
 pub no_more : (records later all : List DataRecord) (m whole : Measure) → all ≡ records ++ later →
-    IsMeasured records m → IsMeasured all whole → IsNoMore m whole
+    IsMeasured records m → IsMeasured all whole → IsWithinMeasure m whole
 unfolding first_start
 no_more records later all m whole parts a b =
     let first : m.first ≡ whole.first = a.start
@@ -99,7 +99,7 @@ starts_at records m is = subst (StartsAt m.first) (sym is.parts) is.start
 
 -- so they may come first
 pub may_come : (records : List DataRecord) (m whole : Measure) → IsMeasured records m →
-    IsNoMore m whole → MayComeFirst records whole
+    IsWithinMeasure m whole → MayBePrefix records whole
 may_come records m whole is few = record {
   starts = subst (λ n. StartsAt n records) few.first (starts_at records m is);
   within = omega (arith, is.count, few.records);
@@ -111,7 +111,7 @@ may_come records m whole is few = record {
 
 -- all of them have this measure
 pub whole_measured : (records : List DataRecord) (m whole : Measure) → IsMeasured records m →
-    MayComeFirst records whole → m.records ≡ whole.records →
+    MayBePrefix records whole → m.records ≡ whole.records →
     m.block_samples ≡ whole.block_samples → IsMeasured records whole
 whole_measured records m whole is may count block =
     let first : whole.first ≡ is.first.start = subst (StartsAt whole.first) is.parts may.starts in
@@ -129,7 +129,7 @@ whole_measured records m whole is may count block =
 
 -- the first of some that are measured may come first
 pub front_first : (records later all : List DataRecord) (whole : Measure) →
-    all ≡ records ++ later → IsMeasured all whole → MayComeFirst records whole
+    all ≡ records ++ later → IsMeasured all whole → MayBePrefix records whole
 front_first records later all whole parts is =
     let held : BlocksFit (second_of whole.first) whole.block_samples (records ++ later) =
     subst (BlocksFit (second_of whole.first) whole.block_samples) parts is.holds in
@@ -153,7 +153,7 @@ front_first records later all whole parts is =
 
 -- those that may come first have no more
 pub first-no-more : (records : List DataRecord) (m whole : Measure) → IsMeasured records m →
-    MayComeFirst records whole → IsNoMore m whole
+    MayBePrefix records whole → IsWithinMeasure m whole
 first-no-more records m whole is may =
     let first : whole.first ≡ is.first.start = subst (StartsAt whole.first) is.parts may.starts in
     let same : whole.first ≡ m.first = first ∙ sym is.start in
@@ -226,7 +226,7 @@ same_measure records m whole a b =
     let two = no_more records [] records whole m (sym (append-nil records)) b a in
     (omega (arith, one.records, two.records), omega (arith, one.samples, two.samples))
 
-pub none_first : (m : Measure) → MayComeFirst [] m
+pub none_first : (m : Measure) → MayBePrefix [] m
 none_first m = record {
   starts = tt;
   within = omega arith;
@@ -234,6 +234,6 @@ none_first m = record {
 }
 
 pub all_first : (records : List DataRecord) (m : Measure) → IsMeasured records m →
-    MayComeFirst records m
+    MayBePrefix records m
 all_first records m is = may_come records m m is
     (record { first = refl; records = omega arith; samples = omega arith })

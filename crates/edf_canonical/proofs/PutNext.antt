@@ -10,7 +10,7 @@ use Rattle.edf_fragment.specs.Fragment.{DataRecord}
 use Rattle.edf_fragment.specs.Sound.{IsSoundRecord, IsValidRecord}
 use Rattle.edf_canonical.specs.File.{second_of, block_of, record_text}
 use Rattle.edf_canonical.specs.Kept.{annotated, annotated_one}
-use Rattle.edf_canonical.specs.Measure.{IsMeasured, IsMeasuredSoFar, IsNoMore, MayComeFirst}
+use Rattle.edf_canonical.specs.Measure.{IsMeasured, IsMeasuredSoFar, IsWithinMeasure, MayBePrefix}
 use Rattle.edf_canonical.specs.Measure.{HoldsBlock, records_text}
 use Rattle.edf_canonical.specs.Output.{Buffered, Writes}
 use Rattle.edf_canonical.specs.Sending.{next_text, PutsNext, SendsAll, StopsAfter}
@@ -31,7 +31,7 @@ use Rattle.edf_canonical.proofs.Sourced.{gives-more}
 module _ (whole : Measure) (kept : List DataRecord) (nth : ℕ) (r one : DataRecord)
     (is : one ≡ unwrap_or (slice_get kept nth) r) where
   -- its block is held
-  pub block-held : (m : Measure) → HoldsBlock m one → IsNoMore m whole →
+  pub block-held : (m : Measure) → HoldsBlock m one → IsWithinMeasure m whole →
       length (block_of (second_of whole.first) (annotated_one (slice_get kept nth) r))
       ≤ 2 * whole.block_samples
   block-held m holds few =
@@ -76,8 +76,8 @@ module _ (whole : Measure) (kept : List DataRecord) (nth : ℕ) (r one : DataRec
 
 -- ---- so far
 
-pub none-first : (m : Measure) (kept : List DataRecord) → MayComeFirst (annotated kept []) m
-none-first m kept = subst (λ x. MayComeFirst x m) (sym (annotated-none kept)) (none_first m)
+pub none-first : (m : Measure) (kept : List DataRecord) → MayBePrefix (annotated kept []) m
+none-first m kept = subst (λ x. MayBePrefix x m) (sym (annotated-none kept)) (none_first m)
 
 pub sound-more : (k : Key) (rs : List DataRecord) (q : DataRecord) →
     AllByRecursion (IsSoundRecord k) rs → IsSoundRecord k q →
@@ -102,7 +102,7 @@ pub record SoPut {S F R E : Type 0}
   pub sound : (k : Key) → AllByRecursion (IsSoundRecord k) records →
       AllByRecursion (IsSoundRecord k) (annotated kept records)
   pub measured : IsMeasuredSoFar (annotated kept records) so_far
-  pub first : MayComeFirst (annotated kept records) whole
+  pub first : MayBePrefix (annotated kept records) whole
   pub wrote : Writes before after (records_text whole (annotated kept records)) after.held
   pub counted : after.failures ≡ before.failures
 

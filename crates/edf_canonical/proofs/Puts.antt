@@ -4,8 +4,9 @@ use Rattle.std.proofs.Common.{append_assoc, append-nil, take-append-drop, Option
 use Rattle.std.specs.Io.KnownBytes.{Appends}
 use Rattle.std.proofs.KnownBytes.{Appends-trans, Appends-nil}
 use Rattle.edf_fragment.specs.Failures.{saturating_increment}
-use Rattle.edf_canonical.specs.Output.{Buffered, Writes, CountsOutputFault, IsPutThrough, IsFlushed}
-use Rattle.edf_canonical.specs.Output.{WritesFront}
+use Rattle.edf_canonical.specs.Output.{Buffered, Writes, CountsOutputFault, IsWrittenOrBuffered}
+use Rattle.edf_canonical.specs.Output.{IsFlushed}
+use Rattle.edf_canonical.specs.Output.{WritesPrefix}
 use Rattle.edf_canonical.specs.declared.fault.OutputFault.{OutputFault}
 use Rattle.edf_canonical.specs.declared.fault.OutputFault.TheVariants.{Write}
 
@@ -93,7 +94,7 @@ holds-none a b bytes same = (
 
 -- from an empty buffer, a front of all
 pub front-written : (a b : Buffered) (bytes all more left : List ℕ) → a.held ≡ [] → all ≡ bytes
-    ++ more → Writes a b bytes left → WritesFront a.contents b.contents all
+    ++ more → Writes a b bytes left → WritesPrefix a.contents b.contents all
 front-written a b bytes all more left none all-is p = record {
   front = p.front;
   remaining = left ++ more;
@@ -123,7 +124,7 @@ counted-after old mid new fault same counts =
 
 -- a fault of the flush before
 pub flush-refused : (a b : Buffered) (bytes : List ℕ) (fault : OutputFault) →
-    IsFlushed a b (Err fault) → IsPutThrough a b bytes (Err fault)
+    IsFlushed a b (Err fault) → IsWrittenOrBuffered a b bytes (Err fault)
 flush-refused a b bytes fault f = (
   (f.0.0 ++ bytes, writes-no-more a b [] bytes f.0.0 f.0.1),
   subst (CountsOutputFault a.failures b.failures) (sym f.1) f.2,
@@ -131,8 +132,8 @@ flush-refused a b bytes fault f = (
 
 -- bytes after others that were put
 pub put-after : (a b c : Buffered) (x y : List ℕ) (result : Result (Unit {0}) OutputFault) →
-    Writes a b x b.held → b.failures ≡ a.failures → IsPutThrough b c y result →
-    IsPutThrough a c (x ++ y) result
+    Writes a b x b.held → b.failures ≡ a.failures → IsWrittenOrBuffered b c y result →
+    IsWrittenOrBuffered a c (x ++ y) result
 put-after a b c x y (Ok u) w same p = (writes-then a b c x y c.held w p.0, p.1 ∙ same)
 put-after a b c x y (Err fault) w same p = (
   (p.0.0, writes-then a b c x y p.0.0 w p.0.1),
@@ -141,48 +142,50 @@ put-after a b c x y (Err fault) w same p = (
 
 -- and after a flush
 pub put-flushed : (a b c : Buffered) (bytes : List ℕ) (result : Result (Unit {0}) OutputFault)
-    (u : Unit {0}) → IsFlushed a b (Ok u) → IsPutThrough b c bytes result →
-    IsPutThrough a c bytes result
+    (u : Unit {0}) → IsFlushed a b (Ok u) → IsWrittenOrBuffered b c bytes result →
+    IsWrittenOrBuffered a c bytes result
 put-flushed a b c bytes result u f p =
     put-after a b c [] bytes result (subst (Writes a b []) (sym f.1) f.0) f.2 p
 
 -- bytes that fail leave those after them
 pub put-fails : (a b : Buffered) (x y : List ℕ) (fault : OutputFault) →
-    IsPutThrough a b x (Err fault) → IsPutThrough a b (x ++ y) (Err fault)
+    IsWrittenOrBuffered a b x (Err fault) → IsWrittenOrBuffered a b (x ++ y) (Err fault)
 put-fails a b x y fault p = ((p.0.0 ++ y, writes-no-more a b x y p.0.0 p.0.1), p.1)
 
 -- the same, of bytes that are these
 pub put-then : (a b c : Buffered) (x y all : List ℕ) (u : Unit {0})
-    (result : Result (Unit {0}) OutputFault) → all ≡ x ++ y → IsPutThrough a b x (Ok u) →
-    IsPutThrough b c y result → IsPutThrough a c all result
+    (result : Result (Unit {0}) OutputFault) → all ≡ x ++ y → IsWrittenOrBuffered a b x (Ok u) →
+    IsWrittenOrBuffered b c y result → IsWrittenOrBuffered a c all result
 put-then a b c x y all u result is p q =
-    subst (λ (l : List ℕ). IsPutThrough a c l result) (sym is)
+    subst (λ (l : List ℕ). IsWrittenOrBuffered a c l result) (sym is)
     (put-after a b c x y result p.0 p.1 q)
 
 pub put-stops : (a b : Buffered) (x y all : List ℕ) (fault : OutputFault) → all ≡ x ++ y →
-    IsPutThrough a b x (Err fault) → IsPutThrough a b all (Err fault)
+    IsWrittenOrBuffered a b x (Err fault) → IsWrittenOrBuffered a b all (Err fault)
 put-stops a b x y all fault is p =
-    subst (λ (l : List ℕ). IsPutThrough a b l (Err fault)) (sym is) (put-fails a b x y fault p)
+    subst (λ (l : List ℕ). IsWrittenOrBuffered a b l (Err fault)) (sym is)
+    (put-fails a b x y fault p)
 
 -- some were put, others fail, and others were to follow
 pub put-fails-between : (a b c : Buffered) (x y more all : List ℕ) (fault : OutputFault) →
-    Writes a b x b.held → b.failures ≡ a.failures → IsPutThrough b c y (Err fault) → all ≡ (x ++ y)
+    Writes a b x b.held → b.failures ≡ a.failures → IsWrittenOrBuffered b c y (Err fault) →
+    all ≡ (x ++ y)
     ++ more
-    → IsPutThrough a c all (Err fault)
+    → IsWrittenOrBuffered a c all (Err fault)
 put-fails-between a b c x y more all fault w same p is =
-    subst (λ (l : List ℕ). IsPutThrough a c l (Err fault)) (sym is)
+    subst (λ (l : List ℕ). IsWrittenOrBuffered a c l (Err fault)) (sym is)
     (put-fails a c (x ++ y) more fault (put-after a b c x y (Err fault) w same p))
 
 -- bytes that are written through, or a front of them
 pub sends-through : (a b c : Buffered) (bytes : List ℕ) (u : Unit {0}) → IsFlushed a b (Ok u) →
     c.held ≡ b.held → Appends b.contents c.contents bytes → c.failures ≡ b.failures →
-    IsPutThrough a c bytes (Ok u)
+    IsWrittenOrBuffered a c bytes (Ok u)
 sends-through a b c bytes u f held wrote same =
     put-flushed a b c bytes (Ok u) u f (sent b c bytes f.1 (held ∙ f.1) wrote, same)
 
 pub fails-through : (a b c : Buffered) (bytes : List ℕ) (n : ℕ) (u : Unit {0}) →
     IsFlushed a b (Ok u) → Appends b.contents c.contents (take n bytes) →
     c.failures ≡ saturating_increment b.failures
-    → IsPutThrough a c bytes (Err Write)
+    → IsWrittenOrBuffered a c bytes (Err Write)
 fails-through a b c bytes n u f wrote counts =
     put-flushed a b c bytes (Err Write) u f (send-failed b c bytes n f.1 wrote, counts)

@@ -1,17 +1,17 @@
 -- From an empty buffer: a header, and then a body.
 use Rattle.std.proofs.Common.{◌≡◌, ℕ, List, [], ◌++◌, refl, sym, ◌∙◌, subst, append-nil}
 use Rattle.std.specs.Io.KnownBytes.{Appends}
-use Rattle.edf_canonical.specs.Output.{Buffered, Writes, WritesFront}
+use Rattle.edf_canonical.specs.Output.{Buffered, Writes, WritesPrefix}
 use Rattle.edf_canonical.proofs.Puts.{writes-then, front-written, all-written}
 
 module _ (a b : Buffered) (header body : List ℕ) (none : a.held ≡ []) where
   pub header_stops : (left : List ℕ) → Writes a b header left →
-      WritesFront a.contents b.contents (header ++ body)
+      WritesPrefix a.contents b.contents (header ++ body)
   header_stops left w = front-written a b header (header ++ body) body left none refl w
 
   module _ (c : Buffered) (head : Writes a b header b.held) where
     pub body_stops : (left : List ℕ) → Writes b c body left →
-        WritesFront a.contents c.contents (header ++ body)
+        WritesPrefix a.contents c.contents (header ++ body)
     body_stops left w = front-written a c (header ++ body) (header
         ++ body) [] left none (sym (append-nil (header ++ body)))
         (writes-then a b c header body left head w)
@@ -21,7 +21,7 @@ module _ (a b : Buffered) (header body : List ℕ) (none : a.held ≡ []) where
       whole = writes-then a b c header body c.held head put
 
       pub flush_stops : (left : List ℕ) → Writes c d [] left →
-          WritesFront a.contents d.contents (header ++ body)
+          WritesPrefix a.contents d.contents (header ++ body)
       flush_stops left w =
           front-written a d ((header ++ body) ++ []) (header
           ++ body) [] left none (sym (append-nil (header ++ body))

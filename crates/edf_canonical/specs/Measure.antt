@@ -25,7 +25,7 @@ StartsAt instant (r ∷ rs) = instant ≡ r.start
 
 -- these may be the first of the data records that were measured: the first starts as theirs, and
 -- there are no more, and no longer blocks
-pub record MayComeFirst (records : List DataRecord) (m : Measure) : Type 0 where
+pub record MayBePrefix (records : List DataRecord) (m : Measure) : Type 0 where
   pub starts : StartsAt m.first records
   pub within : length records ≤ m.records
   pub holds : BlocksFit (second_of m.first) m.block_samples records
@@ -50,7 +50,7 @@ HoldsBlock m r = length (block_of (second_of m.first) r) ≤ 2 * m.block_samples
 
 -- data records that are measured so may be the first of others: they start when these do, and there
 -- are no more, and no longer blocks
-pub record IsNoMore (m whole : Measure) : Type 0 where
+pub record IsWithinMeasure (m whole : Measure) : Type 0 where
   pub first : m.first ≡ whole.first
   pub records : m.records ≤ whole.records
   pub samples : m.block_samples ≤ whole.block_samples

@@ -29,8 +29,8 @@ CountsOutputFault old new Write = new ≡ saturating_increment old
 CountsOutputFault old new Memory = new ≡ old
 
 -- the bytes were put: written, or held back; or a front was written before the fault
-abbrev pub IsPutThrough : Buffered → Buffered → List ℕ → Result Unit OutputFault → Type 0
-IsPutThrough before after bytes result =
+abbrev pub IsWrittenOrBuffered : Buffered → Buffered → List ℕ → Result Unit OutputFault → Type 0
+IsWrittenOrBuffered before after bytes result =
     MatchResult result
     (λ _. Writes before after bytes after.held × (after.failures ≡ before.failures))
     (λ fault. ((left : List ℕ) × Writes before after bytes left)
@@ -45,7 +45,7 @@ IsFlushed before after result =
     × (after.failures ≡ saturating_increment before.failures))
 
 -- a front of some bytes was written
-pub record WritesFront (before after : Option (List ℕ)) (bytes : List ℕ) : Type 0 where
+pub record WritesPrefix (before after : Option (List ℕ)) (bytes : List ℕ) : Type 0 where
   pub front : List ℕ
   pub remaining : List ℕ
   pub parts : bytes ≡ front ++ remaining

@@ -8,9 +8,9 @@ use Rattle.edf_fragment.specs.Fragment.{DataRecord}
 use Rattle.edf_fragment.specs.Sound.{IsSoundRecord}
 use Rattle.edf_canonical.specs.File.{second_of, record_text}
 use Rattle.edf_canonical.specs.Kept.{annotated, annotated_one}
-use Rattle.edf_canonical.specs.Measure.{IsMeasured, IsNoMore, MayComeFirst, records_text}
+use Rattle.edf_canonical.specs.Measure.{IsMeasured, IsWithinMeasure, MayBePrefix, records_text}
 use Rattle.edf_canonical.specs.Measure.{planned_text}
-use Rattle.edf_canonical.specs.Output.{Buffered, Writes, WritesFront, CountsOutputFault}
+use Rattle.edf_canonical.specs.Output.{Buffered, Writes, WritesPrefix, CountsOutputFault}
 use Rattle.edf_canonical.specs.Source.{At, Answers, Gives}
 use Rattle.edf_canonical.specs.declared.fault.OutputFault.{OutputFault}
 use Rattle.edf_canonical.specs.declared.fault.OutputFault.TheVariants.{Write}
@@ -39,7 +39,7 @@ module _ {S F R E : Type 0}
   abbrev pub IsUnlike : At S F R → List DataRecord → Type 0
   IsUnlike mid records =
       ((r : DataRecord) × Answers answers mid to (Ok (Some r))
-      × ¬ MayComeFirst (annotated kept (records ++ r ∷ [])) whole)
+      × ¬ MayBePrefix (annotated kept (records ++ r ∷ [])) whole)
       ⊎ (Answers answers mid to (Ok None) × ¬ IsMeasured (annotated kept records) whole)
 
   -- why it went no further, after these data records: where the source had ended, they were all,
@@ -56,7 +56,7 @@ module _ {S F R E : Type 0}
     pub records : List DataRecord
     pub mid : At S F R
     pub gave : Gives answers from mid records
-    pub first : MayComeFirst (annotated kept records) whole
+    pub first : MayBePrefix (annotated kept records) whole
     pub why : StopsFor mid records fault
     pub front : Front (annotated kept records)
 
@@ -90,7 +90,7 @@ module _ {S F R E : Type 0}
       (λ rs. Appends before after (planned_text header whole rs))
       × (failed_after ≡ failed_before))
       (λ fault. StopsAfter answers from to whole kept
-      (λ rs. WritesFront before after (planned_text header whole rs)) fault
+      (λ rs. WritesPrefix before after (planned_text header whole rs)) fault
       × CountsSendFault failed_before failed_after fault)
 
 -- ---- one more
@@ -104,7 +104,7 @@ next_text whole kept records r = record_text (second_of whole.first) (2 * whole.
 pub record IsPutNext (before after : Buffered) (whole : Measure) (kept records : List DataRecord)
     (r : DataRecord) (m : Measure) : Type 0 where
   pub measured : IsMeasured (annotated kept (records ++ r ∷ [])) m
-  pub no_more : IsNoMore m whole
+  pub no_more : IsWithinMeasure m whole
   -- what was kept keeps the limits of each key of the source's
   pub sound : (k : Key) → IsSoundRecord k r →
       IsSoundRecord k (annotated_one (slice_get kept (length records)) r)
@@ -114,7 +114,7 @@ pub record IsPutNext (before after : Buffered) (whole : Measure) (kept records :
 -- or a front of it
 pub record StopsInNext (before after : Buffered) (whole : Measure) (kept records : List DataRecord)
     (r : DataRecord) : Type 0 where
-  pub first : MayComeFirst (annotated kept (records ++ r ∷ [])) whole
+  pub first : MayBePrefix (annotated kept (records ++ r ∷ [])) whole
   pub remaining : List ℕ
   pub wrote : Writes before after (next_text whole kept records r) remaining
 
@@ -124,7 +124,7 @@ abbrev pub PutsNext : Buffered → Buffered → Measure → List DataRecord → 
 PutsNext before after whole kept records r (Ok (Some m)) =
     IsPutNext before after whole kept records r m
 PutsNext before after whole kept records r (Ok None) =
-    (after ≡ before) × ¬ MayComeFirst (annotated kept (records ++ r ∷ [])) whole
+    (after ≡ before) × ¬ MayBePrefix (annotated kept (records ++ r ∷ [])) whole
 PutsNext before after whole kept records r (Err fault) =
     StopsInNext before after whole kept records r
     × CountsOutputFault before.failures after.failures fault

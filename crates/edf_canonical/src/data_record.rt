@@ -3,7 +3,7 @@
 ghost use Rattle.std.specs.Prelude.{◌≡◌, ◌≤◌, length};
 ghost use Rattle.edf_fragment.specs.Sound.{IsValidRecord};
 ghost use Rattle.edf_canonical.specs.File.{block_of, samples_of, filled_block, record_text};
-ghost use Rattle.edf_canonical.specs.Output.{buffered, IsPutThrough};
+ghost use Rattle.edf_canonical.specs.Output.{buffered, IsWrittenOrBuffered};
 
 use crate::fault::OutputFault;
 use crate::output::{Buffer, put, put_zeros};
@@ -34,7 +34,7 @@ fn put_block<W: Output>(
     size: usize,
 ) -> Result<(), OutputFault>
     requires { length (block_of file_start data_record.now) ≤ size }
-    ensures { IsPutThrough (buffered W.Output out.old held.old.bytes.items)
+    ensures { IsWrittenOrBuffered (buffered W.Output out.old held.old.bytes.items)
         (buffered W.Output out.new held.new.bytes.items)
         (filled_block file_start size data_record.now) result }
 {
@@ -60,7 +60,7 @@ pub fn put_record<W: Output>(
     size: usize,
 ) -> Result<(), OutputFault>
     requires { length (block_of file_start data_record.now) ≤ size }
-    ensures { IsPutThrough (buffered W.Output out.old held.old.bytes.items)
+    ensures { IsWrittenOrBuffered (buffered W.Output out.old held.old.bytes.items)
         (buffered W.Output out.new held.new.bytes.items)
         (record_text file_start size data_record.now) result }
 {

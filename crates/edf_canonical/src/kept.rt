@@ -3,7 +3,7 @@
 ghost use Rattle.std.specs.Prelude.{◌≡◌, ◌≤◌, [], length, IfSome, unwrap_or, slice_get};
 ghost use Rattle.edf_canonical.specs.File.{block_of, record_text};
 ghost use Rattle.edf_canonical.specs.Kept.{with_samples, annotated_one};
-ghost use Rattle.edf_canonical.specs.Output.{buffered, IsPutThrough};
+ghost use Rattle.edf_canonical.specs.Output.{buffered, IsWrittenOrBuffered};
 
 use crate::data_record::put_record;
 use crate::fault::OutputFault;
@@ -34,7 +34,7 @@ fn put_with<W: Output>(
 ) -> Result<(), OutputFault>
     requires bare { kept.now.samples ≡ [] }
     requires fits { length (block_of base (with_samples kept.now data_record.now)) ≤ size }
-    ensures { IsPutThrough (buffered W.Output out.old held.old.bytes.items)
+    ensures { IsWrittenOrBuffered (buffered W.Output out.old held.old.bytes.items)
         (buffered W.Output out.new held.new.bytes.items)
         (record_text base size (with_samples kept.now data_record.now)) result }
 {
@@ -59,7 +59,7 @@ pub fn put_annotated<W: Output>(
     requires bare { IfSome (slice_get kept.now nth) (λ k. k.samples ≡ []) }
     requires fits { length (block_of base (annotated_one (slice_get kept.now nth) data_record.now))
         ≤ size }
-    ensures { IsPutThrough (buffered W.Output out.old held.old.bytes.items)
+    ensures { IsWrittenOrBuffered (buffered W.Output out.old held.old.bytes.items)
         (buffered W.Output out.new held.new.bytes.items)
         (record_text base size (annotated_one (slice_get kept.now nth) data_record.now)) result }
 {

@@ -26,7 +26,7 @@ impl Measure {
     ghost use Rattle.edf_fragment.specs.Fragment.{DataRecord};
     ghost use Rattle.edf_fragment.specs.Sound.{IsValidRecord};
     ghost use Rattle.edf_canonical.specs.Measure.{IsMeasured, IsMeasuredSoFar, HoldsBlock};
-    ghost use Rattle.edf_canonical.specs.Measure.{IsNoMore};
+    ghost use Rattle.edf_canonical.specs.Measure.{IsWithinMeasure};
 
     /// That of one data record.
     fn of(data_record: &Record) -> Measure
@@ -75,7 +75,7 @@ impl Measure {
 
     /// Whether data records of this measure may be the first of those of another.
     pub(crate) fn may_come_first(&self, whole: &Measure) -> bool
-        ensures { IsTrue result ↔ IsNoMore self.now whole.now }
+        ensures { IsTrue result ↔ IsWithinMeasure self.now whole.now }
     {
         self.first.nanos() == whole.first.nanos()
             && self.records <= whole.records

@@ -2,7 +2,7 @@
 
 ghost use Rattle.std.specs.Prelude.{◌≡◌, ◌+◌, ◌-◌, ◌≤◌, [], length, vec_len};
 ghost use Rattle.std.specs.Prelude.{replicate};
-ghost use Rattle.edf_canonical.specs.Output.{buffered, IsPutThrough, IsFlushed};
+ghost use Rattle.edf_canonical.specs.Output.{buffered, IsWrittenOrBuffered, IsFlushed};
 ghost use Rattle.edf_canonical.specs.declared.output.TheConstants.{MOST_HELD};
 
 use crate::fault::OutputFault;
@@ -48,7 +48,7 @@ pub fn flush<W: Output>(out: &mut W, held: &mut Buffer) -> Result<(), OutputFaul
 
 /// Writes the held bytes, and then these.
 fn put_through<W: Output>(out: &mut W, held: &mut Buffer, bytes: &[u8]) -> Result<(), OutputFault>
-    ensures { IsPutThrough (buffered W.Output out.old held.old.bytes.items)
+    ensures { IsWrittenOrBuffered (buffered W.Output out.old held.old.bytes.items)
         (buffered W.Output out.new held.new.bytes.items) bytes.now result }
 {
     flush(out, held)?;
@@ -60,7 +60,7 @@ fn put_through<W: Output>(out: &mut W, held: &mut Buffer, bytes: &[u8]) -> Resul
 
 /// Holds these bytes back after those already held.
 fn hold<W: Output>(out: &mut W, held: &mut Vec<u8>, bytes: &[u8]) -> Result<(), OutputFault>
-    ensures put { IsPutThrough (buffered W.Output out.old held.old.items)
+    ensures put { IsWrittenOrBuffered (buffered W.Output out.old held.old.items)
         (buffered W.Output out.new held.new.items) bytes.now result }
     ensures grown { vec_len held.new ≤ vec_len held.old + length bytes.now }
 {
@@ -77,7 +77,7 @@ fn hold<W: Output>(out: &mut W, held: &mut Vec<u8>, bytes: &[u8]) -> Result<(), 
 /// `Write` where a write failed, or took none of some bytes; `Memory` where memory ran out. A front
 /// of what was held and of these bytes was written then.
 pub fn put<W: Output>(out: &mut W, held: &mut Buffer, bytes: &[u8]) -> Result<(), OutputFault>
-    ensures { IsPutThrough (buffered W.Output out.old held.old.bytes.items)
+    ensures { IsWrittenOrBuffered (buffered W.Output out.old held.old.bytes.items)
         (buffered W.Output out.new held.new.bytes.items) bytes.now result }
 {
     if bytes.len() >= MOST_HELD {
@@ -101,7 +101,7 @@ pub(crate) fn put_zeros<W: Output>(
     held: &mut Buffer,
     count: usize,
 ) -> Result<(), OutputFault>
-    ensures { IsPutThrough (buffered W.Output out.old held.old.bytes.items)
+    ensures { IsWrittenOrBuffered (buffered W.Output out.old held.old.bytes.items)
         (buffered W.Output out.new held.new.bytes.items) (replicate count 0) result }
 {
     let mut left = count;

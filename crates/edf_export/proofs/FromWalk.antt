@@ -17,8 +17,8 @@ use Rattle.edf_store.specs.declared.fault.StoreFault.{StoreFault}
 use Rattle.edf_store.specs.declared.records.Records.{Records}
 use Rattle.edf_store.proofs.Faults.{is_store_refusal}
 use Rattle.edf_store.proofs.Readiness.{stays_then}
-use Rattle.edf_canonical.specs.Measure.{IsMeasured, MayComeFirst, planned_text, records_text}
-use Rattle.edf_canonical.specs.Output.{WritesFront}
+use Rattle.edf_canonical.specs.Measure.{IsMeasured, MayBePrefix, planned_text, records_text}
+use Rattle.edf_canonical.specs.Output.{WritesPrefix}
 use Rattle.edf_canonical.specs.Sending.{SendsAll, StopsAfter, StopsFor, CountsSendFault}
 use Rattle.edf_canonical.specs.Source.{At, Answers, Gives}
 use Rattle.edf_canonical.specs.declared.fault.OutputFault.TheVariants.{Write, Memory}
@@ -155,7 +155,7 @@ module _ {S : Type 0} (g : Ghosts S) (from : At Walked (Records S Cursor) (Unit 
           unlike (inl (r, step, not)) =
               let all = (one-more mid to rs r so step).first clean h k walked in
               let n : ℕ = length (rs ++ r ∷ []) in
-              not (subst (λ x. MayComeFirst x whole) (sym all) (front_first (take n (h k))
+              not (subst (λ x. MayBePrefix x whole) (sym all) (front_first (take n (h k))
               (drop n (h k)) (h k) whole (sym (take-append-drop n (h k))) measured))
           unlike (inr (end, not)) = not (subst (λ x. IsMeasured x whole)
               (sym (at-end mid rs so end clean h k walked)) measured)
@@ -172,8 +172,8 @@ module _ {S : Type 0} (g : Ghosts S) (from : At Walked (Records S Cursor) (Unit 
           front-of : (fault : SendFault StoreFault) →
               StopsFor (Steps g) from to whole [] mid rs fault →
               (before after : Option (List ℕ)) (header : List ℕ) →
-              WritesFront before after (planned_text header whole rs) →
-              WritesFront before after (planned_text header whole (h k))
+              WritesPrefix before after (planned_text header whole rs) →
+              WritesPrefix before after (planned_text header whole (h k))
           front-of fault why before after header w =
               let was = clean_before g mid.file.store.now to.file.store.now (stays-on fault why)
               clean in
@@ -208,10 +208,10 @@ module _ {S : Type 0} (g : Ghosts S) (from : At Walked (Records S Cursor) (Unit 
 
       pub stopped-text : (fault : SendFault StoreFault) (before after : Option (List ℕ))
           (header : List ℕ) → StopsAfter (Steps g) from to whole []
-          (λ rs. WritesFront before after (planned_text header whole rs)) fault →
+          (λ rs. WritesPrefix before after (planned_text header whole rs)) fault →
           HasCleanDisk (at g to.file.store.now) → (h : Holdings) (k : Key) →
           HasYielded g from.file h k 0 → IsMeasured (h k) whole →
-          WritesFront before after (planned_text header whole (h k))
+          WritesPrefix before after (planned_text header whole (h k))
           × IsWritingFault (export_fault_of fault)
       stopped-text fault before after header s clean h k walked measured =
           let so = all-given s.mid s.records s.gave in (

@@ -7,7 +7,7 @@ use Rattle.edf_header.specs.Canonical.{IsCanonicalHeader}
 use Rattle.edf_fragment.specs.Fragment.{DataRecord}
 use Rattle.edf_canonical.specs.File.{IsCanonicalFile}
 use Rattle.edf_canonical.specs.Measure.{planned_text}
-use Rattle.edf_canonical.specs.Output.{WritesFront}
+use Rattle.edf_canonical.specs.Output.{WritesPrefix}
 use Rattle.edf_canonical.specs.declared.measure.Measure.{Measure}
 use Rattle.edf_canonical.proofs.Files.{one-file}
 use Rattle.edf_canonical.proofs.MeasuredFiles.{file_of, length_of}
@@ -45,16 +45,16 @@ exported before after k records plan header len p is wrote len-is =
 
 -- a front of the file goes no further than each canonical file
 stays_in : (before after : Option (List ℕ)) (k : Key) (records : List DataRecord) (file : List ℕ) →
-    IsCanonicalFile file k records → WritesFront before after file
+    IsCanonicalFile file k records → WritesPrefix before after file
     → StaysInFile before after k records
 stays_in before after k [] file c w = absurd c
 stays_in before after k (r ∷ rs) file c w =
-    λ other o. subst (WritesFront before after) (one-file file other k (r ∷ rs) c o) w
+    λ other o. subst (WritesPrefix before after) (one-file file other k (r ∷ rs) c o) w
 
 pub stopped : (before after : Option (List ℕ)) (k : Key) (records : List DataRecord)
     (plan : Measure) (header : List ℕ) (fault : ExportFault) → IsPlanOf k records plan
     → IsCanonicalHeader header k plan.first plan.records plan.block_samples →
-    WritesFront before after (planned_text header plan records) → IsWritingFault fault
+    WritesPrefix before after (planned_text header plan records) → IsWritingFault fault
     → IsNotExported before after k records fault
 stopped before after k records plan header NoRecording p is w met = absurd met
 stopped before after k records plan header (Store fault) p is w met = (

@@ -12,7 +12,7 @@ use Rattle.edf_store.specs.Fault.{number, store_fault_name, IsStoreRefusal}
 use Rattle.edf_store.specs.Held.{StoreModel, at, KeepsHoldings}
 use Rattle.edf_store.specs.declared.fault.StoreFault.TheVariants as store
 use Rattle.edf_canonical.specs.File.{IsCanonicalFile}
-use Rattle.edf_canonical.specs.Output.{WritesFront}
+use Rattle.edf_canonical.specs.Output.{WritesPrefix}
 use Rattle.edf_export.specs.declared.fault.ExportFault.{ExportFault}
 use Rattle.edf_export.specs.declared.fault.ExportFault.TheVariants.{NoRecording, Store, Memory}
 use Rattle.edf_export.specs.declared.fault.ExportFault.TheVariants.{Write}
@@ -33,14 +33,14 @@ pub record StopsInFile (before after : Option (List ℕ)) (k : Key) (records : L
     0 where
   pub file : List ℕ
   pub canonical : IsCanonicalFile file k records
-  pub wrote : WritesFront before after file
+  pub wrote : WritesPrefix before after file
 
 -- of each canonical file that the records have, and they have one at most, a front went out;
 -- nothing where there is no record
 abbrev pub StaysInFile : Option (List ℕ) → Option (List ℕ) → Key → List DataRecord → Type 0
 StaysInFile before after k [] = Keeps before after
 StaysInFile before after k (r ∷ rs) = (file : List ℕ) → IsCanonicalFile file k (r ∷ rs) →
-    WritesFront before after file
+    WritesPrefix before after file
 
 -- what went out before each refusal, and of what records: there are none at `NoRecording`, and some
 -- where a write failed. The store refuses since memory ran out or `sqlite` refused, and never since

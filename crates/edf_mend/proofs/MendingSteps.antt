@@ -8,7 +8,8 @@ use Rattle.edf_header.specs.Header.{HeaderRecord, IsHeader, Layout}
 use Rattle.edf_fragment.specs.declared.advance.Progress.{Progress}
 use Rattle.edf_fragment.specs.declared.fault.FragmentFault.{FragmentFault}
 use Rattle.edf_fragment.specs.declared.open_fragment.OpenFragment.{OpenFragment}
-use Rattle.edf_canonical.specs.Output.{Buffered, Writes, IsPutThrough, IsFlushed, CountsOutputFault}
+use Rattle.edf_canonical.specs.Output.{Buffered, Writes, IsWrittenOrBuffered, IsFlushed}
+use Rattle.edf_canonical.specs.Output.{CountsOutputFault}
 use Rattle.edf_canonical.specs.declared.fault.OutputFault.{OutputFault}
 use Rattle.edf_canonical.specs.declared.fault.OutputFault.TheVariants as out
 use Rattle.edf_mend.specs.Answers.{GoesOn, IsTrouble}
@@ -83,7 +84,7 @@ few-left t h widths i =
 -- ---- what was written
 
 pub put-grows : (a b : Buffered) (bytes : List ℕ) (r : Result Unit OutputFault) →
-    IsPutThrough a b bytes r → (front : List ℕ) × Appends a.contents b.contents front
+    IsWrittenOrBuffered a b bytes r → (front : List ℕ) × Appends a.contents b.contents front
 put-grows a b bytes (Ok u) p = (p.0.front, p.0.wrote)
 put-grows a b bytes (Err e) p = (p.0.1.front, p.0.1.wrote)
 

@@ -4,7 +4,7 @@ use Rattle.std.specs.Bool.{MatchBool}
 use Rattle.std.specs.Io.KnownBytes.{Appends}
 use Rattle.edf_fragment.specs.Failures.{saturating_increment}
 use Rattle.edf_fragment.specs.declared.streams.Output.{Ghosts}
-use Rattle.edf_canonical.specs.Output.{WritesFront}
+use Rattle.edf_canonical.specs.Output.{WritesPrefix}
 use Rattle.edf_program.specs.declared.status.Status.{Status}
 use Rattle.edf_program.specs.declared.status.Status.TheVariants.{Trouble}
 
@@ -30,7 +30,7 @@ Gets w bytes = Appends w.before w.after bytes × (w.failed_after ≡ w.failed_be
 
 -- it got a front of them, and then a write failed or took nothing
 abbrev pub GetsFront : Growth → List ℕ → Type 0
-GetsFront w bytes = WritesFront w.before w.after bytes
+GetsFront w bytes = WritesPrefix w.before w.after bytes
     × (w.failed_after ≡ saturating_increment w.failed_before)
 
 -- memory for the text of a line was refused: of `count` lines, of which the first n are `lines n`,

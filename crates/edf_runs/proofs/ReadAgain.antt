@@ -20,8 +20,8 @@ use Rattle.edf_fragment.specs.declared.streams.Input.{Ghosts}
 use Rattle.edf_fragment.proofs.Fragments.{one_more_read, all_read, reads_none}
 use Rattle.edf_fragment.proofs.Sound.{read-front, spelled-sound}
 use Rattle.edf_canonical.specs.Kept.{annotated}
-use Rattle.edf_canonical.specs.Measure.{IsMeasured, MayComeFirst, planned_text}
-use Rattle.edf_canonical.specs.Output.{WritesFront}
+use Rattle.edf_canonical.specs.Measure.{IsMeasured, MayBePrefix, planned_text}
+use Rattle.edf_canonical.specs.Output.{WritesPrefix}
 use Rattle.edf_canonical.specs.Sending.{SendsAll, StopsAfter, CountsSendFault}
 use Rattle.edf_canonical.specs.Source.{At, Answers, Gives}
 use Rattle.edf_canonical.specs.declared.fault.SendFault.{SendFault}
@@ -137,7 +137,7 @@ module _ {R : Type 0} {g : Ghosts R} {l : Layout} {kept : List DataRecord}
       -- which fault it is, and how many calls failed
       pub stops-counted : (fault : SendFault WriteFault)
           (s : StopsAfter (ReadsAgain g) from to m kept
-          (λ rs. WritesFront before after (planned_text header m rs)) fault) (writes writes' : ℕ) →
+          (λ rs. WritesPrefix before after (planned_text header m rs)) fault) (writes writes' : ℕ) →
           CountsSendFault writes writes' fault →
           CountsSending {A = Unit {0}} reads (g.failures to.input) writes writes'
           (Err (send_fault fault))
@@ -152,7 +152,7 @@ module _ {R : Type 0} {g : Ghosts R} {l : Layout} {kept : List DataRecord}
           (opens : ReadsHeader (Some bytes) left l) (spells : IsFragmentFile bytes k spelled)
           (alike : StartAlike kept spelled) (measured : IsMeasured (annotated kept spelled) m) where
         fits : (mid : At WholeAgain OpenFragment R) (rs : List DataRecord) → HasReadAgain g l kept left reads mid rs →
-            MayComeFirst (annotated kept rs) m
+            MayBePrefix (annotated kept rs) m
         fits mid rs so = front_fits bytes k spelled m kept l left (g.remaining mid.input) rs
             mid.file.progress opens so.read spells measured
 
@@ -188,7 +188,7 @@ module _ {R : Type 0} {g : Ghosts R} {l : Layout} {kept : List DataRecord}
 
         pub unchanged-again : (fault : SendFault WriteFault) →
             StopsAfter (ReadsAgain g) from to m kept
-            (λ rs. WritesFront before after (planned_text header m rs)) fault →
+            (λ rs. WritesPrefix before after (planned_text header m rs)) fault →
             send_fault fault ≢ Changed
         unchanged-again (Source fault) s same =
             let so = all-read s.mid s.records s.gave in
@@ -255,7 +255,7 @@ module _ {R : Type 0} {g : Ghosts R} {l : Layout} {left file : Option (List ℕ)
 
   pub stops-again : (fault : SendFault WriteFault) →
       StopsAfter (ReadsAgain g) from to plan.measure plan.kept.items
-      (λ rs. WritesFront before after (planned_text header plan.measure rs)) fault →
+      (λ rs. WritesPrefix before after (planned_text header plan.measure rs)) fault →
       StopsInFile file (g.remaining to.input) before after plan
   stops-again fault s =
       let so = all-read layout from keeps is nth first starts counts s.mid s.records s.gave in

@@ -20,8 +20,8 @@ use Rattle.edf_fragment.specs.declared.fault.FragmentFault.{FragmentFault}
 use Rattle.edf_fragment.specs.declared.open_fragment.OpenFragment.{OpenFragment}
 use Rattle.edf_fragment.specs.declared.streams.Input.{Ghosts}
 use Rattle.edf_canonical.specs.File.{second_of, block_of, record_text, BlocksFit}
-use Rattle.edf_canonical.specs.Measure.{MayComeFirst, StartsAt, planned_text}
-use Rattle.edf_canonical.specs.Output.{WritesFront}
+use Rattle.edf_canonical.specs.Measure.{MayBePrefix, StartsAt, planned_text}
+use Rattle.edf_canonical.specs.Output.{WritesPrefix}
 use Rattle.edf_canonical.specs.Sending.{SendsAll, StopsAfter, StopsFor, CountsSendFault}
 use Rattle.edf_canonical.specs.Source.{At, at, Answers, Gives}
 use Rattle.edf_canonical.specs.declared.fault.SendFault.{SendFault}
@@ -205,7 +205,7 @@ module _ {R : Type 0} {g : Ghosts R} {l : Layout} {from : Progress} {run : Run}
 
         pub stops-header : (fault : SendFault WriteFault) →
             StopsAfter (ReadsRun g) start to whole []
-            (λ rs. WritesFront before after (planned_text header whole rs)) fault →
+            (λ rs. WritesPrefix before after (planned_text header whole rs)) fault →
             to.file.header ≡ l
         stops-header fault s =
             keeps (ReadsRun g) start to whole [] s.mid s.records (λ x. x.file.header)
@@ -255,7 +255,7 @@ module _ {R : Type 0} {g : Ghosts R} {l : Layout} {from : Progress} {run : Run}
 
         pub run-stops : IsRunHeader header l.key run → (fault : SendFault WriteFault) →
             StopsAfter (ReadsRun g) start to whole []
-            (λ rs. WritesFront before after (planned_text header whole rs)) fault →
+            (λ rs. WritesPrefix before after (planned_text header whole rs)) fault →
             StopsInRun l from to.file.progress left (g.remaining to.input) before after run
         run-stops is-header fault s =
             let so = all-read s.mid s.records s.gave in
@@ -272,14 +272,14 @@ module _ {R : Type 0} {g : Ghosts R} {l : Layout} {from : Progress} {run : Run}
               front = inr (
                 header,
                 is-header,
-                subst (λ (x : List ℕ). WritesFront before after x) (text-is rs) s.front,
+                subst (λ (x : List ℕ). WritesPrefix before after x) (text-is rs) s.front,
               );
               more = more-at-most s.mid rs so fault s.why;
             }
 
         pub run-counted : (fault : SendFault WriteFault)
             (s : StopsAfter (ReadsRun g) start to whole []
-            (λ rs. WritesFront before after (planned_text header whole rs)) fault)
+            (λ rs. WritesPrefix before after (planned_text header whole rs)) fault)
             (writes writes' : ℕ) → CountsSendFault writes writes' fault →
             CountsSending {A = Unit {0}} reads (g.failures to.input) writes writes'
             (Err (send_fault fault))
@@ -319,8 +319,8 @@ module _ {R : Type 0} {g : Ghosts R} {l : Layout} {from : Progress} {run : Run}
               (g.remaining mid.input) (g.remaining to.input) mid.source.next fault) so.header stop))
 
           fits-too : (mid : At RunAgain OpenFragment R) (rs : List DataRecord) (r : DataRecord) →
-              HasReadRun g l from run left reads mid rs → MayComeFirst rs whole →
-              Answers (ReadsRun g) mid to (Ok (Some r)) → MayComeFirst (rs ++ r ∷ []) whole
+              HasReadRun g l from run left reads mid rs → MayBePrefix rs whole →
+              Answers (ReadsRun g) mid to (Ok (Some r)) → MayBePrefix (rs ++ r ∷ []) whole
           fits-too mid rs r so may step =
               let a = step.answers in
               let more = one-more mid to rs so r step in
@@ -342,7 +342,7 @@ module _ {R : Type 0} {g : Ghosts R} {l : Layout} {from : Progress} {run : Run}
 
           pub run-unchanged : (fault : SendFault WriteFault) →
               StopsAfter (ReadsRun g) start to whole []
-              (λ rs. WritesFront before after (planned_text header whole rs)) fault →
+              (λ rs. WritesPrefix before after (planned_text header whole rs)) fault →
               send_fault fault ≢ Changed
           run-unchanged (Source fault) s same =
               not-refused s.mid s.records fault (all-read s.mid s.records s.gave) s.why.answers same

@@ -35,8 +35,8 @@ use Rattle.edf_fragment.specs.declared.fault.FragmentFault.TheVariants.{Header a
 use Rattle.edf_fragment.proofs.Fragments.{open_refused, reads_none}
 use Rattle.edf_runs.specs.Again.{fault_again, IsNotReopened}
 use Rattle.std.specs.Io.KnownBytes.{Keeps}
-use Rattle.edf_canonical.specs.Output.{WritesFront}
-use Rattle.edf_canonical.specs.Measure.{IsMeasured, MayComeFirst}
+use Rattle.edf_canonical.specs.Output.{WritesPrefix}
+use Rattle.edf_canonical.specs.Measure.{IsMeasured, MayBePrefix}
 use Rattle.edf_runs.specs.Canonical.{StopsInFile, WritesPlannedFront, LeavesFrontOfFile}
 use Rattle.edf_canonical.specs.Measure.{records_text}
 use Rattle.edf_canonical.specs.declared.measure.Measure.{Measure}
@@ -51,7 +51,7 @@ pub front_fits : (bytes : List ℕ) (k : Key) (spelled : List DataRecord) (whole
     (kept : List DataRecord) (l : Layout) (left rest : Option (List ℕ)) (rs : List DataRecord)
     (p : Progress) → ReadsHeader (Some bytes) left l → HasReadRecords l left rest rs p →
     IsFragmentFile bytes k spelled → IsMeasured (annotated kept spelled) whole →
-    MayComeFirst (annotated kept rs) whole
+    MayBePrefix (annotated kept rs) whole
 front_fits bytes k spelled whole kept l left rest rs p header read spells is =
     let front = read-front bytes left rest l rs p k spelled header read spells in
     let later = annotated-front kept rs front.1.0 in
@@ -179,7 +179,7 @@ front_in_file : (bytes : List ℕ) (rest before after : Option (List ℕ)) (plan
     AreAsPlanned k records plan → IsCanonicalFile file k (annotated plan.kept.items records) →
     (s : StopsInFile (Some bytes) rest before after plan) →
     WritesPlannedFront before after plan (annotated plan.kept.items s.records) → Keeps before after
-    ⊎ WritesFront before after file
+    ⊎ WritesPrefix before after file
 front_in_file bytes rest before after plan k records file spells is whole s (inl keeps) = inl keeps
 front_in_file bytes rest before after plan k records file spells is whole s (inr written) =
     let m = plan.measure in

@@ -11,8 +11,8 @@ use Rattle.edf_fragment.specs.Whole.{ReadsFragment, HasReadRecords}
 use Rattle.edf_fragment.specs.declared.advance.Progress.{Progress}
 use Rattle.edf_fragment.specs.declared.fault.FragmentFault.{FragmentFault}
 use Rattle.edf_canonical.specs.File.{IsCanonicalFile}
-use Rattle.edf_canonical.specs.Measure.{IsMeasured, MayComeFirst, planned_text}
-use Rattle.edf_canonical.specs.Output.{WritesFront}
+use Rattle.edf_canonical.specs.Measure.{IsMeasured, MayBePrefix, planned_text}
+use Rattle.edf_canonical.specs.Output.{WritesPrefix}
 use Rattle.edf_runs.specs.Again.{IsNotReopened}
 use Rattle.edf_canonical.specs.Kept.{annotated}
 use Rattle.edf_runs.specs.declared.canonical_plan.CanonicalPlan.{CanonicalPlan}
@@ -68,7 +68,7 @@ WritesPlannedFront before after plan records = Keeps before after
     ⊎ ((header : List ℕ)
     × IsCanonicalHeader header plan.identity plan.measure.first plan.measure.records
     plan.measure.block_samples
-    × WritesFront before after (planned_text header plan.measure records))
+    × WritesPrefix before after (planned_text header plan.measure records))
 
 -- no more was read, or no more than one answer more
 abbrev pub AnswersOnceAtMost : Layout → Progress → Option (List ℕ) → Option (List ℕ) → Type 0
@@ -90,7 +90,7 @@ pub record StopsInFile (left rest before after : Option (List ℕ)) (plan : Cano
     pub progress : Progress
     pub read : HasReadRecords layout opened middle records progress
     pub alike : StartAlike plan.kept.items records
-    pub first : MayComeFirst (annotated plan.kept.items records) plan.measure
+    pub first : MayBePrefix (annotated plan.kept.items records) plan.measure
     pub front : WritesPlannedFront before after plan (annotated plan.kept.items records)
     pub more : AnswersOnceAtMost layout progress middle rest
 
@@ -117,4 +117,4 @@ LeavesFrontOfFile = (left rest before after : Option (List ℕ)) (plan : Canonic
     left ≡ Some bytes → IsFragmentFile bytes k records → AreAsPlanned k records plan →
     IsCanonicalFile file k (annotated plan.kept.items records) →
     IsNotCanonical left rest before after plan fault →
-    Keeps before after ⊎ WritesFront before after file
+    Keeps before after ⊎ WritesPrefix before after file

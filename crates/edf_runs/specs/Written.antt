@@ -13,7 +13,7 @@ use Rattle.edf_fragment.specs.Reading.{IsAnswer}
 use Rattle.edf_fragment.specs.declared.advance.Progress.{Progress}
 use Rattle.edf_fragment.specs.declared.fault.FragmentFault.{FragmentFault}
 use Rattle.edf_canonical.specs.File.{second_of, record_text, BlocksFit}
-use Rattle.edf_canonical.specs.Output.{WritesFront}
+use Rattle.edf_canonical.specs.Output.{WritesPrefix}
 use Rattle.edf_runs.specs.Counted.{AreCounted}
 use Rattle.edf_runs.specs.File.{marked_continuous, IsRunFile}
 use Rattle.edf_runs.specs.Read.{ReadsOn}
@@ -38,7 +38,7 @@ run_text run records = flat_map (record_text (second_of run.first) (2 * run.bloc
 abbrev pub WritesRunFront : Key → Option (List ℕ) → Option (List ℕ) → Run → List DataRecord → Type 0
 WritesRunFront k before after run records =
     Keeps before after ⊎ ((header : List ℕ) × IsRunHeader header k run
-    × WritesFront before after (header ++ run_text run records))
+    × WritesPrefix before after (header ++ run_text run records))
 
 -- nothing more was read; or one more data record was asked for, where the run still lacked one
 abbrev pub ReadsOneMoreAtMost : Layout → Progress → Progress → Option (List ℕ) → Option (List ℕ) →

@@ -10,7 +10,7 @@ use Rattle.edf_store.specs.Fault.{IsStoreRefusal}
 use Rattle.edf_store.specs.declared.fault.StoreFault.{StoreFault}
 use Rattle.edf_store.specs.declared.fault.StoreFault.TheVariants.{Foreign}
 use Rattle.edf_canonical.specs.Measure.{IsMeasured}
-use Rattle.edf_canonical.specs.Output.{WritesFront}
+use Rattle.edf_canonical.specs.Output.{WritesPrefix}
 use Rattle.edf_canonical.specs.declared.fault.OutputFault.TheVariants.{Write as Failed}
 use Rattle.edf_canonical.specs.declared.fault.OutputFault.TheVariants.{Memory as NoRoom}
 use Rattle.edf_canonical.specs.declared.fault.SendFault.{SendFault}
@@ -54,5 +54,5 @@ IsWritingFault Write = Unit {0}
 -- just these bytes were written, or a front of them
 abbrev pub IsSentOut : Option (List ℕ) → Option (List ℕ) → List ℕ → Result Unit ExportFault → Type 0
 IsSentOut before after bytes result =
-    MatchResult result (λ _. Appends before after bytes) (λ fault. WritesFront before after bytes
+    MatchResult result (λ _. Appends before after bytes) (λ fault. WritesPrefix before after bytes
     × IsWritingFault fault)

@@ -4,7 +4,7 @@ use Rattle.std.specs.List.{slice_get}
 use Rattle.std.proofs.lemmas.Result.{err_from_is_err_and}
 use Rattle.edf_canonical.specs.File.{block_of}
 use Rattle.edf_canonical.specs.Kept.{annotated, annotated_one}
-use Rattle.edf_canonical.specs.Measure.{IsNoMore}
+use Rattle.edf_canonical.specs.Measure.{IsWithinMeasure}
 use Rattle.edf_canonical.specs.Output.{buffered, Writes}
 use Rattle.edf_canonical.proofs.Annotated.{annotated-length, bare-of}
 use Rattle.edf_canonical.proofs.Measures.{may_come, first-no-more}
@@ -18,7 +18,7 @@ pub put_annotated-requires-clause-fits : goal.put_annotated-requires-clause-fits
 put_annotated-requires-clause-fits g c =
     let kept = c.args.kept.now in
     let whole = c.args.whole in
-    let few : IsNoMore c.after-measure.result whole =
+    let few : IsWithinMeasure c.after-measure.result whole =
     c.may_come_first.ensures.0 c.if-not-may_come_first.false in
     let held = block-held whole kept c.count-nth.result c.args.data_record.now
     c.kept_or-annotated.result.now c.kept_or-annotated.ensures c.after-measure.result
