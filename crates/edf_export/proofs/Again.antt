@@ -12,7 +12,7 @@ use Rattle.edf_holdings.proofs.Same.{same_key-refl}
 use Rattle.edf_holdings.proofs.InSets.{own_list}
 use Rattle.edf_holdings.proofs.ConflictFree.{recut_law}
 use Rattle.edf_canonical.specs.File.{IsCanonicalFile}
-use Rattle.edf_export.specs.Again.{IsAcceptedAgain, ExportAlike}
+use Rattle.edf_export.specs.Again.{IsAcceptedAgain, SameRecordsGiveSameFile}
 use Rattle.edf_canonical.proofs.Files.{its-own, one-file}
 
 has-some : (file : List ℕ) (k : Key) (rs : List DataRecord) → IsCanonicalFile file k rs → rs ≢ []
@@ -33,7 +33,7 @@ accepted_again cap h k file sound is =
       again = subst (λ (rs : List DataRecord). IsCanonicalFile file k rs) (sym left) is;
     }
 
-pub export_alike : ExportAlike
+pub export_alike : SameRecordsGiveSameFile
 export_alike cap h tolds others sound told other_told free other_free same k file other is
     other_is =
     one-file file other k _ is (subst (λ (held : Holdings). IsCanonicalFile other k (held k))

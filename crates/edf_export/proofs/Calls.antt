@@ -11,7 +11,7 @@ use Rattle.edf_store.specs.declared.records.Records.{Records}
 use Rattle.edf_store.specs.declared.fault.StoreFault.{StoreFault}
 use Rattle.edf_store.specs.declared.fault.StoreFault.TheVariants.{Failed}
 use Rattle.edf_store.proofs.Readiness.{stays_then}
-use Rattle.edf_export.specs.Export.{AnswersTruly}
+use Rattle.edf_export.specs.Export.{ReportsWriteFailures}
 use Rattle.edf_export.specs.Inside.Calls.{LeavesWalk, CountsWriting, CountsWritingFault}
 use Rattle.edf_export.specs.declared.fault.ExportFault.{ExportFault}
 use Rattle.edf_export.specs.declared.fault.ExportFault.TheVariants.{NoRecording, Store as Refused}
@@ -41,7 +41,7 @@ counts_weaker Busy More old new fault more counts = counts
 module _ (before after : Option (List ℕ)) (old new : ℕ) (Busy : Type 0) where
   -- the refusal of the first walk, before which nothing went out
   pub refused_truly : (fault : StoreFault) → MayRefuse Busy ⊤ ⊥ fault → after ≡ before → new ≡ old →
-      AnswersTruly before after old new (Err (Refused fault))
+      ReportsWriteFailures before after old new (Err (Refused fault))
   refused_truly fault is out count = record {
     counted = count;
     nothing = λ same. absurd (let e : ◌≡◌ {A = Result ℕ ExportFault} (Err (Refused fault))
@@ -54,7 +54,7 @@ module _ (before after : Option (List ℕ)) (old new : ℕ) (Busy : Type 0) wher
 
   -- what is counted while a file is written
   pub written_truly : (result : Result ℕ ExportFault) → CountsWriting Busy old new result →
-      AnswersTruly before after old new result
+      ReportsWriteFailures before after old new result
   written_truly (Ok len) counts = record {
     counted = counts;
     nothing = λ same. absurd (let e : ◌≡◌ {A = Result ℕ ExportFault} (Ok len)

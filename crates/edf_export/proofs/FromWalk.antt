@@ -28,7 +28,7 @@ use Rattle.edf_canonical.specs.declared.measure.Measure.{Measure}
 use Rattle.edf_canonical.proofs.MeasuredFiles.{front_more, planned_more}
 use Rattle.edf_canonical.proofs.Measures.{front_first}
 use Rattle.edf_canonical.proofs.Sourced.{gives-all, asked, keeps}
-use Rattle.edf_export.specs.Export.{IsIdleAfter}
+use Rattle.edf_export.specs.Export.{IsOutsideTransactionAfterFault}
 use Rattle.edf_export.specs.Inside.Calls.{LeavesWalk, CountsWritingFault}
 use Rattle.edf_export.specs.Inside.Steps.{Steps}
 use Rattle.edf_export.specs.Inside.Walks.{IsWritingFault, export_fault_of}
@@ -128,7 +128,7 @@ module _ {S : Type 0} (g : Ghosts S) (from : At Walked (Records S Cursor) (Unit 
 
         idle : (fault : SendFault StoreFault) → StopsFor (Steps g) from to whole [] mid rs fault →
             HasCleanDisk (at g to.file.store.now) →
-            IsIdleAfter (at g to.file.store.now) (export_fault_of fault)
+            IsOutsideTransactionAfterFault (at g to.file.store.now) (export_fault_of fault)
         idle (Source fault) why clean = tt
         idle Unlike why clean = tt
         idle (Output fault) (inl same) clean = idle_after (at g to.file.store.now)
@@ -191,7 +191,7 @@ module _ {S : Type 0} (g : Ghosts S) (from : At Walked (Records S Cursor) (Unit 
         so-some = all-given s.mid s.records s.gave
 
         pub stopped-leaves : LeavesWalk g from.file to.file
-            (λ state. IsIdleAfter state (export_fault_of fault))
+            (λ state. IsOutsideTransactionAfterFault state (export_fault_of fault))
         stopped-leaves = record {
           same_reference = keeps (Steps g) from to whole [] s.mid s.records
               (λ x. x.file.store.ghost_name) (λ answer is. is.leaves.same_reference) fault s.why

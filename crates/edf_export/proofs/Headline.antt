@@ -19,7 +19,7 @@ use Rattle.edf_holdings.proofs.Settled.{sound_front, sound_back}
 use Rattle.edf_holdings.proofs.Sound.{stays_sound}
 use Rattle.edf_holdings.proofs.ParsedIsWellFormed.{parsed_is_well_formed}
 use Rattle.edf_canonical.specs.File.{IsCanonicalFile}
-use Rattle.edf_export.specs.Headline.{IsOnlyFile, EndAlike, Headline, ParseToOneList}
+use Rattle.edf_export.specs.Headline.{IsOnlyFile, ExportSameFiles, Headline, ParseToOneList}
 use Rattle.edf_canonical.proofs.Files.{one-file}
 use Rattle.edf_canonical.proofs.SomeFile.{some-file}
 
@@ -56,7 +56,8 @@ refused-leaves cap h before member later sound told refused =
 -- since the list is free, so is the other; since they hold the same records, they leave the same
 end-alike : (cap : ℕ) (h : Holdings) (tolds others : List Parsed)
     → IsSound cap h → AreWellFormed tolds → AreWellFormed others → IsConflictFree cap h tolds
-    → AllByRecursion IsFragment others → SameRecords tolds others → EndAlike cap h tolds others
+    → AllByRecursion IsFragment others → SameRecords tolds others →
+    ExportSameFiles cap h tolds others
 end-alike cap h tolds others sound told other_told free fragments same =
     let other_free = free_of_same cap h tolds others sound told other_told free fragments same in
     let left : after cap h tolds ≡ after cap h others =

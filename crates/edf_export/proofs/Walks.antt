@@ -18,7 +18,7 @@ use Rattle.edf_store.specs.declared.fault.StoreFault.{StoreFault}
 use Rattle.edf_store.specs.declared.fault.StoreFault.TheVariants.{Memory, Store, Foreign, Failed}
 use Rattle.edf_canonical.specs.Measure.{IsMeasured}
 use Rattle.edf_canonical.specs.declared.measure.Measure.{Measure}
-use Rattle.edf_export.specs.Export.{IsIdleAfter}
+use Rattle.edf_export.specs.Export.{IsOutsideTransactionAfterFault}
 use Rattle.edf_export.specs.Inside.Walks.{IsSoundRecording}
 use Rattle.edf_export.specs.declared.fault.ExportFault.{ExportFault}
 use Rattle.edf_export.specs.declared.fault.ExportFault.TheVariants.{NoRecording, Store as Refused}
@@ -42,7 +42,8 @@ pub not_failed : (failed : Bool) → failed ≡ false → ¬ (failed ≡ true)
 not_failed failed going fails = let e : ◌≡◌ {A = Bool} false true = sym going ∙ fails in cc
 
 -- no refusal leaves a transaction open where none was
-pub idle_after : (s : State) (fault : ExportFault) → s.in_transaction ≡ false → IsIdleAfter s fault
+pub idle_after : (s : State) (fault : ExportFault) → s.in_transaction ≡ false →
+    IsOutsideTransactionAfterFault s fault
 idle_after s NoRecording idle = idle
 idle_after s (Refused fault) idle = tt
 idle_after s NoRoom idle = idle

@@ -19,8 +19,9 @@ pub record IsAcceptedAgain (cap : ℕ) (h : Holdings) (k : Key) (file : List ℕ
 
 -- two lists that are free of conflicts and hold the same records, however cut, ordered or repeated,
 -- leave what has the same file
-abbrev pub ExportAlike : Type 0
-ExportAlike = (cap : ℕ) (h : Holdings) (submissions others : List Parsed) → IsSound cap h →
+abbrev pub SameRecordsGiveSameFile : Type 0
+SameRecordsGiveSameFile = (cap : ℕ) (h : Holdings) (submissions others : List Parsed) →
+    IsSound cap h →
     AreWellFormed submissions → AreWellFormed others →
     IsConflictFree cap h submissions → IsConflictFree cap h others →
     SameRecords submissions others →

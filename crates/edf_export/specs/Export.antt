@@ -29,7 +29,8 @@ pub record IsExported (before after : Option (List ℕ)) (k : Key) (records : Li
   pub len_is : len ≡ length file
 
 -- the records have a canonical file, of which a front went out
-pub record StopsInFile (before after : Option (List ℕ)) (k : Key) (records : List DataRecord) : Type
+pub record WritesPrefixOfFile (before after : Option (List ℕ)) (k : Key)
+    (records : List DataRecord) : Type
     0 where
   pub file : List ℕ
   pub canonical : IsCanonicalFile file k records
@@ -37,9 +38,9 @@ pub record StopsInFile (before after : Option (List ℕ)) (k : Key) (records : L
 
 -- of each canonical file that the records have, and they have one at most, a front went out;
 -- nothing where there is no record
-abbrev pub StaysInFile : Option (List ℕ) → Option (List ℕ) → Key → List DataRecord → Type 0
-StaysInFile before after k [] = Keeps before after
-StaysInFile before after k (r ∷ rs) = (file : List ℕ) → IsCanonicalFile file k (r ∷ rs) →
+abbrev pub WritesAtMostFile : Option (List ℕ) → Option (List ℕ) → Key → List DataRecord → Type 0
+WritesAtMostFile before after k [] = Keeps before after
+WritesAtMostFile before after k (r ∷ rs) = (file : List ℕ) → IsCanonicalFile file k (r ∷ rs) →
     WritesPrefix before after file
 
 -- what went out before each refusal, and of what records: there are none at `NoRecording`, and some
@@ -48,10 +49,10 @@ StaysInFile before after k (r ∷ rs) = (file : List ℕ) → IsCanonicalFile fi
 abbrev pub IsNotExported : Option (List ℕ) → Option (List ℕ) → Key → List DataRecord → ExportFault →
     Type 0
 IsNotExported before after k records NoRecording = (records ≡ []) × Keeps before after
-IsNotExported before after k records (Store fault) = StaysInFile before after k records
+IsNotExported before after k records (Store fault) = WritesAtMostFile before after k records
     × IsStoreRefusal fault
-IsNotExported before after k records Memory = StaysInFile before after k records
-IsNotExported before after k records Write = StopsInFile before after k records
+IsNotExported before after k records Memory = WritesAtMostFile before after k records
+IsNotExported before after k records Write = WritesPrefixOfFile before after k records
 
 -- ---- the answer, on any disk
 
@@ -67,7 +68,7 @@ CountsExport old new result = MatchResult result (λ len. new ≡ old) (CountsEx
 
 -- a write failed just where that is the answer, nothing went out where nothing is held, and no
 -- refusal is for the fault of an earlier call
-pub record AnswersTruly (before after : Option (List ℕ)) (failed_before failed_after : ℕ)
+pub record ReportsWriteFailures (before after : Option (List ℕ)) (failed_before failed_after : ℕ)
     (result : Result ℕ ExportFault) : Type 0 where
   pub counted : CountsExport failed_before failed_after result
   pub nothing : result ≡ Err NoRecording → Keeps before after
@@ -76,22 +77,23 @@ pub record AnswersTruly (before after : Option (List ℕ)) (failed_before failed
 -- ---- the store
 
 -- after a file no transaction is open, nor after a refusal that is not the store's
-abbrev pub IsIdleAfter : State → ExportFault → Type 0
-IsIdleAfter s NoRecording = s.in_transaction ≡ false
-IsIdleAfter s (Store fault) = Unit {0}
-IsIdleAfter s Memory = s.in_transaction ≡ false
-IsIdleAfter s Write = s.in_transaction ≡ false
+abbrev pub IsOutsideTransactionAfterFault : State → ExportFault → Type 0
+IsOutsideTransactionAfterFault s NoRecording = s.in_transaction ≡ false
+IsOutsideTransactionAfterFault s (Store fault) = Unit {0}
+IsOutsideTransactionAfterFault s Memory = s.in_transaction ≡ false
+IsOutsideTransactionAfterFault s Write = s.in_transaction ≡ false
 
-abbrev pub LeavesIdle : {A : Type 0} → State → Result A ExportFault → Type 0
-LeavesIdle s result = MatchResult result (λ _. s.in_transaction ≡ false) (IsIdleAfter s)
+abbrev pub IsOutsideTransactionAfterExport : {A : Type 0} → State → Result A ExportFault → Type 0
+IsOutsideTransactionAfterExport s result =
+    MatchResult result (λ _. s.in_transaction ≡ false) (IsOutsideTransactionAfterFault s)
 
 module _ {S A : Type 0} (g : Ghosts S) (old new : StoreModel S) (result : Result A ExportFault)
   where
     -- what is held stays; where the disk returned what was written, no transaction is open, but for
     -- a refusal of the store
-    pub record LeavesStore : Type 0 where
+    pub record KeepsStore : Type 0 where
       pub stays : KeepsHoldings g old new
-      pub idle : HasCleanDisk (at g new) → LeavesIdle (at g new) result
+      pub idle : HasCleanDisk (at g new) → IsOutsideTransactionAfterExport (at g new) result
 
     -- where the connection is found in a transaction, that is the answer, on any disk; and where
     -- the disk returned what was written, it is the answer there alone

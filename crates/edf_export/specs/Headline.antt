@@ -21,14 +21,14 @@ pub record IsOnlyFile (file : List ℕ) (k : Key) (records : List DataRecord) : 
 module _ (cap : ℕ) (h : Holdings) where
   -- the records are those that h held under the key and those of the accepted members, each once,
   -- by rising starts
-  pub record AreGathered (submissions : List Parsed) (k : Key)
+  pub record AreHeldOrAccepted (submissions : List Parsed) (k : Key)
       (records : List DataRecord) : Type 0 where
     pub those : (r : DataRecord) →
         Contains records r ↔ (Contains (h k) r ⊎ FromAccepted cap h submissions k r)
     pub rising : IsRising records
 
   -- each member of both lists is accepted, and each key's file is the same bytes after both
-  pub record EndAlike (submissions others : List Parsed) : Type 0 where
+  pub record ExportSameFiles (submissions others : List Parsed) : Type 0 where
     pub accepted : All IsAccepted (replies cap h submissions)
     pub others_accepted : All IsAccepted (replies cap h others)
     pub same_file : (k : Key) (file : List ℕ) →
@@ -42,7 +42,7 @@ module _ (cap : ℕ) (h : Holdings) where
     pub one_file : cap ≤ MOST_RECORDS → (k : Key) → after cap h submissions k ≢ [] →
         (file : List ℕ) × IsOnlyFile file k (after cap h submissions k)
     -- its records are those that h held and those of the accepted members, each once, rising
-    pub its_records : (k : Key) → AreGathered submissions k (after cap h submissions k)
+    pub its_records : (k : Key) → AreHeldOrAccepted submissions k (after cap h submissions k)
     -- a member that is refused leaves the holdings that it met
     pub refused : (before : List Parsed) (member : Parsed) (later : List Parsed) →
         submissions ≡ before ++ (member ∷ later) →
@@ -52,7 +52,7 @@ module _ (cap : ℕ) (h : Holdings) where
     -- however cut, ordered or repeated, are accepted whole, and leave the same files
     pub alike : (others : List Parsed) → AreWellFormed others → IsConflictFree cap h submissions →
         AllByRecursion IsFragment others → SameRecords submissions others →
-        EndAlike submissions others
+        ExportSameFiles submissions others
 
 -- a list of byte strings, as files are, tells just one list, and of that list the headline speaks
 pub record ParseToOneList (files : List (List ℕ)) : Type 0 where

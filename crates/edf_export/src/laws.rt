@@ -8,7 +8,7 @@ ghost use Rattle.edf_holdings.specs.Holdings.{Holdings, IsSound};
 ghost use Rattle.edf_holdings.specs.Laws.{AreWellFormed};
 ghost use Rattle.edf_canonical.specs.File.{IsCanonicalFile};
 ghost use Rattle.edf_export.specs.Export.{IsExported};
-ghost use Rattle.edf_export.specs.Again.{IsAcceptedAgain, ExportAlike};
+ghost use Rattle.edf_export.specs.Again.{IsAcceptedAgain, SameRecordsGiveSameFile};
 ghost use Rattle.edf_export.specs.Headline.{Headline, ParseToOneList};
 
 /// An export is a fragment of just the key and the data records that were exported.
@@ -29,7 +29,7 @@ pub fn an_export_is_accepted_again()
 /// ordered or repeated, export the same bytes: what each leaves has one canonical file, and it is
 /// that of the other.
 pub fn the_same_records_export_alike()
-    ensures { ExportAlike }
+    ensures { SameRecordsGiveSameFile }
 {}
 
 /// The headline. What every list of submissions leaves of sound holdings has one canonical file for

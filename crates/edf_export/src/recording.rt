@@ -4,7 +4,8 @@ ghost use Rattle.std.specs.Prelude.{MatchResult};
 ghost use Rattle.sqlite.specs.State.{HasCleanDisk};
 ghost use Rattle.edf_holdings.specs.Holdings.{Holdings};
 ghost use Rattle.edf_store.specs.Held.{at, Holds};
-ghost use Rattle.edf_export.specs.Export.{IsExported, IsNotExported, LeavesStore, AnswersTruly};
+ghost use Rattle.edf_export.specs.Export.{IsExported, IsNotExported, KeepsStore};
+ghost use Rattle.edf_export.specs.Export.{ReportsWriteFailures};
 ghost use Rattle.edf_export.specs.Export.{ExportsUnlessBusy};
 
 use crate::fault::ExportFault;
@@ -35,7 +36,7 @@ pub fn export<S: Alter, W: Output>(
     identity: &Identity,
     out: &mut W,
 ) -> Result<u64, ExportFault>
-    ensures leaves { LeavesStore S.Store store.old store.new result }
+    ensures leaves { KeepsStore S.Store store.old store.new result }
     // what is in the file, or a front of it: known where the disk returned what was written
     ensures answered { HasCleanDisk (at S.Store store.new) → (h : Holdings) →
         Holds S.Store store.old h →
@@ -43,7 +44,7 @@ pub fn export<S: Alter, W: Output>(
         (IsExported (W.contents out.old) (W.contents out.new) identity.now (h identity.now))
         (IsNotExported (W.contents out.old) (W.contents out.new) identity.now (h identity.now)) }
     // what an answer says on any disk
-    ensures truly { AnswersTruly (W.contents out.old) (W.contents out.new)
+    ensures truly { ReportsWriteFailures (W.contents out.old) (W.contents out.new)
         (W.failures out.old) (W.failures out.new) result }
     ensures busy { ExportsUnlessBusy S.Store store.old store.new result }
 {

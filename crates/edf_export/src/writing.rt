@@ -8,7 +8,8 @@ ghost use Rattle.edf_store.specs.Call.{IsBusy};
 ghost use Rattle.edf_store.specs.Held.{at, Holds};
 ghost use Rattle.edf_store.specs.Walk.{HasYielded, IsWalking};
 ghost use Rattle.edf_canonical.specs.Measure.{planned_text};
-ghost use Rattle.edf_export.specs.Export.{IsExported, IsNotExported, LeavesIdle, LeavesStore};
+ghost use Rattle.edf_export.specs.Export.{IsExported, IsNotExported};
+ghost use Rattle.edf_export.specs.Export.{IsOutsideTransactionAfterExport, KeepsStore};
 ghost use Rattle.edf_export.specs.Inside.Calls.{LeavesWalk, CountsWriting};
 ghost use Rattle.edf_export.specs.Inside.Walks.{IsPlanOf, IsSentOut};
 
@@ -30,7 +31,8 @@ fn send_walk<S: Alter, W: Output>(
     plan: Measure,
 ) -> Result<(), ExportFault>
     requires ready { (walk.old.failed ≡ false) × IsWalking S.Store walk.old }
-    ensures leaves { LeavesWalk S.Store walk.old walk.new (λ s. LeavesIdle s result) }
+    ensures leaves { LeavesWalk S.Store walk.old walk.new
+        (λ s. IsOutsideTransactionAfterExport s result) }
     ensures sent { HasCleanDisk (at S.Store walk.new.store.now) → (h : Holdings) (k : Key) →
         HasYielded S.Store walk.old h k 0 →
         IsPlanOf k (h k) plan → IsSentOut (W.contents out.old) (W.contents out.new)
@@ -61,7 +63,7 @@ fn send_recording<S: Alter, W: Output>(
     header: &[u8],
     plan: Measure,
 ) -> Result<(), ExportFault>
-    ensures leaves { LeavesStore S.Store store.old store.new result }
+    ensures leaves { KeepsStore S.Store store.old store.new result }
     ensures sent { HasCleanDisk (at S.Store store.new) → (h : Holdings) →
         Holds S.Store store.old h → IsPlanOf identity.now (h identity.now) plan →
         IsSentOut (W.contents out.old) (W.contents out.new)
@@ -84,7 +86,7 @@ pub(crate) fn write_planned<S: Alter, W: Output>(
     requires may_start { MayStart identity.now plan.first }
     requires idle { HasCleanDisk (at S.Store store.old) →
         (at S.Store store.old).in_transaction ≡ false }
-    ensures leaves { LeavesStore S.Store store.old store.new result }
+    ensures leaves { KeepsStore S.Store store.old store.new result }
     ensures written { HasCleanDisk (at S.Store store.new) → (h : Holdings) →
         Holds S.Store store.old h → IsPlanOf identity.now (h identity.now) plan →
         MatchResult result
