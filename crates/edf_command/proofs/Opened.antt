@@ -3,11 +3,11 @@ use Rattle.std.proofs.Common.{◌≡◌, ◌++◌, ◌∙◌, ℕ, List, take, d
 use Rattle.std.proofs.lemmas.List.{map-append}
 use Rattle.std.specs.Global.{Global}
 use Rattle.std.specs.Prelude.{String, string_bytes}
-use Rattle.edf_command.specs.Taking.{OpensFront}
+use Rattle.edf_command.specs.Taking.{OpensPrefix}
 
 pub opens-front : (before after : List (List ℕ)) (files : List (String Global)) (i : ℕ)
     → after ≡ before ++ map (λ (file : String Global). string_bytes file) (take i files)
-    → OpensFront before after (map (λ (file : String Global). string_bytes file) files)
+    → OpensPrefix before after (map (λ (file : String Global). string_bytes file) files)
 opens-front before after files i e =
     let text : String Global → List ℕ = λ file. string_bytes file in
     record {

@@ -6,8 +6,8 @@ use Rattle.std.specs.Str.{bytes_eq}
 use Rattle.edf_command.specs.Arguments.{Asked, Text, AreValues, AskFor, AskForNothing}
 use Rattle.edf_command.specs.Arguments.Asked.{take, list, export, convert}
 use Rattle.edf_command.specs.declared.order.Order.{Order}
-use Rattle.edf_program.specs.Output.{Growth, Gets}
-use Rattle.edf_program.specs.Words.{IsFaultTold}
+use Rattle.edf_program.specs.Output.{OutputChange, Gets}
+use Rattle.edf_program.specs.Words.{IsCommandFaultPrinted}
 use Rattle.edf_program.specs.declared.status.Status.{Status}
 use Rattle.edf_program.specs.declared.words.CommandFault.{CommandFault}
 use Rattle.edf_program.specs.declared.words.CommandFault.TheVariants.{Memory}
@@ -24,12 +24,12 @@ store_path (list store) = path_of store
 store_path (export store place) = path_of store
 store_path (convert file) = None
 
-module _ (out err : Growth) where
+module _ (out err : OutputChange) where
   -- why there is no command, as it is written: the words ask for nothing, or there is no memory for
   -- them
   pub record IsNoCommand (words : List (String Global)) (status : Status) : Type 0 where
     pub fault : CommandFault
-    pub told : IsFaultTold out err fault status
+    pub told : IsCommandFaultPrinted out err fault status
     pub nothing : fault ≢ Memory → AreValues words → AskForNothing words
 
   -- the command that the words ask for, where no word begins with `-`, and nothing is written; or

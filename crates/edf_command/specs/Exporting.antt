@@ -13,7 +13,7 @@ use Rattle.edf_export.specs.Export.{IsExported, IsNotExported, CountsExportFault
 use Rattle.edf_export.specs.declared.fault.ExportFault.{ExportFault}
 use Rattle.edf_export.specs.declared.fault.ExportFault.TheVariants.{Store}
 use Rattle.edf_command.specs.Lines.{no_recording_line, export_refused_line, export_status}
-use Rattle.edf_program.specs.Output.{Growth, Gets, IsWritten, Explains}
+use Rattle.edf_program.specs.Output.{OutputChange, Gets, IsWritten, Explains}
 use Rattle.edf_program.specs.declared.status.Status.{Status}
 use Rattle.edf_program.specs.declared.status.Status.TheVariants.{Done, Refused}
 
@@ -22,7 +22,7 @@ abbrev pub at_place : List Key → ℕ → Option Key
 at_place keys zero = None
 at_place keys (suc n) = slice_get keys n
 
-module _ (out err : Growth) where
+module _ (out err : OutputChange) where
   -- the recording's canonical file went out; or a front of it and a line why, or a line alone; E43
   -- exactly where a write failed
   abbrev pub IsRecordingExported : Holdings → Key → Status → Type 0
@@ -35,8 +35,8 @@ module _ (out err : Growth) where
 
   -- on any disk: it is done, nothing is printed on `err` and no write failed; or why not is
   -- printed, E43 exactly where a write failed. E0, for a fault of an earlier call, is never printed
-  abbrev pub TellsWrites : Status → Type 0
-  TellsWrites status =
+  abbrev pub ReportsExport : Status → Type 0
+  ReportsExport status =
       ((out.failed_after ≡ out.failed_before) × Gets err [] × (status ≡ Done))
       ⊎ ((fault : ExportFault) × (fault ≢ Store Failed)
       × CountsExportFault out.failed_before out.failed_after fault
@@ -64,10 +64,10 @@ module _ (out err : Growth) where
     pub said : Explains out err (export_refused_line (Store fault)) (export_status (Store fault))
         status
 
-module _ {S : Type 0} (g : Ghosts S) (old new : StoreModel S) (out err : Growth) where
+module _ {S : Type 0} (g : Ghosts S) (old new : StoreModel S) (out err : OutputChange) where
   pub record IsPlaceExported (place : ℕ) (status : Status) : Type 0 where
     pub stays : KeepsHoldings g old new
-    pub told : TellsWrites out err status
+    pub told : ReportsExport out err status
         ⊎ Explains out err (no_recording_line place) Refused status
     pub exported : HasCleanDisk (at g new) → (h : Holdings) → Holds g old h →
         ExportsPlace out err h place status

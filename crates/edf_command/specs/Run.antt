@@ -11,14 +11,14 @@ use Rattle.edf_intake.specs.declared.answer.Receipt.{Receipt}
 use Rattle.edf_intake.specs.declared.answer.Refusal.{Refusal}
 use Rattle.edf_command.specs.Arguments.{Asked}
 use Rattle.edf_command.specs.Arguments.Asked.{take, list, export, convert}
-use Rattle.edf_program.specs.Text.{IsSpelling}
+use Rattle.edf_program.specs.Text.{IsInstantFormat}
 use Rattle.edf_command.specs.Lines.{refused_file_line}
 use Rattle.edf_command.specs.Taking.{IsTaken}
 use Rattle.edf_command.specs.Listing.{AreRecordingsListed}
-use Rattle.edf_command.specs.Exporting.{IsRecordingExported, TellsWrites, IsPlaceExported}
+use Rattle.edf_command.specs.Exporting.{IsRecordingExported, ReportsExport, IsPlaceExported}
 use Rattle.edf_program.specs.Status.{status_of_number}
 use Rattle.edf_program.specs.Text.{memory_line}
-use Rattle.edf_program.specs.Output.{Growth, Gets, IsTextTold, Explains}
+use Rattle.edf_program.specs.Output.{OutputChange, Gets, IsLinePrinted, Explains}
 use Rattle.edf_program.specs.declared.status.Status.{Status}
 use Rattle.edf_program.specs.declared.status.Status.TheVariants.{Trouble}
 
@@ -29,7 +29,7 @@ files_of (list store) = []
 files_of (export store place) = []
 files_of (convert file) = file ∷ []
 
-module _ {S : Type 0} (g : Ghosts S) (old new : StoreModel S) (out err : Growth) where
+module _ {S : Type 0} (g : Ghosts S) (old new : StoreModel S) (out err : OutputChange) where
   -- ---- convert
 
   -- the file was refused
@@ -39,8 +39,8 @@ module _ {S : Type 0} (g : Ghosts S) (old new : StoreModel S) (out err : Growth)
     pub refusal : Refusal
     pub opened : from.remaining ≡ bytes
     pub submitted : IsSubmitted g old new from to (Err refusal)
-    pub said : (spell : ℕ → List ℕ) → IsSpelling spell →
-        Gets out [] × IsTextTold err (refused_file_line spell name refusal)
+    pub said : (spell : ℕ → List ℕ) → IsInstantFormat spell →
+        Gets out [] × IsLinePrinted err (refused_file_line spell name refusal)
         (status_of_number (refusal_number refusal)) status
 
   -- it was accepted, and what its recording then holds went out
@@ -52,7 +52,7 @@ module _ {S : Type 0} (g : Ghosts S) (old new : StoreModel S) (out err : Growth)
     pub opened : from.remaining ≡ bytes
     pub submitted : IsSubmitted g old mid from to (Ok receipt)
     pub stays : KeepsHoldings g mid new
-    pub told : TellsWrites out err status
+    pub told : ReportsExport out err status
     pub exported : HasCleanDisk (at g new) → (h : Holdings) → Holds g mid h →
         IsRecordingExported out err h receipt.identity status
 

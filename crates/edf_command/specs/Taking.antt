@@ -5,14 +5,14 @@ use Rattle.edf_fragment.specs.Call.{InputState}
 use Rattle.edf_store.specs.Held.{StoreModel}
 use Rattle.edf_intake.specs.Refusal.{Answer}
 use Rattle.edf_intake.specs.Batch.{AreSubmitted, AnswersAll}
-use Rattle.edf_program.specs.Text.{IsSpelling}
+use Rattle.edf_program.specs.Text.{IsInstantFormat}
 use Rattle.edf_command.specs.Lines.{first_take_lines, take_status, take_memory_line}
-use Rattle.edf_program.specs.Output.{Growth, Gets, AreTold, Explains}
+use Rattle.edf_program.specs.Output.{OutputChange, Gets, AreLinesPrinted, Explains}
 use Rattle.edf_program.specs.declared.status.Status.{Status}
 use Rattle.edf_program.specs.declared.status.Status.TheVariants.{Trouble}
 
 -- just the first of these names were opened, each once, in their order
-pub record OpensFront (before after names : List (List ℕ)) : Type 0 where
+pub record OpensPrefix (before after names : List (List ℕ)) : Type 0 where
   pub front : List (List ℕ)
   pub remaining : List (List ℕ)
   pub parts : names ≡ front ++ remaining
@@ -21,9 +21,9 @@ pub record OpensFront (before after names : List (List ℕ)) : Type 0 where
 -- just these were, each once, in their order; or, where memory ran out, just the first of them
 abbrev pub HasOpened : List (List ℕ) → List (List ℕ) → List (List ℕ) → Status → Type 0
 HasOpened before after names status = (after ≡ before ++ names)
-    ⊎ (OpensFront before after names × (status ≡ Trouble))
+    ⊎ (OpensPrefix before after names × (status ≡ Trouble))
 
-module _ {S : Type 0} (g : Ghosts S) (old new : StoreModel S) (out err : Growth) where
+module _ {S : Type 0} (g : Ghosts S) (old new : StoreModel S) (out err : OutputChange) where
   -- the files' bytes were submitted in turn, and each has its line
   pub record TakesFiles (bytes : List ℕ → Option (List ℕ)) (names : List (List ℕ))
       (status : Status) : Type 0 where
@@ -33,8 +33,9 @@ module _ {S : Type 0} (g : Ghosts S) (old new : StoreModel S) (out err : Growth)
     pub opened : map (λ (f : InputState). f.remaining) froms ≡ map bytes names
     pub submitted : AreSubmitted g old new froms tos answers
     pub answered : AnswersAll g old new froms answers
-    pub said : (spell : ℕ → List ℕ) → IsSpelling spell →
-        AreTold out (first_take_lines spell names answers) (length answers) (take_status answers)
+    pub said : (spell : ℕ → List ℕ) → IsInstantFormat spell →
+        AreLinesPrinted out (first_take_lines spell names answers) (length answers)
+        (take_status answers)
         status
     pub silent : Gets err []
 

@@ -5,32 +5,32 @@ ghost use Rattle.sqlite.specs.State.{HasCleanDisk};
 ghost use Rattle.edf_holdings.specs.Holdings.{Holdings};
 ghost use Rattle.edf_store.specs.Held.{at, Holds, KeepsHoldings};
 ghost use Rattle.edf_command.specs.Lines.{export_refused_line, export_status, no_recording_line};
-ghost use Rattle.edf_program.specs.Output.{growth, IsWritten};
-ghost use Rattle.edf_command.specs.Exporting.{IsRecordingExported, IsPlaceExported, TellsWrites};
+ghost use Rattle.edf_program.specs.Output.{output_change, IsWritten};
+ghost use Rattle.edf_command.specs.Exporting.{IsRecordingExported, IsPlaceExported, ReportsExport};
 ghost use Rattle.edf_command.specs.Exporting.{at_place};
 
 use edf_export::{ExportFault, export};
 use edf_fragment::Output;
 use edf_header::Identity;
-use edf_program::{Status, status_of_number, tell_parts, tell_refused};
+use edf_program::{Status, print_parts, print_refused, status_of_number};
 use edf_store::Store;
 use itoa::Buffer;
 use sqlite::Alter;
 use std::alloc::Global;
 
 /// Prints why a recording is not exported. Printing takes no memory.
-fn tell_refusal<F: Output>(err: &mut F, fault: &ExportFault) -> Status
-    ensures { IsWritten (growth F.Output err.old err.new)
+fn print_refusal<F: Output>(err: &mut F, fault: &ExportFault) -> Status
+    ensures { IsWritten (output_change F.Output err.old err.new)
         (export_refused_line fault.now) (export_status fault.now) result }
 {
     let status = status_of_number(fault.number());
-    tell_refused(err, "export", fault.number(), fault.name(), status)
+    print_refused(err, "export", fault.number(), fault.name(), status)
 }
 
 /// Prints that no recording has the place. Printing takes no memory.
-pub fn tell_no_recording<F: Output>(err: &mut F, place: u32) -> Status
+pub fn print_no_recording<F: Output>(err: &mut F, place: u32) -> Status
     ensures { IsWritten
-        (growth F.Output err.old err.new) (no_recording_line place) Status.Refused result }
+        (output_change F.Output err.old err.new) (no_recording_line place) Status.Refused result }
 {
     let mut buffer = Buffer::new();
     let digits = buffer.format(place);
@@ -39,7 +39,7 @@ pub fn tell_no_recording<F: Output>(err: &mut F, place: u32) -> Status
         digits.as_bytes(),
         b"\n",
     ];
-    tell_parts(err, &parts, Status::Refused)
+    print_parts(err, &parts, Status::Refused)
 }
 
 /// Writes a recording's canonical file, or prints why not.
@@ -51,15 +51,15 @@ pub(crate) fn export_recording<S: Alter, O: Output, F: Output>(
     err: &mut F,
 ) -> Status
     ensures stays { KeepsHoldings S.Store store.old store.new }
-    ensures told { TellsWrites
-        (growth O.Output out.old out.new) (growth F.Output err.old err.new) result }
+    ensures told { ReportsExport
+        (output_change O.Output out.old out.new) (output_change F.Output err.old err.new) result }
     ensures exported { HasCleanDisk (at S.Store store.new) → (h : Holdings) →
-        Holds S.Store store.old h → IsRecordingExported (growth O.Output out.old out.new)
-        (growth F.Output err.old err.new) h identity.now result }
+        Holds S.Store store.old h → IsRecordingExported (output_change O.Output out.old out.new)
+        (output_change F.Output err.old err.new) h identity.now result }
 {
     match export(alloc, store, identity, out) {
         Ok(_len) => Status::Done,
-        Err(fault) => tell_refusal(err, &fault),
+        Err(fault) => print_refusal(err, &fault),
     }
 }
 
@@ -81,15 +81,15 @@ pub fn export_place<S: Alter, O: Output, F: Output>(
     out: &mut O,
     err: &mut F,
 ) -> Status
-    ensures { IsPlaceExported S.Store store.old store.new (growth O.Output out.old out.new)
-        (growth F.Output err.old err.new) place result }
+    ensures { IsPlaceExported S.Store store.old store.new (output_change O.Output out.old out.new)
+        (output_change F.Output err.old err.new) place result }
 {
     let recordings = match store.identities() {
         Ok(recordings) => recordings,
-        Err(fault) => return tell_refusal(err, &ExportFault::Store(fault)),
+        Err(fault) => return print_refusal(err, &ExportFault::Store(fault)),
     };
     match at_place(recordings.as_slice(), place) {
         Some(identity) => export_recording(alloc, store, identity, out, err),
-        None => tell_no_recording(err, place),
+        None => print_no_recording(err, place),
     }
 }

@@ -9,13 +9,14 @@ ghost use Rattle.edf_store.specs.Fault.{IsStoreRefusal};
 ghost use Rattle.edf_store.specs.Held.{at, Holds, KeepsHoldings};
 ghost use Rattle.edf_store.specs.Overview.{IsSummary};
 ghost use Rattle.edf_command.specs.Lines.{list_line, first_list_lines, list_refused_line};
-ghost use Rattle.edf_program.specs.Output.{growth, Gets, IsLinePut, AreLinesPut, IsWritten};
-ghost use Rattle.edf_program.specs.Text.{IsSpelling};
+ghost use Rattle.edf_program.specs.Output.{output_change, Gets, IsLineWritten, AreLinesWritten};
+ghost use Rattle.edf_program.specs.Output.{IsWritten};
+ghost use Rattle.edf_program.specs.Text.{IsInstantFormat};
 ghost use Rattle.edf_command.specs.Listing.{AreHeldBy, AreRecordingsListed};
 
 use edf_fragment::Output;
 use edf_header::Identity;
-use edf_program::{Status, concat, put_line, spelled, tell_refused};
+use edf_program::{Status, concat, print_refused, put_line, spelled};
 use edf_store::{Store, StoreFault, Summary};
 use sqlite::Alter;
 use std::alloc::{AllocError, Global};
@@ -28,7 +29,7 @@ fn list_line(
     summary: &Summary,
 ) -> Result<Vec<u8>, AllocError>
     ensures { IfOk result (λ r. (spell : ℕ → List ℕ) (records : List DataRecord) →
-        IsSpelling spell → IsSummary records (Some summary.now) →
+        IsInstantFormat spell → IsSummary records (Some summary.now) →
         r.items ≡ list_line spell place identity.now records) }
 {
     let place = format!(in alloc; "{place}")?;
@@ -60,12 +61,12 @@ fn put_recording<S: Alter, O: Output>(
     ensures stays { KeepsHoldings S.Store store.old store.new }
     ensures put { HasCleanDisk (at S.Store store.new) →
         IfOk result (λ written. (h : Holdings) (spell : ℕ → List ℕ) → Holds S.Store store.old h →
-        h identity.now ≢ [] → IsSpelling spell →
-        IsLinePut (growth O.Output out.old out.new) (list_line spell place identity.now
+        h identity.now ≢ [] → IsInstantFormat spell →
+        IsLineWritten (output_change O.Output out.old out.new) (list_line spell place identity.now
         (h identity.now)) written) }
     ensures counted { IfOk result
         (λ written. written ≡ true → O.failures out.new ≡ O.failures out.old) }
-    ensures nothing { IfErr result (λ _. Gets (growth O.Output out.old out.new) []) }
+    ensures nothing { IfErr result (λ _. Gets (output_change O.Output out.old out.new) []) }
     ensures unfailed { IfErr result (λ fault. fault ≢ StoreFault.Failed) }
     ensures refused { HasCleanDisk (at S.Store store.new) → IfErr result (λ fault. (h : Holdings) →
         Holds S.Store store.old h → h identity.now ≢ [] → IsStoreRefusal fault) }
@@ -90,13 +91,14 @@ fn put_recordings<S: Alter, O: Output>(
     ensures unfailed { IfErr result (λ fault. fault ≢ StoreFault.Failed) }
     ensures put { HasCleanDisk (at S.Store store.new) →
         IfOk result (λ written. (h : Holdings) (spell : ℕ → List ℕ) → Holds S.Store store.old h →
-        AreHeldBy h recordings.now → IsSpelling spell →
-        AreLinesPut (growth O.Output out.old out.new)
+        AreHeldBy h recordings.now → IsInstantFormat spell →
+        AreLinesWritten (output_change O.Output out.old out.new)
         (first_list_lines spell h recordings.now) (length recordings.now) written) }
     ensures refused { HasCleanDisk (at S.Store store.new) → IfErr result (λ fault.
         (n : ℕ) × ((h : Holdings) → Holds S.Store store.old h → AreHeldBy h recordings.now →
-        IsStoreRefusal fault × ((spell : ℕ → List ℕ) → IsSpelling spell →
-        Gets (growth O.Output out.old out.new) (first_list_lines spell h recordings.now n)))) }
+        IsStoreRefusal fault × ((spell : ℕ → List ℕ) → IsInstantFormat spell →
+        Gets (output_change O.Output out.old out.new)
+        (first_list_lines spell h recordings.now n)))) }
 {
     for (at, identity) in recordings.iter().enumerate() {
         if !put_recording(alloc, store, out, at + 1, identity)? {
@@ -107,11 +109,12 @@ fn put_recordings<S: Alter, O: Output>(
 }
 
 /// Prints why no more is listed. Printing takes no memory.
-fn tell_refusal<F: Output>(err: &mut F, fault: &StoreFault) -> Status
+fn print_refusal<F: Output>(err: &mut F, fault: &StoreFault) -> Status
     ensures { IsWritten
-        (growth F.Output err.old err.new) (list_refused_line fault.now) Status.Trouble result }
+        (output_change F.Output err.old err.new)
+        (list_refused_line fault.now) Status.Trouble result }
 {
-    tell_refused(err, "list", fault.number(), fault.name(), Status::Trouble)
+    print_refused(err, "list", fault.number(), fault.name(), Status::Trouble)
 }
 
 /// Writes a line for each recording that is held, in the order of their identities' bytes.
@@ -121,16 +124,17 @@ pub fn list<S: Alter, O: Output, F: Output>(
     out: &mut O,
     err: &mut F,
 ) -> Status
-    ensures { AreRecordingsListed S.Store store.old store.new (growth O.Output out.old out.new)
-        (growth F.Output err.old err.new) result }
+    ensures { AreRecordingsListed S.Store store.old store.new
+        (output_change O.Output out.old out.new)
+        (output_change F.Output err.old err.new) result }
 {
     let recordings = match store.identities() {
         Ok(recordings) => recordings,
-        Err(fault) => return tell_refusal(err, &fault),
+        Err(fault) => return print_refusal(err, &fault),
     };
     match put_recordings(alloc, store, out, recordings.as_slice()) {
         Ok(true) => Status::Done,
         Ok(false) => Status::Trouble,
-        Err(stop) => tell_refusal(err, &stop),
+        Err(stop) => print_refusal(err, &stop),
     }
 }

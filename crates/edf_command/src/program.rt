@@ -5,12 +5,12 @@ ghost use Rattle.std.specs.Prelude.{◌≡◌, option_map};
 ghost use Rattle.edf_command.specs.Arguments.{meaning};
 ghost use Rattle.edf_command.specs.Command.{IsCommandRead, store_path};
 ghost use Rattle.edf_command.specs.Lines.{store_refused_line, store_not_closed_line};
-ghost use Rattle.edf_program.specs.Output.{growth, IsWritten};
+ghost use Rattle.edf_program.specs.Output.{output_change, IsWritten};
 
 use crate::command_line::parse;
 use crate::order::Order;
 use edf_fragment::Output;
-use edf_program::{Status, tell_fault, tell_parts, tell_refused};
+use edf_program::{Status, print_fault, print_parts, print_refused};
 use edf_store::StoreFault;
 use itoa::Buffer;
 use std::alloc::Global;
@@ -26,12 +26,13 @@ pub fn read_command<O: Output, F: Output>(
     out: &mut O,
     err: &mut F,
 ) -> Result<Order, Status>
-    ensures { IsCommandRead (growth O.Output out.old out.new) (growth F.Output err.old err.new)
+    ensures { IsCommandRead (output_change O.Output out.old out.new)
+        (output_change F.Output err.old err.new)
         words.now result }
 {
     match parse(alloc, words) {
         Ok(command) => Ok(command),
-        Err(fault) => Err(tell_fault(&fault, out, err)),
+        Err(fault) => Err(print_fault(&fault, out, err)),
     }
 }
 
@@ -57,15 +58,16 @@ pub fn store_path(command: &Order) -> Option<&str>
 /// memory.
 pub fn refuse_store<F: Output>(fault: &StoreFault, err: &mut F) -> Status
     ensures { IsWritten
-        (growth F.Output err.old err.new) (store_refused_line fault.now) Status.Trouble result }
+        (output_change F.Output err.old err.new)
+        (store_refused_line fault.now) Status.Trouble result }
 {
-    tell_refused(err, "store", fault.number(), fault.name(), Status::Trouble)
+    print_refused(err, "store", fault.number(), fault.name(), Status::Trouble)
 }
 
 /// Prints why a store can't be closed: what is held is in its log, and not in the database file
 /// alone. Printing takes no memory.
-pub fn tell_store_not_closed<F: Output>(fault: &StoreFault, err: &mut F) -> Status
-    ensures { IsWritten (growth F.Output err.old err.new) (store_not_closed_line fault.now)
+pub fn print_store_not_closed<F: Output>(fault: &StoreFault, err: &mut F) -> Status
+    ensures { IsWritten (output_change F.Output err.old err.new) (store_not_closed_line fault.now)
         Status.Trouble result }
 {
     let mut buffer = Buffer::new();
@@ -77,5 +79,5 @@ pub fn tell_store_not_closed<F: Output>(fault: &StoreFault, err: &mut F) -> Stat
         fault.name().as_bytes(),
         b"\n",
     ];
-    tell_parts(err, &parts, Status::Trouble)
+    print_parts(err, &parts, Status::Trouble)
 }

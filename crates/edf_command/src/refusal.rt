@@ -2,7 +2,7 @@
 
 ghost use Rattle.std.specs.Prelude.{◌≡◌, ℕ, ◌++◌, List, IfOk, codes};
 ghost use Rattle.edf_command.specs.Refusals.{details, refusal_text};
-ghost use Rattle.edf_program.specs.Text.{IsSpelling};
+ghost use Rattle.edf_program.specs.Text.{IsInstantFormat};
 
 use edf_fragment::Remark;
 use edf_intake::Refusal;
@@ -12,7 +12,7 @@ use std::alloc::{AllocError, Global};
 
 /// Where the data records start that overlap.
 fn overlap_details(alloc: Global, start: Instant, stored: Instant) -> Result<Vec<u8>, AllocError>
-    ensures { IfOk result (λ r. (spell : ℕ → List ℕ) → IsSpelling spell →
+    ensures { IfOk result (λ r. (spell : ℕ → List ℕ) → IsInstantFormat spell →
         r.items ≡ codes " start=" ++ (spell start ++ (codes " stored=" ++ spell stored))) }
 {
     let first = spelled(alloc, start)?;
@@ -28,7 +28,7 @@ fn overlap_details(alloc: Global, start: Instant, stored: Instant) -> Result<Vec
 
 /// Where the data records start that differ.
 fn differs_details(alloc: Global, start: Instant) -> Result<Vec<u8>, AllocError>
-    ensures { IfOk result (λ r. (spell : ℕ → List ℕ) → IsSpelling spell →
+    ensures { IfOk result (λ r. (spell : ℕ → List ℕ) → IsInstantFormat spell →
         r.items ≡ codes " start=" ++ spell start) }
 {
     let first = spelled(alloc, start)?;
@@ -38,7 +38,7 @@ fn differs_details(alloc: Global, start: Instant) -> Result<Vec<u8>, AllocError>
 /// What a refusal names, each after its label.
 fn refusal_details(alloc: Global, refusal: &Refusal) -> Result<Vec<u8>, AllocError>
     ensures { IfOk result
-        (λ r. (spell : ℕ → List ℕ) → IsSpelling spell → r.items ≡ details spell refusal.now) }
+        (λ r. (spell : ℕ → List ℕ) → IsInstantFormat spell → r.items ≡ details spell refusal.now) }
 {
     match refusal {
         Refusal::Form(fault) => Ok(fragment_details(alloc, fault)?.into_bytes()),
@@ -67,7 +67,8 @@ pub(crate) fn remark_of(refusal: &Refusal) -> Remark {
 /// Where memory runs out.
 pub fn refusal_text(alloc: Global, refusal: &Refusal) -> Result<Vec<u8>, AllocError>
     ensures { IfOk result
-        (λ r. (spell : ℕ → List ℕ) → IsSpelling spell → r.items ≡ refusal_text spell refusal.now) }
+        (λ r. (spell : ℕ → List ℕ) → IsInstantFormat spell →
+        r.items ≡ refusal_text spell refusal.now) }
 {
     let number = format!(in alloc; "{}", refusal.number())?;
     let details = refusal_details(alloc, refusal)?;

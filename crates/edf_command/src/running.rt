@@ -2,7 +2,7 @@
 
 ghost use Rattle.std.specs.Prelude.{◌≡◌, ℕ, List};
 ghost use Rattle.edf_command.specs.Arguments.{meaning};
-ghost use Rattle.edf_program.specs.Output.{growth};
+ghost use Rattle.edf_program.specs.Output.{output_change};
 ghost use Rattle.edf_command.specs.Run.{IsDone, files_of};
 ghost use Rattle.edf_command.specs.Taking.{HasOpened};
 
@@ -32,8 +32,8 @@ pub fn run<S: Alter, I: Inputs, O: Output, F: Output>(
     out: &mut O,
     err: &mut F,
 ) -> Status
-    ensures done { IsDone S.Store store.old store.new (growth O.Output out.old out.new)
-        (growth F.Output err.old err.new) (I.bytes inputs.old) (meaning command.now) result }
+    ensures done { IsDone S.Store store.old store.new (output_change O.Output out.old out.new)
+        (output_change F.Output err.old err.new) (I.bytes inputs.old) (meaning command.now) result }
     ensures opened { HasOpened
         (I.opened inputs.old) (I.opened inputs.new) (files_of (meaning command.now)) result }
     ensures cap { store.new.cap ≡ store.old.cap }

@@ -4,14 +4,14 @@ ghost use Rattle.std.specs.Prelude.{◌≡◌, ◌++◌, ℕ, List, IfOk, MatchR
 ghost use Rattle.std.specs.Prelude.{string_bytes};
 ghost use Rattle.edf_command.specs.Lines.{accepted_line, refused_file_line, take_line};
 ghost use Rattle.edf_command.specs.Lines.{first_take_lines, answer_status, take_status};
-ghost use Rattle.edf_command.specs.Taking.{IsTaken, HasOpened, OpensFront};
-ghost use Rattle.edf_program.specs.Output.{growth, IsLinePut, AreLinesPut};
-ghost use Rattle.edf_program.specs.Text.{IsSpelling};
+ghost use Rattle.edf_command.specs.Taking.{IsTaken, HasOpened, OpensPrefix};
+ghost use Rattle.edf_program.specs.Output.{output_change, IsLineWritten, AreLinesWritten};
+ghost use Rattle.edf_program.specs.Text.{IsInstantFormat};
 
 use crate::refusal::{refusal_text, remark_of};
 use edf_fragment::Output;
 use edf_intake::{Receipt, Refusal, submit_all};
-use edf_program::{Inputs, Status, concat, put_line, status_of_number, tell_memory, worse};
+use edf_program::{Inputs, Status, concat, print_memory, put_line, status_of_number, worse};
 use edf_store::Store;
 use sqlite::Alter;
 use std::alloc::{AllocError, Global};
@@ -26,7 +26,8 @@ fn open_all<I: Inputs>(
         ≡ map (λ file. I.bytes inputs.old (string_bytes file)) files.now) }
     ensures names { MatchResult result
         (λ _. I.opened inputs.new ≡ I.opened inputs.old ++ map string_bytes files.now)
-        (λ _. OpensFront (I.opened inputs.old) (I.opened inputs.new) (map string_bytes files.now)) }
+        (λ _. OpensPrefix (I.opened inputs.old) (I.opened inputs.new)
+        (map string_bytes files.now)) }
     ensures same { (name : List ℕ) → I.bytes inputs.new name ≡ I.bytes inputs.old name }
 {
     let mut readers = Vec::new(alloc);
@@ -43,7 +44,7 @@ pub fn refused_file_line(
     name: &str,
     refusal: &Refusal,
 ) -> Result<Vec<u8>, AllocError>
-    ensures { IfOk result (λ r. (spell : ℕ → List ℕ) → IsSpelling spell →
+    ensures { IfOk result (λ r. (spell : ℕ → List ℕ) → IsInstantFormat spell →
         r.items ≡ refused_file_line spell name.now refusal.now) }
 {
     let text = refusal_text(alloc, refusal)?;
@@ -67,7 +68,7 @@ fn take_line(
     name: &str,
     answer: &Result<Receipt, Refusal>,
 ) -> Result<Vec<u8>, AllocError>
-    ensures { IfOk result (λ r. (spell : ℕ → List ℕ) → IsSpelling spell →
+    ensures { IfOk result (λ r. (spell : ℕ → List ℕ) → IsInstantFormat spell →
         r.items ≡ take_line spell name.now answer.now) }
 {
     match answer {
@@ -87,8 +88,9 @@ fn put_answer<O: Output>(
     name: &str,
     answer: &Result<Receipt, Refusal>,
 ) -> bool
-    ensures { (spell : ℕ → List ℕ) → IsSpelling spell →
-        IsLinePut (growth O.Output out.old out.new) (take_line spell name.now answer.now) result }
+    ensures { (spell : ℕ → List ℕ) → IsInstantFormat spell →
+        IsLineWritten (output_change O.Output out.old out.new)
+        (take_line spell name.now answer.now) result }
 {
     if !put_line(out, take_line(alloc, name, answer)) {
         return false;
@@ -109,8 +111,8 @@ fn put_answers<O: Output>(
     files: &[String],
     answers: &[Result<Receipt, Refusal>],
 ) -> bool
-    ensures { (spell : ℕ → List ℕ) → IsSpelling spell →
-        AreLinesPut (growth O.Output out.old out.new)
+    ensures { (spell : ℕ → List ℕ) → IsInstantFormat spell →
+        AreLinesWritten (output_change O.Output out.old out.new)
         (first_take_lines spell (map string_bytes files.now) answers.now)
         (length answers.now) result }
 {
@@ -152,18 +154,19 @@ pub(crate) fn take<S: Alter, I: Inputs, O: Output, F: Output>(
     out: &mut O,
     err: &mut F,
 ) -> Status
-    ensures taken { IsTaken S.Store store.old store.new (growth O.Output out.old out.new)
-        (growth F.Output err.old err.new) (I.bytes inputs.old) (map string_bytes files.now) result }
+    ensures taken { IsTaken S.Store store.old store.new (output_change O.Output out.old out.new)
+        (output_change F.Output err.old err.new) (I.bytes inputs.old)
+        (map string_bytes files.now) result }
     ensures opened { HasOpened
         (I.opened inputs.old) (I.opened inputs.new) (map string_bytes files.now) result }
     ensures cap { store.new.cap ≡ store.old.cap }
     ensures same { (name : List ℕ) → I.bytes inputs.new name ≡ I.bytes inputs.old name }
 {
     let Ok(mut readers) = open_all(alloc, inputs, files) else {
-        return tell_memory(err, "take");
+        return print_memory(err, "take");
     };
     let Ok(answers) = submit_all(alloc, store, readers.as_mut_slice()) else {
-        return tell_memory(err, "take");
+        return print_memory(err, "take");
     };
     if put_answers(alloc, out, files, answers.as_slice()) {
         take_status(answers.as_slice())

@@ -23,7 +23,7 @@ use Rattle.edf_export.specs.Headline.{IsOnlyFile}
 use Rattle.edf_runs.specs.ByOnset.{annotations_of}
 use Rattle.edf_runs.specs.Runs.{AreListed}
 use Rattle.edf_runs.specs.declared.run_list.Listing.{Listing}
-use Rattle.edf_program.specs.Output.{Growth, Gets, AreTold, IsWritten}
+use Rattle.edf_program.specs.Output.{OutputChange, Gets, AreLinesPrinted, IsWritten}
 use Rattle.edf_program.specs.Status.{is_trouble, status_of_number, worse}
 use Rattle.edf_program.specs.declared.status.Status.{Status}
 use Rattle.edf_program.specs.declared.status.Status.TheVariants.{Done, Refused, Usage, Trouble}
@@ -47,8 +47,8 @@ use Rattle.edf_page.specs.declared.night.Recording.{Recording}
 
 -- ---- what was said, where there was no trouble
 
-pub said-whole : (w : Growth) (lines : ℕ → List ℕ) (count : ℕ) (wanted status : Status) →
-    AreTold w lines count wanted status → status ≢ Trouble →
+pub said-whole : (w : OutputChange) (lines : ℕ → List ℕ) (count : ℕ) (wanted status : Status) →
+    AreLinesPrinted w lines count wanted status → status ≢ Trouble →
     Gets w (lines count) × (status ≡ wanted)
 said-whole w lines count wanted status (inl (inl p)) calm = p
 said-whole w lines count wanted status (inl (inr p)) calm = absurd (calm p.1)
@@ -60,7 +60,7 @@ pub not-trouble : (Done ≢ Trouble)
 not-trouble is = cc
 
 -- what was written in trouble was not done
-pub not-written : (w : Growth) (text : List ℕ) (status : Status) → status ≡ Done →
+pub not-written : (w : OutputChange) (text : List ℕ) (status : Status) → status ≡ Done →
     IsWritten w text Trouble status → ⊥
 not-written w text status done (inl p) = not-trouble (sym done ∙ p.1)
 not-written w text status done (inr p) = not-trouble (sym done ∙ p.1)
@@ -70,7 +70,8 @@ refusing true is = cc
 refusing false is = cc
 
 -- nor what is a refusal
-pub not-refused : (w : Growth) (text : List ℕ) (number : ℕ) (status : Status) → status ≡ Done →
+pub not-refused : (w : OutputChange) (text : List ℕ) (number : ℕ) (status : Status) →
+    status ≡ Done →
     IsWritten w text (status_of_number number) status → ⊥
 not-refused w text number status done (inl p) = refusing (is_trouble number) (sym done ∙ p.1)
 not-refused w text number status done (inr p) = not-trouble (sym done ∙ p.1)
@@ -92,13 +93,14 @@ holds_still old new stays h has = record {
 }
 
 -- what a writer holds that got these bytes, and held nothing before
-pub gets-whole : (w : Growth) (text bytes : List ℕ) → w.before ≡ Some [] → w.after ≡ Some text →
+pub gets-whole : (w : OutputChange) (text bytes : List ℕ) → w.before ≡ Some [] →
+    w.after ≡ Some text →
     Gets w bytes → text ≡ bytes
 gets-whole w text bytes from to got =
     subst (λ (a : Option (List ℕ)). Appends (Some []) a bytes) to
     (subst (λ (b : Option (List ℕ)). Appends b w.after bytes) from got.0)
 
-pub lists-all : (out err : Growth) (text : List ℕ) (h : Holdings) → out.before ≡ Some [] →
+pub lists-all : (out err : OutputChange) (text : List ℕ) (h : Holdings) → out.before ≡ Some [] →
     out.after ≡ Some text → ListsAll out err h Done ⊎ StopsListing out err h Done → ListsHeld h text
 lists-all out err text h from to (inr stop) = absurd (not-written err _ _ refl stop.said)
 lists-all out err text h from to (inl all) = record {
@@ -127,7 +129,7 @@ only-file before file k records len from out =
 
 -- what was done of what a reader had
 pub written-of : (asked given : Asked) (own bytes text : List ℕ) (made : Making)
-    (out err : Growth) → given ≡ asked → own ≡ bytes →
+    (out err : OutputChange) → given ≡ asked → own ≡ bytes →
     IsDone (λ _. Some own) made out err given Done → IsText out text →
     IsWrittenOf asked bytes text
 written-of asked given own bytes text made out err same read done is = record {
@@ -140,7 +142,7 @@ written-of asked given own bytes text made out err same read done is = record {
 }
 
 -- a file that was listed whole, where nothing was listed before
-module _ (out err : Growth) (file text name : List ℕ) (from : out.before ≡ Some [])
+module _ (out err : OutputChange) (file text name : List ℕ) (from : out.before ≡ Some [])
     (to : out.after ≡ Some text) where
   of_one : (mid mid_err : Held) (one : Status) → held_after out ≡ mid → one ≡ Done →
       IsFileListed (between (held_before out) mid) (between (held_before err) mid_err) (Some file) []

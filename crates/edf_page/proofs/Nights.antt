@@ -33,9 +33,9 @@ use Rattle.edf_export.proofs.Headline.{tells-one}
 use Rattle.edf_runs.specs.Runs.{StartFrom, IsListed, IsRuns, AreListed}
 use Rattle.edf_runs.specs.declared.run.Run.{Run}
 use Rattle.edf_runs.proofs.Parts.{one-runs}
-use Rattle.edf_program.specs.Output.{Growth, Explains}
+use Rattle.edf_program.specs.Output.{OutputChange, Explains}
 use Rattle.edf_program.specs.Status.{worse}
-use Rattle.edf_program.specs.Text.{IsSpelling}
+use Rattle.edf_program.specs.Text.{IsInstantFormat}
 use Rattle.edf_program.specs.declared.status.Status.{Status}
 use Rattle.edf_program.specs.declared.status.Status.TheVariants.{Done, Refused, Usage, Trouble}
 use Rattle.edf_command.specs.Lines.{accepted_line, refused_file_line, take_line, take_lines}
@@ -322,22 +322,22 @@ calm-replies old new (from ∷ froms) (to ∷ tos) (a ∷ answers) are calm =
           ∙ ap (λ (os : List (Option Reply)). Some first.0 ∷ os) more.1,
     )
 
-will-tell : (froms : List InputState) (files : List (List ℕ)) (tolds : List Parsed) →
+will-print_text : (froms : List InputState) (files : List (List ℕ)) (tolds : List Parsed) →
     map (λ (f : InputState). f.remaining) froms ≡ map Some files → AllZip ParsesTo files tolds →
     AllZip WillParseTo froms tolds
-will-tell [] [] [] same all = tt
-will-tell [] [] (t ∷ tolds) same all = absurd all
-will-tell [] (b ∷ files) tolds same all = absurd (cc)
-will-tell (f ∷ froms) [] tolds same all = absurd (cc)
-will-tell (f ∷ froms) (b ∷ files) [] same all = absurd all
-will-tell (f ∷ froms) (b ∷ files) (t ∷ tolds) same all = (
+will-print_text [] [] [] same all = tt
+will-print_text [] [] (t ∷ tolds) same all = absurd all
+will-print_text [] (b ∷ files) tolds same all = absurd (cc)
+will-print_text (f ∷ froms) [] tolds same all = absurd (cc)
+will-print_text (f ∷ froms) (b ∷ files) [] same all = absurd all
+will-print_text (f ∷ froms) (b ∷ files) (t ∷ tolds) same all = (
   (
     b,
     head-is f.remaining (Some b) (map (λ (g : InputState). g.remaining) froms)
         (map Some files) same,
     all.0,
   ),
-  will-tell froms files tolds (tail-is f.remaining (Some b)
+  will-print_text froms files tolds (tail-is f.remaining (Some b)
       (map (λ (g : InputState). g.remaining) froms)
       (map Some files) same) all.1,
 )
@@ -349,7 +349,8 @@ take-writes-lines old new out err bytes names files lines-of tolds text status h
     (take_status t.answers) status (t.said one_spelling one_spelling-is) calm in
     let rs = calm-replies old new t.froms t.tos t.answers t.submitted
     (all-calm t.answers Done (λ is. calm (whole.1 ∙ is))) in
-    let given = (t.answered tolds rs.0 (will-tell t.froms files tolds (t.opened ∙ same) told) rs.1
+    let given = (t.answered tolds rs.0
+    (will-print_text t.froms files tolds (t.opened ∙ same) told) rs.1
     nothing_held has.holds).0 (stays_clean new.connection) in
     let replied : AreAnswered tolds t.answers = rs.1 ∙ ap (map Some) (given
     ∙ ap (λ (c : ℕ). replies c nothing_held tolds) has.cap_is) in

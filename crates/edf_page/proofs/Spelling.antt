@@ -3,7 +3,7 @@ use Rattle.std.proofs.Common.{ℕ, ◌<◌, List, []}
 use native.Mathlib.Decide.{dec_lt}
 use Rattle.edf_time.specs.Civil.{window, IsInstantText}
 use Rattle.edf_time.proofs.SomeText.{instant-text}
-use Rattle.edf_program.specs.Text.{IsSpelling}
+use Rattle.edf_program.specs.Text.{IsInstantFormat}
 
 pub some_text : (instant : ℕ) → (text : List ℕ) × (instant < window → IsInstantText text instant)
 some_text instant = elim (dec_lt instant window) [
@@ -14,5 +14,5 @@ some_text instant = elim (dec_lt instant window) [
 abbrev pub one_spelling : ℕ → List ℕ
 one_spelling instant = (some_text instant).0
 
-pub one_spelling-is : IsSpelling one_spelling
+pub one_spelling-is : IsInstantFormat one_spelling
 one_spelling-is instant lt = (some_text instant).1 lt

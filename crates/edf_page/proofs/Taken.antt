@@ -17,7 +17,7 @@ use Rattle.edf_intake.specs.Batch.{SubmitsOne}
 use Rattle.edf_intake.proofs.Batches.{in_turn, answers_all}
 use Rattle.edf_intake.specs.Refusal.{Answer, reply_of}
 use Rattle.edf_intake.specs.declared.answer.Refusal.TheVariants as refusal
-use Rattle.edf_program.specs.Text.{IsSpelling}
+use Rattle.edf_program.specs.Text.{IsInstantFormat}
 use Rattle.edf_command.specs.Lines.{take_line}
 use Rattle.edf_page.specs.declared.given.GivenFile.{GivenFile}
 use Rattle.edf_page.specs.Night.{lines_by}
@@ -61,7 +61,7 @@ submits-one old new from to bytes answer left one kept calm h told has tells =
 
 pub takes_one : (old new : StoreModel MemStore) (line name bytes : List ℕ) (answer : Answer) →
     Submits old new bytes answer →
-    ((spell : ℕ → List ℕ) → IsSpelling spell → line ≡ take_line spell name answer) →
+    ((spell : ℕ → List ℕ) → IsInstantFormat spell → line ≡ take_line spell name answer) →
     Takes old new (line ∷ []) (name ∷ []) (bytes ∷ [])
 takes_one old new line name bytes answer submits is h [] has all = absurd all
 takes_one old new line name bytes answer submits is h (told ∷ []) has all =

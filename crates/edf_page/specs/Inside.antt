@@ -16,8 +16,8 @@ use Rattle.edf_store.specs.declared.fault.StoreFault.TheVariants as fault
 use Rattle.edf_intake.specs.Refusal.{Answer, reply_of}
 use Rattle.edf_intake.specs.declared.answer.Refusal.TheVariants as refusal
 use Rattle.edf_program.specs.Making.{Making}
-use Rattle.edf_program.specs.Output.{Growth}
-use Rattle.edf_program.specs.Text.{IsSpelling}
+use Rattle.edf_program.specs.Output.{OutputChange}
+use Rattle.edf_program.specs.Text.{IsInstantFormat}
 use Rattle.edf_program.specs.declared.status.Status.TheVariants.{Done}
 use Rattle.edf_command.specs.Lines.{list_lines}
 use Rattle.edf_export.specs.Headline.{IsOnlyFile}
@@ -68,7 +68,8 @@ pub record TakesTold (new : StoreModel MemStore) (lines names : List (List ℕ))
   pub answers : List Answer
   pub answered : map reply_of answers ≡ map Some (replies MOST_RECORDS h submissions)
   pub each : length answers ≡ length names
-  pub lines_are : (spell : ℕ → List ℕ) → IsSpelling spell → lines ≡ lines_by spell names answers
+  pub lines_are : (spell : ℕ → List ℕ) → IsInstantFormat spell →
+      lines ≡ lines_by spell names answers
   pub has : HasIn new (after MOST_RECORDS h submissions)
 
 -- so whatever was held
@@ -87,7 +88,7 @@ TakesGiven old new lines files = Takes old new lines (map (λ file. file.name.no
 pub record ListsHeld (h : Holdings) (text : List ℕ) : Type 0 where
   pub keys : List Key
   pub are_keys : AreKeysOf h keys
-  pub lines : (spell : ℕ → List ℕ) → IsSpelling spell → text ≡ list_lines spell h 1 keys
+  pub lines : (spell : ℕ → List ℕ) → IsInstantFormat spell → text ≡ list_lines spell h 1 keys
 
 -- their files
 pub record ExportsHeld (h : Holdings) (files : List (List ℕ)) : Type 0 where
@@ -102,8 +103,8 @@ recording_name = codes "recording"
 -- what was asked for was done of just these bytes, where nothing was written before
 pub record IsWrittenOf (asked : Asked) (bytes text : List ℕ) : Type 0 where
   pub made : Making
-  pub out : Growth
-  pub err : Growth
+  pub out : OutputChange
+  pub err : OutputChange
   pub done : IsDone (λ _. Some bytes) made out err asked Done
   pub is_text : IsText out text
 
@@ -111,7 +112,7 @@ pub record IsWrittenOf (asked : Asked) (bytes text : List ℕ) : Type 0 where
 pub record ListsFile (file text : List ℕ) : Type 0 where
   pub listing : Listing
   pub has : HasRuns (Some file) listing
-  pub lines : (spell : ℕ → List ℕ) → IsSpelling spell →
+  pub lines : (spell : ℕ → List ℕ) → IsInstantFormat spell →
       text ≡ each_line spell (duration_of listing.identity.duration) listing.runs.items
 
 pub record DrawsFile (file picture : List ℕ) : Type 0 where

@@ -11,7 +11,7 @@ use Rattle.edf_fragment.specs.Parsed.{Parsed, ParsesTo}
 use Rattle.edf_holdings.specs.Holdings.{nothing_held}
 use Rattle.edf_store.specs.Held.{StoreModel}
 use Rattle.edf_store.specs.declared.fault.StoreFault.TheVariants as refused
-use Rattle.edf_program.specs.Output.{Growth}
+use Rattle.edf_program.specs.Output.{OutputChange}
 use Rattle.edf_program.specs.declared.status.Status.{Status}
 use Rattle.edf_program.specs.declared.status.Status.TheVariants.{Done, Trouble}
 use Rattle.edf_command.specs.Lines.{store_refused_line}
@@ -52,7 +52,7 @@ OneNightComes = (names files : List (List ℕ)) (night other : GivenNight) →
 -- what `edfstore take` writes of these files, where they are taken into a store that holds nothing
 -- and there is no trouble, is their lines, joined
 abbrev pub TakeWritesLines : Type 0
-TakeWritesLines = (old new : StoreModel MemStore) (out err : Growth)
+TakeWritesLines = (old new : StoreModel MemStore) (out err : OutputChange)
     (bytes : List ℕ → Option (List ℕ)) (names files lines : List (List ℕ))
     (submissions : List Parsed)
     (text : List ℕ) (status : Status) → HasIn old nothing_held → map bytes names ≡ map Some files →
@@ -63,7 +63,7 @@ TakeWritesLines = (old new : StoreModel MemStore) (out err : Growth)
 -- what `edfruns list` writes of the one file of a recording, where it is done, is the lines of its
 -- runs
 abbrev pub ListWritesRuns : Type 0
-ListWritesRuns = (out err : Growth) (file name text lines : List ℕ) (k : Key)
+ListWritesRuns = (out err : OutputChange) (file name text lines : List ℕ) (k : Key)
     (records : List DataRecord) → IsOnlyFile file k records →
     AreRunLines (duration_of k.duration) records lines → IsText out text →
     IsListOut (λ _. Some file) out err (name ∷ []) Done → text ≡ lines

@@ -12,7 +12,7 @@ use Rattle.edf_holdings.specs.Holdings.{Holdings, nothing_held}
 use Rattle.edf_holdings.specs.Keys.{AreKeysOf}
 use Rattle.edf_holdings.specs.Reply.{after, replies}
 use Rattle.edf_intake.specs.Refusal.{Answer, reply_of}
-use Rattle.edf_program.specs.Text.{IsSpelling}
+use Rattle.edf_program.specs.Text.{IsInstantFormat}
 use Rattle.edf_command.specs.Lines.{take_line, list_lines}
 use Rattle.edf_export.specs.Headline.{IsOnlyFile}
 use Rattle.edf_runs.specs.ByOnset.{annotations_of}
@@ -49,7 +49,7 @@ pub record AreTaken (names : List (List ℕ)) (submissions : List Parsed)
   where
     pub answers : List Answer
     pub answered : AreAnswered submissions answers
-    pub each : (spell : ℕ → List ℕ) → IsSpelling spell → lines ≡ lines_by spell names answers
+    pub each : (spell : ℕ → List ℕ) → IsInstantFormat spell → lines ≡ lines_by spell names answers
 
 -- ---- the recordings
 
@@ -57,7 +57,7 @@ pub record AreTaken (names : List (List ℕ)) (submissions : List Parsed)
 pub record AreRunLines (d : ℕ) (records : List DataRecord) (lines : List ℕ) : Type 0 where
   pub runs : List Run
   pub are_runs : AreListed d records runs
-  pub are_lines : (spell : ℕ → List ℕ) → IsSpelling spell → lines ≡ each_line spell d runs
+  pub are_lines : (spell : ℕ → List ℕ) → IsInstantFormat spell → lines ≡ each_line spell d runs
 
 -- a picture of this recording, with its codes, of its data records and of their annotations, as
 -- `edfruns picture` draws one; these are as a file has them, so the figures hold
@@ -80,7 +80,7 @@ pub record IsRecording (h : Holdings) (k : Key) (r : Recording) : Type 0 where
 pub record AreGiven (h : Holdings) (listed : List ℕ) (recordings : List Recording) : Type 0 where
   pub keys : List Key
   pub are_keys : AreKeysOf h keys
-  pub lines : (spell : ℕ → List ℕ) → IsSpelling spell → listed ≡ list_lines spell h 1 keys
+  pub lines : (spell : ℕ → List ℕ) → IsInstantFormat spell → listed ≡ list_lines spell h 1 keys
   pub each : AllZip (IsRecording h) keys recordings
 
 -- ---- all of it

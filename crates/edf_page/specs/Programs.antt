@@ -8,9 +8,9 @@ use Rattle.edf_program.specs.Making.{Making}
 use Rattle.edf_program.specs.There.{There}
 use Rattle.edf_program.specs.declared.new_files.FileStage.{FileStage}
 use Rattle.edf_program.specs.declared.new_files.FileStage.TheVariants.{Finished, Removed}
-use Rattle.edf_program.specs.Output.{Growth}
+use Rattle.edf_program.specs.Output.{OutputChange}
 use Rattle.edf_program.specs.Status.{exit_code}
-use Rattle.edf_program.specs.Words.{IsFaultTold}
+use Rattle.edf_program.specs.Words.{IsCommandFaultPrinted}
 use Rattle.edf_program.specs.declared.words.CommandFault.TheVariants as fault
 use Rattle.edfmend_command.specs.Run.{IsMendDone}
 use Rattle.edfmend_command.specs.Run as mend
@@ -66,13 +66,13 @@ pub record MakesInMemory (name bytes : List ℕ) (m : Making) (files : List Name
 -- ---- what is written
 
 -- a text in memory, where at first nothing was written and no write had failed
-pub record IsText (w : Growth) (text : List ℕ) : Type 0 where
+pub record IsText (w : OutputChange) (text : List ℕ) : Type 0 where
   pub empty : w.before ≡ Some []
   pub unfailed : w.failed_before ≡ 0
   pub is : w.after ≡ Some text
 
 -- no call or write failed, as one does where memory runs out
-abbrev pub NoneFailed : Making → Growth → Growth → Type 0
+abbrev pub NoneFailed : Making → OutputChange → OutputChange → Type 0
 NoneFailed made out err =
     (made.failed_after ≡ 0) × (out.failed_after ≡ 0) × (err.failed_after ≡ 0)
 
@@ -81,8 +81,8 @@ NoneFailed made out err =
 -- what `edfruns` does where this is asked for, with a file of this name, which has these bytes
 pub record RunsDone (name bytes : List ℕ) (asked : Asked) (ran : Ran) : Type 0 where
   pub made : Making
-  pub out : Growth
-  pub err : Growth
+  pub out : OutputChange
+  pub err : OutputChange
   pub done : IsDone (λ _. Some bytes) made out err asked ran.status
   pub made_by : HasMade made asked
   pub files : MakesInMemory name bytes made ran.files.items
@@ -93,8 +93,8 @@ pub record RunsDone (name bytes : List ℕ) (asked : Asked) (ran : Ran) : Type 0
 -- what `edfmend` does so
 pub record MendDone (name bytes : List ℕ) (asked : mend.Asked) (ran : Ran) : Type 0 where
   pub made : Making
-  pub out : Growth
-  pub err : Growth
+  pub out : OutputChange
+  pub err : OutputChange
   pub done : IsMendDone made out err (Some bytes) asked ran.status
   pub files : MakesInMemory name bytes made ran.files.items
   pub unfailed : NoneFailed made out err
@@ -103,9 +103,9 @@ pub record MendDone (name bytes : List ℕ) (asked : mend.Asked) (ran : Ran) : T
 
 -- this text says that nothing can be done; no file is made
 pub record TellsUsage (text : String Global) (ran : Ran) : Type 0 where
-  pub out : Growth
-  pub err : Growth
-  pub says : IsFaultTold out err (fault.Usage text) ran.status
+  pub out : OutputChange
+  pub err : OutputChange
+  pub says : IsCommandFaultPrinted out err (fault.Usage text) ran.status
   pub unfailed : err.failed_after ≡ 0
   pub written : IsText out ran.out.items
   pub told : IsText err ran.err.items

@@ -1,7 +1,7 @@
 //! Laws of what comes of files: the contract of each function is laws, and its body does nothing.
 
 ghost use Rattle.std.specs.Prelude.{ℕ, List};
-ghost use Rattle.edf_program.specs.Text.{IsSpelling};
+ghost use Rattle.edf_program.specs.Text.{IsInstantFormat};
 ghost use Rattle.edf_page.specs.Laws.{OneNightComes, TakeWritesLines, ListWritesRuns};
 ghost use Rattle.edf_page.specs.Laws.{FilesHaveFigures, StoppedAsRefused};
 
@@ -20,7 +20,7 @@ pub fn the_programs_write_this()
 
 /// Instants have a spelling, as lines have them.
 pub fn instants_have_a_spelling()
-    ensures { (spell : ℕ → List ℕ) × IsSpelling spell }
+    ensures { (spell : ℕ → List ℕ) × IsInstantFormat spell }
 {}
 
 /// The figures of a picture are those of its file's runs and annotations, whatever the file.

@@ -9,7 +9,7 @@ use crate::begun::NamedFile;
 use crate::folder::Folder;
 use crate::given::{GivenFile, OneFile};
 use crate::text::Text;
-use edf_program::{CommandFault, Status, tell_fault};
+use edf_program::{CommandFault, Status, print_fault};
 use edfmend_command::{MendCommand, MendValues, command_of, run_mend};
 use edfruns_command::{RunsCommand, run_runs};
 use std::alloc::{AllocError, Global};
@@ -95,7 +95,7 @@ fn refusal_of(alloc: Global, text: String) -> Result<Ran, AllocError>
 {
     let mut out = Text::new(alloc);
     let mut err = Text::new(alloc);
-    let status = tell_fault(&CommandFault::Usage(text), &mut out, &mut err);
+    let status = print_fault(&CommandFault::Usage(text), &mut out, &mut err);
     if err.failures > 0 {
         return Err(AllocError);
     }

@@ -85,7 +85,7 @@ pub(crate) fn give(pieces: &[&[u8]], out: &mut [u8], parts: &mut [u64]) -> u32
 }
 
 /// Tells why there is nothing to give, as far as there is room.
-pub(crate) fn tell(stopped: Stopped, out: &mut [u8], parts: &mut [u64]) -> u32
+pub(crate) fn print_text(stopped: Stopped, out: &mut [u8], parts: &mut [u64]) -> u32
     requires { 2 ≤ length parts.old }
     ensures stopped { result ≡ 2 }
     ensures told { TellsWhy out.old out.new parts.old parts.new stopped }
@@ -105,6 +105,6 @@ pub(crate) fn refuse(fault: Fault, out: &mut [u8], parts: &mut [u64]) -> u32
 {
     match fault {
         Fault::NoCall => NO_CALL,
-        Fault::Memory => tell(Stopped::Memory, out, parts),
+        Fault::Memory => print_text(Stopped::Memory, out, parts),
     }
 }

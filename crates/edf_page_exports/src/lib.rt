@@ -36,7 +36,7 @@ mod tests;
 use asked::{MOST, command_by, values_of};
 use edf_page::{GivenFile, Ran, Stopped, give_night, run_edfmend, run_edfruns};
 use given::{files_in, texts_in};
-use laying::{NO_CALL, give, refuse, tell};
+use laying::{NO_CALL, give, print_text, refuse};
 use pieces::{pieces_of_night, pieces_of_ran};
 use std::alloc::{AllocError, Global};
 
@@ -69,11 +69,11 @@ pub extern "C" fn page_night(
     };
     let night = match give_night(alloc, files.as_slice()) {
         Ok(night) => night,
-        Err(stopped) => return tell(stopped, out, parts),
+        Err(stopped) => return print_text(stopped, out, parts),
     };
     match pieces_of_night(alloc, &night) {
         Ok(pieces) => give(pieces.as_slice(), out, parts),
-        Err(_) => tell(Stopped::Memory, out, parts),
+        Err(_) => print_text(Stopped::Memory, out, parts),
     }
 }
 
@@ -86,12 +86,12 @@ fn give_ran(alloc: Global, ran: &Result<Ran, AllocError>, out: &mut [u8], parts:
         ⊎ ((result ≡ 1) × HaveNoRoom out.old out.new parts.old parts.new (pieces_of_ran ran))) }
 {
     let Ok(ran) = ran else {
-        return tell(Stopped::Memory, out, parts);
+        return print_text(Stopped::Memory, out, parts);
     };
     let status = [ran.status.code()];
     match pieces_of_ran(alloc, &status, ran) {
         Ok(pieces) => give(pieces.as_slice(), out, parts),
-        Err(_) => tell(Stopped::Memory, out, parts),
+        Err(_) => print_text(Stopped::Memory, out, parts),
     }
 }
 

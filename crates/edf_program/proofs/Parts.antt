@@ -7,7 +7,7 @@ use Rattle.std.specs.List.{flat_map}
 use Rattle.std.proofs.lemmas.Bool.{false≢true}
 use Rattle.std.proofs.lemmas.List.{take_more, flat_map_more}
 use Rattle.std.proofs.lemmas.Grind.{flat_map-append}
-use Rattle.edf_program.specs.Output.{Gets, GetsFront, IsPut}
+use Rattle.edf_program.specs.Output.{Gets, GetsPrefix, IsPut}
 use Rattle.edf_program.proofs.Puts.{grown, gets-after, front-after}
 
 pub four-parts : (a b c d rest : List ℕ) → (a ++ (b ++ (c ++ d))) ++ rest ≡ a
@@ -42,6 +42,6 @@ module _ (a : Option (List ℕ)) (old : ℕ) (b : Option (List ℕ)) (mid : ℕ)
 
   -- a part that was not written whole
   pub parts-stop : IsPut (grown b mid c new) (f (get_or xs i d)) false →
-      GetsFront (grown a old c new) (flat_map f xs)
+      GetsPrefix (grown a old c new) (flat_map f xs)
   parts-stop put = front-after a old b mid c new (flat_map f (take i xs)) (f (get_or xs i d))
       (flat_map f (drop (i + 1) xs)) (flat_map f xs) (lines-split f xs i d within) done put

@@ -10,13 +10,14 @@ use Rattle.std.specs.Bool.{MatchBool}
 use Rattle.std.specs.Io.KnownBytes.{Appends}
 use Rattle.edf_fragment.specs.Failures.{saturating_increment}
 use Rattle.edf_fragment.specs.declared.streams.Output.{Ghosts}
-use Rattle.edf_program.specs.Output.{Growth, growth, Gets, GetsFront, LacksText, IsPut, IsLinePut}
-use Rattle.edf_program.specs.Output.{IsWritten, IsTextTold, AreTold}
+use Rattle.edf_program.specs.Output.{OutputChange, output_change, Gets, GetsPrefix}
+use Rattle.edf_program.specs.Output.{RunsOutOfMemoryForLine, IsPut, IsLineWritten}
+use Rattle.edf_program.specs.Output.{IsWritten, IsLinePrinted, AreLinesPrinted}
 use Rattle.edf_program.specs.declared.status.Status.{Status}
 use Rattle.edf_program.specs.declared.status.Status.TheVariants.{Trouble}
 
 -- what a writer got, by the values before and after
-abbrev pub grown : Option (List ℕ) → ℕ → Option (List ℕ) → ℕ → Growth
+abbrev pub grown : Option (List ℕ) → ℕ → Option (List ℕ) → ℕ → OutputChange
 grown before failed_before after failed_after =
     record {
       before = before;
@@ -46,7 +47,7 @@ put-sent before old after new bytes false s = (
   s.3,
 )
 
-module _ (w : Growth) where
+module _ (w : OutputChange) where
   pub done-put : (bytes : List ℕ) (written : Bool) (wanted : Status) → IsPut w bytes written →
       written ≡ true → IsWritten w bytes wanted wanted
   done-put bytes true wanted p e = inl (p, refl)
@@ -58,8 +59,9 @@ module _ (w : Growth) where
   trouble-put bytes true wanted p e = absurd (false≢true (sym e))
 
   -- lines, of which one could not be written
-  pub trouble-lines : (lines : ℕ → List ℕ) (count : ℕ) (wanted : Status) → GetsFront w (lines count)
-      ⊎ LacksText w lines count → AreTold w lines count wanted Trouble
+  pub trouble-lines : (lines : ℕ → List ℕ) (count : ℕ) (wanted : Status) →
+      GetsPrefix w (lines count)
+      ⊎ RunsOutOfMemoryForLine w lines count → AreLinesPrinted w lines count wanted Trouble
   trouble-lines lines count wanted (inl cut) = inl (inr (cut, refl))
   trouble-lines lines count wanted (inr lacks) = inr (lacks, refl)
 
@@ -74,14 +76,14 @@ module _ (w : Growth) where
         (λ _. Gets w [] × (status ≡ Trouble))
 
     pub line-put : (line : Result T E) (written : Bool) (text : List ℕ) → IsPutBy line written →
-        IfOk line (λ l. items l ≡ text) → IsLinePut w text written
+        IfOk line (λ l. items l ≡ text) → IsLineWritten w text written
     line-put (Ok l) true text p is = subst (Gets w) is p
-    line-put (Ok l) false text p is = inl (subst (GetsFront w) is p)
+    line-put (Ok l) false text p is = inl (subst (GetsPrefix w) is p)
     line-put (Err e) true text p is = absurd (false≢true (sym p.1))
     line-put (Err e) false text p is = inr p.0
 
     pub line-told : (line : Result T E) (wanted status : Status) (text : List ℕ) →
-        IsToldBy line wanted status → IfOk line (λ l. items l ≡ text) → IsTextTold w text wanted
+        IsToldBy line wanted status → IfOk line (λ l. items l ≡ text) → IsLinePrinted w text wanted
         status
     line-told (Ok l) wanted status text p is =
         inl (subst (λ (t : List ℕ). IsWritten w t wanted status) is p)
@@ -100,13 +102,13 @@ module _ (w : Growth) where
 -- ---- a remark
 
 -- what is said of a writer before a remark is so after it
-pub remarked : {W : Type 0} (g : Ghosts W) (old new later : W) (Is : Growth → Type 0) →
+pub remarked : {W : Type 0} (g : Ghosts W) (old new later : W) (Is : OutputChange → Type 0) →
     g.contents later ≡ g.contents new → g.failures later ≡ g.failures new →
-    Is (growth g old new) → Is (growth g old later)
+    Is (output_change g old new) → Is (output_change g old later)
 remarked g old new later Is same_contents same_failures is =
     let c = sym same_contents in
     let f = sym same_failures in
-    let same : growth g old new ≡ growth g old later =
+    let same : output_change g old new ≡ output_change g old later =
     λ i. record {
       before = g.contents old;
       failed_before = g.failures old;
@@ -139,8 +141,8 @@ module _ (a : Option (List ℕ)) (old : ℕ) (b : Option (List ℕ)) (mid : ℕ)
 
   -- some bytes were written, and then a front of those after them
   pub front-after : (done line rest all : List ℕ) → all ≡ done ++ (line ++ rest) →
-      Gets (grown a old b mid) done → GetsFront (grown b mid c new) line →
-      GetsFront (grown a old c new) all
+      Gets (grown a old b mid) done → GetsPrefix (grown b mid c new) line →
+      GetsPrefix (grown a old c new) all
   front-after done line rest all e first then = (
     record {
       front = done ++ then.0.front;
@@ -156,8 +158,8 @@ module _ (a : Option (List ℕ)) (old : ℕ) (b : Option (List ℕ)) (mid : ℕ)
   -- some lines were written, and the next one was not
   pub stops-after : (lines : ℕ → List ℕ) (count n : ℕ) (line rest : List ℕ) → n < count →
       lines count ≡ lines n ++ (line ++ rest) → Gets (grown a old b mid) (lines n)
-      → IsLinePut (grown b mid c new) line false → GetsFront (grown a old c new) (lines count)
-      ⊎ LacksText (grown a old c new) lines count
+      → IsLineWritten (grown b mid c new) line false → GetsPrefix (grown a old c new) (lines count)
+      ⊎ RunsOutOfMemoryForLine (grown a old c new) lines count
   stops-after lines count n line rest lt e first (inl cut) =
       inl (front-after (lines n) line rest (lines count) e first cut)
   stops-after lines count n line rest lt e first (inr none) =

@@ -10,14 +10,14 @@ use Rattle.edf_program.specs.declared.status.Status.TheVariants.{Trouble}
 
 -- what a writer holds before and after, where that is known, and how many of its writes failed or
 -- took nothing
-pub record Growth : Type 0 where
+pub record OutputChange : Type 0 where
   pub before : Option (List ℕ)
   pub failed_before : ℕ
   pub after : Option (List ℕ)
   pub failed_after : ℕ
 
-abbrev pub growth : {W : Type 0} → Ghosts W → W → W → Growth
-growth g old new = record {
+abbrev pub output_change : {W : Type 0} → Ghosts W → W → W → OutputChange
+output_change g old new = record {
   before = g.contents old;
   failed_before = g.failures old;
   after = g.contents new;
@@ -25,17 +25,17 @@ growth g old new = record {
 }
 
 -- it got just these bytes, and no write failed
-abbrev pub Gets : Growth → List ℕ → Type 0
+abbrev pub Gets : OutputChange → List ℕ → Type 0
 Gets w bytes = Appends w.before w.after bytes × (w.failed_after ≡ w.failed_before)
 
 -- it got a front of them, and then a write failed or took nothing
-abbrev pub GetsFront : Growth → List ℕ → Type 0
-GetsFront w bytes = WritesPrefix w.before w.after bytes
+abbrev pub GetsPrefix : OutputChange → List ℕ → Type 0
+GetsPrefix w bytes = WritesPrefix w.before w.after bytes
     × (w.failed_after ≡ saturating_increment w.failed_before)
 
 -- memory for the text of a line was refused: of `count` lines, of which the first n are `lines n`,
 -- those before it were written
-pub record LacksText (w : Growth) (lines : ℕ → List ℕ) (count : ℕ) : Type 0 where
+pub record RunsOutOfMemoryForLine (w : OutputChange) (lines : ℕ → List ℕ) (count : ℕ) : Type 0 where
   pub written : ℕ
   pub fewer : written < count
   pub wrote : Gets w (lines written)
@@ -43,33 +43,34 @@ pub record LacksText (w : Growth) (lines : ℕ → List ℕ) (count : ℕ) : Typ
 -- ---- what is answered by `true`, and by `false`
 
 -- the bytes were written; or a write failed
-abbrev pub IsPut : Growth → List ℕ → Bool → Type 0
-IsPut w bytes written = MatchBool written (Gets w bytes) (GetsFront w bytes)
+abbrev pub IsPut : OutputChange → List ℕ → Bool → Type 0
+IsPut w bytes written = MatchBool written (Gets w bytes) (GetsPrefix w bytes)
 
 -- a line was written; or a write failed, or memory for its text was refused
-abbrev pub IsLinePut : Growth → List ℕ → Bool → Type 0
-IsLinePut w text written = MatchBool written (Gets w text) (GetsFront w text ⊎ Gets w [])
+abbrev pub IsLineWritten : OutputChange → List ℕ → Bool → Type 0
+IsLineWritten w text written = MatchBool written (Gets w text) (GetsPrefix w text ⊎ Gets w [])
 
 -- `count` lines were written; or a write failed, or memory for the text of one was refused
-abbrev pub AreLinesPut : Growth → (ℕ → List ℕ) → ℕ → Bool → Type 0
-AreLinesPut w lines count written =
-    MatchBool written (Gets w (lines count)) (GetsFront w (lines count)
-    ⊎ LacksText w lines count)
+abbrev pub AreLinesWritten : OutputChange → (ℕ → List ℕ) → ℕ → Bool → Type 0
+AreLinesWritten w lines count written =
+    MatchBool written (Gets w (lines count)) (GetsPrefix w (lines count)
+    ⊎ RunsOutOfMemoryForLine w lines count)
 
 -- ---- what is answered by a status: the one that was asked for, or trouble
 
-abbrev pub IsWritten : Growth → List ℕ → Status → Status → Type 0
+abbrev pub IsWritten : OutputChange → List ℕ → Status → Status → Type 0
 IsWritten w bytes wanted status = (Gets w bytes × (status ≡ wanted))
-    ⊎ (GetsFront w bytes × (status ≡ Trouble))
+    ⊎ (GetsPrefix w bytes × (status ≡ Trouble))
 
 -- or memory for the text was refused
-abbrev pub IsTextTold : Growth → List ℕ → Status → Status → Type 0
-IsTextTold w text wanted status = IsWritten w text wanted status ⊎ (Gets w [] × (status ≡ Trouble))
+abbrev pub IsLinePrinted : OutputChange → List ℕ → Status → Status → Type 0
+IsLinePrinted w text wanted status = IsWritten w text wanted status
+    ⊎ (Gets w [] × (status ≡ Trouble))
 
-abbrev pub AreTold : Growth → (ℕ → List ℕ) → ℕ → Status → Status → Type 0
-AreTold w lines count wanted status = IsWritten w (lines count) wanted status
-    ⊎ (LacksText w lines count × (status ≡ Trouble))
+abbrev pub AreLinesPrinted : OutputChange → (ℕ → List ℕ) → ℕ → Status → Status → Type 0
+AreLinesPrinted w lines count wanted status = IsWritten w (lines count) wanted status
+    ⊎ (RunsOutOfMemoryForLine w lines count × (status ≡ Trouble))
 
 -- nothing went to `out`, and a line to `err`
-abbrev pub Explains : Growth → Growth → List ℕ → Status → Status → Type 0
+abbrev pub Explains : OutputChange → OutputChange → List ℕ → Status → Status → Type 0
 Explains out err text wanted status = Gets out [] × IsWritten err text wanted status

@@ -9,8 +9,8 @@ use Rattle.edf_fragment.specs.declared.fault.FragmentFault.{FragmentFault}
 use Rattle.edf_fragment.specs.declared.fault.FragmentFault.TheVariants as fragment
 
 -- how instants are written: each of the window by its text, of which it has one by a law
-abbrev pub IsSpelling : (ℕ → List ℕ) → Type 0
-IsSpelling spell = (instant : ℕ) → instant < window → IsInstantText (spell instant) instant
+abbrev pub IsInstantFormat : (ℕ → List ℕ) → Type 0
+IsInstantFormat spell = (instant : ℕ) → instant < window → IsInstantText (spell instant) instant
 
 -- by a fault's number and name, and what comes after them
 abbrev pub fault_text : ℕ → List ℕ → List ℕ → List ℕ

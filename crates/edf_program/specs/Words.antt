@@ -2,7 +2,7 @@
 use Rattle.std.specs.Prelude.{ℕ, List, [], Bool, true, false, codes, string_bytes}
 use Rattle.clap.specs.declared.error.kind.ErrorKind.{ErrorKind}
 use Rattle.clap.specs.declared.error.kind.ErrorKind.TheVariants.{DisplayHelp, DisplayVersion}
-use Rattle.edf_program.specs.Output.{Growth, Gets, IsWritten, Explains}
+use Rattle.edf_program.specs.Output.{OutputChange, Gets, IsWritten, Explains}
 use Rattle.edf_program.specs.Text.{memory_line}
 use Rattle.edf_program.specs.declared.status.Status.{Status}
 use Rattle.edf_program.specs.declared.status.Status.TheVariants.{Done, Usage, Trouble}
@@ -32,8 +32,11 @@ command_memory_line = memory_line (codes "command")
 
 -- help goes to `out`, and else to `err` why the words ask for nothing, or that there is no memory
 -- for them
-abbrev pub IsFaultTold : Growth → Growth → CommandFault → Status → Type 0
-IsFaultTold out err (fault.Help text) status = IsWritten out (string_bytes text) Done status
+abbrev pub IsCommandFaultPrinted : OutputChange → OutputChange → CommandFault → Status → Type 0
+IsCommandFaultPrinted out err (fault.Help text) status =
+    IsWritten out (string_bytes text) Done status
     × Gets err []
-IsFaultTold out err (fault.Usage text) status = Explains out err (string_bytes text) Usage status
-IsFaultTold out err fault.Memory status = Explains out err command_memory_line Trouble status
+IsCommandFaultPrinted out err (fault.Usage text) status =
+    Explains out err (string_bytes text) Usage status
+IsCommandFaultPrinted out err fault.Memory status =
+    Explains out err command_memory_line Trouble status

@@ -2,7 +2,8 @@
 
 ghost use Rattle.std.specs.Prelude.{◌≡◌, ℕ, [], List, false, IfOk, MatchResult};
 ghost use Rattle.std.specs.List.{flat_map};
-ghost use Rattle.edf_program.specs.Output.{growth, Gets, IsPut, IsLinePut, IsWritten, IsTextTold};
+ghost use Rattle.edf_program.specs.Output.{output_change, Gets, IsPut, IsLineWritten, IsWritten};
+ghost use Rattle.edf_program.specs.Output.{IsLinePrinted};
 
 use crate::status::Status;
 use edf_fragment::{Output, Remark, send};
@@ -11,10 +12,10 @@ use std::alloc::AllocError;
 /// Writes a line, which brings its own line feed, and answers whether it was written whole. One for
 /// whose text memory was refused is not written.
 pub fn put_line<W: Output>(out: &mut W, line: Result<Vec<u8>, AllocError>) -> bool
-    ensures line { let w = growth W.Output out.old out.new in
+    ensures line { let w = output_change W.Output out.old out.new in
         MatchResult line (λ l. IsPut w l.items result) (λ _. Gets w [] × (result ≡ false)) }
     ensures put { (text : List ℕ) → IfOk line (λ l. l.items ≡ text) →
-        IsLinePut (growth W.Output out.old out.new) text result }
+        IsLineWritten (output_change W.Output out.old out.new) text result }
 {
     match line {
         Ok(line) => send(out, line.as_slice()),
@@ -23,8 +24,8 @@ pub fn put_line<W: Output>(out: &mut W, line: Result<Vec<u8>, AllocError>) -> bo
 }
 
 /// Writes bytes and answers a status; trouble where they are not written whole.
-pub fn tell_bytes<W: Output>(out: &mut W, bytes: &[u8], status: Status) -> Status
-    ensures { IsWritten (growth W.Output out.old out.new) bytes.now status result }
+pub fn print_bytes<W: Output>(out: &mut W, bytes: &[u8], status: Status) -> Status
+    ensures { IsWritten (output_change W.Output out.old out.new) bytes.now status result }
 {
     if send(out, bytes) {
         status
@@ -35,11 +36,15 @@ pub fn tell_bytes<W: Output>(out: &mut W, bytes: &[u8], status: Status) -> Statu
 
 /// Writes a line, which brings its own line feed, and answers a status; trouble where it is not
 /// written whole.
-pub fn tell<W: Output>(out: &mut W, line: Result<Vec<u8>, AllocError>, status: Status) -> Status
-    ensures line { let w = growth W.Output out.old out.new in MatchResult line
+pub fn print_text<W: Output>(
+    out: &mut W,
+    line: Result<Vec<u8>, AllocError>,
+    status: Status,
+) -> Status
+    ensures line { let w = output_change W.Output out.old out.new in MatchResult line
         (λ l. IsWritten w l.items status result) (λ _. Gets w [] × (result ≡ Status.Trouble)) }
     ensures told { (text : List ℕ) → IfOk line (λ l. l.items ≡ text) →
-        IsTextTold (growth W.Output out.old out.new) text status result }
+        IsLinePrinted (output_change W.Output out.old out.new) text status result }
 {
     if put_line(out, line) {
         status
@@ -51,7 +56,7 @@ pub fn tell<W: Output>(out: &mut W, line: Result<Vec<u8>, AllocError>, status: S
 /// Writes the parts of a text one after another, and answers whether they were written whole. It
 /// takes no memory.
 pub fn put_parts<W: Output>(out: &mut W, parts: &[&[u8]]) -> bool
-    ensures { IsPut (growth W.Output out.old out.new) (flat_map (λ part. part.now) parts.now)
+    ensures { IsPut (output_change W.Output out.old out.new) (flat_map (λ part. part.now) parts.now)
         result }
 {
     for part in parts {
@@ -63,8 +68,9 @@ pub fn put_parts<W: Output>(out: &mut W, parts: &[&[u8]]) -> bool
 }
 
 /// The same, answered by a status; trouble where they are not written whole.
-pub fn tell_parts<W: Output>(out: &mut W, parts: &[&[u8]], status: Status) -> Status
-    ensures { IsWritten (growth W.Output out.old out.new) (flat_map (λ part. part.now) parts.now)
+pub fn print_parts<W: Output>(out: &mut W, parts: &[&[u8]], status: Status) -> Status
+    ensures { IsWritten (output_change W.Output out.old out.new)
+        (flat_map (λ part. part.now) parts.now)
         status result }
 {
     if put_parts(out, parts) {
@@ -76,17 +82,18 @@ pub fn tell_parts<W: Output>(out: &mut W, parts: &[&[u8]], status: Status) -> St
 
 /// Writes the parts of a line, tells what it says, for a person, and answers a status; trouble
 /// where it is not written whole. It takes no memory.
-pub fn tell_line<W: Output>(
+pub fn print_line<W: Output>(
     out: &mut W,
     parts: &[&[u8]],
     name: &str,
     remark: Remark,
     status: Status,
 ) -> Status
-    ensures { IsWritten (growth W.Output out.old out.new) (flat_map (λ part. part.now) parts.now)
+    ensures { IsWritten (output_change W.Output out.old out.new)
+        (flat_map (λ part. part.now) parts.now)
         status result }
 {
-    let told = tell_parts(out, parts, status);
+    let told = print_parts(out, parts, status);
     out.remark(name, remark);
     told
 }

@@ -3,12 +3,12 @@
 
 ghost use Rattle.std.specs.Prelude.{◌≡◌, ◌++◌, ℕ, List, IfOk, OnOk, string_bytes};
 ghost use Rattle.std.specs.List.{flat_map};
-ghost use Rattle.edf_program.specs.Output.{growth, IsWritten};
-ghost use Rattle.edf_program.specs.Text.{IsSpelling, detail, fragment_details};
+ghost use Rattle.edf_program.specs.Output.{output_change, IsWritten};
+ghost use Rattle.edf_program.specs.Text.{IsInstantFormat, detail, fragment_details};
 ghost use Rattle.edf_program.specs.Text.{fragment_fault_text, memory_line, refused_line};
 ghost use Rattle.edf_program.specs.Text.{there_line};
 
-use crate::output::tell_line;
+use crate::output::print_line;
 use crate::status::Status;
 use edf_fragment::{FragmentFault, Output, Remark};
 use edf_time::laws::instant_is_in_window;
@@ -35,7 +35,8 @@ pub fn concat(alloc: Global, parts: &[&[u8]]) -> Result<Vec<u8>, AllocError>
 /// # Errors
 /// Where memory runs out.
 pub fn spelled(alloc: Global, instant: Instant) -> Result<Vec<u8>, AllocError>
-    ensures { IfOk result (λ r. (spell : ℕ → List ℕ) → IsSpelling spell → r.items ≡ spell instant) }
+    ensures { IfOk result (λ r. (spell : ℕ → List ℕ) → IsInstantFormat spell →
+        r.items ≡ spell instant) }
 {
     // An instant of the window has one spelling.
     instant_is_in_window(instant);
@@ -95,14 +96,14 @@ pub fn fragment_fault_text(alloc: Global, fault: &FragmentFault) -> Result<Strin
 
 /// Prints why something is refused: its name, and the fault's number and name. Printing takes no
 /// memory.
-pub fn tell_refused<F: Output>(
+pub fn print_refused<F: Output>(
     err: &mut F,
     name: &str,
     number: u8,
     fault: &str,
     status: Status,
 ) -> Status
-    ensures { IsWritten (growth F.Output err.old err.new)
+    ensures { IsWritten (output_change F.Output err.old err.new)
         (refused_line name.now number fault.now) status result }
 {
     let mut buffer = Buffer::new();
@@ -115,23 +116,25 @@ pub fn tell_refused<F: Output>(
         fault.as_bytes(),
         b"\n",
     ];
-    tell_line(err, &parts, name, Remark::Refused(number), status)
+    print_line(err, &parts, name, Remark::Refused(number), status)
 }
 
 /// Prints that something is refused for want of memory. Printing takes none.
-pub fn tell_memory<F: Output>(err: &mut F, name: &str) -> Status
-    ensures { IsWritten (growth F.Output err.old err.new) (memory_line name.now) Status.Trouble
+pub fn print_memory<F: Output>(err: &mut F, name: &str) -> Status
+    ensures { IsWritten (output_change F.Output err.old err.new)
+        (memory_line name.now) Status.Trouble
         result }
 {
     let fault = FragmentFault::Memory;
-    tell_refused(err, name, fault.number(), fault.name(), Status::Trouble)
+    print_refused(err, name, fault.number(), fault.name(), Status::Trouble)
 }
 
 /// Prints that there is something of the name that a file was to get. Printing takes no memory.
-pub fn tell_there<F: Output>(err: &mut F, name: &str) -> Status
-    ensures { IsWritten (growth F.Output err.old err.new) (there_line name.now) Status.Refused
+pub fn print_name_taken<F: Output>(err: &mut F, name: &str) -> Status
+    ensures { IsWritten (output_change F.Output err.old err.new)
+        (there_line name.now) Status.Refused
         result }
 {
     let parts = [name.as_bytes(), b" is there already; nothing was written\n"];
-    tell_line(err, &parts, name, Remark::Taken, Status::Refused)
+    print_line(err, &parts, name, Remark::Taken, Status::Refused)
 }

@@ -2,12 +2,12 @@
 
 ghost use Rattle.std.specs.Prelude.{◌≡◌, false, true, IfOk};
 ghost use Rattle.clap.specs.Words.{kind_of};
-ghost use Rattle.edf_program.specs.Output.{growth};
-ghost use Rattle.edf_program.specs.Words.{IsNoHelp, IsNoUsage, IsFaultTold, is_mistake};
+ghost use Rattle.edf_program.specs.Output.{output_change};
+ghost use Rattle.edf_program.specs.Words.{IsNoHelp, IsNoUsage, IsCommandFaultPrinted, is_mistake};
 
-use crate::output::tell_bytes;
+use crate::output::print_bytes;
 use crate::status::Status;
-use crate::text::tell_memory;
+use crate::text::print_memory;
 use clap::error::ErrorKind;
 use clap::{Command, Error};
 use edf_fragment::Output;
@@ -77,13 +77,14 @@ pub fn refuse_value(
 
 /// Writes why there is no command to run: help to `out`, else to `err` why the words ask for
 /// nothing, or that there is no memory for them.
-pub fn tell_fault<O: Output, F: Output>(fault: &CommandFault, out: &mut O, err: &mut F) -> Status
-    ensures { IsFaultTold (growth O.Output out.old out.new) (growth F.Output err.old err.new)
+pub fn print_fault<O: Output, F: Output>(fault: &CommandFault, out: &mut O, err: &mut F) -> Status
+    ensures { IsCommandFaultPrinted (output_change O.Output out.old out.new)
+        (output_change F.Output err.old err.new)
         fault.now result }
 {
     match fault {
-        CommandFault::Help(text) => tell_bytes(out, text.as_bytes(), Status::Done),
-        CommandFault::Usage(text) => tell_bytes(err, text.as_bytes(), Status::Usage),
-        CommandFault::Memory => tell_memory(err, "command"),
+        CommandFault::Help(text) => print_bytes(out, text.as_bytes(), Status::Done),
+        CommandFault::Usage(text) => print_bytes(err, text.as_bytes(), Status::Usage),
+        CommandFault::Memory => print_memory(err, "command"),
     }
 }

@@ -24,7 +24,7 @@ use Rattle.edf_intake.proofs.Turns.{IsMade, turn_of}
 use Rattle.edf_intake.proofs.Batches.{in_turn}
 use Rattle.edf_command.specs.Arguments.{Asked}
 use Rattle.edf_command.specs.Arguments.Asked.{take, list, export, convert}
-use Rattle.edf_program.specs.Output.{Growth, Explains, AreTold}
+use Rattle.edf_program.specs.Output.{OutputChange, Explains, AreLinesPrinted}
 use Rattle.edf_program.specs.Text.{memory_line}
 use Rattle.edf_program.proofs.Undone.{trouble-told}
 use Rattle.edf_program.specs.declared.status.Status.{Status}
@@ -115,13 +115,13 @@ module _ {S : Type 0} (g : Ghosts S) where
 -- ---- a command
 
 pub record Turned {D : Type 0} {g : disk.Ghosts D} (c : Command)
-    (old new : StoreModel (FileStore D g)) (err : Growth) (status : Status) : Type 0 where
+    (old new : StoreModel (FileStore D g)) (err : OutputChange) (status : Status) : Type 0 where
   pub turns : List Turn
   pub takes : TakesTurns over_files old new turns
   pub does : DoesCommand c old new turns err status
 
 module _ {D : Type 0} {g : disk.Ghosts D} (bytes : List ℕ → Option (List ℕ))
-    (before after : List (List ℕ)) (out err : Growth) where
+    (before after : List (List ℕ)) (out err : OutputChange) where
   -- no file was to be taken, and what is held stays
   idle_done : (asked : Asked) (old new : StoreModel (FileStore D g)) (status : Status) →
       IsDone over_files old new out err bytes asked status →
@@ -171,7 +171,7 @@ module _ {D : Type 0} {g : disk.Ghosts D} (bytes : List ℕ → Option (List ℕ
             sym (map-map (λ (f : InputState). f.remaining) (λ (u : Turn). u.from) s.turns)
                 ∙ ap (λ (l : List InputState). map (λ (f : InputState). f.remaining) l) s.froms_are
                 ∙ t.opened,
-            λ spell spells. subst (λ (answers : List Answer). AreTold out
+            λ spell spells. subst (λ (answers : List Answer). AreLinesPrinted out
                 (first_take_lines spell files answers) (length answers) (take_status answers)
                 status) (sym s.answers_are) (t.said spell spells),
           ),

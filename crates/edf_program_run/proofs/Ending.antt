@@ -32,7 +32,7 @@ use Rattle.edf_store.specs.Held.{at, Holds}
 use Rattle.edf_store.specs.declared.fault.StoreFault.{StoreFault}
 use Rattle.edf_store.specs.declared.fault.StoreFault.TheVariants.{Memory, Store, Foreign, Failed}
 use Rattle.edf_intake.specs.Batch.{submissions_in, replies_in}
-use Rattle.edf_program.specs.Output.{Growth}
+use Rattle.edf_program.specs.Output.{OutputChange}
 use Rattle.edf_program.specs.declared.status.Status.{Status}
 use Rattle.edf_program.specs.declared.status.Status.TheVariants.{Trouble}
 use Rattle.edf_program_run.specs.Files.{Keeps, TreesKeep, FilesKeep, AreReadAs}
@@ -61,7 +61,7 @@ caused Foreign why never = absurd (never refl)
 caused Failed why never = absurd why
 
 -- under every status but trouble no failure is told
-pub none_failed : (w : Growth) (failure : Option Error) (before status : Status) →
+pub none_failed : (w : OutputChange) (failure : Option Error) (before status : Status) →
     IsCloseTold w failure before status → status ≢ Trouble → failure ≡ None
 none_failed w None before status told never = refl
 none_failed w (Some error) before status told never =

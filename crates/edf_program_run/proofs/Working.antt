@@ -22,7 +22,7 @@ use Rattle.edf_store.specs.Held.{StoreModel, at, Holds}
 use Rattle.edf_store.specs.Open.{IsOpened, IsReturned}
 use Rattle.edf_store.specs.declared.fault.StoreFault.{StoreFault}
 use Rattle.edf_intake.specs.Batch.{Turn, submissions_in, MayHaveCommittedNext, MayRemainAfterCrash}
-use Rattle.edf_program.specs.Output.{Growth}
+use Rattle.edf_program.specs.Output.{OutputChange}
 use Rattle.edf_program.specs.declared.status.Status.{Status}
 use Rattle.edf_program_run.specs.Files.{Keeps, both_tables}
 use Rattle.edf_program_run.specs.ProgramRun.{ProgramRun, Refuses, was_opened}
@@ -107,7 +107,7 @@ both_survive a b P Q one two = record {
 
 module _ {D : Type 0} {g : Ghosts D} (r : ProgramRun g) (first : Held (FileStore D g)) where
   -- the store was opened, and this was done over it
-  pub record Works (err : Growth) (status : Status) : Type 0 where
+  pub record Works (err : OutputChange) (status : Status) : Type 0 where
     pub old : StoreModel (FileStore D g)
     pub new : StoreModel (FileStore D g)
     pub turns : List Turn
@@ -126,7 +126,7 @@ module _ {D : Type 0} {g : Ghosts D} (r : ProgramRun g) (first : Held (FileStore
     pub ours_is : IsTrue ours ↔ AreOurs (file_state first).now.schema
     pub refuses : Refuses r fault ours status
 
-  module _ {err : Growth} {status : Status} (it : Works err status) where
+  module _ {err : OutputChange} {status : Status} (it : Works err status) where
     pub was_clean : HasCleanDisk (at over_files it.new) → HasCleanDisk (at over_files it.old)
     was_clean clean = let was : HasCleanDisk (at over_files it.old) =
         omega (arith, it.takes.crash.clean, clean) in was

@@ -30,7 +30,7 @@ use Rattle.edf_store.specs.declared.fault.StoreFault.{StoreFault}
 use Rattle.edf_store.specs.declared.fault.StoreFault.TheVariants.{Foreign}
 use Rattle.edf_intake.specs.Batch.{Turn}
 use Rattle.edf_command.specs.Lines.{store_not_closed_line}
-use Rattle.edf_program.specs.Output.{Growth, Gets, IsWritten}
+use Rattle.edf_program.specs.Output.{OutputChange, Gets, IsWritten}
 use Rattle.edf_program.specs.declared.status.Status.{Status}
 use Rattle.edf_program.specs.declared.status.Status.TheVariants.{Trouble}
 use Rattle.edf_program_run.specs.Files.{Keeps, TreesKeep, FilesKeep, AreReadAs}
@@ -50,7 +50,7 @@ pub record IsLetGo {D : Type 0} {g : Ghosts D} (last : Held (FileStore D g))
   pub cause : IfSome failure (λ e. IsClean (view store) → FailsToClose last store e)
 
 -- what is said of it: nothing, and it went as it had gone; or a line, and it is trouble
-abbrev pub IsCloseTold : Growth → Option Error → Status → Status → Type 0
+abbrev pub IsCloseTold : OutputChange → Option Error → Status → Status → Type 0
 IsCloseTold err None before status = Gets err [] × (status ≡ before)
 IsCloseTold err (Some error) before status = (fault : StoreFault) × IsRefusalOf error fault
     × IsWritten err (store_not_closed_line fault) Trouble status

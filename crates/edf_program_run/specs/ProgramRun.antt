@@ -23,10 +23,10 @@ use Rattle.edf_intake.specs.Batch.{Turn}
 use Rattle.edf_command.specs.Arguments.{Asked}
 use Rattle.edf_command.specs.Arguments.Asked.{take}
 use Rattle.edf_command.specs.Lines.{first_take_lines, take_status, store_refused_line}
-use Rattle.edf_program.specs.Text.{IsSpelling}
+use Rattle.edf_program.specs.Text.{IsInstantFormat}
 use Rattle.edf_command.specs.Run.{IsDone, files_of}
 use Rattle.edf_command.specs.Taking.{HasOpened}
-use Rattle.edf_program.specs.Output.{Growth, Gets, AreTold, IsWritten}
+use Rattle.edf_program.specs.Output.{OutputChange, Gets, AreLinesPrinted, IsWritten}
 use Rattle.edf_program.specs.declared.status.Status.{Status}
 use Rattle.edf_program.specs.declared.status.Status.TheVariants.{Trouble}
 use Rattle.edf_program_run.specs.Turns.{given_in}
@@ -72,10 +72,10 @@ pub record ProgramRun {D : Type 0} (g : Ghosts D) : Type 1 where
   pub cap : ℕ
   pub start : Image
   pub output : Option (List ℕ)
-  pub err : Growth
+  pub err : OutputChange
   pub Noticed : Notice → Type 0
   pub Untouched : Type 0
-  pub Does : StoreModel (FileStore D g) → StoreModel (FileStore D g) → List Turn → Growth →
+  pub Does : StoreModel (FileStore D g) → StoreModel (FileStore D g) → List Turn → OutputChange →
       Status → Type 0
 
 -- the store was refused, which has our tables or not: a line says why, and nothing else was done
@@ -94,27 +94,28 @@ NotOpened r error status = (fault : StoreFault) × IsRefusalOf error fault
 
 -- what is asked, what names stand for, which were opened before and after, and standard output
 abbrev pub Command : Type 0
-Command = Asked × (List ℕ → Option (List ℕ)) × List (List ℕ) × List (List ℕ) × Growth
+Command = Asked × (List ℕ → Option (List ℕ)) × List (List ℕ) × List (List ℕ) × OutputChange
 
 -- a `take` prints of each file how it was answered
-abbrev pub Prints : Growth → Asked → List Turn → Status → Type 0
-Prints out (take store files) turns status = (spell : ℕ → List ℕ) → IsSpelling spell →
+abbrev pub Prints : OutputChange → Asked → List Turn → Status → Type 0
+Prints out (take store files) turns status = (spell : ℕ → List ℕ) → IsInstantFormat spell →
     let answers = map (λ (t : Turn). t.answer) turns in
-    AreTold out (first_take_lines spell files answers) (length answers) (take_status answers)
+    AreLinesPrinted out (first_take_lines spell files answers) (length answers)
+    (take_status answers)
     status
 Prints out other turns status = Unit {0}
 
 -- the command was done, and these were the turns of all files that it names; or there was no memory
 -- for them, and it had none
 abbrev pub DoesCommand : {D : Type 0} {g : Ghosts D} → Command → StoreModel (FileStore D g) →
-    StoreModel (FileStore D g) → List Turn → Growth → Status → Type 0
+    StoreModel (FileStore D g) → List Turn → OutputChange → Status → Type 0
 DoesCommand (asked, bytes, before, after, out) old new turns err status =
     IsDone over_files old new out err bytes asked status
     × HasOpened before after (files_of asked) status
     × (((given_in turns ≡ map bytes (files_of asked)) × Prints out asked turns status)
     ⊎ ((turns ≡ []) × Gets out [] × (status ≡ Trouble)))
 
-abbrev pub run_of : {D : Type 0} (g : Ghosts D) → ℕ → Image → Command → Growth →
+abbrev pub run_of : {D : Type 0} (g : Ghosts D) → ℕ → Image → Command → OutputChange →
     (Notice → Type 0) → (Unread : Type 0) → ProgramRun g
 run_of g cap start c err Noticed Unread = record {
   cap = cap;

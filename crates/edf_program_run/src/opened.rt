@@ -5,7 +5,7 @@ ghost use Rattle.sqlite_wal.specs.Files.{outcomes, image_at};
 ghost use Rattle.sqlite.specs.Files.{image_of};
 ghost use Rattle.sqlite.specs.declared.error.Error.{Error};
 ghost use Rattle.edf_command.specs.Arguments.{meaning};
-ghost use Rattle.edf_program.specs.Output.{growth};
+ghost use Rattle.edf_program.specs.Output.{output_change};
 ghost use Rattle.edf_program.specs.declared.status.Status.TheVariants.{Trouble};
 ghost use Rattle.edf_program_run.specs.ProgramRun.{IsNoticed, IsOpening, NotOpened, run_of};
 ghost use Rattle.edf_program_run.specs.Close.{Ran, IsRefused};
@@ -60,8 +60,8 @@ pub fn run_opened<S: Start, I: Inputs, O: Output, F: Output, W: Watch>(
       I.bytes inputs.old,
       I.opened inputs.old,
       I.opened inputs.new,
-      growth O.Output out.old out.new,
-    ) (growth F.Output err.old err.new)
+      output_change O.Output out.old out.new,
+    ) (output_change F.Output err.old err.new)
         (IsNoticed (W.noticed watch.old) (W.noticed watch.new)) (inputs.new ≡ inputs.old) in
         IfOk result (λ s. Ran r s ⊎ IsRefused r s) }
     ensures closed { IfOk result (λ s. s.status ≢ Trouble → s.failure ≡ None) }
@@ -72,8 +72,8 @@ pub fn run_opened<S: Start, I: Inputs, O: Output, F: Output, W: Watch>(
       I.bytes inputs.old,
       I.opened inputs.old,
       I.opened inputs.new,
-      growth O.Output out.old out.new,
-    ) (growth F.Output err.old err.new)
+      output_change O.Output out.old out.new,
+    ) (output_change F.Output err.old err.new)
         (IsNoticed (W.noticed watch.old) (W.noticed watch.new)) (inputs.new ≡ inputs.old) in
         IfErr result (λ e. (error : Error) × (opened ≡ Err (error, e.1)) × NotOpened r error e.0) }
 {

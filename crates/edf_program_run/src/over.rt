@@ -4,7 +4,7 @@ ghost use Rattle.std.specs.Prelude.{◌≡◌, ◌≢◌, ◌⊎◌, None, Ok, f
 ghost use Rattle.sqlite_wal.specs.Recovery.{Image};
 ghost use Rattle.sqlite.specs.Files.{file_state};
 ghost use Rattle.edf_command.specs.Arguments.{meaning};
-ghost use Rattle.edf_program.specs.Output.{growth};
+ghost use Rattle.edf_program.specs.Output.{output_change};
 ghost use Rattle.edf_program.specs.declared.status.Status.TheVariants.{Trouble};
 ghost use Rattle.edf_program_run.specs.ProgramRun.{IsNoticed, IsOpening, run_of};
 ghost use Rattle.edf_program_run.specs.Close.{Ran, IsRefused};
@@ -39,8 +39,8 @@ pub(crate) fn run_over<D: Disk + Drop, I: Inputs, O: Output, F: Output, W: Watch
           I.bytes inputs.old,
           I.opened inputs.old,
           I.opened inputs.new,
-          growth O.Output out.old out.new,
-        ) (growth F.Output err.old err.new)
+          output_change O.Output out.old out.new,
+        ) (output_change F.Output err.old err.new)
         (IsNoticed (W.noticed watch.old) (W.noticed watch.new)) (inputs.new ≡ inputs.old)
         in Ran r result ⊎ IsRefused r result }
     ensures closed { result.status ≢ Trouble → result.failure ≡ None }

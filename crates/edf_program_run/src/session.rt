@@ -9,11 +9,11 @@ ghost use Rattle.sqlite.specs.Closing.{IsCopied};
 ghost use Rattle.sqlite.specs.Files.{HoldsDatabase, file_state};
 ghost use Rattle.sqlite.specs.State.{HasCleanDisk, store_error};
 ghost use Rattle.sqlite.specs.Tree.{Trees};
-ghost use Rattle.edf_program.specs.Output.{growth};
+ghost use Rattle.edf_program.specs.Output.{output_change};
 ghost use Rattle.edf_program.specs.declared.status.Status.{Status};
 ghost use Rattle.edf_program_run.specs.Close.{IsLetGo, IsCloseTold};
 
-use edf_command::{Status, tell_store_not_closed};
+use edf_command::{Status, print_store_not_closed};
 use edf_fragment::Output;
 use edf_store::StoreFault;
 use sqlite::{Connection, Error, ErrorCode, FileStore, Files};
@@ -55,12 +55,12 @@ fn give_up<D: Disk + Drop, F: Output>(
 ) -> EndedRun<D>
     ensures failure { result.failure ≡ Some (store_error error) }
     ensures files { (result.files.log, result.files.db) ≡ store_files store }
-    ensures told { (before : Status) → IsCloseTold (growth F.Output err.old err.new)
+    ensures told { (before : Status) → IsCloseTold (output_change F.Output err.old err.new)
         result.failure before result.status }
 {
     let error = error_of(error);
     EndedRun {
-        status: tell_store_not_closed(&StoreFault::from(error), err),
+        status: print_store_not_closed(&StoreFault::from(error), err),
         failure: Some(error),
         files: store.close(),
     }
@@ -82,7 +82,7 @@ pub fn close<D: Disk + Drop, F: Output>(
         outcomes D.Disk result.files.log result.files.db image →
         ∥ ((db : Trees) × (file_state conn).may_leave db × HoldsDatabase image db) ∥₁) }
     ensures let_go { IsLetGo conn result.failure result.files }
-    ensures told { IsCloseTold (growth F.Output err.old err.new) result.failure status
+    ensures told { IsCloseTold (output_change F.Output err.old err.new) result.failure status
         result.status }
 {
     let mut store = conn.into_store();

@@ -1,7 +1,7 @@
 //! Who is told how an opening went.
 
 ghost use Rattle.std.specs.Prelude.{List, Option};
-ghost use Rattle.edf_program.specs.Output.{growth, IsWritten};
+ghost use Rattle.edf_program.specs.Output.{output_change, IsWritten};
 ghost use Rattle.edf_program.specs.declared.status.Status;
 ghost use Rattle.edf_command.specs.Lines.{store_refused_line};
 ghost use Rattle.edf_program_run.specs.ProgramRun.{Notice, was_opened, was_refused, IsNoticed};
@@ -38,7 +38,8 @@ pub fn refuse<F: Output, W: Watch>(
     watch: &mut W,
 ) -> Status
     ensures said { IsWritten
-        (growth F.Output err.old err.new) (store_refused_line fault.now) Status.Trouble result }
+        (output_change F.Output err.old err.new)
+        (store_refused_line fault.now) Status.Trouble result }
     ensures noticed { IsNoticed (W.noticed watch.old) (W.noticed watch.new)
         (was_refused fault.now has_our_tables) }
 {

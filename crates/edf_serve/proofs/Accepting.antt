@@ -5,7 +5,7 @@ use Rattle.edf_store.specs.Held.{StoreModel}
 use Rattle.edf_intake.specs.Refusal.{Answer}
 use Rattle.edf_intake.specs.Submitted.{IsSubmitted, IsEnded}
 use Rattle.edf_intake.specs.declared.answer.Receipt.{Receipt}
-use Rattle.edf_program.specs.Output.{Growth}
+use Rattle.edf_program.specs.Output.{OutputChange}
 use Rattle.edf_serve.specs.Client.{HasAccepted, IsIdle}
 use Rattle.edf_serve.specs.Exchange.{IsWorked}
 use Rattle.edf_serve.specs.Line.{LineAsked}
@@ -26,7 +26,7 @@ module _ {S : Type 0} (g : Ghosts S) (folder : Option (List ℕ)) (old new : Poi
   abbrev pub done : Outcome → Work S
   done o = record { old = old; new = new; submission = submission; outcome = o }
 
-  by-answer : (it : Submission) (answer : Answer) (out : Growth) (name : List ℕ) (given : _)
+  by-answer : (it : Submission) (answer : Answer) (out : OutputChange) (name : List ℕ) (given : _)
       (receipt : Receipt) → IsSubmitted g old.store new.store it.from it.to answer →
       IsEnded g new.store answer → IsAnswerSaid out name answer (outcome.Accepted given receipt) →
       MayBeTold g new.store receipt

@@ -3,7 +3,7 @@ use Rattle.std.proofs.Common.{◌≡◌, ℕ, List, [], ◌∷◌, ◌++◌, ref
 use Rattle.std.proofs.Common.{◌∙◌, ap, subst, inl, inr, append_assoc}
 use Rattle.std.specs.Prelude.{decimal}
 use Rattle.edf_command.specs.Lines.{accepted_line}
-use Rattle.edf_program.specs.Output.{Growth, Gets, GetsFront, IsWritten}
+use Rattle.edf_program.specs.Output.{OutputChange, Gets, GetsPrefix, IsWritten}
 use Rattle.edf_program.specs.Text.{refused_line}
 use Rattle.edf_program.specs.declared.status.Status.{Status}
 use Rattle.edf_program.specs.declared.status.Status.TheVariants.{Trouble}
@@ -27,7 +27,8 @@ sent out why a b line is_out is_why =
     same ∙ sym (append_assoc a b line)
 
 -- the line of a refusal, after which the status is trouble
-pub as-trouble : (out : Growth) (name : List ℕ) (n m : ℕ) (text told : List ℕ) (status : Status) →
+pub as-trouble : (out : OutputChange) (name : List ℕ) (n m : ℕ) (text told : List ℕ)
+    (status : Status) →
     n ≡ m → text ≡ told → IsWritten out (refused_line name n text) Trouble status →
     IsWritten out (refused_line name m told) Trouble Trouble
 as-trouble out name n m text told status a b (inl w) =
@@ -38,7 +39,7 @@ as-trouble out name n m text told status a b (inl w) =
     )
 as-trouble out name n m text told status a b (inr w) =
     inr (
-      subst (GetsFront out) (ap (λ (k : ℕ). refused_line name k text) a
+      subst (GetsPrefix out) (ap (λ (k : ℕ). refused_line name k text) a
           ∙ ap (refused_line name m) b) w.0,
       refl,
     )

@@ -7,7 +7,7 @@ use Rattle.sqlite_store.specs.declared.store.FileStore.{FileStore}
 use Rattle.sqlite.specs.Files.{over_files}
 use Rattle.edf_store.specs.Held.{StoreModel}
 use Rattle.edf_intake.specs.Batch.{Turn}
-use Rattle.edf_program.specs.Output.{Growth, Gets}
+use Rattle.edf_program.specs.Output.{OutputChange, Gets}
 use Rattle.edf_program.specs.declared.status.Status.{Status}
 use Rattle.edf_program_run.specs.ProgramRun.{Notice, ProgramRun}
 use Rattle.edf_serve.specs.Session.{Moment, IsWholeSession, submissions}
@@ -24,7 +24,7 @@ AreTurnsOf all turns =
 -- Lines were answered, and these were the turns of the files that they submitted. The status is the
 -- worst one, and nothing was told beside the answers.
 abbrev pub ServesLines : {S : Type 0} → Ghosts S → Option (List ℕ) → Moment S →
-    Moment S → List Turn → Growth → Status → Type 0
+    Moment S → List Turn → OutputChange → Status → Type 0
 ServesLines g folder a b turns err status = (why : End)
     × ((whole : IsWholeSession g folder a b why) × AreTurnsOf (submissions whole.all) turns)
     × (status ≡ b.at.worst) × Gets err []
@@ -32,7 +32,7 @@ ServesLines g folder a b turns err status = (why : End)
 -- A session as a run. What it has beside its store is given before and after, with whatever store.
 -- Its output, of which `watch` is told as the store is opened, is standard error.
 abbrev pub session_run : {D : Type 0} (g : disk.Ghosts D) → ℕ → Image → Option (List ℕ) →
-    (before after : StoreModel (FileStore D g) → Moment (FileStore D g)) → Growth →
+    (before after : StoreModel (FileStore D g) → Moment (FileStore D g)) → OutputChange →
     (Notice → Type 0) → (Unread : Type 0) → ProgramRun g
 session_run g cap start folder before after err Noticed Unread = record {
   cap = cap;

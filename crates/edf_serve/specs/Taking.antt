@@ -5,8 +5,8 @@ use Rattle.sqlite_trees.specs.declared.store.Store.{Ghosts}
 use Rattle.edf_intake.specs.Refusal.{Answer, IsStopped, refusal_number}
 use Rattle.edf_intake.specs.Submitted.{IsSubmitted, IsEnded}
 use Rattle.edf_command.specs.Lines.{refused_file_line, take_memory_line}
-use Rattle.edf_program.specs.Text.{IsSpelling}
-use Rattle.edf_program.specs.Output.{Growth, Gets, IsWritten, IsTextTold}
+use Rattle.edf_program.specs.Text.{IsInstantFormat}
+use Rattle.edf_program.specs.Output.{OutputChange, Gets, IsWritten, IsLinePrinted}
 use Rattle.edf_program.specs.Status.{status_of_number}
 use Rattle.edf_program.specs.declared.status.Status.{Status}
 use Rattle.edf_program.specs.declared.status.Status.TheVariants.{Refused, Trouble}
@@ -20,18 +20,18 @@ abbrev pub outside_line : List ℕ → List ℕ
 outside_line name = name ++ (codes " is outside of the folder" ++ (10 ∷ []))
 
 -- a line says that the name stands for no path, or that there is no memory for one
-abbrev pub HasNoPath : Paths → Option (List ℕ) → List ℕ → Growth → Status → Type 0
+abbrev pub HasNoPath : Paths → Option (List ℕ) → List ℕ → OutputChange → Status → Type 0
 HasNoPath paths folder name out status =
     (IsPlace paths folder name None × IsWritten out (outside_line name) Refused status)
     ⊎ IsWritten out take_memory_line Trouble status
 
 -- The answer: accepted, and nothing is written yet; or the line of a refusal. The session is to end
 -- just where memory ran out or the store refused.
-abbrev pub IsAnswerSaid : Growth → List ℕ → Answer → Outcome → Type 0
+abbrev pub IsAnswerSaid : OutputChange → List ℕ → Answer → Outcome → Type 0
 IsAnswerSaid out name (Ok receipt) (outcome.Accepted given told) = (given.now ≡ name)
     × (told ≡ receipt) × Gets out []
 IsAnswerSaid out name (Err refusal) (outcome.Told status is_stopped) = ((spell : ℕ → List ℕ) →
-    IsSpelling spell → IsTextTold out (refused_file_line spell name refusal)
+    IsInstantFormat spell → IsLinePrinted out (refused_file_line spell name refusal)
     (status_of_number (refusal_number refusal)) status)
     × ((is_stopped ≡ true) ↔ IsStopped (Err refusal))
 IsAnswerSaid out name answer outcome = ⊥

@@ -3,7 +3,7 @@ use Rattle.std.specs.Prelude.{◌≡◌, ◌↔◌, ℕ, true, List, Option, Som
 use Rattle.edf_fragment.specs.Call.{InputState}
 use Rattle.edf_store.specs.Held.{StoreModel}
 use Rattle.edf_intake.specs.Refusal.{Answer}
-use Rattle.edf_program.specs.Output.{Growth}
+use Rattle.edf_program.specs.Output.{OutputChange}
 use Rattle.edf_program.specs.declared.status.Status.{Status}
 use Rattle.edf_program.specs.declared.status.Status.TheVariants.{Trouble}
 use Rattle.edf_serve.specs.Client.{Heard, Looks}
@@ -55,7 +55,7 @@ pub record Work (S : Type 0) : Type 0 where
   pub outcome : Outcome
 
 -- what was written to a text
-abbrev pub grown : Text → Text → Growth
+abbrev pub grown : Text → Text → OutputChange
 grown old new = record {
   before = Some old.bytes.items;
   failed_before = old.failures;
@@ -75,6 +75,6 @@ module _ {S : Type 0} (w : Work S) where
   EndsAs P = (w.submission ≡ None) × ((status : Status) × WentAs w.outcome status × P status)
 
   -- and it does nothing but write a line
-  abbrev pub OnlyWrites : (Growth → Status → Type 0) → Type 0
+  abbrev pub OnlyWrites : (OutputChange → Status → Type 0) → Type 0
   OnlyWrites P = (w.new ≡ record w.old { out = w.new.out })
       × EndsAs (P (grown w.old.out w.new.out))

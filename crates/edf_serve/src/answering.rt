@@ -16,7 +16,7 @@ use crate::room::{Outcome, Room};
 use crate::standing::StoreFiles;
 use crate::taking::take;
 use edf_command::list;
-use edf_program::{Status, tell_bytes, tell_refused};
+use edf_program::{Status, print_bytes, print_refused};
 use edf_store::{Store, StoreFault};
 use sqlite::Alter;
 use std::alloc::Global;
@@ -106,7 +106,7 @@ fn work<'l, S: Alter, I: Sources, C: Client, K: StoreFiles>(
     match asked {
         Some(LineCommand::Take { name }) => take(alloc, name, folder, store, room),
         Some(LineCommand::List) => list_all(alloc, store, room),
-        None => Outcome::went(tell_bytes(&mut room.out, b"no such command\n", Status::Usage)),
+        None => Outcome::went(print_bytes(&mut room.out, b"no such command\n", Status::Usage)),
     }
 }
 
@@ -164,7 +164,7 @@ fn tell_all<S: Alter, I: Sources, C: Client, K: StoreFiles>(
 }
 
 /// Tells that a file is refused since the path of the store does not stand for its files.
-fn tell_lost<S: Alter, I: Sources, C: Client, K: StoreFiles>(
+fn print_lost<S: Alter, I: Sources, C: Client, K: StoreFiles>(
     store: &Store<S>,
     name: &str,
     room: &mut Room<I, C, K>,
@@ -181,7 +181,7 @@ fn tell_lost<S: Alter, I: Sources, C: Client, K: StoreFiles>(
 {
     let fault = StoreFault::Store(None);
     let status = Status::Trouble;
-    let _ = tell_refused(&mut room.out, name, fault.number(), fault.name(), status);
+    let _ = print_refused(&mut room.out, name, fault.number(), fault.name(), status);
     let (out, why) = (room.out.lines(), room.why.lines());
     let is_out = room.client.answer(store, out, why, status);
     let after = Some(End::Lost);
@@ -215,7 +215,7 @@ pub(crate) fn serve_line<S: Alter, I: Sources, C: Client, K: StoreFiles>(
     match work(alloc, parse_line(line), folder, store, room) {
         Outcome::Accepted { name, receipt } => {
             if !room.keeper.stand(store, &receipt) {
-                return tell_lost(store, name, room);
+                return print_lost(store, name, room);
             }
             let is_out = room.client.accept(store, name, &receipt);
             let status = Status::Done;

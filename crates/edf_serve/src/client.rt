@@ -5,13 +5,13 @@ ghost use Rattle.std.specs.Prelude.{OnOk, OnErr};
 ghost use Rattle.std.specs.List.{flat_map};
 ghost use Rattle.edf_fragment.specs.Failures.{saturating_increment};
 ghost use Rattle.edf_command.specs.Lines.{accepted_line};
-ghost use Rattle.edf_program.specs.Output.{IsPut, growth};
+ghost use Rattle.edf_program.specs.Output.{IsPut, output_change};
 ghost use Rattle.edf_program.specs.declared.status.Status.TheVariants.{Done};
 ghost use Rattle.edf_serve.specs.Client.{Heard, GetsAnswer, HasAccepted, IsIdle, status_line};
 
 use edf_fragment::Output;
 use edf_intake::Receipt;
-use edf_program::{Status, tell_parts};
+use edf_program::{Status, print_parts};
 use edf_store::Store;
 use itoa::Buffer;
 use sqlite::Alter;
@@ -81,11 +81,12 @@ impl<W: Flush> Console<W> {
 
 /// Writes the parts of an answer and flushes them. `false` where that failed.
 fn send<W: Flush>(out: &mut W, parts: &[&[u8]]) -> bool
-    ensures put { IsPut (growth W.Output out.old out.new) (flat_map (λ part. part.now) parts.now)
+    ensures put { IsPut (output_change W.Output out.old out.new)
+        (flat_map (λ part. part.now) parts.now)
         result }
     ensures sent { result ≡ true → W.sent out.new ≡ W.contents out.new }
 {
-    if tell_parts(out, parts, Status::Done) != Status::Done {
+    if print_parts(out, parts, Status::Done) != Status::Done {
         return false;
     }
     match out.flush() {

@@ -4,7 +4,7 @@ ghost use Rattle.std.specs.Prelude.{◌≡◌, ◌≢◌, ◌⊎◌, Err, None, 
 ghost use Rattle.sqlite_wal.specs.Files.{outcomes, image_at};
 ghost use Rattle.sqlite.specs.Files.{image_of};
 ghost use Rattle.sqlite.specs.declared.error.Error.{Error};
-ghost use Rattle.edf_program.specs.Output.{growth};
+ghost use Rattle.edf_program.specs.Output.{output_change};
 ghost use Rattle.edf_program.specs.declared.status.Status.TheVariants.{Trouble};
 ghost use Rattle.edf_program_run.specs.Close.{Ran, IsRefused};
 ghost use Rattle.edf_program_run.specs.ProgramRun.{IsNoticed, IsOpening, NotOpened};
@@ -72,7 +72,7 @@ pub fn serve_opened<S: Start, R: Input, I: Sources, C: Client, K: StoreFiles, F:
         (λ store. record {
           at = point I.Sources C.Client K.StoreFiles store room.new;
           coming = lines.new;
-        }) (growth F.Output err.old err.new)
+        }) (output_change F.Output err.old err.new)
         (IsNoticed (W.noticed watch.old) (W.noticed watch.new))
         ((room.new ≡ room.old) × (lines.new ≡ lines.old)) in
         IfOk result (λ s. Ran r s ⊎ IsRefused r s) }
@@ -88,7 +88,7 @@ pub fn serve_opened<S: Start, R: Input, I: Sources, C: Client, K: StoreFiles, F:
         (λ store. record {
           at = point I.Sources C.Client K.StoreFiles store room.new;
           coming = lines.new;
-        }) (growth F.Output err.old err.new)
+        }) (output_change F.Output err.old err.new)
         (IsNoticed (W.noticed watch.old) (W.noticed watch.new))
         ((room.new ≡ room.old) × (lines.new ≡ lines.old)) in
         IfErr result (λ e. (error : Error) × (opened ≡ Err (error, e.1)) × NotOpened r error e.0) }

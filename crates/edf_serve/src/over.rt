@@ -3,7 +3,7 @@
 ghost use Rattle.std.specs.Prelude.{◌≡◌, ◌≢◌, ◌⊎◌, None, Ok, false, option_map};
 ghost use Rattle.sqlite_wal.specs.Recovery.{Image};
 ghost use Rattle.sqlite.specs.Files.{file_state};
-ghost use Rattle.edf_program.specs.Output.{growth};
+ghost use Rattle.edf_program.specs.Output.{output_change};
 ghost use Rattle.edf_program.specs.declared.status.Status.TheVariants.{Trouble};
 ghost use Rattle.edf_program_run.specs.Close.{Ran, IsRefused};
 ghost use Rattle.edf_program_run.specs.ProgramRun.{IsNoticed, IsOpening};
@@ -54,7 +54,7 @@ pub(crate) fn serve_over<
         (λ store. record {
           at = point I.Sources C.Client K.StoreFiles store room.new;
           coming = lines.new;
-        }) (growth F.Output err.old err.new)
+        }) (output_change F.Output err.old err.new)
         (IsNoticed (W.noticed watch.old) (W.noticed watch.new))
         ((room.new ≡ room.old) × (lines.new ≡ lines.old)) in Ran r result ⊎ IsRefused r result }
     ensures closed { result.status ≢ Trouble → result.failure ≡ None }

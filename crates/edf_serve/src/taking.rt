@@ -3,9 +3,9 @@
 ghost use Rattle.std.specs.Prelude.{◌≡◌, ◌⊎◌, ◌↔◌, ℕ, true, List, Option, Err, option_map};
 ghost use Rattle.edf_command.specs.Lines.{refused_file_line, take_memory_line};
 ghost use Rattle.edf_intake.specs.Refusal.{IsStopped, refusal_number};
-ghost use Rattle.edf_program.specs.Output.{growth, IsWritten, IsTextTold};
+ghost use Rattle.edf_program.specs.Output.{output_change, IsWritten, IsLinePrinted};
 ghost use Rattle.edf_program.specs.Status.{status_of_number};
-ghost use Rattle.edf_program.specs.Text.{IsSpelling};
+ghost use Rattle.edf_program.specs.Text.{IsInstantFormat};
 ghost use Rattle.edf_serve.specs.Taking.{SubmitsFile, IsTaken, outside_line};
 ghost use Rattle.edf_serve.specs.Work.{OnlyWrites, Submission, Work, point};
 
@@ -17,29 +17,31 @@ use crate::standing::StoreFiles;
 use edf_command::refused_file_line;
 use edf_fragment::Output;
 use edf_intake::{Refusal, submit};
-use edf_program::{Status, status_of_number, tell, tell_memory, tell_parts};
+use edf_program::{Status, print_memory, print_parts, print_text, status_of_number};
 use edf_store::Store;
 use sqlite::Alter;
 use std::alloc::Global;
 
 /// Prints that a name does not lead below the folder. Printing takes no memory.
 fn tell_outside<O: Output>(out: &mut O, name: &str) -> Status
-    ensures { IsWritten (growth O.Output out.old out.new) (outside_line name.now) Status.Refused
+    ensures { IsWritten (output_change O.Output out.old out.new)
+        (outside_line name.now) Status.Refused
         result }
 {
     let parts = [name.as_bytes(), b" is outside of the folder\n".as_slice()];
-    tell_parts(out, &parts, Status::Refused)
+    print_parts(out, &parts, Status::Refused)
 }
 
 /// Writes the line of a refused file.
-fn tell_refusal<O: Output>(alloc: Global, name: &str, refusal: Refusal, out: &mut O) -> Status
-    ensures { (spell : ℕ → List ℕ) → IsSpelling spell → IsTextTold (growth O.Output out.old out.new)
+fn print_refusal<O: Output>(alloc: Global, name: &str, refusal: Refusal, out: &mut O) -> Status
+    ensures { (spell : ℕ → List ℕ) → IsInstantFormat spell →
+        IsLinePrinted (output_change O.Output out.old out.new)
         (refused_file_line spell name.now refusal)
         (status_of_number (refusal_number refusal)) result }
 {
     let status = status_of_number(refusal.number());
     let line = refused_file_line(alloc, name, &refusal);
-    tell(out, line, status)
+    print_text(out, line, status)
 }
 
 /// Whether memory ran out or the store refused, so that a transaction may be open.
@@ -72,11 +74,11 @@ fn submit_file<'l, S: Alter, I: Sources, C: Client, K: StoreFiles>(
             Ok(receipt) => Outcome::Accepted { name, receipt },
             Err(refusal) => {
                 let is_stopped = is_stopped(&refusal);
-                let status = tell_refusal(alloc, name, refusal, &mut room.out);
+                let status = print_refusal(alloc, name, refusal, &mut room.out);
                 Outcome::Told { status, is_stopped }
             }
         },
-        Err(_) => Outcome::went(tell_memory(&mut room.out, "take")),
+        Err(_) => Outcome::went(print_memory(&mut room.out, "take")),
     }
 }
 
@@ -101,6 +103,6 @@ pub(crate) fn take<'l, S: Alter, I: Sources, C: Client, K: StoreFiles>(
     match place_of(alloc, folder, name, &room.sources) {
         Ok(Some(path)) => submit_file(alloc, name, path.as_str(), store, room),
         Ok(None) => Outcome::went(tell_outside(&mut room.out, name)),
-        Err(_) => Outcome::went(tell_memory(&mut room.out, "take")),
+        Err(_) => Outcome::went(print_memory(&mut room.out, "take")),
     }
 }

@@ -47,7 +47,7 @@ fn system_words(error: &io::Error) -> Option<&'static str> {
 }
 
 /// Prints why the system refused a file of this name.
-pub fn tell_system_error(terminal: &Terminal<'_>, path: &str, error: &io::Error) {
+pub fn print_system_error(terminal: &Terminal<'_>, path: &str, error: &io::Error) {
     match system_words(error) {
         Some(words) => terminal.say(path, words),
         None => terminal.say(path, error),
@@ -65,7 +65,7 @@ fn reading_words(error: &io::Error) -> Option<&'static str> {
 }
 
 /// Prints why a file of this name, or standard input, could not be read.
-pub(crate) fn tell_unread(terminal: &Terminal<'_>, name: &str, error: &io::Error) {
+pub(crate) fn print_unread(terminal: &Terminal<'_>, name: &str, error: &io::Error) {
     terminal.note_unread();
     match reading_words(error) {
         Some(words) => terminal.say(name, words),
@@ -74,18 +74,18 @@ pub(crate) fn tell_unread(terminal: &Terminal<'_>, name: &str, error: &io::Error
 }
 
 /// Prints why a file of this name, which is begun, could not be made.
-pub(crate) fn tell_unmade(terminal: &Terminal<'_>, name: &str, error: &io::Error) {
+pub(crate) fn print_unmade(terminal: &Terminal<'_>, name: &str, error: &io::Error) {
     match error.kind() {
         ErrorKind::AlreadyExists => terminal.say(
             name,
             "it is there already: a program is writing it, or was stopped then; if so, remove it",
         ),
-        _ => tell_system_error(terminal, name, error),
+        _ => print_system_error(terminal, name, error),
     }
 }
 
 /// Prints that a pipe is read a second time.
-pub(crate) fn tell_reread(terminal: &Terminal<'_>, name: &str) {
+pub(crate) fn print_reread(terminal: &Terminal<'_>, name: &str) {
     terminal.note_unread();
     terminal.say(
         name,
@@ -94,14 +94,14 @@ pub(crate) fn tell_reread(terminal: &Terminal<'_>, name: &str) {
 }
 
 /// Prints why standard output could not be written, under the name of its file, where it is one.
-pub(crate) fn tell_unwritten(rt: &HostRuntime, terminal: &Terminal<'_>, error: &io::Error) {
+pub(crate) fn print_unwritten(rt: &HostRuntime, terminal: &Terminal<'_>, error: &io::Error) {
     if !terminal.is_there() {
         return;
     }
     match fs::read_link(rt, "/proc/self/fd/1") {
         Ok(path) if path.as_str().starts_with('/') => {
-            tell_system_error(terminal, path.as_str(), error);
+            print_system_error(terminal, path.as_str(), error);
         }
-        _ => tell_system_error(terminal, "standard output", error),
+        _ => print_system_error(terminal, "standard output", error),
     }
 }

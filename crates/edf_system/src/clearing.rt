@@ -1,6 +1,6 @@
 //! A standard stream beside what a person sees.
 
-use crate::cause::tell_unwritten;
+use crate::cause::print_unwritten;
 use crate::explain::explain;
 use crate::terminal::Terminal;
 use edf_fragment::{Output, Remark};
@@ -28,7 +28,7 @@ impl<W: Output> Output for Clearing<'_, W> {
         if self.is_output {
             match &answer {
                 Ok(count) => self.terminal.note_output(*count),
-                Err(error) => tell_unwritten(self.rt, self.terminal, error),
+                Err(error) => print_unwritten(self.rt, self.terminal, error),
             }
         }
         answer

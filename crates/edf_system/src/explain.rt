@@ -42,7 +42,7 @@ fn explain_number(terminal: &Terminal<'_>, name: &str, number: u8) {
             own takes it"
         }
         32 => "its recording is full: begin another store",
-        40 if !terminal.is_unread_told() => return terminal.say(name, CHANGED),
+        40 if !terminal.is_unread_printed() => return terminal.say(name, CHANGED),
         41 => "run it again with more memory: what standard output got may not be whole",
         43 => on_unwritten(terminal, name),
         _ => return,

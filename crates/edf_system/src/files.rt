@@ -3,7 +3,7 @@
 ghost use Rattle.std.specs.Io.{ReadsAtMost};
 ghost use Rattle.std.specs.Prelude.{◌≡◌, None, map, string_bytes};
 
-use crate::cause::{tell_reread, tell_unread};
+use crate::cause::{print_reread, print_unread};
 use crate::terminal::Terminal;
 use edf_fragment::Counted;
 use edf_program::Inputs;
@@ -134,7 +134,7 @@ impl FileReader<'_> {
         }
         let found = fs::metadata(self.rt, self.name.as_str()).ok()?;
         if self.is_again && found.file_type().is_fifo() {
-            tell_reread(self.terminal, self.name.as_str());
+            print_reread(self.terminal, self.name.as_str());
         }
         if found.is_file() {
             Some(found.len())
@@ -186,7 +186,7 @@ impl Read for FileReader<'_> {
                 Ok(count)
             }
             Err(error) => {
-                tell_unread(self.terminal, self.name.as_str(), &error);
+                print_unread(self.terminal, self.name.as_str(), &error);
                 Err(error)
             }
         }

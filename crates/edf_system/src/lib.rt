@@ -8,7 +8,7 @@
 //! - [`Streams`]: standard output and standard error.
 //! - [`Terminal`]: progress and messages, where standard error is a terminal; [`Clearing`]: a
 //!   stream beside it, below whose lines it explains what they tell. [`Mending`]: what its program
-//!   mends. [`tell_system_error`], [`FULL`]: causes in plain words.
+//!   mends. [`print_system_error`], [`FULL`]: causes in plain words.
 #![tactic(auto)]
 
 mod advice;
@@ -22,7 +22,7 @@ mod program;
 mod streams;
 mod terminal;
 
-pub use cause::{FULL, tell_system_error};
+pub use cause::{FULL, print_system_error};
 pub use clearing::Clearing;
 pub use files::{FileReader, Files};
 pub use new_files::PartFiles;

@@ -2,7 +2,7 @@
 
 ghost use Rattle.std.specs.Prelude.{◌≡◌, None, IfOk};
 
-use crate::cause::{tell_system_error, tell_unmade};
+use crate::cause::{print_system_error, print_unmade};
 use crate::terminal::Terminal;
 use edf_fragment::{Output, saturating_increment};
 use std::fs::{self, File};
@@ -67,7 +67,7 @@ impl Output for NewFile<'_> {
             }
             Err(error) => {
                 self.failures = saturating_increment(self.failures);
-                tell_system_error(self.terminal, self.part.as_str(), &error);
+                print_system_error(self.terminal, self.part.as_str(), &error);
                 Err(error)
             }
         }
@@ -141,13 +141,13 @@ impl<'rt> Parts<'rt> {
     fn open_part(&self, name: &str, part: &str) -> io::Result<File> {
         if self.is_there(name) {
             let error = io::Error::from(ErrorKind::AlreadyExists);
-            tell_system_error(self.terminal, name, &error);
+            print_system_error(self.terminal, name, &error);
             return Err(error);
         }
         match File::create_new(self.rt, part) {
             Ok(file) => Ok(file),
             Err(error) => {
-                tell_unmade(self.terminal, part, &error);
+                print_unmade(self.terminal, part, &error);
                 Err(error)
             }
         }
@@ -220,7 +220,7 @@ impl<'rt> Parts<'rt> {
             Err(error) => Err(error),
         };
         if let Err(error) = &ended {
-            tell_system_error(terminal, name.as_str(), error);
+            print_system_error(terminal, name.as_str(), error);
         }
         ended
     }
@@ -230,7 +230,7 @@ impl<'rt> Parts<'rt> {
         match remove(self.rt, name) {
             Ok(()) => true,
             Err(error) => {
-                tell_system_error(self.terminal, name, &error);
+                print_system_error(self.terminal, name, &error);
                 false
             }
         }

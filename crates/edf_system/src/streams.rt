@@ -3,7 +3,7 @@
 use crate::clearing::Clearing;
 use crate::terminal::Terminal;
 use edf_fragment::Counted;
-use edf_program::{Status, tell_bytes, tell_memory};
+use edf_program::{Status, print_bytes, print_memory};
 use std::io::{ErrorKind, Stderr, Stdout};
 use std::{env, io};
 
@@ -20,9 +20,9 @@ pub fn words(rt: &HostRuntime) -> io::Result<Vec<String>> {
 pub fn refuse_words(rt: &HostRuntime, error: &io::Error) -> Status {
     let mut err = Counted::new(rt.stderr());
     if error.kind() == ErrorKind::InvalidData {
-        tell_bytes(&mut err, b"error: a word is not UTF-8\n", Status::Usage)
+        print_bytes(&mut err, b"error: a word is not UTF-8\n", Status::Usage)
     } else {
-        tell_memory(&mut err, "command")
+        print_memory(&mut err, "command")
     }
 }
 

@@ -42,7 +42,7 @@ pub struct Terminal<'rt> {
     size: Cell<Option<u64>>,
     is_progress_shown: Cell<bool>,
     /// Whether it was printed why a file could not be read.
-    is_unread_told: Cell<bool>,
+    is_unread_printed: Cell<bool>,
     /// Whether something was written to standard output.
     is_output_begun: Cell<bool>,
     /// The numbers of the refusals that were explained, a bit each.
@@ -68,7 +68,7 @@ impl<'rt> Terminal<'rt> {
             bytes: Cell::new(0),
             size: Cell::new(None),
             is_progress_shown: Cell::new(false),
-            is_unread_told: Cell::new(false),
+            is_unread_printed: Cell::new(false),
             is_output_begun: Cell::new(false),
             explained: Cell::new(0),
         }
@@ -152,12 +152,12 @@ impl<'rt> Terminal<'rt> {
 
     /// Keeps that it was printed why a file could not be read.
     pub(crate) fn note_unread(&self) {
-        self.is_unread_told.set(true);
+        self.is_unread_printed.set(true);
     }
 
     /// Whether it was printed why a file could not be read.
-    pub(crate) fn is_unread_told(&self) -> bool {
-        self.is_unread_told.get()
+    pub(crate) fn is_unread_printed(&self) -> bool {
+        self.is_unread_printed.get()
     }
 
     /// Whether a refusal of that number is the first that is explained, which it is from then on.

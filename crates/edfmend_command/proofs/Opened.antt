@@ -2,7 +2,7 @@
 use Rattle.std.proofs.Common.{◌≡◌, ◌≢◌, ℕ, List, [], ◌∷◌, ◌++◌, refl, ap, ◌∙◌, arith}
 use Rattle.std.proofs.Common.{replicate, append_assoc, inl, inr}
 use Rattle.std.specs.Prelude.{Result, Ok, Err, MatchResult}
-use Rattle.edf_program.specs.Output.{Growth}
+use Rattle.edf_program.specs.Output.{OutputChange}
 use Rattle.edf_program.specs.declared.status.Status.{Status}
 use Rattle.edf_program.specs.declared.status.Status.TheVariants.{Done, Trouble}
 use Rattle.std.proofs.Common.{suc, Option, Some, None}
@@ -65,7 +65,7 @@ kept-undone : (kept : Option (List ℕ)) (status : Status) → status ≢ Done �
 kept-undone None status not = not
 kept-undone (Some name) status not = λ done. cc
 
-pub says-undone : (err : Growth) (old_name new_name : List ℕ) (why : MendFault)
+pub says-undone : (err : OutputChange) (old_name new_name : List ℕ) (why : MendFault)
     (kept : Option (List ℕ)) (status : Status) →
     SaysWhy err old_name new_name why kept status → status ≢ Done
 says-undone err old_name new_name why kept status (inl said) = undone err

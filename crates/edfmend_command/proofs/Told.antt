@@ -4,7 +4,7 @@ use Rattle.std.proofs.Common.{decimal, Option, Some, None, refl, subst, inl, inr
 use Rattle.std.specs.Prelude.{option_map}
 use Rattle.std.proofs.lemmas.List.{append-nil}
 use Rattle.edf_mend.specs.declared.fault.MendFault.{MendFault}
-use Rattle.edf_program.specs.Output.{Growth, Gets, GetsFront, IsWritten}
+use Rattle.edf_program.specs.Output.{OutputChange, Gets, GetsPrefix, IsWritten}
 use Rattle.edf_program.proofs.Parts.{four-parts}
 use Rattle.edf_program.proofs.Puts.{grown, gets-after, front-after}
 use Rattle.edf_program.specs.declared.status.Status.{Status}
@@ -72,8 +72,8 @@ clock-text records shift front seconds line f s is =
 -- ---- a line, and one more
 
 -- what is there of a text is there of a longer one
-pub front-longer : (w : Growth) (bytes more : List ℕ) → GetsFront w bytes →
-    GetsFront w (bytes ++ more)
+pub front-longer : (w : OutputChange) (bytes more : List ℕ) → GetsPrefix w bytes →
+    GetsPrefix w (bytes ++ more)
 front-longer w bytes more front = (
   record {
     front = front.0.front;
@@ -86,11 +86,11 @@ front-longer w bytes more front = (
 )
 
 -- the part that is left is named behind a line
-pub kept-cut : (w : Growth) (line : List ℕ) (kept : Option (List ℕ)) (wanted : Status) →
-    GetsFront w line → IsWritten w (line ++ kept_line kept) (kept_status kept wanted) Trouble
+pub kept-cut : (w : OutputChange) (line : List ℕ) (kept : Option (List ℕ)) (wanted : Status) →
+    GetsPrefix w line → IsWritten w (line ++ kept_line kept) (kept_status kept wanted) Trouble
 kept-cut w line kept wanted front = inr (front-longer w line (kept_line kept) front, refl)
 
-pub kept-none : (w : Growth) (line : List ℕ) (kept : Option (List ℕ)) (wanted : Status) →
+pub kept-none : (w : OutputChange) (line : List ℕ) (kept : Option (List ℕ)) (wanted : Status) →
     kept ≡ None → Gets w line →
     IsWritten w (line ++ kept_line kept) (kept_status kept wanted) wanted
 kept-none w line None wanted is got = inl (subst (Gets w) (sym (append-nil line)) got, refl)
@@ -122,7 +122,7 @@ kept-trouble : (kept : Option (List ℕ)) → kept_status kept Trouble ≡ Troub
 kept-trouble None = refl
 kept-trouble (Some name) = refl
 
-pub says-memory : (err : Growth) (old_name new_name : List ℕ) (why : MendFault)
+pub says-memory : (err : OutputChange) (old_name new_name : List ℕ) (why : MendFault)
     (kept : Option (List ℕ)) (status : Status) (line : List ℕ) → line ≡ memory_line old_name →
     IsWritten err (line ++ kept_line kept) (kept_status kept Trouble) status →
     SaysWhy err old_name new_name why kept status
@@ -132,7 +132,7 @@ says-memory err old_name new_name why kept status line is said =
     (subst (λ (t : List ℕ). IsWritten err (t ++ kept_line kept) (kept_status kept Trouble) status)
     is said))
 
-pub says : (err : Growth) (old_name new_name : List ℕ) (why is : MendFault)
+pub says : (err : OutputChange) (old_name new_name : List ℕ) (why is : MendFault)
     (kept : Option (List ℕ)) (status : Status) (line : List ℕ) → why ≡ is →
     line ≡ why_line old_name new_name is →
     IsWritten err (line ++ kept_line kept) (kept_status kept (why_status is)) status →
@@ -143,7 +143,7 @@ says err old_name new_name why is kept status line same line_is said =
     (kept_status kept (why_status is)) status) line_is said))
 
 -- by another word for the status
-pub says-by : (err : Growth) (old_name new_name : List ℕ) (why : MendFault)
+pub says-by : (err : OutputChange) (old_name new_name : List ℕ) (why : MendFault)
     (kept : Option (List ℕ)) (status by : Status) (line : List ℕ) → by ≡ why_status why →
     line ≡ why_line old_name new_name why →
     IsWritten err (line ++ kept_line kept) (kept_status kept by) status →

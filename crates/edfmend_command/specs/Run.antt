@@ -10,7 +10,7 @@ use Rattle.edf_mend.specs.declared.fault.MendFault.{MendFault}
 use Rattle.edf_mend.specs.declared.fault.MendFault.TheVariants as fault
 use Rattle.edf_mend.specs.declared.ledger.Ledger.{Ledger}
 use Rattle.edf_mend.specs.declared.wanted.Wanted.{Wanted}
-use Rattle.edf_program.specs.Output.{Growth, Gets, GetsFront, IsWritten, Explains}
+use Rattle.edf_program.specs.Output.{OutputChange, Gets, GetsPrefix, IsWritten, Explains}
 use Rattle.edf_program.specs.Text.{there_line}
 use Rattle.edf_program.specs.declared.status.Status.{Status}
 use Rattle.edf_program.specs.declared.status.Status.TheVariants.{Done, Refused, Trouble}
@@ -52,16 +52,16 @@ IsNotMended bytes w why = IfSome bytes (λ file. IsRefusal w file why × (why �
 -- ---- what is told
 
 -- all lines went out; or not all, and a line says so, or that memory ran out for them
-pub data TellsLedger (out err : Growth) (lines : List ℕ) (status : Status) : Type 0 where
+pub data TellsLedger (out err : OutputChange) (lines : List ℕ) (status : Status) : Type 0 where
   told : Gets out lines → Gets err [] → status ≡ Done → TellsLedger out err lines status
-  cut : GetsFront out lines → IsWritten err (unwritten_line standard_output) Trouble status →
+  cut : GetsPrefix out lines → IsWritten err (unwritten_line standard_output) Trouble status →
       TellsLedger out err lines status
   unsaid : Gets out [] → IsWritten err (memory_line standard_output) Trouble status →
       TellsLedger out err lines status
 
 -- a line says why a file is not mended, or that memory ran out for that; and one more names the
 -- part that could not be removed, if one could not be
-abbrev pub SaysWhy : Growth → List ℕ → List ℕ → MendFault → Option (List ℕ) → Status → Type 0
+abbrev pub SaysWhy : OutputChange → List ℕ → List ℕ → MendFault → Option (List ℕ) → Status → Type 0
 SaysWhy err old_name new_name why kept status =
     IsWritten err (why_line old_name new_name why ++ kept_line kept)
     (kept_status kept (why_status why)) status
@@ -88,7 +88,7 @@ abbrev pub left_name : List ℕ → Bool → Option (List ℕ)
 left_name name true = Some name
 left_name name false = None
 
-module _ (out err : Growth) (bytes : Option (List ℕ)) (w : Wanted) (file : List ℕ)
+module _ (out err : OutputChange) (bytes : Option (List ℕ)) (w : Wanted) (file : List ℕ)
     (status : Status) where
   -- ---- the changes are only told
 
@@ -139,7 +139,8 @@ module _ (out err : Growth) (bytes : Option (List ℕ)) (w : Wanted) (file : Lis
       pub unsaid : Gets out []
       pub said : SaysWhy err file name why (left_name name is_left) status
 
-abbrev pub IsDoneTo : Making → Growth → Growth → Option (List ℕ) → Asked → Option (List ℕ) →
+abbrev pub IsDoneTo : Making → OutputChange → OutputChange → Option (List ℕ) → Asked →
+    Option (List ℕ) →
     Status → Type 0
 IsDoneTo m out err bytes asked None status = MakesNothing m
     × (TellsChanges out err bytes asked.wanted asked.input status
@@ -150,7 +151,8 @@ IsDoneTo m out err bytes asked (Some name) status =
     ⊎ LacksMended out err bytes asked.wanted asked.input status m name)
 
 -- by what makes files, the two writers, and the bytes that the file's name stands for
-abbrev pub IsMendDone : Making → Growth → Growth → Option (List ℕ) → Asked → Status → Type 0
+abbrev pub IsMendDone : Making → OutputChange → OutputChange → Option (List ℕ) → Asked → Status →
+    Type 0
 IsMendDone m out err bytes asked status = IsDoneTo m out err bytes asked asked.output status
 
 -- the file's name was opened, twice at most, and just so often where all was done; no other was

@@ -7,8 +7,8 @@ ghost use Rattle.std.specs.Bool.{MatchBool};
 ghost use Rattle.std.specs.List.{AllZip, slice_split};
 ghost use Rattle.edf_mend.specs.Code.{IsCode};
 ghost use Rattle.edf_mend.specs.Starts.{HasStarttime};
-ghost use Rattle.edf_program.specs.Output.{growth, Gets};
-ghost use Rattle.edf_program.specs.Words.{IsFaultTold};
+ghost use Rattle.edf_program.specs.Output.{output_change, Gets};
+ghost use Rattle.edf_program.specs.Words.{IsCommandFaultPrinted};
 ghost use Rattle.edfmend_command.specs.Run.{meaning};
 ghost use Rattle.edfmend_command.specs.Words.{Values, NamesRule, is_comma, AreRules, AreCodes};
 ghost use Rattle.edfmend_command.specs.Words.{IsDateWord, AreNames, Mean, MeanNothing};
@@ -18,7 +18,7 @@ use crate::mend_command::MendCommand;
 use clap::{Arg, ArgAction, ArgMatches, Command};
 use edf_fragment::Output;
 use edf_mend::{Code, RULES, Rule, Wanted, Who};
-use edf_program::{CommandFault, Status, VERSION, fault_by, refuse_value, tell_fault};
+use edf_program::{CommandFault, Status, VERSION, fault_by, print_fault, refuse_value};
 use edf_time::start_of;
 use std::alloc::{AllocError, Global};
 use std::marker::Model;
@@ -430,13 +430,14 @@ pub fn read_command<O: Output, F: Output>(
     out: &mut O,
     err: &mut F,
 ) -> Result<MendCommand, Status>
-    ensures { let o = growth O.Output out.old out.new in let e = growth F.Output err.old err.new in
+    ensures { let o = output_change O.Output out.old out.new in let e =
+        output_change F.Output err.old err.new in
         MatchResult result
         (λ command. (values : Values) × Mean values (meaning command) × Gets o [] × Gets e [])
-        (λ status. (why : CommandFault) × IsFaultTold o e why status) }
+        (λ status. (why : CommandFault) × IsCommandFaultPrinted o e why status) }
 {
     match parse(alloc, words) {
         Ok(command) => Ok(command),
-        Err(fault) => Err(tell_fault(&fault, out, err)),
+        Err(fault) => Err(print_fault(&fault, out, err)),
     }
 }

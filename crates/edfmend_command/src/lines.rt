@@ -2,7 +2,7 @@
 
 ghost use Rattle.std.specs.Prelude.{◌≡◌, ◌++◌, ◌+◌, ◌==◌, ◌<◌, not, ◌&&◌, length, IfOk, OnOk};
 ghost use Rattle.std.specs.List.{flat_map, list_any, list_all};
-ghost use Rattle.edf_program.specs.Output.{growth, IsPut};
+ghost use Rattle.edf_program.specs.Output.{output_change, IsPut};
 ghost use Rattle.edfmend_command.specs.Ledger.{hex_digit, quoted_byte, quoted, cut_text, step_end};
 ghost use Rattle.edfmend_command.specs.Ledger.{is_new, change_line, changed_line, added_line};
 ghost use Rattle.edfmend_command.specs.Ledger.{signal_line, step_lines, bytes_text, record_line};
@@ -13,7 +13,7 @@ ghost use Rattle.edfmend_command.specs.Ledger.{clock_text, clock_line, left_out_
 
 use edf_fragment::Output;
 use edf_mend::{Change, Ledger, RecordChanges, Rule, Step};
-use edf_program::{Status, concat, put_parts, tell_parts};
+use edf_program::{Status, concat, print_parts, put_parts};
 use edf_time::write_seconds;
 use std::alloc::{AllocError, Global};
 
@@ -376,7 +376,7 @@ fn ledger_text(alloc: Global, ledger: &Ledger) -> Result<Vec<u8>, AllocError>
 
 /// Writes a text, and answers whether it was written whole.
 fn put_text<O: Output>(out: &mut O, text: &[u8]) -> bool
-    ensures { IsPut (growth O.Output out.old out.new) text.now result }
+    ensures { IsPut (output_change O.Output out.old out.new) text.now result }
 {
     put_parts(out, &[text])
 }
@@ -389,7 +389,8 @@ pub(crate) fn tell_ledger<O: Output, F: Output>(
     out: &mut O,
     err: &mut F,
 ) -> Status
-    ensures { TellsLedger (growth O.Output out.old out.new) (growth F.Output err.old err.new)
+    ensures { TellsLedger (output_change O.Output out.old out.new)
+        (output_change F.Output err.old err.new)
         (ledger_lines ledger.now) result }
 {
     match ledger_text(alloc, ledger) {
@@ -397,13 +398,13 @@ pub(crate) fn tell_ledger<O: Output, F: Output>(
             if put_text(out, text.as_slice()) {
                 return Status::Done;
             }
-            tell_parts(
+            print_parts(
                 err,
                 &[b"standard output refused E43 Write\n"],
                 Status::Trouble,
             )
         }
-        Err(_) => tell_parts(
+        Err(_) => print_parts(
             err,
             &[b"standard output refused E41 Memory\n"],
             Status::Trouble,

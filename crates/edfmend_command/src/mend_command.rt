@@ -3,7 +3,7 @@
 ghost use Rattle.std.specs.Prelude.{◌≡◌, ◌≢◌, ◌⊎◌, ◌++◌, ℕ, List, IfOk, IfErr, IfSome};
 ghost use Rattle.std.specs.Prelude.{MatchResult, option_map, replicate, string_bytes};
 ghost use Rattle.edf_program.specs.Opened.{OpensUpTo};
-ghost use Rattle.edf_program.specs.Output.{growth};
+ghost use Rattle.edf_program.specs.Output.{output_change};
 ghost use Rattle.edf_program.specs.Making.{making};
 ghost use Rattle.edfmend_command.specs.Inside.{Surveys, MendsAs, WritesFile, StopsWriting};
 ghost use Rattle.edfmend_command.specs.Inside.{MakesFile, StopsMaking};
@@ -15,7 +15,7 @@ use crate::lines::tell_ledger;
 use crate::refusal::refuse;
 use edf_fragment::{Counted, Output};
 use edf_mend::{Ledger, MendFault, Survey, Wanted, mend, survey_file};
-use edf_program::{Inputs, NewFiles, Status, tell_there};
+use edf_program::{Inputs, NewFiles, Status, print_name_taken};
 use std::alloc::Global;
 use std::io;
 
@@ -113,9 +113,11 @@ fn tell_changes<I: Inputs, O: Output, F: Output>(
     out: &mut O,
     err: &mut F,
 ) -> Status
-    ensures told { TellsChanges (growth O.Output out.old out.new) (growth F.Output err.old err.new)
+    ensures told { TellsChanges (output_change O.Output out.old out.new)
+        (output_change F.Output err.old err.new)
         (I.bytes inputs.old file.now) wanted.now file.now result
-        ⊎ LacksChanges (growth O.Output out.old out.new) (growth F.Output err.old err.new)
+        ⊎ LacksChanges (output_change O.Output out.old out.new)
+        (output_change F.Output err.old err.new)
         (I.bytes inputs.old file.now) wanted.now file.now result }
     ensures opened { OpensTwice (I.opened inputs.old) (I.opened inputs.new) file.now result }
 {
@@ -217,16 +219,18 @@ fn mend_to<I: Inputs, M: NewFiles, O: Output, F: Output>(
     err: &mut F,
 ) -> Status
     ensures done { let m = making M.NewFiles maker.old maker.new in
-        FindsName (growth O.Output out.old out.new) (growth F.Output err.old err.new)
+        FindsName (output_change O.Output out.old out.new) (output_change F.Output err.old err.new)
         (I.bytes inputs.old file.now) wanted.now file.now result m name.now
-        ⊎ (MakesMended (growth O.Output out.old out.new) (growth F.Output err.old err.new)
+        ⊎ (MakesMended (output_change O.Output out.old out.new)
+        (output_change F.Output err.old err.new)
         (I.bytes inputs.old file.now) wanted.now file.now result m name.now
-        ⊎ LacksMended (growth O.Output out.old out.new) (growth F.Output err.old err.new)
+        ⊎ LacksMended (output_change O.Output out.old out.new)
+        (output_change F.Output err.old err.new)
         (I.bytes inputs.old file.now) wanted.now file.now result m name.now) }
     ensures opened { OpensTwice (I.opened inputs.old) (I.opened inputs.new) file.now result }
 {
     if maker.is_there(name) {
-        return tell_there(err, name);
+        return print_name_taken(err, name);
     }
     let survey = match survey_of(alloc, file, wanted, inputs) {
         Ok(survey) => survey,
@@ -257,7 +261,7 @@ pub fn run_mend<I: Inputs, M: NewFiles, O: Output, F: Output>(
     err: &mut F,
 ) -> Status
     ensures done { IsMendDone (making M.NewFiles maker.old maker.new)
-        (growth O.Output out.old out.new) (growth F.Output err.old err.new)
+        (output_change O.Output out.old out.new) (output_change F.Output err.old err.new)
         (I.bytes inputs.old (string_bytes command.now.input)) (meaning command.now) result }
     ensures opened { OpensTwice (I.opened inputs.old) (I.opened inputs.new)
         (string_bytes command.now.input) result }

@@ -2,14 +2,14 @@
 
 ghost use Rattle.std.specs.Prelude.{◌≡◌, ◌++◌, IfOk, option_map};
 ghost use Rattle.std.specs.List.{flat_map};
-ghost use Rattle.edf_program.specs.Output.{growth, IsPut, IsWritten};
+ghost use Rattle.edf_program.specs.Output.{output_change, IsPut, IsWritten};
 ghost use Rattle.edfmend_command.specs.Lines.{form_text, kept_line};
 ghost use Rattle.edfmend_command.specs.Lines.{kept_status};
 ghost use Rattle.edfmend_command.specs.Run.{SaysWhy};
 
 use edf_fragment::{FragmentFault, Output, Remark};
 use edf_mend::MendFault;
-use edf_program::{Status, concat, fragment_fault_text, put_parts, status_of_number, tell_parts};
+use edf_program::{Status, concat, fragment_fault_text, print_parts, put_parts, status_of_number};
 use itoa::Buffer;
 use std::alloc::{AllocError, Global};
 
@@ -44,7 +44,7 @@ fn remark_on<F: Output>(err: &mut F, name: &str, remark: Option<Remark>)
 /// Prints the parts of a line about a file, and tells a person more. Whether the line was printed
 /// whole.
 fn is_why_told<F: Output>(err: &mut F, file: &str, parts: &[&[u8]], remark: Option<Remark>) -> bool
-    ensures { IsPut (growth F.Output err.old err.new) (flat_map (λ part. part.now) parts.now)
+    ensures { IsPut (output_change F.Output err.old err.new) (flat_map (λ part. part.now) parts.now)
         result }
 {
     if !put_parts(err, parts) {
@@ -65,7 +65,7 @@ fn tell_why<F: Output>(
     status: Status,
 ) -> Status
     ensures { let left = option_map (λ name. name.now) kept.entry in
-        IsWritten (growth F.Output err.old err.new)
+        IsWritten (output_change F.Output err.old err.new)
         (flat_map (λ part. part.now) parts.now ++ kept_line left)
         (kept_status left status) result }
 {
@@ -75,7 +75,7 @@ fn tell_why<F: Output>(
     match kept {
         Some(name) => {
             let parts = [name.as_bytes(), b".part could not be removed\n"];
-            tell_parts(err, &parts, Status::Trouble)
+            print_parts(err, &parts, Status::Trouble)
         }
         None => status,
     }
@@ -97,7 +97,8 @@ fn refuse_form<F: Output>(
     kept: Option<&str>,
     err: &mut F,
 ) -> Status
-    ensures { SaysWhy (growth F.Output err.old err.new) file.now file.now (MendFault.Refused met)
+    ensures { SaysWhy (output_change F.Output err.old err.new) file.now file.now
+        (MendFault.Refused met)
         (option_map (λ name. name.now) kept.entry) result }
 {
     match form_text(alloc, &met) {
@@ -129,7 +130,7 @@ pub(crate) fn refuse<F: Output>(
     kept: Option<&str>,
     err: &mut F,
 ) -> Status
-    ensures { SaysWhy (growth F.Output err.old err.new) old_name.now new_name.now fault.now
+    ensures { SaysWhy (output_change F.Output err.old err.new) old_name.now new_name.now fault.now
         (option_map (λ name. name.now) kept.entry) result }
 {
     let old = old_name.as_bytes();

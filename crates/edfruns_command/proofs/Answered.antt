@@ -5,7 +5,7 @@ use Rattle.std.specs.Prelude.{Option}
 use Rattle.std.specs.Bool.{MatchBool}
 use Rattle.edf_fragment.specs.declared.fault.FragmentFault.{FragmentFault}
 use Rattle.edf_fragment.specs.declared.fault.FragmentFault.TheVariants.{Memory}
-use Rattle.edf_program.specs.Output.{Growth, Gets, IsPut, IsWritten}
+use Rattle.edf_program.specs.Output.{OutputChange, Gets, IsPut, IsWritten}
 use Rattle.edf_program.specs.Text.{memory_line}
 use Rattle.edf_program.specs.declared.status.Status.{Status}
 use Rattle.edf_program.specs.declared.status.Status.TheVariants.{Done, Trouble}
@@ -22,7 +22,7 @@ use Rattle.edfruns_command.specs.Lines.{file_refused_line, file_refused_status, 
 use Rattle.edfruns_command.specs.Listing.{HasFault, RefusesFile, LacksMemory, OpensAgain}
 
 -- what was asked for was `Done`, and the answer says whether it came
-pub put-told : (w : Growth) (bytes : List ℕ) (status : Status) (told : Bool) →
+pub put-told : (w : OutputChange) (bytes : List ℕ) (status : Status) (told : Bool) →
     IsWritten w bytes Done status → MatchBool told (status ≡ Done) (status ≢ Done) →
     IsPut w bytes told
 put-told w bytes status true (inl whole) is = whole.0
@@ -31,7 +31,8 @@ put-told w bytes status false (inl whole) is = absurd (is whole.1)
 put-told w bytes status false (inr front) is = front.0
 
 -- a file was refused, or there was no memory for it
-pub refused : (out err : Growth) (bytes : Option (List ℕ)) (name : List ℕ) (fault : FragmentFault)
+pub refused : (out err : OutputChange) (bytes : Option (List ℕ)) (name : List ℕ)
+    (fault : FragmentFault)
     (status : Status) → Gets out [] → HasFault bytes fault ⊎ (fault ≡ Memory) →
     IsWritten err (file_refused_line name fault) (file_refused_status fault) status
     ⊎ IsWritten err (memory_line name) Trouble status →
@@ -88,7 +89,7 @@ opened-then before mid after name status first then = record {
 
 -- ---- a refusal is no success
 
-pub file-undone : (err : Growth) (name : List ℕ) (met : FragmentFault) (status : Status) →
+pub file-undone : (err : OutputChange) (name : List ℕ) (met : FragmentFault) (status : Status) →
     IsWritten err (file_refused_line name met) (file_refused_status met) status
     ⊎ IsWritten err (memory_line name) Trouble status → status ≢ Done
 file-undone err name met status (inl said) done =
@@ -99,14 +100,15 @@ file-undone err name met status (inr said) done =
 
 -- ---- failed writes
 
-pub counts-write : (w : Growth) (old new : ℕ) (why : WriteFault) →
+pub counts-write : (w : OutputChange) (old new : ℕ) (why : WriteFault) →
     CountsFault old new w.failed_before w.failed_after why → CountsWrite w why
 counts-write w old new Undated counts = counts.1
 counts-write w old new why counts = counts.1
 
 -- ---- why nothing is written of a file
 
-pub lacks-plan : (out err : Growth) (bytes : Option (List ℕ)) (name : List ℕ) (status : Status)
+pub lacks-plan : (out err : OutputChange) (bytes : Option (List ℕ)) (name : List ℕ)
+    (status : Status)
     (by_onset : Bool) → Gets out [] → (fault : OnsetFault) → HasPlanFault by_onset bytes fault →
     IsPlanRefused err name fault status →
     LacksPlan out err bytes name status by_onset
@@ -117,7 +119,7 @@ lacks-plan out err bytes name status by_onset nothing (onset.TooMany number) has
 lacks-plan out err bytes name status by_onset nothing onset.Memory has said =
     inr (inr (nothing, said))
 
-pub plan-undone : (err : Growth) (name : List ℕ) (fault : OnsetFault) (status : Status) →
+pub plan-undone : (err : OutputChange) (name : List ℕ) (fault : OnsetFault) (status : Status) →
     IsPlanRefused err name fault status → status ≢ Done
 plan-undone err name (onset.Fragment met) status said done = file-undone err name met status said done
 plan-undone err name (onset.TooMany number) status said done =

@@ -4,13 +4,13 @@ use Rattle.std.proofs.Common.{drop, map, refl, sym, ap, ◌∙◌, arith, length
 use Rattle.std.proofs.Common.{◌⊎◌, inl, inr, Option}
 use Rattle.std.proofs.lemmas.List.{length-map}
 use Rattle.edf_header.specs.Key.{Key}
-use Rattle.edf_program.specs.Output.{Growth, Gets, GetsFront}
+use Rattle.edf_program.specs.Output.{OutputChange, Gets, GetsPrefix}
 use Rattle.edf_program.specs.declared.status.Status.{Status}
 use Rattle.edf_runs.specs.declared.run.Run.{Run}
 use Rattle.edf_runs.specs.declared.run_list.Listing.{Listing}
 use Rattle.edf_program.specs.Made.{MadeFile, names_of}
 use Rattle.edf_program.specs.Making.{Making}
-use Rattle.edfruns_command.specs.Lines.{IsSpelling, stop_line, unwritten_line, standard_output}
+use Rattle.edfruns_command.specs.Lines.{IsInstantFormat, stop_line, unwritten_line, standard_output}
 use Rattle.edfruns_command.proofs.Finished.{has-all, finished-still, same-names}
 use Rattle.edfruns_command.specs.Splitting.{GivesUp, HasMade, AreRuns, LacksFiles, LacksLines}
 use Rattle.edfruns_command.specs.Splitting.{MakesRuns, lines_of}
@@ -78,7 +78,7 @@ module _ (m : Making) (first : ℕ) (is : first ≡ length m.before) (names : Li
 
 module _ (m : Making) (bytes : Option (List ℕ)) (listing : Listing) (names : List (List ℕ))
     (first : ℕ) (is : first ≡ length m.before) (after : List MadeFile)
-    (failed : ℕ) (same : failed ≡ m.failed_after) (out err : Growth) (name : List ℕ)
+    (failed : ℕ) (same : failed ≡ m.failed_after) (out err : OutputChange) (name : List ℕ)
     (status : Status) where
   gives-up : (count whole : ℕ) → HasMade m names listing.identity listing.runs.items count whole →
       (line : List ℕ) → RemovesFrom first m.after after err line status →
@@ -123,8 +123,8 @@ module _ (m : Making) (bytes : Option (List ℕ)) (listing : Listing) (names : L
       }))
 
   pub untold : (makes : MakesRuns m bytes listing names) → AreRuns makes.again →
-      ((spell : ℕ → List ℕ) → IsSpelling spell →
-      GetsFront out (lines_of spell listing names makes.again.runs)) →
+      ((spell : ℕ → List ℕ) → IsInstantFormat spell →
+      GetsPrefix out (lines_of spell listing names makes.again.runs)) →
       length names ≡ length listing.runs.items →
       RemovesFrom first m.after after err (unwritten_line standard_output) status →
       GivesUp (ended m after failed) out err bytes name listing names status

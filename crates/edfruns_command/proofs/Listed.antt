@@ -5,7 +5,7 @@ use Rattle.std.proofs.Common.{◌+◌, ◌<◌, ◌≤◌, length, take, drop, g
 use Rattle.std.proofs.Common.{take-append-drop}
 use Rattle.std.proofs.lemmas.List.{map-append, take_more, drop_more}
 use Rattle.std.specs.Prelude.{Option, Result, Ok, Err, MatchResult}
-use Rattle.edf_program.specs.Output.{Growth, Gets, GetsFront, IsWritten}
+use Rattle.edf_program.specs.Output.{OutputChange, Gets, GetsPrefix, IsWritten}
 use Rattle.edf_program.specs.Status.{exit_code, worse}
 use Rattle.edf_program.specs.declared.status.Status.{Status}
 use Rattle.edf_program.specs.declared.status.Status.TheVariants.{Done, Refused, Usage, Trouble}
@@ -66,18 +66,19 @@ both_done a b is =
 -- ---- the lines of one file
 
 -- they were sent, or a front of them
-pub sent : (out err : Growth) (bytes : Option (List ℕ)) (label : List ℕ)
+pub sent : (out err : OutputChange) (bytes : Option (List ℕ)) (label : List ℕ)
     (name text : List ℕ) (result : Result Status Status) →
     TellsRuns bytes label (λ lines. text ≡ lines) →
     MatchResult result (λ status. Gets out text × Gets err [] × (status ≡ Done))
-    (λ status. GetsFront out text × IsWritten err (unwritten_line standard_output) Trouble status) →
+    (λ status. GetsPrefix out text × IsWritten err (unwritten_line standard_output) Trouble status)
+    →
     MatchResult result (IsFileListed out err bytes label name)
     (CutsLines out err bytes label)
 sent out err bytes label name text (Err status) tells cut = (
   record {
     listing = tells.listing;
     has = tells.has;
-    told = λ spell is. subst (GetsFront out) (tells.told spell is) cut.0;
+    told = λ spell is. subst (GetsPrefix out) (tells.told spell is) cut.0;
   },
   cut.1,
 )

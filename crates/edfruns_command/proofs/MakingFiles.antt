@@ -25,7 +25,7 @@ use Rattle.edfruns_command.specs.Rereading.{PassesRuns, StopsAtRuns}
 use Rattle.edfruns_command.specs.Splitting.{HasMade, HoldsRun}
 use Rattle.edfruns_command.specs.InsideMaking.{MakesFile, MakesEach, MakesFirst, AreLinesOf}
 use Rattle.edfruns_command.specs.InsideMaking.{IsStopOf, StopsFile, StopsEach}
-use Rattle.edfruns_command.specs.Lines.{IsSpelling, run_front}
+use Rattle.edfruns_command.specs.Lines.{IsInstantFormat, run_front}
 use Rattle.edfruns_command.specs.Counting.{counts_text, counted_line, split_lines}
 use Rattle.edfruns_command.specs.declared.stop.Stop.{Stop}
 use Rattle.edfruns_command.specs.declared.stop.Stop.TheVariants as stop
@@ -153,7 +153,7 @@ module _ (a b : Making) (known : b.known ≡ a.known) (before : b.before ≡ a.a
   pub first-more : (text more : List ℕ) (written : Written) →
       AreLinesOf (duration_of l.key.duration) names runs so_far.parts text →
       MakesFile b name l mid to middle rest run written →
-      ((spell : ℕ → List ℕ) → IsSpelling spell → more ≡ text ++ line_of_file written spell) →
+      ((spell : ℕ → List ℕ) → IsInstantFormat spell → more ≡ text ++ line_of_file written spell) →
       MakesFirst (then a b) names l to left rest runs (i + 1) more
   unfolding makes-more
   first-more text more written lines one grows =

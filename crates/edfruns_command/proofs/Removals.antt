@@ -9,7 +9,7 @@ use Rattle.std.proofs.lemmas.List.{take_more, drop_more, map-append, length-map,
 use Rattle.std.proofs.lemmas.List.{length-take-le, flat_map_more}
 use Rattle.std.proofs.lemmas.List.Elements.{All-push, All-nil}
 use Rattle.std.specs.Io.KnownBytes.{Appends}
-use Rattle.edf_program.specs.Output.{Growth, Gets, GetsFront, IsPut, IsWritten}
+use Rattle.edf_program.specs.Output.{OutputChange, Gets, GetsPrefix, IsPut, IsWritten}
 use Rattle.edf_program.specs.declared.status.Status.TheVariants.{Trouble}
 use Rattle.edf_program.proofs.Puts.{grown, gets-after, front-after}
 use Rattle.edf_program.specs.Made.{MadeFile, begun}
@@ -20,8 +20,8 @@ use Rattle.edfruns_command.specs.InsideSplit.{as_begun, IsPutAfter, RemovesOne, 
 
 module _ (a : Option (List ℕ)) (old : ℕ) (b : Option (List ℕ)) (mid : ℕ) (c : Option (List ℕ))
     (new : ℕ) where
-  front-kept : (text more : List ℕ) → GetsFront (grown a old b mid) text →
-      Gets (grown b mid c new) [] → GetsFront (grown a old c new) (text ++ more)
+  front-kept : (text more : List ℕ) → GetsPrefix (grown a old b mid) text →
+      Gets (grown b mid c new) [] → GetsPrefix (grown a old c new) (text ++ more)
   front-kept text more first none = (
     record {
       front = first.0.front;
@@ -45,7 +45,7 @@ module _ (a : Option (List ℕ)) (old : ℕ) (b : Option (List ℕ)) (mid : ℕ)
 -- ---- what is removed
 
 -- of the files after the first ones, k were removed
-pub record RemovedSoFar (base made now : List MadeFile) (k : ℕ) (w : Growth) (line : List ℕ)
+pub record RemovedSoFar (base made now : List MadeFile) (k : ℕ) (w : OutputChange) (line : List ℕ)
     (told : Bool) : Type 0 where
   pub files : List MadeFile
   pub remaining : now ≡ base ++ (files ++ drop k made)
@@ -56,7 +56,7 @@ pub record RemovedSoFar (base made now : List MadeFile) (k : ℕ) (w : Growth) (
 abbrev pub nth : List MadeFile → ℕ → MadeFile
 nth made k = get_or made k (begun [])
 
-module _ (base made now : List MadeFile) (k : ℕ) (lt : k < length made) (w : Growth)
+module _ (base made now : List MadeFile) (k : ℕ) (lt : k < length made) (w : OutputChange)
     (line : List ℕ) (told : Bool) (so : RemovedSoFar base made now k w line told) where
   pub next-there : now ≡ (base ++ so.files) ++ (nth made k ∷ drop (k + 1) made)
   next-there =
@@ -97,13 +97,13 @@ module _ (a : Option (List ℕ)) (old : ℕ) (b : Option (List ℕ)) (mid : ℕ)
         told then so.said one.said);
   }
 
-put-written : (w : Growth) (text : List ℕ) (told : Bool) → IsPut w text told →
+put-written : (w : OutputChange) (text : List ℕ) (told : Bool) → IsPut w text told →
     IsWritten w text Trouble Trouble
 put-written w text true put = inl (put, refl)
 put-written w text false put = inr (put, refl)
 
 -- all were removed
-pub removes-all : (first k : ℕ) (old new : List MadeFile) (w : Growth) (line : List ℕ)
+pub removes-all : (first k : ℕ) (old new : List MadeFile) (w : OutputChange) (line : List ℕ)
     (told : Bool) → length (drop first old) ≤ k →
     RemovedSoFar (take first old) (drop first old) new k w line told →
     RemovesFrom first old new w line Trouble
@@ -118,7 +118,8 @@ removes-all first k old new w line told most so = record {
 }
 
 -- none yet
-pub removes-none : (first : ℕ) (old : List MadeFile) (w : Growth) (line : List ℕ) (told : Bool) →
+pub removes-none : (first : ℕ) (old : List MadeFile) (w : OutputChange) (line : List ℕ)
+    (told : Bool) →
     IsPut w line told → RemovedSoFar (take first old) (drop first old) old 0 w line told
 removes-none first old w line told put = record {
   files = [];

@@ -2,7 +2,7 @@
 use Rattle.std.specs.Prelude.{◌≡◌, ◌⊎◌, ℕ, zero, suc, List, [], Bool, true, false, Option, Err}
 use Rattle.edf_fragment.specs.Failures.{saturating_increment}
 use Rattle.edf_fragment.specs.declared.fault.FragmentFault.TheVariants.{Memory as NoMemory}
-use Rattle.edf_program.specs.Output.{Growth, Gets, IsWritten, Explains}
+use Rattle.edf_program.specs.Output.{OutputChange, Gets, IsWritten, Explains}
 use Rattle.edf_program.specs.declared.status.Status.{Status}
 use Rattle.edf_program.specs.declared.status.Status.TheVariants.{Done, Refused, Trouble}
 use Rattle.edf_runs.specs.Canonical.{ReadsPlan, IsCanonicalWritten, IsNotCanonical}
@@ -34,7 +34,7 @@ HasPlanFault by_onset bytes (onset.Fragment met) = HasFault bytes met ⊎ (met �
 HasPlanFault by_onset bytes (onset.TooMany number) = HasCrowded by_onset bytes number
 HasPlanFault by_onset bytes onset.Memory = Unit {0}
 
-module _ (out err : Growth) (bytes : Option (List ℕ)) (name : List ℕ) (status : Status) where
+module _ (out err : OutputChange) (bytes : Option (List ℕ)) (name : List ℕ) (status : Status) where
   -- by onset a data record would have too many annotations; the line names its run
   pub record FindsCrowded (by_onset : Bool) : Type 0 where
     pub number : ℕ
@@ -47,11 +47,11 @@ module _ (out err : Growth) (bytes : Option (List ℕ)) (name : List ℕ) (statu
       ⊎ (RefusesFile out err bytes name status ⊎ LacksMemory out err bytes name status)
 
 -- one more write failed where a failed write is the fault, and none before another
-abbrev pub CountsWrite : Growth → WriteFault → Type 0
+abbrev pub CountsWrite : OutputChange → WriteFault → Type 0
 CountsWrite w fault.Write = w.failed_after ≡ saturating_increment w.failed_before
 CountsWrite w why = w.failed_after ≡ w.failed_before
 
-module _ (out : Growth) (bytes : Option (List ℕ)) (plan : CanonicalPlan) where
+module _ (out : OutputChange) (bytes : Option (List ℕ)) (plan : CanonicalPlan) where
   -- it was read again and has what was planned, and the canonical file of that went out, the only
   -- one that it has
   pub record WritesFile : Type 0 where
@@ -74,11 +74,11 @@ module _ (out : Growth) (bytes : Option (List ℕ)) (plan : CanonicalPlan) where
   StopsAgain why = StopsInFile why ⊎ (Gets out [] × (why ≡ fault.Memory))
 
 -- a line tells of how many annotations no data record has the onset, where there are any
-abbrev pub TellsOutside : Growth → List ℕ → ℕ → Status → Type 0
+abbrev pub TellsOutside : OutputChange → List ℕ → ℕ → Status → Type 0
 TellsOutside err name zero status = Gets err [] × (status ≡ Done)
 TellsOutside err name (suc count) status = IsWritten err (outside_line name (suc count)) Done status
 
-module _ (out err : Growth) (bytes : Option (List ℕ)) (name : List ℕ) (by_onset : Bool)
+module _ (out err : OutputChange) (bytes : Option (List ℕ)) (name : List ℕ) (by_onset : Bool)
     (status : Status) where
   -- the canonical file went out
   pub record WritesCanonical : Type 0 where

@@ -1,6 +1,6 @@
 -- What private functions do.
 use Rattle.std.specs.Prelude.{◌⊎◌, List, ℕ}
-use Rattle.edf_program.specs.Output.{Growth, IsWritten}
+use Rattle.edf_program.specs.Output.{OutputChange, IsWritten}
 use Rattle.edf_program.specs.Text.{memory_line}
 use Rattle.edf_program.specs.declared.status.Status.{Status}
 use Rattle.edf_program.specs.declared.status.Status.TheVariants.{Refused, Trouble}
@@ -10,7 +10,7 @@ use Rattle.edfruns_command.specs.Lines.{crowded_line, file_refused_line, file_re
 pub use Rattle.edf_program.specs.Opened.{OpensUpTo}
 
 -- a line says why nothing is written of a file
-abbrev pub IsPlanRefused : Growth → List ℕ → OnsetFault → Status → Type 0
+abbrev pub IsPlanRefused : OutputChange → List ℕ → OnsetFault → Status → Type 0
 IsPlanRefused err name (fault.Fragment met) status =
     IsWritten err (file_refused_line name met) (file_refused_status met) status
     ⊎ IsWritten err (memory_line name) Trouble status

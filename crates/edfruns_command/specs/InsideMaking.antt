@@ -23,7 +23,7 @@ use Rattle.edf_program.specs.Making.{Making}
 use Rattle.edfruns_command.specs.Rereading.{IsOfReading, IsNoEnd, StopsAtRuns, StopsRereading}
 use Rattle.edfruns_command.specs.Rereading.{failed_by}
 use Rattle.edfruns_command.specs.Splitting.{HoldsRun, HasMade, MakesRuns, lines_of}
-use Rattle.edfruns_command.specs.Lines.{IsSpelling}
+use Rattle.edfruns_command.specs.Lines.{IsInstantFormat}
 use Rattle.edfruns_command.specs.Counting.{split_lines}
 use Rattle.edfruns_command.specs.declared.stop.Stop.{Stop}
 use Rattle.edfruns_command.specs.declared.stop.Stop.TheVariants as stop
@@ -102,7 +102,7 @@ pub record MakesEach (m : Making) (names : List (List ℕ)) (l : Layout) (to : P
 -- the text is the lines of such files, the first of all runs
 abbrev pub AreLinesOf : ℕ → List (List ℕ) → List Run → List (List DataRecord) → List ℕ →
     Type 0
-AreLinesOf d names runs files text = (spell : ℕ → List ℕ) → IsSpelling spell →
+AreLinesOf d names runs files text = (spell : ℕ → List ℕ) → IsInstantFormat spell →
     text ≡ split_lines spell d 1 names runs files
 
 -- so many of the files were made, and these are their lines
@@ -126,7 +126,7 @@ pub record StopsEach (m : Making) (names : List (List ℕ)) (l : Layout)
 -- files were made of all runs, with their lines
 abbrev pub RereadsWith : Making → Option (List ℕ) → Listing → List (List ℕ) → List ℕ → Type 0
 RereadsWith m bytes listing names text = (all : MakesRuns m bytes listing names)
-    × ((spell : ℕ → List ℕ) → IsSpelling spell →
+    × ((spell : ℕ → List ℕ) → IsInstantFormat spell →
     text ≡ lines_of spell listing names all.again.runs)
 
 -- or not of all

@@ -13,7 +13,7 @@ use Rattle.edf_runs.specs.declared.fault.WriteFault.{WriteFault}
 use Rattle.edf_runs.specs.declared.fault.WriteFault.TheVariants as run
 use Rattle.edfruns_command.specs.declared.stop.Stop.{Stop}
 use Rattle.edfruns_command.specs.declared.stop.Stop.TheVariants as stop
-pub use Rattle.edf_program.specs.Text.{IsSpelling}
+pub use Rattle.edf_program.specs.Text.{IsInstantFormat}
 
 -- ---- lines of runs, whose data records last d nanoseconds
 

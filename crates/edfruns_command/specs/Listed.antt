@@ -2,12 +2,12 @@
 use Rattle.std.specs.Prelude.{◌≡◌, ◌⊎◌, ℕ, List, [], ◌∷◌, ◌++◌, Bool, true, false, Option}
 use Rattle.std.specs.Prelude.{nat_lt, length, codes}
 use Rattle.edf_field.specs.Number.{duration_of}
-use Rattle.edf_program.specs.Output.{Growth, Gets, GetsFront, IsWritten}
+use Rattle.edf_program.specs.Output.{OutputChange, Gets, GetsPrefix, IsWritten}
 use Rattle.edf_program.specs.Status.{worse}
 use Rattle.edf_program.specs.declared.status.Status.{Status}
 use Rattle.edf_program.specs.declared.status.Status.TheVariants.{Done, Trouble}
 use Rattle.edf_runs.specs.declared.run_list.Listing.{Listing}
-use Rattle.edfruns_command.specs.Lines.{IsSpelling, run_lines, standard_output, unwritten_line}
+use Rattle.edfruns_command.specs.Lines.{IsInstantFormat, run_lines, standard_output, unwritten_line}
 use Rattle.edfruns_command.specs.Listing.{HasRuns, RefusesFile, LacksMemory}
 
 -- ---- one file
@@ -25,17 +25,17 @@ pub record TellsRuns (bytes : Option (List ℕ)) (label : List ℕ) (Tells : Lis
   where
     pub listing : Listing
     pub has : HasRuns bytes listing
-    pub told : (spell : ℕ → List ℕ) → IsSpelling spell →
+    pub told : (spell : ℕ → List ℕ) → IsInstantFormat spell →
         Tells (run_lines spell (duration_of listing.identity.duration) label 1 listing.runs.items)
 
-module _ (out err : Growth) (bytes : Option (List ℕ)) (label : List ℕ) where
+module _ (out err : OutputChange) (bytes : Option (List ℕ)) (label : List ℕ) where
   -- its lines went out whole
   abbrev pub ListsRuns : Status → Type 0
   ListsRuns status = TellsRuns bytes label (Gets out) × Gets err [] × (status ≡ Done)
 
   -- a front of them did, then a write failed, and a line says so
   abbrev pub CutsLines : Status → Type 0
-  CutsLines status = TellsRuns bytes label (GetsFront out)
+  CutsLines status = TellsRuns bytes label (GetsPrefix out)
       × IsWritten err (unwritten_line standard_output) Trouble status
 
   -- they went out whole, or the file was refused, or there was no memory for them
@@ -50,13 +50,13 @@ pub record Held : Type 0 where
   pub contents : Option (List ℕ)
   pub failures : ℕ
 
-abbrev pub held_before : Growth → Held
+abbrev pub held_before : OutputChange → Held
 held_before w = record { contents = w.before; failures = w.failed_before }
 
-abbrev pub held_after : Growth → Held
+abbrev pub held_after : OutputChange → Held
 held_after w = record { contents = w.after; failures = w.failed_after }
 
-abbrev pub between : Held → Held → Growth
+abbrev pub between : Held → Held → OutputChange
 between old new = record {
   before = old.contents;
   failed_before = old.failures;
@@ -89,7 +89,8 @@ module _ (bytes : List ℕ → Option (List ℕ)) (several : Bool) where
     pub cut : CutsLines (between mid out') (between mid_err err') (bytes name)
         (file_label several name) status
 
-abbrev pub IsListOut : (List ℕ → Option (List ℕ)) → Growth → Growth → List (List ℕ) → Status →
+abbrev pub IsListOut : (List ℕ → Option (List ℕ)) → OutputChange → OutputChange → List (List ℕ) →
+    Status →
     Type 0
 IsListOut bytes out err names status =
     AreListed bytes (are_several names) (held_before out) (held_after out) (held_before err)

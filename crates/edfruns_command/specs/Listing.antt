@@ -2,7 +2,7 @@
 use Rattle.std.specs.Prelude.{◌≡◌, ℕ, ◌≤◌, List, ◌++◌, Option, replicate}
 use Rattle.edf_fragment.specs.Whole.{IsFragmentFault}
 use Rattle.edf_fragment.specs.declared.fault.FragmentFault.{FragmentFault}
-use Rattle.edf_program.specs.Output.{Growth, Explains}
+use Rattle.edf_program.specs.Output.{OutputChange, Explains}
 use Rattle.edf_program.specs.Text.{memory_line}
 use Rattle.edf_program.specs.declared.status.Status.{Status}
 use Rattle.edf_program.specs.declared.status.Status.TheVariants.{Done, Trouble}
@@ -29,7 +29,7 @@ pub record HasFault (bytes : Option (List ℕ)) (fault : FragmentFault) : Type 0
   pub rest : Option (List ℕ)
   pub met : IsFragmentFault bytes rest fault
 
-module _ (out err : Growth) (bytes : Option (List ℕ)) (name : List ℕ) (status : Status) where
+module _ (out err : OutputChange) (bytes : Option (List ℕ)) (name : List ℕ) (status : Status) where
   -- memory ran out, and nothing went to `out`
   abbrev pub LacksMemory : Type 0
   LacksMemory = Explains out err (memory_line name) Trouble status

@@ -11,7 +11,7 @@ use Rattle.edf_fragment.specs.Whole.{ReadsFragment}
 use Rattle.edf_header.specs.Header.{Layout}
 use Rattle.edf_header.specs.Key.{Key, patient_code, investigation_code}
 use Rattle.edf_picture.specs.Picture.{IsPicture, Named, drawn_words}
-use Rattle.edf_program.specs.Output.{Growth, Gets, GetsFront, IsWritten}
+use Rattle.edf_program.specs.Output.{OutputChange, Gets, GetsPrefix, IsWritten}
 use Rattle.edf_program.specs.declared.status.Status.{Status}
 use Rattle.edf_program.specs.declared.status.Status.TheVariants.{Done, Trouble}
 use Rattle.edf_runs.specs.ByOnset.{annotations_of}
@@ -22,7 +22,7 @@ use Rattle.edf_sleep.specs.Night.{AreOfFile}
 use Rattle.edf_sleep.specs.declared.extent.Extent.{Extent}
 use Rattle.edf_sleep.specs.declared.note.Note.{Note}
 use Rattle.edf_tal.specs.Tal.{Annotation}
-use Rattle.edfruns_command.specs.Lines.{IsSpelling, each_line, end_of, unwritten_line}
+use Rattle.edfruns_command.specs.Lines.{IsInstantFormat, each_line, end_of, unwritten_line}
 use Rattle.edfruns_command.specs.Lines.{standard_output}
 use Rattle.edfruns_command.specs.Listing.{HasRuns, RefusesFile, LacksMemory}
 
@@ -59,7 +59,7 @@ named_of key has_code = record {
 abbrev pub IsPictureOf : Key → Bool → List Run → List Note → List ℕ → Type 0
 IsPictureOf key has_code runs notes picture =
     let duration = duration_of key.duration in let times = map (run_time duration) runs in
-    (spell : ℕ → List ℕ) → IsSpelling spell →
+    (spell : ℕ → List ℕ) → IsInstantFormat spell →
     (onset : List ℕ) × (words : List (List ℕ)) × (figures : List ℕ)
     × (AreOfFile notes times → HasFiguresOf spell notes times onset words figures)
     × IsPicture (named_of key has_code) times words (each_line spell duration runs ++ figures)
@@ -77,13 +77,13 @@ pub record HasNotes (bytes : Option (List ℕ)) (notes : List Note) : Type 0 whe
   pub rest : Option (List ℕ)
   pub read : ReadsNotes bytes rest notes
 
-module _ (out err : Growth) where
+module _ (out err : OutputChange) where
   -- it went out whole; or a front of it did, and this line says that a write failed
   abbrev pub SendsPicture : List ℕ → List ℕ → Status → Type 0
   SendsPicture picture unwritten status = (Gets out picture × Gets err [] × (status ≡ Done))
-      ⊎ (GetsFront out picture × IsWritten err unwritten Trouble status)
+      ⊎ (GetsPrefix out picture × IsWritten err unwritten Trouble status)
 
-module _ (out err : Growth) (bytes : Option (List ℕ)) (name : List ℕ) (has_code : Bool)
+module _ (out err : OutputChange) (bytes : Option (List ℕ)) (name : List ℕ) (has_code : Bool)
     (status : Status) where
   -- the file was read to its end, and a picture was sent
   pub record SendsOne : Type 0 where

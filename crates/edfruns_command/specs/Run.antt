@@ -1,6 +1,6 @@
 -- What a command does: what it writes, the status that it answers, and which files it opens.
 use Rattle.std.specs.Prelude.{ℕ, Bool, List, Option, length, map, string_bytes}
-use Rattle.edf_program.specs.Output.{Growth}
+use Rattle.edf_program.specs.Output.{OutputChange}
 use Rattle.edf_program.specs.declared.status.Status.{Status}
 use Rattle.edf_program.specs.Making.{Making, MakesNothing}
 use Rattle.edfruns_command.specs.Listed.{IsListOut, OpensEach}
@@ -27,7 +27,8 @@ meaning (parsed.Split file prefix) = split (string_bytes file) (string_bytes pre
 meaning (parsed.Picture file has_code) = picture (string_bytes file) has_code
 
 -- by the bytes that names stand for, what makes files and the two writers
-abbrev pub IsDone : (List ℕ → Option (List ℕ)) → Making → Growth → Growth → Asked → Status → Type 0
+abbrev pub IsDone : (List ℕ → Option (List ℕ)) → Making → OutputChange → OutputChange → Asked →
+    Status → Type 0
 IsDone bytes made out err (list files) status = IsListOut bytes out err files status
 IsDone bytes made out err (canonical file by_onset) status =
     IsCanonicalOut out err (bytes file) file by_onset status

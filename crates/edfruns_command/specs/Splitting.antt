@@ -7,7 +7,7 @@ use Rattle.edf_header.specs.Key.{Key, MayStart}
 use Rattle.edf_header.specs.Header.{Layout}
 use Rattle.edf_fragment.specs.Fragment.{DataRecord}
 use Rattle.edf_fragment.specs.Whole.{ReadsFragment}
-use Rattle.edf_program.specs.Output.{Growth, Gets, GetsFront, IsWritten, Explains}
+use Rattle.edf_program.specs.Output.{OutputChange, Gets, GetsPrefix, IsWritten, Explains}
 use Rattle.edf_program.specs.Text.{there_line}
 use Rattle.edf_program.specs.declared.status.Status.{Status}
 use Rattle.edf_program.specs.declared.status.Status.TheVariants.{Done, Refused, Trouble}
@@ -20,7 +20,7 @@ use Rattle.edf_program.specs.Making.{Making, MakesNothing}
 use Rattle.edf_program.specs.There.{There, IsVacant, MayBeThere}
 use Rattle.edf_program.specs.declared.new_files.FileStage.TheVariants.{Finished}
 use Rattle.edfruns_command.specs.Naming.{run_names, asked_names}
-use Rattle.edfruns_command.specs.Lines.{IsSpelling, undated_line, stop_line}
+use Rattle.edfruns_command.specs.Lines.{IsInstantFormat, undated_line, stop_line}
 use Rattle.edfruns_command.specs.Lines.{unwritten_line, standard_output}
 use Rattle.edfruns_command.specs.Listing.{HasRuns, RefusesFile, LacksMemory}
 use Rattle.edfruns_command.specs.Counting.{split_lines}
@@ -99,13 +99,13 @@ pub record MakesRuns (m : Making) (bytes : Option (List ℕ)) (listing : Listing
   pub held : AllZip (HoldsRun m.known again.layout.key) again.runs files
   pub unfailed : m.failed_after ≡ m.failed_before
 
-module _ (m : Making) (out err : Growth) (bytes : Option (List ℕ)) (name : List ℕ)
+module _ (m : Making) (out err : OutputChange) (bytes : Option (List ℕ)) (name : List ℕ)
     (listing : Listing) (names : List (List ℕ)) (status : Status) where
   -- of each run there is a file now, and each has its line
   pub record SplitsFile : Type 0 where
     pub makes : MakesRuns m bytes listing names
     pub are_runs : AreRuns makes.again
-    pub said : (spell : ℕ → List ℕ) → IsSpelling spell →
+    pub said : (spell : ℕ → List ℕ) → IsInstantFormat spell →
         Gets out (lines_of spell listing names makes.again.runs)
     pub silent : Gets err []
     pub done : status ≡ Done
@@ -115,8 +115,8 @@ module _ (m : Making) (out err : Growth) (bytes : Option (List ℕ)) (name : Lis
     pub is_line : line ≡ unwritten_line standard_output
     pub again : RereadsRuns bytes listing
     pub are_runs : AreRuns again
-    pub said : (spell : ℕ → List ℕ) → IsSpelling spell →
-        GetsFront out (lines_of spell listing names again.runs)
+    pub said : (spell : ℕ → List ℕ) → IsInstantFormat spell →
+        GetsPrefix out (lines_of spell listing names again.runs)
     pub unfailed : m.failed_after ≡ m.failed_before
     pub all : (count ≡ length listing.runs.items) × (whole ≡ length listing.runs.items)
 
@@ -162,7 +162,7 @@ pub record IsUndated (listing : Listing) (number : ℕ) : Type 0 where
   pub undated : ¬ MayStart listing.identity run.first
   pub number_is : number ≡ length front + 1
 
-module _ (m : Making) (out err : Growth) (bytes : Option (List ℕ)) (name prefix : List ℕ)
+module _ (m : Making) (out err : OutputChange) (bytes : Option (List ℕ)) (name prefix : List ℕ)
     (status : Status) where
   -- its runs were listed, each has a start that a header can name, and there was nothing of the
   -- names that were asked for

@@ -8,7 +8,7 @@ use crate::runs_command::RunsCommand;
 use crate::split_command::{read_split, split_words};
 use clap::{Arg, ArgMatches, Command};
 use edf_fragment::Output;
-use edf_program::{CommandFault, Status, VERSION, fault_by, refuse_value, tell_fault};
+use edf_program::{CommandFault, Status, VERSION, fault_by, print_fault, refuse_value};
 use std::alloc::{AllocError, Global};
 
 /// What `edfruns` is.
@@ -137,6 +137,6 @@ pub fn read_command<O: Output, F: Output>(
 ) -> Result<RunsCommand, Status> {
     match parse(alloc, words) {
         Ok(command) => Ok(command),
-        Err(fault) => Err(tell_fault(&fault, out, err)),
+        Err(fault) => Err(print_fault(&fault, out, err)),
     }
 }

@@ -1,7 +1,7 @@
 //! `canonical`: the canonical file of a whole file.
 
 ghost use Rattle.std.specs.Prelude.{◌≡◌, ◌++◌, ℕ, List, MatchResult, replicate};
-ghost use Rattle.edf_program.specs.Output.{growth};
+ghost use Rattle.edf_program.specs.Output.{output_change};
 ghost use Rattle.edfruns_command.specs.Canonical.{HasPlan, HasPlanFault, IsCanonicalOut};
 ghost use Rattle.edfruns_command.specs.Canonical.{WritesFile, StopsAgain};
 ghost use Rattle.edfruns_command.specs.Inside.{IsPlanRefused, OpensUpTo};
@@ -12,7 +12,7 @@ use crate::refusal::{refuse, refuse_canonical, tell_crowded, tell_outside};
 use crate::runs_command::RunsCommand;
 use clap::{Arg, ArgAction, ArgMatches, Command};
 use edf_fragment::{Input, Output};
-use edf_program::{CommandFault, Inputs, Status, tell_memory};
+use edf_program::{CommandFault, Inputs, Status, print_memory};
 use edf_runs::{
     CanonicalPlan, OnsetFault, WriteFault, plan_by_onset, plan_canonical, write_canonical,
 };
@@ -128,8 +128,10 @@ fn write_planned<I: Inputs, O: Output>(
     out: &mut O,
 ) -> Result<(), WriteFault>
     ensures answer { MatchResult result
-        (λ _. WritesFile (growth O.Output out.old out.new) (I.bytes inputs.old file.now) plan.now)
-        (StopsAgain (growth O.Output out.old out.new) (I.bytes inputs.old file.now) plan.now) }
+        (λ _. WritesFile (output_change O.Output out.old out.new)
+        (I.bytes inputs.old file.now) plan.now)
+        (StopsAgain (output_change O.Output out.old out.new)
+        (I.bytes inputs.old file.now) plan.now) }
     ensures opened { MatchResult result
         (λ _. I.opened inputs.new ≡ I.opened inputs.old ++ replicate 1 file.now)
         (λ _. OpensUpTo (I.opened inputs.old) (I.opened inputs.new) file.now 1) }
@@ -144,12 +146,12 @@ fn write_planned<I: Inputs, O: Output>(
 
 /// Prints why nothing is written of a file.
 fn refuse_plan<F: Output>(alloc: Global, file: &str, fault: OnsetFault, err: &mut F) -> Status
-    ensures { IsPlanRefused (growth F.Output err.old err.new) file.now fault result }
+    ensures { IsPlanRefused (output_change F.Output err.old err.new) file.now fault result }
 {
     match fault {
         OnsetFault::Fragment(met) => refuse(alloc, file, met, err),
         OnsetFault::TooMany(number) => tell_crowded(err, number),
-        OnsetFault::Memory => tell_memory(err, file),
+        OnsetFault::Memory => print_memory(err, file),
     }
 }
 
@@ -162,8 +164,8 @@ pub(crate) fn canonical<I: Inputs, O: Output, F: Output>(
     out: &mut O,
     err: &mut F,
 ) -> Status
-    ensures written { IsCanonicalOut (growth O.Output out.old out.new)
-        (growth F.Output err.old err.new) (I.bytes inputs.old file.now) file.now is_by_onset
+    ensures written { IsCanonicalOut (output_change O.Output out.old out.new)
+        (output_change F.Output err.old err.new) (I.bytes inputs.old file.now) file.now is_by_onset
         result }
     ensures opened { OpensAgain (I.opened inputs.old) (I.opened inputs.new) file.now 2 result }
     ensures same { (name : List ℕ) → I.bytes inputs.new name ≡ I.bytes inputs.old name }

@@ -3,7 +3,7 @@
 ghost use Rattle.std.specs.Prelude.{◌≡◌, ◌≤◌, ◌+◌, ◌++◌, ℕ, List, IfOk, codes, length};
 ghost use Rattle.std.specs.Prelude.{slice_get};
 ghost use Rattle.edfruns_command.specs.Counting.{counts_text};
-ghost use Rattle.edfruns_command.specs.Lines.{IsSpelling, run_front};
+ghost use Rattle.edfruns_command.specs.Lines.{IsInstantFormat, run_front};
 
 use crate::lines::{line_front, run_at};
 use edf_field::MOST_DURATION;
@@ -34,7 +34,7 @@ pub(crate) fn with_line(
 ) -> Result<Vec<u8>, AllocError>
     requires duration { duration ≤ MOST_DURATION }
     requires within { at + 1 ≤ length runs.now }
-    ensures { IfOk result (λ r. (spell : ℕ → List ℕ) → IsSpelling spell → r.items ≡ text.items
+    ensures { IfOk result (λ r. (spell : ℕ → List ℕ) → IsInstantFormat spell → r.items ≡ text.items
         ++ (name.now ++ (codes " " ++ (run_front spell duration (at + 1) run.now
         (slice_get runs.now (at + 1))
         ++ counts_text written.now.annotations written.now.outside)))) }

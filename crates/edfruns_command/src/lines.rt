@@ -2,7 +2,8 @@
 
 ghost use Rattle.std.specs.Prelude.{◌≡◌, ◌≤◌, ℕ, List, IfOk, option_map, slice_get};
 ghost use Rattle.edf_field.specs.Number.{duration_of};
-ghost use Rattle.edfruns_command.specs.Lines.{IsSpelling, each_line, end_of, gap_text, run_front};
+ghost use Rattle.edfruns_command.specs.Lines.{IsInstantFormat, each_line, end_of, gap_text};
+ghost use Rattle.edfruns_command.specs.Lines.{run_front};
 ghost use Rattle.edfruns_command.specs.Lines.{run_lines};
 
 use edf_field::MOST_DURATION;
@@ -33,7 +34,7 @@ pub(crate) fn line_front(
     next: Option<&Run>,
 ) -> Result<Vec<u8>, AllocError>
     requires { duration ≤ MOST_DURATION }
-    ensures { IfOk result (λ r. (spell : ℕ → List ℕ) → IsSpelling spell → r.items
+    ensures { IfOk result (λ r. (spell : ℕ → List ℕ) → IsInstantFormat spell → r.items
         ≡ run_front spell duration number run.now (option_map (λ run. run.now) next.entry)) }
 {
     let end = run.last().nanos() + duration;
@@ -65,7 +66,7 @@ pub(crate) fn list_text(
     label: &[u8],
     listing: &Listing,
 ) -> Result<Vec<u8>, AllocError>
-    ensures { IfOk result (λ r. (spell : ℕ → List ℕ) → IsSpelling spell →
+    ensures { IfOk result (λ r. (spell : ℕ → List ℕ) → IsInstantFormat spell →
         r.items ≡ run_lines spell (duration_of listing.now.identity.duration) label.now 1
         listing.now.runs.items) }
 {
@@ -83,7 +84,7 @@ pub(crate) fn list_text(
 
 /// A line for each of a file's runs, in time order.
 pub fn runs_text(alloc: Global, listing: &Listing) -> Result<Vec<u8>, AllocError>
-    ensures { IfOk result (λ r. (spell : ℕ → List ℕ) → IsSpelling spell → r.items
+    ensures { IfOk result (λ r. (spell : ℕ → List ℕ) → IsInstantFormat spell → r.items
         ≡ each_line spell (duration_of listing.now.identity.duration) listing.now.runs.items) }
 {
     list_text(alloc, &[], listing)

@@ -3,9 +3,9 @@
 ghost use Rattle.std.specs.Prelude.{◌≡◌, ◌⊎◌, ◌++◌, ◌∷◌, [], ℕ, List, Ok, IfOk, MatchResult};
 ghost use Rattle.std.specs.Prelude.{map, replicate, string_bytes};
 ghost use Rattle.edf_field.specs.Number.{duration_of};
-ghost use Rattle.edf_program.specs.Output.{growth, Gets, GetsFront, IsWritten};
+ghost use Rattle.edf_program.specs.Output.{output_change, Gets, GetsPrefix, IsWritten};
 ghost use Rattle.edfruns_command.specs.Inside.{OpensUpTo};
-ghost use Rattle.edfruns_command.specs.Lines.{IsSpelling, run_lines, standard_output};
+ghost use Rattle.edfruns_command.specs.Lines.{IsInstantFormat, run_lines, standard_output};
 ghost use Rattle.edfruns_command.specs.Lines.{unwritten_line};
 ghost use Rattle.edfruns_command.specs.Listed.{CutsLines, IsFileListed, IsListOut, OpensEach};
 ghost use Rattle.edfruns_command.specs.Listed.{are_several, file_label};
@@ -13,11 +13,11 @@ ghost use Rattle.edfruns_command.specs.Listing.{HasRuns, HasFault};
 
 use crate::arguments::required_value;
 use crate::lines::list_text;
-use crate::refusal::{STANDARD_OUTPUT, refuse, tell_unwritten};
+use crate::refusal::{STANDARD_OUTPUT, print_unwritten, refuse};
 use crate::runs_command::RunsCommand;
 use clap::{Arg, ArgAction, ArgMatches, Command};
 use edf_fragment::{FragmentFault, Output, send};
-use edf_program::{CommandFault, Inputs, Status, concat, refuse_value, tell_memory, worse};
+use edf_program::{CommandFault, Inputs, Status, concat, print_memory, refuse_value, worse};
 use edf_runs::{Listing, list_runs};
 use std::alloc::{AllocError, Global};
 
@@ -126,7 +126,7 @@ fn text_of(
     listing: &Listing,
 ) -> Result<Vec<u8>, AllocError>
     ensures { let d = duration_of listing.now.identity.duration in IfOk result (λ r.
-        (spell : ℕ → List ℕ) → IsSpelling spell →
+        (spell : ℕ → List ℕ) → IsInstantFormat spell →
         r.items ≡ run_lines spell d (file_label several file.now) 1 listing.now.runs.items) }
 {
     let label = file_label(alloc, file, several)?;
@@ -138,16 +138,16 @@ fn text_of(
 /// # Errors
 /// Where they could not be written whole: the status, once a line says so.
 fn send_lines<O: Output, F: Output>(text: &[u8], out: &mut O, err: &mut F) -> Result<Status, Status>
-    ensures { let o = growth O.Output out.old out.new in
-        let e = growth F.Output err.old err.new in MatchResult result
+    ensures { let o = output_change O.Output out.old out.new in
+        let e = output_change F.Output err.old err.new in MatchResult result
         (λ status. Gets o text.now × Gets e [] × (status ≡ Status.Done))
-        (λ status. GetsFront o text.now
+        (λ status. GetsPrefix o text.now
         × IsWritten e (unwritten_line standard_output) Status.Trouble status) }
 {
     if send(out, text) {
         return Ok(Status::Done);
     }
-    Err(tell_unwritten(err, STANDARD_OUTPUT, Status::Trouble))
+    Err(print_unwritten(err, STANDARD_OUTPUT, Status::Trouble))
 }
 
 /// Writes the lines of a file.
@@ -162,8 +162,8 @@ fn list_file<I: Inputs, O: Output, F: Output>(
     out: &mut O,
     err: &mut F,
 ) -> Result<Status, Status>
-    ensures listed { let o = growth O.Output out.old out.new in
-        let e = growth F.Output err.old err.new in
+    ensures listed { let o = output_change O.Output out.old out.new in
+        let e = output_change F.Output err.old err.new in
         let bytes = I.bytes inputs.old file.now in
         let label = file_label several file.now in
         MatchResult result (IsFileListed o e bytes label file.now)
@@ -179,7 +179,7 @@ fn list_file<I: Inputs, O: Output, F: Output>(
     };
     match text_of(alloc, file, several, &listing) {
         Ok(text) => send_lines(text.as_slice(), out, err),
-        Err(_) => Ok(tell_memory(err, file)),
+        Err(_) => Ok(print_memory(err, file)),
     }
 }
 
@@ -192,8 +192,8 @@ pub(crate) fn list<I: Inputs, O: Output, F: Output>(
     out: &mut O,
     err: &mut F,
 ) -> Status
-    ensures listed { IsListOut (I.bytes inputs.old) (growth O.Output out.old out.new)
-        (growth F.Output err.old err.new) (map string_bytes files.now) result }
+    ensures listed { IsListOut (I.bytes inputs.old) (output_change O.Output out.old out.new)
+        (output_change F.Output err.old err.new) (map string_bytes files.now) result }
     ensures opened { OpensEach (I.opened inputs.old) (I.opened inputs.new)
         (map string_bytes files.now) result }
     ensures same { (name : List ℕ) → I.bytes inputs.new name ≡ I.bytes inputs.old name }

@@ -5,7 +5,7 @@ ghost use Rattle.edf_fragment.specs.Fragment.{DataRecord};
 ghost use Rattle.edf_fragment.specs.Reading.{initial_progress};
 ghost use Rattle.edf_fragment.specs.Whole.{FailsAfterRecords, IsFragmentFault};
 ghost use Rattle.edf_fragment.specs.Inside.Steps.{ReadsRecords};
-ghost use Rattle.edf_program.specs.Output.{growth};
+ghost use Rattle.edf_program.specs.Output.{output_change};
 ghost use Rattle.edf_runs.specs.ByOnset.{annotations_of};
 ghost use Rattle.edf_runs.specs.Read.{ReadsRuns};
 ghost use Rattle.edf_runs.specs.Runs.{AreListed};
@@ -16,7 +16,7 @@ ghost use Rattle.edfruns_command.specs.Picturing.{AreNoted, HasNotes, IsPictured
 ghost use Rattle.edfruns_command.specs.Picturing.{SendsPicture};
 
 use crate::arguments::{required_value, value_in};
-use crate::refusal::{STANDARD_OUTPUT, refuse, tell_unwritten};
+use crate::refusal::{STANDARD_OUTPUT, print_unwritten, refuse};
 use crate::runs_command::RunsCommand;
 use crate::sight::Sight;
 use clap::{Arg, ArgAction, ArgMatches, Command};
@@ -24,7 +24,7 @@ use edf_field::MOST_DURATION;
 use edf_fragment::{FragmentFault, Input, OpenFragment, Output, send};
 use edf_header::Identity;
 use edf_header::laws::header_is_layout;
-use edf_program::{CommandFault, Inputs, Status, tell_memory};
+use edf_program::{CommandFault, Inputs, Status, print_memory};
 use std::alloc::{AllocError, Global};
 
 /// What the picture shows.
@@ -163,13 +163,14 @@ fn seen_file<I: Inputs>(
 
 /// Writes a picture, or prints that it could not be written whole.
 fn send_picture<O: Output, F: Output>(picture: &str, out: &mut O, err: &mut F) -> Status
-    ensures { SendsPicture (growth O.Output out.old out.new) (growth F.Output err.old err.new)
+    ensures { SendsPicture (output_change O.Output out.old out.new)
+        (output_change F.Output err.old err.new)
         picture.now (unwritten_line standard_output) result }
 {
     if send(out, picture.as_bytes()) {
         Status::Done
     } else {
-        tell_unwritten(err, STANDARD_OUTPUT, Status::Trouble)
+        print_unwritten(err, STANDARD_OUTPUT, Status::Trouble)
     }
 }
 
@@ -183,8 +184,9 @@ pub(crate) fn picture<I: Inputs, O: Output, F: Output>(
     out: &mut O,
     err: &mut F,
 ) -> Status
-    ensures pictured { IsPictured (growth O.Output out.old out.new)
-        (growth F.Output err.old err.new) (I.bytes inputs.old file.now) file.now has_code result }
+    ensures pictured { IsPictured (output_change O.Output out.old out.new)
+        (output_change F.Output err.old err.new)
+        (I.bytes inputs.old file.now) file.now has_code result }
     ensures opened { OpensAgain (I.opened inputs.old) (I.opened inputs.new) file.now 1 result }
     ensures same { (name : List ℕ) → I.bytes inputs.new name ≡ I.bytes inputs.old name }
 {
@@ -194,6 +196,6 @@ pub(crate) fn picture<I: Inputs, O: Output, F: Output>(
     };
     match seen.sight.draw(alloc, seen.identity, has_code) {
         Ok(picture) => send_picture(picture.as_str(), out, err),
-        Err(_) => tell_memory(err, file),
+        Err(_) => print_memory(err, file),
     }
 }

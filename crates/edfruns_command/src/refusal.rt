@@ -2,7 +2,7 @@
 
 ghost use Rattle.std.specs.Prelude.{◌≡◌, ◌≢◌, ◌⊎◌};
 ghost use Rattle.std.specs.Bool.{MatchBool};
-ghost use Rattle.edf_program.specs.Output.{growth, IsPut, IsWritten};
+ghost use Rattle.edf_program.specs.Output.{output_change, IsPut, IsWritten};
 ghost use Rattle.edf_program.specs.Text.{memory_line};
 ghost use Rattle.edfruns_command.specs.Canonical.{TellsOutside};
 ghost use Rattle.edfruns_command.specs.Lines.{canonical_refused_line, crowded_line, left_line};
@@ -12,7 +12,8 @@ ghost use Rattle.edfruns_command.specs.Lines.{reread_line, stop_line, undated_li
 use crate::stop::Stop;
 use edf_fragment::{FragmentFault, Output, Remark};
 use edf_program::{
-    Status, fragment_fault_text, status_of_number, tell_line, tell_memory, tell_parts, tell_refused,
+    Status, fragment_fault_text, print_line, print_memory, print_parts, print_refused,
+    status_of_number,
 };
 use edf_runs::WriteFault;
 use itoa::Buffer;
@@ -35,7 +36,7 @@ pub(crate) fn refuse<F: Output>(
     fault: FragmentFault,
     err: &mut F,
 ) -> Status
-    ensures { let w = growth F.Output err.old err.new in
+    ensures { let w = output_change F.Output err.old err.new in
         IsWritten w (file_refused_line file.now fault) (file_refused_status fault) result
         ⊎ IsWritten w (memory_line file.now) Status.Trouble result }
 {
@@ -43,16 +44,17 @@ pub(crate) fn refuse<F: Output>(
     match fragment_fault_text(alloc, &fault) {
         Ok(text) => {
             let parts = [file.as_bytes(), b" refused ", text.as_bytes(), b"\n"];
-            tell_line(err, &parts, file, Remark::Fault(fault), status)
+            print_line(err, &parts, file, Remark::Fault(fault), status)
         }
-        Err(_) => tell_memory(err, file),
+        Err(_) => print_memory(err, file),
     }
 }
 
 /// Prints that the run of that number starts where no file without a date can. Printing takes no
 /// memory.
 pub(crate) fn tell_undated<F: Output>(err: &mut F, number: usize) -> Status
-    ensures { IsWritten (growth F.Output err.old err.new) (undated_line number) Status.Refused
+    ensures { IsWritten (output_change F.Output err.old err.new)
+        (undated_line number) Status.Refused
         result }
 {
     let mut buffer = Buffer::new();
@@ -62,13 +64,14 @@ pub(crate) fn tell_undated<F: Output>(err: &mut F, number: usize) -> Status
         digits.as_bytes(),
         b" starts after 2084, which a file without a date can't tell\n",
     ];
-    tell_parts(err, &parts, Status::Refused)
+    print_parts(err, &parts, Status::Refused)
 }
 
 /// Prints that by onset a data record of the run of that number would have more annotations than
 /// one may have. Printing takes no memory.
 pub(crate) fn tell_crowded<F: Output>(err: &mut F, number: u64) -> Status
-    ensures { IsWritten (growth F.Output err.old err.new) (crowded_line number) Status.Refused
+    ensures { IsWritten (output_change F.Output err.old err.new)
+        (crowded_line number) Status.Refused
         result }
 {
     let mut buffer = Buffer::new();
@@ -78,12 +81,12 @@ pub(crate) fn tell_crowded<F: Output>(err: &mut F, number: u64) -> Status
         digits.as_bytes(),
         b" would have too many annotations in a data record\n",
     ];
-    tell_parts(err, &parts, Status::Refused)
+    print_parts(err, &parts, Status::Refused)
 }
 
 /// Prints why the second reading of a file stopped. Printing takes no memory.
-fn tell_reread<F: Output>(err: &mut F, file: &str, fault: WriteFault, status: Status) -> Status
-    ensures { IsWritten (growth F.Output err.old err.new) (reread_line file.now fault) status
+fn print_reread<F: Output>(err: &mut F, file: &str, fault: WriteFault, status: Status) -> Status
+    ensures { IsWritten (output_change F.Output err.old err.new) (reread_line file.now fault) status
         result }
 {
     let (read, memory) = (FragmentFault::Read, FragmentFault::Memory);
@@ -93,40 +96,42 @@ fn tell_reread<F: Output>(err: &mut F, file: &str, fault: WriteFault, status: St
                 file.as_bytes(),
                 b" changed between its readings\n".as_slice(),
             ];
-            tell_parts(err, &parts, status)
+            print_parts(err, &parts, status)
         }
-        WriteFault::Memory => tell_refused(err, file, memory.number(), memory.name(), status),
-        _ => tell_refused(err, file, read.number(), read.name(), status),
+        WriteFault::Memory => print_refused(err, file, memory.number(), memory.name(), status),
+        _ => print_refused(err, file, read.number(), read.name(), status),
     }
 }
 
 /// Prints that an output can't be written. Printing takes no memory.
-pub(crate) fn tell_unwritten<F: Output>(err: &mut F, output: &str, status: Status) -> Status
-    ensures { IsWritten (growth F.Output err.old err.new) (unwritten_line output.now) status
+pub(crate) fn print_unwritten<F: Output>(err: &mut F, output: &str, status: Status) -> Status
+    ensures { IsWritten (output_change F.Output err.old err.new) (unwritten_line output.now) status
         result }
 {
-    tell_refused(err, output, 43, "Write", status)
+    print_refused(err, output, 43, "Write", status)
 }
 
 /// Prints why a canonical file is not written. Printing takes no memory.
 pub(crate) fn refuse_canonical<F: Output>(file: &str, fault: WriteFault, err: &mut F) -> Status
-    ensures { IsWritten (growth F.Output err.old err.new) (canonical_refused_line file.now fault)
+    ensures { IsWritten (output_change F.Output err.old err.new)
+        (canonical_refused_line file.now fault)
         Status.Trouble result }
 {
     match fault {
-        WriteFault::Write => tell_unwritten(err, STANDARD_OUTPUT, Status::Trouble),
-        _ => tell_reread(err, file, fault, Status::Trouble),
+        WriteFault::Write => print_unwritten(err, STANDARD_OUTPUT, Status::Trouble),
+        _ => print_reread(err, file, fault, Status::Trouble),
     }
 }
 
 /// Prints why the files of all runs are not there, and answers whether that was printed whole.
 /// Printing takes no memory.
 pub(crate) fn is_stop_told<F: Output>(err: &mut F, file: &str, stop: Stop<'_>) -> bool
-    ensures { IsPut (growth F.Output err.old err.new) (stop_line file.now stop.entry) result }
+    ensures { IsPut (output_change F.Output err.old err.new)
+        (stop_line file.now stop.entry) result }
 {
     let status = match stop {
-        Stop::Output(name) => tell_unwritten(err, name, Status::Done),
-        Stop::Reading(fault) => tell_reread(err, file, fault, Status::Done),
+        Stop::Output(name) => print_unwritten(err, name, Status::Done),
+        Stop::Reading(fault) => print_reread(err, file, fault, Status::Done),
     };
     is_told(status)
 }
@@ -134,7 +139,7 @@ pub(crate) fn is_stop_told<F: Output>(err: &mut F, file: &str, stop: Stop<'_>) -
 /// Prints of how many annotations no data record has the onset, where there are any. Printing takes
 /// no memory.
 pub(crate) fn tell_outside<F: Output>(err: &mut F, file: &str, outside: u64) -> Status
-    ensures { TellsOutside (growth F.Output err.old err.new) file.now outside result }
+    ensures { TellsOutside (output_change F.Output err.old err.new) file.now outside result }
 {
     if outside == 0 {
         return Status::Done;
@@ -147,13 +152,13 @@ pub(crate) fn tell_outside<F: Output>(err: &mut F, file: &str, outside: u64) -> 
         digits.as_bytes(),
         b"\n",
     ];
-    tell_parts(err, &parts, Status::Done)
+    print_parts(err, &parts, Status::Done)
 }
 
 /// Prints that a file could not be removed, and answers whether that was printed whole.
 pub(crate) fn is_left_told<F: Output>(err: &mut F, name: &str) -> bool
-    ensures { IsPut (growth F.Output err.old err.new) (left_line name.now) result }
+    ensures { IsPut (output_change F.Output err.old err.new) (left_line name.now) result }
 {
     let parts = [name.as_bytes(), b" could not be removed\n".as_slice()];
-    is_told(tell_parts(err, &parts, Status::Done))
+    is_told(print_parts(err, &parts, Status::Done))
 }

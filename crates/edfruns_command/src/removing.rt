@@ -2,7 +2,7 @@
 
 ghost use Rattle.std.specs.Prelude.{◌≡◌, ◌-◌, ◌≤◌, ◌++◌, ◌∷◌, List, length, map, string_bytes};
 ghost use Rattle.std.specs.Prelude.{drop, take};
-ghost use Rattle.edf_program.specs.Output.{growth};
+ghost use Rattle.edf_program.specs.Output.{output_change};
 ghost use Rattle.edf_program.specs.Made.{MadeFile, names_of};
 ghost use Rattle.edfruns_command.specs.InsideSplit.{RemovesOne, RemovesFrom};
 ghost use Rattle.edfruns_command.specs.Lines.{stop_line};
@@ -24,7 +24,7 @@ fn remove_one<P: NewFiles, F: Output>(
     ensures removed { (front later : List MadeFile) (file : MadeFile) →
         P.made outputs.old ≡ front ++ (file ∷ later) → length front ≡ place →
         file.name ≡ name.now → RemovesOne (P.made outputs.old) (P.made outputs.new)
-        (growth F.Output err.old err.new) front later file is_told result }
+        (output_change F.Output err.old err.new) front later file is_told result }
     ensures failed { P.failed outputs.new ≡ P.failed outputs.old }
 {
     let is_gone = outputs.remove(place);
@@ -48,7 +48,7 @@ pub(crate) fn give_up<P: NewFiles, F: Output>(
     requires named { names_of (drop first (P.made outputs.old))
         ≡ take (length (P.made outputs.old) - first) (map string_bytes names.now) }
     ensures removed { RemovesFrom first (P.made outputs.old) (P.made outputs.new)
-        (growth F.Output err.old err.new) (stop_line file.now stop.entry) result }
+        (output_change F.Output err.old err.new) (stop_line file.now stop.entry) result }
     ensures failed { P.failed outputs.new ≡ P.failed outputs.old }
 {
     let mut is_told = is_stop_told(err, file, stop);

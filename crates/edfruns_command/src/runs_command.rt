@@ -1,6 +1,6 @@
 //! The commands: what each asks for, how often it reads its file, and its work.
 
-ghost use Rattle.edf_program.specs.Output.{growth};
+ghost use Rattle.edf_program.specs.Output.{output_change};
 ghost use Rattle.edf_program.specs.Making.{making};
 ghost use Rattle.edfruns_command.specs.Run.{IsDone, HasMade, HasOpened, meaning};
 
@@ -85,7 +85,8 @@ pub fn run_runs<I: Inputs, P: NewFiles, O: Output, F: Output>(
     err: &mut F,
 ) -> Status
     ensures done { IsDone (I.bytes inputs.old) (making P.NewFiles outputs.old outputs.new)
-        (growth O.Output out.old out.new) (growth F.Output err.old err.new) (meaning command.now)
+        (output_change O.Output out.old out.new) (output_change F.Output err.old err.new)
+        (meaning command.now)
         result }
     ensures made { HasMade (making P.NewFiles outputs.old outputs.new) (meaning command.now) }
     ensures opened { HasOpened

@@ -6,7 +6,7 @@ ghost use Rattle.edf_header.specs.declared.limits.TheConstants.{MOST_RECORDS};
 ghost use Rattle.edf_fragment.specs.Fragment.{DataRecord};
 ghost use Rattle.edf_runs.specs.Runs.{AreListed};
 ghost use Rattle.edf_tal.specs.Tal.{Annotation};
-ghost use Rattle.edf_program.specs.Text.{IsSpelling};
+ghost use Rattle.edf_program.specs.Text.{IsInstantFormat};
 ghost use Rattle.edf_sleep.specs.Account.{IsAccount, night_of};
 ghost use Rattle.edf_sleep.specs.FigureLines.{HasFigures};
 ghost use Rattle.edf_sleep.specs.Night.{Night, AreOfFile, span_of};
@@ -160,7 +160,7 @@ fn account_of<'a>(
 /// The first instant of the time that the figures are of, as it is spelled.
 fn first_text(alloc: Global, account: &Account<'_>) -> Result<Vec<u8>, AllocError>
     requires { IsAccount account.now }
-    ensures { IfOk result (λ r. (spell : ℕ → List ℕ) → IsSpelling spell →
+    ensures { IfOk result (λ r. (spell : ℕ → List ℕ) → IsInstantFormat spell →
         r.items ≡ spell (span_of (night_of account.now)).from) }
 {
     match Instant::at(account.span().from) {
@@ -172,7 +172,7 @@ fn first_text(alloc: Global, account: &Account<'_>) -> Result<Vec<u8>, AllocErro
 /// The lines of the figures.
 fn figures_of(alloc: Global, account: &Account<'_>) -> Result<Vec<u8>, AllocError>
     requires { IsAccount account.now }
-    ensures { IfOk result (λ r. (spell : ℕ → List ℕ) → IsSpelling spell →
+    ensures { IfOk result (λ r. (spell : ℕ → List ℕ) → IsInstantFormat spell →
         HasFigures spell (night_of account.now).notes (night_of account.now).runs r.items) }
 {
     let first = first_text(alloc, account)?;
@@ -200,7 +200,7 @@ fn title_of(identity: &Identity, has_code: bool) -> Title<'_>
 /// The lines of the runs, and those of the figures.
 fn text_of(alloc: Global, listing: &Listing, account: &Account<'_>) -> Result<Vec<u8>, AllocError>
     requires { IsAccount account.now }
-    ensures { IfOk result (λ r. (spell : ℕ → List ℕ) → IsSpelling spell → HasText spell
+    ensures { IfOk result (λ r. (spell : ℕ → List ℕ) → IsInstantFormat spell → HasText spell
         listing.now.identity listing.now.runs.items (night_of account.now) r.items) }
 {
     let runs = runs_text(alloc, listing)?;

@@ -3,7 +3,7 @@
 ghost use Rattle.std.specs.Prelude.{◌≡◌, ◌-◌, ◌≤◌, ℕ, List, All, IfOk, MatchOption, length, map};
 ghost use Rattle.std.specs.Prelude.{string_bytes, take};
 ghost use Rattle.edf_header.specs.Key.{MayStart};
-ghost use Rattle.edf_program.specs.Output.{growth};
+ghost use Rattle.edf_program.specs.Output.{output_change};
 ghost use Rattle.edf_runs.specs.declared.run.Run.{Run as ListedRun};
 ghost use Rattle.edf_program.specs.Making.{making};
 ghost use Rattle.edf_program.specs.There.{IsVacant};
@@ -23,7 +23,7 @@ use crate::runs_command::RunsCommand;
 use crate::stop::Stop;
 use clap::{ArgMatches, Command};
 use edf_fragment::{Output, send};
-use edf_program::{CommandFault, Inputs, NewFiles, Status, tell_memory, tell_there};
+use edf_program::{CommandFault, Inputs, NewFiles, Status, print_memory, print_name_taken};
 use edf_runs::Listing;
 use std::alloc::{AllocError, Global};
 
@@ -148,7 +148,7 @@ fn split_listed<I: Inputs, P: NewFiles, O: Output, F: Output>(
     requires dated { All (λ (run : ListedRun). MayStart listing.now.identity run.first)
         listing.now.runs.items }
     ensures split { SplitsListed (making P.NewFiles outputs.old outputs.new)
-        (growth O.Output out.old out.new) (growth F.Output err.old err.new)
+        (output_change O.Output out.old out.new) (output_change F.Output err.old err.new)
         (I.bytes inputs.old file.now) file.now listing.now (map string_bytes names.now) result }
     ensures opened { OpensAgain (I.opened inputs.old) (I.opened inputs.new) file.now 1 result }
     ensures same { (name : List ℕ) → I.bytes inputs.new name ≡ I.bytes inputs.old name }
@@ -178,7 +178,7 @@ pub(crate) fn split<I: Inputs, P: NewFiles, O: Output, F: Output>(
     err: &mut F,
 ) -> Status
     ensures split { IsSplit (making P.NewFiles outputs.old outputs.new)
-        (growth O.Output out.old out.new) (growth F.Output err.old err.new)
+        (output_change O.Output out.old out.new) (output_change F.Output err.old err.new)
         (I.bytes inputs.old file.now) file.now prefix.now result }
     ensures opened { OpensAgain (I.opened inputs.old) (I.opened inputs.new) file.now 2 result }
     ensures same { (name : List ℕ) → I.bytes inputs.new name ≡ I.bytes inputs.old name }
@@ -188,13 +188,13 @@ pub(crate) fn split<I: Inputs, P: NewFiles, O: Output, F: Output>(
         Err(fault) => return refuse(alloc, file, fault, err),
     };
     let Ok(asked) = asked_names(alloc, prefix, listing.runs.as_slice().len()) else {
-        return tell_memory(err, file);
+        return print_memory(err, file);
     };
     if let Some(number) = undated_run(&listing) {
         return tell_undated(err, number);
     }
     if let Some(name) = taken_name(outputs, &asked) {
-        return tell_there(err, name);
+        return print_name_taken(err, name);
     }
     split_listed(
         alloc,

@@ -3,12 +3,12 @@
 ghost use Rattle.std.specs.Prelude.{◌≡◌, ◌⊎◌, None};
 ghost use Rattle.edf_program.specs.declared.status.Status.TheVariants.{Trouble};
 
-use edf_command::{Status, tell_store_not_closed};
+use edf_command::{Status, print_store_not_closed};
 use edf_fragment::Output;
 use edf_program_run::{EndedRun, Watch};
 use edf_store::StoreFault;
 use edf_system::Terminal;
-use edfstore_host::{Refused, Standing, tell_cause, tell_failure_of, tell_lost};
+use edfstore_host::{Refused, Standing, print_cause, print_failure_of, print_lost};
 use sqlite_std_file::File;
 
 /// Tells how the opening of a store went, and its close.
@@ -31,23 +31,23 @@ impl<'s> Journal<'s> {
     }
 
     /// Tells why the store was refused, if it was.
-    pub(crate) fn tell_refusal(&self) {
+    pub(crate) fn print_refusal(&self) {
         if self.standing.is_lost() {
-            return tell_lost(&self.terminal, self.standing.path());
+            return print_lost(&self.terminal, self.standing.path());
         }
         if let Some(refused) = &self.refused {
-            tell_cause(self.rt, &self.terminal, self.standing.path(), refused);
+            print_cause(self.rt, &self.terminal, self.standing.path(), refused);
         }
     }
 
     /// Tells how a session ended whose files were opened, and its status.
-    pub(crate) fn tell_ended<F: Output>(&self, session: &EndedRun<File>, err: &mut F) -> Status
+    pub(crate) fn print_ended<F: Output>(&self, session: &EndedRun<File>, err: &mut F) -> Status
         ensures { (result ≡ session.now.status) ⊎ (result ≡ Trouble) }
     {
         if self.refused.is_none() {
             return self.tell_close(session, err);
         }
-        self.tell_refusal();
+        self.print_refusal();
         session.status
     }
 
@@ -58,13 +58,13 @@ impl<'s> Journal<'s> {
     {
         if !self.standing.has_stood() {
             if session.failure.is_none() {
-                tell_store_not_closed(&StoreFault::Store(None), err);
+                print_store_not_closed(&StoreFault::Store(None), err);
             }
-            tell_lost(&self.terminal, self.standing.path());
+            print_lost(&self.terminal, self.standing.path());
             return Status::Trouble;
         }
         if session.failure.is_some() {
-            tell_failure_of(self.rt, &self.terminal, self.standing.path(), session);
+            print_failure_of(self.rt, &self.terminal, self.standing.path(), session);
         }
         session.status
     }

@@ -10,7 +10,7 @@ mod output;
 mod sources;
 
 use edf_fragment::Counted;
-use edf_program::{Status, tell_fault, tell_memory};
+use edf_program::{Status, print_fault, print_memory};
 use edf_program_run::Cap;
 use edf_serve::{Console, Lines, Room, ServeWords, parse_words, serve_opened};
 use edf_system::{Terminal, refuse_words, words};
@@ -51,9 +51,9 @@ fn serve_store(
         &mut journal,
     );
     match ended {
-        Ok(session) => journal.tell_ended(&session, &mut err),
+        Ok(session) => journal.print_ended(&session, &mut err),
         Err((status, _)) => {
-            journal.tell_refusal();
+            journal.print_refusal();
             status
         }
     }
@@ -66,7 +66,7 @@ fn run_session(rt: &HostRuntime, words: &ServeWords) -> Status {
     let standing = Standing::new(rt, words.store.as_str());
     let input = WatchedInput::new(Counted::new(rt.stdin()), &standing);
     let Ok(mut lines) = Lines::new(rt.alloc(), input) else {
-        return tell_memory(&mut Counted::new(rt.stderr()), "session");
+        return print_memory(&mut Counted::new(rt.stderr()), "session");
     };
     let mut room = Room::new(
         rt.alloc(),
@@ -85,7 +85,7 @@ fn run_words(rt: &HostRuntime, words: &[String]) -> Status {
         Err(fault) => {
             let mut out = Counted::new(rt.stdout());
             let mut err = Counted::new(rt.stderr());
-            tell_fault(&fault, &mut out, &mut err)
+            print_fault(&fault, &mut out, &mut err)
         }
     }
 }

@@ -11,7 +11,7 @@ use Rattle.edf_store.specs.declared.fault.StoreFault.{StoreFault}
 use Rattle.edf_command.specs.Lines.{store_refused_line}
 use Rattle.edf_command.specs.Run.{IsDone, files_of}
 use Rattle.edf_command.specs.Taking.{HasOpened}
-use Rattle.edf_program.specs.Output.{Growth, Gets, IsWritten}
+use Rattle.edf_program.specs.Output.{OutputChange, Gets, IsWritten}
 use Rattle.edf_program.specs.declared.status.Status.{Status}
 use Rattle.edf_program.specs.declared.status.Status.TheVariants.{Trouble}
 use Rattle.edf_program_run.specs.ProgramRun.{Command}
@@ -25,7 +25,7 @@ pub record IsEmptyStore (store : StoreModel MemStore) : Type 0 where
   pub idle : (at over_memory store).in_transaction ≡ false
 
 -- the command was done over such a store, whose disk gave back what was written
-pub record IsDoneInMemory (c : Command) (err : Growth) (status : Status) : Type 0 where
+pub record IsDoneInMemory (c : Command) (err : OutputChange) (status : Status) : Type 0 where
   pub old : StoreModel MemStore
   pub new : StoreModel MemStore
   pub begun : IsEmptyStore old
@@ -34,7 +34,7 @@ pub record IsDoneInMemory (c : Command) (err : Growth) (status : Status) : Type 
   pub opened : HasOpened c.2 c.3 (files_of c.0) status
 
 -- or no store could be made, for a cause: a line says so, and nothing else was done
-pub record HasNoMemory (c : Command) (err : Growth) (Unread : Type 0) (status : Status) :
+pub record HasNoMemory (c : Command) (err : OutputChange) (Unread : Type 0) (status : Status) :
     Type 0 where
   pub fault : StoreFault
   pub why : HasCause fault
@@ -42,5 +42,5 @@ pub record HasNoMemory (c : Command) (err : Growth) (Unread : Type 0) (status : 
   pub silent : Gets c.4 []
   pub unread : Unread
 
-abbrev pub IsRunInMemory : Command → Growth → (Unread : Type 0) → Status → Type 0
+abbrev pub IsRunInMemory : Command → OutputChange → (Unread : Type 0) → Status → Type 0
 IsRunInMemory c err Unread status = IsDoneInMemory c err status ⊎ HasNoMemory c err Unread status

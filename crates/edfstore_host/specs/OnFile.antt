@@ -10,7 +10,7 @@ use Rattle.sqlite.specs.declared.file.Leftover.{Leftover}
 use Rattle.edf_command.specs.Arguments.{Asked}
 use Rattle.edf_command.specs.Arguments.Asked.{take, list, export, convert}
 use Rattle.edf_command.specs.Lines.{no_recording_line}
-use Rattle.edf_program.specs.Output.{Growth, Gets, IsWritten}
+use Rattle.edf_program.specs.Output.{OutputChange, Gets, IsWritten}
 use Rattle.edf_program.specs.declared.status.Status.{Status}
 use Rattle.edf_program.specs.declared.status.Status.TheVariants.{Done, Refused, Trouble}
 use Rattle.edf_program_run.specs.Close.{Ran, IsRefused}
@@ -27,7 +27,7 @@ OnlyReads (export store place) = Unit {0}
 OnlyReads (convert file) = ⊥
 
 -- what such a command says where there is none: an empty list, or no recording at its place
-abbrev pub FindsNothing : Asked → Growth → Status → Type 0
+abbrev pub FindsNothing : Asked → OutputChange → Status → Type 0
 FindsNothing (take store files) err status = ⊥
 FindsNothing (list store) err status = Gets err [] × (status ≡ Done)
 FindsNothing (export store place) err status =

@@ -8,7 +8,7 @@ use edf_command::Status;
 use edf_fragment::Output;
 use edf_program_run::{EndedRun, Watch};
 use edf_store::StoreFault;
-use edf_system::{FULL, Terminal, tell_system_error};
+use edf_system::{FULL, Terminal, print_system_error};
 use sqlite::{Error, ErrorCode};
 use sqlite_disk::{Disk, Tally};
 use sqlite_std_file::{OpenError, Unknown};
@@ -42,7 +42,7 @@ pub struct Refused {
 
 /// Prints why the store could not be opened. SQLite's port gives no cause, so where the path tells
 /// none, it is opened again to get one.
-fn tell_unopened(rt: &HostRuntime, terminal: &Terminal<'_>, path: &str) {
+fn print_unopened(rt: &HostRuntime, terminal: &Terminal<'_>, path: &str) {
     if is_address(path) {
         return terminal.say(path, "a path that begins with 'file:' is written './file:'");
     }
@@ -57,7 +57,7 @@ fn tell_unopened(rt: &HostRuntime, terminal: &Terminal<'_>, path: &str) {
             path,
             "it could not be opened, but now it can: run this again",
         ),
-        Err(OpenError::Io(error)) => tell_system_error(terminal, path, &error),
+        Err(OpenError::Io(error)) => print_system_error(terminal, path, &error),
         Err(OpenError::Busy) => terminal.say(path, BUSY),
         Err(error) => terminal.say(path, error),
     }
@@ -77,12 +77,12 @@ fn code_words(code: ErrorCode) -> Option<&'static str> {
 }
 
 /// Prints why `sqlite` refused a store.
-fn tell_error(rt: &HostRuntime, terminal: &Terminal<'_>, path: &str, error: Error) {
+fn print_error(rt: &HostRuntime, terminal: &Terminal<'_>, path: &str, error: Error) {
     let Error::SqliteFailure(code) = error else {
         return terminal.say(path, error);
     };
     if code == ErrorCode::CannotOpen {
-        return tell_unopened(rt, terminal, path);
+        return print_unopened(rt, terminal, path);
     }
     match code_words(code) {
         Some(words) => terminal.say(path, words),
@@ -91,20 +91,20 @@ fn tell_error(rt: &HostRuntime, terminal: &Terminal<'_>, path: &str, error: Erro
 }
 
 /// Prints why a store was not opened, by an error of `sqlite`.
-fn tell_refusal(rt: &HostRuntime, terminal: &Terminal<'_>, path: &str, error: Error) {
+fn print_refusal(rt: &HostRuntime, terminal: &Terminal<'_>, path: &str, error: Error) {
     match error {
         Error::SqliteFailure(ErrorCode::DatabaseCorrupt) => terminal.say(path, DAMAGED),
-        _ => tell_error(rt, terminal, path, error),
+        _ => print_error(rt, terminal, path, error),
     }
 }
 
 /// Prints why a store was not opened. Out of memory has no further cause.
-pub fn tell_cause(rt: &HostRuntime, terminal: &Terminal<'_>, path: &str, refused: &Refused) {
+pub fn print_cause(rt: &HostRuntime, terminal: &Terminal<'_>, path: &str, refused: &Refused) {
     if !terminal.is_there() {
         return;
     }
     match refused.fault {
-        StoreFault::Store(Some(error)) => tell_refusal(rt, terminal, path, error),
+        StoreFault::Store(Some(error)) => print_refusal(rt, terminal, path, error),
         StoreFault::Foreign if refused.has_our_tables => terminal.say(path, OTHER_ROWS),
         StoreFault::Foreign => terminal.say(path, OTHER_TABLES),
         _ => {}
@@ -112,7 +112,7 @@ pub fn tell_cause(rt: &HostRuntime, terminal: &Terminal<'_>, path: &str, refused
 }
 
 /// Prints that the path of a store does not stand for the files that are open, or were.
-pub fn tell_lost(terminal: &Terminal<'_>, path: &str) {
+pub fn print_lost(terminal: &Terminal<'_>, path: &str) {
     terminal.say(path, LOST);
 }
 
@@ -129,7 +129,7 @@ fn disk_failure(tally: Tally) -> Option<Error> {
 
 /// Prints what failed of the disk in a run or a session, or as its files were closed, if that is
 /// known.
-pub fn tell_failure_of<D: Disk>(
+pub fn print_failure_of<D: Disk>(
     rt: &HostRuntime,
     terminal: &Terminal<'_>,
     path: &str,
@@ -138,7 +138,7 @@ pub fn tell_failure_of<D: Disk>(
     if terminal.is_there()
         && let Some(failure) = disk_failure(session.files.tally()).or(session.failure)
     {
-        tell_error(rt, terminal, path, failure);
+        print_error(rt, terminal, path, failure);
     }
 }
 
@@ -163,13 +163,13 @@ impl<'t> Teller<'t> {
     }
 
     /// Prints why the store was refused, or what failed of the disk in a run that is trouble.
-    pub(crate) fn tell_ended<D: Disk>(&self, rt: &HostRuntime, ended: &Ended<D>) {
+    pub(crate) fn print_ended<D: Disk>(&self, rt: &HostRuntime, ended: &Ended<D>) {
         if let Some(refused) = self.refused {
-            tell_cause(rt, self.terminal, self.path, &refused);
+            print_cause(rt, self.terminal, self.path, &refused);
         } else if let Ended::Run(session) = ended
             && session.status == Status::Trouble
         {
-            tell_failure_of(rt, self.terminal, self.path, session);
+            print_failure_of(rt, self.terminal, self.path, session);
         }
     }
 }

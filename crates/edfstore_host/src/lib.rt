@@ -6,7 +6,8 @@
 //! - [`run_words`]: the same by words that the caller has.
 //! - [`open_standing`], [`open_when_free`]: the files of a store, opened for a program that keeps
 //!   them open, or not; [`Standing`]: whether its path still stands for them.
-//! - [`Refused`], [`tell_cause`], [`tell_failure_of`], [`tell_lost`]: why a store was not opened or
+//! - [`Refused`], [`print_cause`], [`print_failure_of`], [`print_lost`]: why a store was not opened
+//!   or
 //!   closed, for a person.
 #![tactic(auto)]
 
@@ -23,7 +24,7 @@ mod spare;
 mod standing;
 mod waiting;
 
-pub use cause::{Refused, tell_cause, tell_failure_of, tell_lost};
+pub use cause::{Refused, print_cause, print_failure_of, print_lost};
 use edf_command::{Order, Status, read_command};
 use edf_fragment::Counted;
 use edf_system::{Files, Streams, Terminal, refuse_words, words};

@@ -4,7 +4,7 @@ ghost use Rattle.std.specs.Prelude.{◌≡◌, None, IfOk, IfErr};
 ghost use Rattle.edf_command.specs.Arguments.{meaning};
 ghost use Rattle.edf_store.specs.Fault.{HasCause};
 ghost use Rattle.edf_command.specs.Command.{store_path};
-ghost use Rattle.edf_program.specs.Output.{growth};
+ghost use Rattle.edf_program.specs.Output.{output_change};
 ghost use Rattle.edfstore_host.specs.InMemory.{IsEmptyStore, IsRunInMemory};
 
 use edf_command::{Inputs, Order, Status, refuse_store, run};
@@ -43,8 +43,8 @@ pub(crate) fn run_in_memory<I: Inputs, O: Output, F: Output>(
       I.bytes inputs.old,
       I.opened inputs.old,
       I.opened inputs.new,
-      growth O.Output out.old out.new,
-    ) (growth F.Output err.old err.new) (inputs.new ≡ inputs.old) result }
+      output_change O.Output out.old out.new,
+    ) (output_change F.Output err.old err.new) (inputs.new ≡ inputs.old) result }
 {
     match open_memory(alloc) {
         Ok(mut store) => {

@@ -5,7 +5,7 @@ ghost use Rattle.sqlite_wal.specs.Files.{image_at};
 ghost use Rattle.edf_command.specs.Arguments.{meaning};
 ghost use Rattle.edf_command.specs.Command.{store_path};
 ghost use Rattle.edf_header.specs.declared.limits.TheConstants.{MOST_RECORDS};
-ghost use Rattle.edf_program.specs.Output.{growth};
+ghost use Rattle.edf_program.specs.Output.{output_change};
 ghost use Rattle.edf_program_run.specs.ProgramRun.{IsNoticed, IsOpening, run_of};
 ghost use Rattle.edfstore_host.specs.OnFile.{OnlyReads, FindsNothing, IsRunOn, IsRunAtPath};
 ghost use Rattle.edfstore_host.specs.Program.{program_run, IsProgramRun};
@@ -15,7 +15,7 @@ use crate::ended::Ended;
 use crate::memory::run_in_memory;
 use crate::opening::{Again, find};
 use crate::path::{AtPath, look_at};
-use edf_command::{Inputs, Order, Status, store_path, tell_no_recording};
+use edf_command::{Inputs, Order, Status, print_no_recording, store_path};
 use edf_fragment::Output;
 use edf_program_run::{Cap, Watch, run_opened};
 use edf_system::Terminal;
@@ -26,10 +26,10 @@ use std::alloc::Global;
 /// What a command that makes no store answers where there is none: what an empty one has.
 fn find_nothing<F: Output>(command: &Order, err: &mut F) -> Status
     requires reads { OnlyReads (meaning command.now) }
-    ensures { FindsNothing (meaning command.now) (growth F.Output err.old err.new) result }
+    ensures { FindsNothing (meaning command.now) (output_change F.Output err.old err.new) result }
 {
     match command {
-        Order::Export { store: _, place } => tell_no_recording(err, *place),
+        Order::Export { store: _, place } => print_no_recording(err, *place),
         Order::Take { .. } | Order::List { .. } | Order::Convert { .. } => Status::Done,
     }
 }
@@ -54,8 +54,8 @@ fn run_on_file<S: Start, I: Inputs, O: Output, F: Output, W: Watch>(
       I.bytes inputs.old,
       I.opened inputs.old,
       I.opened inputs.new,
-      growth O.Output out.old out.new,
-    ) (growth F.Output err.old err.new)
+      output_change O.Output out.old out.new,
+    ) (output_change F.Output err.old err.new)
         (IsNoticed (W.noticed watch.old) (W.noticed watch.new)) (inputs.new ≡ inputs.old) in
         IsRunOn r (meaning command.now) found result }
     ensures quiet { found ≡ None → watch.new ≡ watch.old }
@@ -93,8 +93,9 @@ fn run_at_path<'x, S: Start + Again, I: Inputs, O: Output, F: Output>(
       I.bytes inputs.old,
       I.opened inputs.old,
       I.opened inputs.new,
-      growth O.Output out.old out.new,
-    ) (growth F.Output err.old err.new) (inputs.new ≡ inputs.old)) (meaning command.now) result }
+      output_change O.Output out.old out.new,
+    ) (output_change F.Output err.old err.new) (inputs.new
+        ≡ inputs.old)) (meaning command.now) result }
 {
     let is_new = look_at(rt, path) == AtPath::Nothing;
     let found = find(rt, path, is_new, start, command);
@@ -103,7 +104,7 @@ fn run_at_path<'x, S: Start + Again, I: Inputs, O: Output, F: Output>(
     }
     let mut teller = Teller::new(terminal, path, is_new);
     let ended = run_on_file(rt.alloc(), found, command, inputs, out, err, &mut teller);
-    teller.tell_ended(rt, &ended);
+    teller.print_ended(rt, &ended);
     ended
 }
 
@@ -122,8 +123,8 @@ pub(crate) fn run_over_store<'x, S: Start + Again, I: Inputs, O: Output, F: Outp
       I.bytes inputs.old,
       I.opened inputs.old,
       I.opened inputs.new,
-      growth O.Output out.old out.new,
-    ) (growth F.Output err.old err.new) (inputs.new ≡ inputs.old) result }
+      output_change O.Output out.old out.new,
+    ) (output_change F.Output err.old err.new) (inputs.new ≡ inputs.old) result }
 {
     match store_path(command) {
         Some(path) => run_at_path(rt, terminal, path, start, command, inputs, out, err),

@@ -3,7 +3,7 @@ use Rattle.std.proofs.lemmas.Result.{IfOk-weaker}
 use Rattle.edf_fragment.specs.Call.{input_state}
 use Rattle.edf_command.specs.Lines.{refused_file_line}
 use Rattle.edf_program.specs.Status.{status_of_number}
-use Rattle.edf_program.specs.Output.{growth, IsTextTold}
+use Rattle.edf_program.specs.Output.{output_change, IsLinePrinted}
 use Rattle.edf_program.specs.declared.status.Status.{Status}
 use Rattle.edf_program.proofs.Puts.{nothing-gets, remarked}
 use Rattle.edf_command.proofs.converting.convert.Goals as goal
@@ -15,7 +15,7 @@ returns-in_default-clause-converted g c =
       (
         nothing-gets (g.O.Output.contents c.args.out.now)
             (g.O.Output.failures c.args.out.now),
-        c.tell_memory.ensures,
+        c.print_memory.ensures,
       ),
     ))
 
@@ -41,16 +41,17 @@ returns-clause-converted g c = inr (inl (record {
   submitted = c.in-Err.ensures.submitted;
   said = λ spell is.
       let text = refused_file_line spell c.args.file.now c.in-Err.refusal in
-      let told = c.tell-told.ensures.told text
+      let told = c.print_text-told.ensures.told text
       (IfOk-weaker c.refused_file_line.result _ _ (λ r line. line spell is)
       c.refused_file_line.ensures) in
       let IsSo : Status → Type 0 = λ wanted.
-      IsTextTold (growth g.F.Output c.args.err.now c.remark.new.self) text wanted c.tell-told.result
+      IsLinePrinted (output_change g.F.Output c.args.err.now c.remark.new.self) text wanted
+      c.print_text-told.result
       in (
         nothing-gets (g.O.Output.contents c.args.out.now) (g.O.Output.failures c.args.out.now),
         subst IsSo (c.status_of_number-status.ensures ∙ ap status_of_number c.number.ensures)
-            (remarked (g.F.Output) c.args.err.now c.tell-told.new.out c.remark.new.self
-            (λ w. IsTextTold w text c.status_of_number-status.result c.tell-told.result)
+            (remarked (g.F.Output) c.args.err.now c.print_text-told.new.out c.remark.new.self
+            (λ w. IsLinePrinted w text c.status_of_number-status.result c.print_text-told.result)
             c.remark.ensures.contents c.remark.ensures.failures told),
       );
 }))

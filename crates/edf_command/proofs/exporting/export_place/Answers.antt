@@ -6,7 +6,7 @@ use Rattle.edf_store.proofs.Readiness.{stays_then}
 use Rattle.edf_command.specs.Exporting.{at_place}
 use Rattle.edf_export.specs.declared.fault.ExportFault.TheVariants.{Store}
 use Rattle.edf_command.specs.Lines.{no_recording_line}
-use Rattle.edf_program.specs.Output.{growth, Explains}
+use Rattle.edf_program.specs.Output.{output_change, Explains}
 use Rattle.edf_program.specs.declared.status.Status.TheVariants.{Refused}
 use Rattle.edf_export.proofs.Walks.{clean_before}
 use Rattle.edf_command.proofs.Staying.{is-refusal, not-failed}
@@ -21,7 +21,7 @@ returns-in-Err g c = record {
     (λ is. not-failed _ _ c.in-Err.fault c.in-Err.ensures.refuses.why (let same : c.in-Err.fault
         ≡ Failed = cc in same)),
     refl,
-    c.tell_refusal.ensures,
+    c.print_refusal.ensures,
   ));
   exported = λ clean h holds.
       inr (inr (record {
@@ -30,7 +30,7 @@ returns-in-Err g c = record {
             is-refusal _ _ c.in-Err.fault (λ unclean. unclean clean) c.in-Err.ensures.refuses.why;
         said = (
           nothing-gets (g.O.Output.contents c.args.out.now) (g.O.Output.failures c.args.out.now),
-          c.tell_refusal.ensures,
+          c.print_refusal.ensures,
         );
       }));
 }
@@ -60,12 +60,12 @@ returns-in-Some g c =
 pub returns : goal.returns
 returns g c =
     let at : List Key → Option Key = λ keys. at_place keys c.args.place in
-    let said : Explains (growth g.O.Output c.args.out.now c.args.out.now)
-    (growth g.F.Output c.args.err.now c.tell_no_recording.new.err)
-    (no_recording_line c.args.place) Refused c.tell_no_recording.result
+    let said : Explains (output_change g.O.Output c.args.out.now c.args.out.now)
+    (output_change g.F.Output c.args.err.now c.print_no_recording.new.err)
+    (no_recording_line c.args.place) Refused c.print_no_recording.result
     = (
       nothing-gets (g.O.Output.contents c.args.out.now) (g.O.Output.failures c.args.out.now),
-      c.tell_no_recording.ensures,
+      c.print_no_recording.ensures,
     ) in
     record {
       stays = c.identities.ensures.leaves.stays;

@@ -24,7 +24,7 @@ returns-in-Err-clause-told g c = inr (
   c.in-Err.fault,
   (λ is. c.in-Err.ensures.truly.unfailed (ap (λ (f : ExportFault). Err f) is)),
   c.in-Err.ensures.truly.counted,
-  c.tell_refusal.ensures,
+  c.print_refusal.ensures,
 )
 
 pub returns-in-Err-clause-exported : goal.returns-in-Err-clause-exported
@@ -33,5 +33,5 @@ returns-in-Err-clause-exported g c clean h holds =
       c.in-Err.fault,
       c.in-Err.ensures.answered clean h holds,
       c.in-Err.ensures.truly.counted,
-      c.tell_refusal.ensures,
+      c.print_refusal.ensures,
     )

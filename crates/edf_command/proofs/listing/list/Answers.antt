@@ -5,7 +5,7 @@ use Rattle.edf_holdings.proofs.KeyLists.{keys_are_one}
 use Rattle.edf_store.proofs.Readiness.{stays_then}
 use Rattle.edf_command.specs.Listing.{AreHeldBy}
 use Rattle.edf_command.specs.Lines.{first_list_lines}
-use Rattle.edf_program.specs.Output.{growth, Gets, AreLinesPut}
+use Rattle.edf_program.specs.Output.{output_change, Gets, AreLinesWritten}
 use Rattle.edf_program.specs.declared.status.Status.TheVariants.{Done}
 use Rattle.edf_program.proofs.Puts.{nothing-gets, trouble-lines}
 use Rattle.edf_export.proofs.Walks.{clean_before}
@@ -19,7 +19,7 @@ returns-in-Err g c = record {
     c.in-Err.fault,
     not-failed _ _ c.in-Err.fault c.in-Err.ensures.refuses.why,
     refl,
-    c.tell_refusal.ensures,
+    c.print_refusal.ensures,
   ));
   listed = λ clean h holds. inr (record {
     given = [];
@@ -28,7 +28,7 @@ returns-in-Err g c = record {
     first = λ keys are. (keys, refl);
     written = λ spell is. nothing-gets (g.O.Output.contents c.args.out.now)
         (g.O.Output.failures c.args.out.now);
-    said = c.tell_refusal.ensures;
+    said = c.print_refusal.ensures;
   });
 }
 
@@ -55,9 +55,9 @@ returns-in-Ok-true g c =
             keys = keys;
             are_keys = are;
             said = λ spell is.
-                let w = growth g.O.Output c.args.out.now c.put_recordings.new.out in
+                let w = output_change g.O.Output c.args.out.now c.put_recordings.new.out in
                 let IsOut : Bool → List Key → Type 0 =
-                λ written ks. AreLinesPut w (first_list_lines spell h ks) (length ks) written in
+                λ written ks. AreLinesWritten w (first_list_lines spell h ks) (length ks) written in
                 let put = c.in-Ok-true.ensures.put clean h spell
                 (c.identities.ensures.leaves.stays.holdings h holds) all is in
                 let done = subst (IsOut true) c.as_slice.ensures.value
@@ -92,9 +92,9 @@ returns-in-Ok-false g c =
             keys = keys;
             are_keys = are;
             said = λ spell is.
-                let w = growth g.O.Output c.args.out.now c.put_recordings.new.out in
+                let w = output_change g.O.Output c.args.out.now c.put_recordings.new.out in
                 let IsOut : Bool → List Key → Type 0 =
-                λ written ks. AreLinesPut w (first_list_lines spell h ks) (length ks) written in
+                λ written ks. AreLinesWritten w (first_list_lines spell h ks) (length ks) written in
                 let put = c.in-Ok-false.ensures.put clean h spell
                 (c.identities.ensures.leaves.stays.holdings h holds) all is in
                 let done = subst (IsOut false) c.as_slice.ensures.value
@@ -119,7 +119,7 @@ returns g c =
         c.in-Err-put_recordings.stop,
         c.in-Err-put_recordings.ensures.unfailed,
         c.in-Err-put_recordings.ensures.counted,
-        c.tell_refusal-in-Err-put_recordings.ensures,
+        c.print_refusal-in-Err-put_recordings.ensures,
       ));
       listed = λ clean h holds.
           let are = c.in-Ok.ensures.keys
@@ -139,9 +139,9 @@ returns g c =
             );
             written = λ spell is.
                 let IsOut : List Key → Type 0 = λ ks.
-                Gets (growth g.O.Output c.args.out.now c.put_recordings.new.out)
+                Gets (output_change g.O.Output c.args.out.now c.put_recordings.new.out)
                 (first_list_lines spell h ks stop.0) in
                 subst IsOut c.as_slice.ensures.value (then.1 spell is);
-            said = c.tell_refusal-in-Err-put_recordings.ensures;
+            said = c.print_refusal-in-Err-put_recordings.ensures;
           });
     }

@@ -4,7 +4,7 @@ use Rattle.std.proofs.lemmas.List.{take_all}
 use Rattle.std.proofs.lemmas.Result.{err_from_is_err_and}
 use Rattle.edf_store.proofs.Readiness.{stays_then}
 use Rattle.edf_command.specs.Lines.{list_line, list_lines, first_list_lines}
-use Rattle.edf_program.specs.Output.{growth, Gets, IsLinePut}
+use Rattle.edf_program.specs.Output.{output_change, Gets, IsLineWritten}
 use Rattle.edf_program.proofs.Puts.{nothing-gets, gets-after, gets-no_more, stops-after}
 use Rattle.edf_export.proofs.Walks.{stays_same, clean_before}
 use Rattle.edf_command.proofs.Written.{listed-next, listed-past}
@@ -33,13 +33,13 @@ loop-at-preserved g c =
           ∙ c.loop-at.invariant.counted;
       put = λ clean h holds held spell is.
           let IsOut : List ℕ → Type 0 = λ bytes.
-          Gets (growth g.O.Output c.args.out.now c.put_recording.new.out) bytes in
+          Gets (output_change g.O.Output c.args.out.now c.put_recording.new.out) bytes in
           let some = held key (at, c.loop-at-test.true, sym c.index-recordings-at.is) in
           let first = c.loop-at.invariant.put
           (clean_before g.S.Store mid new c.in_ok-put_recording.ensures.stays clean) h holds held
           spell is in
           let IsOne : Bool → Type 0 = λ written.
-          IsLinePut (growth g.O.Output c.loop-at.out c.put_recording.new.out)
+          IsLineWritten (output_change g.O.Output c.loop-at.out c.put_recording.new.out)
           (list_line spell (at + 1) key (h key)) written in
           let one = subst IsOne c.if-not-branch.false
           (c.in_ok-put_recording.ensures.put clean h spell
@@ -72,7 +72,7 @@ returns-then-not-branch g c =
           (clean_before g.S.Store mid new c.in_ok-put_recording.ensures.stays clean) h holds held
           spell is in
           let IsOne : Bool → Type 0 = λ written.
-          IsLinePut (growth g.O.Output c.loop-at.out c.put_recording.new.out)
+          IsLineWritten (output_change g.O.Output c.loop-at.out c.put_recording.new.out)
           (list_line spell (at + 1) key (h key)) written in
           let one = subst IsOne c.if-not-branch.true
           (c.in_ok-put_recording.ensures.put clean h spell
@@ -140,7 +140,7 @@ returns g c = record {
   put = λ clean h spell holds held is.
       let recordings = c.args.recordings.now in
       let IsOut : List ℕ → Type 0 = λ bytes.
-      Gets (growth g.O.Output c.args.out.now c.loop-at.out) bytes in
+      Gets (output_change g.O.Output c.args.out.now c.loop-at.out) bytes in
       let all = take_all c.loop-at.at recordings (omega arith)
       ∙ sym (take_all (length recordings) recordings (omega arith)) in
       subst IsOut (ap (list_lines spell h 1) all)

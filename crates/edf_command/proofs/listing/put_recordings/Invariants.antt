@@ -2,9 +2,9 @@ use Rattle.std.proofs.Common.{◌≡◌, ℕ, List}
 use Rattle.sqlite.specs.State.{HasCleanDisk}
 use Rattle.edf_holdings.specs.Holdings.{Holdings}
 use Rattle.edf_store.specs.Held.{at, Holds, KeepsHoldings}
-use Rattle.edf_program.specs.Text.{IsSpelling}
+use Rattle.edf_program.specs.Text.{IsInstantFormat}
 use Rattle.edf_command.specs.Lines.{first_list_lines}
-use Rattle.edf_program.specs.Output.{growth, Gets}
+use Rattle.edf_program.specs.Output.{output_change, Gets}
 use Rattle.edf_command.specs.Listing.{AreHeldBy}
 use Rattle.edf_command.proofs.listing.put_recordings.Given as goal
 
@@ -14,6 +14,6 @@ invariant-loop-at g l = record {
   counted : g.O.Output.failures l.out ≡ g.O.Output.failures l.fn.out;
   put : HasCleanDisk (at g.S.Store l.store) → (h : Holdings) → Holds g.S.Store l.fn.store h →
       AreHeldBy h l.recordings
-      → (spell : ℕ → List ℕ) → IsSpelling spell
-      → Gets (growth g.O.Output l.fn.out l.out) (first_list_lines spell h l.recordings l.at);
+      → (spell : ℕ → List ℕ) → IsInstantFormat spell
+      → Gets (output_change g.O.Output l.fn.out l.out) (first_list_lines spell h l.recordings l.at);
 }

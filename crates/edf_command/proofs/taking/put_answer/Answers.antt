@@ -1,7 +1,7 @@
 use Rattle.std.proofs.Common.{true}
 use Rattle.std.proofs.lemmas.Result.{IfOk-weaker}
 use Rattle.edf_command.specs.Lines.{take_line}
-use Rattle.edf_program.specs.Output.{IsLinePut}
+use Rattle.edf_program.specs.Output.{IsLineWritten}
 use Rattle.edf_program.proofs.Puts.{remarked}
 use Rattle.edf_command.proofs.taking.put_answer.Goals as goal
 
@@ -19,6 +19,6 @@ pub returns-in-Err : goal.returns-in-Err
 returns-in-Err g c spell is =
     let line = take_line spell c.args.name.now c.args.answer.now in
     remarked (g.O.Output) c.args.out.now c.put_line.new.out c.remark.new.self
-    (λ w. IsLinePut w line true) c.remark.ensures.contents c.remark.ensures.failures
+    (λ w. IsLineWritten w line true) c.remark.ensures.contents c.remark.ensures.failures
     (c.if-not-put_line.ensures.put line
     (IfOk-weaker c.take_line.result _ _ (λ r p. p spell is) c.take_line.ensures))

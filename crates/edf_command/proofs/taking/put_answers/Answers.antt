@@ -4,7 +4,7 @@ use Rattle.std.proofs.lemmas.List.{length_push, take_all}
 use Rattle.std.proofs.lemmas.Slice.Zip.{zip_turn, zip_end}
 use Rattle.std.specs.List.{flat_map}
 use Rattle.edf_command.specs.Lines.{take_line, first_take_lines}
-use Rattle.edf_program.specs.Output.{growth, Gets}
+use Rattle.edf_program.specs.Output.{output_change, Gets}
 use Rattle.edf_program.proofs.Puts.{grown, nothing-gets, gets-after, stops-after}
 use Rattle.edf_command.proofs.Written.{pairs, pair_line, length-pairs, first-pairs, all-pairs}
 use Rattle.edf_command.proofs.Written.{taken-more, first-split}
@@ -72,7 +72,7 @@ returns g c spell is =
     c.loop-file.file-iterator c.next.new.self c.next.result (cc) (cc) c.loop-file.yielded_by
     c.in-None.is c.next.ensures.steps in
     let IsOut : List ℕ → Type 0 = λ bytes.
-    Gets (growth g.O.Output c.args.out.now c.loop-file.out) bytes in
+    Gets (output_change g.O.Output c.args.out.now c.loop-file.out) bytes in
     subst IsOut (ap (flat_map (pair_line spell files answers))
     (take_all n (pairs spell files answers) (length-pairs spell files answers n end))
     ∙ sym (all-pairs spell files answers)) (c.loop-file.invariant spell is)

@@ -5,7 +5,7 @@ use Rattle.std.proofs.lemmas.Simd.{map-map}
 use Rattle.edf_intake.specs.Refusal.{Answer}
 use Rattle.edf_fragment.specs.Call.{InputState, input_state}
 use Rattle.edf_command.specs.Lines.{first_take_lines, take_status}
-use Rattle.edf_program.specs.Output.{growth, AreLinesPut}
+use Rattle.edf_program.specs.Output.{output_change, AreLinesWritten}
 use Rattle.edf_program.proofs.Puts.{nothing-gets, trouble-lines}
 use Rattle.edf_command.proofs.taking.take.Goals as goal
 
@@ -16,7 +16,7 @@ returns-in_default-clause-taken g c =
       (
         nothing-gets (g.O.Output.contents c.args.out.now)
             (g.O.Output.failures c.args.out.now),
-        c.tell_memory.ensures,
+        c.print_memory.ensures,
       ),
     )
 
@@ -41,7 +41,7 @@ returns-then-put_answers-clause-taken g c =
       said = λ spell is.
           let names = map string_bytes files in
           let IsOut : List Answer → Type 0 = λ answers.
-          AreLinesPut (growth g.O.Output c.args.out.now c.put_answers.new.out)
+          AreLinesWritten (output_change g.O.Output c.args.out.now c.put_answers.new.out)
           (first_take_lines spell names answers) (length answers) true in
           inl (inl (
             subst IsOut c.as_slice.ensures.value (c.if-put_answers.ensures spell is),
@@ -71,9 +71,9 @@ returns-clause-taken g c =
       said = λ spell is.
           let names = map string_bytes files in
           let answers = c.in-Ok-submit_all.answers.items in
-          let w = growth g.O.Output c.args.out.now c.put_answers.new.out in
+          let w = output_change g.O.Output c.args.out.now c.put_answers.new.out in
           let IsOut : List Answer → Type 0 = λ answers.
-          AreLinesPut w (first_take_lines spell names answers) (length answers) false in
+          AreLinesWritten w (first_take_lines spell names answers) (length answers) false in
           trouble-lines w (first_take_lines spell names answers) (length answers)
           (take_status answers) (subst IsOut c.as_slice.ensures.value
           (c.if-put_answers.ensures spell is));

@@ -1,6 +1,6 @@
 use Rattle.std.proofs.Common.{◌≡◌, ℕ, List, Some, true, ap, refl, subst, rules}
 use Rattle.edf_program.specs.Making.{Making}
-use Rattle.edf_program.specs.Output.{Growth}
+use Rattle.edf_program.specs.Output.{OutputChange}
 use Rattle.edfmend_command.specs.Run.{IsMendDone, meaning}
 use Rattle.edf_page.specs.InsideFolder.{there_in, unforgotten}
 use Rattle.edf_page.specs.declared.given.GivenFile.{GivenFile}
@@ -21,13 +21,13 @@ returns c =
       after = unforgotten c.run_mend-status.new.maker.is_forgotten c.run_mend-status.new.maker.files;
       failed_after = c.run_mend-status.new.maker.failed;
     } in
-    let out : Growth = record {
+    let out : OutputChange = record {
       before = Some c.new-out.result.bytes.items;
       failed_before = c.new-out.result.failures;
       after = Some c.run_mend-status.new.out.bytes.items;
       failed_after = c.run_mend-status.new.out.failures;
     } in
-    let err : Growth = record {
+    let err : OutputChange = record {
       before = Some c.new-err.result.bytes.items;
       failed_before = c.new-err.result.failures;
       after = Some c.run_mend-status.new.err.bytes.items;

@@ -6,16 +6,16 @@ returns c = record {
   out = record {
     before = Some c.new-out.result.bytes.items;
     failed_before = c.new-out.result.failures;
-    after = Some c.tell_fault-status.new.out.bytes.items;
-    failed_after = c.tell_fault-status.new.out.failures;
+    after = Some c.print_fault-status.new.out.bytes.items;
+    failed_after = c.print_fault-status.new.out.failures;
   };
   err = record {
     before = Some c.new-err.result.bytes.items;
     failed_before = c.new-err.result.failures;
-    after = Some c.tell_fault-status.new.err.bytes.items;
-    failed_after = c.tell_fault-status.new.err.failures;
+    after = Some c.print_fault-status.new.err.bytes.items;
+    failed_after = c.print_fault-status.new.err.failures;
   };
-  says = c.tell_fault-status.ensures;
+  says = c.print_fault-status.ensures;
   unfailed = search rules;
   written = record {
     empty = ap Some c.new-out.ensures.empty;

@@ -1,7 +1,7 @@
 use Rattle.std.proofs.Common.{List, ℕ, true, false, ap, refl, subst, arith}
 use Rattle.std.specs.List.{flat_map}
 use Rattle.std.proofs.lemmas.List.{take_all}
-use Rattle.edf_program.specs.Output.{growth, Gets}
+use Rattle.edf_program.specs.Output.{output_change, Gets}
 use Rattle.edf_program.proofs.Puts.{nothing-gets, put-sent}
 use Rattle.edf_program.proofs.Parts.{parts-more, parts-stop}
 use Rattle.edf_program.proofs.output.put_parts.Goals as goal
@@ -38,7 +38,7 @@ pub returns : goal.returns
 returns g c =
     let parts = c.args.parts.now in
     let IsOut : List ℕ → Type 0 = λ bytes.
-    Gets (growth g.W.Output c.args.out.now c.loop-part.out) bytes in
+    Gets (output_change g.W.Output c.args.out.now c.loop-part.out) bytes in
     subst IsOut (ap (flat_map (λ part. part.now))
     (take_all c.loop-part.part-index parts (omega (arith, c.loop-part-test.false))))
     c.loop-part.invariant

@@ -4,7 +4,7 @@ use Rattle.sqlite.specs.Files.{over_files}
 use Rattle.edf_tables.specs.Schema.{AreOurs}
 use Rattle.edf_store.specs.Open.{IsReturned}
 use Rattle.edf_command.specs.Arguments.{meaning}
-use Rattle.edf_program.specs.Output.{growth}
+use Rattle.edf_program.specs.Output.{output_change}
 use Rattle.edf_program.proofs.Puts.{nothing-gets}
 use Rattle.edf_program_run.specs.ProgramRun.{IsNoticed, ProgramRun, Refuses, run_of}
 use Rattle.edf_program_run.proofs.Doing.{turned}
@@ -14,14 +14,14 @@ use Rattle.edf_program_run.proofs.over.run_over.Goals as goal
 
 pub returns-in-Ok-clause-ran : goal.returns-in-Ok-clause-ran
 returns-in-Ok-clause-ran g c start opening =
-    let out = growth g.O.Output c.args.out.now c.run-status.new.out in
-    let mid = growth g.F.Output c.args.err.now c.run-status.new.err in
+    let out = output_change g.O.Output c.args.out.now c.run-status.new.out in
+    let mid = output_change g.F.Output c.args.err.now c.run-status.new.err in
     let asked = meaning c.args.command.now in
     let bytes = g.I.Inputs.bytes c.args.inputs.now in
     let before = g.I.Inputs.opened c.args.inputs.now in
     let after = g.I.Inputs.opened c.run-status.new.inputs in
     let r : ProgramRun g.D.Disk = run_of g.D.Disk c.args.cap start
-    (asked, bytes, before, after, out) (growth g.F.Output c.args.err.now c.close.new.err)
+    (asked, bytes, before, after, out) (output_change g.F.Output c.args.err.now c.close.new.err)
     (IsNoticed (g.W.Watch.noticed c.args.watch.now) (g.W.Watch.noticed c.opened.new.self))
     (c.run-status.new.inputs ≡ c.args.inputs.now) in
     let t = turned bytes before after out mid asked c.in-Ok.store c.run-status.new.store
@@ -52,7 +52,7 @@ returns-in-Ok-clause-closed g c never =
 
 pub returns-in-Err-clause-ran : goal.returns-in-Err-clause-ran
 returns-in-Err-clause-ran g c start opening =
-    let out = growth g.O.Output c.args.out.now c.args.out.now in
+    let out = output_change g.O.Output c.args.out.now c.args.out.now in
     let r : ProgramRun g.D.Disk = run_of g.D.Disk c.args.cap start (
       meaning c.args.command.now,
       g.I.Inputs.bytes c.args.inputs.now,
@@ -60,7 +60,7 @@ returns-in-Err-clause-ran g c start opening =
       g.I.Inputs.opened c.args.inputs.now,
       out,
     )
-    (growth g.F.Output c.args.err.now c.refuse.new.err)
+    (output_change g.F.Output c.args.err.now c.refuse.new.err)
     (IsNoticed (g.W.Watch.noticed c.args.watch.now) (g.W.Watch.noticed c.refuse.new.watch))
     (c.args.inputs.now ≡ c.args.inputs.now) in
     let ours = c.is_ours-has_our_tables.result in

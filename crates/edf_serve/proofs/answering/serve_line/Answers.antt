@@ -65,10 +65,10 @@ returns-then-not-stand g c =
       line = c.args.line.now;
       asked = option_map asked_by c.parse_line.result;
       work = w;
-      answered = c.tell_lost.result;
+      answered = c.print_lost.result;
     } in
     let b : Point g.row.S.Denot = point g.I.Sources g.C.Client g.K.StoreFiles
-    c.work.new.store c.tell_lost.new.room in
+    c.work.new.store c.print_lost.new.room in
     let looks = g.K.StoreFiles.looks c.work.new.room.keeper in
     let no : c.stand.result ≡ false = c.if-not-stand.true in (
       x,
@@ -81,7 +81,7 @@ returns-then-not-stand g c =
         unfailed = (c.clear.ensures.counted, c.clear-2.ensures.counted);
         worked = c.work.ensures.worked.1;
         answered = subst (IsAnswered g.S.Store x b) (sym c.in-Accepted.is)
-            (inr (c.tell_lost.ensures x looks (c.stand.ensures ∙ ap (looked looks) no)));
+            (inr (c.print_lost.ensures x looks (c.stand.ensures ∙ ap (looked looks) no)));
         cap = c.work.ensures.cap;
       },
     )

@@ -4,5 +4,5 @@ use Rattle.edf_serve.proofs.answering.work.Goals as goal
 pub returns-in-None-clause-worked : goal.returns-in-None-clause-worked
 returns-in-None-clause-worked g c = (
   None,
-  rw c.in-None.is (refl, (refl, (c.tell_bytes.result, c.went.ensures, c.tell_bytes.ensures))),
+  rw c.in-None.is (refl, (refl, (c.print_bytes.result, c.went.ensures, c.print_bytes.ensures))),
 )

@@ -6,7 +6,7 @@ use Rattle.sqlite.specs.Files.{over_files}
 use Rattle.edf_tables.specs.Schema.{AreOurs}
 use Rattle.edf_store.specs.Held.{StoreModel}
 use Rattle.edf_store.specs.Open.{IsReturned}
-use Rattle.edf_program.specs.Output.{growth}
+use Rattle.edf_program.specs.Output.{output_change}
 use Rattle.edf_program.proofs.Puts.{nothing-gets}
 use Rattle.edf_program_run.specs.ProgramRun.{IsNoticed, ProgramRun, Refuses}
 use Rattle.edf_program_run.proofs.Ending.{ran_back, is_refused, none_failed}
@@ -19,7 +19,7 @@ use Rattle.edf_serve.proofs.over.serve_over.Goals as goal
 pub returns-in-Ok-clause-ran : goal.returns-in-Ok-clause-ran
 returns-in-Ok-clause-ran g c start opening =
     let stays = g.met.D.Disk.seen_may_stay in
-    let mid = growth g.F.Output c.args.err.now c.args.err.now in
+    let mid = output_change g.F.Output c.args.err.now c.args.err.now in
     let r : ProgramRun g.D.Disk = session_run g.D.Disk c.args.cap start
     (option_map (λ f. f.now) c.args.folder)
     (λ store. record {
@@ -30,7 +30,7 @@ returns-in-Ok-clause-ran g c start opening =
       at = point g.I.Sources g.C.Client g.K.StoreFiles store c.serve.new.room;
       coming = c.serve.new.lines;
     })
-    (growth g.F.Output c.args.err.now c.close.new.err)
+    (output_change g.F.Output c.args.err.now c.close.new.err)
     (IsNoticed (g.W.Watch.noticed c.args.watch.now) (g.W.Watch.noticed c.opened.new.self))
     ((c.serve.new.room ≡ c.args.room.now) × (c.serve.new.lines ≡ c.args.lines.now)) in
     let whole = c.serve.ensures in
@@ -80,7 +80,7 @@ returns-in-Err-clause-ran g c start opening =
     } in
     let r : ProgramRun g.D.Disk = session_run g.D.Disk c.args.cap start
     (option_map (λ f. f.now) c.args.folder) Now Now
-    (growth g.F.Output c.args.err.now c.refuse.new.err)
+    (output_change g.F.Output c.args.err.now c.refuse.new.err)
     (IsNoticed (g.W.Watch.noticed c.args.watch.now) (g.W.Watch.noticed c.refuse.new.watch))
     ((c.args.room.now ≡ c.args.room.now) × (c.args.lines.now ≡ c.args.lines.now)) in
     let ours = c.is_ours-has_our_tables.result in

@@ -44,7 +44,7 @@ returns-in-Ok-clause-taken g c =
     let left : Point g.row.S.Denot = point g.I.Sources g.C.Client g.K.StoreFiles
     c.submit.new.store (record c.args.room.now {
       sources = c.open.new.self;
-      out = c.tell_refusal-status.new.out;
+      out = c.print_refusal-status.new.out;
     }) in (
       Some it,
       inl (record {
@@ -53,7 +53,7 @@ returns-in-Ok-clause-taken g c =
         given = c.in-Ok.ensures.reader;
         submitted = c.in-Err-submit.ensures.submitted;
         ended = c.in-Err-submit.ensures.ended;
-        said = (c.tell_refusal-status.ensures, c.is_stopped-is_stopped.ensures);
+        said = (c.print_refusal-status.ensures, c.is_stopped-is_stopped.ensures);
         same = ap (λ (p : Paths). record left { paths = p }) c.in-Ok.ensures.opened;
       }),
     )

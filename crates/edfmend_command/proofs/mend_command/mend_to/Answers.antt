@@ -2,7 +2,7 @@ use Rattle.std.proofs.Common.{◌≡◌, ◌⊎◌, ℕ, List, Option, subst, sy
 use Rattle.edf_mend.specs.declared.fault.MendFault.{MendFault}
 use Rattle.edf_mend.specs.declared.fault.MendFault.TheVariants.{Read, Memory}
 use Rattle.std.specs.Prelude.{option_map}
-use Rattle.edf_program.specs.Output.{growth}
+use Rattle.edf_program.specs.Output.{output_change}
 use Rattle.edf_program.proofs.Puts.{nothing-gets}
 use Rattle.edfmend_command.specs.Run.{SaysWhy, CountsWrite}
 use Rattle.edf_program.proofs.Filled.{filled}
@@ -80,7 +80,8 @@ returns-in-Err-make_file-clause-done g c =
       unsaid = nothing-gets (g.O.Output.contents c.args.out.now)
           (g.O.Output.failures c.args.out.now);
       said = subst (λ (k : Option (List ℕ)). SaysWhy
-          (growth g.F.Output c.args.err.now c.refuse-in-Err-make_file.new.err) c.args.file.now
+          (output_change g.F.Output c.args.err.now c.refuse-in-Err-make_file.new.err)
+          c.args.file.now
           c.args.name.now stop.fault k c.refuse-in-Err-make_file.result) c.left_name-left.ensures
           c.refuse-in-Err-make_file.ensures;
     }))
@@ -92,7 +93,7 @@ returns-in-Err-make_file-clause-opened g c =
     (then-up (g.I.Inputs.opened c.args.inputs.now) (g.I.Inputs.opened c.survey_of.new.inputs)
     (g.I.Inputs.opened c.make_file.new.inputs) c.args.file.now c.in-Ok.ensures.opened
     c.in-Err-make_file.ensures.opened)
-    (says-undone (growth g.F.Output c.args.err.now c.refuse-in-Err-make_file.new.err)
+    (says-undone (output_change g.F.Output c.args.err.now c.refuse-in-Err-make_file.new.err)
     c.args.file.now c.args.name.now c.in-Err-make_file.stop.fault
     (option_map (λ name. name.now) c.left_name-left.result)
     c.refuse-in-Err-make_file.result c.refuse-in-Err-make_file.ensures)

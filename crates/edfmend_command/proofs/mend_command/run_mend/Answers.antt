@@ -1,6 +1,6 @@
 use Rattle.std.proofs.Common.{◌⊎◌, ℕ, List, Option, sym, subst, refl}
 use Rattle.std.specs.Prelude.{option_map, string_bytes}
-use Rattle.edf_program.specs.Output.{growth}
+use Rattle.edf_program.specs.Output.{output_change}
 use Rattle.edf_program.specs.Making.{making}
 use Rattle.edfmend_command.specs.Run.{IsDoneTo, meaning, FindsName, MakesMended, LacksMended}
 use Rattle.edfmend_command.specs.Run.{TellsChanges, LacksChanges}
@@ -9,8 +9,8 @@ use Rattle.edfmend_command.proofs.mend_command.run_mend.Goals as goal
 pub returns-in-Some-clause-done : goal.returns-in-Some-clause-done
 returns-in-Some-clause-done g c =
     let m = making g.M.NewFiles c.args.maker.now c.mend_to.new.maker in
-    let out = growth g.O.Output c.args.out.now c.mend_to.new.out in
-    let err = growth g.F.Output c.args.err.now c.mend_to.new.err in
+    let out = output_change g.O.Output c.args.out.now c.mend_to.new.out in
+    let err = output_change g.F.Output c.args.err.now c.mend_to.new.err in
     let w = c.args.command.now.wanted in
     let done = λ (file name : List ℕ).
     FindsName out err (g.I.Inputs.bytes c.args.inputs.now file) w file c.mend_to.result m name
@@ -29,8 +29,8 @@ returns-in-Some-clause-done g c =
 pub returns-in-None-clause-done : goal.returns-in-None-clause-done
 returns-in-None-clause-done g c =
     let m = making g.M.NewFiles c.args.maker.now c.args.maker.now in
-    let out = growth g.O.Output c.args.out.now c.tell_changes.new.out in
-    let err = growth g.F.Output c.args.err.now c.tell_changes.new.err in
+    let out = output_change g.O.Output c.args.out.now c.tell_changes.new.out in
+    let err = output_change g.F.Output c.args.err.now c.tell_changes.new.err in
     let w = c.args.command.now.wanted in
     let told = subst (λ (file : List ℕ).
     TellsChanges out err (g.I.Inputs.bytes c.args.inputs.now file) w file c.tell_changes.result

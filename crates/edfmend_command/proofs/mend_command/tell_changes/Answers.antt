@@ -1,5 +1,5 @@
 use Rattle.std.proofs.Common.{inl, inr}
-use Rattle.edf_program.specs.Output.{growth}
+use Rattle.edf_program.specs.Output.{output_change}
 use Rattle.edf_program.proofs.Puts.{nothing-gets}
 use Rattle.edfmend_command.proofs.Opened.{fewer, says-undone}
 use Rattle.std.specs.Prelude.{None}
@@ -26,6 +26,6 @@ pub returns-in-Err-clause-opened : goal.returns-in-Err-clause-opened
 returns-in-Err-clause-opened g c =
     fewer (g.I.Inputs.opened c.args.inputs.now) (g.I.Inputs.opened c.mend_nowhere.new.inputs)
     c.args.file.now c.refuse.result c.in-Err.ensures.opened
-    (says-undone (growth g.F.Output c.args.err.now c.refuse.new.err) c.args.file.now
+    (says-undone (output_change g.F.Output c.args.err.now c.refuse.new.err) c.args.file.now
     c.args.file.now
     c.in-Err.fault None c.refuse.result c.refuse.ensures)

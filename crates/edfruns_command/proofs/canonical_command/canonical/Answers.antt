@@ -1,6 +1,6 @@
 use Rattle.std.proofs.Common.{List, ℕ, ◌∙◌, subst, inl, inr}
 use Rattle.std.specs.Prelude.{Option}
-use Rattle.edf_program.specs.Output.{growth}
+use Rattle.edf_program.specs.Output.{output_change}
 use Rattle.edf_program.proofs.Puts.{nothing-gets}
 use Rattle.edfruns_command.specs.Canonical.{WritesFile, StopsAgain, TellsOutside}
 use Rattle.edf_program.proofs.Undone.{trouble-undone}
@@ -10,8 +10,8 @@ use Rattle.edfruns_command.proofs.canonical_command.canonical.Goals as goal
 
 pub returns-in-Err-clause-written : goal.returns-in-Err-clause-written
 returns-in-Err-clause-written g c =
-    inr (inr (lacks-plan (growth g.O.Output c.args.out.now c.args.out.now)
-    (growth g.F.Output c.args.err.now c.refuse_plan.new.err)
+    inr (inr (lacks-plan (output_change g.O.Output c.args.out.now c.args.out.now)
+    (output_change g.F.Output c.args.err.now c.refuse_plan.new.err)
     (g.I.Inputs.bytes c.args.inputs.now c.args.file.now) c.args.file.now
     c.refuse_plan.result c.args.is_by_onset
     (nothing-gets (g.O.Output.contents c.args.out.now) (g.O.Output.failures c.args.out.now))
@@ -26,9 +26,9 @@ returns-in-Ok-write_planned-clause-written g c = inl (record {
   plan = c.in-Ok.plan;
   has = c.in-Ok.ensures.answer;
   writes = subst (λ (b : Option (List ℕ)). WritesFile
-      (growth g.O.Output c.args.out.now c.write_planned.new.out) b c.in-Ok.plan)
+      (output_change g.O.Output c.args.out.now c.write_planned.new.out) b c.in-Ok.plan)
       (c.in-Ok.ensures.same c.args.file.now) c.in-Ok-write_planned.ensures.answer;
-  said = subst (λ n. TellsOutside (growth g.F.Output c.args.err.now c.tell_outside.new.err)
+  said = subst (λ n. TellsOutside (output_change g.F.Output c.args.err.now c.tell_outside.new.err)
       c.args.file.now n c.tell_outside.result) c.outside.ensures c.tell_outside.ensures;
 })
 
@@ -42,7 +42,7 @@ returns-clause-written g c = inr (inl (record {
   has = c.in-Ok.ensures.answer;
   why = c.in-Err-write_planned.fault;
   stops = subst (λ (b : Option (List ℕ)). StopsAgain
-      (growth g.O.Output c.args.out.now c.write_planned.new.out) b c.in-Ok.plan
+      (output_change g.O.Output c.args.out.now c.write_planned.new.out) b c.in-Ok.plan
       c.in-Err-write_planned.fault) (c.in-Ok.ensures.same c.args.file.now)
       c.in-Err-write_planned.ensures.answer;
   said = c.refuse_canonical.ensures;

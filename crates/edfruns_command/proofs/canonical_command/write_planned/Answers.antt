@@ -1,7 +1,7 @@
 use Rattle.std.proofs.Common.{List, ℕ, subst, ap, inl, ◌∙◌}
 use Rattle.std.specs.Prelude.{Option, Err}
 use Rattle.std.proofs.lemmas.Result.{err_from_is_err_and}
-use Rattle.edf_program.specs.Output.{growth}
+use Rattle.edf_program.specs.Output.{output_change}
 use Rattle.edf_runs.specs.Canonical.{IsNotCanonical}
 use Rattle.edf_runs.specs.declared.fault.WriteFault.{WriteFault}
 use Rattle.edf_program.proofs.Opened.{opened-once}
@@ -31,6 +31,7 @@ returns-in_err-write_canonical-clause-answer g c =
       unchanged = λ bytes k records known spells is. λ changed.
           told.unchanged bytes k records (same ∙ known) spells is
           (ap (λ (w : WriteFault). Err w) (err_is why changed));
-      counted = counts-write (growth g.O.Output c.args.out.now c.write_canonical.new.out) _ _ why
+      counted = counts-write (output_change g.O.Output c.args.out.now c.write_canonical.new.out) _ _
+          why
           told.counted;
     })))

@@ -1,9 +1,9 @@
 use Rattle.std.proofs.Common.{◌≡◌, ℕ, List, ◌+◌, ◌++◌, drop}
 use Rattle.edf_field.specs.Number.{duration_of}
-use Rattle.edfruns_command.specs.Lines.{IsSpelling, run_lines}
+use Rattle.edfruns_command.specs.Lines.{IsInstantFormat, run_lines}
 use Rattle.edfruns_command.proofs.lines.list_text.Given as goal
 
 abbrev pub invariant-loop-at : goal.invariant-loop-at
-invariant-loop-at l = (spell : ℕ → List ℕ) → IsSpelling spell →
+invariant-loop-at l = (spell : ℕ → List ℕ) → IsInstantFormat spell →
     l.text.items ++ run_lines spell l.duration l.fn.label (l.at + 1) (drop l.at l.runs)
     ≡ run_lines spell l.duration l.fn.label 1 l.runs

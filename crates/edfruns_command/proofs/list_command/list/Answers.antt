@@ -1,7 +1,7 @@
 use Rattle.std.proofs.Common.{◌∙◌, ◌+◌, ◌++◌, ◌∷◌, [], ℕ, List, Bool, inr, refl, sym, ap, subst, append-nil}
 use Rattle.std.proofs.Common.{map, take, drop, string_bytes, Global}
 use Rattle.std.specs.Prelude.{Option, Ok}
-use Rattle.edf_program.specs.Output.{growth}
+use Rattle.edf_program.specs.Output.{output_change}
 use Rattle.edf_program.specs.declared.status.Status.{Status}
 use Rattle.edfruns_command.specs.Inside.{OpensUpTo}
 use Rattle.edfruns_command.specs.Lines.{standard_output, unwritten_line}
@@ -28,10 +28,10 @@ loop-file-preserved g c =
     let name = text c.file-item.result in
     let names = map text (take i files) in
     let one = c.in-Ok.one in
-    let out = growth g.O.Output c.args.out.now c.list_file.new.out in
-    let err = growth g.F.Output c.args.err.now c.list_file.new.err in
-    let mid_out = growth g.O.Output c.loop-file.out c.list_file.new.out in
-    let mid_err = growth g.F.Output c.loop-file.err c.list_file.new.err in
+    let out = output_change g.O.Output c.args.out.now c.list_file.new.out in
+    let err = output_change g.F.Output c.args.err.now c.list_file.new.err in
+    let mid_out = output_change g.O.Output c.loop-file.out c.list_file.new.out in
+    let mid_err = output_change g.F.Output c.loop-file.err c.list_file.new.err in
     let before = g.I.Inputs.opened c.args.inputs.now in
     let mid = g.I.Inputs.opened c.loop-file.inputs in
     let after = g.I.Inputs.opened c.list_file.new.inputs in
@@ -69,10 +69,10 @@ returns-in-Err-clause-listed g c =
     let files = c.args.files.now in
     let i = c.loop-file.file-index in
     let text = string_bytes {Z = Global} in
-    let out = growth g.O.Output c.args.out.now c.list_file.new.out in
-    let err = growth g.F.Output c.args.err.now c.list_file.new.err in
-    let mid_out = growth g.O.Output c.loop-file.out c.list_file.new.out in
-    let mid_err = growth g.F.Output c.loop-file.err c.list_file.new.err in
+    let out = output_change g.O.Output c.args.out.now c.list_file.new.out in
+    let err = output_change g.F.Output c.args.err.now c.list_file.new.err in
+    let mid_out = output_change g.O.Output c.loop-file.out c.list_file.new.out in
+    let mid_err = output_change g.F.Output c.loop-file.err c.list_file.new.err in
     let ended = c.in-Err.cut in
     let told = subst (λ (b : Option (List ℕ)). CutsLines mid_out mid_err b
     (file_label several c.as_str.result.now) ended)
@@ -104,5 +104,5 @@ returns-in-Err-clause-opened g c =
     (subst (λ (n : List ℕ). OpensUpTo mid after n 1) c.as_str.ensures.value
     c.in-Err.ensures.opened) (map text (drop (i + 1) files)) (map text files)
     (names_around text files i c.file-item.result c.loop-file-test.true c.file-item.is) c.in-Err.cut
-    (trouble-undone (growth g.F.Output c.loop-file.err c.list_file.new.err)
+    (trouble-undone (output_change g.F.Output c.loop-file.err c.list_file.new.err)
     (unwritten_line standard_output) c.in-Err.cut c.in-Err.ensures.listed.1)

@@ -1,5 +1,5 @@
 use Rattle.std.proofs.Common.{◌∙◌, inr}
-use Rattle.edf_program.specs.Output.{growth}
+use Rattle.edf_program.specs.Output.{output_change}
 use Rattle.edf_program.proofs.Puts.{nothing-gets}
 use Rattle.edfruns_command.specs.Listed.{file_label}
 use Rattle.edfruns_command.proofs.Answered.{refused}
@@ -8,8 +8,8 @@ use Rattle.edfruns_command.proofs.list_command.list_file.Goals as goal
 
 pub returns-in-Err-clause-listed : goal.returns-in-Err-clause-listed
 returns-in-Err-clause-listed g c =
-    inr (refused (growth g.O.Output c.args.out.now c.args.out.now)
-    (growth g.F.Output c.args.err.now c.refuse.new.err)
+    inr (refused (output_change g.O.Output c.args.out.now c.args.out.now)
+    (output_change g.F.Output c.args.err.now c.refuse.new.err)
     (g.I.Inputs.bytes c.args.inputs.now c.args.file.now) c.args.file.now c.in-Err.fault
     c.refuse.result
     (nothing-gets (g.O.Output.contents c.args.out.now) (g.O.Output.failures c.args.out.now))
@@ -17,8 +17,8 @@ returns-in-Err-clause-listed g c =
 
 pub returns-in-Ok-text_of-clause-listed : goal.returns-in-Ok-text_of-clause-listed
 returns-in-Ok-text_of-clause-listed g c =
-    sent (growth g.O.Output c.args.out.now c.send_lines.new.out)
-    (growth g.F.Output c.args.err.now c.send_lines.new.err)
+    sent (output_change g.O.Output c.args.out.now c.send_lines.new.out)
+    (output_change g.F.Output c.args.err.now c.send_lines.new.err)
     (g.I.Inputs.bytes c.args.inputs.now c.args.file.now)
     (file_label c.args.several c.args.file.now) c.args.file.now
     c.as_slice.result.now c.send_lines.result
@@ -33,5 +33,5 @@ pub returns-clause-listed : goal.returns-clause-listed
 returns-clause-listed g c =
     inr (inr (
       nothing-gets (g.O.Output.contents c.args.out.now) (g.O.Output.failures c.args.out.now),
-      c.tell_memory.ensures,
+      c.print_memory.ensures,
     ))

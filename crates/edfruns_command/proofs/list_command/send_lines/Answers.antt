@@ -1,5 +1,5 @@
 use Rattle.std.proofs.Common.{Bool, subst, refl, true}
-use Rattle.edf_program.specs.Output.{growth, IsPut}
+use Rattle.edf_program.specs.Output.{output_change, IsPut}
 use Rattle.edf_program.proofs.Puts.{nothing-gets, put-sent}
 use Rattle.edfruns_command.proofs.list_command.send_lines.Goals as goal
 
@@ -14,10 +14,10 @@ returns-then-send g c = (
 
 pub returns : goal.returns
 returns g c =
-    let out = growth g.O.Output c.args.out.now c.send.new.out in (
+    let out = output_change g.O.Output c.args.out.now c.send.new.out in (
       subst (λ (sent : Bool). IsPut out c.args.text.now sent) c.if-send.false
           (put-sent (g.O.Output.contents c.args.out.now) (g.O.Output.failures c.args.out.now)
           (g.O.Output.contents c.send.new.out) (g.O.Output.failures c.send.new.out)
           c.args.text.now c.send.result c.send.ensures),
-      c.tell_unwritten.ensures,
+      c.print_unwritten.ensures,
     )

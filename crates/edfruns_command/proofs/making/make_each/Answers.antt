@@ -8,7 +8,7 @@ use Rattle.edf_field.specs.Number.{duration_of}
 use Rattle.edf_header.specs.Header.{Layout}
 use Rattle.edf_program.specs.Making.{making}
 use Rattle.edfruns_command.specs.Counting.{counts_text}
-use Rattle.edfruns_command.specs.Lines.{IsSpelling, run_front}
+use Rattle.edfruns_command.specs.Lines.{IsInstantFormat, run_front}
 use Rattle.edfruns_command.specs.InsideMaking.{MakesFile, StopsFile, MakesFirst}
 use Rattle.edfruns_command.proofs.MakingFiles.{first-none, first-more, stops-each, stops-telling}
 use Rattle.edfruns_command.proofs.Walking.{mapped}
@@ -108,7 +108,7 @@ loop-at-preserved g c =
     to middle rest run written) c.as_str-name.ensures.value c.in_ok-written.ensures.answer) in
     let before = c.loop-at.text.items in
     let longer = c.in-Ok.longer.items in
-    let Grows : List ℕ → ℕ → Type 0 = λ n d. (spell : ℕ → List ℕ) → IsSpelling spell →
+    let Grows : List ℕ → ℕ → Type 0 = λ n d. (spell : ℕ → List ℕ) → IsInstantFormat spell →
     longer ≡ before ++ (n ++ (codes " " ++ (run_front spell d (at + 1) run
     (slice_get runs (at + 1)) ++ counts_text written.annotations written.outside))) in
     let grows : Grows name (duration_of l.key.duration) =

@@ -1,5 +1,5 @@
 use Rattle.std.proofs.Common.{ℕ, List, inl, inr, subst, string_bytes}
-use Rattle.edf_program.specs.Output.{growth}
+use Rattle.edf_program.specs.Output.{output_change}
 use Rattle.edf_program.proofs.Puts.{nothing-gets}
 use Rattle.edfruns_command.specs.Lines.{unwritten_line, standard_output}
 use Rattle.edfruns_command.specs.Picturing.{SendsPicture}
@@ -8,8 +8,8 @@ use Rattle.edfruns_command.proofs.picture_command.picture.Goals as goal
 
 pub returns-in-Err-clause-pictured : goal.returns-in-Err-clause-pictured
 returns-in-Err-clause-pictured g c =
-    inr (refused (growth g.O.Output c.args.out.now c.args.out.now)
-    (growth g.F.Output c.args.err.now c.refuse.new.err)
+    inr (refused (output_change g.O.Output c.args.out.now c.args.out.now)
+    (output_change g.F.Output c.args.err.now c.refuse.new.err)
     (g.I.Inputs.bytes c.args.inputs.now c.args.file.now) c.args.file.now c.in-Err.fault
     c.refuse.result
     (nothing-gets (g.O.Output.contents c.args.out.now) (g.O.Output.failures c.args.out.now))
@@ -27,8 +27,8 @@ returns-in-Ok-draw-clause-pictured g c = inl (record {
   picture = string_bytes c.in-Ok-draw.picture;
   is_picture = c.in-Ok-draw.ensures;
   sent = subst (λ (bytes : List ℕ). SendsPicture
-      (growth g.O.Output c.args.out.now c.send_picture.new.out)
-      (growth g.F.Output c.args.err.now c.send_picture.new.err) bytes
+      (output_change g.O.Output c.args.out.now c.send_picture.new.out)
+      (output_change g.F.Output c.args.err.now c.send_picture.new.err) bytes
       (unwritten_line standard_output) c.send_picture.result) c.as_str.ensures.value c.send_picture.ensures;
 })
 
@@ -36,5 +36,5 @@ pub returns-in-Err-draw-clause-pictured : goal.returns-in-Err-draw-clause-pictur
 returns-in-Err-draw-clause-pictured g c =
     inr (inr (
       nothing-gets (g.O.Output.contents c.args.out.now) (g.O.Output.failures c.args.out.now),
-      c.tell_memory.ensures,
+      c.print_memory.ensures,
     ))

@@ -1,14 +1,14 @@
 use Rattle.std.proofs.Common.{◌++◌, ℕ, List, ap, subst, ◌∙◌, codes}
-use Rattle.edf_program.specs.Output.{growth, IsWritten}
+use Rattle.edf_program.specs.Output.{output_change, IsWritten}
 use Rattle.edf_program.specs.declared.status.Status.TheVariants.{Refused}
 use Rattle.edfruns_command.proofs.refusal.tell_undated.Goals as goal
 
 pub returns : goal.returns
 returns g c =
     let IsTold : List ℕ → Type 0 = λ bytes.
-    IsWritten (growth g.F.Output c.args.err.now c.tell_parts.new.out) bytes Refused
-    c.tell_parts.result in
+    IsWritten (output_change g.F.Output c.args.err.now c.print_parts.new.out) bytes Refused
+    c.print_parts.result in
     let rest = codes " starts after 2084, which a file without a date can't tell\n" in
     subst IsTold (ap (λ (t : List ℕ). t ++ (c.as_bytes.result.now ++ rest)) c.as_slice.ensures
     ∙ ap (λ (t : List ℕ). codes "run " ++ (t ++ rest))
-    (c.as_bytes.ensures.value ∙ c.format-digits.ensures.text)) c.tell_parts.ensures
+    (c.as_bytes.ensures.value ∙ c.format-digits.ensures.text)) c.print_parts.ensures

@@ -2,7 +2,7 @@ use Rattle.std.proofs.Common.{◌≡◌, ◌+◌, ◌-◌, ◌<◌, ◌++◌, []
 use Rattle.std.proofs.Common.{arith, length, map, take, drop, get_or, string_bytes}
 use Rattle.std.proofs.lemmas.List.{length-map, length-take, length-take-le, length-drop, get_or-map}
 use Rattle.std.proofs.lemmas.List.{get_or-take}
-use Rattle.edf_program.specs.Output.{growth}
+use Rattle.edf_program.specs.Output.{output_change}
 use Rattle.edf_program.specs.Made.{MadeFile, begun}
 use Rattle.edfruns_command.specs.Lines.{stop_line}
 use Rattle.edfruns_command.proofs.Removals.{RemovedSoFar, nth, next-there, next-place}
@@ -13,7 +13,7 @@ pub loop-place-init : goal.loop-place-init
 loop-place-init g c =
     let old = g.P.NewFiles.made c.args.outputs.now in
     let first = c.args.first in
-    let w = growth g.F.Output c.args.err.now c.is_stop_told-is_told.new.err in
+    let w = output_change g.F.Output c.args.err.now c.is_stop_told-is_told.new.err in
     let line = stop_line c.args.file.now c.args.stop in
     record {
       started = omega arith;
@@ -35,7 +35,7 @@ loop-place-preserved g c =
     let k = place - first in
     let all = c.args.names.now in
     let line = stop_line c.args.file.now c.args.stop in
-    let w = growth g.F.Output c.args.err.now c.loop-place.err in
+    let w = output_change g.F.Output c.args.err.now c.loop-place.err in
     let told = c.loop-place.is_told in
     let so = c.loop-place.invariant.so_far in
     let started = c.loop-place.invariant.started in
@@ -71,7 +71,8 @@ loop-place-preserved g c =
       started = omega (arith, started);
       failed = c.remove_one-is_told.ensures.failed ∙ c.loop-place.invariant.failed;
       so_far = subst (λ n. RemovedSoFar base rest later n
-          (growth g.F.Output c.args.err.now c.remove_one-is_told.new.err) line c.remove_one-is_told.result)
+          (output_change g.F.Output c.args.err.now c.remove_one-is_told.new.err) line
+          c.remove_one-is_told.result)
           (omega (arith, started))
           (removes-more (g.F.Output.contents c.args.err.now) (g.F.Output.failures c.args.err.now)
           (g.F.Output.contents c.loop-place.err) (g.F.Output.failures c.loop-place.err)
@@ -84,7 +85,7 @@ returns-clause-removed g c =
     let old = g.P.NewFiles.made c.args.outputs.now in
     let first = c.args.first in
     removes-all first (c.loop-place.place - first) old (g.P.NewFiles.made c.loop-place.outputs)
-    (growth g.F.Output c.args.err.now c.loop-place.err)
+    (output_change g.F.Output c.args.err.now c.loop-place.err)
     (stop_line c.args.file.now c.args.stop) c.loop-place.is_told
     (omega (arith, c.loop-place-test.false, c.count-place-end.ensures, length-drop first old))
     c.loop-place.invariant.so_far

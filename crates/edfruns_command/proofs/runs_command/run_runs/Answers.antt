@@ -1,5 +1,5 @@
 use Rattle.std.proofs.Common.{List, ℕ, sym, subst, map, string_bytes}
-use Rattle.edf_program.specs.Output.{growth}
+use Rattle.edf_program.specs.Output.{output_change}
 use Rattle.edf_program.specs.Making.{making}
 use Rattle.edfruns_command.specs.Listed.{IsListOut, OpensEach}
 use Rattle.edfruns_command.specs.Run.{IsDone, HasOpened, meaning}
@@ -11,8 +11,8 @@ use Rattle.edfruns_command.proofs.runs_command.run_runs.Goals as goal
 
 pub returns-in-List-clause-done : goal.returns-in-List-clause-done
 returns-in-List-clause-done g c =
-    let out = growth g.O.Output c.args.out.now c.list.new.out in
-    let err = growth g.F.Output c.args.err.now c.list.new.err in
+    let out = output_change g.O.Output c.args.out.now c.list.new.out in
+    let err = output_change g.F.Output c.args.err.now c.list.new.err in
     let bytes = g.I.Inputs.bytes c.args.inputs.now in
     let made = making g.P.NewFiles c.args.outputs.now c.args.outputs.now in
     let Does : RunsCommand → Type 0 = λ command.
@@ -33,8 +33,8 @@ returns-in-List-clause-opened g c =
 
 pub returns-in-Canonical-clause-done : goal.returns-in-Canonical-clause-done
 returns-in-Canonical-clause-done g c =
-    let out = growth g.O.Output c.args.out.now c.canonical.new.out in
-    let err = growth g.F.Output c.args.err.now c.canonical.new.err in
+    let out = output_change g.O.Output c.args.out.now c.canonical.new.out in
+    let err = output_change g.F.Output c.args.err.now c.canonical.new.err in
     let bytes = g.I.Inputs.bytes c.args.inputs.now in
     let made = making g.P.NewFiles c.args.outputs.now c.args.outputs.now in
     let Does : RunsCommand → Type 0 = λ command.
@@ -46,8 +46,8 @@ returns-in-Canonical-clause-done g c =
 
 pub returns-in-Split-clause-done : goal.returns-in-Split-clause-done
 returns-in-Split-clause-done g c =
-    let out = growth g.O.Output c.args.out.now c.split.new.out in
-    let err = growth g.F.Output c.args.err.now c.split.new.err in
+    let out = output_change g.O.Output c.args.out.now c.split.new.out in
+    let err = output_change g.F.Output c.args.err.now c.split.new.err in
     let bytes = g.I.Inputs.bytes c.args.inputs.now in
     let made = making g.P.NewFiles c.args.outputs.now c.split.new.outputs in
     let Does : RunsCommand → Type 0 = λ command.
@@ -63,8 +63,8 @@ returns-in-Split-clause-done g c =
 
 pub returns-in-Picture-clause-done : goal.returns-in-Picture-clause-done
 returns-in-Picture-clause-done g c =
-    let out = growth g.O.Output c.args.out.now c.picture.new.out in
-    let err = growth g.F.Output c.args.err.now c.picture.new.err in
+    let out = output_change g.O.Output c.args.out.now c.picture.new.out in
+    let err = output_change g.F.Output c.args.err.now c.picture.new.err in
     let bytes = g.I.Inputs.bytes c.args.inputs.now in
     let made = making g.P.NewFiles c.args.outputs.now c.args.outputs.now in
     let Does : RunsCommand → Type 0 = λ command.

@@ -3,7 +3,7 @@ use Rattle.std.proofs.Common.{length, map, take, string_bytes, decimal, All}
 use Rattle.std.specs.Prelude.{Option}
 use Rattle.std.proofs.lemmas.List.{length-map, length-take-le, take-map}
 use Rattle.std.proofs.lemmas.List.FromFn.{length-map-range_with_len}
-use Rattle.edf_program.specs.Output.{growth}
+use Rattle.edf_program.specs.Output.{output_change}
 use Rattle.edf_program.proofs.Puts.{nothing-gets}
 use Rattle.edf_runs.specs.declared.run.Run.{Run}
 use Rattle.edf_program.specs.Making.{Making, making}
@@ -22,8 +22,8 @@ pub returns-in-Err-clause-split : goal.returns-in-Err-clause-split
 returns-in-Err-clause-split g c =
     inr (
       (refl, refl),
-      inr (inr (refused (growth g.O.Output c.args.out.now c.args.out.now)
-          (growth g.F.Output c.args.err.now c.refuse.new.err)
+      inr (inr (refused (output_change g.O.Output c.args.out.now c.args.out.now)
+          (output_change g.F.Output c.args.err.now c.refuse.new.err)
           (g.I.Inputs.bytes c.args.inputs.now c.args.file.now) c.args.file.now c.in-Err.fault
           c.refuse.result
           (nothing-gets (g.O.Output.contents c.args.out.now) (g.O.Output.failures c.args.out.now))
@@ -40,13 +40,13 @@ returns-in_default-clause-split g c =
       (refl, refl),
       inr (inr (inr (
         nothing-gets (g.O.Output.contents c.args.out.now) (g.O.Output.failures c.args.out.now),
-        c.tell_memory.ensures,
+        c.print_memory.ensures,
       ))),
     )
 
 pub returns-in_default-clause-opened : goal.returns-in_default-clause-opened
 returns-in_default-clause-opened g c = opened-first _ _ _ _ c.in-Ok.ensures.opened
-    (trouble-undone _ _ _ c.tell_memory.ensures)
+    (trouble-undone _ _ _ c.print_memory.ensures)
 
 pub returns-in-Some-clause-split : goal.returns-in-Some-clause-split
 returns-in-Some-clause-split g c =
@@ -84,14 +84,14 @@ returns-in-Some-taken_name-clause-split g c =
             c.in-Some-taken_name.ensures.answer;
         said = (
           nothing-gets (g.O.Output.contents c.args.out.now) (g.O.Output.failures c.args.out.now),
-          c.tell_there.ensures,
+          c.print_name_taken.ensures,
         );
       }),
     )
 
 pub returns-in-Some-taken_name-clause-opened : goal.returns-in-Some-taken_name-clause-opened
 returns-in-Some-taken_name-clause-opened g c = opened-first _ _ _ _ c.in-Ok.ensures.opened
-    (refused-undone _ _ _ c.tell_there.ensures)
+    (refused-undone _ _ _ c.print_name_taken.ensures)
 
 pub front_of-requires : goal.front_of-requires
 front_of-requires g c =
@@ -129,8 +129,8 @@ returns-clause-split g c =
     let listing = c.in-Ok.listing in
     let runs = listing.runs.items in
     let n = length runs in
-    let out = growth g.O.Output c.args.out.now c.split_listed.new.out in
-    let err = growth g.F.Output c.args.err.now c.split_listed.new.err in
+    let out = output_change g.O.Output c.args.out.now c.split_listed.new.out in
+    let err = output_change g.F.Output c.args.err.now c.split_listed.new.err in
     let name = c.args.file.now in
     let bytes = g.I.Inputs.bytes c.args.inputs.now name in
     let m = making g.P.NewFiles c.args.outputs.now c.split_listed.new.outputs in

@@ -1,6 +1,6 @@
 use Rattle.std.proofs.Common.{◌∙◌, inl, inr, refl, subst, map, string_bytes, true, false}
 use Rattle.std.proofs.lemmas.List.{length-map}
-use Rattle.edf_program.specs.Output.{Gets, GetsFront, growth}
+use Rattle.edf_program.specs.Output.{Gets, GetsPrefix, output_change}
 use Rattle.edf_program.proofs.Puts.{nothing-gets, put-sent, remarked}
 use Rattle.edf_program.specs.Making.{making}
 use Rattle.edfruns_command.proofs.GivingUp.{named, stopped, untold}
@@ -20,8 +20,8 @@ returns-in-Err-clause-split g c has =
     inr (stopped m (g.I.Inputs.bytes c.args.inputs.now c.args.file.now) c.args.listing.now
     (map string_bytes c.args.names.now) c.count-first.result c.count-first.ensures
     (g.P.NewFiles.made c.give_up.new.outputs) (g.P.NewFiles.failed c.give_up.new.outputs)
-    c.give_up.ensures.failed (growth g.O.Output c.args.out.now c.args.out.now)
-    (growth g.F.Output c.args.err.now c.give_up.new.err) c.args.file.now c.give_up.result
+    c.give_up.ensures.failed (output_change g.O.Output c.args.out.now c.args.out.now)
+    (output_change g.F.Output c.args.err.now c.give_up.new.err) c.args.file.now c.give_up.result
     c.in-Err.stop c.in-Err.ensures.answer
     (nothing-gets (g.O.Output.contents c.args.out.now) (g.O.Output.failures c.args.out.now))
     c.give_up.ensures.removed)
@@ -33,7 +33,8 @@ returns-then-send-clause-split g c has =
       makes = all.0;
       are_runs = are-runs (g.I.Inputs.bytes c.args.inputs.now c.args.file.now) c.args.listing.now
           has all.0.again;
-      said = λ spell is. subst (Gets (growth g.O.Output c.args.out.now c.remark_outside.new.err))
+      said = λ spell is. subst (Gets
+          (output_change g.O.Output c.args.out.now c.remark_outside.new.err))
           (c.as_slice.ensures.value ∙ all.1 spell is)
           (remarked (g.O.Output) c.args.out.now c.send.new.out c.remark_outside.new.err
           (λ w. Gets w c.as_slice.result.now) c.remark_outside.ensures.contents
@@ -54,10 +55,11 @@ returns-clause-split g c has =
     inr (untold m bytes c.args.listing.now (map string_bytes c.args.names.now)
     c.count-first.result c.count-first.ensures (g.P.NewFiles.made c.give_up-2.new.outputs)
     (g.P.NewFiles.failed c.give_up-2.new.outputs) c.give_up-2.ensures.failed
-    (growth g.O.Output c.args.out.now c.send.new.out)
-    (growth g.F.Output c.args.err.now c.give_up-2.new.err) c.args.file.now c.give_up-2.result all.0
+    (output_change g.O.Output c.args.out.now c.send.new.out)
+    (output_change g.F.Output c.args.err.now c.give_up-2.new.err) c.args.file.now c.give_up-2.result
+    all.0
     (are-runs bytes c.args.listing.now has all.0.again)
-    (λ spell is. subst (GetsFront (growth g.O.Output c.args.out.now c.send.new.out))
+    (λ spell is. subst (GetsPrefix (output_change g.O.Output c.args.out.now c.send.new.out))
     (c.as_slice.ensures.value ∙ all.1 spell is)
     (put-sent (g.O.Output.contents c.args.out.now) (g.O.Output.failures c.args.out.now)
     (g.O.Output.contents c.send.new.out) (g.O.Output.failures c.send.new.out)

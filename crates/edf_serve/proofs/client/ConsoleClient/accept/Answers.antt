@@ -1,7 +1,7 @@
 use Rattle.std.proofs.Common.{◌≡◌, ◌∙◌, ℕ, List, [], ◌∷◌, ◌++◌, codes, ap, sym, subst}
 use Rattle.std.proofs.Common.{append_assoc}
 use Rattle.std.specs.Prelude.{decimal}
-use Rattle.edf_program.specs.Output.{growth, IsPut}
+use Rattle.edf_program.specs.Output.{output_change, IsPut}
 use Rattle.edf_serve.proofs.client.ConsoleClient.accept.Goals as goal
 
 module _ (name a new b known d code : List ℕ) where
@@ -21,7 +21,7 @@ module _ (name a new b known d code : List ℕ) where
 pub returns : goal.returns
 returns g c =
     let Put : List ℕ → Type 0 = λ bytes.
-    IsPut (growth g.W.Output c.args.self.now.out c.send.new.out) bytes c.send.result in (
+    IsPut (output_change g.W.Output c.args.self.now.out c.send.new.out) bytes c.send.result in (
       c.send.ensures.sent,
       subst Put (told c.args.name.now (codes " accepted new=") (decimal c.args.receipt.now.new)
           (codes " known=") (decimal c.args.receipt.now.known) (codes "status ") (decimal 0)

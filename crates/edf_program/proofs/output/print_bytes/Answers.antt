@@ -1,5 +1,5 @@
 use Rattle.edf_program.proofs.Puts.{grown, put-sent, done-put, trouble-put}
-use Rattle.edf_program.proofs.output.tell_bytes.Goals as goal
+use Rattle.edf_program.proofs.output.print_bytes.Goals as goal
 
 pub returns-then-send : goal.returns-then-send
 returns-then-send g c =

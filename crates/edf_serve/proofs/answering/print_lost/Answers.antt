@@ -7,12 +7,12 @@ use Rattle.edf_serve.specs.Lines.{whole_lines}
 use Rattle.edf_serve.specs.Work.{Point, grown, point}
 use Rattle.edf_serve.proofs.After.{sent, as-trouble}
 use Rattle.edf_serve.proofs.Whole.{both-whole}
-use Rattle.edf_serve.proofs.answering.tell_lost.Goals as goal
+use Rattle.edf_serve.proofs.answering.print_lost.Goals as goal
 
 pub returns : goal.returns
 returns g c x looks asked =
     let room = record c.args.room.now {
-      out = c.tell_refused.new.err;
+      out = c.print_refused.new.err;
       client = c.answer-is_out.new.self;
     } in
     let b : Point g.row.S.Denot = point g.I.Sources g.C.Client g.K.StoreFiles
@@ -23,8 +23,9 @@ returns g c x looks asked =
     (g.C.Client.heard c.answer-is_out.new.self) text c.answer-is_out.result in
     record {
       said = as-trouble (grown c.args.room.now.out room.out) c.args.name.now c.number.result
-          (number (Store None)) c.name.result.now (store_fault_name (Store None)) c.tell_refused.result
-          c.number.ensures c.name.ensures c.tell_refused.ensures;
+          (number (Store None)) c.name.result.now
+          (store_fault_name (Store None)) c.print_refused.result
+          c.number.ensures c.name.ensures c.print_refused.ensures;
       tells = record {
         whole = both-whole out why;
         is_out = c.answer-is_out.result;

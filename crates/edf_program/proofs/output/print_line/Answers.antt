@@ -1,0 +1,11 @@
+use Rattle.std.specs.List.{flat_map}
+use Rattle.edf_program.specs.Output.{IsWritten}
+use Rattle.edf_program.proofs.Puts.{remarked}
+use Rattle.edf_program.proofs.output.print_line.Goals as goal
+
+pub returns : goal.returns
+returns g c =
+    remarked (g.W.Output) c.args.out.now c.print_parts-told.new.out c.remark.new.self
+    (λ w. IsWritten w (flat_map (λ part. part.now) c.args.parts.now) c.args.status
+    c.print_parts-told.result)
+    c.remark.ensures.contents c.remark.ensures.failures c.print_parts-told.ensures
