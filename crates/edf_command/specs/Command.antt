@@ -29,7 +29,7 @@ module _ (out err : OutputChange) where
   -- them
   pub record IsNoCommand (words : List (String Global)) (status : Status) : Type 0 where
     pub fault : CommandFault
-    pub told : IsCommandFaultPrinted out err fault status
+    pub printed : IsCommandFaultPrinted out err fault status
     pub nothing : fault ≢ Memory → AreValues words → AskForNothing words
 
   -- the command that the words ask for, where no word begins with `-`, and nothing is written; or

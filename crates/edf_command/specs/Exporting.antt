@@ -60,14 +60,14 @@ module _ (out err : OutputChange) where
   -- the store refused to list its recordings
   pub record HasNoList (status : Status) : Type 0 where
     pub fault : StoreFault
-    pub told : IsStoreRefusal fault
+    pub is_store_refusal : IsStoreRefusal fault
     pub said : Explains out err (export_refused_line (Store fault)) (export_status (Store fault))
         status
 
 module _ {S : Type 0} (g : Ghosts S) (old new : StoreModel S) (out err : OutputChange) where
   pub record IsPlaceExported (place : ℕ) (status : Status) : Type 0 where
     pub stays : KeepsHoldings g old new
-    pub told : ReportsExport out err status
+    pub printed : ReportsExport out err status
         ⊎ Explains out err (no_recording_line place) Refused status
     pub exported : HasCleanDisk (at g new) → (h : Holdings) → Holds g old h →
         ExportsPlace out err h place status

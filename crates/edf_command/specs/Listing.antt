@@ -32,7 +32,7 @@ module _ (out err : OutputChange) where
   pub record StopsListing (h : Holdings) (status : Status) : Type 0 where
     pub given : List Key
     pub fault : StoreFault
-    pub told : IsStoreRefusal fault
+    pub is_store_refusal : IsStoreRefusal fault
     pub first : (keys : List Key) → AreKeysOf h keys → (rest : List Key) × (keys ≡ given ++ rest)
     pub written : (spell : ℕ → List ℕ) → IsInstantFormat spell →
         Gets out (list_lines spell h 1 given)
@@ -51,6 +51,6 @@ module _ (out err : OutputChange) where
 module _ {S : Type 0} (g : Ghosts S) (old new : StoreModel S) (out err : OutputChange) where
   pub record AreRecordingsListed (status : Status) : Type 0 where
     pub stays : KeepsHoldings g old new
-    pub told : ReportsListing out err status
+    pub printed : ReportsListing out err status
     pub listed : HasCleanDisk (at g new) → (h : Holdings) → Holds g old h →
         ListsAll out err h status ⊎ StopsListing out err h status

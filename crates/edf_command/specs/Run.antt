@@ -52,7 +52,7 @@ module _ {S : Type 0} (g : Ghosts S) (old new : StoreModel S) (out err : OutputC
     pub opened : from.remaining ≡ bytes
     pub submitted : IsSubmitted g old mid from to (Ok receipt)
     pub stays : KeepsHoldings g mid new
-    pub told : ReportsExport out err status
+    pub printed : ReportsExport out err status
     pub exported : HasCleanDisk (at g new) → (h : Holdings) → Holds g mid h →
         IsRecordingExported out err h receipt.identity status
 

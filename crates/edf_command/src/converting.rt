@@ -38,9 +38,9 @@ pub(crate) fn convert<S: Alter, I: Inputs, O: Output, F: Output>(
         Ok(receipt) => export_recording(alloc, store, &receipt.identity, out, err),
         Err(refusal) => {
             let status = status_of_number(refusal.number());
-            let told = print_text(err, refused_file_line(alloc, file, &refusal), status);
+            let printed = print_text(err, refused_file_line(alloc, file, &refusal), status);
             err.remark(file, remark_of(&refusal));
-            told
+            printed
         }
     }
 }

@@ -51,7 +51,7 @@ pub(crate) fn export_recording<S: Alter, O: Output, F: Output>(
     err: &mut F,
 ) -> Status
     ensures stays { KeepsHoldings S.Store store.old store.new }
-    ensures told { ReportsExport
+    ensures printed { ReportsExport
         (output_change O.Output out.old out.new) (output_change F.Output err.old err.new) result }
     ensures exported { HasCleanDisk (at S.Store store.new) → (h : Holdings) →
         Holds S.Store store.old h → IsRecordingExported (output_change O.Output out.old out.new)

@@ -82,22 +82,23 @@ module _ (w : OutputChange) where
     line-put (Err e) true text p is = absurd (false≢true (sym p.1))
     line-put (Err e) false text p is = inr p.0
 
-    pub line-told : (line : Result T E) (wanted status : Status) (text : List ℕ) →
+    pub line-printed : (line : Result T E) (wanted status : Status) (text : List ℕ) →
         IsToldBy line wanted status → IfOk line (λ l. items l ≡ text) → IsLinePrinted w text wanted
         status
-    line-told (Ok l) wanted status text p is =
+    line-printed (Ok l) wanted status text p is =
         inl (subst (λ (t : List ℕ). IsWritten w t wanted status) is p)
-    line-told (Err e) wanted status text p is = inr p
+    line-printed (Err e) wanted status text p is = inr p
 
-    pub told-whole : (line : Result T E) (written : Bool) (wanted : Status) → IsPutBy line written →
+    pub printed-whole : (line : Result T E) (written : Bool) (wanted : Status) →
+        IsPutBy line written →
         written ≡ true → IsToldBy line wanted wanted
-    told-whole (Ok l) written wanted p e = done-put (items l) written wanted p e
-    told-whole (Err x) written wanted p e = absurd (false≢true (sym p.1 ∙ e))
+    printed-whole (Ok l) written wanted p e = done-put (items l) written wanted p e
+    printed-whole (Err x) written wanted p e = absurd (false≢true (sym p.1 ∙ e))
 
-    pub told-trouble : (line : Result T E) (written : Bool) (wanted : Status) →
+    pub printed-trouble : (line : Result T E) (written : Bool) (wanted : Status) →
         IsPutBy line written → written ≡ false → IsToldBy line wanted Trouble
-    told-trouble (Ok l) written wanted p e = trouble-put (items l) written wanted p e
-    told-trouble (Err x) written wanted p e = (p.0, refl)
+    printed-trouble (Ok l) written wanted p e = trouble-put (items l) written wanted p e
+    printed-trouble (Err x) written wanted p e = (p.0, refl)
 
 -- ---- a remark
 

@@ -43,7 +43,7 @@ pub fn print_text<W: Output>(
 ) -> Status
     ensures line { let w = output_change W.Output out.old out.new in MatchResult line
         (λ l. IsWritten w l.items status result) (λ _. Gets w [] × (result ≡ Status.Trouble)) }
-    ensures told { (text : List ℕ) → IfOk line (λ l. l.items ≡ text) →
+    ensures printed { (text : List ℕ) → IfOk line (λ l. l.items ≡ text) →
         IsLinePrinted (output_change W.Output out.old out.new) text status result }
 {
     if put_line(out, line) {
@@ -93,7 +93,7 @@ pub fn print_line<W: Output>(
         (flat_map (λ part. part.now) parts.now)
         status result }
 {
-    let told = print_parts(out, parts, status);
+    let printed = print_parts(out, parts, status);
     out.remark(name, remark);
-    told
+    printed
 }

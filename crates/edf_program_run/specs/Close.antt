@@ -99,7 +99,7 @@ module _ {D : Type 0} {g : Ghosts D} (r : ProgramRun g) (s : EndedRun D) where
     pub does : r.Does old new turns (record r.err { after = mid; failed_after = failures }) status
     pub takes : TakesTurns over_files old new turns
     pub let_go : IsLetGo new.connection s.failure s.files
-    pub told : IsCloseTold (record r.err { before = mid; failed_before = failures }) s.failure
+    pub printed : IsCloseTold (record r.err { before = mid; failed_before = failures }) s.failure
         status s.status
     pub clean : GaveBack → HasCleanDisk (at over_files new)
     pub read : GaveBack → AreReadAs r.start db

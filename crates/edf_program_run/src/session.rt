@@ -55,7 +55,7 @@ fn give_up<D: Disk + Drop, F: Output>(
 ) -> EndedRun<D>
     ensures failure { result.failure ≡ Some (store_error error) }
     ensures files { (result.files.log, result.files.db) ≡ store_files store }
-    ensures told { (before : Status) → IsCloseTold (output_change F.Output err.old err.new)
+    ensures printed { (before : Status) → IsCloseTold (output_change F.Output err.old err.new)
         result.failure before result.status }
 {
     let error = error_of(error);
@@ -82,7 +82,7 @@ pub fn close<D: Disk + Drop, F: Output>(
         outcomes D.Disk result.files.log result.files.db image →
         ∥ ((db : Trees) × (file_state conn).may_leave db × HoldsDatabase image db) ∥₁) }
     ensures let_go { IsLetGo conn result.failure result.files }
-    ensures told { IsCloseTold (output_change F.Output err.old err.new) result.failure status
+    ensures printed { IsCloseTold (output_change F.Output err.old err.new) result.failure status
         result.status }
 {
     let mut store = conn.into_store();

@@ -28,7 +28,7 @@ returns-in-Ok-submit-clause-converted g c = inl (record {
   opened = c.in-Ok.ensures.reader;
   submitted = c.in-Ok-submit.ensures.submitted;
   stays = c.export_recording.ensures.stays;
-  told = c.export_recording.ensures.told;
+  printed = c.export_recording.ensures.printed;
   exported = c.export_recording.ensures.exported;
 })
 
@@ -41,17 +41,17 @@ returns-clause-converted g c = inr (inl (record {
   submitted = c.in-Err.ensures.submitted;
   said = λ spell is.
       let text = refused_file_line spell c.args.file.now c.in-Err.refusal in
-      let told = c.print_text-told.ensures.told text
+      let printed = c.print_text-printed.ensures.printed text
       (IfOk-weaker c.refused_file_line.result _ _ (λ r line. line spell is)
       c.refused_file_line.ensures) in
       let IsSo : Status → Type 0 = λ wanted.
       IsLinePrinted (output_change g.F.Output c.args.err.now c.remark.new.self) text wanted
-      c.print_text-told.result
+      c.print_text-printed.result
       in (
         nothing-gets (g.O.Output.contents c.args.out.now) (g.O.Output.failures c.args.out.now),
         subst IsSo (c.status_of_number-status.ensures ∙ ap status_of_number c.number.ensures)
-            (remarked (g.F.Output) c.args.err.now c.print_text-told.new.out c.remark.new.self
-            (λ w. IsLinePrinted w text c.status_of_number-status.result c.print_text-told.result)
-            c.remark.ensures.contents c.remark.ensures.failures told),
+            (remarked (g.F.Output) c.args.err.now c.print_text-printed.new.out c.remark.new.self
+            (λ w. IsLinePrinted w text c.status_of_number-status.result c.print_text-printed.result)
+            c.remark.ensures.contents c.remark.ensures.failures printed),
       );
 }))

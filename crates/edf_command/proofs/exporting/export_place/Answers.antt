@@ -16,7 +16,7 @@ use Rattle.edf_command.proofs.exporting.export_place.Goals as goal
 pub returns-in-Err : goal.returns-in-Err
 returns-in-Err g c = record {
   stays = c.identities.ensures.leaves.stays;
-  told = inl (inr (
+  printed = inl (inr (
     Store c.in-Err.fault,
     (λ is. not-failed _ _ c.in-Err.fault c.in-Err.ensures.refuses.why (let same : c.in-Err.fault
         ≡ Failed = cc in same)),
@@ -26,7 +26,7 @@ returns-in-Err g c = record {
   exported = λ clean h holds.
       inr (inr (record {
         fault = c.in-Err.fault;
-        told =
+        is_store_refusal =
             is-refusal _ _ c.in-Err.fault (λ unclean. unclean clean) c.in-Err.ensures.refuses.why;
         said = (
           nothing-gets (g.O.Output.contents c.args.out.now) (g.O.Output.failures c.args.out.now),
@@ -44,7 +44,7 @@ returns-in-Some g c =
     record {
       stays = stays_then g.S.Store old mid new c.identities.ensures.leaves.stays
           c.export_recording.ensures.stays;
-      told = inl c.export_recording.ensures.told;
+      printed = inl c.export_recording.ensures.printed;
       exported = λ clean h holds. inl (record {
         keys = c.in-Ok.recordings.items;
         key = c.in-Some.identity.now;
@@ -69,7 +69,7 @@ returns g c =
     ) in
     record {
       stays = c.identities.ensures.leaves.stays;
-      told = inr said;
+      printed = inr said;
       exported = λ clean h holds. inr (inl (record {
         keys = c.in-Ok.recordings.items;
         are_keys = c.in-Ok.ensures.keys clean h holds;

@@ -12,15 +12,15 @@ returns-in-Ok-clause-exported g c clean h holds =
       refl,
     )
 
-pub returns-in-Ok-clause-told : goal.returns-in-Ok-clause-told
-returns-in-Ok-clause-told g c = inl (
+pub returns-in-Ok-clause-printed : goal.returns-in-Ok-clause-printed
+returns-in-Ok-clause-printed g c = inl (
   c.in-Ok.ensures.truly.counted,
   nothing-gets (g.F.Output.contents c.args.err.now) (g.F.Output.failures c.args.err.now),
   refl,
 )
 
-pub returns-in-Err-clause-told : goal.returns-in-Err-clause-told
-returns-in-Err-clause-told g c = inr (
+pub returns-in-Err-clause-printed : goal.returns-in-Err-clause-printed
+returns-in-Err-clause-printed g c = inr (
   c.in-Err.fault,
   (λ is. c.in-Err.ensures.truly.unfailed (ap (λ (f : ExportFault). Err f) is)),
   c.in-Err.ensures.truly.counted,

@@ -15,7 +15,7 @@ use Rattle.edf_command.proofs.listing.list.Goals as goal
 pub returns-in-Err : goal.returns-in-Err
 returns-in-Err g c = record {
   stays = c.identities.ensures.leaves.stays;
-  told = inr (inr (
+  printed = inr (inr (
     c.in-Err.fault,
     not-failed _ _ c.in-Err.fault c.in-Err.ensures.refuses.why,
     refl,
@@ -24,7 +24,8 @@ returns-in-Err g c = record {
   listed = λ clean h holds. inr (record {
     given = [];
     fault = c.in-Err.fault;
-    told = is-refusal _ _ c.in-Err.fault (λ unclean. unclean clean) c.in-Err.ensures.refuses.why;
+    is_store_refusal =
+        is-refusal _ _ c.in-Err.fault (λ unclean. unclean clean) c.in-Err.ensures.refuses.why;
     first = λ keys are. (keys, refl);
     written = λ spell is. nothing-gets (g.O.Output.contents c.args.out.now)
         (g.O.Output.failures c.args.out.now);
@@ -41,7 +42,7 @@ returns-in-Ok-true g c =
     record {
       stays = stays_then g.S.Store old mid new c.identities.ensures.leaves.stays
           c.in-Ok-true.ensures.stays;
-      told = inl (
+      printed = inl (
         c.in-Ok-true.ensures.counted c.in-Ok-true.field-0-test,
         nothing-gets (g.F.Output.contents c.args.err.now) (g.F.Output.failures c.args.err.now),
         refl,
@@ -78,7 +79,7 @@ returns-in-Ok-false g c =
     record {
       stays = stays_then g.S.Store old mid new c.identities.ensures.leaves.stays
           c.in-Ok-false.ensures.stays;
-      told = inr (inl (
+      printed = inr (inl (
         nothing-gets (g.F.Output.contents c.args.err.now)
             (g.F.Output.failures c.args.err.now),
         refl,
@@ -115,7 +116,7 @@ returns g c =
     record {
       stays = stays_then g.S.Store old mid new c.identities.ensures.leaves.stays
           c.in-Err-put_recordings.ensures.stays;
-      told = inr (inr (
+      printed = inr (inr (
         c.in-Err-put_recordings.stop,
         c.in-Err-put_recordings.ensures.unfailed,
         c.in-Err-put_recordings.ensures.counted,
@@ -131,7 +132,7 @@ returns g c =
           inr (record {
             given = take stop.0 keys;
             fault = c.in-Err-put_recordings.stop;
-            told = then.0;
+            is_store_refusal = then.0;
             first = λ others they. (
               drop stop.0 keys,
               keys_are_one h others keys they are

@@ -12,6 +12,6 @@ returns-in-Ok g c = (
 pub returns-in-Err : goal.returns-in-Err
 returns-in-Err g c = record {
   fault = c.in-Err.fault;
-  told = c.print_fault.ensures;
+  printed = c.print_fault.ensures;
   nothing = λ other values. c.in-Err.ensures.fault values other;
 }

@@ -1,27 +1,27 @@
 use Rattle.std.proofs.Common.{ℕ, Vec, Global}
 use Rattle.edf_program.specs.Output.{output_change}
 use Rattle.edf_program.specs.declared.status.Status.TheVariants.{Trouble}
-use Rattle.edf_program.proofs.Puts.{line-told, told-whole, told-trouble}
+use Rattle.edf_program.proofs.Puts.{line-printed, printed-whole, printed-trouble}
 use Rattle.edf_program.proofs.output.print_text.Goals as goal
 
 pub returns-then-put_line : goal.returns-then-put_line
 returns-then-put_line g c =
     let w = output_change g.W.Output c.args.out.now c.put_line.new.out in
-    let own = told-whole w (λ (v : Vec ℕ Global). v.items) c.args.line c.put_line.result
+    let own = printed-whole w (λ (v : Vec ℕ Global). v.items) c.args.line c.put_line.result
     c.args.status c.put_line.ensures.line c.if-put_line.true in
     record {
       line = own;
-      told = λ text is. line-told w (λ (v : Vec ℕ Global). v.items) c.args.line c.args.status
+      printed = λ text is. line-printed w (λ (v : Vec ℕ Global). v.items) c.args.line c.args.status
           c.args.status text own is;
     }
 
 pub returns-else-put_line : goal.returns-else-put_line
 returns-else-put_line g c =
     let w = output_change g.W.Output c.args.out.now c.put_line.new.out in
-    let own = told-trouble w (λ (v : Vec ℕ Global). v.items) c.args.line c.put_line.result
+    let own = printed-trouble w (λ (v : Vec ℕ Global). v.items) c.args.line c.put_line.result
     c.args.status c.put_line.ensures.line c.if-put_line.false in
     record {
       line = own;
-      told = λ text is. line-told w (λ (v : Vec ℕ Global). v.items) c.args.line c.args.status
+      printed = λ text is. line-printed w (λ (v : Vec ℕ Global). v.items) c.args.line c.args.status
           Trouble text own is;
     }

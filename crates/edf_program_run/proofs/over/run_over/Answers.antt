@@ -41,14 +41,14 @@ returns-in-Ok-clause-ran g c start opening =
     inl (ran_back g.met.D.Disk.seen_may_stay r c.close.result c.args.conn
     (λ clean. (opening.1 clean).0) (λ clean. (opening.1 clean).1)
     c.run-status.result mid.after mid.failed_after works c.into_connection-back.result
-    c.into_connection-back.ensures c.close.ensures.told c.obey.ensures c.close.ensures.let_go
+    c.into_connection-back.ensures c.close.ensures.printed c.obey.ensures c.close.ensures.let_go
     (λ closed. c.close.ensures.copied closed.1 closed.0)
     (λ lets. c.close.ensures.shut lets.1 lets.0))
 
 pub returns-in-Ok-clause-closed : goal.returns-in-Ok-clause-closed
 returns-in-Ok-clause-closed g c never =
     none_failed _ c.close.result.failure c.run-status.result c.close.result.status
-    c.close.ensures.told never
+    c.close.ensures.printed never
 
 pub returns-in-Err-clause-ran : goal.returns-in-Err-clause-ran
 returns-in-Err-clause-ran g c start opening =

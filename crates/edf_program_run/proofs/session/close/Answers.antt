@@ -105,8 +105,8 @@ returns-in-Ok-clause-let_go g c =
       cause = tt;
     }
 
-pub returns-in-Ok-clause-told : goal.returns-in-Ok-clause-told
-returns-in-Ok-clause-told g c = (
+pub returns-in-Ok-clause-printed : goal.returns-in-Ok-clause-printed
+returns-in-Ok-clause-printed g c = (
   nothing-gets (g.F.Output.contents c.args.err.now) (g.F.Output.failures c.args.err.now),
   refl,
 )
@@ -130,7 +130,7 @@ returns-in-Err-clause-let_go g c =
     (λ none. let clean : IsClean (view before) = omega (arith, q.clean, none) in
     excused c.args.conn before c.checkpoint.new.self first.counts q.counts (first.closes clean)
     (λ h. (c.rollback.ensures.undone.undone h).1) c.in-Err.error (c.in-Err.ensures.cause none))
-    c.in-Err.ensures.told
+    c.in-Err.ensures.printed
 
 pub returns-in-Err-clause-shut : goal.returns-in-Err-clause-shut
 returns-in-Err-clause-shut g c is honest =
@@ -142,6 +142,6 @@ returns-in-Err-clause-shut g c is honest =
     let clean : IsClean (view before) = omega (arith, q.clean, none) in
     let both : ◌≡◌ {A = Option Error} (Some (store_error c.in-Err.error))
     (Some (SqliteFailure code.Closed)) = sym c.give_up-in-Err.ensures.failure ∙ is in
-    let told : store_error c.in-Err.error ≡ SqliteFailure code.Closed = cc in
+    let printed : store_error c.in-Err.error ≡ SqliteFailure code.Closed = cc in
     absurd (both_ways _ (sym (c.is_broken.ensures.shown clean) ∙ c.if-is_broken.false)
-    (broken_cause (view before) _ _ c.in-Err.error told (c.in-Err.ensures.cause none)))
+    (broken_cause (view before) _ _ c.in-Err.error printed (c.in-Err.ensures.cause none)))
