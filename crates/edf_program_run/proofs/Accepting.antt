@@ -19,7 +19,7 @@ use Rattle.edf_intake.specs.Batch.{Turn, IsTurn, some_values, submissions_in, re
 use Rattle.edf_intake.specs.Batch.{AgreesWith}
 use Rattle.edf_intake.specs.Batch.{IsPossibleReply}
 use Rattle.edf_intake.specs.declared.answer.Receipt.{Receipt}
-use Rattle.edf_program_run.specs.Files.{Keeps, no_table, one_table, both_tables, FilesKeep}
+use Rattle.edf_program_run.specs.Files.{DatabaseHolds, no_table, one_table, both_tables, FilesHold}
 use Rattle.edf_program_run.specs.Turns.{ended, StepsBy}
 use Rattle.edf_program_run.proofs.Chains.{somes_first, sound_turns}
 use Rattle.edf_intake.proofs.Turns.{somes-append}
@@ -95,13 +95,13 @@ met_at cap h (b ∷ bs) behind t key new known all same is =
 
 -- ---- its data records are held in the end
 
-keeps_sound : (cap : ℕ) (db : Database) (h : Holdings) → Keeps cap db h → IsSound cap h
+keeps_sound : (cap : ℕ) (db : Database) (h : Holdings) → DatabaseHolds cap db h → IsSound cap h
 keeps_sound cap db h (no_table none is) = subst (IsSound cap) (sym is) (nothing_is_sound cap)
 keeps_sound cap db h (one_table one empty is) =
     subst (IsSound cap) (sym is) (nothing_is_sound cap)
 keeps_sound cap db h (both_tables both kept) = kept.sound
 
-files_sound : (cap : ℕ) (image : Image) (h : Holdings) → FilesKeep cap image h → IsSound cap h
+files_sound : (cap : ℕ) (image : Image) (h : Holdings) → FilesHold cap image h → IsSound cap h
 files_sound cap image h (inl none) = subst (IsSound cap) (sym none.1) (nothing_is_sound cap)
 files_sound cap image h (inr it) = keeps_sound cap _ h it.2.keeps
 
@@ -145,13 +145,13 @@ has_accepted cap h turns sound each same before behind t receipt splits is =
     )
 
 pub accepted_held : (cap : ℕ) (turns : List Turn) (start end : Image) (h : Holdings) →
-    FilesKeep cap start h → StepsBy cap (ended turns) start end →
-    ∥ ((k : Holdings) × FilesKeep cap end k × HasAccepted turns k) ∥₁
+    FilesHold cap start h → StepsBy cap (ended turns) start end →
+    ∥ ((k : Holdings) × FilesHold cap end k × HasAccepted turns k) ∥₁
 accepted_held cap turns start end h keep step =
     ∥∥₁_map (step h keep) (λ (tolds, may, kept).
-    let all = subst (λ (ts : List Parsed). FilesKeep cap end (after cap h ts)) may.1 kept in
+    let all = subst (λ (ts : List Parsed). FilesHold cap end (after cap h ts)) may.1 kept in
     let same = subst (λ (ts : List Parsed). replies_in turns ≡ replies cap h ts) may.1 may.2 in
-    let r : (k : Holdings) × FilesKeep cap end k × HasAccepted turns k = (
+    let r : (k : Holdings) × FilesHold cap end k × HasAccepted turns k = (
       after cap h (submissions_in turns),
       all,
       has_accepted cap h turns (files_sound cap start h keep) may.0 same,

@@ -16,10 +16,11 @@ use Rattle.edf_intake.specs.Batch.{Turn, some_values, submissions_in, AgreesWith
 use Rattle.edf_intake.specs.declared.answer.Refusal.TheVariants as refusal
 use Rattle.edf_intake.proofs.Turns.{told-next, all-next, sound_told}
 use Rattle.edf_export.proofs.Headline.{headline}
-use Rattle.edf_program_run.specs.Files.{FilesKeep}
-use Rattle.edf_program_run.specs.Turns.{IsFront, given_in, PastRun, ended, idle, broken}
-use Rattle.edf_program_run.specs.Turns.{MaySubmit, Leads, StepsBy, Follow, AreSubmittedBy}
-use Rattle.edf_program_run.specs.Turns.{LeaveAfterAll}
+use Rattle.edf_program_run.specs.Files.{FilesHold}
+use Rattle.edf_program_run.specs.Turns.{IsSubmittedPrefix, given_in, PastRun, ended, idle}
+use Rattle.edf_program_run.specs.Turns.{interrupted}
+use Rattle.edf_program_run.specs.Turns.{MaySubmit, LeadsTo, StepsBy, Follow, AreSubmittedBy}
+use Rattle.edf_program_run.specs.Turns.{HeadlineAfterRuns}
 
 -- ---- what turns told is sound
 
@@ -51,7 +52,7 @@ sound_may : (cap : ℕ) (run : PastRun) (h : Holdings) (tolds : List Parsed) →
     MaySubmit cap run h tolds → AreWellFormed tolds
 sound_may cap (ended turns) h tolds it = subst AreWellFormed (sym it.1) (sound_turns turns it.0)
 sound_may cap idle h tolds it = subst AreWellFormed (sym it) tt
-sound_may cap (broken given) h tolds (turns, rest, gave, each, are) =
+sound_may cap (interrupted given) h tolds (turns, rest, gave, each, are) =
     subst AreWellFormed (sym are) (sound_turns turns each)
 
 -- ---- what is left by all of them
@@ -60,15 +61,15 @@ record Followed (cap : ℕ) (runs : List PastRun) (h : Holdings) (end : Image) :
   submissions : List Parsed
   submitted : AreSubmittedBy cap h runs submissions
   sound : AreWellFormed submissions
-  keeps : FilesKeep cap end (after cap h submissions)
+  keeps : FilesHold cap end (after cap h submissions)
 
 followed : (cap : ℕ) (runs : List PastRun) (h : Holdings) (start end : Image) →
-    Follow cap runs start end → FilesKeep cap start h → ∥ Followed cap runs h end ∥₁
+    Follow cap runs start end → FilesHold cap start h → ∥ Followed cap runs h end ∥₁
 followed cap [] h start end same keep = ∣ record {
   submissions = [];
   submitted = refl;
   sound = tt;
-  keeps = subst (λ (i : Image). FilesKeep cap i h) same keep;
+  keeps = subst (λ (i : Image). FilesHold cap i h) same keep;
 } ∣₁
 followed cap (run ∷ later) h start end it keep =
     ∥∥₁_elim (it.1 h keep) squash₁ (λ (tolds, may, kept).
@@ -77,15 +78,15 @@ followed cap (run ∷ later) h start end it keep =
       submissions = tolds ++ more.submissions;
       submitted = (tolds, more.submissions, may, refl, more.submitted);
       sound = sound_append tolds more.submissions (sound_may cap run h tolds may) more.sound;
-      keeps = subst (FilesKeep cap end)
+      keeps = subst (FilesHold cap end)
           (sym (after-append cap h tolds more.submissions)) more.keeps;
     } in r))
 
 pub result : (cap : ℕ) (runs : List PastRun) (h : Holdings) (start end : Image) → IsSound cap h →
-    FilesKeep cap start h → Follow cap runs start end → ∥ LeaveAfterAll cap runs h end ∥₁
+    FilesHold cap start h → Follow cap runs start end → ∥ HeadlineAfterRuns cap runs h end ∥₁
 result cap runs h start end sound keep follow =
     ∥∥₁_map (followed cap runs h start end follow keep) (λ it.
-    let r : LeaveAfterAll cap runs h end = record {
+    let r : HeadlineAfterRuns cap runs h end = record {
       submissions = it.submissions;
       submitted = it.submitted;
       sound = it.sound;
@@ -121,7 +122,7 @@ with_next : (cap : ℕ) (h : Holdings) (given rest : List (Option (List ℕ))) (
     (t : Turn) (later : List Turn) (told : Parsed) (tolds : List Parsed) →
     AllByRecursion IsTurn first → given ≡ given_in (first ++ t ∷ later) ++ rest →
     ReadsAs t.from t.to told → tolds ≡ submissions_in first ++ told ∷ [] →
-    MaySubmit cap (broken given) h tolds
+    MaySubmit cap (interrupted given) h tolds
 with_next cap h given rest first t later told tolds each gave heard are =
     let last = answered t told in
     let same : given_in (first ++ t ∷ later) ≡ given_in (first ++ last ∷ []) ++ given_in later =
@@ -139,7 +140,7 @@ with_next cap h given rest first t later told tolds each gave heard are =
 
 front_may : (cap : ℕ) (h : Holdings) (given rest : List (Option (List ℕ))) (turns : List Turn)
     (tolds : List Parsed) → AllByRecursion IsTurn turns → given ≡ given_in turns ++ rest →
-    IsFront turns tolds → MaySubmit cap (broken given) h tolds
+    IsSubmittedPrefix turns tolds → MaySubmit cap (interrupted given) h tolds
 front_may cap h given rest turns tolds all gave it =
     let each = first_turns it.first it.rest (subst (AllByRecursion IsTurn) it.splits all) in
     let gave' : given ≡ given_in (it.first ++ it.rest) ++ rest = gave
@@ -160,11 +161,11 @@ front_may cap h given rest turns tolds all gave it =
 
 pub unclosed : (cap : ℕ) (turns : List Turn) (given rest : List (Option (List ℕ)))
     (start end : Image) → AllByRecursion IsTurn turns → given ≡ given_in turns ++ rest →
-    Leads cap (λ h. IsFront turns) start end → StepsBy cap (broken given) start end
+    LeadsTo cap (λ h. IsSubmittedPrefix turns) start end → StepsBy cap (interrupted given) start end
 unclosed cap turns given rest start end all gave it h keep =
     ∥∥₁_map (it h keep) (λ (tolds, front, kept).
-    let r : (ts : List Parsed) × MaySubmit cap (broken given) h ts
-    × FilesKeep cap end (after cap h ts) = (
+    let r : (ts : List Parsed) × MaySubmit cap (interrupted given) h ts
+    × FilesHold cap end (after cap h ts) = (
       tolds,
       front_may cap h given rest turns tolds all gave front,
       kept,

@@ -17,7 +17,7 @@ use Rattle.sqlite.specs.Files.{IsClosed, ExcusesClose, FailsToClose}
 use Rattle.sqlite.specs.declared.error.Error.{Error}
 use Rattle.sqlite.specs.declared.error.Error.TheVariants.{SqliteFailure}
 use Rattle.sqlite.specs.declared.error.ErrorCode.TheVariants.{Closed}
-use Rattle.edf_program_run.specs.Close.{IsLetGo}
+use Rattle.edf_program_run.specs.Close.{AreReleased}
 
 -- only a store that was broken tells that it is closed
 pub broken_cause : (v : View) (fault large : Type 0) (e : StoreError) →
@@ -51,7 +51,7 @@ pub failed_as : {D : Type 0} {g : Ghosts D} (c : Held (FileStore D g)) (last : F
     (files : Files D) (failure : Option Error) (e : StoreError) →
     failure ≡ Some (store_error e) → (files.log, files.db) ≡ store_files last → IsClosed c last →
     (IsClean (view last) → ExcusesClose c last e) → Tells (blamed last) e →
-    IsLetGo c failure files
+    AreReleased c failure files
 failed_as c last files failure e is same closed excuse tells = record {
   store = last;
   store_is = sym same;

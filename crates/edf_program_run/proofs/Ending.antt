@@ -35,13 +35,14 @@ use Rattle.edf_intake.specs.Batch.{submissions_in, replies_in}
 use Rattle.edf_program.specs.Output.{OutputChange}
 use Rattle.edf_program.specs.declared.status.Status.{Status}
 use Rattle.edf_program.specs.declared.status.Status.TheVariants.{Trouble}
-use Rattle.edf_program_run.specs.Files.{Keeps, TreesKeep, FilesKeep, AreReadAs}
+use Rattle.edf_program_run.specs.Files.{DatabaseHolds, TreesHold, FilesHold, AreReadAs}
 use Rattle.edf_program_run.specs.ProgramRun.{ProgramRun}
-use Rattle.edf_program_run.specs.Turns.{IsFront, ended, MaySubmit, StepsBy}
-use Rattle.edf_program_run.specs.Turns.{LeaveAfterAll}
-use Rattle.edf_program_run.specs.Close.{IsLetGo, IsCloseTold, GaveBack, AreClosed, AreLetGo, MayBe}
+use Rattle.edf_program_run.specs.Turns.{IsSubmittedPrefix, ended, MaySubmit, StepsBy}
+use Rattle.edf_program_run.specs.Turns.{HeadlineAfterRuns}
+use Rattle.edf_program_run.specs.Close.{AreReleased, IsClosePrinted, IsDiskClean, AreClosed}
+use Rattle.edf_program_run.specs.Close.{AreReleasedUnclosed, MayHold}
 use Rattle.edf_program_run.specs.Close.{Across}
-use Rattle.edf_program_run.specs.Close.{Ran, IsRefused}
+use Rattle.edf_program_run.specs.Close.{IsRunDone, IsRefused}
 use Rattle.edf_program_run.specs.declared.session.EndedRun.{EndedRun}
 use Rattle.edf_program_run.proofs.Chains.{result}
 use Rattle.edf_program.proofs.Undone.{trouble-told}
@@ -62,7 +63,7 @@ caused Failed why never = absurd why
 
 -- under every status but trouble no failure is told
 pub none_failed : (w : OutputChange) (failure : Option Error) (before status : Status) →
-    IsCloseTold w failure before status → status ≢ Trouble → failure ≡ None
+    IsClosePrinted w failure before status → status ≢ Trouble → failure ≡ None
 none_failed w None before status told never = refl
 none_failed w (Some error) before status told never =
     absurd (never (trouble-told w _ status told.2))
@@ -73,29 +74,29 @@ module _ {D : Type 0} {g : Ghosts D} (stays : SeenMayStay g) (r : ProgramRun g) 
     (finds : HasCleanDisk (file_state first) → FindsIn r.start (file_state first)) where
   -- ---- what the connection read
 
-  module _ (early : GaveBack r s → HasCleanDisk (file_state first)) where
-    settled : GaveBack r s → (file_state first).now ≡ (file_state first).committed
+  module _ (early : IsDiskClean r s → HasCleanDisk (file_state first)) where
+    settled : IsDiskClean r s → (file_state first).now ≡ (file_state first).committed
     settled gave = (opens (early gave)).0.clean
 
-    sound_first : GaveBack r s → IsDatabase (file_state first).committed
+    sound_first : IsDiskClean r s → IsDatabase (file_state first).committed
     sound_first gave = let opened = opens (early gave) in (opened.1 opened.0.is_open).1
 
-    keeps_first : GaveBack r s → (h : Holdings) → FilesKeep r.cap r.start h →
-        Keeps r.cap (file_state first).committed h
+    keeps_first : IsDiskClean r s → (h : Holdings) → FilesHold r.cap r.start h →
+        DatabaseHolds r.cap (file_state first).committed h
     keeps_first gave h keep = found_keeps r.cap r.start (file_state first) h keep
         (finds (early gave)) (sound_first gave)
 
-    read_first : GaveBack r s → AreReadAs r.start (file_state first).committed
+    read_first : IsDiskClean r s → AreReadAs r.start (file_state first).committed
     read_first gave = read_as r.start (file_state first) (finds (early gave)) (sound_first gave)
 
-    across : (IsSo : Holdings → Type 0) → (GaveBack r s → (h : Holdings) →
-        FilesKeep r.cap r.start h → IsSo h) → Across r s IsSo
+    across : (IsSo : Holdings → Type 0) → (IsDiskClean r s → (h : Holdings) →
+        FilesHold r.cap r.start h → IsSo h) → Across r s IsSo
     across IsSo so gave = (
       λ h other one two. keeps_once r.cap (file_state first).committed h other
           (keeps_first gave h one) (keeps_first gave other two),
       λ runs h start sound keep follow.
           ∥∥₁_map (result r.cap runs h start r.start sound keep follow) (λ it.
-          let x : (one : LeaveAfterAll r.cap runs h r.start)
+          let x : (one : HeadlineAfterRuns r.cap runs h r.start)
           × IsSo (after r.cap h one.submissions) =
           (it, so gave _ it.keeps) in x),
     )
@@ -104,25 +105,25 @@ module _ {D : Type 0} {g : Ghosts D} (stays : SeenMayStay g) (r : ProgramRun g) 
 
   module _ (status : Status) (mid : Option (List ℕ)) (failures : ℕ)
       (it : Works r first (record r.err { after = mid; failed_after = failures }) status)
-      (told : IsCloseTold (record r.err { before = mid; failed_before = failures }) s.failure
+      (told : IsClosePrinted (record r.err { before = mid; failed_before = failures }) s.failure
       status s.status)
       (live : IsLive (at over_files it.new))
-      (let_go : IsLetGo it.new.connection s.failure s.files)
+      (let_go : AreReleased it.new.connection s.failure s.files)
       (copied : AreClosed r s → IsCopied it.new.connection s.files)
-      (left : AreLetGo r s → LeavesEach it.new.connection s.files) where
-    late : GaveBack r s → HasCleanDisk (at over_files it.new)
+      (left : AreReleasedUnclosed r s → LeavesEach it.new.connection s.files) where
+    late : IsDiskClean r s → HasCleanDisk (at over_files it.new)
     late gave = clean_last it.new.connection s.files let_go gave
 
-    early : GaveBack r s → HasCleanDisk (file_state first)
+    early : IsDiskClean r s → HasCleanDisk (file_state first)
     early gave = let now = late gave in
         let was : HasCleanDisk (file_state first) = omega (arith, (crash r first it).clean, now) in
         was
 
-    found : GaveBack r s → (h : Holdings) → FilesKeep r.cap r.start h → Holds over_files it.old h
-    found gave h keep = holds_first r first it h (subst (λ (d : Database). Keeps r.cap d h)
+    found : IsDiskClean r s → (h : Holdings) → FilesHold r.cap r.start h → Holds over_files it.old h
+    found gave h keep = holds_first r first it h (subst (λ (d : Database). DatabaseHolds r.cap d h)
         (sym (settled early gave)) (keeps_first early gave h keep))
 
-    own : GaveBack r s → (h : Holdings) × Keeps r.cap (file_state first).committed h
+    own : IsDiskClean r s → (h : Holdings) × DatabaseHolds r.cap (file_state first).committed h
     own gave =
         let was = was_clean r first it (late gave) in
         let kept = own_keeps r.cap (file_state first).now (at over_files it.old).committed
@@ -131,22 +132,22 @@ module _ {D : Type 0} {g : Ghosts D} (stays : SeenMayStay g) (r : ProgramRun g) 
         (it.opened.holdings was))
         (subst (λ (n : ℕ). ¬ IsForeignFile n (file_state first).now) it.cap_is
         (it.opened.own was)) in
-        (kept.0, subst (λ (d : Database). Keeps r.cap d kept.0) (settled early gave) kept.1)
+        (kept.0, subst (λ (d : Database). DatabaseHolds r.cap d kept.0) (settled early gave) kept.1)
 
     kept : AreClosed r s → (h : Holdings) → Holds over_files it.new h → (image : Image) →
-        MayBe r s image →
-        FilesKeep r.cap image h × FilesKeep r.cap (record image { log = [] }) h
+        MayHold r s image →
+        FilesHold r.cap image h × FilesHold r.cap (record image { log = [] }) h
     kept closed h held image may =
         let c = copied closed in
         ends_in r.cap it.new.connection s.files h c (live c.was_open).1
         (keeps_last r first it (late closed.0) c.was_open h held) image may
 
     step : AreClosed r s → (image : Image) → ((h : Holdings) → Holds over_files it.new h →
-        FilesKeep r.cap image h) → StepsBy r.cap (ended it.turns) r.start image
+        FilesHold r.cap image h) → StepsBy r.cap (ended it.turns) r.start image
     step closed image keeps h keep =
         let held = found closed.0 h keep in
         let x : (tolds : List Parsed) × MaySubmit r.cap (ended it.turns) h tolds
-        × FilesKeep r.cap image (after r.cap h tolds) = (
+        × FilesHold r.cap image (after r.cap h tolds) = (
           submissions_in it.turns,
           (
             it.takes.each,
@@ -161,7 +162,7 @@ module _ {D : Type 0} {g : Ghosts D} (stays : SeenMayStay g) (r : ProgramRun g) 
         ) in ∣ x ∣₁
 
     others : AreClosed r s → HasBoth (file_state first).committed.schema → (image : Image) →
-        MayBe r s image → ∥ ((rows : Trees) × HoldsDatabase image rows
+        MayHold r s image → ∥ ((rows : Trees) × HoldsDatabase image rows
         × KeepsTrees (file_state first).committed.schema (file_state first).committed.trees rows)
         ∥₁
     others closed both image may =
@@ -175,9 +176,9 @@ module _ {D : Type 0} {g : Ghosts D} (stays : SeenMayStay g) (r : ProgramRun g) 
         × KeepsTrees (file_state first).committed.schema (file_state first).committed.trees rows =
         (trees, holds, same) in x)
 
-    crashes : GaveBack r s → (h : Holdings) → FilesKeep r.cap r.start h → (rows : Trees) →
-        recovers let_go.store rows → (tolds : List Parsed) × IsFront it.turns tolds
-        × TreesKeep r.cap rows (after r.cap h tolds)
+    crashes : IsDiskClean r s → (h : Holdings) → FilesHold r.cap r.start h → (rows : Trees) →
+        recovers let_go.store rows → (tolds : List Parsed) × IsSubmittedPrefix it.turns tolds
+        × TreesHold r.cap rows (after r.cap h tolds)
     crashes gave h keep rows may =
         let sure = subst (λ (p : D × D). AreClean g p.0 p.1) (sym let_go.store_is) gave in
         let none : IsClean (view let_go.store) = no_doubt _ (clean_is let_go.store.pool ∙ sure) in
@@ -186,7 +187,7 @@ module _ {D : Type 0} {g : Ghosts D} (stays : SeenMayStay g) (r : ProgramRun g) 
         (crash r first it) (late gave) h keep rows (let_go.quiet.quiet.outcomes rows may) schema.0
         schema.1
 
-    pub ran : Ran r s
+    pub ran : IsRunDone r s
     ran = record {
       db = (file_state first).committed;
       old = it.old;
@@ -221,34 +222,35 @@ module _ {D : Type 0} {g : Ghosts D} (stays : SeenMayStay g) (r : ProgramRun g) 
   pub ran_back : (status : Status) (mid : Option (List ℕ)) (failures : ℕ)
       (it : Works r first (record r.err { after = mid; failed_after = failures }) status)
       (back : Held (FileStore D g)) → back ≡ it.new.connection →
-      IsCloseTold (record r.err { before = mid; failed_before = failures }) s.failure status
-      s.status → IsLive (file_state back) → IsLetGo back s.failure s.files →
+      IsClosePrinted (record r.err { before = mid; failed_before = failures }) s.failure status
+      s.status → IsLive (file_state back) → AreReleased back s.failure s.files →
       (AreClosed r s → IsCopied back s.files) →
-      (AreLetGo r s → LeavesEach back s.files) → Ran r s
+      (AreReleasedUnclosed r s → LeavesEach back s.files) → IsRunDone r s
   ran_back status mid failures it back is told = subst (λ (c : Held (FileStore D g)).
-      IsLive (file_state c) → IsLetGo c s.failure s.files → (AreClosed r s → IsCopied c s.files) →
-      (AreLetGo r s → LeavesEach c s.files) → Ran r s) (sym is)
+      IsLive (file_state c) → AreReleased c s.failure s.files →
+      (AreClosed r s → IsCopied c s.files) →
+      (AreReleasedUnclosed r s → LeavesEach c s.files) → IsRunDone r s) (sym is)
       (λ live let_go copied left. ran status mid failures it told live let_go copied left)
 
   -- ---- a store that was refused
 
   module _ (last : Held (FileStore D g)) (it : Returns r first last s.status)
-      (nothing_failed : s.failure ≡ None) (let_go : IsLetGo last s.failure s.files)
-      (left : GaveBack r s → LeavesEach last s.files) where
-    came : GaveBack r s → HasCleanDisk (file_state first)
+      (nothing_failed : s.failure ≡ None) (let_go : AreReleased last s.failure s.files)
+      (left : IsDiskClean r s → LeavesEach last s.files) where
+    came : IsDiskClean r s → HasCleanDisk (file_state first)
     came gave = let now = clean_last last s.files let_go gave in
         let was : HasCleanDisk (file_state first) = omega (arith, it.back.crash.clean, now) in was
 
-    foreign : it.fault ≡ Foreign → GaveBack r s →
+    foreign : it.fault ≡ Foreign → IsDiskClean r s →
         IsForeignFile r.cap (file_state first).committed
     foreign is gave = subst (IsForeignFile r.cap) (settled came gave)
         (it.back.foreign is (clean_last last s.files let_go gave))
 
-    none : it.fault ≡ Foreign → GaveBack r s → (h : Holdings) → ¬ FilesKeep r.cap r.start h
+    none : it.fault ≡ Foreign → IsDiskClean r s → (h : Holdings) → ¬ FilesHold r.cap r.start h
     none is gave h keep = kept_is_own r.cap (file_state first).committed h
         (keeps_first came gave h keep) (foreign is gave)
 
-    was : GaveBack r s → (image : Image) → MayBe r s image → ∥ ((rows : Trees)
+    was : IsDiskClean r s → (image : Image) → MayHold r s image → ∥ ((rows : Trees)
         × HoldsDatabase image rows × ((rows ≡ (file_state first).committed.trees)
         ⊎ IsMadeOf (file_state first).committed rows)) ∥₁
     was gave image may = as_it_was stays first last s.files (opens (came gave)) it.back.crash

@@ -20,20 +20,20 @@ use Rattle.edf_tables.specs.Schema.{no_schema}
 use Rattle.edf_fragment.specs.Parsed.{Parsed}
 use Rattle.edf_holdings.specs.Holdings.{Holdings, nothing_held}
 use Rattle.edf_holdings.specs.Reply.{after}
-use Rattle.edf_program_run.specs.Files.{no_table, FilesKeep}
-use Rattle.edf_program_run.specs.ProgramRun.{IsLeftOf}
+use Rattle.edf_program_run.specs.Files.{no_table, FilesHold}
+use Rattle.edf_program_run.specs.ProgramRun.{IsLeftover}
 use Rattle.edf_program_run.specs.Turns.{idle, StepsBy}
 use Rattle.edf_program_run.proofs.Nothing.{nothing_holds}
 
 nothing_left : (cap : ℕ) (image : Image) (h : Holdings) → IsNothing image →
-    FilesKeep cap image h → h ≡ nothing_held
+    FilesHold cap image h → h ≡ nothing_held
 nothing_left cap image h nothing (inl none) = none.1
 nothing_left cap image h nothing (inr (db, held, it)) =
     absurd (∥∥₁_elim held (λ a. absurd a) (λ holds. nothing_holds image db nothing holds))
 
 -- an empty database keeps nothing
 empty_keeps : (cap : ℕ) (image : Image) (h : Holdings) → h ≡ nothing_held →
-    (db : Trees) × HoldsDatabase image db × IsEmpty db → FilesKeep cap image h
+    (db : Trees) × HoldsDatabase image db × IsEmpty db → FilesHold cap image h
 empty_keeps cap image h is (db, holds, empty) = inr (
   db,
   ∣ holds ∣₁,
@@ -45,15 +45,15 @@ empty_keeps cap image h is (db, holds, empty) = inr (
 )
 
 -- what files kept is what they keep
-pub still : (cap : ℕ) (start end : Image) → ((h : Holdings) → FilesKeep cap start h →
-    ∥ FilesKeep cap end h ∥₁) → StepsBy cap idle start end
+pub still : (cap : ℕ) (start end : Image) → ((h : Holdings) → FilesHold cap start h →
+    ∥ FilesHold cap end h ∥₁) → StepsBy cap idle start end
 still cap start end keeps h keep = ∥∥₁_map (keeps h keep) (λ kept.
-    let r : (tolds : List Parsed) × (tolds ≡ []) × FilesKeep cap end (after cap h tolds) =
+    let r : (tolds : List Parsed) × (tolds ≡ []) × FilesHold cap end (after cap h tolds) =
     ([], refl, kept) in r)
 
 old_one : (cap : ℕ) (start image : Image) → image ≡ start → StepsBy cap idle start image
 old_one cap start image same = still cap start image (λ h keep.
-    ∣ subst (λ (i : Image). FilesKeep cap i h) (sym same) keep ∣₁)
+    ∣ subst (λ (i : Image). FilesHold cap i h) (sym same) keep ∣₁)
 
 module _ {D : Type 0} (g : Ghosts D) (cap : ℕ) (start : Image) where
   under_way : (files : Files D) → ((image : Image) → outcomes g files.log files.db image →
@@ -61,18 +61,19 @@ module _ {D : Type 0} (g : Ghosts D) (cap : ℕ) (start : Image) where
       StepsBy cap idle start image
   under_way files only nothing image (inl may) = old_one cap start image (only image may)
   under_way files only nothing image (inr (inl none)) = still cap start image (λ h keep.
-      let r : FilesKeep cap image h = inl (none, nothing_left cap start h nothing keep) in ∣ r ∣₁)
+      let r : FilesHold cap image h = inl (none, nothing_left cap start h nothing keep) in ∣ r ∣₁)
   under_way files only nothing image (inr (inr held)) = still cap start image (λ h keep.
       ∥∥₁_map held (empty_keeps cap image h (nothing_left cap start h nothing keep)))
 
-  pub read_idle : (error : Error) (now : Files D) → IsLeftOf {g = g} start error (left.Files now) →
+  pub read_idle : (error : Error) (now : Files D) →
+      IsLeftover {g = g} start error (left.Files now) →
       AreClean g now.log now.db → (image : Image) → outcomes g now.log now.db image →
       StepsBy cap idle start image
   read_idle error now it clean image may =
       old_one cap start image (it.settled image ((it.leaves clean).1 image may))
 
   pub begun_idle : (error : Error) (now : Unopened D g) →
-      IsLeftOf {g = g} start error (left.Unopened now) → IsTrue (state_of now).is_clean →
+      IsLeftover {g = g} start error (left.Unopened now) → IsTrue (state_of now).is_clean →
       IsNothing start → (image : Image) → (state_of now).may_leave image →
       StepsBy cap idle start image
   begun_idle error now it clean nothing image may = elim (it.leaves clean).1 [

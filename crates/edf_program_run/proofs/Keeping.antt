@@ -25,25 +25,27 @@ use Rattle.edf_rows.specs.Rows.{RepresentCommitted}
 use Rattle.edf_rows.proofs.Rows.{one-holdings, not-foreign}
 use Rattle.edf_store.specs.Held.{StoreModel, at, Holds}
 use Rattle.edf_store.specs.Open.{IsOpened}
-use Rattle.edf_program_run.specs.Files.{Keeps, no_table, one_table, both_tables, TreesKeep}
-use Rattle.edf_program_run.specs.Files.{FilesKeep}
+use Rattle.edf_program_run.specs.Files.{DatabaseHolds, no_table, one_table, both_tables, TreesHold}
+use Rattle.edf_program_run.specs.Files.{FilesHold}
 use Rattle.edf_program_run.specs.Files.{AreReadAs}
 use Rattle.edf_program_run.proofs.Schemas.{schema_once, unlisted, kept_schema}
 use Rattle.edf_program_run.proofs.Nothing.{nothing_found, nothing_kept}
 
-pub nothing_of : (cap : ℕ) (db : Database) (h : Holdings) → Keeps cap db h → db.schema ≡ no_schema →
+pub nothing_of : (cap : ℕ) (db : Database) (h : Holdings) → DatabaseHolds cap db h →
+    db.schema ≡ no_schema →
     h ≡ nothing_held
 nothing_of cap db h (no_table is none) now = none
 nothing_of cap db h (one_table is empty none) now = none
 nothing_of cap db h (both_tables both kept) now = absurd (none_not_both db.schema now both)
 
-empty_of : (cap : ℕ) (db : Database) (h : Holdings) → Keeps cap db h → db.schema ≡ one_schema →
+empty_of : (cap : ℕ) (db : Database) (h : Holdings) → DatabaseHolds cap db h →
+    db.schema ≡ one_schema →
     (stored_recordings db.trees ≡ []) × (h ≡ nothing_held)
 empty_of cap db h (no_table is none) now = absurd (none_not_one db.schema is now)
 empty_of cap db h (one_table is empty none) now = (empty, none)
 empty_of cap db h (both_tables both kept) now = absurd (one_not_both db.schema now both)
 
-kept_of : (cap : ℕ) (db : Database) (h : Holdings) → Keeps cap db h → HasBoth db.schema →
+kept_of : (cap : ℕ) (db : Database) (h : Holdings) → DatabaseHolds cap db h → HasBoth db.schema →
     RepresentCommitted cap db.trees h
 kept_of cap db h (no_table is none) now = absurd (none_not_both db.schema is now)
 kept_of cap db h (one_table is empty none) now = absurd (one_not_both db.schema is now)
@@ -56,7 +58,7 @@ no_rows (r ∷ rs) never = absurd (never (λ e. absurd (cc)))
 -- a file of ours that isn't foreign keeps some holdings
 pub own_keeps : (cap : ℕ) (old new : Database) → HasTables old new →
     ((h : Holdings) × RepresentCommitted cap new.trees h) → ¬ IsForeignFile cap old →
-    (h : Holdings) × Keeps cap old h
+    (h : Holdings) × DatabaseHolds cap old h
 own_keeps cap old new (from_none none both first second) kept own = (
   nothing_held,
   no_table none refl,
@@ -72,7 +74,7 @@ own_keeps cap old new (from_both both same) kept own = (
 )
 
 -- and one that keeps some is not foreign
-pub kept_is_own : (cap : ℕ) (db : Database) (h : Holdings) → Keeps cap db h →
+pub kept_is_own : (cap : ℕ) (db : Database) (h : Holdings) → DatabaseHolds cap db h →
     ¬ IsForeignFile cap db
 kept_is_own cap db h (no_table none is) (other_schema other) = other (inl none)
 kept_is_own cap db h (no_table none is) (foreign_rows both rows) =
@@ -89,8 +91,8 @@ kept_is_own cap db h (both_tables both kept) (foreign_rows now rows) =
 kept_is_own cap db h (both_tables both kept) (only_recordings one some) =
     one_not_both db.schema one both
 
-pub keeps_once : (cap : ℕ) (db : Database) (h other : Holdings) → Keeps cap db h →
-    Keeps cap db other → h ≡ other
+pub keeps_once : (cap : ℕ) (db : Database) (h other : Holdings) → DatabaseHolds cap db h →
+    DatabaseHolds cap db other → h ≡ other
 keeps_once cap db h other (no_table none is) two = is ∙ sym (nothing_of cap db other two none)
 keeps_once cap db h other (one_table one empty is) two = is ∙ sym (empty_of cap db other two one).1
 keeps_once cap db h other (both_tables both kept) two =
@@ -99,8 +101,8 @@ keeps_once cap db h other (both_tables both kept) two =
 
 -- ---- of files that are opened
 
-pub trees_keep : (cap : ℕ) (trees : Trees) (h : Holdings) (db : Database) → TreesKeep cap trees h →
-    IsDatabase db → db.trees ≡ trees → Keeps cap db h
+pub trees_keep : (cap : ℕ) (trees : Trees) (h : Holdings) (db : Database) → TreesHold cap trees h →
+    IsDatabase db → db.trees ≡ trees → DatabaseHolds cap db h
 trees_keep cap trees h db it sound same =
     let schema = schema_once trees db.schema it.schema (subst (λ (t : Trees). IsDatabase (record {
       schema = db.schema;
@@ -110,10 +112,10 @@ trees_keep cap trees h db it sound same =
       schema = it.schema;
       trees = trees;
     }) ≡ db = λ i. record { schema = sym schema i; trees = sym same i } in
-    subst (λ (d : Database). Keeps cap d h) eq it.keeps
+    subst (λ (d : Database). DatabaseHolds cap d h) eq it.keeps
 
-pub found_keeps : (cap : ℕ) (image : Image) (s : State) (h : Holdings) → FilesKeep cap image h →
-    FindsIn image s → IsDatabase s.committed → Keeps cap s.committed h
+pub found_keeps : (cap : ℕ) (image : Image) (s : State) (h : Holdings) → FilesHold cap image h →
+    FindsIn image s → IsDatabase s.committed → DatabaseHolds cap s.committed h
 found_keeps cap image s h (inl (nothing, none)) found sound =
     no_table (unlisted s.committed.trees s.committed.schema
     (nothing_found image s.committed.trees nothing found.reads).1 sound) none
@@ -138,7 +140,7 @@ both_same old new (from_none none made first second) both =
 both_same old new (from_one one made same second) both = absurd (one_not_both old.schema one both)
 both_same old new (from_both was same) both = same
 
-pub tables_keep : (cap : ℕ) (old new : Database) (h : Holdings) → Keeps cap old h →
+pub tables_keep : (cap : ℕ) (old new : Database) (h : Holdings) → DatabaseHolds cap old h →
     HasTables old new → RepresentCommitted cap new.trees h
 tables_keep cap old new h it (from_none none both first second) =
     subst (RepresentCommitted cap new.trees) (sym (nothing_of cap old h it none))
@@ -152,15 +154,17 @@ tables_keep cap old new h it (from_both both same) =
     (kept_of cap old h it both)
 
 pub opened_holds : {S : Type 0} (g : Ghosts S) (conn : Held S) (store : StoreModel S) →
-    IsOpened g conn store → (h : Holdings) → Keeps store.cap (state g conn).now h → Holds g store h
+    IsOpened g conn store → (h : Holdings) → DatabaseHolds store.cap (state g conn).now h →
+    Holds g store h
 opened_holds g conn store o h it clean is_open = tables_keep store.cap (state g conn).now
     (at g store).committed h it (o.tables clean)
 
 -- ---- after a crash
 
-pub made_keeps : (cap : ℕ) (old : Database) (rows : Trees) (h : Holdings) → Keeps cap old h →
+pub made_keeps : (cap : ℕ) (old : Database) (rows : Trees) (h : Holdings) →
+    DatabaseHolds cap old h →
     IsMadeOf old rows → (schema : Schema) → IsDatabase (record { schema = schema; trees = rows }) →
-    Keeps cap (record { schema = schema; trees = rows }) h
+    DatabaseHolds cap (record { schema = schema; trees = rows }) h
 made_keeps cap old rows h it (left_first none made empty) schema sound =
     one_table (schema_once rows schema one_schema sound made) empty (nothing_of cap old h it none)
 made_keeps cap old rows h it (left_both none made first second) schema sound =
@@ -175,7 +179,7 @@ made_keeps cap old rows h it (left_second one made same second) schema sound =
 pub left_keeps : (cap : ℕ) (old : Database) (rows : Trees) (left : Holdings) → HasBoth old.schema →
     IsDatabase old → KeepsTrees old.schema old.trees rows → RepresentCommitted cap rows left →
     (schema : Schema) → IsDatabase (record { schema = schema; trees = rows }) →
-    Keeps cap (record { schema = schema; trees = rows }) left
+    DatabaseHolds cap (record { schema = schema; trees = rows }) left
 left_keeps cap old rows left both sound keeps kept schema now =
     both_tables (subst HasBoth (sym (kept_schema old.schema schema old.trees rows sound keeps now))
     both) kept
@@ -201,15 +205,16 @@ wider_kept cap more wide trees h kept =
       each = kept.each;
     }
 
-wider_keeps : (cap more : ℕ) → cap ≤ more → (db : Database) (h : Holdings) → Keeps cap db h →
-    Keeps more db h
+wider_keeps : (cap more : ℕ) → cap ≤ more → (db : Database) (h : Holdings) →
+    DatabaseHolds cap db h →
+    DatabaseHolds more db h
 wider_keeps cap more wide db h (no_table none is) = no_table none is
 wider_keeps cap more wide db h (one_table one empty is) = one_table one empty is
 wider_keeps cap more wide db h (both_tables both kept) =
     both_tables both (wider_kept cap more wide db.trees h kept)
 
 pub wider : (cap more : ℕ) → cap ≤ more → (image : Image) (h : Holdings) →
-    FilesKeep cap image h → FilesKeep more image h
+    FilesHold cap image h → FilesHold more image h
 wider cap more wide image h (inl none) = inl none
 wider cap more wide image h (inr (trees, held, it)) = inr (
   trees,

@@ -29,14 +29,14 @@ use Rattle.edf_fragment.specs.Parsed.{Parsed}
 use Rattle.edf_holdings.specs.Holdings.{Holdings}
 use Rattle.edf_holdings.specs.Reply.{after}
 use Rattle.edf_intake.specs.Batch.{Turn}
-use Rattle.edf_program_run.specs.Files.{Keeps, TreesKeep, FilesKeep}
-use Rattle.edf_program_run.specs.Close.{IsLetGo}
-use Rattle.edf_program_run.specs.Turns.{IsFront, Leads}
+use Rattle.edf_program_run.specs.Files.{DatabaseHolds, TreesHold, FilesHold}
+use Rattle.edf_program_run.specs.Close.{AreReleased}
+use Rattle.edf_program_run.specs.Turns.{IsSubmittedPrefix, LeadsTo}
 use Rattle.edf_program_run.proofs.Keeping.{found_keeps, made_keeps}
 use Rattle.edf_program_run.proofs.Working.{no_front, MayBeLeft}
 
 same_keep : (cap : ℕ) (db : Database) (trees : Trees) (h : Holdings) → trees ≡ db.trees →
-    IsDatabase db → Keeps cap db h → TreesKeep cap trees h
+    IsDatabase db → DatabaseHolds cap db h → TreesHold cap trees h
 same_keep cap db trees h same sound keeps =
     let eq : db ≡ (record {
       schema = db.schema;
@@ -45,15 +45,15 @@ same_keep cap db trees h same sound keeps =
     record {
       schema = db.schema;
       is_database = subst IsDatabase eq sound;
-      keeps = subst (λ (d : Database). Keeps cap d h) eq keeps;
+      keeps = subst (λ (d : Database). DatabaseHolds cap d h) eq keeps;
     }
 
 -- where the rows are as they were, or missing tables were made, the files keep what they kept
 pub still_keeps : (cap : ℕ) (db : Database) (image : Image) (h : Holdings) → IsDatabase db →
-    Keeps cap db h → ∥ ((rows : Trees) × HoldsDatabase image rows
-    × ((rows ≡ db.trees) ⊎ IsMadeOf db rows)) ∥₁ → ∥ FilesKeep cap image h ∥₁
+    DatabaseHolds cap db h → ∥ ((rows : Trees) × HoldsDatabase image rows
+    × ((rows ≡ db.trees) ⊎ IsMadeOf db rows)) ∥₁ → ∥ FilesHold cap image h ∥₁
 still_keeps cap db image h sound keeps as_was = ∥∥₁_map as_was (λ it.
-    let r : FilesKeep cap image h = inr (
+    let r : FilesHold cap image h = inr (
       it.0,
       ∣ it.1 ∣₁,
       elim it.2 [
@@ -95,7 +95,7 @@ module _ {D : Type 0} {g : Ghosts D} where
 
   -- where the disk is clean in the end, it was as the files were let go
   pub clean_last : {failure : Option Error} (c : Held (FileStore D g)) (files : Files D) →
-      IsLetGo c failure files → AreClean g files.log files.db → HasCleanDisk (file_state c)
+      AreReleased c failure files → AreClean g files.log files.db → HasCleanDisk (file_state c)
   clean_last c files it clean =
       let sure = subst (λ (p : D × D). AreClean g p.0 p.1) (sym it.store_is) clean in
       let none : IsClean (view it.store) = no_doubt _ (clean_is it.store.pool ∙ sure) in
@@ -107,10 +107,11 @@ module _ {D : Type 0} {g : Ghosts D} where
       (s : Survives (file_state first) (file_state last)
       (MayBeLeft cap turns (file_state first).now)) (clean : HasCleanDisk (file_state last)) where
     -- rows that a crash may leave are of a database that keeps what some first of the turns leave
-    pub rows_left : (h : Holdings) → FilesKeep cap start h → (rows : Trees) →
+    pub rows_left : (h : Holdings) → FilesHold cap start h → (rows : Trees) →
         (file_state last).may_leave rows → (schema : Schema) →
         IsDatabase (record { schema = schema; trees = rows }) →
-        (tolds : List Parsed) × IsFront turns tolds × TreesKeep cap rows (after cap h tolds)
+        (tolds : List Parsed) × IsSubmittedPrefix turns tolds
+        × TreesHold cap rows (after cap h tolds)
     rows_left h keep rows may schema sound =
         let early : HasCleanDisk (file_state first) = omega (arith, s.clean, clean) in
         let opened = opens early in
@@ -125,7 +126,7 @@ module _ {D : Type 0} {g : Ghosts D} where
           )
           | inr left ↦
               let same = sym opened.0.clean in
-              let it = left h (subst (λ (d : Database). Keeps cap d h) same keeps) in (
+              let it = left h (subst (λ (d : Database). DatabaseHolds cap d h) same keeps) in (
                 it.submissions,
                 it.front,
                 record { schema = schema; is_database = sound; keeps = it.keeps schema sound },
@@ -133,12 +134,12 @@ module _ {D : Type 0} {g : Ghosts D} where
         ]
 
     pub leads : (files : Files D) → LeavesEach last files → (image : Image) →
-        outcomes g files.log files.db image → Leads cap (λ h. IsFront turns) start image
+        outcomes g files.log files.db image → LeadsTo cap (λ h. IsSubmittedPrefix turns) start image
     leads files left image may h keep =
         ∥∥₁_map (left.1 image may) (λ (rows, could, holds).
         let it = rows_left h keep rows could holds.2.schema holds.2.sound in
-        let r : (tolds : List Parsed) × IsFront turns tolds
-        × FilesKeep cap image (after cap h tolds) =
+        let r : (tolds : List Parsed) × IsSubmittedPrefix turns tolds
+        × FilesHold cap image (after cap h tolds) =
         (it.0, it.1, inr (rows, ∣ holds ∣₁, it.2)) in r)
 
   -- the rows of a store that was refused are as they were, where missing tables may have been made
@@ -163,9 +164,9 @@ module _ {D : Type 0} {g : Ghosts D} where
   -- what is held as the run ends is in the two files, and in the database file alone
   pub ends_in : (cap : ℕ) (last : Held (FileStore D g)) (files : Files D) (h : Holdings) →
       IsCopied last files → IsDatabase (file_state last).committed →
-      Keeps cap (file_state last).committed h → (image : Image) →
+      DatabaseHolds cap (file_state last).committed h → (image : Image) →
       outcomes g files.log files.db image →
-      FilesKeep cap image h × FilesKeep cap (record image { log = [] }) h
+      FilesHold cap image h × FilesHold cap (record image { log = [] }) h
   ends_in cap last files h copied sound keeps image may =
       let trees = (file_state last).committed.trees in
       let inside = same_keep cap (file_state last).committed trees h refl sound keeps in

@@ -24,20 +24,20 @@ use Rattle.edf_store.specs.declared.fault.StoreFault.{StoreFault}
 use Rattle.edf_intake.specs.Batch.{Turn, submissions_in, MayHaveCommittedNext, MayRemainAfterCrash}
 use Rattle.edf_program.specs.Output.{OutputChange}
 use Rattle.edf_program.specs.declared.status.Status.{Status}
-use Rattle.edf_program_run.specs.Files.{Keeps, both_tables}
+use Rattle.edf_program_run.specs.Files.{DatabaseHolds, both_tables}
 use Rattle.edf_program_run.specs.ProgramRun.{ProgramRun, Refuses, was_opened}
-use Rattle.edf_program_run.specs.Turns.{TakesTurns, IsFront}
+use Rattle.edf_program_run.specs.Turns.{TakesTurns, IsSubmittedPrefix}
 use Rattle.edf_program_run.proofs.Keeping.{opened_holds, both_same, made_keeps, left_keeps}
 
 -- ---- what some first turns leave
 
-pub no_front : (turns : List Turn) → IsFront turns []
+pub no_front : (turns : List Turn) → IsSubmittedPrefix turns []
 no_front turns = record { first = []; rest = turns; splits = refl; are = inl refl }
 
 -- rows that stand for what some first of the turns leave
 pub record FrontKept (cap : ℕ) (turns : List Turn) (h : Holdings) (rows : Trees) : Type 0 where
   pub submissions : List Parsed
-  pub front : IsFront turns submissions
+  pub front : IsSubmittedPrefix turns submissions
   pub kept : RepresentCommitted cap rows (after cap h submissions)
 
 unended_front : (cap : ℕ) (turns first rest : List Turn) (h : Holdings) (rows : Trees) →
@@ -72,17 +72,18 @@ front_kept cap turns h rows l = elim l.stand [
 -- whatever schema these rows are a database of, it keeps what some first of the turns leave
 pub record Fronted (cap : ℕ) (turns : List Turn) (h : Holdings) (rows : Trees) : Type 0 where
   pub submissions : List Parsed
-  pub front : IsFront turns submissions
+  pub front : IsSubmittedPrefix turns submissions
   pub keeps : (schema : Schema) → IsDatabase (record { schema = schema; trees = rows }) →
-      Keeps cap (record { schema = schema; trees = rows }) (after cap h submissions)
+      DatabaseHolds cap (record { schema = schema; trees = rows }) (after cap h submissions)
 
 -- what a crash may leave
 abbrev pub MayBeLeft : ℕ → List Turn → Database → Trees → Type 0
-MayBeLeft cap turns db rows = (h : Holdings) → Keeps cap db h → Fronted cap turns h rows
+MayBeLeft cap turns db rows = (h : Holdings) → DatabaseHolds cap db h → Fronted cap turns h rows
 
 made_front : (cap : ℕ) (turns : List Turn) (db : Database) (h : Holdings) (rows : Trees) →
-    Keeps cap db h → ((schema : Schema) → IsDatabase (record { schema = schema; trees = rows }) →
-    Keeps cap (record { schema = schema; trees = rows }) h) → Fronted cap turns h rows
+    DatabaseHolds cap db h → ((schema : Schema) →
+    IsDatabase (record { schema = schema; trees = rows }) →
+    DatabaseHolds cap (record { schema = schema; trees = rows }) h) → Fronted cap turns h rows
 made_front cap turns db h rows keeps same = record {
   submissions = [];
   front = no_front turns;
@@ -131,13 +132,14 @@ module _ {D : Type 0} {g : Ghosts D} (r : ProgramRun g) (first : Held (FileStore
     was_clean clean = let was : HasCleanDisk (at over_files it.old) =
         omega (arith, it.takes.crash.clean, clean) in was
 
-    pub holds_first : (h : Holdings) → Keeps r.cap (file_state first).now h →
+    pub holds_first : (h : Holdings) → DatabaseHolds r.cap (file_state first).now h →
         Holds over_files it.old h
     holds_first h keeps = opened_holds over_files first it.old it.opened h
-        (subst (λ (n : ℕ). Keeps n (file_state first).now h) (sym it.cap_is) keeps)
+        (subst (λ (n : ℕ). DatabaseHolds n (file_state first).now h) (sym it.cap_is) keeps)
 
     pub keeps_last : HasCleanDisk (at over_files it.new) → IsTrue (at over_files it.new).is_open →
-        (h : Holdings) → Holds over_files it.new h → Keeps r.cap (at over_files it.new).committed h
+        (h : Holdings) → Holds over_files it.new h →
+        DatabaseHolds r.cap (at over_files it.new).committed h
     keeps_last clean is_open h held = both_tables
         (subst HasBoth (sym (it.takes.others.others clean is_open).schema)
         (tables_both _ _ (it.opened.tables (was_clean clean))))

@@ -33,16 +33,17 @@ use Rattle.edf_command.specs.Lines.{store_not_closed_line}
 use Rattle.edf_program.specs.Output.{OutputChange, Gets, IsWritten}
 use Rattle.edf_program.specs.declared.status.Status.{Status}
 use Rattle.edf_program.specs.declared.status.Status.TheVariants.{Trouble}
-use Rattle.edf_program_run.specs.Files.{Keeps, TreesKeep, FilesKeep, AreReadAs}
-use Rattle.edf_program_run.specs.Turns.{TakesTurns, IsFront, Leads, PastRun, StepsBy, Follow}
-use Rattle.edf_program_run.specs.Turns.{ended, idle, LeaveAfterAll}
+use Rattle.edf_program_run.specs.Files.{DatabaseHolds, TreesHold, FilesHold, AreReadAs}
+use Rattle.edf_program_run.specs.Turns.{TakesTurns, IsSubmittedPrefix, LeadsTo, PastRun, StepsBy}
+use Rattle.edf_program_run.specs.Turns.{Follow}
+use Rattle.edf_program_run.specs.Turns.{ended, idle, HeadlineAfterRuns}
 use Rattle.edf_program_run.specs.ProgramRun.{ProgramRun, Refuses, was_opened}
 use Rattle.edf_program_run.specs.declared.session.EndedRun.{EndedRun}
 
 -- The files are those of the connection's store, closed or not: a crash leaves nothing that it
 -- could not leave before. A failure that is told has its cause, on a disk that gave back what was
 -- written: a call failed in the close, or had shut the store; for want of memory none is said.
-pub record IsLetGo {D : Type 0} {g : Ghosts D} (last : Held (FileStore D g))
+pub record AreReleased {D : Type 0} {g : Ghosts D} (last : Held (FileStore D g))
     (failure : Option Error) (files : Files D) : Type 0 where
   pub store : FileStore D g
   pub store_is : store_files store ≡ (files.log, files.db)
@@ -50,43 +51,43 @@ pub record IsLetGo {D : Type 0} {g : Ghosts D} (last : Held (FileStore D g))
   pub cause : IfSome failure (λ e. IsClean (view store) → FailsToClose last store e)
 
 -- what is said of it: nothing, and it went as it had gone; or a line, and it is trouble
-abbrev pub IsCloseTold : OutputChange → Option Error → Status → Status → Type 0
-IsCloseTold err None before status = Gets err [] × (status ≡ before)
-IsCloseTold err (Some error) before status = (fault : StoreFault) × IsRefusalOf error fault
+abbrev pub IsClosePrinted : OutputChange → Option Error → Status → Status → Type 0
+IsClosePrinted err None before status = Gets err [] × (status ≡ before)
+IsClosePrinted err (Some error) before status = (fault : StoreFault) × IsRefusalOf error fault
     × IsWritten err (store_not_closed_line fault) Trouble status
 
 module _ {D : Type 0} {g : Ghosts D} (r : ProgramRun g) (s : EndedRun D) where
   -- the disk gave back what was written
-  abbrev pub GaveBack : Type 0
-  GaveBack = AreClean g s.files.log s.files.db
+  abbrev pub IsDiskClean : Type 0
+  IsDiskClean = AreClean g s.files.log s.files.db
 
   -- and the files were closed
   abbrev pub AreClosed : Type 0
-  AreClosed = GaveBack × (s.failure ≡ None)
+  AreClosed = IsDiskClean × (s.failure ≡ None)
 
   -- and they were let go as they are, since a failure had shut the store
-  abbrev pub AreLetGo : Type 0
-  AreLetGo = GaveBack × (s.failure ≡ Some (SqliteFailure Closed))
+  abbrev pub AreReleasedUnclosed : Type 0
+  AreReleasedUnclosed = IsDiskClean × (s.failure ≡ Some (SqliteFailure Closed))
 
   -- the files may be so after a crash, or as they are read now
-  abbrev pub MayBe : Image → Type 0
-  MayBe image = outcomes g s.files.log s.files.db image
+  abbrev pub MayHold : Image → Type 0
+  MayHold image = outcomes g s.files.log s.files.db image
 
   -- what this run began with is one thing; whatever runs and sessions led to it, it is what all
   -- that they submitted leaves, of which the headline speaks; and this is so of it
   abbrev pub Across : (Holdings → Type 0) → Type 0
-  Across IsSo = GaveBack → ((h other : Holdings) → FilesKeep r.cap r.start h →
-      FilesKeep r.cap r.start other → h ≡ other)
+  Across IsSo = IsDiskClean → ((h other : Holdings) → FilesHold r.cap r.start h →
+      FilesHold r.cap r.start other → h ≡ other)
       × ((runs : List PastRun) (h : Holdings) (first : Image) → IsSound r.cap h →
-      FilesKeep r.cap first h → Follow r.cap runs first r.start →
-      ∥ ((it : LeaveAfterAll r.cap runs h r.start) × IsSo (after r.cap h it.submissions)) ∥₁)
+      FilesHold r.cap first h → Follow r.cap runs first r.start →
+      ∥ ((it : HeadlineAfterRuns r.cap runs h r.start) × IsSo (after r.cap h it.submissions)) ∥₁)
 
   -- The store was opened, and the work was done over it: it held what the files held, rows that
   -- some submissions leave, or none. Where they were closed, they, and the database file alone,
   -- hold what the store then held, which is what all turns leave, and beside our two tables what
   -- they held; where they were let go, what some first of the turns leave. Whatever became of the
   -- close, an opening after a crash finds no rows but such as some first of the turns leave.
-  pub record Ran : Type 0 where
+  pub record IsRunDone : Type 0 where
     pub db : Database
     pub old : StoreModel (FileStore D g)
     pub new : StoreModel (FileStore D g)
@@ -98,26 +99,27 @@ module _ {D : Type 0} {g : Ghosts D} (r : ProgramRun g) (s : EndedRun D) where
     pub noticed : r.Noticed (was_opened r.output)
     pub does : r.Does old new turns (record r.err { after = mid; failed_after = failures }) status
     pub takes : TakesTurns over_files old new turns
-    pub let_go : IsLetGo new.connection s.failure s.files
-    pub printed : IsCloseTold (record r.err { before = mid; failed_before = failures }) s.failure
+    pub let_go : AreReleased new.connection s.failure s.files
+    pub printed : IsClosePrinted (record r.err { before = mid; failed_before = failures }) s.failure
         status s.status
-    pub clean : GaveBack → HasCleanDisk (at over_files new)
-    pub read : GaveBack → AreReadAs r.start db
-    pub own : GaveBack → (h : Holdings) × Keeps r.cap db h
-    pub found : GaveBack → (h : Holdings) → FilesKeep r.cap r.start h → Holds over_files old h
+    pub clean : IsDiskClean → HasCleanDisk (at over_files new)
+    pub read : IsDiskClean → AreReadAs r.start db
+    pub own : IsDiskClean → (h : Holdings) × DatabaseHolds r.cap db h
+    pub found : IsDiskClean → (h : Holdings) → FilesHold r.cap r.start h → Holds over_files old h
     pub across : Across (Holds over_files old)
     pub kept : AreClosed → (h : Holdings) → Holds over_files new h → (image : Image) →
-        MayBe image → FilesKeep r.cap image h × FilesKeep r.cap (record image { log = [] }) h
-    pub steps : AreClosed → (image : Image) → MayBe image →
+        MayHold image → FilesHold r.cap image h × FilesHold r.cap (record image { log = [] }) h
+    pub steps : AreClosed → (image : Image) → MayHold image →
         StepsBy r.cap (ended turns) r.start image
         × StepsBy r.cap (ended turns) r.start (record image { log = [] })
-    pub others : AreClosed → HasBoth db.schema → (image : Image) → MayBe image →
+    pub others : AreClosed → HasBoth db.schema → (image : Image) → MayHold image →
         ∥ ((rows : Trees) × HoldsDatabase image rows × KeepsTrees db.schema db.trees rows) ∥₁
-    pub leads : AreLetGo → (image : Image) → MayBe image →
-        Leads r.cap (λ h. IsFront turns) r.start image
-    pub crash : GaveBack → (h : Holdings) → FilesKeep r.cap r.start h → (rows : Trees) →
-        recovers let_go.store rows → (submissions : List Parsed) × IsFront turns submissions
-        × TreesKeep r.cap rows (after r.cap h submissions)
+    pub leads : AreReleasedUnclosed → (image : Image) → MayHold image →
+        LeadsTo r.cap (λ h. IsSubmittedPrefix turns) r.start image
+    pub crash : IsDiskClean → (h : Holdings) → FilesHold r.cap r.start h → (rows : Trees) →
+        recovers let_go.store rows →
+        (submissions : List Parsed) × IsSubmittedPrefix turns submissions
+        × TreesHold r.cap rows (after r.cap h submissions)
 
   -- Or the store was refused. The fault has a cause; or it is E45, and the files held a database
   -- that no submissions leave. No failure to close is told. The files hold what they held, and
@@ -129,11 +131,11 @@ module _ {D : Type 0} {g : Ghosts D} (r : ProgramRun g) (s : EndedRun D) where
     pub why : HasCauseOrIsForeign fault
     pub refuses : Refuses r fault ours s.status
     pub nothing_failed : s.failure ≡ None
-    pub ours_is : GaveBack → (IsTrue ours ↔ AreOurs db.schema)
-    pub read : GaveBack → AreReadAs r.start db
-    pub foreign : fault ≡ Foreign → GaveBack → IsForeignFile r.cap db
-    pub none : fault ≡ Foreign → GaveBack → (h : Holdings) → ¬ FilesKeep r.cap r.start h
+    pub ours_is : IsDiskClean → (IsTrue ours ↔ AreOurs db.schema)
+    pub read : IsDiskClean → AreReadAs r.start db
+    pub foreign : fault ≡ Foreign → IsDiskClean → IsForeignFile r.cap db
+    pub none : fault ≡ Foreign → IsDiskClean → (h : Holdings) → ¬ FilesHold r.cap r.start h
     pub across : Across (λ h. HasCause fault)
-    pub steps : GaveBack → (image : Image) → MayBe image → StepsBy r.cap idle r.start image
-    pub as_was : GaveBack → (image : Image) → MayBe image → ∥ ((rows : Trees)
+    pub steps : IsDiskClean → (image : Image) → MayHold image → StepsBy r.cap idle r.start image
+    pub as_was : IsDiskClean → (image : Image) → MayHold image → ∥ ((rows : Trees)
         × HoldsDatabase image rows × ((rows ≡ db.trees) ⊎ IsMadeOf db rows)) ∥₁

@@ -12,23 +12,23 @@ use Rattle.edf_rows.specs.Rows.{RepresentCommitted}
 
 -- a database keeps these: it has no table at all, or only our first, without a row, and nothing is
 -- held; or it has both, whose rows stand for them
-pub data Keeps (cap : ℕ) (db : Database) (h : Holdings) : Type 0 where
-  no_table : db.schema ≡ no_schema → h ≡ nothing_held → Keeps cap db h
+pub data DatabaseHolds (cap : ℕ) (db : Database) (h : Holdings) : Type 0 where
+  no_table : db.schema ≡ no_schema → h ≡ nothing_held → DatabaseHolds cap db h
   one_table : db.schema ≡ one_schema → stored_recordings db.trees ≡ [] → h ≡ nothing_held →
-      Keeps cap db h
-  both_tables : HasBoth db.schema → RepresentCommitted cap db.trees h → Keeps cap db h
+      DatabaseHolds cap db h
+  both_tables : HasBoth db.schema → RepresentCommitted cap db.trees h → DatabaseHolds cap db h
 
 -- the trees are those of such a database
-pub record TreesKeep (cap : ℕ) (trees : Trees) (h : Holdings) : Type 0 where
+pub record TreesHold (cap : ℕ) (trees : Trees) (h : Holdings) : Type 0 where
   pub schema : Schema
   pub is_database : IsDatabase (record { schema = schema; trees = trees })
-  pub keeps : Keeps cap (record { schema = schema; trees = trees }) h
+  pub keeps : DatabaseHolds cap (record { schema = schema; trees = trees }) h
 
 -- the files, as bytes, keep these: there is no database yet and nothing is held; or they have such
 -- a database
-abbrev pub FilesKeep : ℕ → Image → Holdings → Type 0
-FilesKeep cap image h = (IsNothing image × (h ≡ nothing_held))
-    ⊎ ((db : Trees) × ∥ HoldsDatabase image db ∥₁ × TreesKeep cap db h)
+abbrev pub FilesHold : ℕ → Image → Holdings → Type 0
+FilesHold cap image h = (IsNothing image × (h ≡ nothing_held))
+    ⊎ ((db : Trees) × ∥ HoldsDatabase image db ∥₁ × TreesHold cap db h)
 
 -- the files are read as this database: what they recover to, and the one that they hold where they
 -- hold one; or there is none yet, and it is empty

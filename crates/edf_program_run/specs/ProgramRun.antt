@@ -41,7 +41,7 @@ module _ {D : Type 0} {g : Ghosts D} (start : Image) where
   -- crash then left just them. On a disk that gave back what was written, files that were only read
   -- hold them still; where no database was held, a crash leaves none or an empty one; where one
   -- was, what stands for what it stood for.
-  pub record IsLeftOf (error : Error) (rest : Leftover D g) : Type 0 where
+  pub record IsLeftover (error : Error) (rest : Leftover D g) : Type 0 where
     pub files : Files D
     pub held : image_of g files ≡ start
     pub settled : (image : Image) → outcomes g files.log files.db image → image ≡ start
@@ -52,7 +52,7 @@ module _ {D : Type 0} {g : Ghosts D} (start : Image) where
   abbrev pub IsOpening : Result (Held (FileStore D g)) (Error × Option (Leftover D g)) → Type 0
   IsOpening (Ok c) = ((file_state c).in_transaction ≡ false)
       × (HasCleanDisk (file_state c) → IsOpened c × FindsIn start (file_state c))
-  IsOpening (Err e) = IfSome e.1 (IsLeftOf e.0) × (e.1 ≡ None → IsOfNoFiles e.0)
+  IsOpening (Err e) = IfSome e.1 (IsLeftover e.0) × (e.1 ≡ None → IsOfNoFiles e.0)
 
 -- What is told of an opening: the store is open, and the output has this, where that is known; or
 -- the store was refused, for this fault, and whether its file has our tables.

@@ -14,7 +14,7 @@ use Rattle.edf_intake.specs.Refusal.{IsInDoubt}
 use Rattle.edf_intake.specs.Input.{ReadsAs}
 use Rattle.edf_intake.specs.Batch.{Turn, IsTurn, submissions_in, replies_in, MayRemainAfterCrash}
 use Rattle.edf_export.specs.Headline.{Headline}
-use Rattle.edf_program_run.specs.Files.{FilesKeep}
+use Rattle.edf_program_run.specs.Files.{FilesHold}
 
 -- The store was handed these files in turn, and all else that was done left what it holds: each
 -- that told something got the reply to it, and what is held then is what they leave. A crash leaves
@@ -32,7 +32,7 @@ pub record TakesTurns {S : Type 0} (g : Ghosts S) (old new : StoreModel S) (turn
       MayRemainAfterCrash old.cap h turns rows)
 
 -- what some first of these turns submitted, and perhaps the next, whose answer is E41 or E42
-pub record IsFront (turns : List Turn) (submissions : List Parsed) : Type 0 where
+pub record IsSubmittedPrefix (turns : List Turn) (submissions : List Parsed) : Type 0 where
   pub first : List Turn
   pub rest : List Turn
   pub splits : turns ≡ first ++ rest
@@ -53,7 +53,7 @@ given_in turns = map (λ (t : Turn). t.from.remaining) turns
 pub data PastRun : Type 0 where
   ended : List Turn → PastRun
   idle : PastRun
-  broken : List (Option (List ℕ)) → PastRun
+  interrupted : List (Option (List ℕ)) → PastRun
 
 -- What it submitted, over files that hold h: all that its files told, and its replies are those to
 -- this list; nothing; or what the first of them told, but for those that it answered from E40 on.
@@ -62,18 +62,19 @@ MaySubmit cap (ended turns) h submissions = AllByRecursion IsTurn turns
     × (submissions ≡ submissions_in turns)
     × (replies_in turns ≡ replies cap h submissions)
 MaySubmit cap idle h submissions = submissions ≡ []
-MaySubmit cap (broken given) h submissions = (turns : List Turn) × (rest : List (Option (List ℕ)))
+MaySubmit cap (interrupted given) h submissions = (turns : List Turn)
+    × (rest : List (Option (List ℕ)))
     × (given ≡ given_in turns ++ rest) × AllByRecursion IsTurn turns
     × (submissions ≡ submissions_in turns)
 
 -- the files then hold what such submissions leave of what they held
-abbrev pub Leads : ℕ → (Holdings → List Parsed → Type 0) → Image → Image → Type 0
-Leads cap Submits start end = (h : Holdings) → FilesKeep cap start h →
+abbrev pub LeadsTo : ℕ → (Holdings → List Parsed → Type 0) → Image → Image → Type 0
+LeadsTo cap Submits start end = (h : Holdings) → FilesHold cap start h →
     ∥ ((submissions : List Parsed) × Submits h submissions
-    × FilesKeep cap end (after cap h submissions)) ∥₁
+    × FilesHold cap end (after cap h submissions)) ∥₁
 
 abbrev pub StepsBy : ℕ → PastRun → Image → Image → Type 0
-StepsBy cap run = Leads cap (MaySubmit cap run)
+StepsBy cap run = LeadsTo cap (MaySubmit cap run)
 
 -- each begins with files that the one before left, as it ended or crashed
 abbrev pub Follow : ℕ → List PastRun → Image → Image → Type 0
@@ -89,10 +90,10 @@ AreSubmittedBy cap h (run ∷ later) submissions = (first : List Parsed) × (mor
     × AreSubmittedBy cap (after cap h first) later more
 
 -- after all of them the files hold what those submissions leave, and the headline holds of them
-pub record LeaveAfterAll (cap : ℕ) (runs : List PastRun) (h : Holdings) (end : Image) : Type 0
+pub record HeadlineAfterRuns (cap : ℕ) (runs : List PastRun) (h : Holdings) (end : Image) : Type 0
   where
     pub submissions : List Parsed
     pub submitted : AreSubmittedBy cap h runs submissions
     pub sound : AreWellFormed submissions
-    pub keeps : FilesKeep cap end (after cap h submissions)
+    pub keeps : FilesHold cap end (after cap h submissions)
     pub headline : Headline cap h submissions

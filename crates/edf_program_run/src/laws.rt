@@ -17,10 +17,11 @@ ghost use Rattle.edf_fragment.specs.Parsed.{Fragment};
 ghost use Rattle.edf_holdings.specs.Holdings.{Holdings, IsSound, nothing_held};
 ghost use Rattle.edf_intake.specs.Batch.{Turn, IsTurn};
 ghost use Rattle.edf_intake.specs.declared.answer.Receipt.{Receipt};
-ghost use Rattle.edf_program_run.specs.Files.{FilesKeep};
-ghost use Rattle.edf_program_run.specs.ProgramRun.{IsLeftOf};
-ghost use Rattle.edf_program_run.specs.Turns.{given_in, IsFront, Leads, StepsBy};
-ghost use Rattle.edf_program_run.specs.Turns.{PastRun, ended, idle, broken, Follow, LeaveAfterAll};
+ghost use Rattle.edf_program_run.specs.Files.{FilesHold};
+ghost use Rattle.edf_program_run.specs.ProgramRun.{IsLeftover};
+ghost use Rattle.edf_program_run.specs.Turns.{given_in, IsSubmittedPrefix, LeadsTo, StepsBy};
+ghost use Rattle.edf_program_run.specs.Turns.{PastRun, ended, idle, interrupted, Follow};
+ghost use Rattle.edf_program_run.specs.Turns.{HeadlineAfterRuns};
 
 use sqlite_disk::Disk;
 
@@ -34,32 +35,33 @@ use sqlite_disk::Disk;
 /// under a greater one.
 pub fn across_runs()
     ensures law { (cap : ℕ) (runs : List PastRun) (h : Holdings) (start end : Image) →
-        IsSound cap h → FilesKeep cap start h → Follow cap runs start end →
-        ∥ LeaveAfterAll cap runs h end ∥₁ }
+        IsSound cap h → FilesHold cap start h → Follow cap runs start end →
+        ∥ HeadlineAfterRuns cap runs h end ∥₁ }
     ensures accepted { (cap : ℕ) (turns : List Turn) (start end : Image) (h : Holdings) →
-        FilesKeep cap start h → StepsBy cap (ended turns) start end →
-        ∥ ((k : Holdings) × FilesKeep cap end k × ((before behind : List Turn) (t : Turn)
+        FilesHold cap start h → StepsBy cap (ended turns) start end →
+        ∥ ((k : Holdings) × FilesHold cap end k × ((before behind : List Turn) (t : Turn)
         (receipt : Receipt) → turns ≡ before ++ (t ∷ behind) → t.answer ≡ Ok receipt →
         (records : List DataRecord) × (t.submission ≡ Some (Fragment receipt.identity records))
         × ((r : DataRecord) → Contains records r → Contains (k receipt.identity) r))) ∥₁ }
     ensures first { (cap : ℕ) (start : Image) → IsNothing start →
-        FilesKeep cap start nothing_held }
+        FilesHold cap start nothing_held }
     ensures unclosed { (cap : ℕ) (turns : List Turn) (given rest : List (Option (List ℕ)))
         (start end : Image) → AllByRecursion IsTurn turns → given ≡ given_in turns ++ rest →
-        Leads cap (λ h. IsFront turns) start end → StepsBy cap (broken given) start end }
+        LeadsTo cap (λ h. IsSubmittedPrefix turns) start end →
+        StepsBy cap (interrupted given) start end }
     ensures wider { (cap more : ℕ) (image : Image) (h : Holdings) → cap ≤ more →
-        FilesKeep cap image h → FilesKeep more image h }
+        FilesHold cap image h → FilesHold more image h }
 {}
 
 /// An opening that failed keeps what the files kept, also after a crash: where they were only read;
 /// and where there was no database, and one was begun. So such a run, or session, changed nothing.
 pub fn an_opening_that_failed<D: Disk>()
     ensures read { (cap : ℕ) (start : Image) (error : Error) (files : Files D) →
-        IsLeftOf {g = D.Disk} start error (left.Files files) →
+        IsLeftover {g = D.Disk} start error (left.Files files) →
         AreClean D.Disk files.log files.db → (image : Image) →
         outcomes D.Disk files.log files.db image → StepsBy cap idle start image }
     ensures begun { (cap : ℕ) (start : Image) (error : Error) (it : Unopened D D.Disk) →
-        IsLeftOf {g = D.Disk} start error (left.Unopened it) →
+        IsLeftover {g = D.Disk} start error (left.Unopened it) →
         IsTrue (state_of it).is_clean → IsNothing start → (image : Image) →
         (state_of it).may_leave image → StepsBy cap idle start image }
 {}

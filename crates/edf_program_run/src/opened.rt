@@ -8,7 +8,7 @@ ghost use Rattle.edf_command.specs.Arguments.{meaning};
 ghost use Rattle.edf_program.specs.Output.{output_change};
 ghost use Rattle.edf_program.specs.declared.status.Status.TheVariants.{Trouble};
 ghost use Rattle.edf_program_run.specs.ProgramRun.{IsNoticed, IsOpening, NotOpened, run_of};
-ghost use Rattle.edf_program_run.specs.Close.{Ran, IsRefused};
+ghost use Rattle.edf_program_run.specs.Close.{IsRunDone, IsRefused};
 
 use crate::cap::Cap;
 use crate::over::run_over;
@@ -63,7 +63,7 @@ pub fn run_opened<S: Start, I: Inputs, O: Output, F: Output, W: Watch>(
       output_change O.Output out.old out.new,
     ) (output_change F.Output err.old err.new)
         (IsNoticed (W.noticed watch.old) (W.noticed watch.new)) (inputs.new ≡ inputs.old) in
-        IfOk result (λ s. Ran r s ⊎ IsRefused r s) }
+        IfOk result (λ s. IsRunDone r s ⊎ IsRefused r s) }
     ensures closed { IfOk result (λ s. s.status ≢ Trouble → s.failure ≡ None) }
     ensures now { IfOk result (λ s. outcomes ⟦<FileFrom<S> as Disk>⟧ s.files.log s.files.db
         (image_of ⟦<FileFrom<S> as Disk>⟧ s.files)) }

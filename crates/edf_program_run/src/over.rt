@@ -7,7 +7,7 @@ ghost use Rattle.edf_command.specs.Arguments.{meaning};
 ghost use Rattle.edf_program.specs.Output.{output_change};
 ghost use Rattle.edf_program.specs.declared.status.Status.TheVariants.{Trouble};
 ghost use Rattle.edf_program_run.specs.ProgramRun.{IsNoticed, IsOpening, run_of};
-ghost use Rattle.edf_program_run.specs.Close.{Ran, IsRefused};
+ghost use Rattle.edf_program_run.specs.Close.{IsRunDone, IsRefused};
 
 use crate::cap::Cap;
 use crate::session::{EndedRun, close, leave};
@@ -42,7 +42,7 @@ pub(crate) fn run_over<D: Disk + Drop, I: Inputs, O: Output, F: Output, W: Watch
           output_change O.Output out.old out.new,
         ) (output_change F.Output err.old err.new)
         (IsNoticed (W.noticed watch.old) (W.noticed watch.new)) (inputs.new ≡ inputs.old)
-        in Ran r result ⊎ IsRefused r result }
+        in IsRunDone r result ⊎ IsRefused r result }
     ensures closed { result.status ≢ Trouble → result.failure ≡ None }
 {
     let has_our_tables = is_ours(conn.schema());

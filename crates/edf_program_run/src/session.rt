@@ -11,7 +11,7 @@ ghost use Rattle.sqlite.specs.State.{HasCleanDisk, store_error};
 ghost use Rattle.sqlite.specs.Tree.{Trees};
 ghost use Rattle.edf_program.specs.Output.{output_change};
 ghost use Rattle.edf_program.specs.declared.status.Status.{Status};
-ghost use Rattle.edf_program_run.specs.Close.{IsLetGo, IsCloseTold};
+ghost use Rattle.edf_program_run.specs.Close.{AreReleased, IsClosePrinted};
 
 use edf_command::{Status, print_store_not_closed};
 use edf_fragment::Output;
@@ -55,7 +55,7 @@ fn give_up<D: Disk + Drop, F: Output>(
 ) -> EndedRun<D>
     ensures failure { result.failure ≡ Some (store_error error) }
     ensures files { (result.files.log, result.files.db) ≡ store_files store }
-    ensures printed { (before : Status) → IsCloseTold (output_change F.Output err.old err.new)
+    ensures printed { (before : Status) → IsClosePrinted (output_change F.Output err.old err.new)
         result.failure before result.status }
 {
     let error = error_of(error);
@@ -81,8 +81,8 @@ pub fn close<D: Disk + Drop, F: Output>(
         HasCleanDisk (file_state conn) × ((image : Image) →
         outcomes D.Disk result.files.log result.files.db image →
         ∥ ((db : Trees) × (file_state conn).may_leave db × HoldsDatabase image db) ∥₁) }
-    ensures let_go { IsLetGo conn result.failure result.files }
-    ensures printed { IsCloseTold (output_change F.Output err.old err.new) result.failure status
+    ensures let_go { AreReleased conn result.failure result.files }
+    ensures printed { IsClosePrinted (output_change F.Output err.old err.new) result.failure status
         result.status }
 {
     let mut store = conn.into_store();
@@ -107,7 +107,7 @@ pub fn leave<D: Disk + Drop>(conn: Connection<FileStore<D>>, status: Status) -> 
         HasCleanDisk (file_state conn) × ((image : Image) →
         outcomes D.Disk result.files.log result.files.db image →
         ∥ ((db : Trees) × (file_state conn).may_leave db × HoldsDatabase image db) ∥₁) }
-    ensures let_go { IsLetGo conn result.failure result.files }
+    ensures let_go { AreReleased conn result.failure result.files }
     ensures as_was { (result.status ≡ status) × (result.failure ≡ None) }
 {
     EndedRun {

@@ -6,7 +6,7 @@ ghost use Rattle.sqlite.specs.Files.{image_of};
 ghost use Rattle.sqlite.specs.declared.error.Error.{Error};
 ghost use Rattle.edf_program.specs.Output.{output_change};
 ghost use Rattle.edf_program.specs.declared.status.Status.TheVariants.{Trouble};
-ghost use Rattle.edf_program_run.specs.Close.{Ran, IsRefused};
+ghost use Rattle.edf_program_run.specs.Close.{IsRunDone, IsRefused};
 ghost use Rattle.edf_program_run.specs.ProgramRun.{IsNoticed, IsOpening, NotOpened};
 ghost use Rattle.edf_serve.specs.SessionRun.{session_run};
 ghost use Rattle.edf_serve.specs.Work.{point};
@@ -75,7 +75,7 @@ pub fn serve_opened<S: Start, R: Input, I: Sources, C: Client, K: StoreFiles, F:
         }) (output_change F.Output err.old err.new)
         (IsNoticed (W.noticed watch.old) (W.noticed watch.new))
         ((room.new ≡ room.old) × (lines.new ≡ lines.old)) in
-        IfOk result (λ s. Ran r s ⊎ IsRefused r s) }
+        IfOk result (λ s. IsRunDone r s ⊎ IsRefused r s) }
     ensures closed { IfOk result (λ s. s.status ≢ Trouble → s.failure ≡ None) }
     ensures now { IfOk result (λ s. outcomes ⟦<FileFrom<S> as Disk>⟧ s.files.log s.files.db
         (image_of ⟦<FileFrom<S> as Disk>⟧ s.files)) }

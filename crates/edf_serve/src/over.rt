@@ -5,7 +5,7 @@ ghost use Rattle.sqlite_wal.specs.Recovery.{Image};
 ghost use Rattle.sqlite.specs.Files.{file_state};
 ghost use Rattle.edf_program.specs.Output.{output_change};
 ghost use Rattle.edf_program.specs.declared.status.Status.TheVariants.{Trouble};
-ghost use Rattle.edf_program_run.specs.Close.{Ran, IsRefused};
+ghost use Rattle.edf_program_run.specs.Close.{IsRunDone, IsRefused};
 ghost use Rattle.edf_program_run.specs.ProgramRun.{IsNoticed, IsOpening};
 ghost use Rattle.edf_serve.specs.SessionRun.{session_run};
 ghost use Rattle.edf_serve.specs.Work.{point};
@@ -56,7 +56,8 @@ pub(crate) fn serve_over<
           coming = lines.new;
         }) (output_change F.Output err.old err.new)
         (IsNoticed (W.noticed watch.old) (W.noticed watch.new))
-        ((room.new ≡ room.old) × (lines.new ≡ lines.old)) in Ran r result ⊎ IsRefused r result }
+        ((room.new ≡ room.old) × (lines.new ≡ lines.old)) in IsRunDone r result
+        ⊎ IsRefused r result }
     ensures closed { result.status ≢ Trouble → result.failure ≡ None }
 {
     let has_our_tables = is_ours(conn.schema());

@@ -13,7 +13,7 @@ use Rattle.edf_command.specs.Lines.{no_recording_line}
 use Rattle.edf_program.specs.Output.{OutputChange, Gets, IsWritten}
 use Rattle.edf_program.specs.declared.status.Status.{Status}
 use Rattle.edf_program.specs.declared.status.Status.TheVariants.{Done, Refused, Trouble}
-use Rattle.edf_program_run.specs.Close.{Ran, IsRefused}
+use Rattle.edf_program_run.specs.Close.{IsRunDone, IsRefused}
 use Rattle.edf_program_run.specs.ProgramRun as run
 use Rattle.edf_program_run.specs.ProgramRun.{IsOpening}
 use Rattle.edfstore_host.specs.declared.ended.Ended.{Ended}
@@ -43,7 +43,7 @@ module _ {D : Type 0} {g : Ghosts D} (r : run.ProgramRun g) (asked : Asked) wher
   -- and what they are read as then is among what a crash may leave. Or they were not opened, for
   -- this error, and what is left of them is what was. Or none were looked for, and it only reads.
   abbrev pub IsRunOn : Option (Opening D g) → Ended D g → Type 0
-  IsRunOn found (Run s) = (found ≢ None) × (Ran r s ⊎ IsRefused r s)
+  IsRunOn found (Run s) = (found ≢ None) × (IsRunDone r s ⊎ IsRefused r s)
       × (s.status ≢ Trouble → s.failure ≡ None)
       × outcomes g s.files.log s.files.db (image_of g s.files)
   IsRunOn found (NotOpened status left) = (error : Error) × (found ≡ Some (Err (error, left)))
