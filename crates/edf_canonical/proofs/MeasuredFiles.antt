@@ -55,9 +55,9 @@ length_of k rs m header sound is =
 pub front_more : (before after : Option (List ℕ)) (text more file : List ℕ) → file ≡ text ++ more →
     WritesPrefix before after text → WritesPrefix before after file
 front_more before after text more file is w = record {
-  front = w.front;
+  prefix = w.prefix;
   remaining = w.remaining ++ more;
-  parts = is ∙ ap (λ (x : List ℕ). x ++ more) w.parts ∙ append_assoc w.front w.remaining more;
+  parts = is ∙ ap (λ (x : List ℕ). x ++ more) w.parts ∙ append_assoc w.prefix w.remaining more;
   wrote = w.wrote;
 }
 

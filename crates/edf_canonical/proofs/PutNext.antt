@@ -124,7 +124,7 @@ module _ {S F R E : Type 0}
         measured = sym none;
         first = none-first whole kept;
         wrote = subst (λ x. Writes a a (records_text whole x) a.held) none
-            (record { front = []; wrote = Appends-nil _; parts = append-nil _ });
+            (record { prefix = []; wrote = Appends-nil _; parts = append-nil _ });
         counted = refl;
       }
 
@@ -189,7 +189,7 @@ module _ {S F R E : Type 0}
           gave = so.gave;
           first = so.first;
           why = inl (r, step, put.1);
-          front = (
+          prefix = (
             b.held,
             subst (λ x. Writes a x (records_text whole (annotated kept so.records)) b.held)
                 (sym put.0) so.wrote,
@@ -208,7 +208,7 @@ module _ {S F R E : Type 0}
         gave = gives-more answers from mid to so.records r so.gave step;
         first = put.0.first;
         why = inl refl;
-        front = (put.0.remaining, put-of put.0.remaining put.0.wrote);
+        prefix = (put.0.remaining, put-of put.0.remaining put.0.wrote);
       }
 
     -- the source gives no more
@@ -251,5 +251,5 @@ module _ {S F R E : Type 0}
       gave = so.gave;
       first = so.first;
       why = why;
-      front = (b.held, so.wrote);
+      prefix = (b.held, so.wrote);
     }

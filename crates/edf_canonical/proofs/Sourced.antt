@@ -57,7 +57,7 @@ module _ {S F R E : Type 0}
       gave = s.gave;
       first = s.first;
       why = s.why;
-      front = then (annotated kept s.records) s.front;
+      prefix = then (annotated kept s.records) s.prefix;
     }
 
   -- where the writer stopped

@@ -1,4 +1,4 @@
--- What putting bytes out through a buffer does: at each answer, the writer's bytes grew by a front
+-- What putting bytes out through a buffer does: at each answer, the writer's bytes grew by a prefix
 -- of what was to be put.
 use Rattle.std.specs.Prelude.{◌≡◌, ℕ, List, [], ◌++◌, Option, Result, MatchResult}
 use Rattle.std.specs.Io.KnownBytes.{Appends}
@@ -17,18 +17,18 @@ pub record Buffered : Type 0 where
 abbrev pub buffered : {W : Type 0} → Ghosts W → W → List ℕ → Buffered
 buffered g out held = record { contents = g.contents out; failures = g.failures out; held = held }
 
--- of what was held back and the bytes after it, a front was written, and the rest is left
+-- of what was held back and the bytes after it, a prefix was written, and the rest is left
 pub record Writes (before after : Buffered) (bytes left : List ℕ) : Type 0 where
-  pub front : List ℕ
-  pub wrote : Appends before.contents after.contents front
-  pub parts : before.held ++ bytes ≡ front ++ left
+  pub prefix : List ℕ
+  pub wrote : Appends before.contents after.contents prefix
+  pub parts : before.held ++ bytes ≡ prefix ++ left
 
 -- one more write failed where a failed write is the fault, and none where memory ran out
 abbrev pub CountsOutputFault : ℕ → ℕ → OutputFault → Type 0
 CountsOutputFault old new Write = new ≡ saturating_increment old
 CountsOutputFault old new Memory = new ≡ old
 
--- the bytes were put: written, or held back; or a front was written before the fault
+-- the bytes were put: written, or held back; or a prefix was written before the fault
 abbrev pub IsWrittenOrBuffered : Buffered → Buffered → List ℕ → Result Unit OutputFault → Type 0
 IsWrittenOrBuffered before after bytes result =
     MatchResult result
@@ -36,7 +36,7 @@ IsWrittenOrBuffered before after bytes result =
     (λ fault. ((left : List ℕ) × Writes before after bytes left)
     × CountsOutputFault before.failures after.failures fault)
 
--- all that was held back is written; or a front of it
+-- all that was held back is written; or a prefix of it
 abbrev pub IsFlushed : Buffered → Buffered → Result Unit OutputFault → Type 0
 IsFlushed before after result =
     MatchResult result
@@ -44,9 +44,9 @@ IsFlushed before after result =
     (λ fault. ((left : List ℕ) × Writes before after [] left) × (fault ≡ Write)
     × (after.failures ≡ saturating_increment before.failures))
 
--- a front of some bytes was written
+-- a prefix of some bytes was written
 pub record WritesPrefix (before after : Option (List ℕ)) (bytes : List ℕ) : Type 0 where
-  pub front : List ℕ
+  pub prefix : List ℕ
   pub remaining : List ℕ
-  pub parts : bytes ≡ front ++ remaining
-  pub wrote : Appends before after front
+  pub parts : bytes ≡ prefix ++ remaining
+  pub wrote : Appends before after prefix

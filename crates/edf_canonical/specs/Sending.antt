@@ -52,13 +52,13 @@ module _ {S F R E : Type 0}
       × (fault ≡ Write))
 
   -- the source gave some, which may be the first of those that were measured; this holds of them
-  pub record StopsAfter (Front : List DataRecord → Type 0) (fault : SendFault E) : Type 0 where
+  pub record StopsAfter (Prefix : List DataRecord → Type 0) (fault : SendFault E) : Type 0 where
     pub records : List DataRecord
     pub mid : At S F R
     pub gave : Gives answers from mid records
     pub first : MayBePrefix (annotated kept records) whole
     pub why : StopsFor mid records fault
-    pub front : Front (annotated kept records)
+    pub prefix : Prefix (annotated kept records)
 
 -- a write failed, or took none of some bytes, where that is the fault
 abbrev pub CountsSendFault : {E : Type 0} → ℕ → ℕ → SendFault E → Type 0
@@ -69,7 +69,7 @@ CountsSendFault old new (Output fault) = CountsOutputFault old new fault
 module _ {S F R E : Type 0}
     (answers : S → F → R → S → F → R → Result (Option DataRecord) E → Type 0) (from to : At S F R)
     (whole : Measure) (kept : List DataRecord) where
-  -- all were put, or a front of the first of them
+  -- all were put, or a prefix of the first of them
   abbrev pub PutsAll : Buffered → Buffered → Result Unit (SendFault E) → Type 0
   PutsAll before after result =
       MatchResult result
@@ -80,7 +80,7 @@ module _ {S F R E : Type 0}
       (λ rs. (left : List ℕ) × Writes before after (records_text whole rs) left) fault
       × CountsSendFault before.failures after.failures fault)
 
-  -- a header and all of them were written, or a front of the header and of the first of them; and
+  -- a header and all of them were written, or a prefix of the header and of the first of them; and
   -- so many writes failed before and after
   abbrev pub Sends : Option (List ℕ) → Option (List ℕ) → ℕ → ℕ → List ℕ →
       Result Unit (SendFault E) → Type 0
@@ -111,7 +111,7 @@ pub record IsPutNext (before after : Buffered) (whole : Measure) (kept records :
   pub wrote : Writes before after (next_text whole kept records r) after.held
   pub counted : after.failures ≡ before.failures
 
--- or a front of it
+-- or a prefix of it
 pub record StopsInNext (before after : Buffered) (whole : Measure) (kept records : List DataRecord)
     (r : DataRecord) : Type 0 where
   pub first : MayBePrefix (annotated kept (records ++ r ∷ [])) whole

@@ -49,8 +49,8 @@ fn put_block<W: Output>(
 /// bytes from the block on.
 ///
 /// # Errors
-/// `Memory` where memory ran out, `Write` where a write failed; a front of the data record may have
-/// been written then.
+/// `Memory` where memory ran out, `Write` where a write failed; a prefix of the data record may
+/// have been written then.
 pub fn put_record<W: Output>(
     alloc: Global,
     out: &mut W,

@@ -33,7 +33,7 @@ impl Buffer {
 /// Writes all that is held back.
 ///
 /// # Errors
-/// `Write` where a write failed, or took none of some bytes; a front of what is held was written
+/// `Write` where a write failed, or took none of some bytes; a prefix of what is held was written
 /// then.
 pub fn flush<W: Output>(out: &mut W, held: &mut Buffer) -> Result<(), OutputFault>
     ensures { IsFlushed (buffered W.Output out.old held.old.bytes.items)
@@ -74,8 +74,8 @@ fn hold<W: Output>(out: &mut W, held: &mut Vec<u8>, bytes: &[u8]) -> Result<(), 
 /// what is held first.
 ///
 /// # Errors
-/// `Write` where a write failed, or took none of some bytes; `Memory` where memory ran out. A front
-/// of what was held and of these bytes was written then.
+/// `Write` where a write failed, or took none of some bytes; `Memory` where memory ran out. A
+/// prefix of what was held and of these bytes was written then.
 pub fn put<W: Output>(out: &mut W, held: &mut Buffer, bytes: &[u8]) -> Result<(), OutputFault>
     ensures { IsWrittenOrBuffered (buffered W.Output out.old held.old.bytes.items)
         (buffered W.Output out.new held.new.bytes.items) bytes.now result }

@@ -103,7 +103,7 @@ fn put_all<F, R, S: Source<F, R>, W: Output>(
 /// # Errors
 /// `Source` where the source has a fault; `Unlike` where what would go out can't be among the first
 /// of what was measured, or the source ends before the last; `Output` where a write failed or
-/// memory ran out. A front of the header and of the data records may have been written then.
+/// memory ran out. A prefix of the header and of the data records may have been written then.
 pub fn send<F, R, S: Source<F, R>, W: Output>(
     alloc: Global,
     source: &mut S,

@@ -11,7 +11,7 @@ pub opens-front : (before after : List (List ℕ)) (files : List (String Global)
 opens-front before after files i e =
     let text : String Global → List ℕ = λ file. string_bytes file in
     record {
-      front = map text (take i files);
+      prefix = map text (take i files);
       remaining = map text (drop i files);
       parts = ap (map text) (sym (take-append-drop i files))
           ∙ map-append text (take i files) (drop i files);

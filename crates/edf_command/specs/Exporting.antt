@@ -23,7 +23,7 @@ at_place keys zero = None
 at_place keys (suc n) = slice_get keys n
 
 module _ (out err : OutputChange) where
-  -- the recording's canonical file went out; or a front of it and a line why, or a line alone; E43
+  -- the recording's canonical file went out; or a prefix of it and a line why, or a line alone; E43
   -- exactly where a write failed
   abbrev pub IsRecordingExported : Holdings → Key → Status → Type 0
   IsRecordingExported h k status =

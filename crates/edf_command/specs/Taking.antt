@@ -13,10 +13,10 @@ use Rattle.edf_program.specs.declared.status.Status.TheVariants.{Trouble}
 
 -- just the first of these names were opened, each once, in their order
 pub record OpensPrefix (before after names : List (List ℕ)) : Type 0 where
-  pub front : List (List ℕ)
+  pub prefix : List (List ℕ)
   pub remaining : List (List ℕ)
-  pub parts : names ≡ front ++ remaining
-  pub opened : after ≡ before ++ front
+  pub parts : names ≡ prefix ++ remaining
+  pub opened : after ≡ before ++ prefix
 
 -- just these were, each once, in their order; or, where memory ran out, just the first of them
 abbrev pub HasOpened : List (List ℕ) → List (List ℕ) → List (List ℕ) → Status → Type 0

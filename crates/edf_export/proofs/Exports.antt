@@ -16,7 +16,7 @@ pub none_out : (known : Option (List ℕ)) (k : Key) (records : List DataRecord)
     WritesAtMostFile known known k records
 none_out known k [] = keeps_same known
 none_out known k (r ∷ rs) = λ file is. record {
-  front = [];
+  prefix = [];
   remaining = file;
   parts = refl;
   wrote =

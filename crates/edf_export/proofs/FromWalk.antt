@@ -216,6 +216,6 @@ module _ {S : Type 0} (g : Ghosts S) (from : At Walked (Records S Cursor) (Unit 
       stopped-text fault before after header s clean h k walked measured =
           let so = all-given s.mid s.records s.gave in (
             front-of s.mid s.records so clean h k walked measured fault s.why before after header
-                s.front,
+                s.prefix,
             writing s.mid s.records so clean h k walked measured fault s.why,
           )

@@ -1,4 +1,4 @@
--- What an export does: the canonical file of what is held under a key goes out, or a front of it.
+-- What an export does: the canonical file of what is held under a key goes out, or a prefix of it.
 use Rattle.std.specs.Prelude.{◌≡◌, ◌≢◌, ℕ, false, List, [], ◌∷◌, length, codes, Option, None}
 use Rattle.std.specs.Prelude.{Result, Err, MatchResult}
 use Rattle.std.specs.Io.KnownBytes.{Appends, Keeps}
@@ -28,7 +28,7 @@ pub record IsExported (before after : Option (List ℕ)) (k : Key) (records : Li
   pub wrote : Appends before after file
   pub len_is : len ≡ length file
 
--- the records have a canonical file, of which a front went out
+-- the records have a canonical file, of which a prefix went out
 pub record WritesPrefixOfFile (before after : Option (List ℕ)) (k : Key)
     (records : List DataRecord) : Type
     0 where
@@ -36,7 +36,7 @@ pub record WritesPrefixOfFile (before after : Option (List ℕ)) (k : Key)
   pub canonical : IsCanonicalFile file k records
   pub wrote : WritesPrefix before after file
 
--- of each canonical file that the records have, and they have one at most, a front went out;
+-- of each canonical file that the records have, and they have one at most, a prefix went out;
 -- nothing where there is no record
 abbrev pub WritesAtMostFile : Option (List ℕ) → Option (List ℕ) → Key → List DataRecord → Type 0
 WritesAtMostFile before after k [] = Keeps before after

@@ -28,7 +28,7 @@ use std::alloc::Global;
 /// `NoRecording` (E44) where nothing is held under the identity; then nothing was written. `Store`
 /// where the store refuses a read: E41, E42, without a cause where the connection was left in a
 /// transaction, or E45 where the disk returned what was not written. `Memory` (E41) where memory
-/// runs out here, `Write` (E43) where a write fails or takes none of some bytes. Then a front of
+/// runs out here, `Write` (E43) where a write fails or takes none of some bytes. Then a prefix of
 /// the file may have been written.
 pub fn export<S: Alter, W: Output>(
     alloc: Global,
@@ -37,7 +37,7 @@ pub fn export<S: Alter, W: Output>(
     out: &mut W,
 ) -> Result<u64, ExportFault>
     ensures leaves { KeepsStore S.Store store.old store.new result }
-    // what is in the file, or a front of it: known where the disk returned what was written
+    // what is in the file, or a prefix of it: known where the disk returned what was written
     ensures answered { HasCleanDisk (at S.Store store.new) → (h : Holdings) →
         Holds S.Store store.old h →
         MatchResult result

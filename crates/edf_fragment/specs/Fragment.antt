@@ -53,8 +53,9 @@ place_after l start = After start (duration_of l.key.duration)
 abbrev pub AreDataRecords : Layout → Place → List ℕ → List DataRecord → Place → List ℕ → Type 0
 AreDataRecords l place bytes [] last rest = (last ≡ place) × (rest ≡ bytes)
 AreDataRecords l place bytes (r ∷ rs) last rest =
-    (front : List ℕ) × (back : List ℕ) × (bytes ≡ front ++ back) × IsDataRecord l place front r
-    × AreDataRecords l (place_after l r.start) back rs last rest
+    (prefix : List ℕ) × (suffix : List ℕ) × (bytes ≡ prefix ++ suffix)
+    × IsDataRecord l place prefix r
+    × AreDataRecords l (place_after l r.start) suffix rs last rest
 
 -- the bytes spell a key and a list of data records, as many as the header says, or, where its count
 -- is -1, 1 to the most that a file has; and nothing follows them

@@ -84,11 +84,11 @@ RepeatsChangeNothing = (cap : ℕ) (h : Holdings) (earlier : List Parsed) (submi
     (length (with_member earlier submission between))
     ≡ replies cap h (with_member earlier submission between ++ later))
 
--- a list broken off after `front` and sent again from its front ends as the list sent once
+-- a list broken off after `prefix` and sent again from its start ends as the list sent once
 abbrev pub ResentFromStart : Type 0
-ResentFromStart = (cap : ℕ) (h : Holdings) (front rest : List Parsed) → IsSound cap h →
-    AreWellFormed front →
-    after cap (after cap h front) (front ++ rest) ≡ after cap h (front ++ rest)
+ResentFromStart = (cap : ℕ) (h : Holdings) (prefix rest : List Parsed) → IsSound cap h →
+    AreWellFormed prefix →
+    after cap (after cap h prefix) (prefix ++ rest) ≡ after cap h (prefix ++ rest)
 
 -- in a free list each member is accepted, and the holdings at the end have all its records beside
 -- those at the start

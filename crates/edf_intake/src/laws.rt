@@ -13,7 +13,7 @@ use sqlite::Alter;
 /// A list acts once: a fragment that is held is accepted with nothing new; a later repeat of a
 /// member that was accepted is accepted with nothing new, and one of a refused member is refused
 /// again; without the repeat all else is the same; and a list broken off and sent again from its
-/// front ends alike.
+/// start ends alike.
 pub fn once()
     ensures held { HeldIsKnown }
     ensures accepted { AcceptedAgain }

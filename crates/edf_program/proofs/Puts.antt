@@ -39,7 +39,7 @@ pub put-sent : (before : Option (List ℕ)) (old : ℕ) (after : Option (List �
 put-sent before old after new bytes true s = s
 put-sent before old after new bytes false s = (
   record {
-    front = take s.0 bytes;
+    prefix = take s.0 bytes;
     remaining = drop s.0 bytes;
     parts = sym (take-append-drop s.0 bytes);
     wrote = s.2;
@@ -146,12 +146,12 @@ module _ (a : Option (List ℕ)) (old : ℕ) (b : Option (List ℕ)) (mid : ℕ)
       GetsPrefix (grown a old c new) all
   front-after done line rest all e first then = (
     record {
-      front = done ++ then.0.front;
+      prefix = done ++ then.0.prefix;
       remaining = then.0.remaining ++ rest;
       parts = e ∙ ap (λ (l : List ℕ). done ++ (l ++ rest)) then.0.parts
-          ∙ ap (λ (l : List ℕ). done ++ l) (append_assoc then.0.front then.0.remaining rest)
-          ∙ sym (append_assoc done then.0.front (then.0.remaining ++ rest));
-      wrote = Appends-trans a b c done then.0.front first.0 then.0.wrote;
+          ∙ ap (λ (l : List ℕ). done ++ l) (append_assoc then.0.prefix then.0.remaining rest)
+          ∙ sym (append_assoc done then.0.prefix (then.0.remaining ++ rest));
+      wrote = Appends-trans a b c done then.0.prefix first.0 then.0.wrote;
     },
     then.1 ∙ ap saturating_increment first.1,
   )

@@ -28,7 +28,7 @@ output_change g old new = record {
 abbrev pub Gets : OutputChange → List ℕ → Type 0
 Gets w bytes = Appends w.before w.after bytes × (w.failed_after ≡ w.failed_before)
 
--- it got a front of them, and then a write failed or took nothing
+-- it got a prefix of them, and then a write failed or took nothing
 abbrev pub GetsPrefix : OutputChange → List ℕ → Type 0
 GetsPrefix w bytes = WritesPrefix w.before w.after bytes
     × (w.failed_after ≡ saturating_increment w.failed_before)

@@ -270,7 +270,7 @@ module _ {R : Type 0} {g : Ghosts R} {l : Layout} {left file : Option (List ℕ)
         read = so.read;
         alike = so.alike;
         first = s.first;
-        front = inr (header, is-header, s.front);
+        prefix = inr (header, is-header, s.prefix);
         more = elim (asked (ReadsAgain g) from to plan.measure plan.kept.items s.mid s.records
             fault s.why) [
               | inl same ↦ inl (ap (λ (x : At WholeAgain OpenFragment R). g.remaining x.input) same)

@@ -269,10 +269,10 @@ module _ {R : Type 0} {g : Ghosts R} {l : Layout} {from : Progress} {run : Run}
               within = omega (arith, so.few, so.so_far.counted);
               holds = subst (λ n. BlocksFit (second_of n) run.block_samples rs) first
                   (subst (λ n. BlocksFit (second_of whole.first) n rs) samples s.first.holds);
-              front = inr (
+              prefix = inr (
                 header,
                 is-header,
-                subst (λ (x : List ℕ). WritesPrefix before after x) (text-is rs) s.front,
+                subst (λ (x : List ℕ). WritesPrefix before after x) (text-is rs) s.prefix,
               );
               more = more-at-most s.mid rs so fault s.why;
             }

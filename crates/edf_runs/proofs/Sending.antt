@@ -163,7 +163,7 @@ not_begun l from left before run few = record {
   start = tt;
   within = omega arith;
   holds = All-nil (λ r. length (block_of (second_of run.first) r) ≤ 2 * run.block_samples);
-  front = inl (Keeps-refl before);
+  prefix = inl (Keeps-refl before);
   more = inl (refl, refl);
 }
 

@@ -204,4 +204,4 @@ leaves-front left rest before after plan fault bytes k records file known spells
     (dated, inr s) =
     let s' : StopsInFile (Some bytes) rest before after plan =
     subst (λ (x : Option (List ℕ)). StopsInFile x rest before after plan) known s in
-    front_in_file bytes rest before after plan k records file spells is whole s' s'.front
+    front_in_file bytes rest before after plan k records file spells is whole s' s'.prefix

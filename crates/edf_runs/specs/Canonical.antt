@@ -91,7 +91,7 @@ pub record StopsInFile (left rest before after : Option (List ℕ)) (plan : Cano
     pub read : HasReadRecords layout opened middle records progress
     pub alike : StartAlike plan.kept.items records
     pub first : MayBePrefix (annotated plan.kept.items records) plan.measure
-    pub front : WritesPlannedFront before after plan (annotated plan.kept.items records)
+    pub prefix : WritesPlannedFront before after plan (annotated plan.kept.items records)
     pub more : AnswersOnceAtMost layout progress middle rest
 
 -- why the canonical file was not written, or not to its end: the second reading stopped at the

@@ -83,7 +83,7 @@ pub record StopsInRun (l : Layout) (from to : Progress) (left rest before after 
   pub start : StartFrom (duration_of l.key.duration) run.first records
   pub within : length records ≤ run.records
   pub holds : BlocksFit (second_of run.first) run.block_samples records
-  pub front : WritesRunFront l.key before after run records
+  pub prefix : WritesRunFront l.key before after run records
   pub more : ReadsOneMoreAtMost l mid to middle rest (length records) run
 
 -- why a run was not written, or not to its end

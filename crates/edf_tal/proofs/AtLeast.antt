@@ -96,10 +96,10 @@ texts-of (x ∷ xs) a =
           record {
             good = x ∷ bad.1.good;
             text = bad.1.text;
-            back = bad.1.back;
+            suffix = bad.1.suffix;
             parts = ap (λ (w : List ℕ). (x ++ 20 ∷ []) ++ w) bad.1.parts
                 ∙ sym (append_assoc (x ++ 20 ∷ []) (terminated bad.1.good) (bad.1.text
-                ++ 20 ∷ bad.1.back));
+                ++ 20 ∷ bad.1.suffix));
             good_texts = ((Lacks-text x a.0, u), bad.1.good_texts);
             is_text = bad.1.is_text;
             bad = bad.1.bad;
@@ -112,7 +112,7 @@ texts-of (x ∷ xs) a =
         record {
           good = [];
           text = x;
-          back = terminated xs;
+          suffix = terminated xs;
           parts = append_assoc x (20 ∷ []) (terminated xs);
           good_texts = tt;
           is_text = Lacks-text x a.0;

@@ -18,8 +18,8 @@ pub record IsBadFront (bytes : List ℕ) (at : ℕ) : Type 0 where
   pub duration : List ℕ
   pub good : List (List ℕ)
   pub text : List ℕ
-  pub back : List ℕ
-  pub parts : bytes ≡ (onset ++ duration) ++ 20 ∷ (terminated good ++ (text ++ 20 ∷ back))
+  pub suffix : List ℕ
+  pub parts : bytes ≡ (onset ++ duration) ++ 20 ∷ (terminated good ++ (text ++ 20 ∷ suffix))
   pub is_onset : (z : ℤ) × IsOnset onset z
   pub is_duration : (d : Option ℕ) × IsDurationPart duration d
   pub good_texts : AllByRecursion (λ x. IsText x × IsUtf8 x) good
@@ -29,20 +29,20 @@ pub record IsBadFront (bytes : List ℕ) (at : ℕ) : Type 0 where
 
 -- after good TALs
 pub record BadParts (bytes : List ℕ) (at : ℕ) : Type 0 where
-  pub front : List ℕ
+  pub prefix : List ℕ
   pub rest : List ℕ
   pub tals : List Tal
   pub inner : ℕ
-  pub parts : bytes ≡ front ++ rest
-  pub whole : AreTals front tals
+  pub parts : bytes ≡ prefix ++ rest
+  pub whole : AreTals prefix tals
   pub good : HaveUtf8Texts tals
   pub bad : IsBadFront rest inner
-  pub at_is : at ≡ length front + inner
+  pub at_is : at ≡ length prefix + inner
 
 pub bad-split : (bytes : List ℕ) (at : ℕ) → IsInvalidUtf8At bytes at → BadParts bytes at
 bad-split bytes at b = record {
-  front = b.front;
-  rest = (b.onset ++ b.duration) ++ 20 ∷ (terminated b.good ++ (b.text ++ 20 ∷ b.back));
+  prefix = b.prefix;
+  rest = (b.onset ++ b.duration) ++ 20 ∷ (terminated b.good ++ (b.text ++ 20 ∷ b.suffix));
   tals = b.tals;
   inner = length b.onset + length b.duration + 1 + length (terminated b.good);
   parts = b.parts ∙ simp append_assoc;
@@ -53,7 +53,7 @@ bad-split bytes at b = record {
     duration = b.duration;
     good = b.good;
     text = b.text;
-    back = b.back;
+    suffix = b.suffix;
     parts = refl;
     is_onset = b.is_onset;
     is_duration = b.is_duration;
@@ -62,7 +62,7 @@ bad-split bytes at b = record {
     bad = b.bad;
     at_is = refl;
   };
-  at_is = let e : at ≡ length b.front + length b.onset + length b.duration + 1 + length
+  at_is = let e : at ≡ length b.prefix + length b.onset + length b.duration + 1 + length
       (terminated b.good) = b.at_is in omega arith;
 }
 
@@ -70,13 +70,13 @@ pub bad-join : (bytes front rest : List ℕ) (tals : List Tal) (at inner : ℕ) 
     ++ rest → AreTals front tals → HaveUtf8Texts tals
     → IsBadFront rest inner → at ≡ length front + inner → IsInvalidUtf8At bytes at
 bad-join bytes front rest tals at inner e whole good b here = record {
-  front = front;
+  prefix = front;
   tals = tals;
   onset = b.onset;
   duration = b.duration;
   good = b.good;
   text = b.text;
-  back = b.back;
+  suffix = b.suffix;
   parts = e ∙ ap (λ (x : List ℕ). front ++ x) b.parts ∙ simp append_assoc;
   whole = whole;
   front_good = good;
@@ -110,7 +110,7 @@ among [] (x ∷ xs) text back rest g p ts us e =
     let s = same-sides 20 text x back (terminated xs ++ 0 ∷ rest) (Lacks-text text p)
     (Lacks-text x ts.0)
     (e ∙ first-text x xs (0 ∷ rest)) in
-    rw (s.front) (us.0)
+    rw (s.prefix) (us.0)
 among (y ∷ good) [] text back rest g p ts us e =
     absurd (no-zero y (terminated good ++ (text ++ 20 ∷ back)) rest g.0.0
     (sym (first-text y good (text ++ 20 ∷ back)) ∙ e))
@@ -118,7 +118,7 @@ among (y ∷ good) (x ∷ xs) text back rest g p ts us e =
     let s = same-sides 20 y x (terminated good ++ (text ++ 20 ∷ back)) (terminated xs
     ++ 0 ∷ rest) (Lacks-text y g.0.0) (Lacks-text x ts.0)
     (sym (first-text y good (text ++ 20 ∷ back)) ∙ e ∙ first-text x xs (0 ∷ rest)) in
-    among good xs text back rest g.1 p ts.1 us.1 s.back
+    among good xs text back rest g.1 p ts.1 us.1 s.suffix
 
 Lacks-head : (o d : List ℕ) → ((z : ℤ) × IsOnset o z) → ((k : Option ℕ) × IsDurationPart d k) →
     Lacks 20 (o ++ d)
@@ -130,19 +130,19 @@ pub good-front : (bytes front rest : List ℕ) (t : Tal) (at : ℕ) → bytes �
     IsTal front t → AllByRecursion IsUtf8 t.texts → IsBadFront bytes at → ⊥
 good-front bytes front rest t at e s good b =
     let sides = same-sides 20 (b.onset ++ b.duration) (s.onset ++ s.duration) (terminated b.good
-    ++ (b.text ++ 20 ∷ b.back)) (terminated t.texts ++ 0 ∷ rest)
+    ++ (b.text ++ 20 ∷ b.suffix)) (terminated t.texts ++ 0 ∷ rest)
     (Lacks-head b.onset b.duration b.is_onset b.is_duration)
     (Lacks-head s.onset s.duration (t.onset, s.is_onset) (t.duration, s.is_duration))
     (sym b.parts ∙ e ∙ tal-sides front rest t s) in
-    b.bad (among b.good t.texts b.text b.back rest b.good_texts b.is_text s.are_texts good
-    sides.back)
+    b.bad (among b.good t.texts b.text b.suffix rest b.good_texts b.is_text s.are_texts good
+    sides.suffix)
 
 zeros-front : (zeros : List ℕ) (at : ℕ) → AreZeros zeros → IsBadFront zeros at → ⊥
 zeros-front zeros at a b =
-    no-onset b.onset (b.duration ++ 20 ∷ (terminated b.good ++ (b.text ++ 20 ∷ b.back))) zeros
+    no-onset b.onset (b.duration ++ 20 ∷ (terminated b.good ++ (b.text ++ 20 ∷ b.suffix))) zeros
     b.is_onset.0 a b.is_onset.1
     (b.parts ∙ append_assoc b.onset b.duration
-    (20 ∷ (terminated b.good ++ (b.text ++ 20 ∷ b.back))))
+    (20 ∷ (terminated b.good ++ (b.text ++ 20 ∷ b.suffix))))
 
 regroup : (f r x f' r' x' front front' : List ℕ) → front ≡ f ++ r → front' ≡ f' ++ r' → front
     ++ x ≡ front' ++ x' → f ++ (r ++ x) ≡ f' ++ (r' ++ x')
@@ -172,13 +172,13 @@ no-bad (u ∷ us) (t ∷ ts) front rest front' zeros at (f, r, parts, is, more) 
 ) good a b e =
     let s = same-front f f' (r ++ rest) (r' ++ zeros) (HasEnd-tal f u is) (HasEnd-tal f' t is')
     (regroup f r rest f' r' zeros front front' parts parts' e) in
-    no-bad us ts r rest r' zeros at more more' good.1 a b s.back
+    no-bad us ts r rest r' zeros at more more' good.1 a b s.suffix
 
 pub good-block : (bytes : List ℕ) (ts : List Tal) (at : ℕ) → AreTalsAndZeros bytes ts →
     HaveUtf8Texts ts → IsInvalidUtf8At bytes at → ⊥
 good-block bytes ts at (front, zeros, parts, tals, are) good b =
     let s = bad-split bytes at b in
-    no-bad s.tals ts s.front s.rest front zeros s.inner s.whole tals good are s.bad (sym s.parts
+    no-bad s.tals ts s.prefix s.rest front zeros s.inner s.whole tals good are s.bad (sym s.parts
     ∙ parts)
 
 -- the good texts before the first bad one
@@ -191,29 +191,31 @@ same-good [] [] x y back rest g m p q b c e = refl
 same-good [] (m ∷ ms) x y back rest g a p q b c e =
     let s = same-sides 20 x m back (terminated ms ++ (y ++ 20 ∷ rest)) (Lacks-text x p)
     (Lacks-text m a.0.0) (e ∙ first-text m ms (y ++ 20 ∷ rest)) in
-    absurd (b (rw (s.front) (a.0.1)))
+    absurd (b (rw (s.prefix) (a.0.1)))
 same-good (g ∷ gs) [] x y back rest a m p q b c e =
     let s = same-sides 20 g y (terminated gs ++ (x ++ 20 ∷ back)) rest (Lacks-text g a.0.0)
     (Lacks-text y q) (sym (first-text g gs (x ++ 20 ∷ back)) ∙ e) in
-    absurd (c (rw (← s.front) (a.0.1)))
+    absurd (c (rw (← s.prefix) (a.0.1)))
 same-good (g ∷ gs) (m ∷ ms) x y back rest a d p q b c e =
     let s = same-sides 20 g m (terminated gs ++ (x ++ 20 ∷ back)) (terminated ms
     ++ (y ++ 20 ∷ rest)) (Lacks-text g a.0.0) (Lacks-text m d.0.0)
     (sym (first-text g gs (x ++ 20 ∷ back)) ∙ e ∙ first-text m ms (y ++ 20 ∷ rest)) in
-    let first : g ≡ m = s.front in
-    let next : gs ≡ ms = same-good gs ms x y back rest a.1 d.1 p q b c s.back in
+    let first : g ≡ m = s.prefix in
+    let next : gs ≡ ms = same-good gs ms x y back rest a.1 d.1 p q b c s.suffix in
     cc
 
 one-front : (bytes : List ℕ) (j k : ℕ) → IsBadFront bytes j → IsBadFront bytes k → j ≡ k
 one-front bytes j k b c =
     let s = same-sides 20 (b.onset ++ b.duration) (c.onset ++ c.duration) (terminated b.good
-    ++ (b.text ++ 20 ∷ b.back)) (terminated c.good ++ (c.text ++ 20 ∷ c.back))
+    ++ (b.text ++ 20 ∷ b.suffix)) (terminated c.good ++ (c.text ++ 20 ∷ c.suffix))
     (Lacks-head b.onset b.duration b.is_onset b.is_duration)
     (Lacks-head c.onset c.duration c.is_onset c.is_duration) (sym b.parts ∙ c.parts) in
-    let g = same-good b.good c.good b.text c.text b.back c.back b.good_texts c.good_texts b.is_text
-    c.is_text b.bad c.bad s.back in
+    let g = same-good b.good c.good b.text c.text b.suffix c.suffix b.good_texts c.good_texts
+    b.is_text
+    c.is_text b.bad c.bad s.suffix in
     let heads : length b.onset + length b.duration ≡ length c.onset + length c.duration =
-    sym (length-append b.onset b.duration) ∙ ap length s.front ∙ length-append c.onset c.duration in
+    sym (length-append b.onset b.duration) ∙ ap length s.prefix
+    ∙ length-append c.onset c.duration in
     let goods : length (terminated b.good) ≡ length (terminated c.good) =
     ap (λ (x : List (List ℕ)). length (terminated x)) g in
     let p : j ≡ length b.onset + length b.duration + 1 + length (terminated b.good) = b.at_is in
@@ -244,13 +246,13 @@ one-bad (t ∷ ts) (u ∷ us) front rest front' rest' j k (f, r, parts, is, more
 ) g h b c e =
     let s = same-front f f' (r ++ rest) (r' ++ rest') (HasEnd-tal f t is) (HasEnd-tal f' u is')
     (regroup f r rest f' r' rest' front front' parts parts' e) in
-    let next = one-bad ts us r rest r' rest' j k more more' g.1 h.1 b c s.back in
+    let next = one-bad ts us r rest r' rest' j k more more' g.1 h.1 b c s.suffix in
     rw (parts, parts') (omega (
       arith,
       next,
       length-append f r,
       length-append f' r',
-      ap length s.front,
+      ap length s.prefix,
     ))
 
 pub one-bad-text : (bytes : List ℕ) (j k : ℕ) → IsInvalidUtf8At bytes j → IsInvalidUtf8At bytes k →
@@ -258,8 +260,8 @@ pub one-bad-text : (bytes : List ℕ) (j k : ℕ) → IsInvalidUtf8At bytes j �
 one-bad-text bytes j k b c =
     let p = bad-split bytes j b in
     let q = bad-split bytes k c in
-    let same = one-bad p.tals q.tals p.front p.rest q.front q.rest p.inner q.inner p.whole q.whole
+    let same = one-bad p.tals q.tals p.prefix p.rest q.prefix q.rest p.inner q.inner p.whole q.whole
     p.good q.good p.bad q.bad (sym p.parts ∙ q.parts) in
-    let left : j ≡ length p.front + p.inner = p.at_is in
-    let right : k ≡ length q.front + q.inner = q.at_is in
+    let left : j ≡ length p.prefix + p.inner = p.at_is in
+    let right : k ≡ length q.prefix + q.inner = q.at_is in
     omega (arith, same)

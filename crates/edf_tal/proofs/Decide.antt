@@ -11,26 +11,26 @@ use Rattle.edf_tal.proofs.Heads.{no-twenty, front-sides, front-made}
 
 -- the two sides of the first such byte
 pub record Split (c : ℕ) (bytes : List ℕ) : Type 0 where
-  pub front : List ℕ
-  pub back : List ℕ
-  pub lacks : Lacks c front
-  pub parts : bytes ≡ front ++ c ∷ back
+  pub prefix : List ℕ
+  pub suffix : List ℕ
+  pub lacks : Lacks c prefix
+  pub parts : bytes ≡ prefix ++ c ∷ suffix
 
 pub split : (c : ℕ) (bytes : List ℕ) → Split c bytes ⊎ Lacks c bytes
 split c [] = inr tt
 split c (b ∷ bytes) =
     elim (cases_eq b c) [
       | inl is ↦ inl (record {
-        front = [];
-        back = bytes;
+        prefix = [];
+        suffix = bytes;
         lacks = tt;
         parts =
             ap (λ (x : ℕ). x ∷ bytes) is;
       })
       | inr isnt ↦ elim (split c bytes) [
         | inl s ↦ inl (record {
-          front = b ∷ s.front;
-          back = s.back;
+          prefix = b ∷ s.prefix;
+          suffix = s.suffix;
           lacks = (isnt, s.lacks);
           parts =
               ap (λ (w : List ℕ). b ∷ w) s.parts;
@@ -44,14 +44,14 @@ pub times : (bytes : List ℕ) → ((n : ℕ) × (d : Option ℕ) × IsTimes byt
     ⊎ ((n : ℕ) (d : Option ℕ) → ¬ IsTimes bytes n d)
 times bytes =
     elim (split 21 bytes) [
-      | inl s ↦ elim (some-value s.front) [
-        | inl o ↦ elim (some-value s.back) [
-          | inl d ↦ inl (o.0, Some d.0, both bytes s.front s.back o.0 d.0 s.parts o.1 d.1)
+      | inl s ↦ elim (some-value s.prefix) [
+        | inl o ↦ elim (some-value s.suffix) [
+          | inl d ↦ inl (o.0, Some d.0, both bytes s.prefix s.suffix o.0 d.0 s.parts o.1 d.1)
           | inr never ↦ inr (λ n d t. let b =
-              (from-both bytes s.front s.back n d s.lacks s.parts t).duration in never b.0 b.1)
+              (from-both bytes s.prefix s.suffix n d s.lacks s.parts t).duration in never b.0 b.1)
         ]
         | inr never ↦ inr (λ n d t. let b =
-            (from-both bytes s.front s.back n d s.lacks s.parts t).onset in never b.0 b.1)
+            (from-both bytes s.prefix s.suffix n d s.lacks s.parts t).onset in never b.0 b.1)
       ]
       | inr lacks ↦ elim (some-value bytes) [
         | inl o ↦ inl (o.0, None, alone bytes o.0 o.1)
@@ -134,9 +134,9 @@ module _ (bytes body rest head-bytes texts : List ℕ) (no-zeros : Lacks 0 body)
 pub front : (bytes : List ℕ) → Front bytes ⊎ NoTal bytes
 front bytes =
     elim (split 0 bytes) [
-      | inl s ↦ elim (split 20 s.front) [
-        | inl h ↦ front-in bytes s.front s.back h.front h.back s.lacks s.parts h.lacks h.parts
-        | inr lacks ↦ inr (no-twenty bytes s.front s.back s.lacks s.parts lacks)
+      | inl s ↦ elim (split 20 s.prefix) [
+        | inl h ↦ front-in bytes s.prefix s.suffix h.prefix h.suffix s.lacks s.parts h.lacks h.parts
+        | inr lacks ↦ inr (no-twenty bytes s.prefix s.suffix s.lacks s.parts lacks)
       ]
       | inr lacks ↦ inr (no-zero-byte bytes lacks)
     ]

@@ -35,7 +35,7 @@ first-of b f more (u ∷ us) t (front, zeros, parts, (g, r, same, is, others), a
     let both = same-front g f (r ++ zeros) more (HasEnd-tal g u is) (HasEnd-tal f t s)
     (sym (append_assoc g r zeros) ∙ ap (λ (x : List ℕ). x ++ zeros) (sym same) ∙ sym parts
     ∙ e) in
-    (us, ap (λ (x : Tal). x ∷ us) (one-tal g u t is (rw (both.front) s)))
+    (us, ap (λ (x : Tal). x ∷ us) (one-tal g u t is (rw (both.prefix) s)))
 
 first-list : (b : List ℕ) (later : List (List ℕ)) (f more : List ℕ) (tss : List (List Tal))
     (t : Tal) → AreBlocks (b ∷ later) tss → IsTal f t → b ≡ f ++ more
@@ -49,7 +49,7 @@ pub known : (b : List ℕ) (later : List (List ℕ)) (texts rest : List ℕ) (s 
     (t : Tal) → AreSurveyed (b ∷ later) s sums → IsTalAtFront b texts rest t
     → Known (b ∷ later) s sums t
 known b later texts rest s sums t v f =
-    let first = first-list b later f.front rest v.tals t v.lists f.tal f.parts in
+    let first = first-list b later f.prefix rest v.tals t v.lists f.tal f.parts in
     record {
       more = first.0;
       others = first.1;

@@ -52,9 +52,9 @@ same-front a b x y p q e =
     let right : b ++ y ≡ q.body ++ 0 ∷ y = rw (q.parts) (append_assoc q.body (0 ∷ []) y) in
     let s = same-sides 0 p.body q.body x y p.no_zero q.no_zero (sym left ∙ e ∙ right) in
     record {
-      front = p.parts ∙ ap (λ (g : List ℕ). g ++ 0 ∷ []) s.front ∙ sym q.parts;
-      back =
-          s.back;
+      prefix = p.parts ∙ ap (λ (g : List ℕ). g ++ 0 ∷ []) s.prefix ∙ sym q.parts;
+      suffix =
+          s.suffix;
     }
 
 -- TALs that no TAL follows are the longest
@@ -80,13 +80,13 @@ longest (t ∷ ts) (o ∷ os) front rest front' rest' (f, r, parts, is, more) no
     ∙ append_assoc f' r' rest' in
     let s = same-front f f' (r ++ rest) (r' ++ rest') (HasEnd-tal f t is) (HasEnd-tal f' o is')
     both in
-    let next = longest ts os r rest r' rest' more none more' s.back in
+    let next = longest ts os r rest r' rest' more none more' s.suffix in
     rw (parts, parts') (omega (
       arith,
       next,
       length-append f r,
       length-append f' r',
-      ap length s.front,
+      ap length s.prefix,
     ))
 
 -- one TAL more

@@ -63,7 +63,7 @@ both-back bytes o x p y n None lacks e f s is =
 both-back bytes o x p y n (Some m) lacks e f s (text, is, t) =
     let same = same-sides 21 o p x text lacks (Lacks-seconds 21 p n (omega arith) s) (sym e ∙ f
     ∙ ap (λ (w : List ℕ). p ++ w) is) in
-    record { onset = (n, rw (same.front) s); duration = (m, rw (same.back) t) }
+    record { onset = (n, rw (same.prefix) s); duration = (m, rw (same.suffix) t) }
 
 pub from-both : (bytes o x : List ℕ) (n : ℕ) (d : Option ℕ) → Lacks 21 o → bytes ≡ o ++ 21 ∷ x →
     IsTimes bytes n d → Both o x
@@ -231,7 +231,7 @@ front-body bytes body rest front later t lacks e f s =
     let whole : front ++ later ≡ b ++ 0 ∷ later = ap (λ (w : List ℕ). w ++ later) s.parts
     ∙ append_assoc b (0 ∷ []) later in
     let same = same-sides 0 body b rest later lacks (NoZero-tal front t s) (sym e ∙ f ∙ whole) in
-    record { body_is = same.front; rest_is = same.back }
+    record { body_is = same.prefix; rest_is = same.suffix }
 
 pub no-zero-byte : (bytes : List ℕ) → Lacks 0 bytes → NoTal bytes
 no-zero-byte bytes lacks front rest t e s =
@@ -261,12 +261,12 @@ front-sides bytes body rest head texts front later t lacks e lacks' f g s =
       head = record {
         onset = s.onset;
         duration = s.duration;
-        parts = same.front;
+        parts = same.prefix;
         is_onset =
             s.is_onset;
         is_duration = s.is_duration;
       };
-      texts = same.back;
+      texts = same.suffix;
     }
 
 pub front-made : (bytes body rest head texts : List ℕ) (z : ℤ) (d : Option ℕ) → Lacks 0 body →
@@ -279,7 +279,7 @@ front-made bytes body rest head texts z d lacks e f h ends =
     let x = texts-of texts none ends in (
       x,
       record {
-        front = body ++ 0 ∷ [];
+        prefix = body ++ 0 ∷ [];
         parts = e ∙ sym (append_assoc body (0 ∷ []) rest);
         tal = record {
           onset = h.onset;

@@ -74,7 +74,7 @@ block-at (f ∷ front) back b (ts ∷ tss) l = block-at front back b tss l.1
 pub not-broken : (bs : List (List ℕ)) (tss : List (List Tal)) (at : ℕ) → AreBlocks bs tss →
     IsMalformedAt bs at → ⊥
 not-broken bs tss at l h =
-    let b = block-at h.front h.back h.block tss
+    let b = block-at h.prefix h.suffix h.block tss
     (subst (λ (x : List (List ℕ)). AreBlocks x tss) h.parts l) in
     h.broken b.0 b.1
 
@@ -104,19 +104,19 @@ pub not-bad : (bs : List (List ℕ)) (tss : List (List Tal)) (at : ℕ) → AreB
     HaveUtf8Texts (all_tals tss) → HaveInvalidUtf8At bs at → ⊥
 not-bad bs tss at l g h =
     let P = λ (b : List ℕ). (at : ℕ) → ¬ IsInvalidUtf8At b at in
-    block-in h.front h.back h.block P (subst (AllByRecursion P) h.parts (each-good bs tss l g))
+    block-in h.prefix h.suffix h.block P (subst (AllByRecursion P) h.parts (each-good bs tss l g))
     h.offset h.bad
 
 -- ---- the first block that is not right
 
 pub record SameBlock (f g : List (List ℕ)) (b c : List ℕ) : Type 0 where
-  pub front : f ≡ g
+  pub prefix : f ≡ g
   pub block : b ≡ c
 
 first-without : (P : List ℕ → Type 0) (f g x y : List (List ℕ)) (b c : List ℕ) →
     AllByRecursion P f → AllByRecursion P g → ¬ P b → ¬ P c
     → f ++ b ∷ x ≡ g ++ c ∷ y → SameBlock f g b c
-first-without P [] [] x y b c p q fails fails' e = record { front = refl; block = cc }
+first-without P [] [] x y b c p q fails fails' e = record { prefix = refl; block = cc }
 first-without P [] (h ∷ g) x y b c p q fails fails' e =
     absurd (fails (subst P (let same : h ≡ b = cc in same) q.0))
 first-without P (h ∷ f) [] x y b c p q fails fails' e =
@@ -125,42 +125,43 @@ first-without P (h ∷ f) (k ∷ g) x y b c p q fails fails' e =
     let first : h ≡ k = cc in
     let rest : f ++ b ∷ x ≡ g ++ c ∷ y = cc in
     let s = first-without P f g x y b c p.1 q.1 fails fails' rest in
-    let more : f ≡ g = s.front in
-    record { front = cc; block = s.block }
+    let more : f ≡ g = s.prefix in
+    record { prefix = cc; block = s.block }
 
 one-offset : (b : List ℕ) (m n : ℕ) → IsLongestTalPrefix b m → IsLongestTalPrefix b n → m ≡ n
 one-offset b m n p q =
-    let up = p.longest n q.tals q.within q.front in
-    let down = q.longest m p.tals p.within p.front in
+    let up = p.longest n q.tals q.within q.prefix in
+    let down = q.longest m p.tals p.within p.prefix in
     omega arith
 
 pub one-broken : (bs : List (List ℕ)) (m n : ℕ) → IsMalformedAt bs m → IsMalformedAt bs n → m ≡ n
 one-broken bs m n h k =
-    let s = first-without (λ (b : List ℕ). (ts : List Tal) × AreTalsAndZeros b ts) h.front k.front
-    h.back k.back h.block k.block
-    (each-whole h.front h.whole.0 h.whole.1) (each-whole k.front k.whole.0 k.whole.1)
+    let s = first-without (λ (b : List ℕ). (ts : List Tal) × AreTalsAndZeros b ts) h.prefix k.prefix
+    h.suffix k.suffix h.block k.block
+    (each-whole h.prefix h.whole.0 h.whole.1) (each-whole k.prefix k.whole.0 k.whole.1)
     (λ w. h.broken w.0 w.1) (λ w. k.broken w.0 w.1) (sym h.parts ∙ k.parts) in
     let offset : h.offset ≡ k.offset =
     one-offset h.block h.offset k.offset h.longest
     (subst (λ (b : List ℕ). IsLongestTalPrefix b k.offset) (sym s.block) k.longest) in
-    let left : m ≡ sum_by length h.front + h.offset = h.at_is in
-    let right : n ≡ sum_by length k.front + k.offset = k.at_is in
-    let before : sum_by length h.front ≡ sum_by length k.front = ap (sum_by length) s.front in
+    let left : m ≡ sum_by length h.prefix + h.offset = h.at_is in
+    let right : n ≡ sum_by length k.prefix + k.offset = k.at_is in
+    let before : sum_by length h.prefix ≡ sum_by length k.prefix = ap (sum_by length) s.prefix in
     omega arith
 
 pub one-bad-place : (bs : List (List ℕ)) (m n : ℕ) → HaveInvalidUtf8At bs m →
     HaveInvalidUtf8At bs n → m ≡ n
 one-bad-place bs m n h k =
-    let s = first-without (λ (b : List ℕ). (at : ℕ) → ¬ IsInvalidUtf8At b at) h.front k.front h.back
-    k.back h.block k.block
-    (each-good h.front h.good.0 h.good.1 h.good.2) (each-good k.front k.good.0 k.good.1 k.good.2)
+    let s = first-without (λ (b : List ℕ). (at : ℕ) → ¬ IsInvalidUtf8At b at) h.prefix k.prefix
+    h.suffix
+    k.suffix h.block k.block
+    (each-good h.prefix h.good.0 h.good.1 h.good.2) (each-good k.prefix k.good.0 k.good.1 k.good.2)
     (λ none. none h.offset h.bad) (λ none. none k.offset k.bad) (sym h.parts ∙ k.parts) in
     let offset : h.offset ≡ k.offset =
     one-bad-text h.block h.offset k.offset h.bad
     (subst (λ (b : List ℕ). IsInvalidUtf8At b k.offset) (sym s.block) k.bad) in
-    let left : m ≡ sum_by length h.front + h.offset = h.at_is in
-    let right : n ≡ sum_by length k.front + k.offset = k.at_is in
-    let before : sum_by length h.front ≡ sum_by length k.front = ap (sum_by length) s.front in
+    let left : m ≡ sum_by length h.prefix + h.offset = h.at_is in
+    let right : n ≡ sum_by length k.prefix + k.offset = k.at_is in
+    let before : sum_by length h.prefix ≡ sum_by length k.prefix = ap (sum_by length) s.prefix in
     omega arith
 
 -- ---- blocks, and those after them
@@ -168,11 +169,12 @@ one-bad-place bs m n h k =
 pub broken-front : (bs cs : List (List ℕ)) (at : ℕ) → IsMalformedAt bs at →
     IsMalformedAt (bs ++ cs) at
 broken-front bs cs at h = record {
-  front = h.front;
+  prefix = h.prefix;
   block = h.block;
-  back = h.back ++ cs;
+  suffix = h.suffix ++ cs;
   offset = h.offset;
-  parts = ap (λ (x : List (List ℕ)). x ++ cs) h.parts ∙ append_assoc h.front (h.block ∷ h.back) cs;
+  parts = ap (λ (x : List (List ℕ)). x ++ cs) h.parts
+      ∙ append_assoc h.prefix (h.block ∷ h.suffix) cs;
   whole = h.whole;
   broken = h.broken;
   longest = h.longest;
@@ -182,27 +184,28 @@ broken-front bs cs at h = record {
 pub broken-back : (bs cs : List (List ℕ)) (tss : List (List Tal)) (at : ℕ) → AreBlocks bs tss →
     IsMalformedAt cs at → IsMalformedAt (bs ++ cs) (sum_by length bs + at)
 broken-back bs cs tss at l h = record {
-  front = bs ++ h.front;
+  prefix = bs ++ h.prefix;
   block = h.block;
-  back = h.back;
+  suffix = h.suffix;
   offset = h.offset;
   parts = ap (λ (x : List (List ℕ)). bs ++ x) h.parts
-      ∙ sym (append_assoc bs h.front (h.block ∷ h.back));
-  whole = (tss ++ h.whole.0, lists-append bs h.front tss h.whole.0 l h.whole.1);
+      ∙ sym (append_assoc bs h.prefix (h.block ∷ h.suffix));
+  whole = (tss ++ h.whole.0, lists-append bs h.prefix tss h.whole.0 l h.whole.1);
   broken = h.broken;
   longest = h.longest;
-  at_is = let p : at ≡ sum_by length h.front + h.offset = h.at_is in
-      omega (arith, sum_by-append length bs h.front);
+  at_is = let p : at ≡ sum_by length h.prefix + h.offset = h.at_is in
+      omega (arith, sum_by-append length bs h.prefix);
 }
 
 pub bad-front : (bs cs : List (List ℕ)) (at : ℕ) → HaveInvalidUtf8At bs at →
     HaveInvalidUtf8At (bs ++ cs) at
 bad-front bs cs at h = record {
-  front = h.front;
+  prefix = h.prefix;
   block = h.block;
-  back = h.back ++ cs;
+  suffix = h.suffix ++ cs;
   offset = h.offset;
-  parts = ap (λ (x : List (List ℕ)). x ++ cs) h.parts ∙ append_assoc h.front (h.block ∷ h.back) cs;
+  parts = ap (λ (x : List (List ℕ)). x ++ cs) h.parts
+      ∙ append_assoc h.prefix (h.block ∷ h.suffix) cs;
   good = h.good;
   bad = h.bad;
   at_is = h.at_is;
@@ -211,21 +214,21 @@ bad-front bs cs at h = record {
 pub bad-back : (bs cs : List (List ℕ)) (s : ℕ) (sums : Sums) (at : ℕ) → AreSurveyed bs s sums →
     HaveInvalidUtf8At cs at → HaveInvalidUtf8At (bs ++ cs) (sum_by length bs + at)
 bad-back bs cs s sums at v h = record {
-  front = bs ++ h.front;
+  prefix = bs ++ h.prefix;
   block = h.block;
-  back = h.back;
+  suffix = h.suffix;
   offset = h.offset;
   parts = ap (λ (x : List (List ℕ)). bs ++ x) h.parts
-      ∙ sym (append_assoc bs h.front (h.block ∷ h.back));
+      ∙ sym (append_assoc bs h.prefix (h.block ∷ h.suffix));
   good = (
     v.tals ++ h.good.0,
-    lists-append bs h.front v.tals h.good.0 v.lists h.good.1,
+    lists-append bs h.prefix v.tals h.good.0 v.lists h.good.1,
     rw (all_tals-append v.tals h.good.0)
         (all-append IsGood (all_tals v.tals) (all_tals h.good.0) v.good h.good.2),
   );
   bad = h.bad;
-  at_is = let p : at ≡ sum_by length h.front + h.offset = h.at_is in
-      omega (arith, sum_by-append length bs h.front);
+  at_is = let p : at ≡ sum_by length h.prefix + h.offset = h.at_is in
+      omega (arith, sum_by-append length bs h.prefix);
 }
 
 abbrev pub both : Sums → Sums → Sums
@@ -299,20 +302,20 @@ form-append bs cs s (BadText at) g p q =
 not-block : (block rest : List ℕ) → FollowsTals block rest → NoTal rest → ¬ AreZeros rest →
     (ts : List Tal) → ¬ AreTalsAndZeros block ts
 not-block block rest b last not-zeros ts (front, zeros, parts, tals, are) =
-    not-zeros (rw (same-tals b.tals ts b.front rest front zeros b.whole tals last
+    not-zeros (rw (same-tals b.tals ts b.prefix rest front zeros b.whole tals last
     (zeros-no-tal zeros are) (sym b.parts ∙ parts)).rest are)
 
 longest-front : (block rest : List ℕ) → FollowsTals block rest → NoTal rest →
     IsLongestTalPrefix block (length block - length rest)
 longest-front block rest b last =
-    let len : length block - length rest ≡ length b.front =
-    omega (arith, ap length b.parts, length-append b.front rest) in
+    let len : length block - length rest ≡ length b.prefix =
+    omega (arith, ap length b.parts, length-append b.prefix rest) in
     rw len (record {
       tals = b.tals;
-      within = omega (arith, ap length b.parts, length-append b.front rest);
-      front = rw (b.parts, take_at b.front rest (length b.front) refl) b.whole;
+      within = omega (arith, ap length b.parts, length-append b.prefix rest);
+      prefix = rw (b.parts, take_at b.prefix rest (length b.prefix) refl) b.whole;
       longest = λ m others low others-are.
-          let s = longest b.tals others b.front rest (take m block) (drop m block) b.whole last
+          let s = longest b.tals others b.prefix rest (take m block) (drop m block) b.whole last
           others-are (sym b.parts ∙ sym (take-append-drop m block)) in
           omega (arith, s, length-take m block);
     })
@@ -320,9 +323,9 @@ longest-front block rest b last =
 pub broken-one : (block rest : List ℕ) → FollowsTals block rest → NoTal rest → ¬ AreZeros rest →
     IsMalformedAt (block ∷ []) (length block - length rest)
 broken-one block rest b last not-zeros = record {
-  front = [];
+  prefix = [];
   block = block;
-  back = [];
+  suffix = [];
   offset = length block - length rest;
   parts = refl;
   whole = ([], tt);
@@ -334,11 +337,11 @@ broken-one block rest b last not-zeros = record {
 pub form-bad : (block rest : List ℕ) (s at : ℕ) → FollowsTals block rest → AreZeros rest →
     IsInvalidUtf8At block at → HasForm (block ∷ []) s (BadText at)
 form-bad block rest s at b zeros bad = (
-  (b.tals ∷ [], ((b.front, rest, b.parts, b.whole, zeros), tt)),
+  (b.tals ∷ [], ((b.prefix, rest, b.parts, b.whole, zeros), tt)),
   record {
-    front = [];
+    prefix = [];
     block = block;
-    back = [];
+    suffix = [];
     offset = at;
     parts = refl;
     good = ([], tt, tt);
@@ -359,7 +362,7 @@ surveyed-one block rest s in_window count bytes v zeros =
     let one = all_tals-one v.tals in
     record {
       tals = v.tals ∷ [];
-      lists = ((v.front, rest, v.parts, v.whole, zeros), tt);
+      lists = ((v.prefix, rest, v.parts, v.whole, zeros), tt);
       good = subst HaveUtf8Texts one v.good;
       window = subst (λ (ts : List Tal). IsTrue in_window ↔ AllByRecursion (IsTalInWindow s) ts) one
           v.window;
@@ -414,10 +417,10 @@ surveyed-room bs s sums v =
 pub broken-room : (bs : List (List ℕ)) (at : ℕ) → IsMalformedAt bs at → at ≤ sum_by length bs
 broken-room bs at h =
     let low : h.offset ≤ length h.block = h.longest.within in
-    let here : at ≡ sum_by length h.front + h.offset = h.at_is in
+    let here : at ≡ sum_by length h.prefix + h.offset = h.at_is in
     omega (
       arith,
       ap (sum_by length) h.parts,
-      sum_by-append length h.front (h.block ∷ h.back),
-      sum_by-cons length h.block h.back,
+      sum_by-append length h.prefix (h.block ∷ h.suffix),
+      sum_by-cons length h.block h.suffix,
     )

@@ -40,10 +40,10 @@ next-text rest text more (x ∷ xs) e a u lacks f =
     (sym (append_assoc x (20 ∷ []) (terminated xs)) ∙ sym e ∙ f) in
     record {
       others = xs;
-      left_is = ap (λ (w : List ℕ). w ∷ xs) s.front;
-      is_text = subst IsText s.front a.0;
-      good = subst IsUtf8 s.front u.0;
-      rest = record { bytes_are = sym s.back; are_texts = a.1; good = u.1 };
+      left_is = ap (λ (w : List ℕ). w ∷ xs) s.prefix;
+      is_text = subst IsText s.prefix a.0;
+      good = subst IsUtf8 s.prefix u.0;
+      rest = record { bytes_are = sym s.suffix; are_texts = a.1; good = u.1 };
     }
 
 pub pushed-next : (onset : ℕ) (duration : Option ℕ) (texts rest text more : List ℕ)
@@ -86,8 +86,8 @@ same-texts (x ∷ xs) (y ∷ ys) a b e =
     let s = same-sides 20 x y (terminated xs) (terminated ys) (Lacks-text x a.0) (Lacks-text y b.0)
     (sym (append_assoc x (20 ∷ []) (terminated xs)) ∙ e ∙ append_assoc y (20 ∷ []) (terminated ys))
     in
-    let first : x ≡ y = s.front in
-    let more : xs ≡ ys = same-texts xs ys a.1 b.1 s.back in
+    let first : x ≡ y = s.prefix in
+    let more : xs ≡ ys = same-texts xs ys a.1 b.1 s.suffix in
     cc
 
 pub pushed-all : (onset : ℕ) (duration : Option ℕ) (texts rest : List ℕ)
@@ -128,14 +128,14 @@ next-tal s bytes texts more t ts a f = at ts a.whole a.good a.window
     at : (us : List Tal) → AreTalsAndZeros bytes us → HaveUtf8Texts us →
         AllByRecursion (IsTalInWindow s) us → NextTal s more texts t us
     at [] (front, zeros, parts, w, are) g i =
-        absurd (zeros-no-tal zeros are f.front more t
+        absurd (zeros-no-tal zeros are f.prefix more t
         (sym (parts ∙ ap (λ (x : List ℕ). x ++ zeros) w) ∙ f.parts) f.tal)
     at (u ∷ us) (front, zeros, parts, (first, r, both, is, others), are) g i =
         let whole : bytes ≡ first ++ (r ++ zeros) = parts ∙ ap (λ (x : List ℕ). x ++ zeros) both
         ∙ append_assoc first r zeros in
-        let same = same-front first f.front (r ++ zeros) more (HasEnd-tal first u is)
-        (HasEnd-tal f.front t f.tal) (sym whole ∙ f.parts) in
-        let one = one-tal first u t is (rw (same.front) (f.tal)) in
+        let same = same-front first f.prefix (r ++ zeros) more (HasEnd-tal first u is)
+        (HasEnd-tal f.prefix t f.tal) (sym whole ∙ f.parts) in
+        let one = one-tal first u t is (rw (same.prefix) (f.tal)) in
         record {
           others = us;
           left_is = ap (λ (x : Tal). x ∷ us) one;
@@ -144,7 +144,7 @@ next-tal s bytes texts more t ts a f = at ts a.whole a.good a.window
           window = subst (IsTalInWindow s) one i.0;
           texts_are = f.texts_are;
           sound = record {
-            whole = (r, zeros, sym same.back, others, are);
+            whole = (r, zeros, sym same.suffix, others, are);
             good = g.1;
             window =
                 i.1;

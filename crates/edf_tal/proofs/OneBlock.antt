@@ -30,7 +30,7 @@ zeros-no-tal zeros a front rest t e s =
 
 pub record SameTals (ts us : List Tal) (f x g y : List ℕ) : Type 0 where
   pub tals : ts ≡ us
-  pub front : f ≡ g
+  pub prefix : f ≡ g
   pub rest : x ≡ y
 
 -- TALs up to where no TAL follows
@@ -40,7 +40,7 @@ pub same-tals : (ts us : List Tal) (front rest front' rest' : List ℕ) → AreT
 same-tals [] [] front rest front' rest' p q none none' e =
     record {
       tals = refl;
-      front = p ∙ sym q;
+      prefix = p ∙ sym q;
       rest = sym (ap (λ (x : List ℕ). x ++ rest) p) ∙ e
           ∙ ap (λ (x : List ℕ). x ++ rest') q;
     }
@@ -62,12 +62,12 @@ same-tals (t ∷ ts) (u ∷ us) front rest front' rest' (f, r, parts, is, more) 
     ∙ append_assoc f' r' rest' in
     let s = same-front f f' (r ++ rest) (r' ++ rest') (HasEnd-tal f t is) (HasEnd-tal f' u is')
     both in
-    let first : t ≡ u = one-tal f t u is (rw (s.front) is') in
-    let next = same-tals ts us r rest r' rest' more more' none none' s.back in
+    let first : t ≡ u = one-tal f t u is (rw (s.prefix) is') in
+    let next = same-tals ts us r rest r' rest' more more' none none' s.suffix in
     let tails : ts ≡ us = next.tals in
-    let fronts : f ≡ f' = s.front in
-    let rests : r ≡ r' = next.front in
-    record { tals = cc; front = cc; rest = next.rest }
+    let fronts : f ≡ f' = s.prefix in
+    let rests : r ≡ r' = next.prefix in
+    record { tals = cc; prefix = cc; rest = next.rest }
 
 pub one-block : (b : List ℕ) (ts us : List Tal) → AreTalsAndZeros b ts → AreTalsAndZeros b us →
     ts ≡ us

@@ -35,16 +35,16 @@ duration-told (Some n) None t h = absurd t
 
 -- one TAL more
 pub after-none : (bytes : List ℕ) → FollowsTals bytes bytes
-after-none bytes = record { front = []; tals = []; parts = refl; whole = refl }
+after-none bytes = record { prefix = []; tals = []; parts = refl; whole = refl }
 
 pub after-more : (bytes rest texts more : List ℕ) (t : Tal) → FollowsTals bytes rest →
     IsTalAtFront rest texts more t → FollowsTals bytes more
 after-more bytes rest texts more t b f = record {
-  front = b.front ++ f.front;
+  prefix = b.prefix ++ f.prefix;
   tals = b.tals ++ t ∷ [];
-  parts = b.parts ∙ ap (λ (w : List ℕ). b.front ++ w) f.parts
-      ∙ sym (append_assoc b.front f.front more);
-  whole = AreTals-more b.front f.front b.tals t b.whole f.tal;
+  parts = b.parts ∙ ap (λ (w : List ℕ). b.prefix ++ w) f.parts
+      ∙ sym (append_assoc b.prefix f.prefix more);
+  whole = AreTals-more b.prefix f.prefix b.tals t b.whole f.tal;
 }
 
 AreTals-append : (a b : List ℕ) (ts us : List Tal) → AreTals a ts → AreTals b us →
@@ -61,11 +61,11 @@ AreTals-append a b (t ∷ ts) us (f, r, parts, is, more) q = (
 pub after-after : (bytes rest more : List ℕ) → FollowsTals bytes rest → FollowsTals rest more →
     FollowsTals bytes more
 after-after bytes rest more b c = record {
-  front = b.front ++ c.front;
+  prefix = b.prefix ++ c.prefix;
   tals = b.tals ++ c.tals;
-  parts = b.parts ∙ ap (λ (w : List ℕ). b.front ++ w) c.parts
-      ∙ sym (append_assoc b.front c.front more);
-  whole = AreTals-append b.front c.front b.tals c.tals b.whole c.whole;
+  parts = b.parts ∙ ap (λ (w : List ℕ). b.prefix ++ w) c.parts
+      ∙ sym (append_assoc b.prefix c.prefix more);
+  whole = AreTals-append b.prefix c.prefix b.tals c.tals b.whole c.whole;
 }
 
 pub front-shorter : (bytes texts rest : List ℕ) (t : Tal) → IsTalAtFront bytes texts rest t →
@@ -76,7 +76,7 @@ front-shorter bytes texts rest t f =
       ap length f.parts,
       ap length f.texts_are,
       ap length f.tal.parts,
-      length-append f.front rest,
+      length-append f.prefix rest,
       length-append ((f.tal.onset ++ f.tal.duration) ++ 20 ∷ terminated t.texts) (0 ∷ []),
       length-append (f.tal.onset ++ f.tal.duration) (20 ∷ terminated t.texts),
     )
@@ -93,8 +93,8 @@ same-list (x ∷ xs) [] rest a l b e =
 same-list (x ∷ xs) (y ∷ ys) rest a l b e =
     let s = same-sides 20 x y (terminated xs ++ rest) (terminated ys) a.0.0 (Lacks-text y b.0)
     (sym (first-text x xs rest) ∙ e ∙ append_assoc y (20 ∷ []) (terminated ys)) in
-    let first : x ≡ y = s.front in
-    let more : xs ≡ ys = same-list xs ys rest a.1 l b.1 s.back in
+    let first : x ≡ y = s.prefix in
+    let more : xs ≡ ys = same-list xs ys rest a.1 l b.1 s.suffix in
     cc
 
 all-utf8 : (xs : List (List ℕ)) → AllByRecursion (λ x. Lacks 20 x × IsUtf8 x) xs →
@@ -166,7 +166,7 @@ window-more s (u ∷ ts) t a = let r = window-more s ts t a.1 in ((a.0, r.0), r.
 
 pub survey-none : (block : List ℕ) (s : ℕ) → IsSurvey block s block true 0 0
 survey-none block s = record {
-  front = [];
+  prefix = [];
   tals = [];
   parts = refl;
   whole = refl;
@@ -184,7 +184,7 @@ pub survey-more : (block rest texts more : List ℕ) (s : ℕ) (t : Tal) (in_win
 survey-more block rest texts more s t in_window next is count bytes n m v f g one both sum =
     let c = counted texts more rest t n f g in
     let b = after-more block rest texts more t
-    (record { front = v.front; tals = v.tals; parts = v.parts; whole = v.whole }) f in
+    (record { prefix = v.prefix; tals = v.tals; parts = v.parts; whole = v.whole }) f in
     let list = flat_map-append s v.tals t in
     let before : count ≡ length (flat_map (tal_annotations s) v.tals) = v.count_is in
     let bytes-before : bytes ≡ text_bytes (flat_map (tal_annotations s) v.tals) = v.bytes_is in
@@ -192,11 +192,11 @@ survey-more block rest texts more s t in_window next is count bytes n m v f g on
     let texts-are : length texts ≡ length t.texts + sum_by length t.texts = ap length f.texts_are
     ∙ length-ended-is t.texts in
     record {
-      front = v.front ++ f.front;
+      prefix = v.prefix ++ f.prefix;
       tals = v.tals ++ t ∷ [];
-      parts = v.parts ∙ ap (λ (w : List ℕ). v.front ++ w) f.parts
-          ∙ sym (append_assoc v.front f.front more);
-      whole = AreTals-more v.front f.front v.tals t v.whole f.tal;
+      parts = v.parts ∙ ap (λ (w : List ℕ). v.prefix ++ w) f.parts
+          ∙ sym (append_assoc v.prefix f.prefix more);
+      whole = AreTals-more v.prefix f.prefix v.tals t v.whole f.tal;
       good = all-more (λ (t : Tal). AllByRecursion IsUtf8 t.texts) v.tals t v.good c.good;
       window = (
         λ h. let p = both.0 h in all-more (IsTalInWindow s) v.tals t (v.window.0 p.0) (one.0 p.1),
@@ -243,9 +243,9 @@ survey-room block rest s in_window count bytes v =
     let b : bytes ≡ text_bytes (flat_map (tal_annotations s) v.tals) = v.bytes_is in
     omega (
       arith,
-      length-tals s v.front v.tals v.whole,
+      length-tals s v.prefix v.tals v.whole,
       ap length v.parts,
-      length-append v.front rest,
+      length-append v.prefix rest,
     )
 
 pub good-count : (texts : List ℕ) (n : ℕ) → AreGoodTexts texts n → n ≤ length texts
@@ -286,24 +286,24 @@ bad-front : (rest texts more : List ℕ) (t : Tal) (at : ℕ) (f : IsTalAtFront 
     IsBadAmong texts at
     → IsBadFront rest (length f.tal.onset + length f.tal.duration + 1 + at)
 bad-front rest texts more t at f b =
-    let none : Lacks 0 (terminated b.good ++ (b.text ++ 20 ∷ b.back)) =
+    let none : Lacks 0 (terminated b.good ++ (b.text ++ 20 ∷ b.suffix)) =
     subst (Lacks 0) b.parts (rw (f.texts_are) (NoZero-ended t.texts f.tal.are_texts)) in
     record {
       onset = f.tal.onset;
       duration = f.tal.duration;
       good = b.good;
       text = b.text;
-      back = b.back ++ 0 ∷ more;
-      parts = f.parts ∙ tal-sides f.front more t f.tal
+      suffix = b.suffix ++ 0 ∷ more;
+      parts = f.parts ∙ tal-sides f.prefix more t f.tal
           ∙ ap (λ (w : List ℕ). (f.tal.onset ++ f.tal.duration)
           ++ 20 ∷ (w ++ 0 ∷ more)) (sym f.texts_are ∙ b.parts) ∙ simp append_assoc;
       is_onset = (t.onset, f.tal.is_onset);
       is_duration = (t.duration, f.tal.is_duration);
       good_texts = good-texts b.good
-          (Lacks-front 0 (terminated b.good) (b.text ++ 20 ∷ b.back) none)
+          (Lacks-front 0 (terminated b.good) (b.text ++ 20 ∷ b.suffix) none)
           b.good_texts;
-      is_text = is-text b.text (Lacks-front 0 b.text (20 ∷ b.back)
-          (Lacks-back 0 (terminated b.good) (b.text ++ 20 ∷ b.back) none)) b.is_text;
+      is_text = is-text b.text (Lacks-front 0 b.text (20 ∷ b.suffix)
+          (Lacks-back 0 (terminated b.good) (b.text ++ 20 ∷ b.suffix) none)) b.is_text;
       bad = b.bad;
       at_is = let p : at ≡ length (terminated b.good) = b.at_is in omega arith;
     }
@@ -314,15 +314,15 @@ pub survey-bad : (block rest texts more : List ℕ) (s : ℕ) (t : Tal) (in_wind
     → IsTalAtFront rest texts more t → IsBadAmong texts at →
     IsInvalidUtf8At block (length block - length more - 1 - length texts + at)
 survey-bad block rest texts more s t in_window count bytes at v f b =
-    bad-join block v.front rest v.tals (length block - length more - 1 - length texts + at)
+    bad-join block v.prefix rest v.tals (length block - length more - 1 - length texts + at)
     (length f.tal.onset + length f.tal.duration + 1 + at) v.parts v.whole v.good
     (bad-front rest texts more t at f b)
     (omega (
       arith,
       ap length v.parts,
-      length-append v.front rest,
+      length-append v.prefix rest,
       ap length f.parts,
-      length-append f.front more,
+      length-append f.prefix more,
       ap length f.texts_are,
       ap length f.tal.parts,
       length-append ((f.tal.onset ++ f.tal.duration) ++ 20 ∷ terminated t.texts) (0 ∷ []),
@@ -333,7 +333,7 @@ survey-bad block rest texts more s t in_window count bytes at v f b =
 pub survey-after : (block rest : List ℕ) (s : ℕ) (in_window : Bool) (count bytes : ℕ) →
     IsSurvey block s rest in_window count bytes → FollowsTals block rest
 survey-after block rest s in_window count bytes v =
-    record { front = v.front; tals = v.tals; parts = v.parts; whole = v.whole }
+    record { prefix = v.prefix; tals = v.tals; parts = v.parts; whole = v.whole }
 
 pub both-true : (a b : Bool) → IsTrue (a && b) ↔ (IsTrue a × IsTrue b)
 both-true true true = (λ h. (refl, refl), λ h. refl)

@@ -14,20 +14,20 @@ Lacks-append c [] b p q = q
 Lacks-append c (x ∷ a) b p q = (p.0, Lacks-append c a b p.1 q)
 
 pub record SameSides (a b x y : List ℕ) : Type 0 where
-  pub front : a ≡ b
-  pub back : x ≡ y
+  pub prefix : a ≡ b
+  pub suffix : x ≡ y
 
 -- the two sides of the first such byte
 pub same-sides : (c : ℕ) (a b x y : List ℕ) → Lacks c a → Lacks c b → a ++ c ∷ x ≡ b ++ c ∷ y →
     SameSides a b x y
-same-sides c [] [] x y p q e = record { front = refl; back = cc }
+same-sides c [] [] x y p q e = record { prefix = refl; suffix = cc }
 same-sides c [] (d ∷ b) x y p q e = absurd (q.0 (sym (let z : c ≡ d = cc in z)))
 same-sides c (d ∷ a) [] x y p q e = absurd (p.0 (let z : d ≡ c = cc in z))
 same-sides c (d ∷ a) (f ∷ b) x y p q e =
     let head : d ≡ f = cc in
     let rest : a ++ c ∷ x ≡ b ++ c ∷ y = cc in
     let s = same-sides c a b x y p.1 q.1 rest in
-    record { front = cc; back = s.back }
+    record { prefix = cc; suffix = s.suffix }
 
 -- a list with the byte is none without it
 pub not-both : (c : ℕ) (a b y : List ℕ) → Lacks c a → a ≡ b ++ c ∷ y → ⊥
@@ -96,9 +96,9 @@ one-head o p x y (Some m) (Some n) a b (t, f, s) (r, g, q) e =
     let same = same-sides 21 o p t r a b (ap (λ (w : List ℕ). o ++ w) (sym f) ∙ e
     ∙ ap (λ (w : List ℕ). p ++ w) g) in
     record {
-      onset = same.front;
+      onset = same.prefix;
       duration =
-          ap (λ (k : ℕ). Some k) (one-value t m n s (rw (same.back) q));
+          ap (λ (k : ℕ). Some k) (one-value t m n s (rw (same.suffix) q));
     }
 
 pub Lacks-text : (text : List ℕ) → IsText text → Lacks 20 text
@@ -128,8 +128,8 @@ one-texts (x ∷ xs) (y ∷ ys) p q e =
     sym (regrouped x xs) ∙ e ∙ regrouped y ys in
     let s = same-sides 20 x y (terminated xs ++ 0 ∷ []) (terminated ys
     ++ 0 ∷ []) (Lacks-text x p.0) (Lacks-text y q.0) left in
-    let more = one-texts xs ys p.1 q.1 s.back in
-    let first : x ≡ y = s.front in
+    let more = one-texts xs ys p.1 q.1 s.suffix in
+    let first : x ≡ y = s.prefix in
     cc
 
 -- bytes are one TAL at most
@@ -150,9 +150,10 @@ one-tal bytes t s p q =
     let head = one-head p.onset q.onset p.duration q.duration t.duration s.duration
     (Lacks-onset 21 p.onset t.onset (omega arith) p.is_onset)
     (Lacks-onset 21 q.onset s.onset (omega arith) q.is_onset) p.is_duration q.is_duration
-    sides.front in
+    sides.prefix in
     let onset : t.onset ≡ s.onset =
     one-onset p.onset t.onset s.onset p.is_onset (rw (head.onset) q.is_onset) in
     let duration : t.duration ≡ s.duration = head.duration in
-    let texts : t.texts ≡ s.texts = one-texts t.texts s.texts p.are_texts q.are_texts sides.back in
+    let texts : t.texts ≡ s.texts =
+    one-texts t.texts s.texts p.are_texts q.are_texts sides.suffix in
     λ i. record { onset = onset i; duration = duration i; texts = texts i }

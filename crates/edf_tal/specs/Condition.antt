@@ -5,55 +5,55 @@ use Rattle.std.specs.List.{AllByRecursion}
 use Rattle.edf_tal.specs.Tal.{Tal, IsOnset, IsDurationPart, IsText, terminated, AreTals}
 use Rattle.edf_tal.specs.Tal.{AreTalsAndZeros, AreBlocks, all_tals, HaveUtf8Texts}
 
--- the longest front that is whole TALs has n bytes
+-- the longest prefix that is whole TALs has n bytes
 pub record IsLongestTalPrefix (bytes : List ℕ) (n : ℕ) : Type 0 where
   pub tals : List Tal
   pub within : n ≤ length bytes
-  pub front : AreTals (take n bytes) tals
+  pub prefix : AreTals (take n bytes) tals
   pub longest : (m : ℕ) (others : List Tal) → m ≤ length bytes → AreTals (take m bytes) others →
       m ≤ n
 
 -- the first text that is not UTF-8 begins at `at`: after whole TALs and texts of its own TAL, all
 -- of which are UTF-8
 pub record IsInvalidUtf8At (bytes : List ℕ) (at : ℕ) : Type 0 where
-  pub front : List ℕ
+  pub prefix : List ℕ
   pub tals : List Tal
   pub onset : List ℕ
   pub duration : List ℕ
   pub good : List (List ℕ)
   pub text : List ℕ
-  pub back : List ℕ
-  pub parts : bytes ≡ front ++ onset ++ duration ++ 20 ∷ terminated good ++ text ++ 20 ∷ back
-  pub whole : AreTals front tals
+  pub suffix : List ℕ
+  pub parts : bytes ≡ prefix ++ onset ++ duration ++ 20 ∷ terminated good ++ text ++ 20 ∷ suffix
+  pub whole : AreTals prefix tals
   pub front_good : HaveUtf8Texts tals
   pub is_onset : (z : ℤ) × IsOnset onset z
   pub is_duration : (d : Option ℕ) × IsDurationPart duration d
   pub good_texts : AllByRecursion (λ x. IsText x × IsUtf8 x) good
   pub is_text : IsText text
   pub bad : ¬ IsUtf8 text
-  pub at_is : at ≡ length front + length onset + length duration + 1 + length (terminated good)
+  pub at_is : at ≡ length prefix + length onset + length duration + 1 + length (terminated good)
 
--- the first block that is not TALs and zeros: the longest front of whole TALs ends at `offset` in
+-- the first block that is not TALs and zeros: the longest prefix of whole TALs ends at `offset` in
 -- it, and at `at` in the blocks joined
 pub record IsMalformedAt (blocks : List (List ℕ)) (at : ℕ) : Type 0 where
-  pub front : List (List ℕ)
+  pub prefix : List (List ℕ)
   pub block : List ℕ
-  pub back : List (List ℕ)
+  pub suffix : List (List ℕ)
   pub offset : ℕ
-  pub parts : blocks ≡ front ++ block ∷ back
-  pub whole : (tss : List (List Tal)) × AreBlocks front tss
+  pub parts : blocks ≡ prefix ++ block ∷ suffix
+  pub whole : (tss : List (List Tal)) × AreBlocks prefix tss
   pub broken : (ts : List Tal) → ¬ AreTalsAndZeros block ts
   pub longest : IsLongestTalPrefix block offset
-  pub at_is : at ≡ sum_by length front + offset
+  pub at_is : at ≡ sum_by length prefix + offset
 
 -- the first text of all blocks that is not UTF-8: it is at `offset` in its block, and at `at` in
 -- the blocks joined
 pub record HaveInvalidUtf8At (blocks : List (List ℕ)) (at : ℕ) : Type 0 where
-  pub front : List (List ℕ)
+  pub prefix : List (List ℕ)
   pub block : List ℕ
-  pub back : List (List ℕ)
+  pub suffix : List (List ℕ)
   pub offset : ℕ
-  pub parts : blocks ≡ front ++ block ∷ back
-  pub good : (tss : List (List Tal)) × AreBlocks front tss × HaveUtf8Texts (all_tals tss)
+  pub parts : blocks ≡ prefix ++ block ∷ suffix
+  pub good : (tss : List (List Tal)) × AreBlocks prefix tss × HaveUtf8Texts (all_tals tss)
   pub bad : IsInvalidUtf8At block offset
-  pub at_is : at ≡ sum_by length front + offset
+  pub at_is : at ≡ sum_by length prefix + offset

@@ -49,13 +49,13 @@ pub record IsTal (bytes : List ℕ) (t : Tal) : Type 0 where
 -- TALs alone, each right after the one before
 abbrev pub AreTals : List ℕ → List Tal → Type 0
 AreTals bytes [] = bytes ≡ []
-AreTals bytes (t ∷ ts) = (front : List ℕ) × (rest : List ℕ) × (bytes ≡ front ++ rest)
-    × IsTal front t × AreTals rest ts
+AreTals bytes (t ∷ ts) = (prefix : List ℕ) × (rest : List ℕ) × (bytes ≡ prefix ++ rest)
+    × IsTal prefix t × AreTals rest ts
 
 -- TALs, and then zeros to the end
 abbrev pub AreTalsAndZeros : List ℕ → List Tal → Type 0
 AreTalsAndZeros bytes ts =
-    (front : List ℕ) × (zeros : List ℕ) × (bytes ≡ front ++ zeros) × AreTals front ts
+    (prefix : List ℕ) × (zeros : List ℕ) × (bytes ≡ prefix ++ zeros) × AreTals prefix ts
     × AllByRecursion (λ b. b ≡ 0) zeros
 
 -- the blocks of a data record, each by itself TALs and zeros

@@ -42,7 +42,7 @@ pub(crate) fn are_zeros(bytes: &[u8]) -> bool
 }
 
 /// What is found in a block that is TALs and zeros. For any other the answer is where its longest
-/// front of whole TALs ends.
+/// prefix of whole TALs ends.
 fn form_of(block: &[u8], file_start: Instant) -> Result<Form, usize>
     ensures { MatchResult result (HasForm (block.now ∷ []) file_start)
         (IsMalformedAt (block.now ∷ [])) }

@@ -27,7 +27,7 @@ pub(crate) struct Times {
 
 /// The TAL at the front of some bytes.
 #[derive(Clone, Copy)]
-pub(crate) struct FrontTal<'a> {
+pub(crate) struct LeadingTal<'a> {
     pub(crate) times: Times,
     /// Its texts, each with the byte that ends it.
     pub(crate) texts: &'a [u8],
@@ -119,7 +119,7 @@ fn is_ended(bytes: &[u8]) -> bool
 }
 
 /// The TAL at the front.
-pub(crate) fn first_tal(bytes: &[u8]) -> Option<FrontTal<'_>>
+pub(crate) fn first_tal(bytes: &[u8]) -> Option<LeadingTal<'_>>
     ensures { MatchOption result (NoTal bytes.now)
         (λ f. (t : Tal) × IsTalAtFront bytes.now f.texts.now f.rest.now t
         × IsCappedOnset f.times.ahead f.times.onset t.onset
@@ -131,7 +131,7 @@ pub(crate) fn first_tal(bytes: &[u8]) -> Option<FrontTal<'_>>
         return None;
     }
     let times = head_times(head)?;
-    Some(FrontTal { times, texts, rest })
+    Some(LeadingTal { times, texts, rest })
 }
 
 fn is_utf8(text: &[u8]) -> bool

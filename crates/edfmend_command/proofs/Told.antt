@@ -76,10 +76,10 @@ pub front-longer : (w : OutputChange) (bytes more : List ℕ) → GetsPrefix w b
     GetsPrefix w (bytes ++ more)
 front-longer w bytes more front = (
   record {
-    front = front.0.front;
+    prefix = front.0.prefix;
     remaining = front.0.remaining ++ more;
     parts = ap (λ (t : List ℕ). t ++ more) front.0.parts
-        ∙ append_assoc front.0.front front.0.remaining more;
+        ∙ append_assoc front.0.prefix front.0.remaining more;
     wrote = front.0.wrote;
   },
   front.1,

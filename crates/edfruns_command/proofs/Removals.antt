@@ -24,12 +24,12 @@ module _ (a : Option (List ℕ)) (old : ℕ) (b : Option (List ℕ)) (mid : ℕ)
       Gets (grown b mid c new) [] → GetsPrefix (grown a old c new) (text ++ more)
   front-kept text more first none = (
     record {
-      front = first.0.front;
+      prefix = first.0.prefix;
       remaining = first.0.remaining ++ more;
       parts = ap (λ (t : List ℕ). t ++ more) first.0.parts
-          ∙ append_assoc first.0.front first.0.remaining more;
-      wrote = subst (Appends a c) (append-nil first.0.front)
-          (Appends-trans a b c first.0.front [] first.0.wrote none.0);
+          ∙ append_assoc first.0.prefix first.0.remaining more;
+      wrote = subst (Appends a c) (append-nil first.0.prefix)
+          (Appends-trans a b c first.0.prefix [] first.0.wrote none.0);
     },
     none.1 ∙ first.1,
   )

@@ -20,7 +20,7 @@ fn number_in(rt: &HostRuntime, path: &str) -> Option<u64> {
     }
 }
 
-/// How many bytes one group leaves of its limit: that of a front of the path.
+/// How many bytes one group leaves of its limit: that of a prefix of the path.
 fn left_at(rt: &HostRuntime, group: Group<'_>, front: &str) -> Option<u64> {
     let folder = group.folder;
     let limit = format!(in rt.alloc(); "{folder}{front}/{}", group.limit).ok()?;

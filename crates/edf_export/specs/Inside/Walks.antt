@@ -51,7 +51,7 @@ IsWritingFault (Store fault) = IsStoreRefusal fault
 IsWritingFault Memory = Unit {0}
 IsWritingFault Write = Unit {0}
 
--- just these bytes were written, or a front of them
+-- just these bytes were written, or a prefix of them
 abbrev pub IsSentOut : Option (List ℕ) → Option (List ℕ) → List ℕ → Result Unit ExportFault → Type 0
 IsSentOut before after bytes result =
     MatchResult result (λ _. Appends before after bytes) (λ fault. WritesPrefix before after bytes

@@ -17,9 +17,9 @@ Lacks c bytes = AllByRecursion (λ b. b ≢ c) bytes
 abbrev pub AreZeros : List ℕ → Type 0
 AreZeros bytes = AllByRecursion (λ b. b ≡ 0) bytes
 
--- no TAL is at the front
+-- the bytes begin with no TAL
 abbrev pub NoTal : List ℕ → Type 0
-NoTal bytes = (front rest : List ℕ) (t : Tal) → bytes ≡ front ++ rest → ¬ IsTal front t
+NoTal bytes = (prefix rest : List ℕ) (t : Tal) → bytes ≡ prefix ++ rest → ¬ IsTal prefix t
 
 -- a number that is counted as 2 ^ 63 from there on
 abbrev pub capped : ℕ → ℕ
@@ -60,17 +60,17 @@ EndsWith20 (b ∷ c ∷ bytes) = EndsWith20 (c ∷ bytes)
 
 -- the TAL at the front, its texts and what is after it
 pub record IsTalAtFront (bytes texts rest : List ℕ) (t : Tal) : Type 0 where
-  pub front : List ℕ
-  pub parts : bytes ≡ front ++ rest
-  pub tal : IsTal front t
+  pub prefix : List ℕ
+  pub parts : bytes ≡ prefix ++ rest
+  pub tal : IsTal prefix t
   pub texts_are : texts ≡ terminated t.texts
 
 -- the first of the texts that is not UTF-8
 pub record IsBadAmong (texts : List ℕ) (at : ℕ) : Type 0 where
   pub good : List (List ℕ)
   pub text : List ℕ
-  pub back : List ℕ
-  pub parts : texts ≡ terminated good ++ (text ++ 20 ∷ back)
+  pub suffix : List ℕ
+  pub parts : texts ≡ terminated good ++ (text ++ 20 ∷ suffix)
   pub good_texts : AllByRecursion (λ x. Lacks 20 x × IsUtf8 x) good
   pub is_text : Lacks 20 text
   pub bad : ¬ IsUtf8 text
@@ -87,19 +87,19 @@ pub record AreGoodTexts (texts : List ℕ) (count : ℕ) : Type 0 where
 
 -- TALs, and then this rest
 pub record FollowsTals (bytes rest : List ℕ) : Type 0 where
-  pub front : List ℕ
+  pub prefix : List ℕ
   pub tals : List Tal
-  pub parts : bytes ≡ front ++ rest
-  pub whole : AreTals front tals
+  pub parts : bytes ≡ prefix ++ rest
+  pub whole : AreTals prefix tals
 
 -- TALs with UTF-8 texts, and then this rest; whether they keep the window, and how many annotations
 -- and bytes of texts they have
 pub record IsSurvey (bytes : List ℕ) (file_start : ℕ) (rest : List ℕ) (in_window : Bool)
     (count text_bytes : ℕ) : Type 0 where
-  pub front : List ℕ
+  pub prefix : List ℕ
   pub tals : List Tal
-  pub parts : bytes ≡ front ++ rest
-  pub whole : AreTals front tals
+  pub parts : bytes ≡ prefix ++ rest
+  pub whole : AreTals prefix tals
   pub good : HaveUtf8Texts tals
   pub window : IsTrue in_window ↔ AllByRecursion (IsTalInWindow file_start) tals
   pub count_is : count ≡ length (flat_map (tal_annotations file_start) tals)

@@ -21,7 +21,7 @@ returns-in_err-put g c =
         gave = refl;
         first = none-first whole kept;
         why = inl refl;
-        front = header_stops _ _ c.args.header.now (records_text whole (annotated kept []))
+        prefix = header_stops _ _ c.args.header.now (records_text whole (annotated kept []))
             c.new-held.ensures e.0.0 e.0.1;
       },
       e.1,
@@ -54,7 +54,7 @@ returns-in_err-flush g c =
         gave = all.0.gave;
         first = all_first (annotated kept all.0.records) whole all.0.measured;
         why = inr (all.0.end, all.0.measured, refl);
-        front = flush_stops _ _ c.args.header.now
+        prefix = flush_stops _ _ c.args.header.now
             (records_text whole (annotated kept all.0.records)) c.new-held.ensures _
             c.in_ok-put.ensures.0 _ all.0.wrote e.0.0 e.0.1;
       },

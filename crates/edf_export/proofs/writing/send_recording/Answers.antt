@@ -16,7 +16,7 @@ pub returns-in_err-walk-clause-sent : goal.returns-in_err-walk-clause-sent
 returns-in_err-walk-clause-sent g c clean h held plan =
     let p = err_from_is_err_and c.from_residual.result c.from_residual.ensures.1 in
     rw (p.1, p.2) (
-      record { front = []; remaining = _; parts = refl; wrote = Appends-nil _ },
+      record { prefix = []; remaining = _; parts = refl; wrote = Appends-nil _ },
       is_store_refusal _ ⊥ ⊥ c.in_err-walk.field-0.0 c.in_err-walk.ensures.refuses.why (λ no. no)
           (λ no. no),
     )

@@ -59,7 +59,7 @@ returns-in_default-clause-refused g c =
             (reads_none l opened);
         alike = alike-none c.args.plan.now.kept.items;
         first = none-first c.args.plan.now.measure c.args.plan.now.kept.items;
-        front = inl (Keeps-refl _);
+        prefix = inl (Keeps-refl _);
         more = inl refl;
       }),
     )

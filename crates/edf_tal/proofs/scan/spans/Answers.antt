@@ -11,14 +11,14 @@ returns-in_err-onset-in-None c =
 pub returns-in_err-onset-in-Some : goal.returns-in_err-onset-in-Some
 returns-in_err-onset-in-Some c =
     rw (c.from_residual-in_err-onset-in-Some.ensures) (λ n d t.
-    let s = (from-both c.args.bytes.now c.in-Some.front.now c.in-Some.back.now n d
+    let s = (from-both c.args.bytes.now c.in-Some.prefix.now c.in-Some.suffix.now n d
     c.in-Some.ensures.0 c.in-Some.ensures.1 t).onset in
     c.in_err-onset-in-Some.ensures s.0 s.1)
 
 pub returns-in_err-duration-in-Some : goal.returns-in_err-duration-in-Some
 returns-in_err-duration-in-Some c =
     rw (c.from_residual-in_err-duration-in-Some.ensures) (λ n d t.
-    let s = (from-both c.args.bytes.now c.in-Some.front.now c.in-Some.back.now n d
+    let s = (from-both c.args.bytes.now c.in-Some.prefix.now c.in-Some.suffix.now n d
     c.in-Some.ensures.0 c.in-Some.ensures.1 t).duration in
     c.in_err-duration-in-Some.ensures s.0 s.1)
 
@@ -28,7 +28,7 @@ returns-in_ok-duration-in-Some c =
     let d = c.in_ok-duration-in-Some.ensures in (
       o.0,
       Some d.0,
-      both c.args.bytes.now c.in-Some.front.now c.in-Some.back.now o.0 d.0
+      both c.args.bytes.now c.in-Some.prefix.now c.in-Some.suffix.now o.0 d.0
           c.in-Some.ensures.1 o.1 d.1,
       o.2,
       d.2,
