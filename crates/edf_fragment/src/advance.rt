@@ -7,7 +7,7 @@ ghost use Rattle.std.specs.Io.KnownBytes.{Consumes};
 ghost use Rattle.edf_header.specs.Header.{IsLayout, least_records, most_records, block_bytes};
 ghost use Rattle.edf_fragment.specs.Reading.{IsEndOfRecords, IsNextFault, IsNext, progress_after};
 ghost use Rattle.edf_fragment.specs.Call.{ReadsInput, ValueOrFault, input_state};
-ghost use Rattle.edf_fragment.specs.Inside.Buffers.{HaveRoom};
+ghost use Rattle.edf_fragment.specs.Inside.Buffers.{FitOneRecord};
 ghost use Rattle.edf_fragment.specs.Inside.Steps.{ReadsEnd, IsEndFault};
 
 use crate::buffers::{Buffers, cut_record};
@@ -138,8 +138,8 @@ fn read_record<R: Input>(
 ) -> Result<Option<Record>, FragmentFault>
     requires may_come { progress.given < most_records header.now.count }
     requires countable { progress.given < 2 ^ 32 - 1 }
-    requires room { HaveRoom header.now buffers.old }
-    ensures room { HaveRoom header.now buffers.new }
+    requires room { FitOneRecord header.now buffers.old }
+    ensures room { FitOneRecord header.now buffers.new }
     ensures read { ReadsInput (IsNext header.now progress)
         (input_state R.Input input.old) (input_state R.Input input.new) result }
 {
@@ -190,8 +190,8 @@ pub(crate) fn record_or_end<R: Input>(
     buffers: &mut Buffers,
 ) -> Result<Option<Record>, FragmentFault>
     requires within { progress.given ≤ most_records header.now.count }
-    requires room { HaveRoom header.now buffers.old }
-    ensures room { HaveRoom header.now buffers.new }
+    requires room { FitOneRecord header.now buffers.old }
+    ensures room { FitOneRecord header.now buffers.new }
     ensures read { ReadsInput (IsNext header.now progress)
         (input_state R.Input input.old) (input_state R.Input input.new) result }
 {

@@ -4,7 +4,7 @@ ghost use Rattle.std.specs.Prelude.{◌≡◌, ◌+◌, length, map, IfOk};
 ghost use Rattle.std.specs.List.{flat_map};
 ghost use Rattle.edf_header.specs.Header.{block_bytes};
 ghost use Rattle.edf_fragment.specs.Fragment.{blocks, ordinary_bytes};
-ghost use Rattle.edf_fragment.specs.Inside.Buffers.{HaveRoom};
+ghost use Rattle.edf_fragment.specs.Inside.Buffers.{FitOneRecord};
 
 use edf_header::Header;
 use std::alloc::{AllocError, Global};
@@ -24,7 +24,7 @@ pub(crate) struct Buffers {
 impl Buffers {
     /// Buffers for the data records of this header.
     pub(crate) fn of(alloc: Global, header: &Header) -> Result<Buffers, AllocError>
-        ensures { IfOk result (HaveRoom header.now) }
+        ensures { IfOk result (FitOneRecord header.now) }
     {
         let whole = vec![in alloc; 0u8; header.record_bytes()]?;
         let joined = vec![in alloc; 0u8; header.block_bytes()]?;

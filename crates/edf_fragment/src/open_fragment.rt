@@ -1,6 +1,6 @@
 ghost use Rattle.std.specs.Prelude.{◌≡◌, ◌≤◌, IfOk, IfSome};
 ghost use Rattle.edf_header.specs.Header.{most_records};
-ghost use Rattle.edf_fragment.specs.Inside.Buffers.{HaveRoom};
+ghost use Rattle.edf_fragment.specs.Inside.Buffers.{FitOneRecord};
 ghost use Rattle.edf_fragment.specs.Sound.{IsSoundRecord};
 ghost use Rattle.edf_fragment.specs.Reading.{ReadsHeader, IsOpenFault, IsNext, initial_progress};
 ghost use Rattle.edf_fragment.specs.Reading.{progress_after};
@@ -26,7 +26,7 @@ pub struct OpenFragment {
     header: Header,
     buffers: Buffers,
     progress: Progress,
-    ghost room: { HaveRoom header buffers },
+    ghost room: { FitOneRecord header buffers },
     ghost within: { progress.given ≤ most_records header.count },
 }
 

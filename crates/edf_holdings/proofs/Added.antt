@@ -53,7 +53,7 @@ add_stays_sound cap h key r s w sound none room first =
     let one : AreSound key 0 (r ∷ []) = (sound, omega arith, tt) in
     let may : MayJoin cap key (r ∷ []) h = record {
       free = free_where_none_near (duration_of key.duration) r (h key) none;
-      room = inr (omega (arith, inserted_short r (h key), room));
+      within_cap = inr (omega (arith, inserted_short r (h key), room));
     } in
     IsSound-from cap (with_records key (r ∷ []) h)
     (IsGood-put cap key (r ∷ []) h w (apart-sound key 0 (r ∷ []) one) (IsGood-from_sound cap h s)

@@ -130,7 +130,7 @@ Any-from_IsAmong k r (t ∷ ts) (inr m) = let a = Any-from_IsAmong k r ts m in
 MayJoin-from_free : (cap : ℕ) (h : Holdings) (key : Key) (records : List DataRecord)
     (ts : List Parsed) → IsConflictFree cap h (Fragment key records ∷ ts) →
     MayJoin cap key records h
-MayJoin-from_free cap h key records ts i = record { free = free; room = inr room }
+MayJoin-from_free cap h key records ts i = record { free = free; within_cap = inr room }
   where
     all : List DataRecord
     all = union_with_all (with_records key records h) ts key

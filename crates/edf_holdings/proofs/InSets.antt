@@ -103,7 +103,7 @@ MayJoin-from_Fits cap h key records f = record {
   free = λ r s m n. false_from_ne_true _ (λ t.
       f.clear r s (Contains-from_In records r m) (Contains-from_In (h key) s n)
       (Clash-from_test (duration_of key.duration) r s t));
-  room = elim f.room [
+  within_cap = elim f.within_cap [
     | inl e ↦ inl (λ y m. subst (λ (l : List DataRecord). In y l) e
         (joined_has (h key) records y m))
     | inr l ↦ inr l
@@ -115,7 +115,7 @@ Fits-from_MayJoin : (cap : ℕ) (h : Holdings) (key : Key) (records : List DataR
 Fits-from_MayJoin cap h key records w g m = record {
   clear = λ r s n k c. both_ways _ (m.free r s (In-from_Contains records r n)
       (In-from_Contains (h key) s k)) (test_from_Clash (duration_of key.duration) r s c);
-  room = elim m.room [
+  within_cap = elim m.within_cap [
     | inl i ↦ inl (joined_held (duration_of key.duration) 0 (h key) records (lasting key w)
         (g.apart key) i)
     | inr l ↦ inr l
@@ -252,7 +252,7 @@ own_list cap h k s some = (
     may : MayJoin cap k (h k) nothing_held
     may = record {
       free = λ r t m n. absurd n;
-      room =
+      within_cap =
           inr (subst (λ (l : List DataRecord). length l ≤ cap) (sym whole) (g.few k));
     }
 

@@ -173,7 +173,7 @@ put_cases key records h P here there k =
 -- it may join: no clash with what its key holds, and all is held or there is room
 pub record MayJoin (cap : ℕ) (key : Key) (records : List DataRecord) (h : Holdings) : Type 0 where
   pub free : AreFree (duration_of key.duration) (h key) records
-  pub room : Within records (h key) ⊎ (length (union (h key) records) ≤ cap)
+  pub within_cap : Within records (h key) ⊎ (length (union (h key) records) ≤ cap)
 
 pub MayJoin-from_fits : (cap : ℕ) (key : Key) (records : List DataRecord) (h : Holdings) →
     fits cap key records h ≡ true → MayJoin cap key records h
@@ -181,7 +181,7 @@ MayJoin-from_fits cap key records h e =
     let p = and_parts _ _ e in
     record {
       free = AreFree-from_test _ _ _ p.0;
-      room = elim (or_cases _ _ p.1) [
+      within_cap = elim (or_cases _ _ p.1) [
         | inl a ↦ inl (within_from_none_new _ _ (eqb-true _ _ a))
         | inr b ↦ inr (leb-true _ _ b)
       ];
@@ -191,7 +191,7 @@ pub fits_from_MayJoin : (cap : ℕ) (key : Key) (records : List DataRecord) (h :
     MayJoin cap key records h → fits cap key records h ≡ true
 fits_from_MayJoin cap key records h m =
     and_from _ _ (test_from_AreFree _ _ _ m.free)
-    (elim m.room [
+    (elim m.within_cap [
       | inl w ↦ or_left _ _ (eq-eqb _ _ (none_new _ _ w))
       | inr l ↦
           or_right _ _ (le-leb _ _ l)
@@ -212,7 +212,7 @@ MayJoin-from_held cap key records h g i =
     record {
       free = λ r s m n. free_from_apart (duration_of key.duration) 0 (h key) (g.apart key) r
           s (i r m) n;
-      room = inl i;
+      within_cap = inl i;
     }
 
 -- what joins keeps the holdings good
@@ -228,7 +228,7 @@ IsGood-put cap key records h w a g m = record {
   apart = put_cases key records h (λ k l. StartsAreSpaced (duration_of k.duration) 0 l)
       (apart_joined (duration_of key.duration) 0 (h key) records (g.apart key) a m.free) g.apart;
   few = put_cases key records h (λ k l. length l ≤ cap)
-      (elim m.room [
+      (elim m.within_cap [
         | inl i ↦ subst (λ (l : List DataRecord). length l ≤ cap)
             (sym (joined_held (duration_of key.duration) 0 (h key) records (lasting key w)
             (g.apart key) i)) (g.few key)
@@ -252,7 +252,7 @@ pub MayJoin-smaller : (cap : ℕ) (key : Key) (records : List DataRecord) (h h' 
     IsGood cap h' →
     Grows h h' → MayJoin cap key records h' → MayJoin cap key records h
 MayJoin-smaller cap key records h h' w a g g' up m =
-    record { free = free; room = inr (elim m.room [ inl i ↦ held i | inr l ↦ room l ]) }
+    record { free = free; within_cap = inr (elim m.within_cap [ inl i ↦ held i | inr l ↦ room l ]) }
   where
     free : AreFree (duration_of key.duration) (h key) records
     free r s n k = m.free r s n (up key s k)

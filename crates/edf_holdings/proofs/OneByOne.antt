@@ -317,7 +317,7 @@ after_accepted cap key h rs t new known w g k l =
     k.whole l ∙ sym (cond-true (fits cap key rs h) (with_records key rs h) h
     (fits_from_MayJoin cap key rs h (record {
       free = AreFree-from_first d (h key) rs k.free;
-      room = inr (omega (
+      within_cap = inr (omega (
         arith,
         length_joined d 0 0 (h key) rs (lasting key w.0)
             (apart-sound key 0 rs w.1) (g.apart key) (AreFree-from_first d (h key) rs k.free),

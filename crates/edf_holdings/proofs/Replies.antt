@@ -116,7 +116,7 @@ pub accepted_from_MayJoin : (cap : ℕ) (h : Holdings) (key : Key) (records : Li
 accepted_from_MayJoin cap h key records w g m =
     by-counts cap h key records (no_first (duration_of key.duration) (h key) records m.free)
     ∙ accepted-by-counts cap key (length (h key)) (count_new (h key) records) (length records)
-    (elim m.room [
+    (elim m.within_cap [
       | inl i ↦ inl (omega (arith, none_new (h key) records i))
       | inr l ↦ inr (omega (
         arith,
@@ -130,7 +130,7 @@ MayJoin-from_clash : (cap : ℕ) (h : Holdings) (key : Key) (records : List Data
     → first_clash (duration_of key.duration) (h key) records ≡ o →
     IsAccepted (reply_to_clash cap key records (h key) o) → MayJoin cap key records h
 MayJoin-from_clash cap h key records (Some p) w g q i = absurd i
-MayJoin-from_clash cap h key records None w g q i = record { free = free; room = room }
+MayJoin-from_clash cap h key records None w g q i = record { free = free; within_cap = room }
   where
     free : AreFree (duration_of key.duration) (h key) records
     free = AreFree-from_first (duration_of key.duration) (h key) records q

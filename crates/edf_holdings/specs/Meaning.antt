@@ -59,7 +59,7 @@ IsClear h key records = (r s : DataRecord) → Contains records r → Contains (
 -- so, and joined with them the key has what it had, or at most the cap
 pub record Fits (cap : ℕ) (key : Key) (records : List DataRecord) (h : Holdings) : Type 0 where
   pub clear : IsClear h key records
-  pub room : (union (h key) records ≡ h key) ⊎ (length (union (h key) records) ≤ cap)
+  pub within_cap : (union (h key) records ≡ h key) ⊎ (length (union (h key) records) ≤ cap)
 
 abbrev pub TestIsFits : Type 0
 TestIsFits = (cap : ℕ) (h : Holdings) (key : Key) (records : List DataRecord) → IsSound cap h →

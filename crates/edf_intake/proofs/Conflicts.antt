@@ -103,25 +103,25 @@ clash_told cap key h records starts told differs overlaps k =
 
 -- `Full` where a fragment has more new records than there is room for: no less room was found than
 -- there is
-pub full_here : (cap room : ℕ) (key : Key) (h : Holdings) (records : List DataRecord)
+pub full_here : (cap spare : ℕ) (key : Key) (h : Holdings) (records : List DataRecord)
     (findings : Findings) → CountsAll key h records findings
-    → IsSpare cap (length (h key)) (length records) room → room < findings.new →
-    reply cap h (Fragment key records) ≡ Conflicts (Full (cap - room) findings.new cap)
-full_here cap room key h records findings k it past =
-    let all : length (h key) + room ≡ cap =
+    → IsSpare cap (length (h key)) (length records) spare → spare < findings.new →
+    reply cap h (Fragment key records) ≡ Conflicts (Full (cap - spare) findings.new cap)
+full_here cap spare key h records findings k it past =
+    let all : length (h key) + spare ≡ cap =
     elim it.enough [ inl same ↦ same | inr many ↦ absurd (omega (arith, many, past, k.all)) ] in
-    let same : length (h key) ≡ cap - room = omega (arith, all) in
+    let same : length (h key) ≡ cap - spare = omega (arith, all) in
     reply_counted cap key h records (with_records key records h) findings.new findings.known
     (taken_of cap key h records findings k)
     ∙ full-by-counts cap key (length (h key)) findings.new (findings.known + findings.new)
     (omega (arith, past)) (omega (arith, past, all))
     ∙ ap (λ (n : ℕ). Conflicts (Full n findings.new cap)) same
 
-pub accepted_here : (cap room : ℕ) (key : Key) (h : Holdings) (records : List DataRecord)
+pub accepted_here : (cap spare : ℕ) (key : Key) (h : Holdings) (records : List DataRecord)
     (findings : Findings) → CountsAll key h records findings
-    → length (h key) + room ≤ cap → findings.new ≤ room →
+    → length (h key) + spare ≤ cap → findings.new ≤ spare →
     reply cap h (Fragment key records) ≡ Accepted key findings.new findings.known
-accepted_here cap room key h records findings k all low =
+accepted_here cap spare key h records findings k all low =
     let known : findings.known + findings.new - findings.new ≡ findings.known = omega arith in
     reply_counted cap key h records (with_records key records h) findings.new findings.known
     (taken_of cap key h records findings k)
@@ -129,12 +129,12 @@ accepted_here cap room key h records findings k all low =
     (inr (omega (arith, low, all)))
     ∙ ap (λ (n : ℕ). Accepted key findings.new n) known
 
-pub left_here : (cap room : ℕ) (key : Key) (h : Holdings) (records : List DataRecord)
+pub left_here : (cap spare : ℕ) (key : Key) (h : Holdings) (records : List DataRecord)
     (findings : Findings) → IsWellFormed (Fragment key records) → IsGood cap h →
     CountsAll key h records findings
-    → length (h key) + room ≤ cap → findings.new ≤ room →
+    → length (h key) + spare ≤ cap → findings.new ≤ spare →
     with_records key records h ≡ after_one cap h (Fragment key records)
-left_here cap room key h records findings sound good k all low =
+left_here cap spare key h records findings sound good k all low =
     after_accepted cap key h records
     (with_records key records h) findings.new findings.known sound good
     (taken_of cap key h records findings k) (omega (arith, low, all))

@@ -38,10 +38,10 @@ module _ {S : Type 0} (g : Ghosts S) (old new : StoreTx S) (id : ℤ) (key : Key
       record { fits = omega (arith, fits, read.stays.cap); enough = inr (omega arith) }
 
   -- or all that there is
-  pub room_left : (asked cap held room : ℕ) → cap ≡ old.store.now.cap →
+  pub room_left : (asked cap held spare : ℕ) → cap ≡ old.store.now.cap →
       (HasCleanDisk (at g new.store.now) → IsCountOf g old.store.now id held) →
-      room ≡ cap - held → IsSpareInside g new key asked room
-  room_left asked cap held room capped counts is clean h seen =
+      spare ≡ cap - held → IsSpareInside g new key asked spare
+  room_left asked cap held spare capped counts is clean h seen =
       let count : held ≡ length (h key) =
       counts clean h key (seen_first clean h seen) running.recording in
       let few : length (h key) ≤ new.store.now.cap = (seen clean).sound.few key in

@@ -42,15 +42,15 @@ pub record MetSoFar {S : Type 0} (g : Ghosts S) (first now : StoreModel S) (l : 
   pub counted : findings.new + findings.known ≤ p.given
 
 -- less room than there is makes no difference, if it is more than was needed so far
-counts_wider : (room full asked : ℕ) (key : Key) (r : DataRecord) (near : List DataRecord)
+counts_wider : (spare full asked : ℕ) (key : Key) (r : DataRecord) (near : List DataRecord)
     (h : Holdings) (from : Findings) (t : Holdings) (to : Findings) (verdict : Verdict) →
-    room ≤ full →
-    (room ≡ full) ⊎ (asked ≤ room) → from.new < asked
-    → CountsVerdict room key r near h from t to verdict →
+    spare ≤ full →
+    (spare ≡ full) ⊎ (asked ≤ spare) → from.new < asked
+    → CountsVerdict spare key r near h from t to verdict →
     CountsVerdict full key r near h from t to verdict
-counts_wider room full asked key r near h from t to (Clashes stored) low enough below c = c
-counts_wider room full asked key r near h from t to Known low enough below c = c
-counts_wider room full asked key r near h from t to New low enough below (added, past, is) = (
+counts_wider spare full asked key r near h from t to (Clashes stored) low enough below c = c
+counts_wider spare full asked key r near h from t to Known low enough below c = c
+counts_wider spare full asked key r near h from t to New low enough below (added, past, is) = (
   (λ l. added (elim enough [
     | inl same ↦ omega (arith, l, same)
     | inr many ↦
@@ -60,40 +60,40 @@ counts_wider room full asked key r near h from t to New low enough below (added,
   is,
 )
 
-next_wider : (room full asked : ℕ) (key : Key) (r : DataRecord) (h : Holdings) (new known : ℕ)
-    (clash : Option Starts) (t : Holdings) (to : Findings) → room ≤ full → (room ≡ full)
-    ⊎ (asked ≤ room) → new < asked
-    → CountsNext room key r h (record { new = new; known = known; clash = clash }) t to →
+next_wider : (spare full asked : ℕ) (key : Key) (r : DataRecord) (h : Holdings) (new known : ℕ)
+    (clash : Option Starts) (t : Holdings) (to : Findings) → spare ≤ full → (spare ≡ full)
+    ⊎ (asked ≤ spare) → new < asked
+    → CountsNext spare key r h (record { new = new; known = known; clash = clash }) t to →
     CountsNext full key r h (record { new = new; known = known; clash = clash }) t to
-next_wider room full asked key r h new known None t to low enough below (verdict, is, counts) = (
+next_wider spare full asked key r h new known None t to low enough below (verdict, is, counts) = (
   verdict,
   is,
-  counts_wider room full asked key r
+  counts_wider spare full asked key r
       (near_of (duration_of key.duration) r.start (h key)) h
       (record { new = new; known = known; clash = None }) t to verdict low enough below counts,
 )
-next_wider room full asked key r h new known (Some s) t to low enough below same = same
+next_wider spare full asked key r h new known (Some s) t to low enough below same = same
 
 -- the same for all the room that there is, where what was found is enough
-pub next_in_all : (cap held asked room : ℕ) (key : Key) (r : DataRecord) (h : Holdings)
-    (from : Findings) (t : Holdings) (to : Findings) → IsSpare cap held asked room →
+pub next_in_all : (cap held asked spare : ℕ) (key : Key) (r : DataRecord) (h : Holdings)
+    (from : Findings) (t : Holdings) (to : Findings) → IsSpare cap held asked spare →
     from.new < asked →
-    CountsNext room key r h from t to → CountsNext (cap - held) key r h from t to
-next_in_all cap held asked room key r h from t to it below next =
-    next_wider room (cap - held) asked key r h from.new from.known from.clash t to
+    CountsNext spare key r h from t to → CountsNext (cap - held) key r h from t to
+next_in_all cap held asked spare key r h from t to it below next =
+    next_wider spare (cap - held) asked key r h from.new from.known from.clash t to
     (omega (arith, it.fits))
     (elim it.enough [ inl all ↦ inl (omega (arith, all)) | inr many ↦ inr many ]) below next
 
 -- one record more
-module _ (cap room : ℕ) (key : Key) (h : Holdings) (is_key : IsKey key)
+module _ (cap spare : ℕ) (key : Key) (h : Holdings) (is_key : IsKey key)
     (held : StartsAreSpaced (duration_of key.duration) 0 (h key))
-    (space : length (h key) + room ≡ cap)
+    (space : length (h key) + spare ≡ cap)
     (rs : List DataRecord) (r : DataRecord)
     (a : StartsAreSpaced (duration_of key.duration) 0 (rs ++ r ∷ [])) (t : Holdings) where
   counted_next : (new known : ℕ) (t' : Holdings) (to : Findings) (verdict : Verdict) →
       Taken cap key h rs t new known
       → IsVerdict r (near_of (duration_of key.duration) r.start (t key)) verdict
-      → CountsVerdict room key r (near_of (duration_of key.duration) r.start (t key)) t
+      → CountsVerdict spare key r (near_of (duration_of key.duration) r.start (t key)) t
       (record { new = new; known = known; clash = None }) t' to verdict
       → Met cap key h (rs ++ r ∷ []) t' to
   counted_next new known t' to (Clashes stored) k (s, e, q) (same, is) =
@@ -106,7 +106,7 @@ module _ (cap room : ℕ) (key : Key) (h : Holdings) (is_key : IsKey key)
       (after_known cap key h is_key held rs r a t new known k e there))
   counted_next new known t' to New k none (added, full, is) =
       subst (Met cap key h (rs ++ r ∷ []) t') (sym is)
-      (elim (cases_lt new room) [
+      (elim (cases_lt new spare) [
         | inl low ↦ after_added cap key h is_key held rs r a t new known k t' none
             (omega (arith, low, space)) (added low)
         | inr high ↦ subst (λ (z : Holdings). Taken cap key h (rs ++ r ∷ []) z (new + 1) known)
@@ -117,7 +117,7 @@ module _ (cap room : ℕ) (key : Key) (h : Holdings) (is_key : IsKey key)
 
   next_of : (new known : ℕ) (clash : Option Starts) (t' : Holdings) (to : Findings) →
       TakenOrStopped cap key h rs t new known (starts_of clash)
-      → CountsNext room key r t (record { new = new; known = known; clash = clash }) t' to →
+      → CountsNext spare key r t (record { new = new; known = known; clash = clash }) t' to →
       Met cap key h (rs ++ r ∷ []) t' to
   next_of new known None t' to k (verdict, is, counts) =
       counted_next new known t' to verdict k is counts
@@ -126,5 +126,5 @@ module _ (cap room : ℕ) (key : Key) (h : Holdings) (is_key : IsKey key)
       (still_stopped key h rs r (s.start, s.stored) k)
 
   pub met_next : (from : Findings) (t' : Holdings) (to : Findings) → Met cap key h rs t from →
-      CountsNext room key r t from t' to → Met cap key h (rs ++ r ∷ []) t' to
+      CountsNext spare key r t from t' to → Met cap key h (rs ++ r ∷ []) t' to
   met_next from t' to k next = next_of from.new from.known from.clash t' to k next

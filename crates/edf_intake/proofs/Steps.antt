@@ -41,9 +41,9 @@ empty_within [] ys w e = refl
 empty_within (x ∷ xs) ys w e = absurd (subst (λ (l : List DataRecord). In x l) e (w x (inl refl)))
 
 module _ {S : Type 0} (g : Ghosts S) (first : StoreModel S) (l : Layout)
-    (before left : Option (List ℕ)) (header : ReadsHeader before left l) (room : ℕ)
+    (before left : Option (List ℕ)) (header : ReadsHeader before left l) (spare : ℕ)
     (space : HasCleanDisk (at g first) → (h : Holdings) → Sees g first h →
-    IsSpare first.cap (length (h l.key)) (most_records l.count) room) where
+    IsSpare first.cap (length (h l.key)) (most_records l.count) spare) where
   held_apart : HasCleanDisk (at g first) → (h : Holdings) → Sees g first h →
       StartsAreSpaced (duration_of l.key.duration) 0 (h l.key)
   held_apart clean h seen = (IsGood-from_sound first.cap h (seen clean).sound).apart l.key
@@ -67,7 +67,7 @@ module _ {S : Type 0} (g : Ghosts S) (first : StoreModel S) (l : Layout)
       (findings : Findings) →
       MetSoFar g first now l left rest p findings → SeesHoldings g first
       → (HasCleanDisk (at g now) → HasCleanDisk (at g first)) → now.cap ≡ first.cap →
-      HasCleanDisk (at g now) → findings.clash ≡ None → findings.new < room
+      HasCleanDisk (at g now) → findings.clash ≡ None → findings.new < spare
       → (h : Holdings) → Sees g now h → length (h l.key) < now.cap
   few_seen now rest p findings w running was same clean none low h seen =
       let some = running (was clean) in
@@ -92,7 +92,7 @@ module _ {S : Type 0} (g : Ghosts S) (first : StoreModel S) (l : Layout)
       p.state ≡ Reading
       → IsAnswer l p q mid rest (Ok (Some r)) → SeesHoldings g first →
       (HasCleanDisk (at g now) → HasCleanDisk (at g first)) → HasCleanDisk (at g now) →
-      findings.clash ≡ None → findings.new < room
+      findings.clash ≡ None → findings.new < spare
       → (h : Holdings) → Sees g now h → h l.key ≡ [] → MayStart l.key r.start
   first_seen now mid rest p q findings r w going answer running was clean none low h seen empty =
       let some = running (was clean) in
@@ -122,7 +122,7 @@ module _ {S : Type 0} (g : Ghosts S) (first : StoreModel S) (l : Layout)
       → (HasCleanDisk (at g next) → HasCleanDisk (at g now)) →
       (HasCleanDisk (at g now) → HasCleanDisk (at g first))
       → (HasCleanDisk (at g next) → (h : Holdings) → Sees g now h → (t : Holdings) × Sees g next t
-      × CountsNext room l.key r h from t to)
+      × CountsNext spare l.key r h from t to)
       → to.new + to.known ≤ from.new + from.known + 1
       → MetSoFar g first next l left rest q to
   one_more_met now next mid rest p q from to r w going answer given may_come was first_was step
@@ -136,7 +136,7 @@ module _ {S : Type 0} (g : Ghosts S) (first : StoreModel S) (l : Layout)
             let m = w.met (was clean) h seen in
             let n = step clean m.0 m.1 in
             let some = space (first_was (was clean)) h seen in
-            let next = next_in_all first.cap (length (h l.key)) (most_records l.count) room l.key r
+            let next = next_in_all first.cap (length (h l.key)) (most_records l.count) spare l.key r
             m.0 from n.0 to some (omega (arith, w.counted, may_come)) n.2 in (
               n.0,
               n.1,
@@ -166,7 +166,7 @@ module _ {S : Type 0} (g : Ghosts S) (first : StoreModel S) (l : Layout)
       ReadsFragment other rest l w.records)
       × (HasCleanDisk (at g now) → (h : Holdings) → Sees g first h →
       AreFindings l.key h w.records findings
-      × (MayBeAccepted room findings → Sees g now (with_records l.key w.records h)))
+      × (MayBeAccepted spare findings → Sees g now (with_records l.key w.records h)))
   at_end now mid rest p q findings w going answer was = (
     (λ other head. all_read l other left mid rest w.records p q head w.read going answer),
     (λ clean h seen.

@@ -35,12 +35,12 @@ none_of None e = refl
 none_of (Some x) e = cc
 
 -- after a clash nothing is counted
-pub still_next : (room : ℕ) (key : Key) (r : DataRecord) (h : Holdings) (from : Findings) →
-    is_some from.clash ≡ true → CountsNext room key r h from h from
-still_next room key r h from some = go from.new from.known from.clash some
+pub still_next : (spare : ℕ) (key : Key) (r : DataRecord) (h : Holdings) (from : Findings) →
+    is_some from.clash ≡ true → CountsNext spare key r h from h from
+still_next spare key r h from some = go from.new from.known from.clash some
   where
     go : (new known : ℕ) (clash : Option Starts) → is_some clash ≡ true →
-        CountsNext room key r h (record { new = new; known = known; clash = clash }) h
+        CountsNext spare key r h (record { new = new; known = known; clash = clash }) h
         (record { new = new; known = known; clash = clash })
     go new known None e = cc
     go new known (Some starts) e = refl
@@ -106,27 +106,27 @@ gap_found g s u id key start until cap same under next h seen =
     (same.ids id key under))
 
 -- what one verdict makes of the findings and the holdings
-verdict_next : (room : ℕ) (key : Key) (r : DataRecord) (from to : Findings) (verdict : Verdict) →
+verdict_next : (spare : ℕ) (key : Key) (r : DataRecord) (from to : Findings) (verdict : Verdict) →
     from.clash ≡ None → (h t : Holdings) →
     IsVerdict r (near_of (duration_of key.duration) r.start (h key)) verdict →
-    CountsVerdict room key r (near_of (duration_of key.duration) r.start (h key)) h from t to
-    verdict → CountsNext room key r h from t to
-verdict_next room key r from to verdict none h t said counts =
+    CountsVerdict spare key r (near_of (duration_of key.duration) r.start (h key)) h from t to
+    verdict → CountsNext spare key r h from t to
+verdict_next spare key r from to verdict none h t said counts =
     subst (λ (o : Option Starts). MatchOption o
     ((v : Verdict) × IsVerdict r (near_of (duration_of key.duration) r.start (h key)) v
-    × CountsVerdict room key r (near_of (duration_of key.duration) r.start (h key)) h from t to v)
+    × CountsVerdict spare key r (near_of (duration_of key.duration) r.start (h key)) h from t to v)
     (λ starts. to ≡ from)) (sym none) (verdict, said, counts)
 
 -- s is the transaction before the record, and u the one after the store was asked for those near it
-module _ {S : Type 0} (g : Ghosts S) (id : ℤ) (key : Key) (r : DataRecord) (room : ℕ)
+module _ {S : Type 0} (g : Ghosts S) (id : ℤ) (key : Key) (r : DataRecord) (spare : ℕ)
     (from : Course) (s : StoreTx S) (running : IsRunningFor g s id key) where
   -- nothing is asked after a clash
   pub clashed_before : is_some from.findings.clash ≡ true → IsGapInside g s key from.gap →
-      IsRecordTaken g s s key r id room from from
+      IsRecordTaken g s s key r id spare from from
   clashed_before some gap = record {
     recording = running.recording;
     only = λ clean other k there. there;
-    counts = λ clean h seen. (h, seen, still_next room key r h from.findings some);
+    counts = λ clean h seen. (h, seen, still_next spare key r h from.findings some);
     counted = omega arith;
     gap = gap;
   }
@@ -155,7 +155,7 @@ module _ {S : Type 0} (g : Ghosts S) (id : ℤ) (key : Key) (r : DataRecord) (ro
     gap_stays clean h seen = is.gap clean h (seen_first clean h seen)
 
     pub clash_met : (start stored : ℕ) → start ≡ r.start → found.verdict ≡ Clashes stored →
-        IsRecordTaken g s u key r id room from (record {
+        IsRecordTaken g s u key r id spare from (record {
           findings = record {
             new = from.findings.new;
             known = from.findings.known;
@@ -169,7 +169,7 @@ module _ {S : Type 0} (g : Ghosts S) (id : ℤ) (key : Key) (r : DataRecord) (ro
       counts = λ clean h seen. (
         h,
         seen_still h seen,
-        verdict_next room key r from.findings _ (Clashes stored) none h h
+        verdict_next spare key r from.findings _ (Clashes stored) none h h
             (verdict_is (Clashes stored) same clean h seen) (
               refl,
               ap (λ (n : ℕ). let made : Findings = record {
@@ -183,7 +183,7 @@ module _ {S : Type 0} (g : Ghosts S) (id : ℤ) (key : Key) (r : DataRecord) (ro
       gap = gap_stays;
     }
 
-    pub known_met : found.verdict ≡ Known → IsRecordTaken g s u key r id room from (record {
+    pub known_met : found.verdict ≡ Known → IsRecordTaken g s u key r id spare from (record {
       findings = record {
         new = from.findings.new;
         known = from.findings.known + 1;
@@ -197,7 +197,7 @@ module _ {S : Type 0} (g : Ghosts S) (id : ℤ) (key : Key) (r : DataRecord) (ro
       counts = λ clean h seen. (
         h,
         seen_still h seen,
-        verdict_next room key r from.findings _ Known none h h
+        verdict_next spare key r from.findings _ Known none h h
             (verdict_is Known same clean h seen) (refl, refl),
       );
       counted = omega arith;
@@ -205,7 +205,7 @@ module _ {S : Type 0} (g : Ghosts S) (id : ℤ) (key : Key) (r : DataRecord) (ro
     }
 
     module _ (same : found.verdict ≡ New) where
-      pub full_met : room ≤ from.findings.new → IsRecordTaken g s u key r id room from (record {
+      pub full_met : spare ≤ from.findings.new → IsRecordTaken g s u key r id spare from (record {
         findings = record {
           new = from.findings.new + 1;
           known = from.findings.known;
@@ -219,7 +219,7 @@ module _ {S : Type 0} (g : Ghosts S) (id : ℤ) (key : Key) (r : DataRecord) (ro
         counts = λ clean h seen. (
           h,
           seen_still h seen,
-          verdict_next room key r from.findings _ New none h h
+          verdict_next spare key r from.findings _ New none h h
               (verdict_is New same clean h seen)
               ((λ low. absurd (omega (arith, low, full))), (λ _. refl), refl),
         );
@@ -227,14 +227,14 @@ module _ {S : Type 0} (g : Ghosts S) (id : ℤ) (key : Key) (r : DataRecord) (ro
         gap = gap_stays;
       }
 
-      module _ (low : from.findings.new < room) where
+      module _ (low : from.findings.new < spare) where
         -- a record may be added where nothing is near it
-        pub may_take : MayBeNext g s key r room from → MayAddTo g u.store.now id r
+        pub may_take : MayBeNext g s key r spare from → MayAddTo g u.store.now id r
         may_take may = record {
           key = key;
           is_under = there;
           sound = may.sound;
-          room = λ clean h seen.
+          spare = λ clean h seen.
               let was : HasCleanDisk (at g s.store.now) = omega (arith, read.stays.crash.clean) in
               let before = seen_first clean h seen in
               record {
@@ -267,7 +267,7 @@ module _ {S : Type 0} (g : Ghosts S) (id : ℤ) (key : Key) (r : DataRecord) (ro
               subst (λ (z : Holdings). IfSome found.gap (IsGap (z key))) one
               (put_gap key r some.0 found.gap is.from (is.gap was some.0 first))
 
-          pub added_met : IsRecordTaken g s w key r id room from (record {
+          pub added_met : IsRecordTaken g s w key r id spare from (record {
             findings = record {
               new = from.findings.new + 1;
               known = from.findings.known;
@@ -281,7 +281,7 @@ module _ {S : Type 0} (g : Ghosts S) (id : ℤ) (key : Key) (r : DataRecord) (ro
             counts = λ clean h seen. (
               with_records key (r ∷ []) h,
               added_seen h seen,
-              verdict_next room key r from.findings _ New none h (with_records key (r ∷ []) h)
+              verdict_next spare key r from.findings _ New none h (with_records key (r ∷ []) h)
                   (verdict_is New same (omega (arith, stayed.crash.clean)) h seen)
                   ((λ _. refl), (λ full. absurd (omega (arith, low, full))), refl),
             );

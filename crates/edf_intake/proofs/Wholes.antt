@@ -65,9 +65,10 @@ still_whole g first made last key records some whole running most none was_made 
     ])
 
 -- room for more than there are is room for those
-fewer : (cap held asked fewer_asked room : ℕ) → fewer_asked ≤ asked → IsSpare cap held asked room →
-    IsSpare cap held fewer_asked room
-fewer cap held asked fewer_asked room few found = record {
+fewer : (cap held asked fewer_asked spare : ℕ) → fewer_asked ≤ asked →
+    IsSpare cap held asked spare →
+    IsSpare cap held fewer_asked spare
+fewer cap held asked fewer_asked spare few found = record {
   fits = found.fits;
   enough = elim found.enough [
     | inl all ↦ inl all
@@ -91,7 +92,7 @@ module _ {S : Type 0} (g : Ghosts S) (first made last : StoreTx S) (from mid to 
     (begun : KeepsHoldings g first.store.now made.store.now)
     (stayed : KeepsHoldings g made.store.now last.store.now)
     (there : IsDestination g first made l.key (most_records l.count) d)
-    (taken : AreTaken g made last l d.room mid to findings) where
+    (taken : AreTaken g made last l d.spare mid to findings) where
   was_made : HasCleanDisk (at g last.store.now) → HasCleanDisk (at g made.store.now)
   was_made clean = omega (arith, stayed.crash.clean)
 
@@ -112,18 +113,18 @@ module _ {S : Type 0} (g : Ghosts S) (first made last : StoreTx S) (from mid to 
   )
 
   space : HasCleanDisk (at g made.store.now) → (h : Holdings) → Sees g made.store.now h →
-      IsSpare first.store.now.cap (length (h l.key)) (length taken.records) d.room
+      IsSpare first.store.now.cap (length (h l.key)) (length taken.records) d.spare
   space clean h seen =
-      subst (λ (n : ℕ). IsSpare n (length (h l.key)) (length taken.records) d.room) begun.cap
+      subst (λ (n : ℕ). IsSpare n (length (h l.key)) (length taken.records) d.spare) begun.cap
       (fewer made.store.now.cap (length (h l.key)) (most_records l.count) (length taken.records)
-      d.room
-      (few_records from.remaining to.remaining l taken.records fragment) (there.room clean h seen))
+      d.spare
+      (few_records from.remaining to.remaining l taken.records fragment) (there.spare clean h seen))
 
-  put_seen : MayBeAccepted d.room findings → HasCleanDisk (at g last.store.now) → (h : Holdings) →
+  put_seen : MayBeAccepted d.spare findings → HasCleanDisk (at g last.store.now) → (h : Holdings) →
       Sees g first.store.now h → Sees g last.store.now (with_records l.key taken.records h)
   put_seen may clean h seen = (taken.found clean h (there.same h seen)).1 may
 
-  pub is_accepted : MayBeAccepted d.room findings → EachHasRecord g first.store.now →
+  pub is_accepted : MayBeAccepted d.spare findings → EachHasRecord g first.store.now →
       SeesHoldings g first.store.now →
       IsAcceptedInside g first last from to
       (record { identity = l.key; new = findings.new; known = findings.known })
@@ -133,14 +134,14 @@ module _ {S : Type 0} (g : Ghosts S) (first made last : StoreTx S) (from mid to 
     reply_is = λ clean h seen.
         let k = counts_all l.key h taken.records findings may.0
         (taken.found clean h (there.same h seen)).0 in
-        accepted_here first.store.now.cap d.room l.key h taken.records findings k
+        accepted_here first.store.now.cap d.spare l.key h taken.records findings k
         (space (was_made clean) h (there.same h seen)).fits may.1;
     sees = λ h seen clean.
         let k = counts_all l.key h taken.records findings may.0
         (taken.found clean h (there.same h seen)).0 in
         let good = IsGood-from_sound first.store.now.cap h
         (seen (was_first (was_made clean))).sound in
-        subst (Sees g last.store.now) (left_here first.store.now.cap d.room l.key h taken.records
+        subst (Sees g last.store.now) (left_here first.store.now.cap d.spare l.key h taken.records
         findings sound good k
         (space (was_made clean) h (there.same h seen)).fits may.1) (put_seen may clean h seen)
         clean;
@@ -152,7 +153,7 @@ module _ {S : Type 0} (g : Ghosts S) (first made last : StoreTx S) (from mid to 
   -- and where it is refused
   pub is_refused : (answer : Refusal) → IsConflict answer
       → ((h : Holdings) → IsSpare first.store.now.cap (length (h l.key)) (length taken.records)
-      d.room →
+      d.spare →
       AreFindings l.key h taken.records findings →
       reply_of (Err answer) ≡ Some (reply first.store.now.cap h (Fragment l.key taken.records)))
       → IsStop g first last from to (Input answer)

@@ -164,20 +164,20 @@ fn clash_refusal(starts: Starts) -> Refusal
 
 /// Why a whole fragment is not accepted: its first clash, or no room. `None` where it is accepted.
 pub(crate) fn conflict(destination: Destination, cap: u32, findings: Findings) -> Option<Refusal>
-    ensures accepted { result ≡ None → MayBeAccepted destination.room findings }
+    ensures accepted { result ≡ None → MayBeAccepted destination.spare findings }
     ensures refused { IfSome result IsConflict }
     ensures answer { IfSome result (λ refusal.
         (key : Key) (h : Holdings) (records : List DataRecord) →
-        IsSpare cap (length (h key)) (length records) destination.room →
+        IsSpare cap (length (h key)) (length records) destination.spare →
         AreFindings key h records findings →
         reply_of (Err refusal) ≡ Some (reply cap h (Fragment key records))) }
 {
     match findings.clash {
         Some(starts) => Some(clash_refusal(starts)),
         None => {
-            if findings.new > destination.room {
+            if findings.new > destination.spare {
                 Some(Refusal::Full {
-                    held: cap.saturating_sub(destination.room),
+                    held: cap.saturating_sub(destination.spare),
                     new: findings.new,
                     cap,
                 })

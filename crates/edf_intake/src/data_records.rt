@@ -65,11 +65,11 @@ pub(crate) struct Findings {
 }
 
 /// Where the data records of a fragment go: a recording of the transaction, which has room for
-/// `room` more.
+/// `spare` more.
 #[derive(Clone, Copy)]
 pub(crate) struct Destination {
     pub(crate) id: RecordingId,
-    pub(crate) room: u32,
+    pub(crate) spare: u32,
 }
 
 /// What was found of one data record: the verdict on it, and the gap that begins where it starts,
@@ -137,18 +137,18 @@ fn take_record<S: Alter>(
     requires running { IsRunningFor S.Store transaction.old destination.id.row identity.now }
     // The store demands this of a data record that it adds.
     requires next { MayBeNext S.Store transaction.old identity.now data_record.now
-        destination.room course }
+        destination.spare course }
     // After a refusal the transaction can only be given up.
     ensures leaves { KeepsRunning S.Store transaction.old transaction.new result }
     ensures taken { IfOk result (IsRecordTaken S.Store transaction.old transaction.new
-        identity.now data_record.now destination.id.row destination.room course) }
+        identity.now data_record.now destination.id.row destination.spare course) }
     ensures why { IfErr result (HasCauseOrIsUnclean S.Store transaction.new) }
 {
     let findings = course.findings;
     if findings.clash.is_some() {
         return Ok(course);
     }
-    let Destination { id, room } = destination;
+    let Destination { id, spare } = destination;
     let start = data_record.start();
     let found = find_verdict(transaction, id, identity, course.gap, data_record)?;
     let Found { verdict, gap } = found;
@@ -168,7 +168,7 @@ fn take_record<S: Alter>(
             gap,
         }),
         Verdict::New => {
-            if findings.new < room {
+            if findings.new < spare {
                 transaction.add(id, data_record)?;
             }
             Ok(Course {
@@ -192,15 +192,15 @@ pub(crate) fn take_records<S: Alter, R: Input>(
     requires running { IsRunningFor S.Store transaction.old destination.id.row
         fragment.old.header.key }
     // As many are added as there is room for, so the room must not reach past the cap.
-    requires room { IsSpareInside S.Store transaction.old fragment.old.header.key
-        (most_records fragment.old.header.count) destination.room }
+    requires spare { IsSpareInside S.Store transaction.old fragment.old.header.key
+        (most_records fragment.old.header.count) destination.spare }
     requires header { HasReadHeader (R.remaining input.old) fragment.old.header
         fragment.old.progress }
     ensures leaves { KeepsRunning S.Store transaction.old transaction.new result }
     // The identity is taken from the header after this call.
     ensures header { fragment.new.header ≡ fragment.old.header }
     ensures taken { IfOk result (AreTaken S.Store transaction.old transaction.new
-        fragment.old.header destination.room
+        fragment.old.header destination.spare
         (input_state R.Input input.old) (input_state R.Input input.new)) }
     ensures halted { IfErr result (HaltsAfterHeader S.Store transaction.new fragment.old.header
         (input_state R.Input input.old) (input_state R.Input input.new)) }

@@ -28,13 +28,13 @@ fn known_room<S: Alter>(
 ) -> Result<Option<u32>, StoreFault>
     requires running { IsRunningFor S.Store transaction.old id.row identity.now }
     ensures leaves { ReadsInTransaction S.Store transaction.old transaction.new result HasCause }
-    ensures room { IfOk result (λ found. IfSome found
+    ensures spare { IfOk result (λ found. IfSome found
         (IsSpareInside S.Store transaction.new identity.now (most_records count))) }
 {
     let Some(count) = count else {
         return Ok(None);
     };
-    let fits = transaction.has_room(id, identity.duration(), count)?;
+    let fits = transaction.has_capacity(id, identity.duration(), count)?;
     if fits { Ok(Some(count)) } else { Ok(None) }
 }
 
@@ -54,12 +54,12 @@ fn find_destination<S: Alter>(
         identity.now (most_records count)) }
 {
     let id = transaction.recording(identity)?;
-    if let Some(room) = known_room(transaction, id, identity, count)? {
-        return Ok(Destination { id, room });
+    if let Some(spare) = known_room(transaction, id, identity, count)? {
+        return Ok(Destination { id, spare });
     }
     let held = transaction.count(id)?;
-    let room = cap.saturating_sub(held);
-    Ok(Destination { id, room })
+    let spare = cap.saturating_sub(held);
+    Ok(Destination { id, spare })
 }
 
 /// Reads a fragment to its end and adds what is new of it, as long as nothing clashes and there is

@@ -106,8 +106,8 @@ module _ (cap : ℕ) (old new : State) (P : Trees → Type 0) (s : Survives old 
       there_again m q clean is =
           let it = running (was_clean clean) in
           let mine = may.is_under.there (was_clean clean) in
-          let room = may.room (was_clean clean) it.0 (λ _. it.1) in
-          there_too old new id may.key r it.0 (has clean) it.1.stand mine room.none_near m q is
+          let spare = may.spare (was_clean clean) it.0 (λ _. it.1) in
+          there_too old new id may.key r it.0 (has clean) it.1.stand mine spare.none_near m q is
 
       more : (h : Holdings) (k : Key) → HasCleanDisk new → IsTransactionOf cap old h →
           HasRowId old id k → IsTransactionOf cap new (with_records k (r ∷ []) h)
@@ -115,13 +115,13 @@ module _ (cap : ℕ) (old new : State) (P : Trees → Type 0) (s : Survives old 
           let mine = may.is_under.there (was_clean clean) in
           let key : may.key ≡ k = one_key old.now.trees h it.stand id may.key k mine
           (under.there (was_clean clean)) in
-          let room = may.room (was_clean clean) h (λ _. it) in
+          let spare = may.spare (was_clean clean) h (λ _. it) in
           subst (λ (q : Key). IsTransactionOf cap new (with_records q (r ∷ []) h)) key (record {
             is_open = (has clean).shown.is_open;
             inside = record_inside old new _ (has clean);
-            stand = stand_more old new id may.key r h (has clean) it.stand mine room.none_near;
+            stand = stand_more old new id may.key r h (has clean) it.stand mine spare.none_near;
             sound = add_stays_sound cap h may.key r it.sound may.is_under.key may.sound
-                room.none_near room.few room.first;
+                spare.none_near spare.few spare.first;
             others = others_on old new (has clean).others (has clean).shown.committed_is it.others;
           })
 

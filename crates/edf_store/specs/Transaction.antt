@@ -93,7 +93,7 @@ pub record MayAddIn (cap : ℕ) (s : State) (id : ℤ) (r : DataRecord) : Type 0
   pub key : Key
   pub is_under : HasRowId s id key
   pub sound : IsSoundRecord key r
-  pub room : HasCleanDisk s → (h : Holdings) → AreSeen cap s h → CanAdd cap key r h
+  pub spare : HasCleanDisk s → (h : Holdings) → AreSeen cap s h → CanAdd cap key r h
 
 -- the recording has the record beside those that it had, and all else is as it was
 pub record IsAddedIn (cap : ℕ) (old new : State) (id : ℤ) (r : DataRecord) : Type 0 where

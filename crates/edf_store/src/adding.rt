@@ -35,7 +35,7 @@ pub(crate) fn add_record<S: Alter>(
     data_record: &Record,
 ) -> Result<(), Error>
     requires sees { SeesHoldings S.Store store.old }
-    requires room { MayAddTo S.Store store.old id data_record.now }
+    requires spare { MayAddTo S.Store store.old id data_record.now }
     ensures stays { KeepsHoldings S.Store store.old store.new }
     ensures added { IfOk result (λ _. IsAdded S.Store store.old store.new id data_record.now) }
 {

@@ -2,7 +2,8 @@
 //!
 //! - [`Store`]: over a connection of any store that `sqlite` takes. `transaction` begins to add;
 //!   `identities`, `summary` and `records` read what is held.
-//! - [`StoreTx`]: `recording`, `near`, `next_start`, `has_room`, `count` and `add`, until `commit`
+//! - [`StoreTx`]: `recording`, `near`, `next_start`, `has_capacity`, `count` and `add`, until
+//!   `commit`
 //!   or `give_up`.
 //! - [`Records`]: the data records of one recording, one at a time.
 //! - [`StoreFault`]: why a call was refused.

@@ -90,7 +90,7 @@ pub(crate) fn count_records<S: Alter>(store: &mut Store<S>, id: i64) -> Result<u
 
 /// Whether a recording has room for `more` data records. They are counted where the first start and
 /// the last do not tell.
-pub(crate) fn has_room<S: Alter>(
+pub(crate) fn has_capacity<S: Alter>(
     store: &mut Store<S>,
     id: i64,
     duration: u64,
@@ -98,7 +98,7 @@ pub(crate) fn has_room<S: Alter>(
 ) -> Result<bool, Error>
     requires recording { HasRecordingOf S.Store store.old id duration }
     ensures reads { ReadsRows S.Store store.old store.new result }
-    ensures room { AnswersWith S.Store store.new result
+    ensures spare { AnswersWith S.Store store.new result
         (IsCapacityAnswer S.Store store.old id more) }
 {
     let cap = store.cap;

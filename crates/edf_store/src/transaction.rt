@@ -129,7 +129,7 @@ impl<S: Alter> StoreTx<'_, S> {
     ///
     /// # Errors
     /// `Memory` (E41) or `Store` (E42), and the transaction is to be given up.
-    pub fn has_room(
+    pub fn has_capacity(
         &mut self,
         id: RecordingId,
         duration: u64,
@@ -139,10 +139,10 @@ impl<S: Alter> StoreTx<'_, S> {
         requires recording { (k : Key) × IsOf S.Store self.old.store.now id.row k
             × (duration ≡ duration_of k.duration) }
         ensures leaves { ReadsInTransaction S.Store self.old self.new result HasCause }
-        ensures room { AnswersWith S.Store self.new.store.now result
+        ensures spare { AnswersWith S.Store self.new.store.now result
             (IsCapacityAnswer S.Store self.old.store.now id.row more) }
     {
-        let answer = reading::has_room(self.store, id.row, duration, more);
+        let answer = reading::has_capacity(self.store, id.row, duration, more);
         self.refused = answer.is_err();
         Ok(answer?)
     }
@@ -154,7 +154,7 @@ impl<S: Alter> StoreTx<'_, S> {
     /// `Memory` (E41) or `Store` (E42), and the transaction is to be given up.
     pub fn add(&mut self, id: RecordingId, data_record: &Record) -> Result<(), StoreFault>
         requires running { IsRunning S.Store self.old }
-        requires room { MayAddTo S.Store self.old.store.now id.row data_record.now }
+        requires spare { MayAddTo S.Store self.old.store.now id.row data_record.now }
         ensures leaves { KeepsTransaction S.Store self.old self.new result }
         ensures added { IfOk result (λ _.
             IsAdded S.Store self.old.store.now self.new.store.now id.row data_record.now) }

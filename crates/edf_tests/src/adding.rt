@@ -112,7 +112,7 @@ pub(crate) fn put<S: Alter>(
 #[derive(Drop)]
 pub(crate) struct Found {
     /// Whether there is room for so many more data records.
-    pub(crate) has_room: bool,
+    pub(crate) has_capacity: bool,
     /// The first start of a data record that is at an instant or later.
     pub(crate) next: Option<Instant>,
     /// The data records that meet the interval of the identity's duration from that instant on.
@@ -147,11 +147,11 @@ fn ask<S: Alter>(
 {
     let id = tx.recording(identity)?;
     let duration = identity.duration();
-    let has_room = tx.has_room(id, duration, more)?;
+    let has_capacity = tx.has_capacity(id, duration, more)?;
     let next = tx.next_start(id, from)?;
     let near = tx.near(id, from, duration)?;
     Ok(Found {
-        has_room,
+        has_capacity,
         next,
         near,
     })

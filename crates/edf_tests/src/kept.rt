@@ -234,8 +234,12 @@ fn two_records_that_touch_are_there_when_a_disk_is_opened_again(rt: HostRuntime)
 }
 
 /// Whether a recording has room for as many more data records.
-fn has_room<S: Alter>(store: &mut Store<S>, two: &Two, more: u32) -> Option<bool> {
-    Some(find(store, &two.identity, instant(0)?, more).ok()?.has_room)
+fn has_capacity<S: Alter>(store: &mut Store<S>, two: &Two, more: u32) -> Option<bool> {
+    Some(
+        find(store, &two.identity, instant(0)?, more)
+            .ok()?
+            .has_capacity,
+    )
 }
 
 /// Whether a recording of five data records at most has room for as many as the cap leaves, and for
@@ -246,20 +250,20 @@ fn rooms(alloc: Global, halves: i8) -> Option<[bool; 7]> {
     let two = two_apart(alloc, halves)?;
     let mut store = empty_store(alloc, 5)?;
     let none = (
-        has_room(&mut store, &two, 5)?,
-        has_room(&mut store, &two, 6)?,
+        has_capacity(&mut store, &two, 5)?,
+        has_capacity(&mut store, &two, 6)?,
     );
     put(&mut store, &two.identity, &two.first, true).ok()?;
     let one = (
-        has_room(&mut store, &two, 4)?,
-        has_room(&mut store, &two, 5)?,
+        has_capacity(&mut store, &two, 4)?,
+        has_capacity(&mut store, &two, 5)?,
     );
     put(&mut store, &two.identity, &two.second, true).ok()?;
     let both = (
-        has_room(&mut store, &two, 3)?,
-        has_room(&mut store, &two, 4)?,
+        has_capacity(&mut store, &two, 3)?,
+        has_capacity(&mut store, &two, 4)?,
     );
-    let most = has_room(&mut store, &two, u32::MAX)?;
+    let most = has_capacity(&mut store, &two, u32::MAX)?;
     Some([none.0, none.1, one.0, one.1, both.0, both.1, most])
 }
 

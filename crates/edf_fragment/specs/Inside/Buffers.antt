@@ -4,7 +4,7 @@ use Rattle.edf_header.specs.Header.{Layout, block_bytes}
 use Rattle.edf_fragment.specs.declared.buffers.Buffers.{Buffers}
 
 -- room for a whole data record and for its blocks, and the sizes of these
-pub record HaveRoom (l : Layout) (b : Buffers) : Type 0 where
+pub record FitOneRecord (l : Layout) (b : Buffers) : Type 0 where
   pub whole : vec_len b.whole ≡ l.record_bytes
   pub joined : vec_len b.joined ≡ block_bytes l
   pub sizes : b.sizes.items ≡ map (λ x. x.bytes) l.blocks

@@ -16,18 +16,18 @@ use Rattle.edf_intake.specs.declared.data_records.Found.{Found}
 
 -- no clash was met so far, and there is room
 abbrev pub MayAdd : ℕ → Course → Type 0
-MayAdd room course = (course.findings.clash ≡ None) × (course.findings.new < room)
+MayAdd spare course = (course.findings.clash ≡ None) × (course.findings.new < spare)
 
 module _ {S : Type 0} (g : Ghosts S) where
   -- the record may come next: it is a sound one of its key; where it may be added, the recording
   -- has fewer than the cap, and may start with it if it holds none; it can be counted, and the gap
   -- is one
-  pub record MayBeNext (tx : StoreTx S) (key : Key) (r : DataRecord) (room : ℕ)
+  pub record MayBeNext (tx : StoreTx S) (key : Key) (r : DataRecord) (spare : ℕ)
       (course : Course) : Type 0 where
     pub sound : IsSoundRecord key r
-    pub few : HasCleanDisk (at g tx.store.now) → MayAdd room course → (h : Holdings) →
+    pub few : HasCleanDisk (at g tx.store.now) → MayAdd spare course → (h : Holdings) →
         Sees g tx.store.now h → length (h key) < tx.store.now.cap
-    pub first : HasCleanDisk (at g tx.store.now) → MayAdd room course → (h : Holdings) →
+    pub first : HasCleanDisk (at g tx.store.now) → MayAdd spare course → (h : Holdings) →
         Sees g tx.store.now h → h key ≡ [] → MayStart key r.start
     pub countable : course.findings.new + course.findings.known < 2 ^ 32 - 1
     pub gap : IsGapInside g tx key course.gap
@@ -42,12 +42,12 @@ module _ {S : Type 0} (g : Ghosts S) where
 
     -- it was taken: the transaction sees what that makes of what it saw; the recording is there
     -- under its id, and none was made; it is counted, and the gap is one
-    pub record IsRecordTaken (id : ℤ) (room : ℕ) (from to : Course) : Type 0 where
+    pub record IsRecordTaken (id : ℤ) (spare : ℕ) (from to : Course) : Type 0 where
       pub recording : IsOf g new.store.now id key
       pub only : AddsNoRecording g old.store.now new.store.now
       pub counts : HasCleanDisk (at g new.store.now) → (h : Holdings) → Sees g old.store.now h →
           (t : Holdings) × Sees g new.store.now t
-          × CountsNext room key r h from.findings t to.findings
+          × CountsNext spare key r h from.findings t to.findings
       pub counted : to.findings.new + to.findings.known
           ≤ from.findings.new + from.findings.known + 1
       pub gap : IsGapInside g new key to.gap

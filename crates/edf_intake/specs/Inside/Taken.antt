@@ -39,7 +39,7 @@ IsConflict refused = IsOfConflict (cause refused)
 
 -- nothing clashes, and there is room for what is new
 abbrev pub MayBeAccepted : ℕ → Findings → Type 0
-MayBeAccepted room findings = (findings.clash ≡ None) × (findings.new ≤ room)
+MayBeAccepted spare findings = (findings.clash ≡ None) × (findings.new ≤ spare)
 
 -- a header was just read, and no data record yet
 pub record HasReadHeader (left : Option (List ℕ)) (layout : Layout) (progress : Progress) : Type 0
@@ -55,11 +55,11 @@ module _ {S : Type 0} (g : Ghosts S) (old new : StoreTx S) where
     pub recording : IsOf g new.store.now destination.id.row key
     pub same : (h : Holdings) → Sees g old.store.now h → Sees g new.store.now h
     pub only : AddsOnlyRecording g key old.store.now new.store.now
-    pub room : IsSpareInside g new key asked destination.room
+    pub spare : IsSpareInside g new key asked destination.spare
 
   -- all data records up to the end of the input were read, no read failed, and this was found of
   -- them; what is new was added, where the fragment may be accepted
-  pub record AreTaken (layout : Layout) (room : ℕ) (from to : InputState)
+  pub record AreTaken (layout : Layout) (spare : ℕ) (from to : InputState)
       (findings : Findings) : Type 0 where
     pub only : AddsNoRecording g old.store.now new.store.now
     pub counted : to.failed ≡ from.failed
@@ -68,7 +68,7 @@ module _ {S : Type 0} (g : Ghosts S) (old new : StoreTx S) where
         ReadsFragment before to.remaining layout records
     pub found : HasCleanDisk (at g new.store.now) → (h : Holdings) → Sees g old.store.now h →
         AreFindings layout.key h records findings
-        × (MayBeAccepted room findings → Sees g new.store.now (with_records layout.key records h))
+        × (MayBeAccepted spare findings → Sees g new.store.now (with_records layout.key records h))
 
   module _ (from to : InputState) where
     -- the fragment is accepted so; the transaction sees what it leaves, and may be committed

@@ -21,15 +21,15 @@ use Rattle.edf_intake.specs.declared.data_records.Findings.{Findings}
 
 -- room in a recording that holds `held`, never past the cap: all that the cap leaves, or at least
 -- what is asked for
-pub record IsSpare (cap held asked room : ℕ) : Type 0 where
-  pub fits : held + room ≤ cap
-  pub enough : (held + room ≡ cap) ⊎ (asked ≤ room)
+pub record IsSpare (cap held asked spare : ℕ) : Type 0 where
+  pub fits : held + spare ≤ cap
+  pub enough : (held + spare ≡ cap) ⊎ (asked ≤ spare)
 
 -- the key's recording has this room, as the transaction sees it on a disk that returns what was
 -- written
 abbrev pub IsSpareInside : {S : Type 0} → Ghosts S → StoreTx S → Key → ℕ → ℕ → Type 0
-IsSpareInside g tx key asked room = HasCleanDisk (at g tx.store.now) → (h : Holdings) →
-    Sees g tx.store.now h → IsSpare tx.store.now.cap (length (h key)) asked room
+IsSpareInside g tx key asked spare = HasCleanDisk (at g tx.store.now) → (h : Holdings) →
+    Sees g tx.store.now h → IsSpare tx.store.now.cap (length (h key)) asked spare
 
 -- what the stored records near one say of it
 abbrev pub IsVerdict : DataRecord → List DataRecord → Verdict → Type 0
@@ -47,19 +47,19 @@ IsVerdictIn g store key r verdict = (h : Holdings) → Sees g store h →
 -- what one record makes of the findings and of the holdings, given the stored ones near it
 abbrev pub CountsVerdict : ℕ → Key → DataRecord → List DataRecord → Holdings → Findings → Holdings →
     Findings → Verdict → Type 0
-CountsVerdict room key r near h from t to (Clashes stored) = (t ≡ h)
+CountsVerdict spare key r near h from t to (Clashes stored) = (t ≡ h)
     × (to ≡ record from { clash = Some (record { start = r.start; stored = stored }) })
-CountsVerdict room key r near h from t to Known = (t ≡ h)
+CountsVerdict spare key r near h from t to Known = (t ≡ h)
     × (to ≡ record from { known = from.known + 1 })
-CountsVerdict room key r near h from t to New =
-    (from.new < room → t ≡ with_records key (r ∷ []) h) × (room ≤ from.new → t ≡ h)
+CountsVerdict spare key r near h from t to New =
+    (from.new < spare → t ≡ with_records key (r ∷ []) h) × (spare ≤ from.new → t ≡ h)
     × (to ≡ record from { new = from.new + 1 })
 
 -- after a clash nothing counts
 abbrev pub CountsNext : ℕ → Key → DataRecord → Holdings → Findings → Holdings → Findings → Type 0
-CountsNext room key r h from t to = MatchOption from.clash
+CountsNext spare key r h from t to = MatchOption from.clash
     ((verdict : Verdict) × IsVerdict r (near_of (duration_of key.duration) r.start (h key)) verdict
-    × CountsVerdict room key r (near_of (duration_of key.duration) r.start (h key)) h from t to
+    × CountsVerdict spare key r (near_of (duration_of key.duration) r.start (h key)) h from t to
     verdict)
     (λ starts. to ≡ from)
 

@@ -9,7 +9,7 @@ use Rattle.edf_intake.proofs.Taking.{may_take, added_met}
 use Rattle.edf_intake.proofs.Transactions.{passed_on, keeps_none}
 use Rattle.edf_intake.proofs.data_records.take_record.Goals as goal
 use Rattle.edf_intake.proofs.data_records.take_record.Goals.{then-findings-room+in_ok-add-in-New}
-use Rattle.edf_intake.proofs.data_records.take_record.Goals.{else-findings-room}
+use Rattle.edf_intake.proofs.data_records.take_record.Goals.{else-findings-spare}
 
 pub returns-then-is_some-clause-leaves : goal.returns-then-is_some-clause-leaves
 returns-then-is_some-clause-leaves g c =
@@ -18,7 +18,7 @@ returns-then-is_some-clause-leaves g c =
 pub returns-then-is_some-clause-taken : goal.returns-then-is_some-clause-taken
 returns-then-is_some-clause-taken g c =
     clashed_before g.S.Store c.args.destination.id.row c.args.identity.now c.args.data_record.now
-    c.args.destination.room c.args.course c.args.transaction.now c.requires.running
+    c.args.destination.spare c.args.course c.args.transaction.now c.requires.running
     (sym c.is_some.ensures ∙ c.if-is_some.true) c.requires.next.gap
 
 pub returns-in_err-found-clause-leaves : goal.returns-in_err-found-clause-leaves
@@ -38,7 +38,7 @@ pub returns-in-Clashes-clause-taken : goal.returns-in-Clashes-clause-taken
 returns-in-Clashes-clause-taken g c =
     let mid = c.find_verdict.new.transaction in
     clash_met g.S.Store c.args.destination.id.row c.args.identity.now c.args.data_record.now
-    c.args.destination.room c.args.course c.args.transaction.now c.requires.running mid
+    c.args.destination.spare c.args.course c.args.transaction.now c.requires.running mid
     (HasCauseOrIsUnclean g.S.Store mid) c.in_ok-found.found c.in_ok-found.ensures.leaves
     c.in_ok-found.ensures.found
     (none_of c.args.course.findings.clash (sym c.is_some.ensures ∙ c.if-is_some.false))
@@ -53,21 +53,21 @@ pub returns-in-Known-clause-taken : goal.returns-in-Known-clause-taken
 returns-in-Known-clause-taken g c =
     let mid = c.find_verdict.new.transaction in
     known_met g.S.Store c.args.destination.id.row c.args.identity.now c.args.data_record.now
-    c.args.destination.room c.args.course c.args.transaction.now c.requires.running mid
+    c.args.destination.spare c.args.course c.args.transaction.now c.requires.running mid
     (HasCauseOrIsUnclean g.S.Store mid) c.in_ok-found.found c.in_ok-found.ensures.leaves
     c.in_ok-found.ensures.found
     (none_of c.args.course.findings.clash (sym c.is_some.ensures ∙ c.if-is_some.false))
     c.in-Known.is
 
-pub add-requires-clause-room : goal.add-requires-clause-room
-add-requires-clause-room g c =
+pub add-requires-clause-spare : goal.add-requires-clause-spare
+add-requires-clause-spare g c =
     let mid = c.find_verdict.new.transaction in
     may_take g.S.Store c.args.destination.id.row c.args.identity.now c.args.data_record.now
-    c.args.destination.room c.args.course c.args.transaction.now c.requires.running mid
+    c.args.destination.spare c.args.course c.args.transaction.now c.requires.running mid
     (HasCauseOrIsUnclean g.S.Store mid) c.in_ok-found.found c.in_ok-found.ensures.leaves
     c.in_ok-found.ensures.found
     (none_of c.args.course.findings.clash (sym c.is_some.ensures ∙ c.if-is_some.false))
-    c.in-New.is c.if-findings-room.true c.requires.next
+    c.in-New.is c.if-findings-spare.true c.requires.next
 
 pub returns-in_err-add-in-New-clause-leaves : goal.returns-in_err-add-in-New-clause-leaves
 returns-in_err-add-in-New-clause-leaves g c =
@@ -84,13 +84,13 @@ returns-in_err-add-in-New-clause-leaves g c =
       running = tt;
     })
 
-pub returns-after-findings-room-clause-leaves :
-    goal.returns-after-findings-room-clause-leaves
-returns-after-findings-room-clause-leaves g c =
+pub returns-after-findings-spare-clause-leaves :
+    goal.returns-after-findings-spare-clause-leaves
+returns-after-findings-spare-clause-leaves g c =
     let first = c.args.transaction.now.store.now in
     let mid = c.find_verdict.new.transaction.store.now in
     let p = c.in_ok-found.ensures.leaves in
-    elim c.if-findings-room.branch [
+    elim c.if-findings-spare.branch [
       | then-findings-room+in_ok-add-in-New w ↦
           let q = w.in_ok-add-in-New.ensures.leaves in
           rw w.transaction-is (record {
@@ -98,20 +98,20 @@ returns-after-findings-room-clause-leaves g c =
             stays = stays_then g.S.Store first mid w.add.new.self.store.now p.stays q.stays;
             running = q.running;
           })
-      | else-findings-room w ↦ rw w.transaction-is (record {
+      | else-findings-spare w ↦ rw w.transaction-is (record {
         same_reference = p.same_reference;
         stays = p.stays;
         running = p.running;
       })
     ]
 
-pub returns-after-findings-room-clause-taken :
-    goal.returns-after-findings-room-clause-taken
-returns-after-findings-room-clause-taken g c =
+pub returns-after-findings-spare-clause-taken :
+    goal.returns-after-findings-spare-clause-taken
+returns-after-findings-spare-clause-taken g c =
     let id = c.args.destination.id.row in
     let key = c.args.identity.now in
     let r = c.args.data_record.now in
-    let room = c.args.destination.room in
+    let spare = c.args.destination.spare in
     let course = c.args.course in
     let first = c.args.transaction.now in
     let mid = c.find_verdict.new.transaction in
@@ -120,12 +120,12 @@ returns-after-findings-room-clause-taken g c =
     let read = c.in_ok-found.ensures.leaves in
     let is = c.in_ok-found.ensures.found in
     let none = none_of course.findings.clash (sym c.is_some.ensures ∙ c.if-is_some.false) in
-    elim c.if-findings-room.branch [
+    elim c.if-findings-spare.branch [
       | then-findings-room+in_ok-add-in-New w ↦ rw w.transaction-is
-          (added_met g.S.Store id key r room course first c.requires.running mid Why found read is
-          none c.in-New.is w.if-findings-room.true w.add.new.self
+          (added_met g.S.Store id key r spare course first c.requires.running mid Why found read is
+          none c.in-New.is w.if-findings-spare.true w.add.new.self
           w.in_ok-add-in-New.ensures.leaves.stays w.in_ok-add-in-New.ensures.added)
-      | else-findings-room w ↦ rw w.transaction-is
-          (full_met g.S.Store id key r room course first c.requires.running mid Why found read is
-          none c.in-New.is w.if-findings-room.false)
+      | else-findings-spare w ↦ rw w.transaction-is
+          (full_met g.S.Store id key r spare course first c.requires.running mid Why found read is
+          none c.in-New.is w.if-findings-spare.false)
     ]

@@ -29,8 +29,8 @@ records-init g c =
     let findings : Findings = record { new = 0; known = 0; clash = None } in
     let fresh = c.requires.header in
     let begun : MetSoFar g.S.Store store store header left left initial_progress findings =
-    at_start g.S.Store store header fresh.before left fresh.header c.args.destination.room
-    c.requires.room in
+    at_start g.S.Store store header fresh.before left fresh.header c.args.destination.spare
+    c.requires.spare in
     record {
       same_reference = refl;
       stays = stays_here g.S.Store store;
@@ -81,12 +81,12 @@ take_record-requires-clause-next g c =
     record {
       sound = search rules;
       few = λ clean may h seen. subst (λ (k : Key). length (h k) < now.cap) (sym same)
-          (few_seen g.S.Store first l c.requires.header.before left head c.args.destination.room
-          c.requires.room now mid from c.records.course.findings inv.so_far sees was inv.stays.cap
+          (few_seen g.S.Store first l c.requires.header.before left head c.args.destination.spare
+          c.requires.spare now mid from c.records.course.findings inv.so_far sees was inv.stays.cap
           clean may.0 may.1 h seen);
       first = λ clean may h seen. subst (λ (k : Key). h k ≡ [] → MayStart k r.start) (sym same)
           (first_seen g.S.Store first l c.requires.header.before left head
-          c.args.destination.room c.requires.room now mid rest from to c.records.course.findings r
+          c.args.destination.spare c.requires.spare now mid rest from to c.records.course.findings r
           inv.so_far inv.reading answer sees was clean may.0 may.1 h seen);
       countable = omega (arith, inv.so_far.counted, step.1.may_come, layout.count.1);
       gap = subst (λ (k : Key). IsGapInside g.S.Store c.records.transaction k c.records.course.gap)
@@ -147,12 +147,12 @@ records-preserved g c =
     let r = c.in-Ok-Some.data_record in
     let e = c.in-Ok.ensures.leaves in
     let id = c.args.destination.id.row in
-    let room = c.args.destination.room in
+    let spare = c.args.destination.spare in
     let same : c.identity-identity.result.now ≡ l.key = c.identity-identity.ensures
     ∙ ap (λ (x : Layout). x.key) (c.header.ensures
     ∙ (c.in-Ok-Some.ensures.header ∙ inv.header)) in
     let taken = subst (λ (k : Key). IsRecordTaken g.S.Store c.records.transaction
-    c.take_record.new.transaction k r id room c.records.course c.in-Ok.next) same
+    c.take_record.new.transaction k r id spare c.records.course c.in-Ok.next) same
     c.in-Ok.ensures.taken in
     let answer = subst (λ (o : Option DataRecord). IsAnswer l from to mid rest (Ok o))
     c.in-Ok-Some.field-0-is
@@ -172,7 +172,7 @@ records-preserved g c =
       reading = ap (λ (p : Progress). p.state) step.0;
       counted = c.in-Ok-Some.ensures.counted ∙ inv.counted;
       so_far = one_more_met g.S.Store first l c.requires.header.before left
-          c.requires.header.header room c.requires.room now next mid rest from to
+          c.requires.header.header spare c.requires.spare now next mid rest from to
           c.records.course.findings c.in-Ok.next.findings r inv.so_far inv.reading answer
           (ap (λ (p : Progress). p.given) step.0) step.1.may_come was was_first taken.counts
           taken.counted;
@@ -201,8 +201,8 @@ returns-in-Ok-None-clause-taken g c =
     (subst (λ (x : Layout). IsAnswer x from to mid rest (Ok c.in-Ok-None.field-0)) inv.header
     c.in-Ok-None.ensures.answer) in
     let end = at_end g.S.Store c.args.transaction.now.store.now l c.requires.header.before
-    (g.R.Input.remaining c.args.input.now) c.requires.header.header c.args.destination.room
-    c.requires.room
+    (g.R.Input.remaining c.args.input.now) c.requires.header.header c.args.destination.spare
+    c.requires.spare
     c.records.transaction.store.now mid rest from to c.records.course.findings inv.so_far
     inv.reading answer (λ clean. omega (arith, inv.stays.crash.clean)) in
     record {

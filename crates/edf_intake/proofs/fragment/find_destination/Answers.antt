@@ -29,23 +29,23 @@ known_room-requires g c = record {
   };
 }
 
-pub returns-in_err-room-clause-leaves : goal.returns-in_err-room-clause-leaves
-returns-in_err-room-clause-leaves g c =
+pub returns-in_err-spare-clause-leaves : goal.returns-in_err-spare-clause-leaves
+returns-in_err-spare-clause-leaves g c =
     let first = c.args.transaction.now in
     let made = c.recording.new.self in
     let asked = c.known_room.new.transaction in
-    let fault = c.in_err-room.field-0.0 in
-    passed_on c.from_residual-in_err-room.result fault
+    let fault = c.in_err-spare.field-0.0 in
+    passed_on c.from_residual-in_err-spare.result fault
     (λ (r : Result Destination StoreFault). KeepsTransaction g.S.Store first asked r)
-    c.from_residual-in_err-room.ensures.1
+    c.from_residual-in_err-spare.ensures.1
     (stays_read_refused g.S.Store first made asked c.in_ok-id.id c.in_ok-id.ensures.leaves fault
-    c.in_err-room.ensures.leaves)
+    c.in_err-spare.ensures.leaves)
 
 pub returns-in-Some-clause-leaves : goal.returns-in-Some-clause-leaves
 returns-in-Some-clause-leaves g c =
-    let d : Destination = record { id = c.in_ok-id.id; room = c.in-Some.room } in
+    let d : Destination = record { id = c.in_ok-id.id; spare = c.in-Some.spare } in
     stays_read g.S.Store c.args.transaction.now c.recording.new.self c.known_room.new.transaction
-    c.in_ok-id.id c.in_ok-id.ensures.leaves c.in_ok-room.field-0 d c.in_ok-room.ensures.leaves
+    c.in_ok-id.id c.in_ok-id.ensures.leaves c.in_ok-spare.field-0 d c.in_ok-spare.ensures.leaves
 
 pub returns-in-Some-clause-found : goal.returns-in-Some-clause-found
 returns-in-Some-clause-found g c =
@@ -54,21 +54,21 @@ returns-in-Some-clause-found g c =
     let asked = c.known_room.new.transaction in
     let key = c.args.identity.now in
     let found = c.in_ok-id.ensures.found in
-    let read = c.in_ok-room.ensures.leaves in
+    let read = c.in_ok-spare.ensures.leaves in
     record {
       recording = read.same.ids c.in_ok-id.id.row key found.found;
       same = λ h seen. sees_as g.S.Store made asked.store.now read.stays.cap read.same h
           (sees_as g.S.Store first made c.in_ok-id.ensures.leaves.stays.cap found.same h seen);
       only = at_most g.S.Store key first made asked.store.now read.stays found.only read.only;
-      room = subst (λ (o : Option ℕ). IfSome o
+      spare = subst (λ (o : Option ℕ). IfSome o
           (IsSpareInside g.S.Store asked key (most_records c.args.count))) c.in-Some.is
-          c.in_ok-room.ensures.room;
+          c.in_ok-spare.ensures.spare;
     }
 
 pub count-requires-clause-recording : goal.count-requires-clause-recording
 count-requires-clause-recording g c = (
   c.args.identity.now,
-  c.in_ok-room.ensures.leaves.same.ids c.in_ok-id.id.row c.args.identity.now
+  c.in_ok-spare.ensures.leaves.same.ids c.in_ok-id.id.row c.args.identity.now
       c.in_ok-id.ensures.found.found,
 )
 
@@ -83,8 +83,8 @@ returns-in_err-held-clause-leaves g c =
     (λ (r : Result Destination StoreFault). KeepsTransaction g.S.Store first last r)
     c.from_residual-in_err-held.ensures.1
     (stays_read_refused g.S.Store first made last c.in_ok-id.id c.in_ok-id.ensures.leaves fault
-    (reads_then_refused g.S.Store {Z = ℕ} made asked last HasCause HasCause c.in_ok-room.field-0
-    c.in_ok-room.ensures.leaves fault c.in_err-held.ensures.leaves))
+    (reads_then_refused g.S.Store {Z = ℕ} made asked last HasCause HasCause c.in_ok-spare.field-0
+    c.in_ok-spare.ensures.leaves fault c.in_err-held.ensures.leaves))
 
 pub returns-clause-leaves : goal.returns-clause-leaves
 returns-clause-leaves g c =
@@ -93,10 +93,10 @@ returns-clause-leaves g c =
     let asked = c.known_room.new.transaction in
     let last = c.count.new.self in
     let held = c.in_ok-held.held in
-    let d : Destination = record { id = c.in_ok-id.id; room = c.saturating_sub-room.result } in
+    let d : Destination = record { id = c.in_ok-id.id; spare = c.saturating_sub-spare.result } in
     stays_read g.S.Store first made last c.in_ok-id.id c.in_ok-id.ensures.leaves held d
-    (reads_then g.S.Store made asked last HasCause HasCause c.in_ok-room.field-0
-    c.in_ok-room.ensures.leaves held held c.in_ok-held.ensures.leaves)
+    (reads_then g.S.Store made asked last HasCause HasCause c.in_ok-spare.field-0
+    c.in_ok-spare.ensures.leaves held held c.in_ok-held.ensures.leaves)
 
 pub returns-clause-found : goal.returns-clause-found
 returns-clause-found g c =
@@ -107,9 +107,9 @@ returns-clause-found g c =
     let id = c.in_ok-id.id.row in
     let key = c.args.identity.now in
     let found = c.in_ok-id.ensures.found in
-    let room = c.in_ok-room.ensures.leaves in
+    let spare = c.in_ok-spare.ensures.leaves in
     let held = c.in_ok-held.ensures.leaves in
-    let read = reads_then g.S.Store made asked last HasCause HasCause c.in_ok-room.field-0 room
+    let read = reads_then g.S.Store made asked last HasCause HasCause c.in_ok-spare.field-0 spare
     c.in_ok-held.held c.in_ok-held.held held in
     record {
       recording = read.same.ids id key found.found;
@@ -118,10 +118,10 @@ returns-clause-found g c =
           h seen);
       only = at_most g.S.Store key first made.store.now last.store.now read.stays found.only
           read.only;
-      room = room_left g.S.Store asked last id key
-          (record { running = room.running; recording = room.same.ids id key found.found })
+      spare = room_left g.S.Store asked last id key
+          (record { running = spare.running; recording = spare.same.ids id key found.found })
           c.in_ok-held.held HasCause held (most_records c.args.count) c.args.cap c.in_ok-held.held
-          c.saturating_sub-room.result
-          (c.requires.cap ∙ sym c.in_ok-id.ensures.leaves.stays.cap ∙ sym room.stays.cap)
-          c.in_ok-held.ensures.count c.saturating_sub-room.ensures;
+          c.saturating_sub-spare.result
+          (c.requires.cap ∙ sym c.in_ok-id.ensures.leaves.stays.cap ∙ sym spare.stays.cap)
+          c.in_ok-held.ensures.count c.saturating_sub-spare.ensures;
     }

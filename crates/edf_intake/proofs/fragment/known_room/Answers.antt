@@ -6,14 +6,14 @@ use Rattle.edf_intake.specs.Inside.Verdict.{IsSpareInside}
 use Rattle.edf_intake.proofs.Finding.{room_now}
 use Rattle.edf_intake.proofs.fragment.known_room.Goals as goal
 
-pub has_room-requires-clause-recording : goal.has_room-requires-clause-recording
-has_room-requires-clause-recording g c =
+pub has_capacity-requires-clause-recording : goal.has_capacity-requires-clause-recording
+has_capacity-requires-clause-recording g c =
     (c.args.identity.now, c.requires.running.recording, c.duration.ensures.value)
 
-pub returns-then-fits-clause-room : goal.returns-then-fits-clause-room
-returns-then-fits-clause-room g c =
+pub returns-then-fits-clause-spare : goal.returns-then-fits-clause-spare
+returns-then-fits-clause-spare g c =
     let old = c.args.transaction.now in
-    let new = c.has_room.new.self in
+    let new = c.has_capacity.new.self in
     let id = c.args.id.row in
     let key = c.args.identity.now in
     let count = c.in-Some.count in
@@ -22,4 +22,4 @@ returns-then-fits-clause-room g c =
     (room_now g.S.Store old new id key c.requires.running c.in_ok-fits.fits HasCause
     c.in_ok-fits.ensures.leaves count (λ clean. subst
     (IsCapacityAnswer g.S.Store old.store.now id count)
-    c.if-fits.true (c.in_ok-fits.ensures.room clean)))
+    c.if-fits.true (c.in_ok-fits.ensures.spare clean)))

@@ -43,16 +43,16 @@ destination_of g first made k l count d named counted there =
     (subst (λ (n : Option ℕ). IsDestination g first made k (most_records n) d) counted there)
 
 -- the answer to the whole fragment, under the cap that the store has
-answered : (m n room : ℕ) (k : Key) (records : List DataRecord) (findings : Findings)
+answered : (m n spare : ℕ) (k : Key) (records : List DataRecord) (findings : Findings)
     (refusal : Refusal) → m ≡ n
-    → ((h : Holdings) → IsSpare m (length (h k)) (length records) room →
+    → ((h : Holdings) → IsSpare m (length (h k)) (length records) spare →
     AreFindings k h records findings →
     reply_of (Err refusal) ≡ Some (reply m h (Fragment k records)))
-    → (h : Holdings) → IsSpare n (length (h k)) (length records) room →
+    → (h : Holdings) → IsSpare n (length (h k)) (length records) spare →
     AreFindings k h records findings →
     reply_of (Err refusal) ≡ Some (reply n h (Fragment k records))
-answered m n room k records findings refusal capped answer =
-    subst (λ (x : ℕ). (h : Holdings) → IsSpare x (length (h k)) (length records) room →
+answered m n spare k records findings refusal capped answer =
+    subst (λ (x : ℕ). (h : Holdings) → IsSpare x (length (h k)) (length records) spare →
     AreFindings k h records findings →
     reply_of (Err refusal) ≡ Some (reply x h (Fragment k records))) capped answer
 
@@ -108,8 +108,8 @@ take_records-requires-clause-running g c =
       recording = c.in_ok-destination.ensures.found.recording;
     })
 
-pub take_records-requires-clause-room : goal.take_records-requires-clause-room
-take_records-requires-clause-room g c =
+pub take_records-requires-clause-spare : goal.take_records-requires-clause-spare
+take_records-requires-clause-spare g c =
     let l = c.in_ok-fragment.fragment.header in
     let named : c.identity.result.now ≡ l.key = c.identity.ensures
     ∙ ap (λ (x : Layout). x.key) c.header-header.ensures in
@@ -117,7 +117,7 @@ take_records-requires-clause-room g c =
     ∙ ap (λ (x : Layout). x.count) c.header-header.ensures in
     (destination_of g.S.Store c.args.transaction.now c.find_destination.new.transaction
     c.identity.result.now l c.count.result c.in_ok-destination.destination named counted
-    c.in_ok-destination.ensures.found).room
+    c.in_ok-destination.ensures.found).spare
 
 pub take_records-requires-clause-header : goal.take_records-requires-clause-header
 take_records-requires-clause-header g c = record {
@@ -199,7 +199,7 @@ returns-in-Some-clause-stopped g c =
     c.in_ok-fragment.ensures.step.0 c.in_ok-fragment.ensures.counted
     c.in_ok-destination.ensures.leaves.stays c.in_ok-findings.ensures.leaves.stays there taken
     c.in-Some.refusal c.in-Some.ensures.refused
-    (answered c.args.cap first.store.now.cap d.room l.key taken.records findings
+    (answered c.args.cap first.store.now.cap d.spare l.key taken.records findings
     c.in-Some.refusal c.requires.cap (λ h. c.in-Some.ensures.answer l.key h taken.records))
 
 pub returns-in_err-findings-clause-leaves : goal.returns-in_err-findings-clause-leaves

@@ -31,7 +31,7 @@ returns-clause-added g c =
     let new = state g.S.Store c.insert_record.new.conn in
     let r = c.args.data_record.now in
     let sees = rw (← c.store.view_is) at c.requires.sees in
-    let room = rw (← c.store.view_is) at c.requires.room in
+    let spare = rw (← c.store.view_is) at c.requires.spare in
     let start : c.start_of-start.result ≡ pos r.start = search rules in
     let block : c.as_slice.result.now ≡ block_text 0 r.start r.annotations = search rules in
     let has : HasCleanDisk new →
@@ -40,12 +40,12 @@ returns-clause-added g c =
     λ clean. rw (
       to_z-of_z w64 c.args.id c.ranges.id,
       start,
-      start_fits r.start room.sound.start,
+      start_fits r.start spare.sound.start,
       c.samples.ensures.value,
       block,
     ) at (c.in_ok-insert_record.ensures.added clean) in
     rw (← c.store.view_is) (added_in c.store.inside.cap old new _ c.insert_record.ensures.survives
-    c.args.id r has room sees)
+    c.args.id r has spare sees)
 
 pub returns-in_err-insert_record-clause-stays : goal.returns-in_err-insert_record-clause-stays
 returns-in_err-insert_record-clause-stays g c =

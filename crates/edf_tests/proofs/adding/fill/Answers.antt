@@ -17,8 +17,8 @@ near-requires-clause-recording g c = (
   c.duration.ensures.value,
 )
 
-pub add-requires-clause-room : goal.add-requires-clause-room
-add-requires-clause-room g c =
+pub add-requires-clause-spare : goal.add-requires-clause-spare
+add-requires-clause-spare g c =
     let a = at g.S.Store c.recording.new.self.store.now in
     let b = at g.S.Store c.count.new.self.store.now in
     let d = at g.S.Store c.near.new.self.store.now in

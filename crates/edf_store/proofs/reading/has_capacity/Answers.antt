@@ -6,7 +6,7 @@ use Rattle.edf_store.specs.Transaction.{AreSeen, IsCountIn}
 use Rattle.edf_store.proofs.Readiness.{stays_then}
 use Rattle.edf_store.proofs.RowReads.{reads_refused, reads_then}
 use Rattle.edf_store.proofs.Short.{room_counted}
-use Rattle.edf_store.proofs.reading.has_room.Goals as goal
+use Rattle.edf_store.proofs.reading.has_capacity.Goals as goal
 
 pub count_records-requires : goal.count_records-requires
 count_records-requires g c =
@@ -35,8 +35,8 @@ returns-clause-reads g c =
     reads_then g.S.Store c.args.store.now c.is_short.new.store c.count_records.new.store _ _ _
     c.in_ok-short.ensures.reads c.in_ok-held.ensures.reads
 
-pub returns-clause-room : goal.returns-clause-room
-returns-clause-room g c clean h k seen under =
+pub returns-clause-spare : goal.returns-clause-spare
+returns-clause-spare g c clean h k seen under =
     let old = c.args.store.now in
     let mid = c.is_short.new.store in
     let reads = c.in_ok-short.ensures.reads in
