@@ -14,8 +14,8 @@ use Rattle.edf_command.specs.Inside.Commands.{edfstore_app}
 use Rattle.std.specs.Global.{Global}
 use Rattle.std.specs.Prelude.{Err, String, string_bytes, suc}
 use Rattle.std.proofs.lemmas.List.{length-map}
-use Rattle.edf_command.specs.Arguments.{AreValues, AskForHelp, AskForNoHelp, AskForNothing}
-use Rattle.edf_command.specs.Arguments.{asked, texts}
+use Rattle.edf_command.specs.Arguments.{AreValues, AskForHelp, AskForNoHelp, WordsParseToNothing}
+use Rattle.edf_command.specs.Arguments.{request, texts}
 use Rattle.edf_program.specs.Words.{IsNoUsage}
 use Rattle.edf_command.specs.Inside.Matches.{asked_in}
 use Rattle.edf_command.specs.Inside.Read.{AreWordsRead}
@@ -40,7 +40,7 @@ few values fits = rw (length-map values string_bytes) (omega (arith, fits))
 pub matches_asked : (a : App) (words : List (String Global)) (m : ArgMatches) → a ≡ edfstore_app →
     AreValues words → 0 < length words → length words ≤ usize_max
     → (is_simple_and_free a ≡ true → fault_of a (texts words) ≡ []) →
-    HasMatchesOf a (texts words) m → asked (texts words) ≡ asked_in (subcommand_rows_of m)
+    HasMatchesOf a (texts words) m → request (texts words) ≡ asked_in (subcommand_rows_of m)
 matches_asked a [] m is v some fits passes has = absurd (omega (arith, some))
 matches_asked a (name ∷ values) m is v some fits passes has =
     let none : fault_of edfstore_app (texts (name ∷ values)) ≡ [] =
@@ -57,7 +57,7 @@ matches_asked a (name ∷ values) m is v some fits passes has =
 pub fails_asked : (a : App) (words : List (String Global)) (e : Error) → a ≡ edfstore_app →
     AreValues words → 0 < length words → length words ≤ usize_max
     → (is_simple_and_free a ≡ true → HasKind (fault_of a (texts words)) e) →
-    (kind_of e ≡ kind.OutOfMemory → ⊥) → AskForNothing words
+    (kind_of e ≡ kind.OutOfMemory → ⊥) → WordsParseToNothing words
 fails_asked a [] e is v some fits fails other = absurd (omega (arith, some))
 fails_asked a (name ∷ values) e is v some fits fails other =
     let has : HasKind (fault_of edfstore_app (texts (name ∷ values))) e =

@@ -8,7 +8,7 @@ use Rattle.clap.specs.declared.error.kind.ErrorKind.{ErrorKind}
 use Rattle.clap.specs.declared.error.kind.ErrorKind.TheVariants as kind
 use Rattle.edf_command.specs.Inside.Commands.{edfstore_app}
 use Rattle.edf_program.specs.Words.{is_mistake}
-use Rattle.edf_command.specs.Arguments.{BeginWithRequest, IsOneOf, commands, help_flags}
+use Rattle.edf_command.specs.Arguments.{BeginWithHelpOrVersion, IsOneOf, commands, help_flags}
 use Rattle.edf_command.proofs.Told.{named_fault}
 
 -- the only kind is one of the two that are asked for
@@ -99,7 +99,7 @@ command_helps name flag rest (inr (inr (inr (inr none)))) f = absurd none
 abbrev Answered : List Text → Type 0
 Answered words = IsRequest (fault_of edfstore_app words)
 
-pub requested : (words : List Text) → BeginWithRequest words → Answered words
+pub requested : (words : List Text) → BeginWithHelpOrVersion words → Answered words
 requested [] asks = absurd asks
 requested (word ∷ rest) (inl (inl e)) =
     subst (λ w. Answered (w ∷ rest)) (sym e) (kind.DisplayHelp, long_help rest, refl)

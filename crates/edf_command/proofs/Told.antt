@@ -13,7 +13,7 @@ use Rattle.clap.specs.Simple.{built, entered, names_of, subcommand_of}
 use Rattle.clap.specs.declared.error.kind.ErrorKind.{ErrorKind}
 use Rattle.clap.specs.declared.error.kind.ErrorKind.TheVariants as kind
 use Rattle.edf_command.specs.Inside.Commands.{edfstore_app}
-use Rattle.edf_command.specs.Arguments.{asked, begin_with_help, is_value}
+use Rattle.edf_command.specs.Arguments.{request, begin_with_help, is_value}
 use Rattle.edf_program.specs.Words.{is_mistake}
 use Rattle.edf_command.specs.Inside.Matches.{asked_in}
 use Rattle.edf_command.proofs.Values.{and_left, and_right, is_value_is}
@@ -70,8 +70,8 @@ module _ (name : Text) (values : List Text)
 -- where `help` is not the first
 abbrev pub IsTold : List Text → Type 0
 IsTold words = ((fault_of edfstore_app words ≡ [])
-    × (asked words ≡ asked_in (subcommand_of edfstore_app words)))
-    ⊎ ((fault_of edfstore_app words ≡ [] → ⊥) × (asked words ≡ None)
+    × (request words ≡ asked_in (subcommand_of edfstore_app words)))
+    ⊎ ((fault_of edfstore_app words ≡ [] → ⊥) × (request words ≡ None)
     × (begin_with_help words ≡ false → list_all is_mistake (fault_of edfstore_app words) ≡ true))
 
 abbrev is_none : Kinds → Bool
@@ -82,7 +82,7 @@ some_kind : (k : ErrorKind) (ks xs : Kinds) → xs ≡ k ∷ ks → xs ≡ [] �
 some_kind k ks xs e none = true≢false (ap is_none (sym none ∙ e))
 
 mistaken : (k : ErrorKind) (ks : Kinds) (words : List Text) → fault_of edfstore_app words ≡ k ∷ ks →
-    list_all is_mistake (k ∷ ks) ≡ true → asked words ≡ None → IsTold words
+    list_all is_mistake (k ∷ ks) ≡ true → request words ≡ None → IsTold words
 mistaken k ks words is mistake none =
     inr (some_kind k ks _ is, none, λ _. ap (list_all is_mistake) is ∙ mistake)
 

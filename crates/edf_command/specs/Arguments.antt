@@ -19,11 +19,11 @@ is_value [] = true
 is_value (x ∷ rest) = not (x == 45) || length rest == 0
 
 -- what can be asked for, with the values: the store's text, the files' texts in order, the place
-pub data Asked : Type 0 where
-  take : Text → List Text → Asked
-  list : Text → Asked
-  export : Text → ℕ → Asked
-  convert : Text → Asked
+pub data Request : Type 0 where
+  take : Text → List Text → Request
+  list : Text → Request
+  export : Text → ℕ → Request
+  convert : Text → Request
 
 -- digits with a value from 1 to 4,294,967,295
 abbrev pub is_place : Text → Bool
@@ -35,32 +35,32 @@ abbrev pub place_of : Text → Option ℕ
 place_of text = if is_place text then Some (digits_value 10 text) else None
 
 -- what is asked for by the values after each word that may come first
-abbrev pub asked_of_take : List Text → Option Asked
-asked_of_take (store ∷ file ∷ files) = Some (take store (file ∷ files))
-asked_of_take _ = None
+abbrev pub request_of_take : List Text → Option Request
+request_of_take (store ∷ file ∷ files) = Some (take store (file ∷ files))
+request_of_take _ = None
 
-abbrev pub asked_of_list : List Text → Option Asked
-asked_of_list (store ∷ []) = Some (list store)
-asked_of_list _ = None
+abbrev pub request_of_list : List Text → Option Request
+request_of_list (store ∷ []) = Some (list store)
+request_of_list _ = None
 
-abbrev pub asked_of_export : List Text → Option Asked
-asked_of_export (store ∷ place ∷ []) = option_map (export store) (place_of place)
-asked_of_export _ = None
+abbrev pub request_of_export : List Text → Option Request
+request_of_export (store ∷ place ∷ []) = option_map (export store) (place_of place)
+request_of_export _ = None
 
-abbrev pub asked_of_convert : List Text → Option Asked
-asked_of_convert (file ∷ []) = Some (convert file)
-asked_of_convert _ = None
+abbrev pub request_of_convert : List Text → Option Request
+request_of_convert (file ∷ []) = Some (convert file)
+request_of_convert _ = None
 
 -- what the words ask for; no word asks to convert standard input
-abbrev pub asked : List Text → Option Asked
-asked [] = Some (convert (codes "-"))
-asked (word ∷ values) = if bytes_eq word (codes "take") then asked_of_take values
-    else (if bytes_eq word (codes "list") then asked_of_list values
-    else (if bytes_eq word (codes "export") then asked_of_export values
-    else (if bytes_eq word (codes "convert") then asked_of_convert values else None)))
+abbrev pub request : List Text → Option Request
+request [] = Some (convert (codes "-"))
+request (word ∷ values) = if bytes_eq word (codes "take") then request_of_take values
+    else (if bytes_eq word (codes "list") then request_of_list values
+    else (if bytes_eq word (codes "export") then request_of_export values
+    else (if bytes_eq word (codes "convert") then request_of_convert values else None)))
 
 -- what a command asks for
-abbrev pub meaning : Order → Asked
+abbrev pub meaning : Order → Request
 meaning (parsed.Take store files) = take (string_bytes store) (map string_bytes files.items)
 meaning (parsed.List store) = list (string_bytes store)
 meaning (parsed.Export store place) = export (string_bytes store) place
@@ -91,9 +91,9 @@ BeginWithHelpFlag [] = ⊥
 BeginWithHelpFlag (word ∷ _) = IsOneOf help_flags word
 
 -- a flag that asks for help or for the version comes first, or one for help comes after a command
-abbrev pub BeginWithRequest : List Text → Type 0
-BeginWithRequest [] = ⊥
-BeginWithRequest (word ∷ rest) = IsOneOf (help_flags ++ version_flags) word
+abbrev pub BeginWithHelpOrVersion : List Text → Type 0
+BeginWithHelpOrVersion [] = ⊥
+BeginWithHelpOrVersion (word ∷ rest) = IsOneOf (help_flags ++ version_flags) word
     ⊎ (IsOneOf commands word × BeginWithHelpFlag rest)
 
 -- ---- the same of Rust's words
@@ -106,15 +106,15 @@ texts words = map string_bytes words
 abbrev pub AreValues : List (String Global) → Type 0
 AreValues words = list_all is_value (texts words) ≡ true
 
-abbrev pub AskFor : List (String Global) → Order → Type 0
-AskFor words parsed = asked (texts words) ≡ Some (meaning parsed)
+abbrev pub WordsParseTo : List (String Global) → Order → Type 0
+WordsParseTo words parsed = request (texts words) ≡ Some (meaning parsed)
 
-abbrev pub AskForNothing : List (String Global) → Type 0
-AskForNothing words = asked (texts words) ≡ None
+abbrev pub WordsParseToNothing : List (String Global) → Type 0
+WordsParseToNothing words = request (texts words) ≡ None
 
 -- none is a flag, and the first is not `help`
 abbrev pub AskForNoHelp : List (String Global) → Type 0
 AskForNoHelp words = AreValues words × (begin_with_help (texts words) ≡ false)
 
 abbrev pub AskForHelp : List (String Global) → Type 0
-AskForHelp words = BeginWithRequest (texts words)
+AskForHelp words = BeginWithHelpOrVersion (texts words)

@@ -3,8 +3,8 @@ use Rattle.std.specs.Prelude.{◌≢◌, String, List, [], Option, Some, None, R
 use Rattle.std.specs.Prelude.{if◌then◌else◌}
 use Rattle.std.specs.Global.{Global}
 use Rattle.std.specs.Str.{bytes_eq}
-use Rattle.edf_command.specs.Arguments.{Asked, Text, AreValues, AskFor, AskForNothing}
-use Rattle.edf_command.specs.Arguments.Asked.{take, list, export, convert}
+use Rattle.edf_command.specs.Arguments.{Request, Text, AreValues, WordsParseTo, WordsParseToNothing}
+use Rattle.edf_command.specs.Arguments.Request.{take, list, export, convert}
 use Rattle.edf_command.specs.declared.order.Order.{Order}
 use Rattle.edf_program.specs.Output.{OutputChange, Gets}
 use Rattle.edf_program.specs.Words.{IsCommandFaultPrinted}
@@ -18,7 +18,7 @@ path_of store = if bytes_eq store (codes ":memory:") then None else Some store
 
 -- the path of the store that is asked for; `convert` has an empty store in memory, as `:memory:` is
 -- one
-abbrev pub store_path : Asked → Option Text
+abbrev pub store_path : Request → Option Text
 store_path (take store files) = path_of store
 store_path (list store) = path_of store
 store_path (export store place) = path_of store
@@ -30,11 +30,11 @@ module _ (out err : OutputChange) where
   pub record IsNoCommand (words : List (String Global)) (status : Status) : Type 0 where
     pub fault : CommandFault
     pub printed : IsCommandFaultPrinted out err fault status
-    pub nothing : fault ≢ Memory → AreValues words → AskForNothing words
+    pub nothing : fault ≢ Memory → AreValues words → WordsParseToNothing words
 
   -- the command that the words ask for, where no word begins with `-`, and nothing is written; or
   -- there is none
   abbrev pub IsCommandRead : List (String Global) → Result Order Status → Type 0
-  IsCommandRead words (Ok command) = (AreValues words → AskFor words command) × Gets out []
+  IsCommandRead words (Ok command) = (AreValues words → WordsParseTo words command) × Gets out []
       × Gets err []
   IsCommandRead words (Err status) = IsNoCommand words status

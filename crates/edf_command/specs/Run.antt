@@ -9,8 +9,8 @@ use Rattle.edf_intake.specs.Refusal.{refusal_number}
 use Rattle.edf_intake.specs.Submitted.{IsSubmitted}
 use Rattle.edf_intake.specs.declared.answer.Receipt.{Receipt}
 use Rattle.edf_intake.specs.declared.answer.Refusal.{Refusal}
-use Rattle.edf_command.specs.Arguments.{Asked}
-use Rattle.edf_command.specs.Arguments.Asked.{take, list, export, convert}
+use Rattle.edf_command.specs.Arguments.{Request}
+use Rattle.edf_command.specs.Arguments.Request.{take, list, export, convert}
 use Rattle.edf_program.specs.Text.{IsInstantFormat}
 use Rattle.edf_command.specs.Lines.{refused_file_line}
 use Rattle.edf_command.specs.Taking.{IsTaken}
@@ -23,7 +23,7 @@ use Rattle.edf_program.specs.declared.status.Status.{Status}
 use Rattle.edf_program.specs.declared.status.Status.TheVariants.{Trouble}
 
 -- the files that a command names, in the order of the words
-abbrev pub files_of : Asked → List (List ℕ)
+abbrev pub files_of : Request → List (List ℕ)
 files_of (take store files) = files
 files_of (list store) = []
 files_of (export store place) = []
@@ -64,7 +64,7 @@ module _ {S : Type 0} (g : Ghosts S) (old new : StoreModel S) (out err : OutputC
 
   -- ---- all four
 
-  abbrev pub IsDone : (List ℕ → Option (List ℕ)) → Asked → Status → Type 0
+  abbrev pub IsDone : (List ℕ → Option (List ℕ)) → Request → Status → Type 0
   IsDone bytes (take store files) status = IsTaken g old new out err bytes files status
   IsDone bytes (list store) status = AreRecordingsListed g old new out err status
   IsDone bytes (export store place) status = IsPlaceExported g old new out err place status

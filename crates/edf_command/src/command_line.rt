@@ -3,8 +3,8 @@
 ghost use Rattle.std.specs.Prelude.{◌≢◌, ◌<◌, IfErr, IfOk, IsErrAnd, length};
 ghost use Rattle.edf_command.specs.Inside.Commands.{Reads, edfstore_app};
 ghost use Rattle.edf_command.specs.Inside.Read.{AreWordsRead};
-ghost use Rattle.edf_command.specs.Arguments.{AreValues, AskFor, AskForHelp, AskForNoHelp};
-ghost use Rattle.edf_command.specs.Arguments.{AskForNothing};
+ghost use Rattle.edf_command.specs.Arguments.{AreValues, WordsParseTo, AskForHelp, AskForNoHelp};
+ghost use Rattle.edf_command.specs.Arguments.{WordsParseToNothing};
 ghost use Rattle.edf_program.specs.Words.{IsNoHelp, IsNoUsage};
 
 use crate::commands::{edfstore_command, export_command};
@@ -63,9 +63,9 @@ fn place_fault(alloc: Global) -> Result<CommandFault, AllocError>
 /// the version is the first word, and where one for help follows `take`, `list`, `export` or
 /// `convert`. `Memory` where memory ran out, in place of any other answer.
 pub fn parse(alloc: Global, words: &[String]) -> Result<Order, CommandFault>
-    ensures command { AreValues words.now → IfOk result (AskFor words.now) }
+    ensures command { AreValues words.now → IfOk result (WordsParseTo words.now) }
     ensures fault { AreValues words.now →
-        IfErr result (λ fault. fault ≢ CommandFault.Memory → AskForNothing words.now) }
+        IfErr result (λ fault. fault ≢ CommandFault.Memory → WordsParseToNothing words.now) }
     ensures usage { AskForNoHelp words.now → IfErr result IsNoHelp }
     ensures help { AskForHelp words.now → IsErrAnd result IsNoUsage }
 {

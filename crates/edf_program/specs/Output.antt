@@ -59,18 +59,18 @@ AreLinesWritten w lines count written =
 -- ---- what is answered by a status: the one that was asked for, or trouble
 
 abbrev pub IsWritten : OutputChange → List ℕ → Status → Status → Type 0
-IsWritten w bytes wanted status = (Gets w bytes × (status ≡ wanted))
+IsWritten w bytes intended status = (Gets w bytes × (status ≡ intended))
     ⊎ (GetsPrefix w bytes × (status ≡ Trouble))
 
 -- or memory for the text was refused
 abbrev pub IsLinePrinted : OutputChange → List ℕ → Status → Status → Type 0
-IsLinePrinted w text wanted status = IsWritten w text wanted status
+IsLinePrinted w text intended status = IsWritten w text intended status
     ⊎ (Gets w [] × (status ≡ Trouble))
 
 abbrev pub AreLinesPrinted : OutputChange → (ℕ → List ℕ) → ℕ → Status → Status → Type 0
-AreLinesPrinted w lines count wanted status = IsWritten w (lines count) wanted status
+AreLinesPrinted w lines count intended status = IsWritten w (lines count) intended status
     ⊎ (RunsOutOfMemoryForLine w lines count × (status ≡ Trouble))
 
 -- nothing went to `out`, and a line to `err`
 abbrev pub Explains : OutputChange → OutputChange → List ℕ → Status → Status → Type 0
-Explains out err text wanted status = Gets out [] × IsWritten err text wanted status
+Explains out err text intended status = Gets out [] × IsWritten err text intended status

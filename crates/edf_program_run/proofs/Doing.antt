@@ -22,8 +22,8 @@ use Rattle.edf_intake.specs.Submitted.{IsSubmitted}
 use Rattle.edf_intake.specs.Batch.{Turn, some_values, MayHaveCommittedNext, MayRemainAfterCrash}
 use Rattle.edf_intake.proofs.Turns.{IsMade, turn_of}
 use Rattle.edf_intake.proofs.Batches.{in_turn}
-use Rattle.edf_command.specs.Arguments.{Asked}
-use Rattle.edf_command.specs.Arguments.Asked.{take, list, export, convert}
+use Rattle.edf_command.specs.Arguments.{Request}
+use Rattle.edf_command.specs.Arguments.Request.{take, list, export, convert}
 use Rattle.edf_program.specs.Output.{OutputChange, Explains, AreLinesPrinted}
 use Rattle.edf_program.specs.Text.{memory_line}
 use Rattle.edf_program.proofs.Undone.{trouble-told}
@@ -123,7 +123,7 @@ pub record Turned {D : Type 0} {g : disk.Ghosts D} (c : Command)
 module _ {D : Type 0} {g : disk.Ghosts D} (bytes : List ℕ → Option (List ℕ))
     (before after : List (List ℕ)) (out err : OutputChange) where
   -- no file was to be taken, and what is held stays
-  idle_done : (asked : Asked) (old new : StoreModel (FileStore D g)) (status : Status) →
+  idle_done : (asked : Request) (old new : StoreModel (FileStore D g)) (status : Status) →
       IsDone over_files old new out err bytes asked status →
       HasOpened before after (files_of asked) status → files_of asked ≡ [] →
       Prints out asked [] status → KeepsHoldings over_files old new →
@@ -135,7 +135,7 @@ module _ {D : Type 0} {g : disk.Ghosts D} (bytes : List ℕ → Option (List ℕ
   }
 
   -- memory for them ran out
-  none_done : (asked : Asked) (old new : StoreModel (FileStore D g)) (status : Status)
+  none_done : (asked : Request) (old new : StoreModel (FileStore D g)) (status : Status)
       (line : List ℕ) → IsDone over_files old new out err bytes asked status →
       HasOpened before after (files_of asked) status → new ≡ old →
       Explains out err line Trouble status →
@@ -210,7 +210,7 @@ module _ {D : Type 0} {g : disk.Ghosts D} (bytes : List ℕ → Option (List ℕ
       none_done (convert name) old new status (memory_line name) (inr (inr none)) opened none.0
       none.1
 
-  pub turned : (asked : Asked) (old new : StoreModel (FileStore D g)) (status : Status) →
+  pub turned : (asked : Request) (old new : StoreModel (FileStore D g)) (status : Status) →
       IsDone over_files old new out err bytes asked status →
       HasOpened before after (files_of asked) status → new.cap ≡ old.cap →
       Turned (asked, bytes, before, after, out) old new err status

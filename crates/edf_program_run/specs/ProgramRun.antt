@@ -20,8 +20,8 @@ use Rattle.edf_store.specs.Fault.{IsRefusalOf}
 use Rattle.edf_store.specs.Held.{StoreModel}
 use Rattle.edf_store.specs.declared.fault.StoreFault.{StoreFault}
 use Rattle.edf_intake.specs.Batch.{Turn}
-use Rattle.edf_command.specs.Arguments.{Asked}
-use Rattle.edf_command.specs.Arguments.Asked.{take}
+use Rattle.edf_command.specs.Arguments.{Request}
+use Rattle.edf_command.specs.Arguments.Request.{take}
 use Rattle.edf_command.specs.Lines.{first_take_lines, take_status, store_refused_line}
 use Rattle.edf_program.specs.Text.{IsInstantFormat}
 use Rattle.edf_command.specs.Run.{IsDone, files_of}
@@ -94,10 +94,10 @@ NotOpened r error status = (fault : StoreFault) × IsRefusalOf error fault
 
 -- what is asked, what names stand for, which were opened before and after, and standard output
 abbrev pub Command : Type 0
-Command = Asked × (List ℕ → Option (List ℕ)) × List (List ℕ) × List (List ℕ) × OutputChange
+Command = Request × (List ℕ → Option (List ℕ)) × List (List ℕ) × List (List ℕ) × OutputChange
 
 -- a `take` prints of each file how it was answered
-abbrev pub Prints : OutputChange → Asked → List Turn → Status → Type 0
+abbrev pub Prints : OutputChange → Request → List Turn → Status → Type 0
 Prints out (take store files) turns status = (spell : ℕ → List ℕ) → IsInstantFormat spell →
     let answers = map (λ (t : Turn). t.answer) turns in
     AreLinesPrinted out (first_take_lines spell files answers) (length answers)

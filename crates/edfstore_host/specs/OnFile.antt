@@ -7,8 +7,8 @@ use Rattle.sqlite.specs.Files.{image_of}
 use Rattle.sqlite.specs.Held.{Held}
 use Rattle.sqlite.specs.declared.error.Error.{Error}
 use Rattle.sqlite.specs.declared.file.Leftover.{Leftover}
-use Rattle.edf_command.specs.Arguments.{Asked}
-use Rattle.edf_command.specs.Arguments.Asked.{take, list, export, convert}
+use Rattle.edf_command.specs.Arguments.{Request}
+use Rattle.edf_command.specs.Arguments.Request.{take, list, export, convert}
 use Rattle.edf_command.specs.Lines.{no_recording_line}
 use Rattle.edf_program.specs.Output.{OutputChange, Gets, IsWritten}
 use Rattle.edf_program.specs.declared.status.Status.{Status}
@@ -20,14 +20,14 @@ use Rattle.edfstore_host.specs.declared.ended.Ended.{Ended}
 use Rattle.edfstore_host.specs.declared.ended.Ended.TheVariants.{Run, NotOpened, WithoutFiles}
 
 -- it makes no store where there is none
-abbrev pub OnlyReads : Asked → Type 0
+abbrev pub OnlyReads : Request → Type 0
 OnlyReads (take store files) = ⊥
 OnlyReads (list store) = Unit {0}
 OnlyReads (export store place) = Unit {0}
 OnlyReads (convert file) = ⊥
 
 -- what such a command says where there is none: an empty list, or no recording at its place
-abbrev pub FindsNothing : Asked → OutputChange → Status → Type 0
+abbrev pub FindsNothing : Request → OutputChange → Status → Type 0
 FindsNothing (take store files) err status = ⊥
 FindsNothing (list store) err status = Gets err [] × (status ≡ Done)
 FindsNothing (export store place) err status =
@@ -38,7 +38,7 @@ FindsNothing (convert file) err status = ⊥
 abbrev pub Opening : (D : Type 0) → Ghosts D → Type 0
 Opening D g = Result (Held (FileStore D g)) (Error × Option (Leftover D g))
 
-module _ {D : Type 0} {g : Ghosts D} (r : run.ProgramRun g) (asked : Asked) where
+module _ {D : Type 0} {g : Ghosts D} (r : run.ProgramRun g) (asked : Request) where
   -- It was run over the files that were opened. They are closed under every status but trouble,
   -- and what they are read as then is among what a crash may leave. Or they were not opened, for
   -- this error, and what is left of them is what was. Or none were looked for, and it only reads.

@@ -3,19 +3,19 @@ use Rattle.std.specs.Prelude.{List, Option, Some, None, codes, if◌then◌else�
 use Rattle.std.specs.Prelude.{option_map}
 use Rattle.std.specs.Str.{bytes_eq}
 use Rattle.clap.specs.Walk.{Row, all_of, first_of}
-use Rattle.edf_command.specs.Arguments.{Asked, Text, place_of}
-use Rattle.edf_command.specs.Arguments.Asked.{take, list, export, convert}
+use Rattle.edf_command.specs.Arguments.{Request, Text, place_of}
+use Rattle.edf_command.specs.Arguments.Request.{take, list, export, convert}
 
-abbrev pub take_found : Option Text → Option (List Text) → Option Asked
+abbrev pub take_found : Option Text → Option (List Text) → Option Request
 take_found (Some store) (Some files) = Some (take store files)
 take_found _ _ = None
 
-abbrev pub export_found : Option Text → Option Text → Option Asked
+abbrev pub export_found : Option Text → Option Text → Option Request
 export_found (Some store) (Some place) = option_map (export store) (place_of place)
 export_found _ _ = None
 
 -- by the word that was met and the values after it
-abbrev pub found_by : Text → List Row → Option Asked
+abbrev pub found_by : Text → List Row → Option Request
 found_by word rows = if bytes_eq word (codes "take") then take_found (first_of (codes "STORE") rows)
     (all_of (codes "FILE") rows)
     else (if bytes_eq word (codes "list") then option_map list (first_of (codes "STORE") rows)
@@ -24,5 +24,5 @@ found_by word rows = if bytes_eq word (codes "take") then take_found (first_of (
     else (if bytes_eq word (codes "convert") then option_map convert (first_of (codes "FILE") rows)
     else None)))
 
-abbrev pub asked_in : Option (Text × List Row) → Option Asked
+abbrev pub asked_in : Option (Text × List Row) → Option Request
 asked_in found = option_and_then (λ p. found_by p.0 p.1) found

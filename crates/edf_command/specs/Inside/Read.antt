@@ -5,15 +5,15 @@ use Rattle.std.specs.Global.{Global}
 use Rattle.edf_program.specs.Words.{IsNoHelp, IsNoUsage}
 use Rattle.edf_program.specs.declared.words.CommandFault.{CommandFault}
 use Rattle.edf_program.specs.declared.words.CommandFault.TheVariants.{Memory}
-use Rattle.edf_command.specs.Arguments.{AreValues, AskForHelp, AskForNoHelp, AskForNothing}
-use Rattle.edf_command.specs.Arguments.{asked, meaning, texts}
+use Rattle.edf_command.specs.Arguments.{AreValues, AskForHelp, AskForNoHelp, WordsParseToNothing}
+use Rattle.edf_command.specs.Arguments.{request, meaning, texts}
 use Rattle.edf_command.specs.declared.order.Order.{Order}
 
 -- no order where all is well but a PLACE
 pub record AreWordsRead (words : List (String Global)) (result : Result (Option Order) CommandFault)
     : Type 0 where
   pub reads : AreValues words →
-      IfOk result (λ order. option_map meaning order ≡ asked (texts words))
-  pub refuses : AreValues words → IfErr result (λ fault. fault ≢ Memory → AskForNothing words)
+      IfOk result (λ order. option_map meaning order ≡ request (texts words))
+  pub refuses : AreValues words → IfErr result (λ fault. fault ≢ Memory → WordsParseToNothing words)
   pub usage : AskForNoHelp words → IfErr result IsNoHelp
   pub help : AskForHelp words → IsErrAnd result IsNoUsage
