@@ -74,7 +74,7 @@ impl Measure {
     }
 
     /// Whether data records of this measure may be the first of those of another.
-    pub(crate) fn may_come_first(&self, whole: &Measure) -> bool
+    pub(crate) fn is_within_measure(&self, whole: &Measure) -> bool
         ensures { IsTrue result ↔ IsWithinMeasure self.now whole.now }
     {
         self.first.nanos() == whole.first.nanos()

@@ -41,7 +41,7 @@ fn put_next<W: Output>(
     }
     let annotated = kept_or(kept, nth, data_record);
     let measure = Measure::after(so_far, annotated);
-    if !measure.may_come_first(&whole) {
+    if !measure.is_within_measure(&whole) {
         return Ok(None);
     }
     let base = whole.first.second();

@@ -12,7 +12,7 @@ use Rattle.edf_store.specs.declared.fault.StoreFault.{StoreFault}
 use Rattle.edf_store.specs.declared.fault.StoreFault.TheVariants.{Failed}
 use Rattle.edf_store.proofs.Readiness.{stays_then}
 use Rattle.edf_export.specs.Export.{ReportsWriteFailures}
-use Rattle.edf_export.specs.Inside.Calls.{LeavesWalk, CountsWriting, CountsWritingFault}
+use Rattle.edf_export.specs.Inside.Calls.{EndsWalk, CountsWriting, CountsWritingFault}
 use Rattle.edf_export.specs.declared.fault.ExportFault.{ExportFault}
 use Rattle.edf_export.specs.declared.fault.ExportFault.TheVariants.{NoRecording, Store as Refused}
 use Rattle.edf_export.specs.declared.fault.ExportFault.TheVariants.{Memory, Write}
@@ -22,11 +22,11 @@ use Rattle.edf_export.proofs.Walks.{refusal_why}
 pub leaves_on : {S X : Type 0} (g : Ghosts S) (Left : State → Type 0) (a b c : Records S Cursor)
     (result : Result (Option X) StoreFault) → b.store.ghost_name ≡ a.store.ghost_name →
     KeepsHoldings g a.store.now b.store.now → IsWalkStep g b c result →
-    (HasCleanDisk (at g c.store.now) → Left (at g c.store.now)) → LeavesWalk g a c Left
+    (HasCleanDisk (at g c.store.now) → Left (at g c.store.now)) → EndsWalk g a c Left
 leaves_on g Left a b c result same stays step left = record {
   same_reference = step.same_reference ∙ same;
   stays = stays_then g a.store.now b.store.now c.store.now stays step.stays;
-  left = left;
+  after = left;
 }
 
 -- the same where it is busy for another reason

@@ -29,7 +29,7 @@ use Rattle.edf_canonical.proofs.MeasuredFiles.{front_more, planned_more}
 use Rattle.edf_canonical.proofs.Measures.{front_first}
 use Rattle.edf_canonical.proofs.Sourced.{gives-all, asked, keeps}
 use Rattle.edf_export.specs.Export.{IsOutsideTransactionAfterFault}
-use Rattle.edf_export.specs.Inside.Calls.{LeavesWalk, CountsWritingFault}
+use Rattle.edf_export.specs.Inside.Calls.{EndsWalk, CountsWritingFault}
 use Rattle.edf_export.specs.Inside.Steps.{Steps}
 use Rattle.edf_export.specs.Inside.Walks.{IsWritingFault, export_fault_of}
 use Rattle.edf_export.specs.declared.walked.Walked.{Walked}
@@ -106,7 +106,7 @@ module _ {S : Type 0} (g : Ghosts S) (from : At Walked (Records S Cursor) (Unit 
         so-all : HasGivenThese s.mid s.records
         so-all = all-given s.mid s.records s.gave
 
-        pub sent-leaves : LeavesWalk g from.file to.file (λ state. state.in_transaction ≡ false)
+        pub sent-leaves : EndsWalk g from.file to.file (λ state. state.in_transaction ≡ false)
         sent-leaves = leaves_on g _ from.file s.mid.file to.file _ so-all.same_reference
             so-all.stays s.end.leaves (λ clean. (s.end.leaves.walking clean).3.idle)
 
@@ -190,7 +190,7 @@ module _ {S : Type 0} (g : Ghosts S) (from : At Walked (Records S Cursor) (Unit 
         so-some : HasGivenThese s.mid s.records
         so-some = all-given s.mid s.records s.gave
 
-        pub stopped-leaves : LeavesWalk g from.file to.file
+        pub stopped-leaves : EndsWalk g from.file to.file
             (λ state. IsOutsideTransactionAfterFault state (export_fault_of fault))
         stopped-leaves = record {
           same_reference = keeps (Steps g) from to whole [] s.mid s.records
@@ -198,7 +198,7 @@ module _ {S : Type 0} (g : Ghosts S) (from : At Walked (Records S Cursor) (Unit 
               ∙ so-some.same_reference;
           stays = stays_then g from.file.store.now s.mid.file.store.now to.file.store.now
               so-some.stays (stays-on s.mid s.records so-some fault s.why);
-          left = idle s.mid s.records so-some fault s.why;
+          after = idle s.mid s.records so-some fault s.why;
         }
 
         pub stopped-counts : (old new : ℕ) → CountsSendFault old new fault →

@@ -62,7 +62,7 @@ pub sound_recording : (cap : ℕ) (s : State) (recording : Option ℤ) (cursor :
     (k : Key) (n : ℕ) → IsCursorAfter cap s recording cursor h k n
     → IsSoundRecording cap k (h k)
 sound_recording cap s recording cursor h k n it =
-    let sound : IsSound cap h = it.kept.sound in
+    let sound : IsSound cap h = it.committed.sound in
     record {
       key = it.key;
       sound = are-sound-from k 0 (h k) ((IsGood-from_sound cap h sound).apart k)

@@ -10,7 +10,7 @@ ghost use Rattle.edf_store.specs.Fault.{HasCauseOrIsForeign, MayRefuse, IsStoreR
 ghost use Rattle.edf_store.specs.Held.{at, Holds};
 ghost use Rattle.edf_store.specs.Walk.{HasYielded, IsWalking};
 ghost use Rattle.edf_canonical.specs.Measure.{IsMeasuredSoFar};
-ghost use Rattle.edf_export.specs.Inside.Calls.{LeavesWalk};
+ghost use Rattle.edf_export.specs.Inside.Calls.{EndsWalk};
 ghost use Rattle.edf_export.specs.Inside.Walks.{IsPlanned, IsSoundRecording};
 
 use edf_canonical::Measure;
@@ -25,7 +25,7 @@ const MOST_STEPS: u32 = MOST_RECORDS + 1;
 fn plan_walk<S: Alter>(walk: &mut Records<'_, S>) -> Result<Option<Measure>, StoreFault>
     requires ready { (walk.old.failed ≡ false) × IsWalking S.Store walk.old }
     requires cap { walk.old.store.now.cap ≤ MOST_RECORDS }
-    ensures leaves { LeavesWalk S.Store walk.old walk.new
+    ensures leaves { EndsWalk S.Store walk.old walk.new
         (λ s. OnOk result (s.in_transaction ≡ false)) }
     ensures walked { HasCleanDisk (at S.Store walk.new.store.now) → (h : Holdings) (k : Key) →
         HasYielded S.Store walk.old h k 0 →

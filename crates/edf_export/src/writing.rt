@@ -10,7 +10,7 @@ ghost use Rattle.edf_store.specs.Walk.{HasYielded, IsWalking};
 ghost use Rattle.edf_canonical.specs.Measure.{planned_text};
 ghost use Rattle.edf_export.specs.Export.{IsExported, IsNotExported};
 ghost use Rattle.edf_export.specs.Export.{IsOutsideTransactionAfterExport, KeepsStore};
-ghost use Rattle.edf_export.specs.Inside.Calls.{LeavesWalk, CountsWriting};
+ghost use Rattle.edf_export.specs.Inside.Calls.{EndsWalk, CountsWriting};
 ghost use Rattle.edf_export.specs.Inside.Walks.{IsPlanOf, IsSentOut};
 
 use crate::fault::ExportFault;
@@ -31,7 +31,7 @@ fn send_walk<S: Alter, W: Output>(
     plan: Measure,
 ) -> Result<(), ExportFault>
     requires ready { (walk.old.failed ≡ false) × IsWalking S.Store walk.old }
-    ensures leaves { LeavesWalk S.Store walk.old walk.new
+    ensures leaves { EndsWalk S.Store walk.old walk.new
         (λ s. IsOutsideTransactionAfterExport s result) }
     ensures sent { HasCleanDisk (at S.Store walk.new.store.now) → (h : Holdings) (k : Key) →
         HasYielded S.Store walk.old h k 0 →

@@ -106,7 +106,7 @@ pub fn read_signed(field: &[u8]) -> Option<i32>
 }
 
 /// Whether so many nanoseconds are in the range of a duration: above 0.
-fn may_last(nanos: u64) -> bool
+fn is_duration_in_range(nanos: u64) -> bool
     ensures { IsTrue result ↔ IsDurationInRange nanos }
 {
     nanos > 0
@@ -125,7 +125,13 @@ pub fn read_duration(field: &[u8]) -> Option<u64>
         return None;
     }
     match read_seconds(front) {
-        Ok(nanos) => { if may_last(nanos) { Some(nanos) } else { None } }
+        Ok(nanos) => {
+            if is_duration_in_range(nanos) {
+                Some(nanos)
+            } else {
+                None
+            }
+        }
         Err(fault) => {
             let _ = fault;
             None

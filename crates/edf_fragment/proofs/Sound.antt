@@ -45,7 +45,7 @@ low-start : (bs : List (List ℕ)) (file_start : ℕ) (place : Place) (start : �
 low-start bs file_start First start list read = omega arith
 low-start bs file_start Any start list read = omega arith
 low-start bs file_start (After before duration) start list read =
-    omega (arith, read.keeps, read.start_is)
+    omega (arith, read.fits_place, read.start_is)
 
 samples-len : (l : Layout) (place : Place) (bytes : List ℕ) (r : DataRecord) → IsLayout l →
     IsDataRecord l place bytes r → length r.samples ≡ 2 * samples_in_all l.key.signals
@@ -114,7 +114,7 @@ in-second file_start (t ∷ ts) timed (from, to) =
 first-start : (bs : List (List ℕ)) (file_start start : ℕ) (list : List Annotation) →
     BlocksParseTo bs file_start First start list → start < file_start + 10 ^ 9
 first-start bs file_start start list read =
-    rw (read.start_is) (in-second file_start (first_tals read.tals) read.timed read.keeps)
+    rw (read.start_is) (in-second file_start (first_tals read.tals) read.timed read.fits_place)
 
 -- so the key's recording may start with it: the part of the window that two digits name ends with a
 -- second

@@ -7,7 +7,7 @@ use Rattle.edf_header.specs.Identity.{identity_fault_order}
 use Rattle.edf_header.specs.Identity.{signals_at}
 use Rattle.edf_header.specs.Key.{IsKey, Key, key_at, key_bytes}
 use Rattle.edf_field.specs.Number.{field, IsDuration}
-use Rattle.edf_header.specs.Inside.Shape.{IsKeyFront, check_order}
+use Rattle.edf_header.specs.Inside.Shape.{IsKeyPrefix, check_order}
 use Rattle.edf_header.specs.Signal.{IsFirstBad, Passes, rows_of, samples_in_all}
 use Rattle.edf_field.specs.Text.{IsPrintable, IsPatient, FollowsStartdate}
 use Rattle.std.specs.Prelude.{All}
@@ -54,7 +54,7 @@ clean-5 b len printable patient recording (Unprintable offset) lt bad =
     not-bad IsPrintable 0 b offset printable bad
 clean-5 b len printable patient recording e lt bad = absurd (omega arith)
 
-pub clean-6 : (b : List ℕ) → IsKeyFront b → IsCleanKey b 6
+pub clean-6 : (b : List ℕ) → IsKeyPrefix b → IsCleanKey b 6
 clean-6 b f Duration lt bad = bad f.duration.0 f.duration.1
 clean-6 b f Recording lt bad = bad (f.mark, f.after)
 clean-6 b f Patient lt bad = bad f.patient
@@ -114,7 +114,7 @@ clean-11 b clean size Size lt bad = absurd (omega (arith, bad))
 clean-11 b clean size Memory lt bad = absurd (omega arith)
 clean-11 b clean size e lt bad = clean e (omega arith) bad
 
-pub is-key : (b : List ℕ) → IsKeyFront b → All (Passes CheckLabel) (signals_at b) →
+pub is-key : (b : List ℕ) → IsKeyPrefix b → All (Passes CheckLabel) (signals_at b) →
     All (Passes CheckPhysical) (signals_at b) → All (Passes CheckDigital) (signals_at b) →
     All (Passes CheckSamples) (signals_at b)
     → 2 * samples_in_all (signals_at b) ≤ MOST_BLOCK_BYTES → (key_bytes (key_at b) ≡ b)
@@ -142,7 +142,7 @@ is-key b f l p d s size =
       },
     )
 
-front-of : (k : Key) → IsKey k → IsKeyFront (key_bytes k)
+front-of : (k : Key) → IsKey k → IsKeyPrefix (key_bytes k)
 front-of k i =
     let back = key-back k i.sized in
     record {
@@ -167,7 +167,7 @@ passed k i CheckPhysical at d lt = λ label. (i.signals at d lt).physical
 passed k i CheckDigital at d lt = λ label. (i.signals at d lt).digital
 passed k i CheckSamples at d lt = i.each_samples at d lt
 
-clean-by : (b : List ℕ) → IsKeyFront b → ((check : Check) → All (Passes check) (signals_at b)) →
+clean-by : (b : List ℕ) → IsKeyPrefix b → ((check : Check) → All (Passes check) (signals_at b)) →
     IsCleanKey b 10
 clean-by b f all (Label s) lt bad =
     not-bad (Passes CheckLabel) [] (signals_at b) bad.0 (all CheckLabel) bad.1

@@ -7,7 +7,7 @@ ghost use Rattle.edf_header.specs.Signal.{samples_in_all, Passes, rows_of, ordin
 ghost use Rattle.edf_header.specs.Key.{key_at};
 ghost use Rattle.edf_header.specs.Identity.{HasLength, HasMark, signals_at, IsCleanKey};
 ghost use Rattle.edf_header.specs.Identity.{IsFirstKeyFault};
-ghost use Rattle.edf_header.specs.Inside.Shape.{IsIdentity, IsKeyFront, check_order};
+ghost use Rattle.edf_header.specs.Inside.Shape.{IsIdentity, IsKeyPrefix, check_order};
 
 use crate::columns::row_in;
 use crate::fields::{
@@ -69,7 +69,7 @@ pub(crate) struct KeyNumbers {
 /// Checks what comes before the signals, and reads the duration of a data record in nanoseconds.
 fn check_front(bytes: &[u8]) -> Result<u64, IdentityFault>
     ensures { MatchResult result
-        (λ nanos. IsKeyFront bytes.now × (nanos ≡ duration_of (key_at bytes.now).duration))
+        (λ nanos. IsKeyPrefix bytes.now × (nanos ≡ duration_of (key_at bytes.now).duration))
         (IsFirstKeyFault bytes.now) }
 {
     if !has_length(bytes) {

@@ -20,7 +20,7 @@ use std::alloc::Global;
 
 /// The room for the data records of a fragment, where their number is known and the recording has
 /// that room.
-fn known_room<S: Alter>(
+fn known_spare<S: Alter>(
     transaction: &mut StoreTx<'_, S>,
     id: RecordingId,
     identity: &Identity,
@@ -54,7 +54,7 @@ fn find_destination<S: Alter>(
         identity.now (most_records count)) }
 {
     let id = transaction.recording(identity)?;
-    if let Some(spare) = known_room(transaction, id, identity, count)? {
+    if let Some(spare) = known_spare(transaction, id, identity, count)? {
         return Ok(Destination { id, spare });
     }
     let held = transaction.count(id)?;

@@ -7,7 +7,7 @@ use Rattle.std.specs.Bool.{MatchBool, Decides}
 use Rattle.std.specs.Global.{Global}
 use Rattle.std.proofs.lemmas.Slice.Eq.{bytes_eq-Decides}
 use Rattle.edf_program.specs.Made.{MadeFile, made_file, begun, finished, removed}
-use Rattle.edf_program.specs.There.{Found, There, IsVacant, MayBeThere, IsSame, IsNamed, HasName}
+use Rattle.edf_program.specs.There.{Entry, There, IsVacant, MayBeThere, IsSame, IsNamed, HasName}
 use Rattle.edf_program.specs.There.{IsTakenAway}
 use Rattle.edf_program.specs.declared.new_files.FileStage.{FileStage}
 use Rattle.edf_program.specs.declared.new_files.Unfinished.{Unfinished}
@@ -26,7 +26,7 @@ or-false : (b : Bool) → (b || false) ≡ b
 or-false true = refl
 or-false false = refl
 
-abbrev found : Bool → Option (List ℕ) → Found
+abbrev found : Bool → Option (List ℕ) → Entry
 found b held = if b then Some held else None
 
 is-found : (b : Bool) (held : Option (List ℕ)) → MatchBool b (found b held ≢ None)

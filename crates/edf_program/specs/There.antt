@@ -7,11 +7,11 @@ use Rattle.edf_program.specs.declared.new_files.Unfinished.TheVariants.{IsThere,
 use Rattle.edf_program.specs.Made.{MadeFile}
 
 -- what has a name: nothing, or something with these bytes, where they are known
-abbrev pub Found : Type 0
-Found = Option (Option (List ℕ))
+abbrev pub Entry : Type 0
+Entry = Option (Option (List ℕ))
 
 abbrev pub There : Type 0
-There = List ℕ → Option Found
+There = List ℕ → Option Entry
 
 -- nothing of this name is known to be there
 abbrev pub IsVacant : There → List ℕ → Type 0
@@ -22,7 +22,7 @@ abbrev pub MayBeThere : There → List ℕ → Type 0
 MayBeThere there name = IfSome (there name) (λ found. found ≢ None)
 
 -- what is known of a name becomes this; of what was not known it may stay so
-abbrev pub Becomes : Option Found → Option Found → Found → Type 0
+abbrev pub Becomes : Option Entry → Option Entry → Entry → Type 0
 Becomes None new now = (new ≡ None) ⊎ (new ≡ Some now)
 Becomes (Some found) new now = new ≡ Some now
 

@@ -103,7 +103,7 @@ keeps_sound cap db h (both_tables both kept) = kept.sound
 
 files_sound : (cap : ℕ) (image : Image) (h : Holdings) → FilesHold cap image h → IsSound cap h
 files_sound cap image h (inl none) = subst (IsSound cap) (sym none.1) (nothing_is_sound cap)
-files_sound cap image h (inr it) = keeps_sound cap _ h it.2.keeps
+files_sound cap image h (inr it) = keeps_sound cap _ h it.2.holds
 
 -- each turn that was told as accepted has its data records among these
 abbrev pub HasAccepted : List Turn → Holdings → Type 0

@@ -61,7 +61,7 @@ record Followed (cap : ℕ) (runs : List PastRun) (h : Holdings) (end : Image) :
   submissions : List Parsed
   submitted : AreSubmittedBy cap h runs submissions
   sound : AreWellFormed submissions
-  keeps : FilesHold cap end (after cap h submissions)
+  holds : FilesHold cap end (after cap h submissions)
 
 followed : (cap : ℕ) (runs : List PastRun) (h : Holdings) (start end : Image) →
     Follow cap runs start end → FilesHold cap start h → ∥ Followed cap runs h end ∥₁
@@ -69,7 +69,7 @@ followed cap [] h start end same keep = ∣ record {
   submissions = [];
   submitted = refl;
   sound = tt;
-  keeps = subst (λ (i : Image). FilesHold cap i h) same keep;
+  holds = subst (λ (i : Image). FilesHold cap i h) same keep;
 } ∣₁
 followed cap (run ∷ later) h start end it keep =
     ∥∥₁_elim (it.1 h keep) squash₁ (λ (tolds, may, kept).
@@ -78,8 +78,8 @@ followed cap (run ∷ later) h start end it keep =
       submissions = tolds ++ more.submissions;
       submitted = (tolds, more.submissions, may, refl, more.submitted);
       sound = sound_append tolds more.submissions (sound_may cap run h tolds may) more.sound;
-      keeps = subst (FilesHold cap end)
-          (sym (after-append cap h tolds more.submissions)) more.keeps;
+      holds = subst (FilesHold cap end)
+          (sym (after-append cap h tolds more.submissions)) more.holds;
     } in r))
 
 pub result : (cap : ℕ) (runs : List PastRun) (h : Holdings) (start end : Image) → IsSound cap h →
@@ -90,7 +90,7 @@ result cap runs h start end sound keep follow =
       submissions = it.submissions;
       submitted = it.submitted;
       sound = it.sound;
-      keeps = it.keeps;
+      holds = it.holds;
       headline = headline cap h it.submissions sound it.sound;
     } in r)
 

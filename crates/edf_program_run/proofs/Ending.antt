@@ -98,7 +98,7 @@ module _ {D : Type 0} {g : Ghosts D} (stays : SeenMayStay g) (r : ProgramRun g) 
           ∥∥₁_map (result r.cap runs h start r.start sound keep follow) (λ it.
           let x : (one : HeadlineAfterRuns r.cap runs h r.start)
           × IsSo (after r.cap h one.submissions) =
-          (it, so gave _ it.keeps) in x),
+          (it, so gave _ it.holds) in x),
     )
 
   -- ---- a store that was opened
@@ -205,9 +205,9 @@ module _ {D : Type 0} {g : Ghosts D} (stays : SeenMayStay g) (r : ProgramRun g) 
       clean = late;
       read = read_first early;
       own = own;
-      found = found;
+      opened = found;
       across = across early (Holds over_files it.old) found;
-      kept = kept;
+      closed = kept;
       steps = λ closed image may. (
         step closed image (λ h held. (kept closed h held image may).0),
         step closed (record image { log = [] }) (λ h held. (kept closed h held image may).1),

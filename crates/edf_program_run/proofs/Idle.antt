@@ -40,7 +40,7 @@ empty_keeps cap image h is (db, holds, empty) = inr (
   record {
     schema = no_schema;
     is_database = empty_is_sound db empty.1;
-    keeps = no_table refl is;
+    holds = no_table refl is;
   },
 )
 

@@ -112,7 +112,7 @@ trees_keep cap trees h db it sound same =
       schema = it.schema;
       trees = trees;
     }) ≡ db = λ i. record { schema = sym schema i; trees = sym same i } in
-    subst (λ (d : Database). DatabaseHolds cap d h) eq it.keeps
+    subst (λ (d : Database). DatabaseHolds cap d h) eq it.holds
 
 pub found_keeps : (cap : ℕ) (image : Image) (s : State) (h : Holdings) → FilesHold cap image h →
     FindsIn image s → IsDatabase s.committed → DatabaseHolds cap s.committed h
@@ -222,6 +222,6 @@ wider cap more wide image h (inr (trees, held, it)) = inr (
   record {
     schema = it.schema;
     is_database = it.is_database;
-    keeps = wider_keeps cap more wide _ h it.keeps;
+    holds = wider_keeps cap more wide _ h it.holds;
   },
 )

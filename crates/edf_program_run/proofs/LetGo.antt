@@ -45,7 +45,7 @@ same_keep cap db trees h same sound keeps =
     record {
       schema = db.schema;
       is_database = subst IsDatabase eq sound;
-      keeps = subst (λ (d : Database). DatabaseHolds cap d h) eq keeps;
+      holds = subst (λ (d : Database). DatabaseHolds cap d h) eq keeps;
     }
 
 -- where the rows are as they were, or missing tables were made, the files keep what they kept
@@ -63,7 +63,7 @@ still_keeps cap db image h sound keeps as_was = ∥∥₁_map as_was (λ it.
             record {
               schema = inside.schema;
               is_database = inside.sound;
-              keeps = made_keeps cap db it.0 h keeps made inside.schema inside.sound;
+              holds = made_keeps cap db it.0 h keeps made inside.schema inside.sound;
             }
       ],
     ) in r)
@@ -129,7 +129,7 @@ module _ {D : Type 0} {g : Ghosts D} where
               let it = left h (subst (λ (d : Database). DatabaseHolds cap d h) same keeps) in (
                 it.submissions,
                 it.front,
-                record { schema = schema; is_database = sound; keeps = it.keeps schema sound },
+                record { schema = schema; is_database = sound; holds = it.holds schema sound },
               )
         ]
 

@@ -73,7 +73,7 @@ front_kept cap turns h rows l = elim l.stand [
 pub record Fronted (cap : ℕ) (turns : List Turn) (h : Holdings) (rows : Trees) : Type 0 where
   pub submissions : List Parsed
   pub front : IsSubmittedPrefix turns submissions
-  pub keeps : (schema : Schema) → IsDatabase (record { schema = schema; trees = rows }) →
+  pub holds : (schema : Schema) → IsDatabase (record { schema = schema; trees = rows }) →
       DatabaseHolds cap (record { schema = schema; trees = rows }) (after cap h submissions)
 
 -- what a crash may leave
@@ -87,7 +87,7 @@ made_front : (cap : ℕ) (turns : List Turn) (db : Database) (h : Holdings) (row
 made_front cap turns db h rows keeps same = record {
   submissions = [];
   front = no_front turns;
-  keeps = same;
+  holds = same;
 }
 
 both_survive : (a b : State) (P Q : Trees → Type 0) → Survives a b P → Survives a b Q →
@@ -169,7 +169,7 @@ module _ {D : Type 0} {g : Ghosts D} (r : ProgramRun g) (first : Held (FileStore
         record {
           submissions = kept.submissions;
           front = kept.front;
-          keeps = left_keeps it.old.cap (at over_files it.old).committed rows
+          holds = left_keeps it.old.cap (at over_files it.old).committed rows
               (after it.old.cap h kept.submissions) (tables_both _ _ (it.opened.tables was))
               (it.live left.0.0).1 left.0.1 kept.kept;
         })

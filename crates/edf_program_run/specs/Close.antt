@@ -105,9 +105,9 @@ module _ {D : Type 0} {g : Ghosts D} (r : ProgramRun g) (s : EndedRun D) where
     pub clean : IsDiskClean → HasCleanDisk (at over_files new)
     pub read : IsDiskClean → AreReadAs r.start db
     pub own : IsDiskClean → (h : Holdings) × DatabaseHolds r.cap db h
-    pub found : IsDiskClean → (h : Holdings) → FilesHold r.cap r.start h → Holds over_files old h
+    pub opened : IsDiskClean → (h : Holdings) → FilesHold r.cap r.start h → Holds over_files old h
     pub across : Across (Holds over_files old)
-    pub kept : AreClosed → (h : Holdings) → Holds over_files new h → (image : Image) →
+    pub closed : AreClosed → (h : Holdings) → Holds over_files new h → (image : Image) →
         MayHold image → FilesHold r.cap image h × FilesHold r.cap (record image { log = [] }) h
     pub steps : AreClosed → (image : Image) → MayHold image →
         StepsBy r.cap (ended turns) r.start image

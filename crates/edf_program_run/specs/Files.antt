@@ -22,7 +22,7 @@ pub data DatabaseHolds (cap : ℕ) (db : Database) (h : Holdings) : Type 0 where
 pub record TreesHold (cap : ℕ) (trees : Trees) (h : Holdings) : Type 0 where
   pub schema : Schema
   pub is_database : IsDatabase (record { schema = schema; trees = trees })
-  pub keeps : DatabaseHolds cap (record { schema = schema; trees = trees }) h
+  pub holds : DatabaseHolds cap (record { schema = schema; trees = trees }) h
 
 -- the files, as bytes, keep these: there is no database yet and nothing is held; or they have such
 -- a database

@@ -95,5 +95,5 @@ pub record HeadlineAfterRuns (cap : ℕ) (runs : List PastRun) (h : Holdings) (e
     pub submissions : List Parsed
     pub submitted : AreSubmittedBy cap h runs submissions
     pub sound : AreWellFormed submissions
-    pub keeps : FilesHold cap end (after cap h submissions)
+    pub holds : FilesHold cap end (after cap h submissions)
     pub headline : Headline cap h submissions

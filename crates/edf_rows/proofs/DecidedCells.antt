@@ -15,7 +15,7 @@ use Rattle.edf_header.specs.Signal.{samples_in_all}
 use Rattle.edf_header.specs.Identity.{HasLength, HasMark, KeyFails, IsCleanKey}
 use Rattle.edf_header.specs.Identity.{identity_fault_order}
 use Rattle.edf_header.specs.Identity.{signals_at}
-use Rattle.edf_header.specs.Inside.Shape.{IsKeyFront}
+use Rattle.edf_header.specs.Inside.Shape.{IsKeyPrefix}
 use Rattle.edf_header.specs.declared.limits.TheConstants.{MOST_BLOCK_BYTES, MOST_ORDINARY_SIGNALS}
 use Rattle.edf_header.specs.declared.signal_checks.Check.TheVariants as checks
 use Rattle.edf_header.specs.declared.identity.IdentityFault.{IdentityFault}
@@ -62,7 +62,7 @@ has_mark : (b : List ℕ) → Decided (HasMark b)
 has_mark b = either (both (same (slice_index b 80) 68) (spaces (field b 140 10)))
     (same (slice_index b 80) 88)
 
-key_of_front : (b : List ℕ) → IsKeyFront b → IsAKey b ⊎ ((k : Key) → IsKey k → key_bytes k ≢ b)
+key_of_front : (b : List ℕ) → IsKeyPrefix b → IsAKey b ⊎ ((k : Key) → IsKey k → key_bytes k ≢ b)
 key_of_front b front =
     elim (checked checks.Label (signals_at b)) [
       | inr bad ↦ inr (no_key_at b (fault.Label (bad.0 + 1)) (omega arith) (bad.0, bad.1, refl))

@@ -349,9 +349,10 @@ module _ (cap : ℕ) (trees : Trees) where
       ]
 
 -- rows are kept, or foreign
-pub kept_or_foreign : (cap : ℕ) (trees : Trees) → ((h : Holdings) × RepresentCommitted cap trees h)
+pub committed_or_foreign : (cap : ℕ) (trees : Trees) →
+    ((h : Holdings) × RepresentCommitted cap trees h)
     ⊎ IsForeign cap trees
-kept_or_foreign cap trees =
+committed_or_foreign cap trees =
     let rows = recordings_in trees in
     elim (has_or cap trees rows (λ r c. c)) [
       | inr foreign ↦ inr foreign

@@ -2,14 +2,14 @@
 use Rattle.std.proofs.Common.{◌≡◌, inl, inr, Bool, Ok, Err, Result, OnOk, OnErr, IsTrue, sym, ◌∙◌}
 use Rattle.sqlite.specs.declared.error.Error.{Error}
 use Rattle.sqlite.specs.State.{State, IsUnchanged}
-use Rattle.edf_tables.specs.Refused.{IsLeft}
+use Rattle.edf_tables.specs.Refused.{IsUnchangedOrRolledBack}
 use Rattle.edf_tables.specs.Made.{HasTables, KeepsFile}
 use Rattle.edf_tables.proofs.Keeping.{left_keeps, keeps_then}
 use Rattle.edf_tables.proofs.File.{file_then, inside_as, inside_not}
 use Rattle.edf_rows.specs.Inside.Checked.{KeepsRows, KeepsShown}
 use Rattle.edf_rows.proofs.AllRows.{rows_left}
 
-pub shown_left : (a b : State) → IsLeft a b → KeepsShown a b
+pub shown_left : (a b : State) → IsUnchangedOrRolledBack a b → KeepsShown a b
 shown_left a b (inl same) = record {
   commit = left_keeps a b (inl same);
   shown =
@@ -42,7 +42,8 @@ shown_then a b c p q = record {
 }
 
 -- some answered queries, and then one that was refused
-pub unchanged_left : (a b c : State) → IsUnchanged a b → IsLeft b c → KeepsShown a c
+pub unchanged_left : (a b c : State) → IsUnchanged a b → IsUnchangedOrRolledBack b c →
+    KeepsShown a c
 unchanged_left a b c same left = shown_then a b c (rows_left a b same) (shown_left b c left)
 
 shown_file : (a b : State) → KeepsShown a b → KeepsFile a b

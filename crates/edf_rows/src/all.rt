@@ -8,7 +8,7 @@ ghost use Rattle.edf_tables.specs.Columns.{id_order};
 ghost use Rattle.edf_rows.specs.Cells.{recordings_in};
 ghost use Rattle.edf_rows.specs.Inside.Checked.{OnlyChecks};
 ghost use Rattle.edf_rows.specs.Inside.All.{IsAfter, IsNotAfter, Counts, Answers};
-ghost use Rattle.edf_tables.specs.Statement.{HasBothTables, tables, IfClean, Gives, Leaves};
+ghost use Rattle.edf_tables.specs.Statement.{HasBothTables, tables, IfClean, Gives, ChangesOnOk};
 
 use crate::check::check_recording_row;
 use edf_tables::{MOST_COUNTED, count_all_rows, obey, recordings};
@@ -85,7 +85,7 @@ pub(crate) fn check_all<S: Alter>(
     requires schema { IfClean S.Store conn.old HasBothTables }
     ensures checks { OnlyChecks S.Store conn.old conn.new result }
     ensures answers { Gives S.Store conn.new result (Answers cap (tables S.Store conn.old)) }
-    ensures is_open { Leaves S.Store conn.old conn.new result (λ _ new. IsTrue new.is_open) }
+    ensures is_open { ChangesOnOk S.Store conn.old conn.new result (λ _ new. IsTrue new.is_open) }
 {
     let found = recordings(conn)?;
     let Some(sum) = count_owned(alloc, conn, &found, cap)? else {

@@ -25,14 +25,14 @@ pub fn one_record()
 {}
 
 /// Rows that stand for sound holdings, each recording with a record, are not foreign.
-pub fn kept_is_not_foreign()
+pub fn committed_is_not_foreign()
     ensures { (cap : ℕ) (trees : Trees) (h : Holdings) → RepresentCommitted cap trees h →
         ¬ IsForeign cap trees }
 {}
 
 /// Any rows stand for sound holdings under the cap, each recording with a record, or they are
-/// foreign. That they are never both is the law `kept_is_not_foreign` of `edf_rows`.
-pub fn kept_or_foreign()
+/// foreign. That they are never both is the law `committed_is_not_foreign` of `edf_rows`.
+pub fn committed_or_foreign()
     ensures { (cap : ℕ) (trees : Trees) →
         ((h : Holdings) × RepresentCommitted cap trees h) ⊎ IsForeign cap trees }
 {}

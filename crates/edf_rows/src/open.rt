@@ -6,7 +6,7 @@ ghost use Rattle.sqlite.specs.State.{Survives};
 ghost use Rattle.edf_tables.specs.Made.{IsOurs, HasTables, KeepsFile, IsMadeOf};
 ghost use Rattle.edf_rows.specs.Inside.All.{Answers};
 ghost use Rattle.edf_rows.specs.File.{Audits};
-ghost use Rattle.edf_tables.specs.Statement.{tables, IfClean, Gives, Leaves};
+ghost use Rattle.edf_tables.specs.Statement.{tables, IfClean, Gives, ChangesOnOk};
 
 use crate::all::check_all;
 use edf_tables::{create_tables, is_ours};
@@ -20,12 +20,14 @@ use std::alloc::Global;
 /// Those of [`audit`].
 fn audit_tables<S: Alter>(alloc: Global, conn: &mut Connection<S>, cap: u32) -> Result<bool, Error>
     requires ours { IfClean S.Store conn.old (λ s. IsOurs s.now) }
-    ensures tables { Leaves S.Store conn.old conn.new result
+    ensures tables { ChangesOnOk S.Store conn.old conn.new result
         (λ old new. HasTables old.now new.now) }
     ensures answers { Gives S.Store conn.new result (Answers cap (tables S.Store conn.new)) }
-    ensures is_open { Leaves S.Store conn.old conn.new result (λ _ new. IsTrue new.is_open) }
-    ensures settled { Leaves S.Store conn.old conn.new result (λ _ new. new.committed ≡ new.now) }
-    ensures idle { Leaves S.Store conn.old conn.new result (λ _ new. new.in_transaction ≡ false) }
+    ensures is_open { ChangesOnOk S.Store conn.old conn.new result (λ _ new. IsTrue new.is_open) }
+    ensures settled { ChangesOnOk S.Store conn.old conn.new result
+        (λ _ new. new.committed ≡ new.now) }
+    ensures idle { ChangesOnOk S.Store conn.old conn.new result
+        (λ _ new. new.in_transaction ≡ false) }
     ensures stays { IfClean S.Store conn.new (KeepsFile (state S.Store conn.old)) }
     ensures survives { Survives (state S.Store conn.old) (state S.Store conn.new)
         (IsMadeOf (state S.Store conn.old).now) }
@@ -56,7 +58,7 @@ pub fn audit<S: Alter>(alloc: Global, conn: &mut Connection<S>, cap: u32) -> Res
     ensures other { ¬ IsOurs (state S.Store conn.old).now →
         (result ≡ Ok false) × (conn.new ≡ conn.old) }
     ensures tables { IsOurs (state S.Store conn.old).now →
-        Leaves S.Store conn.old conn.new result (λ old new. HasTables old.now new.now) }
+        ChangesOnOk S.Store conn.old conn.new result (λ old new. HasTables old.now new.now) }
     ensures answers { Gives S.Store conn.new result
         (Audits cap (state S.Store conn.old) (state S.Store conn.new)) }
     ensures stays { IfClean S.Store conn.new (KeepsFile (state S.Store conn.old)) }

@@ -91,7 +91,8 @@ ready_walking cap s id cursor clean somewhere =
     record {
       schema = it.3.schema;
       rising =
-          rows_rising s.now.trees cap it.0 id it.1 it.3.kept.stand it.3.kept.sound it.3.found;
+          rows_rising s.now.trees cap it.0 id it.1 it.3.committed.stand it.3.committed.sound
+          it.3.recording_is;
     }
 
 -- what a first row that was read ahead tells
@@ -120,9 +121,11 @@ module _ (cap : ℕ) (s : State) (id : ℤ) (cursor : Cursor) (h : Holdings) (k 
     idle = same.0.mode ∙ it.idle;
     settled = same.0.now_is ∙ it.settled ∙ sym same.0.committed_is;
     schema = subst (λ (d : Database). HasBoth d.schema) (sym same.0.now_is) it.schema;
-    kept = subst (λ (d : Database). RepresentCommitted cap d.trees h) (sym same.0.now_is) it.kept;
+    committed = subst (λ (d : Database). RepresentCommitted cap d.trees h)
+        (sym same.0.now_is) it.committed;
     key = it.key;
-    found = subst (λ (d : Database). HasRecordingRow d.trees id k) (sym same.0.now_is) it.found;
+    recording_is = subst (λ (d : Database). HasRecordingRow d.trees id k)
+        (sym same.0.now_is) it.recording_is;
     within = it.within;
     some = it.some;
     later = it.later;
@@ -134,8 +137,9 @@ module _ (cap : ℕ) (s : State) (id : ℤ) (cursor : Cursor) (h : Holdings) (k 
       (take cursor.limit (filter (starts_after cursor.start)
       (records_of id (s.now.trees 2))))) where
     next_shown : map cells_of rows ≡ map record_cells (take cursor.limit (drop n (h k)))
-    next_shown = shown ∙ later_shown s.now.trees h id k cursor.start cursor.limit it.kept.stand
-        it.found ∙ ap (λ (l : List DataRecord). map record_cells (take cursor.limit l)) it.later
+    next_shown = shown ∙ later_shown s.now.trees h id k cursor.start cursor.limit it.committed.stand
+        it.recording_is ∙ ap (λ (l : List DataRecord). map record_cells (take cursor.limit l))
+        it.later
 
     pub page_next : ShowFirst rows (drop n (h k))
     page_next = page_shown rows cursor.limit (drop n (h k)) next_shown
@@ -154,7 +158,7 @@ module _ (cap : ℕ) (s : State) (id : ℤ) (cursor : Cursor) (h : Holdings) (k 
         cells = found.2;
         others = found.3;
         sound = all_place (IsSoundRecord k) (h k)
-            (recursion_from_All (IsSoundRecord k) (h k) (it.kept.sound.records k)) n found.0
+            (recursion_from_All (IsSoundRecord k) (h k) (it.committed.sound.records k)) n found.0
             found.1;
       }
 
@@ -167,9 +171,9 @@ module _ (cap : ℕ) (s : State) (id : ℤ) (cursor : Cursor) (h : Holdings) (k 
       idle = it.idle;
       settled = it.settled;
       schema = it.schema;
-      kept = it.kept;
+      committed = it.committed;
       key = it.key;
-      found = it.found;
+      recording_is = it.recording_is;
       within = it.within;
       some = omega (arith, it.some, limit);
       later = subst (λ (z : ℤ). filter (starts_later z) (h k) ≡ drop n (h k)) (sym start)
@@ -184,9 +188,9 @@ module _ (cap : ℕ) (s : State) (id : ℤ) (cursor : Cursor) (h : Holdings) (k 
       idle = it.idle;
       settled = it.settled;
       schema = it.schema;
-      kept = it.kept;
+      committed = it.committed;
       key = it.key;
-      found = all;
+      recording_is = all;
       within = it.within;
       some = omega (arith, it.some, limit);
       later = subst (λ (z : ℤ). filter (starts_later z) (h k) ≡ drop n (h k)) (sym start)
@@ -202,13 +206,13 @@ module _ (cap : ℕ) (s : State) (id : ℤ) (cursor : Cursor) (h : Holdings) (k 
       idle = it.idle;
       settled = it.settled;
       schema = it.schema;
-      kept = it.kept;
+      committed = it.committed;
       key = it.key;
-      found = it.found;
+      recording_is = it.recording_is;
       within = place_within (h k) n r place;
       some = omega (arith, it.some, limit);
       later = subst (λ (z : ℤ). filter (starts_later z) (h k) ≡ drop (n + 1) (h k)) (sym start)
-          (later_place 0 (h k) (it.kept.sound.rising k) n r place
+          (later_place 0 (h k) (it.committed.sound.rising k) n r place
           ∙ ap (λ m. drop m (h k)) (suc_is n));
       ahead = subst (λ (m : ℕ). ShowFirst next.rows.items (drop m (h k))) (suc_is n) others;
     }
@@ -226,9 +230,9 @@ at_start cap s id cursor h k low some none it kept key found = record {
   idle = it.idle;
   settled = it.settled;
   schema = it.schema;
-  kept = kept;
+  committed = kept;
   key = key;
-  found = go id found;
+  recording_is = go id found;
   within = omega arith;
   some = some;
   later = later_start 0 (h k) (kept.sound.rising k) cursor.start low;

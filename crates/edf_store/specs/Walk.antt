@@ -32,9 +32,10 @@ pub record IsCursorAfter (cap : ℕ) (s : State) (recording : Option ℤ) (curso
   pub idle : s.in_transaction ≡ false
   pub settled : s.now ≡ s.committed
   pub schema : HasBoth s.now.schema
-  pub kept : RepresentCommitted cap s.now.trees h
+  pub committed : RepresentCommitted cap s.now.trees h
   pub key : IsKey k
-  pub found : MatchOption recording (n ≡ length (h k)) (λ id. HasRecordingRow s.now.trees id k)
+  pub recording_is : MatchOption recording (n ≡ length (h k))
+      (λ id. HasRecordingRow s.now.trees id k)
   pub within : n ≤ length (h k)
   pub some : 1 ≤ cursor.limit
   pub later : filter (starts_later cursor.start) (h k) ≡ drop n (h k)

@@ -8,7 +8,7 @@ use Rattle.sqlite.specs.declared.error.Error.{Error}
 use Rattle.sqlite.specs.State.{State, Executes, Shows, Writes, IsUnchanged}
 use Rattle.sqlite.proofs.Callers.{runs_as}
 use Rattle.edf_tables.specs.Schema.{no_schema, one_schema, HasBoth}
-use Rattle.edf_tables.specs.Refused.{IsLeft}
+use Rattle.edf_tables.specs.Refused.{IsUnchangedOrRolledBack}
 use Rattle.edf_tables.specs.Made.{HasFirst, made_first, kept_first, HasTables, from_none, from_one}
 use Rattle.edf_tables.specs.Made.{from_both, KeepsTables, KeepsFile}
 use Rattle.edf_tables.proofs.Texts.{create_recording_text, create_records_text, create_recording_is}
@@ -48,7 +48,7 @@ inside_as a b same h = subst (λ m. IsTrue m) same h
 pub inside_not : (b : State) (P : Type 0) → b.in_transaction ≡ false → IsTrue b.in_transaction → P
 inside_not b P alone h = absurd (true≢false (sym h ∙ alone))
 
-pub left_file : (old new : State) → IsLeft old new → KeepsFile old new
+pub left_file : (old new : State) → IsUnchangedOrRolledBack old new → KeepsFile old new
 left_file old new (inl same) = record {
   was_open = λ _. same.0.was_open;
   committed =

@@ -6,10 +6,10 @@ use Rattle.sqlite.specs.Effect.{Database}
 use Rattle.sqlite.specs.declared.error.Error.{Error}
 use Rattle.sqlite.specs.State.{State, Executes, ExecutesIn, IsNotRun, shows_rows, IsUnchanged}
 use Rattle.sqlite.specs.State.{IsRolledBack, KeepsCommit, Shows}
-use Rattle.edf_tables.specs.Refused.{IsLeft}
+use Rattle.edf_tables.specs.Refused.{IsUnchangedOrRolledBack}
 
 -- Whatever the text is, a write that is refused leaves the transaction or undoes it.
-pub left_keeps : (old new : State) → IsLeft old new → KeepsCommit old new
+pub left_keeps : (old new : State) → IsUnchangedOrRolledBack old new → KeepsCommit old new
 left_keeps old new (inl same) = record {
   was_open = λ _. same.0.was_open;
   committed =
@@ -22,7 +22,7 @@ left_keeps old new (inr undone) = record {
 }
 
 pub refused_left : (sql : List ℕ) (params : Row) (old new : State) (r : Result ℕ Error) →
-    Executes sql params old new r → OnErr r (IsLeft old new)
+    Executes sql params old new r → OnErr r (IsUnchangedOrRolledBack old new)
 unfolding ExecutesIn IsNotRun
 refused_left sql params old new (Ok count) h = tt
 refused_left sql params old new (Err e) (inl (inl h)) = inl h.1

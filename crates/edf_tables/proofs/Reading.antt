@@ -12,7 +12,7 @@ use Rattle.sqlite.specs.State.{IsStatement}
 use Rattle.sqlite.specs.Clock.{timed}
 use Rattle.sqlite.proofs.StateLemmas.{survives_weaker}
 use Rattle.sqlite.proofs.Callers.{IsPlain, never_commits, unchanged_then}
-use Rattle.edf_tables.specs.Refused.{IsLeft}
+use Rattle.edf_tables.specs.Refused.{IsUnchangedOrRolledBack}
 use Rattle.edf_tables.proofs.Keeping.{left_keeps}
 
 module _ (sql : List ℕ) (params : Row) (old new : State)
@@ -23,7 +23,7 @@ module _ (sql : List ℕ) (params : Row) (old new : State)
       let bare = (subst IsPlain h.1.is plain).0 in
       (subst (ShowsRows old new sql h.0 (timed params h.0.formats h.1.now) rows) bare h.2).3
 
-  pub query_left : (e : Error) → FailsToQuery sql params old new e → IsLeft old new
+  pub query_left : (e : Error) → FailsToQuery sql params old new e → IsUnchangedOrRolledBack old new
   unfolding FailsToQuery IsNotRun
   query_left e (inl (inl h)) = inl h.1
   query_left e (inl (inr h)) = inr h.3
@@ -32,7 +32,7 @@ module _ (sql : List ℕ) (params : Row) (old new : State)
       inl (subst (FailsToShow old new sql h.0 (timed params h.0.formats h.1.now) e) bare h.2).3
 
   pub query_refused : {X : Type 0} (r : Result X Error) →
-      IfErr r (FailsToQuery sql params old new) → OnErr r (IsLeft old new)
+      IfErr r (FailsToQuery sql params old new) → OnErr r (IsUnchangedOrRolledBack old new)
   query_refused (Ok x) h = tt
   query_refused (Err e) h = query_left e h
 

@@ -25,19 +25,21 @@ module _ {S : Type 0} (g : Ghosts S) where
   Gives new result P = HasCleanDisk (state g new) → IfOk result P
 
   -- a call that is done leaves this of what the connection showed
-  abbrev pub Leaves : {X E : Type 0} → Held S → Held S → Result X E → (State → State → Type 0) →
+  abbrev pub ChangesOnOk : {X E : Type 0} → Held S → Held S → Result X E →
+      (State → State → Type 0) →
       Type 0
-  Leaves old new result P = HasCleanDisk (state g new) → OnOk result (P (state g old) (state g new))
+  ChangesOnOk old new result P = HasCleanDisk (state g new) →
+      OnOk result (P (state g old) (state g new))
 
   -- a call that fails leaves this of what the connection showed
-  abbrev pub LeavesOnErr : {X E : Type 0} → Held S → Held S → Result X E →
+  abbrev pub ChangesOnErr : {X E : Type 0} → Held S → Held S → Result X E →
       (State → State → Type 0) → Type 0
-  LeavesOnErr old new result P = HasCleanDisk (state g new) →
+  ChangesOnErr old new result P = HasCleanDisk (state g new) →
       OnErr result (P (state g old) (state g new))
 
   -- a call that is done changed nothing
   abbrev pub OnlyReads : {X E : Type 0} → Held S → Held S → Result X E → Type 0
-  OnlyReads old new result = Leaves old new result IsUnchanged
+  OnlyReads old new result = ChangesOnOk old new result IsUnchanged
 
   -- what is committed stays
   abbrev pub KeepsCommitted : Held S → Held S → Type 0
@@ -45,7 +47,7 @@ module _ {S : Type 0} (g : Ghosts S) where
 
   -- what is committed stays where the call fails
   abbrev pub KeepsCommittedOnErr : {X E : Type 0} → Held S → Held S → Result X E → Type 0
-  KeepsCommittedOnErr old new result = LeavesOnErr old new result KeepsCommit
+  KeepsCommittedOnErr old new result = ChangesOnErr old new result KeepsCommit
 
   -- a crash in the call leaves nothing but what a crash before it could leave
   abbrev pub IsCrashSafe : Held S → Held S → Type 0

@@ -7,7 +7,7 @@ ghost use Rattle.edf_tables.specs.Columns.{stored_recordings, stored_records};
 ghost use Rattle.edf_tables.specs.Schema.{no_schema, one_schema, both_schema, HasBoth};
 ghost use Rattle.edf_tables.specs.Made.{IsOurs, AreOf, HasFirst, HasTables};
 ghost use Rattle.edf_tables.specs.Made.{KeepsFile, IsMadeOf};
-ghost use Rattle.edf_tables.specs.Statement.{IfClean, Leaves, KeepsCommittedOnErr};
+ghost use Rattle.edf_tables.specs.Statement.{IfClean, ChangesOnOk, KeepsCommittedOnErr};
 
 use crate::schema::has_both;
 use sqlite::{Alter, Connection, Error};
@@ -20,10 +20,11 @@ use sqlite::{Alter, Connection, Error};
 fn create_recording<S: Alter>(conn: &mut Connection<S>) -> Result<usize, Error>
     requires { IfClean S.Store conn.old (λ s.
         (s.now.schema ≡ no_schema) ⊎ (s.now.schema ≡ one_schema)) }
-    ensures made { Leaves S.Store conn.old conn.new result (λ old new. HasFirst old.now new.now) }
+    ensures made { ChangesOnOk S.Store conn.old conn.new result
+        (λ old new. HasFirst old.now new.now) }
     ensures refused { KeepsCommittedOnErr S.Store conn.old conn.new result }
     ensures stays { IfClean S.Store conn.new (KeepsFile (state S.Store conn.old)) }
-    ensures mode { Leaves S.Store conn.old conn.new result (λ old new.
+    ensures mode { ChangesOnOk S.Store conn.old conn.new result (λ old new.
         new.in_transaction ≡ old.in_transaction) }
     ensures survives { Survives (state S.Store conn.old) (state S.Store conn.new) (λ db.
         ((state S.Store conn.old).now.schema ≡ no_schema) × AreOf one_schema db
@@ -42,10 +43,11 @@ fn create_recording<S: Alter>(conn: &mut Connection<S>) -> Result<usize, Error>
 /// `sqlite`'s; nothing is committed then. A crash leaves the file as it was, or with the table.
 fn create_records<S: Alter>(conn: &mut Connection<S>) -> Result<usize, Error>
     requires { IfClean S.Store conn.old (λ s. s.now.schema ≡ one_schema) }
-    ensures made { Leaves S.Store conn.old conn.new result (λ old new. HasTables old.now new.now) }
+    ensures made { ChangesOnOk S.Store conn.old conn.new result
+        (λ old new. HasTables old.now new.now) }
     ensures refused { KeepsCommittedOnErr S.Store conn.old conn.new result }
     ensures stays { IfClean S.Store conn.new (KeepsFile (state S.Store conn.old)) }
-    ensures mode { Leaves S.Store conn.old conn.new result (λ old new.
+    ensures mode { ChangesOnOk S.Store conn.old conn.new result (λ old new.
         new.in_transaction ≡ old.in_transaction) }
     ensures survives { Survives (state S.Store conn.old) (state S.Store conn.new) (λ db.
         ((state S.Store conn.old).now.schema ≡ one_schema) × AreOf both_schema db
@@ -70,9 +72,10 @@ pub fn create_tables<S: Alter>(conn: &mut Connection<S>) -> Result<(), Error>
     requires { IfClean S.Store conn.old (λ s. IsOurs s.now) }
     ensures there { HasBoth (state S.Store conn.old).now.schema →
         (result ≡ Ok tt) × (conn.new ≡ conn.old) }
-    ensures made { Leaves S.Store conn.old conn.new result (λ old new. HasTables old.now new.now) }
+    ensures made { ChangesOnOk S.Store conn.old conn.new result
+        (λ old new. HasTables old.now new.now) }
     ensures stays { IfClean S.Store conn.new (KeepsFile (state S.Store conn.old)) }
-    ensures mode { Leaves S.Store conn.old conn.new result (λ old new.
+    ensures mode { ChangesOnOk S.Store conn.old conn.new result (λ old new.
         new.in_transaction ≡ old.in_transaction) }
     ensures survives { Survives (state S.Store conn.old) (state S.Store conn.new)
         (IsMadeOf (state S.Store conn.old).now) }

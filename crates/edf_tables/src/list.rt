@@ -4,11 +4,11 @@ ghost use Rattle.std.specs.Prelude.{◌≡◌, IsPermutation, IsSorted, length, 
 ghost use Rattle.sqlite.specs.declared.types.Value.TheVariants.{Blob};
 ghost use Rattle.edf_tables.specs.Columns.{stored_recordings, stored_records};
 ghost use Rattle.edf_tables.specs.Columns.{stored_identity, id_order};
-ghost use Rattle.edf_tables.specs.Refused.{IsLeft};
+ghost use Rattle.edf_tables.specs.Refused.{IsUnchangedOrRolledBack};
 ghost use Rattle.edf_tables.specs.Recordings.{AreNamedApart, IsIdIn, by_identity, named};
 ghost use Rattle.edf_tables.specs.Recordings.{shown_recording};
 ghost use Rattle.edf_tables.specs.Statement.{HasBothTables, tables, IfClean, Gives, OnlyReads};
-ghost use Rattle.edf_tables.specs.Statement.{KeepsCommitted, IsCrashSafe, LeavesOnErr};
+ghost use Rattle.edf_tables.specs.Statement.{KeepsCommitted, IsCrashSafe, ChangesOnErr};
 
 use crate::row::{MOST_COUNTED, first_count, first_number, identities_in, rows_shown};
 use sqlite::{Alter, Connection, Error, Row, params};
@@ -75,7 +75,7 @@ pub fn recordings<S: Alter>(conn: &mut Connection<S>) -> Result<Vec<Row>, Error>
     ensures ordered { Gives S.Store conn.new result (λ rows. IsSorted id_order rows.items) }
     ensures same { OnlyReads S.Store conn.old conn.new result }
     ensures kept { KeepsCommitted S.Store conn.old conn.new }
-    ensures refused { LeavesOnErr S.Store conn.old conn.new result IsLeft }
+    ensures refused { ChangesOnErr S.Store conn.old conn.new result IsUnchangedOrRolledBack }
     ensures survives { IsCrashSafe S.Store conn.old conn.new }
 {
     rows_shown(conn, "SELECT id, identity FROM recording ORDER BY id", &[])
@@ -93,7 +93,7 @@ pub fn count_all_rows<S: Alter>(conn: &mut Connection<S>) -> Result<u64, Error>
         count ≡ min (length (stored_records (tables S.Store conn.old))) MOST_COUNTED) }
     ensures same { OnlyReads S.Store conn.old conn.new result }
     ensures kept { KeepsCommitted S.Store conn.old conn.new }
-    ensures refused { LeavesOnErr S.Store conn.old conn.new result IsLeft }
+    ensures refused { ChangesOnErr S.Store conn.old conn.new result IsUnchangedOrRolledBack }
     ensures survives { IsCrashSafe S.Store conn.old conn.new }
 {
     let rows = rows_shown(conn, "SELECT count(*) FROM record", &[])?;

@@ -11,9 +11,9 @@ ghost use Rattle.sqlite.specs.Listing.{understood};
 ghost use Rattle.sqlite.specs.State.{Shown, FailsToQuery, IsLive};
 ghost use Rattle.sqlite.specs.Values.{bound};
 ghost use Rattle.edf_tables.specs.Cells.{cells_of, first_three};
-ghost use Rattle.edf_tables.specs.Refused.{IsLeft};
+ghost use Rattle.edf_tables.specs.Refused.{IsUnchangedOrRolledBack};
 ghost use Rattle.edf_tables.specs.Statement.{IfClean, Gives, OnlyReads, KeepsCommitted};
-ghost use Rattle.edf_tables.specs.Statement.{IsCrashSafe, LeavesOnErr};
+ghost use Rattle.edf_tables.specs.Statement.{IsCrashSafe, ChangesOnErr};
 
 use sqlite::types::ValueRef;
 use sqlite::{Alter, Connection, Error, Row};
@@ -98,7 +98,7 @@ pub(crate) fn rows_shown<S: Alter>(
         (state S.Store conn.new) rows.items) }
     ensures same { OnlyReads S.Store conn.old conn.new result }
     ensures kept { KeepsCommitted S.Store conn.old conn.new }
-    ensures refused { LeavesOnErr S.Store conn.old conn.new result IsLeft }
+    ensures refused { ChangesOnErr S.Store conn.old conn.new result IsUnchangedOrRolledBack }
     ensures survives { IsCrashSafe S.Store conn.old conn.new }
 {
     conn.query_all(sql, params)

@@ -3,7 +3,7 @@
 ghost use Rattle.std.specs.Prelude.{◌≡◌, false, true};
 ghost use Rattle.sqlite.specs.Held.{state};
 ghost use Rattle.sqlite.specs.State.{Shows, Survives, IsRolledBack};
-ghost use Rattle.edf_tables.specs.Statement.{tables, IfClean, Leaves, KeepsCommitted};
+ghost use Rattle.edf_tables.specs.Statement.{tables, IfClean, ChangesOnOk, KeepsCommitted};
 ghost use Rattle.edf_tables.specs.Statement.{KeepsCommittedOnErr, IsCrashSafe};
 
 use sqlite::{Alter, Connection, Error};
@@ -13,7 +13,7 @@ use sqlite::{Alter, Connection, Error};
 /// # Errors
 /// `sqlite`'s, also where a transaction is open; what is committed stays.
 pub fn begin<S: Alter>(conn: &mut Connection<S>) -> Result<(), Error>
-    ensures begun { Leaves S.Store conn.old conn.new result (λ old new.
+    ensures begun { ChangesOnOk S.Store conn.old conn.new result (λ old new.
         Shows old new old.now old.committed true) }
     ensures refused { KeepsCommittedOnErr S.Store conn.old conn.new result }
     ensures survives { IsCrashSafe S.Store conn.old conn.new }
@@ -28,7 +28,7 @@ pub fn begin<S: Alter>(conn: &mut Connection<S>) -> Result<(), Error>
 /// `sqlite`'s, also where no transaction is open. What was committed before stays, and the
 /// transaction is over. A crash leaves that, or all of the transaction.
 pub fn commit<S: Alter>(conn: &mut Connection<S>) -> Result<(), Error>
-    ensures committed { Leaves S.Store conn.old conn.new result (λ old new.
+    ensures committed { ChangesOnOk S.Store conn.old conn.new result (λ old new.
         Shows old new old.now old.now false) }
     ensures refused { KeepsCommittedOnErr S.Store conn.old conn.new result }
     ensures ended { IfClean S.Store conn.new (λ s. s.in_transaction ≡ false) }
@@ -44,7 +44,7 @@ pub fn commit<S: Alter>(conn: &mut Connection<S>) -> Result<(), Error>
 /// # Errors
 /// `sqlite`'s, also where no transaction is open; what is committed stays.
 pub fn roll_back<S: Alter>(conn: &mut Connection<S>) -> Result<(), Error>
-    ensures undone { Leaves S.Store conn.old conn.new result IsRolledBack }
+    ensures undone { ChangesOnOk S.Store conn.old conn.new result IsRolledBack }
     ensures kept { KeepsCommitted S.Store conn.old conn.new }
     ensures survives { IsCrashSafe S.Store conn.old conn.new }
 {

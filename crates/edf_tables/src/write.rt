@@ -5,7 +5,7 @@ ghost use Rattle.sqlite.specs.Held.{state};
 ghost use Rattle.sqlite_rules.specs.Edit.{next_rowid};
 ghost use Rattle.edf_tables.specs.Columns.{stored_recordings};
 ghost use Rattle.edf_tables.specs.Row.{cells, named_cells, HasRecord, HasRecording, IsInside};
-ghost use Rattle.edf_tables.specs.Statement.{tables, IfClean, Gives, Leaves};
+ghost use Rattle.edf_tables.specs.Statement.{tables, IfClean, Gives, ChangesOnOk};
 ghost use Rattle.edf_tables.specs.Statement.{KeepsCommittedOnErr, IsCrashSafe};
 
 use sqlite::{Alter, Connection, Error, params};
@@ -44,7 +44,7 @@ pub fn insert_record<S: Alter>(
     block: &[u8],
 ) -> Result<usize, Error>
     requires { IfClean S.Store conn.old IsInside }
-    ensures added { Leaves S.Store conn.old conn.new result (λ old new.
+    ensures added { ChangesOnOk S.Store conn.old conn.new result (λ old new.
         HasRecord old new (cells recording start samples.now block.now)) }
     ensures refused { KeepsCommittedOnErr S.Store conn.old conn.new result }
     ensures survives { IsCrashSafe S.Store conn.old conn.new }

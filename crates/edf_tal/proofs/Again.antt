@@ -171,7 +171,7 @@ read-of b s p start list ts whole good timed keeps window limits start-is list-i
       lists = (whole, tt);
       good = subst HaveUtf8Texts one good;
       timed = timed;
-      keeps = keeps;
+      fits_place = keeps;
       window = subst (AllByRecursion (IsTalInWindow s)) one window;
       limits = limits;
       start_is = start-is;
@@ -241,7 +241,7 @@ blocks-read-elsewhere bs s p start list r = record {
   lists = r.lists;
   good = r.good;
   timed = r.timed;
-  keeps = tt;
+  fits_place = tt;
   window = r.window;
   limits = r.limits;
   start_is = r.start_is;

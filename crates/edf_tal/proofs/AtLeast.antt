@@ -12,7 +12,7 @@ use Rattle.std.proofs.lemmas.Str.{IsUtf8-from_is_utf8, is_utf8-from_IsUtf8}
 use Rattle.edf_time.specs.Civil.{window}
 use Rattle.edf_tal.specs.Tal.{Tal, IsText, terminated, IsTalInWindow}
 use Rattle.edf_tal.specs.Condition.{IsInvalidUtf8At, IsMalformedAt}
-use Rattle.edf_tal.specs.Inside.Scan.{Lacks, NoTal, AreZeros, IsTalAtFront, IsBadAmong}
+use Rattle.edf_tal.specs.Inside.Scan.{Lacks, NoTal, AreZeros, IsLeadingTal, IsBadAmong}
 use Rattle.edf_tal.specs.Inside.Scan.{AreGoodTexts, FollowsTals, IsSurvey, KeepsSecond, KeepsOrder}
 use Rattle.edf_tal.specs.Inside.Blocks.{HasForm}
 use Rattle.edf_tal.specs.declared.blocks.Form.{Form}
@@ -122,7 +122,7 @@ texts-of (x ∷ xs) a =
       )
     ]
 
-front-texts : (bytes texts rest : List ℕ) (t : Tal) → IsTalAtFront bytes texts rest t →
+front-texts : (bytes texts rest : List ℕ) (t : Tal) → IsLeadingTal bytes texts rest t →
     AreGoodTexts texts (length t.texts) ⊎ ((at : ℕ) × IsBadAmong texts at)
 front-texts bytes texts rest t f =
     elim (texts-of t.texts f.tal.are_texts) [

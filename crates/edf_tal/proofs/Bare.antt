@@ -10,7 +10,7 @@ use Rattle.edf_time.specs.Civil.{IsInWindow}
 use Rattle.edf_tal.specs.Tal.{instant}
 use Rattle.edf_tal.specs.Block.{BlockParsesTo, split_by_sizes}
 use Rattle.edf_tal.specs.Inside.Scan.{AreZeros, capped, KeepsSecond, KeepsOrder}
-use Rattle.edf_tal.specs.Inside.Blocks.{AreSizes, KeepsTime, bare_tal}
+use Rattle.edf_tal.specs.Inside.Blocks.{AreSizes, IsTimeKeepingBlock, bare_tal}
 use Rattle.edf_tal.specs.declared.place.Place.{Place}
 use Rattle.edf_tal.proofs.Again.{in-parts, read-of}
 use Rattle.edf_tal.proofs.Judge.{keeps-place}
@@ -42,7 +42,8 @@ bare-sides (b ∷ c ∷ d ∷ tal) some sign p q =
     ∙ ap (λ (k : ℕ). 43 ∷ (take k (c ∷ d ∷ tal) ++ 20 ∷ 20 ∷ [])) (sym n)
 
 keeps-time : (block tal zeros onset : List ℕ) (n : ℕ) → block ≡ tal ++ 0 ∷ zeros →
-    tal ≡ 43 ∷ (onset ++ 20 ∷ 20 ∷ []) → IsSeconds onset n → AreZeros zeros → KeepsTime block n
+    tal ≡ 43 ∷ (onset ++ 20 ∷ 20 ∷ []) → IsSeconds onset n → AreZeros zeros →
+    IsTimeKeepingBlock block n
 keeps-time block tal zeros onset n parts sides seconds are =
     let front : List ℕ = 43 ∷ (onset ++ 20 ∷ 20 ∷ 0 ∷ []) in (
       front,
@@ -69,12 +70,12 @@ pub bare-told : (block tal zeros onset : List ℕ) (told : Option ℕ) → block
     tal ≡ 43 ∷ (onset ++ 20 ∷ 20 ∷ []) → AreZeros zeros
     → MatchOption told ((n : ℕ) → ¬ IsSeconds onset n)
     (λ nanos. (n : ℕ) × IsSeconds onset n × (nanos ≡ capped n))
-    → IfSome told (λ nanos. (n : ℕ) × (nanos ≡ capped n) × KeepsTime block n)
+    → IfSome told (λ nanos. (n : ℕ) × (nanos ≡ capped n) × IsTimeKeepingBlock block n)
 bare-told block tal zeros onset None parts sides are h = tt
 bare-told block tal zeros onset (Some nanos) parts sides are (n, seconds, is) =
     (n, is, keeps-time block tal zeros onset n parts sides seconds are)
 
-pub bare-read : (block : List ℕ) (s : ℕ) (p : Place) (n start : ℕ) → KeepsTime block n →
+pub bare-read : (block : List ℕ) (s : ℕ) (p : Place) (n start : ℕ) → IsTimeKeepingBlock block n →
     KeepsSecond p (pos n) → IsInWindow (pos s +ℤ pos n) → start ≡ instant s (pos n)
     → KeepsOrder p start → BlockParsesTo block s p start []
 bare-read block s p n start whole second in-window start-is order =

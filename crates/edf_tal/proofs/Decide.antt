@@ -4,7 +4,7 @@ use Rattle.std.proofs.Common.{neg_ℤ, Option, Some, None}
 use Rattle.std.proofs.lemmas.Bool.{cases_eq}
 use Rattle.edf_time.proofs.Cited.{some-value}
 use Rattle.edf_tal.specs.Tal.{Tal}
-use Rattle.edf_tal.specs.Inside.Scan.{Lacks, NoTal, IsTimes, IsHead, EndsWith20, IsTalAtFront}
+use Rattle.edf_tal.specs.Inside.Scan.{Lacks, NoTal, IsTimes, IsHead, EndsWith20, IsLeadingTal}
 use Rattle.edf_tal.proofs.Heads.{alone, from-alone, both, from-both, no-head, head-signed}
 use Rattle.edf_tal.proofs.Heads.{head-plus, head-minus, neither, IsEnded-ended, no-zero-byte}
 use Rattle.edf_tal.proofs.Heads.{no-twenty, front-sides, front-made}
@@ -101,7 +101,7 @@ pub record Front (bytes : List ℕ) : Type 0 where
   pub texts : List ℕ
   pub rest : List ℕ
   pub tal : Tal
-  pub is_front : IsTalAtFront bytes texts rest tal
+  pub is_front : IsLeadingTal bytes texts rest tal
 
 -- around the first byte 0 and the first byte 20 before it
 module _ (bytes body rest head-bytes texts : List ℕ) (no-zeros : Lacks 0 body) (parts : bytes ≡ body

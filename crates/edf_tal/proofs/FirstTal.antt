@@ -7,7 +7,7 @@ use Rattle.std.proofs.lemmas.List.Sums.{sum_by-cons}
 use Rattle.edf_tal.specs.Tal.{Tal, Annotation, IsTal, IsText, terminated, AreTalsAndZeros}
 use Rattle.edf_tal.specs.Tal.{AreBlocks}
 use Rattle.edf_tal.specs.Tal.{all_tals, HaveUtf8Texts, IsTalInWindow, instant, tal_annotations}
-use Rattle.edf_tal.specs.Inside.Scan.{IsTalAtFront}
+use Rattle.edf_tal.specs.Inside.Scan.{IsLeadingTal}
 use Rattle.edf_tal.specs.Inside.Blocks.{AreSurveyed}
 use Rattle.edf_tal.specs.declared.blocks.Sums.{Sums}
 use Rattle.edf_tal.proofs.Unique.{one-tal}
@@ -46,7 +46,7 @@ first-list b later f more (ts ∷ tss) t l s e =
     (first.0, tss, ap (λ (x : List Tal). x ∷ tss) first.1)
 
 pub known : (b : List ℕ) (later : List (List ℕ)) (texts rest : List ℕ) (s : ℕ) (sums : Sums)
-    (t : Tal) → AreSurveyed (b ∷ later) s sums → IsTalAtFront b texts rest t
+    (t : Tal) → AreSurveyed (b ∷ later) s sums → IsLeadingTal b texts rest t
     → Known (b ∷ later) s sums t
 known b later texts rest s sums t v f =
     let first = first-list b later f.prefix rest v.tals t v.lists f.tal f.parts in
@@ -74,11 +74,11 @@ first-empty ((b ∷ x) ∷ xs) rest a e = absurd (a.0.0.1 (let z : b ≡ 20 = cc
 abbrev pub IsEmptyFirst : Tal → Type 0
 IsEmptyFirst t = (xs : List (List ℕ)) × (t.texts ≡ [] ∷ xs)
 
-pub timed : (b texts more : List ℕ) (t : Tal) → IsTalAtFront b texts more t →
+pub timed : (b texts more : List ℕ) (t : Tal) → IsLeadingTal b texts more t →
     ((rest : List ℕ) × (texts ≡ 20 ∷ rest)) → IsEmptyFirst t
 timed b texts more t f (rest, e) = first-empty t.texts rest f.tal.are_texts (sym f.texts_are ∙ e)
 
-pub untimed : (b texts more : List ℕ) (t : Tal) → IsTalAtFront b texts more t →
+pub untimed : (b texts more : List ℕ) (t : Tal) → IsLeadingTal b texts more t →
     ¬ ((rest : List ℕ) × (texts ≡ 20 ∷ rest)) → ¬ IsEmptyFirst t
 untimed b texts more t f fails (xs, e) = fails (terminated xs, f.texts_are ∙ ap terminated e)
 

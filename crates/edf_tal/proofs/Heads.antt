@@ -8,7 +8,7 @@ use Rattle.std.proofs.lemmas.Bool.{cases_eq}
 use Rattle.std.proofs.lemmas.List.{append-nil, length-append, take_all}
 use Rattle.edf_time.specs.Decimal.{IsDecimal, IsFine, IsSeconds}
 use Rattle.edf_tal.specs.Tal.{Tal, IsTal, IsOnset, IsDurationPart, IsText, terminated}
-use Rattle.edf_tal.specs.Inside.Scan.{Lacks, NoTal, IsTimes, IsHead, EndsWith20, IsTalAtFront}
+use Rattle.edf_tal.specs.Inside.Scan.{Lacks, NoTal, IsTimes, IsHead, EndsWith20, IsLeadingTal}
 use Rattle.edf_time.proofs.Cited.{same-parts}
 use Rattle.edf_tal.proofs.Unique.{same-sides, not-both, Lacks-append, Lacks-onset, Lacks-duration}
 use Rattle.edf_tal.proofs.Unique.{Lacks-seconds}
@@ -271,7 +271,7 @@ front-sides bytes body rest head texts front later t lacks e lacks' f g s =
 
 pub front-made : (bytes body rest head texts : List ℕ) (z : ℤ) (d : Option ℕ) → Lacks 0 body →
     bytes ≡ body ++ 0 ∷ rest → body ≡ head ++ 20 ∷ texts → IsHead head z d → EndsWith20 texts
-    → (x : Texts texts) × IsTalAtFront bytes texts rest
+    → (x : Texts texts) × IsLeadingTal bytes texts rest
     (record { onset = z; duration = d; texts = x.texts })
 front-made bytes body rest head texts z d lacks e f h ends =
     let none : Lacks 0 texts =

@@ -13,7 +13,7 @@ use Rattle.edf_tal.specs.Block.{BlocksParseTo, BlockParsesTo, IsWithinLimits, St
 use Rattle.edf_tal.specs.Condition.{IsMalformedAt, HaveInvalidUtf8At}
 use Rattle.edf_tal.specs.Block.{BlocksHaveFault, IsFirstBlocksFault, IsFirstBlockFault}
 use Rattle.edf_tal.specs.Block.{tal_fault_number}
-use Rattle.edf_tal.specs.Inside.Scan.{NoTal, IsTalAtFront, KeepsSecond, KeepsOrder}
+use Rattle.edf_tal.specs.Inside.Scan.{NoTal, IsLeadingTal, KeepsSecond, KeepsOrder}
 use Rattle.edf_tal.specs.Inside.Blocks.{AreSurveyed, HasForm, IsChecked}
 use Rattle.edf_tal.specs.declared.blocks.Sums.{Sums}
 use Rattle.edf_tal.specs.declared.blocks.Form.{Form}
@@ -194,7 +194,7 @@ module _ (bs : List (List ℕ)) (s : ℕ) (p : Place) (sums : Sums) (t : Tal) (k
         (all_tals ((t ∷ k.more) ∷ k.others))) = k.count_is in
         omega (arith, d.count)
 
-    pub fault-untimed : (b texts more : List ℕ) → IsTalAtFront b texts more t →
+    pub fault-untimed : (b texts more : List ℕ) → IsLeadingTal b texts more t →
         ¬ ((rest : List ℕ) × (texts ≡ 20 ∷ rest)) → IsFirstBlocksFault bs s p NotTimed
     fault-untimed b texts more f fails =
         fault-lists bs s p ((t ∷ k.more) ∷ k.others) k.lists k.good (untimed b texts more t f fails)
@@ -233,7 +233,7 @@ module _ (bs : List (List ℕ)) (s : ℕ) (p : Place) (sums : Sums) (t : Tal) (k
             lists = k.lists;
             good = k.good;
             timed = empty;
-            keeps = keeps-place p s t k.more second (subst (KeepsOrder p) start-is order);
+            fits_place = keeps-place p s t k.more second (subst (KeepsOrder p) start-is order);
             window = k.window.0 window;
             limits = within empty limits.0 limits.1;
             start_is = start-is;
@@ -294,7 +294,7 @@ no-fault bs s p m l NotTimed r (us, w, fails) =
 no-fault bs s First m l FirstOnset r (us, w, fails) =
     on-tals (λ (ts : List (List Tal)). StartFitsPlace First s (first_tals ts)) bs r.tals us r.lists
     w
-    r.keeps fails
+    r.fits_place fails
 no-fault bs s (After before duration) m l FirstOnset r f = f
 no-fault bs s Any m l FirstOnset r f = f
 no-fault bs s p m l Window r (us, w, fails) =
@@ -303,7 +303,7 @@ no-fault bs s p m l Window r (us, w, fails) =
 no-fault bs s First m l Order r f = f
 no-fault bs s (After before duration) m l Order r (us, w, fails) =
     on-tals (λ (ts : List (List Tal)). StartFitsPlace (After before duration) s (first_tals ts)) bs
-    r.tals us r.lists w r.keeps fails
+    r.tals us r.lists w r.fits_place fails
 no-fault bs s Any m l Order r f = f
 no-fault bs s p m l TooMany r (us, w, fails) =
     on-tals (λ (ts : List (List Tal)). IsWithinLimits (annotations s (all_tals ts))) bs r.tals us

@@ -7,7 +7,7 @@ use Rattle.std.proofs.lemmas.List.{append-nil}
 use Rattle.edf_tal.specs.Tal.{Tal, Annotation, IsText, terminated, AreTalsAndZeros, HaveUtf8Texts}
 use Rattle.edf_tal.specs.Tal.{HasTimeKeepingTal, IsTalInWindow, instant, tal_annotations}
 use Rattle.edf_tal.specs.Tal.{annotations}
-use Rattle.edf_tal.specs.Inside.Scan.{Lacks, NoTal, IsTalAtFront, IsCappedOnset, IsCappedDuration}
+use Rattle.edf_tal.specs.Inside.Scan.{Lacks, NoTal, IsLeadingTal, IsCappedOnset, IsCappedDuration}
 use Rattle.edf_tal.specs.Inside.Scan.{AreTexts, IsScannedTal}
 use Rattle.edf_tal.specs.Inside.Blocks.{AreSoundTals}
 use Rattle.edf_tal.proofs.Unique.{same-sides, not-both, Lacks-text, one-tal}
@@ -122,7 +122,7 @@ pub record NextTal (s : ℕ) (rest texts : List ℕ) (t : Tal) (left : List Tal)
   pub sound : AreSoundTals rest s others
 
 pub next-tal : (s : ℕ) (bytes texts more : List ℕ) (t : Tal) (ts : List Tal) →
-    AreSoundTals bytes s ts → IsTalAtFront bytes texts more t → NextTal s more texts t ts
+    AreSoundTals bytes s ts → IsLeadingTal bytes texts more t → NextTal s more texts t ts
 next-tal s bytes texts more t ts a f = at ts a.whole a.good a.window
   where
     at : (us : List Tal) → AreTalsAndZeros bytes us → HaveUtf8Texts us →
@@ -165,7 +165,7 @@ tells s rest texts t left ahead onset duration n o d = record {
 }
 
 pub tals-more : (s : ℕ) (tals rest texts more : List ℕ) (old new newer : List Annotation)
-    (t : Tal) → HasPushedTals s tals rest old new → IsTalAtFront rest texts more t
+    (t : Tal) → HasPushedTals s tals rest old new → IsLeadingTal rest texts more t
     → newer ≡ new ++ tal_annotations s t → HasPushedTals s tals more old newer
 tals-more s tals rest texts more old new newer t h f is =
     let n = next-tal s rest texts more t h.left h.are_left f in

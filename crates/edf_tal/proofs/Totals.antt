@@ -10,7 +10,7 @@ use Rattle.edf_time.specs.Civil.{window}
 use Rattle.edf_tal.specs.Tal.{Tal, Annotation, IsText, terminated, AreTals, IsTalInWindow, instant}
 use Rattle.edf_tal.specs.Tal.{tal_annotations}
 use Rattle.edf_tal.specs.Condition.{IsInvalidUtf8At}
-use Rattle.edf_tal.specs.Inside.Scan.{Lacks, IsCappedDuration, IsTalAtFront, IsBadAmong}
+use Rattle.edf_tal.specs.Inside.Scan.{Lacks, IsCappedDuration, IsLeadingTal, IsBadAmong}
 use Rattle.edf_tal.specs.Inside.Scan.{AreGoodTexts, FollowsTals, IsSurvey}
 use Rattle.edf_tal.proofs.Unique.{same-sides, not-both, Lacks-text}
 use Rattle.edf_tal.proofs.Fronts.{AreTals-more, NoZero-ended}
@@ -38,7 +38,7 @@ pub after-none : (bytes : List ℕ) → FollowsTals bytes bytes
 after-none bytes = record { prefix = []; tals = []; parts = refl; whole = refl }
 
 pub after-more : (bytes rest texts more : List ℕ) (t : Tal) → FollowsTals bytes rest →
-    IsTalAtFront rest texts more t → FollowsTals bytes more
+    IsLeadingTal rest texts more t → FollowsTals bytes more
 after-more bytes rest texts more t b f = record {
   prefix = b.prefix ++ f.prefix;
   tals = b.tals ++ t ∷ [];
@@ -68,7 +68,7 @@ after-after bytes rest more b c = record {
   whole = AreTals-append b.prefix c.prefix b.tals c.tals b.whole c.whole;
 }
 
-pub front-shorter : (bytes texts rest : List ℕ) (t : Tal) → IsTalAtFront bytes texts rest t →
+pub front-shorter : (bytes texts rest : List ℕ) (t : Tal) → IsLeadingTal bytes texts rest t →
     length rest + length texts + 2 ≤ length bytes
 front-shorter bytes texts rest t f =
     omega (
@@ -106,7 +106,7 @@ pub record Counted (t : Tal) (count : ℕ) : Type 0 where
   pub good : AllByRecursion IsUtf8 t.texts
   pub count_is : count ≡ length t.texts
 
-pub counted : (texts rest bytes : List ℕ) (t : Tal) (count : ℕ) → IsTalAtFront bytes texts rest t →
+pub counted : (texts rest bytes : List ℕ) (t : Tal) (count : ℕ) → IsLeadingTal bytes texts rest t →
     AreGoodTexts texts count → Counted t count
 counted texts rest bytes t count f g =
     let same = same-list g.list t.texts g.rest g.good g.is_rest f.tal.are_texts (sym g.parts
@@ -178,7 +178,7 @@ survey-none block s = record {
 
 pub survey-more : (block rest texts more : List ℕ) (s : ℕ) (t : Tal) (in_window next is : Bool)
     (count bytes n m : ℕ) → IsSurvey block s rest in_window count bytes
-    → IsTalAtFront rest texts more t → AreGoodTexts texts n → (IsTrue is ↔ IsTalInWindow s t) →
+    → IsLeadingTal rest texts more t → AreGoodTexts texts n → (IsTrue is ↔ IsTalInWindow s t) →
     (IsTrue next ↔ (IsTrue in_window × IsTrue is)) → n + m ≡ length texts
     → IsSurvey block s more next (count + n) (bytes + m)
 survey-more block rest texts more s t in_window next is count bytes n m v f g one both sum =
@@ -282,7 +282,7 @@ good-texts (x ∷ xs) p a = (
   good-texts xs (Lacks-back 0 (x ++ 20 ∷ []) (terminated xs) p) a.1,
 )
 
-bad-front : (rest texts more : List ℕ) (t : Tal) (at : ℕ) (f : IsTalAtFront rest texts more t) →
+bad-front : (rest texts more : List ℕ) (t : Tal) (at : ℕ) (f : IsLeadingTal rest texts more t) →
     IsBadAmong texts at
     → IsBadFront rest (length f.tal.onset + length f.tal.duration + 1 + at)
 bad-front rest texts more t at f b =
@@ -311,7 +311,7 @@ bad-front rest texts more t at f b =
 -- where the first bad text begins in the block
 pub survey-bad : (block rest texts more : List ℕ) (s : ℕ) (t : Tal) (in_window : Bool)
     (count bytes at : ℕ) → IsSurvey block s rest in_window count bytes
-    → IsTalAtFront rest texts more t → IsBadAmong texts at →
+    → IsLeadingTal rest texts more t → IsBadAmong texts at →
     IsInvalidUtf8At block (length block - length more - 1 - length texts + at)
 survey-bad block rest texts more s t in_window count bytes at v f b =
     bad-join block v.prefix rest v.tals (length block - length more - 1 - length texts + at)

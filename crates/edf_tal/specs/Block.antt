@@ -34,7 +34,7 @@ pub record BlocksParseTo (blocks : List (List ℕ)) (file_start : ℕ) (place : 
   pub lists : AreBlocks blocks tals
   pub good : HaveUtf8Texts (all_tals tals)
   pub timed : HasTimeKeepingTal (first_tals tals)
-  pub keeps : StartFitsPlace place file_start (first_tals tals)
+  pub fits_place : StartFitsPlace place file_start (first_tals tals)
   pub window : AllByRecursion (IsTalInWindow file_start) (all_tals tals)
   pub limits : IsWithinLimits list
   pub start_is : start ≡ record_start file_start (first_tals tals)

@@ -2,7 +2,7 @@ ghost use Rattle.std.specs.Prelude.{◌≡◌, ℕ, ◌+◌, ◌≤◌, ◌<◌,
 ghost use Rattle.std.specs.Prelude.{List, [], ◌∷◌};
 ghost use Rattle.edf_tal.specs.Block.{BlocksParseTo, IsFirstBlocksFault, split_by_sizes};
 ghost use Rattle.edf_tal.specs.Inside.Scan.{capped, IsCappedOnset, KeepsSecond, KeepsOrder};
-ghost use Rattle.edf_tal.specs.Inside.Blocks.{AreSizes, AreSurveyed, IsChecked, KeepsTime};
+ghost use Rattle.edf_tal.specs.Inside.Blocks.{AreSizes, AreSurveyed, IsChecked, IsTimeKeepingBlock};
 ghost use Rattle.edf_tal.specs.declared.place.Place.{Place};
 
 use crate::blocks::{Sums, are_zeros, survey_blocks};
@@ -22,7 +22,7 @@ pub(crate) struct Checked {
 }
 
 /// Whether the first text is empty.
-fn is_timed(texts: &[u8]) -> bool
+fn is_time_keeping(texts: &[u8]) -> bool
     ensures { IsTrue result ↔ ((rest : List ℕ) × (texts.now ≡ 20 ∷ rest)) }
 {
     match texts {
@@ -82,7 +82,7 @@ fn check_tals(
     let Some(first) = first_tal(first) else {
         return Err(TalFault::NotTimed);
     };
-    if !is_timed(first.texts) {
+    if !is_time_keeping(first.texts) {
         return Err(TalFault::NotTimed);
     }
     if !keeps_second(&place, first.times.ahead, first.times.onset) {
@@ -125,7 +125,8 @@ pub(crate) fn check_blocks(
 /// The nanoseconds of the onset, capped, of a block that is the time-keeping annotation alone: `+`,
 /// a decimal, two bytes 20, and zeros.
 fn bare_onset(block: &[u8]) -> Option<u64>
-    ensures { IfSome result (λ onset. (n : ℕ) × (onset ≡ capped n) × KeepsTime block.now n) }
+    ensures { IfSome result
+        (λ onset. (n : ℕ) × (onset ≡ capped n) × IsTimeKeepingBlock block.now n) }
 {
     let (tal, zeros) = split_first(block, TAL_END)?;
     match tal {

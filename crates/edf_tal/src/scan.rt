@@ -3,7 +3,7 @@ ghost use Rattle.std.specs.Prelude.{Option, MatchOption, MatchResult, IsTrue, Is
 ghost use Rattle.edf_time.specs.Decimal.{IsSeconds};
 ghost use Rattle.edf_tal.specs.Tal.{Tal};
 ghost use Rattle.edf_tal.specs.Inside.Scan.{Lacks, NoTal, capped, IsTimes, IsHead, IsCappedOnset};
-ghost use Rattle.edf_tal.specs.Inside.Scan.{IsCappedDuration, EndsWith20, IsTalAtFront, IsBadAmong};
+ghost use Rattle.edf_tal.specs.Inside.Scan.{IsCappedDuration, EndsWith20, IsLeadingTal, IsBadAmong};
 ghost use Rattle.edf_tal.specs.Inside.Scan.{AreGoodTexts};
 
 use edf_time::{DecimalFault, read_seconds};
@@ -121,7 +121,7 @@ fn is_ended(bytes: &[u8]) -> bool
 /// The TAL at the front.
 pub(crate) fn first_tal(bytes: &[u8]) -> Option<LeadingTal<'_>>
     ensures { MatchOption result (NoTal bytes.now)
-        (λ f. (t : Tal) × IsTalAtFront bytes.now f.texts.now f.rest.now t
+        (λ f. (t : Tal) × IsLeadingTal bytes.now f.texts.now f.rest.now t
         × IsCappedOnset f.times.ahead f.times.onset t.onset
         × IsCappedDuration f.times.duration t.duration) }
 {

@@ -3,5 +3,5 @@ use Rattle.std.specs.Prelude.{◌<◌, ◌≤◌, ◌*◌, ℕ}
 
 -- so many pages are more than the port of SQLite keeps by itself, 512 MiB at most, and a quarter of
 -- the room at most
-abbrev pub MayBeKept : ℕ → ℕ → Type 0
-MayBeKept pages room = (2000 < pages) × (pages ≤ 131072) × (pages * 16384 ≤ room)
+abbrev pub IsCacheSize : ℕ → ℕ → Type 0
+IsCacheSize pages memory = (2000 < pages) × (pages ≤ 131072) × (pages * 16384 ≤ memory)

@@ -1,7 +1,7 @@
 //! How many pages of a store are kept in memory while it is open, and what the system says of that.
 
 ghost use Rattle.std.specs.Prelude.{◌≡◌, ◌/◌, MatchOption};
-ghost use Rattle.edfstore_host.specs.Cache.{MayBeKept};
+ghost use Rattle.edfstore_host.specs.Cache.{IsCacheSize};
 
 /// How many bytes a page has of the stores that are made here.
 const PAGE: u64 = 4_096;
@@ -18,8 +18,8 @@ const SHARE: u64 = 4;
 /// How many pages a file of so many bytes has, where all of them may be kept in so many bytes of
 /// room; else the port's own number does, since to keep a part of them spares no reading.
 pub(crate) fn pages_kept(bytes: u64, room: u64) -> Option<usize>
-    ensures { MatchOption result (¬ MayBeKept (bytes / 4096) room)
-        (λ pages. (pages ≡ bytes / 4096) × MayBeKept pages room) }
+    ensures { MatchOption result (¬ IsCacheSize (bytes / 4096) room)
+        (λ pages. (pages ≡ bytes / 4096) × IsCacheSize pages room) }
 {
     let pages = bytes / PAGE;
     if OWN < pages && pages <= MOST && pages * (PAGE * SHARE) <= room {

@@ -13,11 +13,11 @@ use Rattle.edf_export.specs.declared.fault.ExportFault.TheVariants.{Write}
 
 -- what a function leaves of a walk: it still borrows its store, where what is held stays; and this
 -- holds of the connection where the disk returned what was written
-pub record LeavesWalk {S : Type 0} (g : Ghosts S) (old new : Records S Cursor)
-    (Left : State → Type 0) : Type 0 where
+pub record EndsWalk {S : Type 0} (g : Ghosts S) (old new : Records S Cursor)
+    (After : State → Type 0) : Type 0 where
   pub same_reference : new.store.ghost_name ≡ old.store.ghost_name
   pub stays : KeepsHoldings g old.store.now new.store.now
-  pub left : HasCleanDisk (at g new.store.now) → Left (at g new.store.now)
+  pub after : HasCleanDisk (at g new.store.now) → After (at g new.store.now)
 
 -- Why a file is not written, or not to its end. A read is refused, because the connection is in a
 -- transaction only where `IfBusy` holds; or memory runs out; or a write fails, and none fails

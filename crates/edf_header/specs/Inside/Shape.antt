@@ -40,7 +40,7 @@ check_order Digital = 8
 check_order Samples = 9
 
 -- what comes before an identity's signals has no fault
-pub record IsKeyFront (b : List ℕ) : Type 0 where
+pub record IsKeyPrefix (b : List ℕ) : Type 0 where
   pub len : HasLength b
   pub printable : All IsPrintable b
   pub patient : IsPatient (key_patient_field b)

@@ -7,7 +7,7 @@ use Rattle.sqlite.specs.Order.{Row}
 use Rattle.sqlite.specs.Tree.{Trees}
 use Rattle.sqlite.specs.State.{State, KeepsCommit}
 use Rattle.sqlite_trees.specs.declared.store.Store.{Ghosts}
-use Rattle.edf_tables.specs.Statement.{Leaves, LeavesOnErr, IsCrashSafe}
+use Rattle.edf_tables.specs.Statement.{ChangesOnOk, ChangesOnErr, IsCrashSafe}
 use Rattle.edf_tables.specs.Columns.{the_id, the_identity}
 use Rattle.edf_rows.specs.Cells.{recordings_in, records_in}
 use Rattle.edf_rows.specs.Foreign.{IsForeign}
@@ -32,8 +32,8 @@ pub record KeepsShown (old new : State) : Type 0 where
 -- it fails, what is committed stays; a crash in it adds nothing
 pub record OnlyChecks {S X : Type 0} (g : Ghosts S) (old new : Held S) (result : Result X Error) :
     Type 0 where
-  pub same : Leaves g old new result KeepsRows
-  pub refused : LeavesOnErr g old new result KeepsShown
+  pub same : ChangesOnOk g old new result KeepsRows
+  pub refused : ChangesOnErr g old new result KeepsShown
   pub survives : IsCrashSafe g old new
 
 -- what the check reads of a row

@@ -44,8 +44,8 @@ abbrev pub bare_tal : ℕ → Tal
 bare_tal n = record { onset = pos n; duration = None; texts = [] ∷ [] }
 
 -- a block of this TAL and zeros
-abbrev pub KeepsTime : List ℕ → ℕ → Type 0
-KeepsTime block n = AreTalsAndZeros block (bare_tal n ∷ [])
+abbrev pub IsTimeKeepingBlock : List ℕ → ℕ → Type 0
+IsTimeKeepingBlock block n = AreTalsAndZeros block (bare_tal n ∷ [])
 
 -- the TALs of a block without a fault, but for the first one's rules
 pub record AreSoundTals (bytes : List ℕ) (file_start : ℕ) (tals : List Tal) : Type 0 where

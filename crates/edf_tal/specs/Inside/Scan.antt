@@ -59,7 +59,7 @@ EndsWith20 (b ∷ []) = b ≡ 20
 EndsWith20 (b ∷ c ∷ bytes) = EndsWith20 (c ∷ bytes)
 
 -- the TAL at the front, its texts and what is after it
-pub record IsTalAtFront (bytes texts rest : List ℕ) (t : Tal) : Type 0 where
+pub record IsLeadingTal (bytes texts rest : List ℕ) (t : Tal) : Type 0 where
   pub prefix : List ℕ
   pub parts : bytes ≡ prefix ++ rest
   pub tal : IsTal prefix t

@@ -19,7 +19,7 @@ put_annotated-requires-clause-fits g c =
     let kept = c.args.kept.now in
     let whole = c.args.whole in
     let few : IsWithinMeasure c.after-measure.result whole =
-    c.may_come_first.ensures.0 c.if-not-may_come_first.false in
+    c.is_within_measure.ensures.0 c.if-not-is_within_measure.false in
     let held = block-held whole kept c.count-nth.result c.args.data_record.now
     c.kept_or-annotated.result.now c.kept_or-annotated.ensures c.after-measure.result
     c.after-measure.ensures.holds few in
@@ -40,8 +40,8 @@ returns-then-nth-whole g c records before = (
   ),
 )
 
-pub returns-then-not-may_come_first : goal.returns-then-not-may_come_first
-returns-then-not-may_come_first g c records before = (
+pub returns-then-not-is_within_measure : goal.returns-then-not-is_within_measure
+returns-then-not-is_within_measure g c records before = (
   refl,
   λ may.
       let kept = c.args.kept.now in
@@ -51,8 +51,8 @@ returns-then-not-may_come_first g c records before = (
       c.kept_or-annotated.result.now c.kept_or-annotated.ensures records c.after-measure.result
       count (c.after-measure.ensures.measured (annotated kept records) before
       (omega (arith, c.if-nth-whole.false, c.args.whole.records_few, count))) in
-      let e : false ≡ true = sym c.if-not-may_come_first.true
-      ∙ c.may_come_first.ensures.1 (first-no-more _ c.after-measure.result c.args.whole measured
+      let e : false ≡ true = sym c.if-not-is_within_measure.true
+      ∙ c.is_within_measure.ensures.1 (first-no-more _ c.after-measure.result c.args.whole measured
       may) in
       absurd (let f = e in cc),
 )
@@ -79,7 +79,7 @@ returns-in_err-put_annotated g c records before =
     rw (err.1, err.2) (
       record {
         first = may_come _ m whole measured
-            (c.may_come_first.ensures.0 c.if-not-may_come_first.false);
+            (c.is_within_measure.ensures.0 c.if-not-is_within_measure.false);
         remaining = e.0.0;
         wrote = subst (λ x. Writes b d x e.0.0) text e.0.1;
       },
@@ -104,7 +104,7 @@ returns g c records before =
       measured = one-measured whole kept nth r one c.kept_or-annotated.ensures records m count
           (c.after-measure.ensures.measured (annotated kept records) before
           (omega (arith, c.if-nth-whole.false, c.args.whole.records_few, count)));
-      no_more = c.may_come_first.ensures.0 c.if-not-may_come_first.false;
+      no_more = c.is_within_measure.ensures.0 c.if-not-is_within_measure.false;
       sound = λ k sound. one-sound whole kept nth r one c.kept_or-annotated.ensures records k count
           sound c.after-measure.ensures.valid;
       wrote = subst (λ x. Writes b d x d.held) text c.in_ok-put_annotated.ensures.0;

@@ -36,7 +36,7 @@ returns-clause-leaves g c =
     rw (← (sym c.drop-walk.ensures ∙ same)) (record {
       stays = stays_then g.S.Store c.args.store.now c.in_ok-walk.walk.store.now
           c.plan_walk.new.walk.store.now c.in_ok-walk.ensures.begun.stays l.stays;
-      idle = l.left;
+      idle = l.after;
     })
 
 pub returns-clause-walked : goal.returns-clause-walked

@@ -98,7 +98,7 @@ pub returns-clause-leaves : goal.returns-clause-leaves
 returns-clause-leaves g c = record {
   same_reference = c.loop.invariant.same_reference;
   stays = c.loop.invariant.stays;
-  left = λ clean. tt;
+  after = λ clean. tt;
 }
 
 pub returns-clause-walked : goal.returns-clause-walked

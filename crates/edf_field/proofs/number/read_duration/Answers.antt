@@ -14,10 +14,10 @@ returns-in-Err c =
     c.requires
     c.unpadded_len.ensures c.split_at.ensures.front c.in-Err.ensures
 
-pub returns-else-may_last : goal.returns-else-may_last
-returns-else-may_last c =
+pub returns-else-is_duration_in_range : goal.returns-else-is_duration_in_range
+returns-else-is_duration_in_range c =
     not-lasting c.args.field.now c.split_at.result.0.now c.split_at.result.1.now
     c.unpadded_len.result c.in-Ok.nanos
     c.unpadded_len.ensures c.split_at.ensures.front c.split_at.ensures.back c.in-Ok.ensures.0
-    (λ lasts. cc (sym (c.may_last.ensures.1 lasts) ∙ c.if-may_last.false))
+    (λ lasts. cc (sym (c.is_duration_in_range.ensures.1 lasts) ∙ c.if-is_duration_in_range.false))
     (c.are_spaces.ensures.0 c.if-not-are_spaces.false)

@@ -21,8 +21,8 @@ returns-in_err-id-clause-leaves g c =
     c.from_residual.ensures.1
     (stays_refused g.S.Store first made fault c.in_err-id.ensures.leaves)
 
-pub known_room-requires : goal.known_room-requires
-known_room-requires g c = record {
+pub known_spare-requires : goal.known_spare-requires
+known_spare-requires g c = record {
   running = record {
     running = c.in_ok-id.ensures.leaves.running;
     recording = c.in_ok-id.ensures.found.found;
@@ -33,7 +33,7 @@ pub returns-in_err-spare-clause-leaves : goal.returns-in_err-spare-clause-leaves
 returns-in_err-spare-clause-leaves g c =
     let first = c.args.transaction.now in
     let made = c.recording.new.self in
-    let asked = c.known_room.new.transaction in
+    let asked = c.known_spare.new.transaction in
     let fault = c.in_err-spare.field-0.0 in
     passed_on c.from_residual-in_err-spare.result fault
     (λ (r : Result Destination StoreFault). KeepsTransaction g.S.Store first asked r)
@@ -44,14 +44,14 @@ returns-in_err-spare-clause-leaves g c =
 pub returns-in-Some-clause-leaves : goal.returns-in-Some-clause-leaves
 returns-in-Some-clause-leaves g c =
     let d : Destination = record { id = c.in_ok-id.id; spare = c.in-Some.spare } in
-    stays_read g.S.Store c.args.transaction.now c.recording.new.self c.known_room.new.transaction
+    stays_read g.S.Store c.args.transaction.now c.recording.new.self c.known_spare.new.transaction
     c.in_ok-id.id c.in_ok-id.ensures.leaves c.in_ok-spare.field-0 d c.in_ok-spare.ensures.leaves
 
 pub returns-in-Some-clause-found : goal.returns-in-Some-clause-found
 returns-in-Some-clause-found g c =
     let first = c.args.transaction.now.store.now in
     let made = c.recording.new.self.store.now in
-    let asked = c.known_room.new.transaction in
+    let asked = c.known_spare.new.transaction in
     let key = c.args.identity.now in
     let found = c.in_ok-id.ensures.found in
     let read = c.in_ok-spare.ensures.leaves in
@@ -76,7 +76,7 @@ pub returns-in_err-held-clause-leaves : goal.returns-in_err-held-clause-leaves
 returns-in_err-held-clause-leaves g c =
     let first = c.args.transaction.now in
     let made = c.recording.new.self in
-    let asked = c.known_room.new.transaction in
+    let asked = c.known_spare.new.transaction in
     let last = c.count.new.self in
     let fault = c.in_err-held.field-0.0 in
     passed_on c.from_residual-in_err-held.result fault
@@ -90,7 +90,7 @@ pub returns-clause-leaves : goal.returns-clause-leaves
 returns-clause-leaves g c =
     let first = c.args.transaction.now in
     let made = c.recording.new.self in
-    let asked = c.known_room.new.transaction in
+    let asked = c.known_spare.new.transaction in
     let last = c.count.new.self in
     let held = c.in_ok-held.held in
     let d : Destination = record { id = c.in_ok-id.id; spare = c.saturating_sub-spare.result } in
@@ -102,7 +102,7 @@ pub returns-clause-found : goal.returns-clause-found
 returns-clause-found g c =
     let first = c.args.transaction.now.store.now in
     let made = c.recording.new.self in
-    let asked = c.known_room.new.transaction in
+    let asked = c.known_spare.new.transaction in
     let last = c.count.new.self in
     let id = c.in_ok-id.id.row in
     let key = c.args.identity.now in

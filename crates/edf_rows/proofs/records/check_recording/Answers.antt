@@ -10,7 +10,7 @@ use Rattle.sqlite.proofs.Callers.{begun_plain, unchanged_then}
 use Rattle.edf_tables.proofs.QueryTexts.{rows_text, rows_is}
 use Rattle.edf_tables.proofs.Shown.{plain_at}
 use Rattle.edf_tables.proofs.Reading.{query_quiet, query_left}
-use Rattle.edf_tables.specs.Refused.{IsLeft}
+use Rattle.edf_tables.specs.Refused.{IsUnchangedOrRolledBack}
 use Rattle.edf_rows.specs.Inside.Checked.{OnlyChecks}
 use Rattle.edf_rows.proofs.AllRows.{rows_left}
 use Rattle.edf_rows.proofs.Parts.{done, failed}
@@ -169,7 +169,7 @@ returns-in_err-row-clause-checks g c =
     (err_from_is_err_and c.from_residual-in_err-row.result
     c.from_residual-in_err-row.ensures.1) (λ clean.
     let early : HasCleanDisk was = omega (arith, moved.survives.clean, clean) in
-    let left : IsLeft was now = elim (rw c.in_err-row.was at (moved.kept clean)) [
+    let left : IsUnchangedOrRolledBack was now = elim (rw c.in_err-row.was at (moved.kept clean)) [
       | inl fails ↦ inr fails.3
       | inr same ↦
           inl same

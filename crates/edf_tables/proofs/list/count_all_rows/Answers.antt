@@ -3,7 +3,7 @@ use Rattle.sqlite.specs.Held.{state}
 use Rattle.sqlite_exec.proofs.MarkLemmas.{if_ok_then}
 use Rattle.edf_tables.proofs.QueryTexts.{count_all_text, count_all_is}
 use Rattle.edf_tables.proofs.Shown.{plain_at, count_all_shown}
-use Rattle.edf_tables.specs.Refused.{IsLeft}
+use Rattle.edf_tables.specs.Refused.{IsUnchangedOrRolledBack}
 use Rattle.edf_tables.proofs.Keeping.{on_err}
 use Rattle.edf_tables.proofs.SameText.{plain_of, shown_of}
 use Rattle.edf_tables.proofs.list.count_all_rows.Goals as goal
@@ -26,6 +26,7 @@ returns-in_err-rows-clause-refused g c clean =
 
 pub returns-clause-refused : goal.returns-clause-refused
 returns-clause-refused g c clean =
-    let left : IsLeft (state g.S.Store c.args.conn.now) (state g.S.Store c.rows_shown.new.conn) =
+    let left : IsUnchangedOrRolledBack (state g.S.Store c.args.conn.now)
+    (state g.S.Store c.rows_shown.new.conn) =
     inl (c.in_ok-rows.ensures.same clean) in
     on_err c.first_count.result left

@@ -29,20 +29,20 @@ pub returns-in_default : goal.returns-in_default
 returns-in_default c = λ later v. fault-none c.args.first.now later c.args.file_start c.args.place
     c.args.sums v c.in_default.ensures
 
-pub returns-then-not-is_timed : goal.returns-then-not-is_timed
-returns-then-not-is_timed c = λ later v.
-    let a = (goal.at.returns-then-not-is_timed c).In-Some in
+pub returns-then-not-is_time_keeping : goal.returns-then-not-is_time_keeping
+returns-then-not-is_time_keeping c = λ later v.
+    let a = (goal.at.returns-then-not-is_time_keeping c).In-Some in
     fault-untimed (c.args.first.now ∷ later) c.args.file_start c.args.place c.args.sums
     c.in-Some.ensures.0 (the-first a later v)
     c.args.first.now c.in-Some.first.texts.now c.in-Some.first.rest.now c.in-Some.ensures.1
-    (λ e. absurd (grind (arith, c.is_timed.ensures.1 e, c.if-not-is_timed.true)))
+    (λ e. absurd (grind (arith, c.is_time_keeping.ensures.1 e, c.if-not-is_time_keeping.true)))
 
 pub returns-then-not-keeps_second : goal.returns-then-not-keeps_second
 returns-then-not-keeps_second c = λ later v.
     let t = c.in-Some.ensures.0 in
     let a = (goal.at.returns-then-not-keeps_second c).In-Some in
     fault-second (c.args.first.now ∷ later) c.args.file_start c.args.place c.args.sums t
-    (the-first a later v) (is-empty a (c.if-not-is_timed.ensures.0 refl))
+    (the-first a later v) (is-empty a (c.if-not-is_time_keeping.ensures.0 refl))
     (λ e. absurd (grind (
       arith,
       (c.keeps_second.ensures t.onset c.in-Some.ensures.2).1 e,
@@ -54,7 +54,7 @@ returns-then-not-sums c = λ later v.
     let t = c.in-Some.ensures.0 in
     let a = (goal.at.returns-then-not-sums c).In-Some in
     fault-window (c.args.first.now ∷ later) c.args.file_start c.args.place c.args.sums t
-    (the-first a later v) (is-empty a (c.if-not-is_timed.ensures.0 refl))
+    (the-first a later v) (is-empty a (c.if-not-is_time_keeping.ensures.0 refl))
     ((c.if-not-keeps_second.ensures t.onset c.in-Some.ensures.2).0 refl)
     (λ e. absurd (grind (arith, e, c.if-not-sums.true)))
 
@@ -73,7 +73,7 @@ returns-then-not-keeps_order c = λ later v.
     let window = not-false c.args.sums.in_window c.if-not-sums.false in
     let start = (c.in-Some-onset_instant.ensures t.onset c.in-Some.ensures.2).1 in
     fault-order (c.args.first.now ∷ later) c.args.file_start c.args.place c.args.sums t
-    (the-first a later v) (is-empty a (c.if-not-is_timed.ensures.0 refl))
+    (the-first a later v) (is-empty a (c.if-not-is_time_keeping.ensures.0 refl))
     ((c.if-not-keeps_second.ensures t.onset c.in-Some.ensures.2).0 refl) window
     (λ e. absurd (grind (
       arith,
@@ -89,7 +89,7 @@ returns-then-not-is_within_limits c = λ later v.
     let window = not-false c.args.sums.in_window c.if-not-sums.false in
     let start = (c.in-Some-onset_instant.ensures t.onset c.in-Some.ensures.2).1 in
     fault-many (c.args.first.now ∷ later) c.args.file_start c.args.place c.args.sums t
-    (the-first a later v) (is-empty a (c.if-not-is_timed.ensures.0 refl))
+    (the-first a later v) (is-empty a (c.if-not-is_time_keeping.ensures.0 refl))
     ((c.if-not-keeps_second.ensures t.onset c.in-Some.ensures.2).0 refl) window
     (subst (KeepsOrder c.args.place) start (c.if-not-keeps_order.ensures.0 refl))
     (λ e. absurd (grind (arith, c.is_within_limits.ensures.1 e, c.if-not-is_within_limits.true)))
@@ -99,7 +99,7 @@ overflow_sub-result c =
     let a = (goal.at.overflow_sub-result c).In-Some in
     let v = c.requires in
     some-count (c.args.first.now ∷ v.0) c.args.file_start c.args.place c.args.sums
-    c.in-Some.ensures.0 (the-first a v.0 v.1) (is-empty a (c.if-not-is_timed.ensures.0 refl))
+    c.in-Some.ensures.0 (the-first a v.0 v.1) (is-empty a (c.if-not-is_time_keeping.ensures.0 refl))
 
 pub returns : goal.returns
 returns c = λ later v.
@@ -109,6 +109,6 @@ returns c = λ later v.
     let start = (c.in-Some-onset_instant.ensures t.onset c.in-Some.ensures.2).1 in
     checked (c.args.first.now ∷ later) c.args.file_start c.args.place c.args.sums t
     (the-first a later v) c.in-Some-onset_instant.start
-    (is-empty a (c.if-not-is_timed.ensures.0 refl))
+    (is-empty a (c.if-not-is_time_keeping.ensures.0 refl))
     ((c.if-not-keeps_second.ensures t.onset c.in-Some.ensures.2).0 refl) window start
     (c.if-not-keeps_order.ensures.0 refl) (c.if-not-is_within_limits.ensures.0 refl)

@@ -1,15 +1,15 @@
 use Rattle.std.proofs.Common.{◌≡◌, ◌+◌, ◌<◌, ◌∷◌, ◌++◌, ℕ, List, ap, sym, ◌∙◌, subst, arith}
 use Rattle.std.proofs.Common.{All, take, drop, length, map, string_bytes, ◌≢◌, Option, None, IfSome}
 use Rattle.std.proofs.lemmas.List.{take_all, length-map}
-use Rattle.edf_program.specs.There.{Found, IsVacant, MayBeThere}
+use Rattle.edf_program.specs.There.{Entry, IsVacant, MayBeThere}
 use Rattle.edfruns_command.proofs.Walking.{all-more, around, mapped}
 use Rattle.edfruns_command.proofs.split_command.taken_name.Goals as goal
 
 -- of what is known of a name
-abbrev MayHave : Option Found → Type 0
+abbrev MayHave : Option Entry → Type 0
 MayHave known = IfSome known (λ found. found ≢ None)
 
-abbrev HasNone : Option Found → Type 0
+abbrev HasNone : Option Entry → Type 0
 HasNone known = IfSome known (λ found. found ≡ None)
 
 pub returns-then-is_there-clause-answer : goal.returns-then-is_there-clause-answer

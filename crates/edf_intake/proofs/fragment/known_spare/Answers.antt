@@ -4,7 +4,7 @@ use Rattle.edf_store.specs.Fault.{HasCause}
 use Rattle.edf_store.specs.Transaction.{IsCapacityAnswer}
 use Rattle.edf_intake.specs.Inside.Verdict.{IsSpareInside}
 use Rattle.edf_intake.proofs.Finding.{room_now}
-use Rattle.edf_intake.proofs.fragment.known_room.Goals as goal
+use Rattle.edf_intake.proofs.fragment.known_spare.Goals as goal
 
 pub has_capacity-requires-clause-recording : goal.has_capacity-requires-clause-recording
 has_capacity-requires-clause-recording g c =
