@@ -114,7 +114,7 @@ WRONG = (("| `edf_tal` |", "| `edf_tall` |"), ("| `edf_serve` |", "| `edf_serve`
          ("Walk;", ";"), ("Carried Rewritten", "Rewritten Carried Carried"),
          ("Exchange Session ", "Session Exchange "), ("Decimal Civil", "Decimal Civic"),
          ("`edf_tal/src/check.rt`", "`edf_tal/src/checks.rt`"), ("`checks/told.py`", "`checks/tolled.py`"),
-         ("`Overview.antt`", "`Overviews.antt`"), ("meaning::intake`", "meaning::take`"))
+         ("`Summaries.antt`", "`Summary.antt`"), ("meaning::intake`", "meaning::take`"))
 
 
 def main() -> None:

@@ -7,7 +7,7 @@ ghost use Rattle.edf_fragment.specs.Fragment.{DataRecord};
 ghost use Rattle.edf_holdings.specs.Holdings.{Holdings};
 ghost use Rattle.edf_store.specs.Fault.{IsStoreRefusal};
 ghost use Rattle.edf_store.specs.Held.{at, Holds, KeepsHoldings};
-ghost use Rattle.edf_store.specs.Overview.{IsSummary};
+ghost use Rattle.edf_store.specs.Summaries.{IsSummary};
 ghost use Rattle.edf_command.specs.Lines.{list_line, first_list_lines, list_refused_line};
 ghost use Rattle.edf_program.specs.Output.{output_change, Gets, IsLineWritten, AreLinesWritten};
 ghost use Rattle.edf_program.specs.Output.{IsWritten};

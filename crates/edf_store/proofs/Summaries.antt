@@ -23,10 +23,10 @@ use Rattle.edf_tables.specs.Records.{records_of, shown_record, IsReady, HaveRisi
 use Rattle.edf_header.specs.declared.limits.TheConstants.{MOST_RECORDS}
 use Rattle.edf_rows.specs.Cells.{record_cells}
 use Rattle.edf_rows.specs.Rows.{HasRecordingRow, RepresentCommitted}
-use Rattle.edf_store.specs.Overview.{IsSummary, start_at}
+use Rattle.edf_store.specs.Summaries.{IsSummary, start_at}
 use Rattle.edf_store.specs.Held.{AreHeld}
 use Rattle.edf_store.specs.Inside.Settled.{IsSettled}
-use Rattle.edf_store.specs.declared.overview.Summary.{Summary}
+use Rattle.edf_store.specs.declared.summaries.Summary.{Summary}
 use Rattle.edf_store.proofs.StoredRows.{Show, show_from, from_show}
 use Rattle.edf_store.proofs.Standing.{shown_of}
 use Rattle.edf_store.proofs.Near.{count_shown, rows_rising}

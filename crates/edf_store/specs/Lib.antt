@@ -3,7 +3,7 @@ pub mod Held
 pub mod Call
 pub mod Transaction
 pub mod StoreTx
-pub mod Overview
+pub mod Summaries
 pub mod Walk
 pub mod Open
 pub mod Inside

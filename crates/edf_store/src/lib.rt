@@ -16,15 +16,15 @@ mod decode;
 mod ending;
 mod fault;
 pub mod laws;
-mod overview;
 mod reading;
 mod ready;
 mod records;
 mod store;
+mod summaries;
 mod transaction;
 
 pub use fault::StoreFault;
-pub use overview::Summary;
 pub use records::Records;
 pub use store::Store;
+pub use summaries::Summary;
 pub use transaction::{RecordingId, StoreTx};

@@ -14,8 +14,8 @@ ghost use Rattle.edf_store.specs.Inside.Rows.{ReadsOurRows};
 
 use crate::decode::records_in;
 use crate::fault::RowFault;
-use crate::overview::instant_in;
 use crate::store::Store;
+use crate::summaries::instant_in;
 use edf_fragment::Record;
 use edf_tables::{count_rows, first_start, last_start, near_rows};
 use edf_time::Instant;

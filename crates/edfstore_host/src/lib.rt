@@ -12,16 +12,16 @@
 #![tactic(auto)]
 
 mod cache;
+mod cache_size;
 mod cause;
 mod ended;
 mod heap;
 mod memory;
 mod opening;
 mod path;
-mod room;
 mod running;
+mod same_files;
 mod spare;
-mod standing;
 mod waiting;
 
 pub use cause::{Refused, print_cause, print_failure_of, print_lost};
@@ -30,8 +30,8 @@ use edf_fragment::Counted;
 use edf_system::{Files, Streams, Terminal, refuse_words, words};
 pub use opening::{Again, open_standing, open_when_free};
 use running::run_over_store;
+pub use same_files::Standing;
 use sqlite::Unknown;
-pub use standing::Standing;
 use std::process::ExitCode;
 
 /// The terminal of a command, which shows a person how far `take` is.

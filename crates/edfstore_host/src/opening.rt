@@ -7,10 +7,10 @@ ghost use Rattle.edf_command.specs.Arguments.{meaning};
 ghost use Rattle.edf_program_run.specs.ProgramRun.{IsOfNoFiles, IsOpening};
 ghost use Rattle.edfstore_host.specs.OnFile.{OnlyReads};
 
+use crate::cache_size::pages_at;
 use crate::heap::give_back;
-use crate::room::pages_at;
+use crate::same_files::Standing;
 use crate::spare::without_spares;
-use crate::standing::Standing;
 use crate::waiting::{TRIES, is_held, pause};
 use edf_command::Order;
 use edf_program_run::open_path;

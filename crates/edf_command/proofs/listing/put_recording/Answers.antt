@@ -1,7 +1,7 @@
 use Rattle.std.proofs.Common.{Option, subst}
 use Rattle.std.proofs.lemmas.Result.{IfOk-weaker}
-use Rattle.edf_store.specs.Overview.{IsSummary}
-use Rattle.edf_store.specs.declared.overview.Summary.{Summary}
+use Rattle.edf_store.specs.Summaries.{IsSummary}
+use Rattle.edf_store.specs.declared.summaries.Summary.{Summary}
 use Rattle.edf_command.specs.Lines.{list_line}
 use Rattle.edf_command.proofs.listing.put_recording.Goals as goal
 

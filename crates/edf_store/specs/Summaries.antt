@@ -7,7 +7,7 @@ use Rattle.edf_fragment.specs.Fragment.{DataRecord}
 use Rattle.edf_holdings.specs.Holdings.{Holdings}
 use Rattle.edf_holdings.specs.Keys.{AreKeysOf}
 use Rattle.edf_store.specs.Held.{StoreModel, Holds}
-use Rattle.edf_store.specs.declared.overview.Summary.{Summary}
+use Rattle.edf_store.specs.declared.summaries.Summary.{Summary}
 
 -- these are the keys that hold records
 abbrev pub AreKeysHeld : {S : Type 0} → Ghosts S → StoreModel S → List Key → Type 0

@@ -1,7 +1,7 @@
 use Rattle.std.proofs.Common.{◌≡◌, map, take}
 use Rattle.std.specs.List.{AllByRecursion}
 use Rattle.edf_header.specs.Key.{IsKey, key_bytes}
-use Rattle.edf_store.proofs.overview.identities_in.Given as goal
+use Rattle.edf_store.proofs.summaries.identities_in.Given as goal
 
 abbrev pub invariant-loop-bytes : goal.invariant-loop-bytes
 invariant-loop-bytes l =

@@ -6,7 +6,7 @@ use Rattle.sqlite.specs.declared.error.ErrorCode.TheVariants.{OutOfMemory}
 use Rattle.edf_store.specs.declared.fault.RowFault.{RowFault}
 use Rattle.edf_store.specs.declared.fault.RowFault.TheVariants as row
 use Rattle.edf_store.proofs.KeysRead.{IsOfKey, all_index, refused_for_memory}
-use Rattle.edf_store.proofs.overview.identities_in.Goals as goal
+use Rattle.edf_store.proofs.summaries.identities_in.Goals as goal
 
 pub returns-in_err-identity : goal.returns-in_err-identity
 returns-in_err-identity c =

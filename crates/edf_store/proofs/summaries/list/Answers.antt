@@ -4,7 +4,7 @@ use Rattle.sqlite.specs.State.{HasCleanDisk}
 use Rattle.edf_store.proofs.Readiness.{named_apart, held_now, stays_so}
 use Rattle.edf_store.proofs.Faults.{on_ok, on_refused, match_cases}
 use Rattle.edf_store.proofs.KeysRead.{keys_read, identities_of_keys}
-use Rattle.edf_store.proofs.overview.list.Goals as goal
+use Rattle.edf_store.proofs.summaries.list.Goals as goal
 
 pub identities-requires : goal.identities-requires
 identities-requires g c =

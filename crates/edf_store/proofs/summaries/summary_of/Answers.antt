@@ -8,7 +8,7 @@ use Rattle.edf_store.proofs.Held.{still_sound}
 use Rattle.edf_store.proofs.Readiness.{stays_so, three_survive, three_keep}
 use Rattle.edf_store.proofs.Summaries.{ready_at, still_ready, summary_read, bounds_read}
 use Rattle.edf_store.proofs.Faults.{on_ok, on_refused, match_both}
-use Rattle.edf_store.proofs.overview.summary_of.Goals as goal
+use Rattle.edf_store.proofs.summaries.summary_of.Goals as goal
 
 pub first_start-requires : goal.first_start-requires
 first_start-requires g c =

@@ -9,7 +9,7 @@ ghost use Rattle.edf_header.specs.Key.{Key, IsKey, key_bytes};
 ghost use Rattle.edf_holdings.specs.Holdings.{Holdings};
 ghost use Rattle.edf_rows.specs.Rows.{HasRecordingRow};
 ghost use Rattle.edf_store.specs.Held.{at, Holds};
-ghost use Rattle.edf_store.specs.Overview.{AreKeysHeld, IsSummary, IsSummaryOf};
+ghost use Rattle.edf_store.specs.Summaries.{AreKeysHeld, IsSummary, IsSummaryOf};
 ghost use Rattle.edf_store.specs.Call.{AnswersWith, IsUnclean, ReadsOutsideTransaction};
 ghost use Rattle.edf_store.specs.Call.{IsRefusedIfBusy};
 ghost use Rattle.edf_store.specs.Inside.Settled.{IsAtRest};
