@@ -78,7 +78,7 @@ programs_digest() {
 
 # The version that the sources say. One under development ends in -dev.
 source_version() {
-  sed -n 's/^pub const VERSION: &str = "\(.*\)";$/\1/p' "$top/crates/edf_program/src/words.rt"
+  sed -n 's/^pub const VERSION: &str = "\(.*\)";$/\1/p' "$top/crates/edf_cli/src/words.rt"
 }
 
 # What a package has below its folder of documents: the licences, README, the documents and the

@@ -3,7 +3,7 @@
     python3 -m checks.told [--control]
 
 A fault of form has its number, its name, its place and its sentence in the crate that finds it, and
-what to do in the table of a terminal, crates/edf_system/src/advice.rt. The list of docs/REFUSALS.md
+what to do in the table of a terminal, crates/edf_os/src/advice.rt. The list of docs/REFUSALS.md
 must have each of these numbers once, with that name, those details, those sentences and those
 words, and a line of `edfmend` just where the table has a row for files that no rule mended. E1 to
 E29 are all of form. A line names each fault of which this is not so. --control looks at lists that
@@ -83,7 +83,7 @@ def found_in(crate: str, name: str, before: tuple = ()) -> dict:
 
 def rows(faults: dict) -> None:
     """Adds what the table of a terminal has of each fault."""
-    text = source("edf_system", "advice")
+    text = source("edf_os", "advice")
     by_name = {fault.name: fault for fault in faults.values()}
     for enum, variant, kind, words in ROW.findall(text):
         said = plain(words)

@@ -16,16 +16,16 @@ use Rattle.std.specs.Prelude.{Err, String, string_bytes, suc}
 use Rattle.std.proofs.lemmas.List.{length-map}
 use Rattle.edf_command.specs.Arguments.{AreValues, AskForHelp, AskForNoHelp, WordsParseToNothing}
 use Rattle.edf_command.specs.Arguments.{request, texts}
-use Rattle.edf_program.specs.Words.{IsNoUsage}
+use Rattle.edf_cli.specs.Words.{IsNoUsage}
 use Rattle.edf_command.specs.Inside.Matches.{asked_in}
 use Rattle.edf_command.specs.Inside.Read.{AreWordsRead}
 use Rattle.edf_command.proofs.Levels.{simple}
 use Rattle.edf_command.proofs.Told.{told}
 use Rattle.edf_command.proofs.Requests.{requested}
 use Rattle.edf_command.proofs.Values.{and_left, and_right}
-use Rattle.edf_program.specs.Words.{is_mistake}
-use Rattle.edf_program.specs.declared.words.CommandFault.{CommandFault}
-use Rattle.edf_program.specs.declared.words.CommandFault.TheVariants as fault
+use Rattle.edf_cli.specs.Words.{is_mistake}
+use Rattle.edf_cli.specs.declared.words.CommandFault.{CommandFault}
+use Rattle.edf_cli.specs.declared.words.CommandFault.TheVariants as fault
 use Rattle.clap.specs.Kinds.{IsAmong, Kinds}
 use Rattle.clap.specs.declared.error.kind.ErrorKind.{ErrorKind}
 use Rattle.std.specs.List.{list_all}

@@ -7,7 +7,7 @@ use Rattle.clap.specs.Faults.{fault_of, flags_fault, walk_fault}
 use Rattle.clap.specs.declared.error.kind.ErrorKind.{ErrorKind}
 use Rattle.clap.specs.declared.error.kind.ErrorKind.TheVariants as kind
 use Rattle.edf_command.specs.Inside.Commands.{edfstore_app}
-use Rattle.edf_program.specs.Words.{is_mistake}
+use Rattle.edf_cli.specs.Words.{is_mistake}
 use Rattle.edf_command.specs.Arguments.{BeginWithHelpOrVersion, IsOneOf, commands, help_flags}
 use Rattle.edf_command.proofs.Told.{named_fault}
 

@@ -14,7 +14,7 @@ use Rattle.clap.specs.declared.error.kind.ErrorKind.{ErrorKind}
 use Rattle.clap.specs.declared.error.kind.ErrorKind.TheVariants as kind
 use Rattle.edf_command.specs.Inside.Commands.{edfstore_app}
 use Rattle.edf_command.specs.Arguments.{request, begin_with_help, is_value}
-use Rattle.edf_program.specs.Words.{is_mistake}
+use Rattle.edf_cli.specs.Words.{is_mistake}
 use Rattle.edf_command.specs.Inside.Matches.{asked_in}
 use Rattle.edf_command.proofs.Values.{and_left, and_right, is_value_is}
 use Rattle.edf_command.proofs.Levels.{level_by, top}

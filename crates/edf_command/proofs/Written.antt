@@ -11,7 +11,7 @@ use Rattle.std.proofs.lemmas.Slice.Zip.{length-zip, get_or-zip}
 use Rattle.edf_intake.specs.Refusal.{Answer}
 use Rattle.edf_header.specs.Key.{Key}
 use Rattle.edf_holdings.specs.Holdings.{Holdings}
-use Rattle.edf_program.proofs.Parts.{lines-more, lines-split}
+use Rattle.edf_cli.proofs.Parts.{lines-more, lines-split}
 use Rattle.edf_command.specs.Lines.{list_line, list_lines, first_list_lines, take_line}
 use Rattle.edf_command.specs.Lines.{first_take_lines}
 

@@ -6,11 +6,11 @@ use Rattle.std.specs.Str.{bytes_eq}
 use Rattle.edf_command.specs.Arguments.{Request, Text, AreValues, WordsParseTo, WordsParseToNothing}
 use Rattle.edf_command.specs.Arguments.Request.{take, list, export, convert}
 use Rattle.edf_command.specs.declared.order.Order.{Order}
-use Rattle.edf_program.specs.Output.{OutputChange, Gets}
-use Rattle.edf_program.specs.Words.{IsCommandFaultPrinted}
-use Rattle.edf_program.specs.declared.status.Status.{Status}
-use Rattle.edf_program.specs.declared.words.CommandFault.{CommandFault}
-use Rattle.edf_program.specs.declared.words.CommandFault.TheVariants.{Memory}
+use Rattle.edf_cli.specs.Output.{OutputChange, Gets}
+use Rattle.edf_cli.specs.Words.{IsCommandFaultPrinted}
+use Rattle.edf_cli.specs.declared.status.Status.{Status}
+use Rattle.edf_cli.specs.declared.words.CommandFault.{CommandFault}
+use Rattle.edf_cli.specs.declared.words.CommandFault.TheVariants.{Memory}
 
 -- the path of a store's file; `:memory:` has none
 abbrev pub path_of : Text → Option Text

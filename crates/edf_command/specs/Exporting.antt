@@ -13,9 +13,9 @@ use Rattle.edf_export.specs.Export.{IsExported, IsNotExported, CountsExportFault
 use Rattle.edf_export.specs.declared.fault.ExportFault.{ExportFault}
 use Rattle.edf_export.specs.declared.fault.ExportFault.TheVariants.{Store}
 use Rattle.edf_command.specs.Lines.{no_recording_line, export_refused_line, export_status}
-use Rattle.edf_program.specs.Output.{OutputChange, Gets, IsWritten, Explains}
-use Rattle.edf_program.specs.declared.status.Status.{Status}
-use Rattle.edf_program.specs.declared.status.Status.TheVariants.{Done, Refused}
+use Rattle.edf_cli.specs.Output.{OutputChange, Gets, IsWritten, Explains}
+use Rattle.edf_cli.specs.declared.status.Status.{Status}
+use Rattle.edf_cli.specs.declared.status.Status.TheVariants.{Done, Refused}
 
 -- the key at a place of the list, from 1
 abbrev pub at_place : List Key → ℕ → Option Key

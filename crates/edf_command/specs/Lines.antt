@@ -13,10 +13,10 @@ use Rattle.edf_intake.specs.declared.answer.Refusal.{Refusal}
 use Rattle.edf_export.specs.Export.{export_fault_number, export_fault_name}
 use Rattle.edf_export.specs.declared.fault.ExportFault.{ExportFault}
 use Rattle.edf_command.specs.Refusals.{refusal_text}
-use Rattle.edf_program.specs.Text.{fault_text, refused_line, memory_line}
-use Rattle.edf_program.specs.Status.{status_of_number, worse}
-use Rattle.edf_program.specs.declared.status.Status.{Status}
-use Rattle.edf_program.specs.declared.status.Status.TheVariants.{Done}
+use Rattle.edf_cli.specs.Text.{fault_text, refused_line, memory_line}
+use Rattle.edf_cli.specs.Status.{status_of_number, worse}
+use Rattle.edf_cli.specs.declared.status.Status.{Status}
+use Rattle.edf_cli.specs.declared.status.Status.TheVariants.{Done}
 
 -- ---- take
 

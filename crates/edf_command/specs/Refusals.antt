@@ -4,7 +4,7 @@ use Rattle.std.specs.Prelude.{ℕ, List, [], ◌++◌, codes, decimal}
 use Rattle.edf_intake.specs.Refusal.{refusal_number, refusal_name}
 use Rattle.edf_intake.specs.declared.answer.Refusal.{Refusal}
 use Rattle.edf_intake.specs.declared.answer.Refusal.TheVariants as refusal
-use Rattle.edf_program.specs.Text.{fault_text, fragment_details}
+use Rattle.edf_cli.specs.Text.{fault_text, fragment_details}
 
 -- what a refusal names; one for form what its fault does
 abbrev pub details : (ℕ → List ℕ) → Refusal → List ℕ

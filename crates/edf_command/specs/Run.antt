@@ -11,16 +11,16 @@ use Rattle.edf_intake.specs.declared.answer.Receipt.{Receipt}
 use Rattle.edf_intake.specs.declared.answer.Refusal.{Refusal}
 use Rattle.edf_command.specs.Arguments.{Request}
 use Rattle.edf_command.specs.Arguments.Request.{take, list, export, convert}
-use Rattle.edf_program.specs.Text.{IsInstantFormat}
+use Rattle.edf_cli.specs.Text.{IsInstantFormat}
 use Rattle.edf_command.specs.Lines.{refused_file_line}
 use Rattle.edf_command.specs.Taking.{IsTaken}
 use Rattle.edf_command.specs.Listing.{AreRecordingsListed}
 use Rattle.edf_command.specs.Exporting.{IsRecordingExported, ReportsExport, IsPlaceExported}
-use Rattle.edf_program.specs.Status.{status_of_number}
-use Rattle.edf_program.specs.Text.{memory_line}
-use Rattle.edf_program.specs.Output.{OutputChange, Gets, IsLinePrinted, Explains}
-use Rattle.edf_program.specs.declared.status.Status.{Status}
-use Rattle.edf_program.specs.declared.status.Status.TheVariants.{Trouble}
+use Rattle.edf_cli.specs.Status.{status_of_number}
+use Rattle.edf_cli.specs.Text.{memory_line}
+use Rattle.edf_cli.specs.Output.{OutputChange, Gets, IsLinePrinted, Explains}
+use Rattle.edf_cli.specs.declared.status.Status.{Status}
+use Rattle.edf_cli.specs.declared.status.Status.TheVariants.{Trouble}
 
 -- the files that a command names, in the order of the words
 abbrev pub files_of : Request → List (List ℕ)

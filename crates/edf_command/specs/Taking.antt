@@ -5,11 +5,11 @@ use Rattle.edf_fragment.specs.Call.{InputState}
 use Rattle.edf_store.specs.Held.{StoreModel}
 use Rattle.edf_intake.specs.Refusal.{Answer}
 use Rattle.edf_intake.specs.Batch.{AreSubmitted, AnswersAll}
-use Rattle.edf_program.specs.Text.{IsInstantFormat}
+use Rattle.edf_cli.specs.Text.{IsInstantFormat}
 use Rattle.edf_command.specs.Lines.{first_take_lines, take_status, take_memory_line}
-use Rattle.edf_program.specs.Output.{OutputChange, Gets, AreLinesPrinted, Explains}
-use Rattle.edf_program.specs.declared.status.Status.{Status}
-use Rattle.edf_program.specs.declared.status.Status.TheVariants.{Trouble}
+use Rattle.edf_cli.specs.Output.{OutputChange, Gets, AreLinesPrinted, Explains}
+use Rattle.edf_cli.specs.declared.status.Status.{Status}
+use Rattle.edf_cli.specs.declared.status.Status.TheVariants.{Trouble}
 
 -- just the first of these names were opened, each once, in their order
 pub record OpensPrefix (before after names : List (List ℕ)) : Type 0 where

@@ -5,14 +5,14 @@ ghost use Rattle.edf_command.specs.Inside.Commands.{Reads, edfstore_app};
 ghost use Rattle.edf_command.specs.Inside.Read.{AreWordsRead};
 ghost use Rattle.edf_command.specs.Arguments.{AreValues, WordsParseTo, AskForHelp, AskForNoHelp};
 ghost use Rattle.edf_command.specs.Arguments.{WordsParseToNothing};
-ghost use Rattle.edf_program.specs.Words.{IsNoHelp, IsNoUsage};
+ghost use Rattle.edf_cli.specs.Words.{IsNoHelp, IsNoUsage};
 
 use crate::commands::{edfstore_command, export_command};
 use crate::help::BAD_PLACE;
 use crate::matches::order_in;
 use crate::order::Order;
 use clap::Command;
-use edf_program::{CommandFault, fault_by, refuse_value};
+use edf_cli::{CommandFault, fault_by, refuse_value};
 use std::alloc::{AllocError, Global};
 
 /// What the words ask for. `None` where all is well but a PLACE, which `clap` takes as text.

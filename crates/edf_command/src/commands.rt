@@ -9,7 +9,7 @@ ghost use Rattle.edf_command.specs.Inside.Commands.{edfstore_top, files_rule, re
 
 use crate::help;
 use clap::{Arg, ArgAction, Command};
-use edf_program::VERSION;
+use edf_cli::VERSION;
 use std::alloc::{AllocError, Global};
 
 /// A value that must be given.

@@ -1,16 +1,16 @@
 //! `convert`: one file to its canonical form.
 
 ghost use Rattle.std.specs.Prelude.{◌≡◌, ◌∷◌, [], ℕ, List};
-ghost use Rattle.edf_program.specs.Output.{output_change};
+ghost use Rattle.edf_cli.specs.Output.{output_change};
 ghost use Rattle.edf_command.specs.Run.{IsConverted};
 ghost use Rattle.edf_command.specs.Taking.{HasOpened};
 
 use crate::exporting::export_recording;
 use crate::refusal::remark_of;
 use crate::taking::refused_file_line;
+use edf_cli::{Inputs, Status, print_memory, print_text, status_of_number};
 use edf_fragment::Output;
 use edf_intake::submit;
-use edf_program::{Inputs, Status, print_memory, print_text, status_of_number};
 use edf_store::Store;
 use sqlite::Alter;
 use std::alloc::Global;

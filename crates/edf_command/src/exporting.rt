@@ -5,14 +5,14 @@ ghost use Rattle.sqlite.specs.State.{HasCleanDisk};
 ghost use Rattle.edf_holdings.specs.Holdings.{Holdings};
 ghost use Rattle.edf_store.specs.Held.{at, Holds, KeepsHoldings};
 ghost use Rattle.edf_command.specs.Lines.{export_refused_line, export_status, no_recording_line};
-ghost use Rattle.edf_program.specs.Output.{output_change, IsWritten};
+ghost use Rattle.edf_cli.specs.Output.{output_change, IsWritten};
 ghost use Rattle.edf_command.specs.Exporting.{IsRecordingExported, IsPlaceExported, ReportsExport};
 ghost use Rattle.edf_command.specs.Exporting.{at_place};
 
+use edf_cli::{Status, print_parts, print_refused, status_of_number};
 use edf_export::{ExportFault, export};
 use edf_fragment::Output;
 use edf_header::Identity;
-use edf_program::{Status, print_parts, print_refused, status_of_number};
 use edf_store::Store;
 use itoa::Buffer;
 use sqlite::Alter;

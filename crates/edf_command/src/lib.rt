@@ -29,7 +29,7 @@ mod running;
 mod taking;
 
 pub use command_line::parse;
-pub use edf_program::{CommandFault, Inputs, Status};
+pub use edf_cli::{CommandFault, Inputs, Status};
 pub use exporting::{export_place, print_no_recording};
 pub use listing::list;
 pub use order::Order;

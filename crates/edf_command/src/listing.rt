@@ -9,14 +9,14 @@ ghost use Rattle.edf_store.specs.Fault.{IsStoreRefusal};
 ghost use Rattle.edf_store.specs.Held.{at, Holds, KeepsHoldings};
 ghost use Rattle.edf_store.specs.Summaries.{IsSummary};
 ghost use Rattle.edf_command.specs.Lines.{list_line, first_list_lines, list_refused_line};
-ghost use Rattle.edf_program.specs.Output.{output_change, Gets, IsLineWritten, AreLinesWritten};
-ghost use Rattle.edf_program.specs.Output.{IsWritten};
-ghost use Rattle.edf_program.specs.Text.{IsInstantFormat};
+ghost use Rattle.edf_cli.specs.Output.{output_change, Gets, IsLineWritten, AreLinesWritten};
+ghost use Rattle.edf_cli.specs.Output.{IsWritten};
+ghost use Rattle.edf_cli.specs.Text.{IsInstantFormat};
 ghost use Rattle.edf_command.specs.Listing.{AreHeldBy, AreRecordingsListed};
 
+use edf_cli::{Status, concat, print_refused, put_line, spelled};
 use edf_fragment::Output;
 use edf_header::Identity;
-use edf_program::{Status, concat, print_refused, put_line, spelled};
 use edf_store::{Store, StoreFault, Summary};
 use sqlite::Alter;
 use std::alloc::{AllocError, Global};

@@ -5,12 +5,12 @@ ghost use Rattle.std.specs.Prelude.{◌≡◌, option_map};
 ghost use Rattle.edf_command.specs.Arguments.{meaning};
 ghost use Rattle.edf_command.specs.Command.{IsCommandRead, store_path};
 ghost use Rattle.edf_command.specs.Lines.{store_refused_line, store_not_closed_line};
-ghost use Rattle.edf_program.specs.Output.{output_change, IsWritten};
+ghost use Rattle.edf_cli.specs.Output.{output_change, IsWritten};
 
 use crate::command_line::parse;
 use crate::order::Order;
+use edf_cli::{Status, print_fault, print_parts, print_refused};
 use edf_fragment::Output;
-use edf_program::{Status, print_fault, print_parts, print_refused};
 use edf_store::StoreFault;
 use itoa::Buffer;
 use std::alloc::Global;

@@ -2,11 +2,11 @@
 
 ghost use Rattle.std.specs.Prelude.{◌≡◌, ℕ, ◌++◌, List, IfOk, codes};
 ghost use Rattle.edf_command.specs.Refusals.{details, refusal_text};
-ghost use Rattle.edf_program.specs.Text.{IsInstantFormat};
+ghost use Rattle.edf_cli.specs.Text.{IsInstantFormat};
 
+use edf_cli::{concat, fragment_details, spelled};
 use edf_fragment::Remark;
 use edf_intake::Refusal;
-use edf_program::{concat, fragment_details, spelled};
 use edf_time::Instant;
 use std::alloc::{AllocError, Global};
 

@@ -2,7 +2,7 @@
 
 ghost use Rattle.std.specs.Prelude.{◌≡◌, ℕ, List};
 ghost use Rattle.edf_command.specs.Arguments.{meaning};
-ghost use Rattle.edf_program.specs.Output.{output_change};
+ghost use Rattle.edf_cli.specs.Output.{output_change};
 ghost use Rattle.edf_command.specs.Run.{IsDone, files_of};
 ghost use Rattle.edf_command.specs.Taking.{HasOpened};
 
@@ -11,8 +11,8 @@ use crate::exporting::export_place;
 use crate::listing::list;
 use crate::order::Order;
 use crate::taking::take;
+use edf_cli::{Inputs, Status};
 use edf_fragment::Output;
-use edf_program::{Inputs, Status};
 use edf_store::Store;
 use sqlite::Alter;
 use std::alloc::Global;

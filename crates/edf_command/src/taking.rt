@@ -5,13 +5,13 @@ ghost use Rattle.std.specs.Prelude.{string_bytes};
 ghost use Rattle.edf_command.specs.Lines.{accepted_line, refused_file_line, take_line};
 ghost use Rattle.edf_command.specs.Lines.{first_take_lines, answer_status, take_status};
 ghost use Rattle.edf_command.specs.Taking.{IsTaken, HasOpened, OpensPrefix};
-ghost use Rattle.edf_program.specs.Output.{output_change, IsLineWritten, AreLinesWritten};
-ghost use Rattle.edf_program.specs.Text.{IsInstantFormat};
+ghost use Rattle.edf_cli.specs.Output.{output_change, IsLineWritten, AreLinesWritten};
+ghost use Rattle.edf_cli.specs.Text.{IsInstantFormat};
 
 use crate::refusal::{refusal_text, remark_of};
+use edf_cli::{Inputs, Status, concat, print_memory, put_line, status_of_number, worse};
 use edf_fragment::Output;
 use edf_intake::{Receipt, Refusal, submit_all};
-use edf_program::{Inputs, Status, concat, print_memory, put_line, status_of_number, worse};
 use edf_store::Store;
 use sqlite::Alter;
 use std::alloc::{AllocError, Global};

@@ -4,7 +4,7 @@ use crate::files::file_named;
 use crate::folder::{Limits, free};
 use crate::shelf::Shelf;
 use crate::stage::{outcome_of, story};
-use edf_program::Status;
+use edf_cli::Status;
 use std::alloc::Global;
 
 /// One of the commands that read twice.

@@ -2,8 +2,8 @@
 
 ghost use Rattle.std.specs.Prelude.{◌≡◌, [], None, Some, true, IfOk};
 
+use edf_cli::{MadeFiles, NewFiles, Unfinished};
 use edf_fragment::{Output, saturating_increment};
-use edf_program::{MadeFiles, NewFiles, Unfinished};
 use std::alloc::Global;
 use std::io;
 

@@ -4,8 +4,8 @@ ghost use Rattle.std.specs.Prelude.{None, map, string_bytes};
 
 use crate::files::two_gaps;
 use crate::folder::{Folder, free};
+use edf_cli::{Inputs, Status};
 use edf_fragment::Counted;
-use edf_program::{Inputs, Status};
 use edf_sample::{Scarce, Sink, Source};
 use edfruns_command::{RunsCommand, run_runs};
 use std::alloc::{AllocError, Global};

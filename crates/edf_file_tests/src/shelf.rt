@@ -3,8 +3,8 @@
 ghost use Rattle.std.specs.Prelude.{None, map, string_bytes};
 
 use crate::files::file_named;
+use edf_cli::Inputs;
 use edf_fragment::Counted;
-use edf_program::Inputs;
 use std::alloc::{AllocError, Global};
 use std::io::{self, Read};
 

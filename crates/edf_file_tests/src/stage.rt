@@ -2,8 +2,8 @@
 
 use crate::folder::{Folder, Limits, free};
 use crate::shelf::Shelf;
+use edf_cli::Status;
 use edf_fragment::{Counted, Output};
-use edf_program::Status;
 use edf_sample::Sink;
 use std::alloc::Global;
 

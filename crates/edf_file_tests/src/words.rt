@@ -2,8 +2,8 @@
 //! pictures are SVG. And the text of a fault.
 
 use crate::stage::plain_story;
+use edf_cli::VERSION;
 use edf_header::{Format, HeaderFault};
-use edf_program::VERSION;
 use std::alloc::Global;
 
 /// A line of words, and how what it prints begins and ends.

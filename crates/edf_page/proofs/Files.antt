@@ -16,17 +16,17 @@ use Rattle.edf_fragment.proofs.OneFragment.{one-fragment}
 use Rattle.edf_holdings.specs.Holdings.{Holdings}
 use Rattle.edf_store.specs.Held.{StoreModel, KeepsHoldings}
 use Rattle.edf_canonical.proofs.Files.{its-own}
-use Rattle.edf_program.specs.Making.{Making}
+use Rattle.edf_cli.specs.Making.{Making}
 use Rattle.edf_canonical.specs.File.{IsCanonicalFile}
 use Rattle.edf_export.specs.Export.{IsExported}
 use Rattle.edf_export.specs.Headline.{IsOnlyFile}
 use Rattle.edf_runs.specs.ByOnset.{annotations_of}
 use Rattle.edf_runs.specs.Runs.{AreListed}
 use Rattle.edf_runs.specs.declared.run_list.Listing.{Listing}
-use Rattle.edf_program.specs.Output.{OutputChange, Gets, AreLinesPrinted, IsWritten}
-use Rattle.edf_program.specs.Status.{is_trouble, status_of_number, worse}
-use Rattle.edf_program.specs.declared.status.Status.{Status}
-use Rattle.edf_program.specs.declared.status.Status.TheVariants.{Done, Refused, Usage, Trouble}
+use Rattle.edf_cli.specs.Output.{OutputChange, Gets, AreLinesPrinted, IsWritten}
+use Rattle.edf_cli.specs.Status.{is_trouble, status_of_number, worse}
+use Rattle.edf_cli.specs.declared.status.Status.{Status}
+use Rattle.edf_cli.specs.declared.status.Status.TheVariants.{Done, Refused, Usage, Trouble}
 use Rattle.edf_command.specs.Lines.{list_lines, first_list_lines}
 use Rattle.edf_command.specs.Listing.{ListsAll, StopsListing}
 use Rattle.edf_sleep.specs.Night.{AreOfFile}

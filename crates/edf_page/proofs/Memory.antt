@@ -9,8 +9,8 @@ use Rattle.edf_header.specs.declared.limits.TheConstants.{MOST_RECORDS}
 use Rattle.edf_holdings.specs.Holdings.{nothing_held}
 use Rattle.edf_store.specs.Held.{StoreModel}
 use Rattle.edf_store.specs.Open.{IsOpened}
-use Rattle.edf_program_run.specs.Files.{no_table}
-use Rattle.edf_program_run.proofs.Keeping.{opened_holds}
+use Rattle.edfstore_files.specs.Files.{no_table}
+use Rattle.edfstore_files.proofs.Keeping.{opened_holds}
 use Rattle.edf_page.specs.Inside.{HasIn}
 
 pub stays_clean : (conn : Held MemStore) → HasCleanDisk (state over_memory conn)

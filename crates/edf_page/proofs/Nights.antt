@@ -33,11 +33,11 @@ use Rattle.edf_export.proofs.Headline.{tells-one}
 use Rattle.edf_runs.specs.Runs.{StartFrom, IsListed, IsRuns, AreListed}
 use Rattle.edf_runs.specs.declared.run.Run.{Run}
 use Rattle.edf_runs.proofs.Parts.{one-runs}
-use Rattle.edf_program.specs.Output.{OutputChange, Explains}
-use Rattle.edf_program.specs.Status.{worse}
-use Rattle.edf_program.specs.Text.{IsInstantFormat}
-use Rattle.edf_program.specs.declared.status.Status.{Status}
-use Rattle.edf_program.specs.declared.status.Status.TheVariants.{Done, Refused, Usage, Trouble}
+use Rattle.edf_cli.specs.Output.{OutputChange, Explains}
+use Rattle.edf_cli.specs.Status.{worse}
+use Rattle.edf_cli.specs.Text.{IsInstantFormat}
+use Rattle.edf_cli.specs.declared.status.Status.{Status}
+use Rattle.edf_cli.specs.declared.status.Status.TheVariants.{Done, Refused, Usage, Trouble}
 use Rattle.edf_command.specs.Lines.{accepted_line, refused_file_line, take_line, take_lines}
 use Rattle.edf_command.specs.Lines.{first_take_lines, answer_status, take_status, list_lines}
 use Rattle.edf_command.specs.Taking.{IsTaken}

@@ -2,7 +2,7 @@
 use Rattle.std.proofs.Common.{◌≡◌, ℕ, ◌<◌, List, [], ◌∷◌, ◌++◌, length, map, set, get_or, refl, sym}
 use Rattle.std.proofs.Common.{Bool, true, false, if◌then◌else◌, ap, ◌∙◌}
 use Rattle.std.proofs.lemmas.List.{map-set, get_or-map}
-use Rattle.edf_program.specs.Made.{MadeFile}
+use Rattle.edf_cli.specs.Made.{MadeFile}
 use Rattle.edf_page.specs.Programs.{finished_of, is_finished}
 
 -- ---- an element is replaced

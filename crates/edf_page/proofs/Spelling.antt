@@ -3,7 +3,7 @@ use Rattle.std.proofs.Common.{ℕ, ◌<◌, List, []}
 use native.Mathlib.Decide.{dec_lt}
 use Rattle.edf_time.specs.Civil.{window, IsInstantText}
 use Rattle.edf_time.proofs.SomeText.{instant-text}
-use Rattle.edf_program.specs.Text.{IsInstantFormat}
+use Rattle.edf_cli.specs.Text.{IsInstantFormat}
 
 pub some_text : (instant : ℕ) → (text : List ℕ) × (instant < window → IsInstantText text instant)
 some_text instant = elim (dec_lt instant window) [

@@ -17,7 +17,7 @@ use Rattle.edf_intake.specs.Batch.{SubmitsOne}
 use Rattle.edf_intake.proofs.Batches.{in_turn, answers_all}
 use Rattle.edf_intake.specs.Refusal.{Answer, reply_of}
 use Rattle.edf_intake.specs.declared.answer.Refusal.TheVariants as refusal
-use Rattle.edf_program.specs.Text.{IsInstantFormat}
+use Rattle.edf_cli.specs.Text.{IsInstantFormat}
 use Rattle.edf_command.specs.Lines.{take_line}
 use Rattle.edf_page.specs.declared.given.GivenFile.{GivenFile}
 use Rattle.edf_page.specs.Night.{lines_by}

@@ -6,12 +6,12 @@ use Rattle.std.specs.Prelude.{String, bytes_eq}
 use Rattle.std.specs.Bool.{MatchBool, Decides}
 use Rattle.std.specs.Global.{Global}
 use Rattle.std.proofs.lemmas.Slice.Eq.{bytes_eq-Decides}
-use Rattle.edf_program.specs.Made.{MadeFile, made_file, begun, finished, removed}
-use Rattle.edf_program.specs.There.{Entry, There, IsVacant, MayBeThere, IsSame, IsNamed, HasName}
-use Rattle.edf_program.specs.There.{IsTakenAway}
-use Rattle.edf_program.specs.declared.new_files.FileStage.{FileStage}
-use Rattle.edf_program.specs.declared.new_files.Unfinished.{Unfinished}
-use Rattle.edf_program.specs.declared.new_files.Unfinished.TheVariants.{IsThere, Failed}
+use Rattle.edf_cli.specs.Made.{MadeFile, made_file, begun, finished, removed}
+use Rattle.edf_cli.specs.There.{Entry, There, IsVacant, MayBeThere, IsSame, IsNamed, HasName}
+use Rattle.edf_cli.specs.There.{IsTakenAway}
+use Rattle.edf_cli.specs.declared.new_files.FileStage.{FileStage}
+use Rattle.edf_cli.specs.declared.new_files.Unfinished.{Unfinished}
+use Rattle.edf_cli.specs.declared.new_files.Unfinished.TheVariants.{IsThere, Failed}
 use Rattle.edf_page.specs.InsideFolder.{is_among, last_held, there_in, unforgotten}
 use Rattle.edf_page.specs.Programs.{given_there}
 use Rattle.edf_page.proofs.LastHeld.{held-last, held-removed}

@@ -15,10 +15,10 @@ use Rattle.edf_store.specs.declared.fault.StoreFault.{StoreFault}
 use Rattle.edf_store.specs.declared.fault.StoreFault.TheVariants as fault
 use Rattle.edf_intake.specs.Refusal.{Answer, reply_of}
 use Rattle.edf_intake.specs.declared.answer.Refusal.TheVariants as refusal
-use Rattle.edf_program.specs.Making.{Making}
-use Rattle.edf_program.specs.Output.{OutputChange}
-use Rattle.edf_program.specs.Text.{IsInstantFormat}
-use Rattle.edf_program.specs.declared.status.Status.TheVariants.{Done}
+use Rattle.edf_cli.specs.Making.{Making}
+use Rattle.edf_cli.specs.Output.{OutputChange}
+use Rattle.edf_cli.specs.Text.{IsInstantFormat}
+use Rattle.edf_cli.specs.declared.status.Status.TheVariants.{Done}
 use Rattle.edf_command.specs.Lines.{list_lines}
 use Rattle.edf_export.specs.Headline.{IsOnlyFile}
 use Rattle.edf_runs.specs.declared.run_list.Listing.{Listing}

@@ -4,8 +4,8 @@ use Rattle.std.specs.Prelude.{ℕ, List, [], ◌∷◌, Bool, true, false, ◌&&
 use Rattle.std.specs.Prelude.{Option, Some, None, String, string_bytes, bytes_eq}
 use Rattle.std.specs.Global.{Global}
 use Rattle.std.specs.List.{list_any}
-use Rattle.edf_program.specs.Made.{MadeFile}
-use Rattle.edf_program.specs.There.{There}
+use Rattle.edf_cli.specs.Made.{MadeFile}
+use Rattle.edf_cli.specs.There.{There}
 
 -- the name is one of these
 abbrev pub is_among : List (String Global) → List ℕ → Bool

@@ -12,7 +12,7 @@ use Rattle.edf_holdings.specs.Holdings.{Holdings, nothing_held}
 use Rattle.edf_holdings.specs.Keys.{AreKeysOf}
 use Rattle.edf_holdings.specs.Reply.{after, replies}
 use Rattle.edf_intake.specs.Refusal.{Answer, reply_of}
-use Rattle.edf_program.specs.Text.{IsInstantFormat}
+use Rattle.edf_cli.specs.Text.{IsInstantFormat}
 use Rattle.edf_command.specs.Lines.{take_line, list_lines}
 use Rattle.edf_export.specs.Headline.{IsOnlyFile}
 use Rattle.edf_runs.specs.ByOnset.{annotations_of}

@@ -3,15 +3,15 @@ use Rattle.std.specs.Prelude.{◌≡◌, ◌⊎◌, ◌∷◌, [], ℕ, List, So
 use Rattle.std.specs.Prelude.{Bool, true, false, if◌then◌else◌, String, string_bytes, option_map}
 use Rattle.std.specs.Global.{Global}
 use Rattle.std.specs.List.{AllZip, flat_map}
-use Rattle.edf_program.specs.Made.{MadeFile, made_file}
-use Rattle.edf_program.specs.Making.{Making}
-use Rattle.edf_program.specs.There.{There}
-use Rattle.edf_program.specs.declared.new_files.FileStage.{FileStage}
-use Rattle.edf_program.specs.declared.new_files.FileStage.TheVariants.{Finished, Removed}
-use Rattle.edf_program.specs.Output.{OutputChange}
-use Rattle.edf_program.specs.Status.{exit_code}
-use Rattle.edf_program.specs.Words.{IsCommandFaultPrinted}
-use Rattle.edf_program.specs.declared.words.CommandFault.TheVariants as fault
+use Rattle.edf_cli.specs.Made.{MadeFile, made_file}
+use Rattle.edf_cli.specs.Making.{Making}
+use Rattle.edf_cli.specs.There.{There}
+use Rattle.edf_cli.specs.declared.new_files.FileStage.{FileStage}
+use Rattle.edf_cli.specs.declared.new_files.FileStage.TheVariants.{Finished, Removed}
+use Rattle.edf_cli.specs.Output.{OutputChange}
+use Rattle.edf_cli.specs.Status.{exit_code}
+use Rattle.edf_cli.specs.Words.{IsCommandFaultPrinted}
+use Rattle.edf_cli.specs.declared.words.CommandFault.TheVariants as fault
 use Rattle.edfmend_command.specs.Run.{IsMendDone}
 use Rattle.edfmend_command.specs.Run as mend
 use Rattle.edfmend_command.specs.Words.{Values, Mean, MeanNothing}

@@ -4,13 +4,13 @@ ghost use Rattle.std.specs.Prelude.{◌≡◌, ◌≤◌, ◌++◌, ◌∷◌, [
 ghost use Rattle.std.specs.Prelude.{Option, Some, None, MatchOption, MatchResult, OnOk, length};
 ghost use Rattle.std.specs.Prelude.{option_map, string_bytes};
 ghost use Rattle.std.specs.List.{AllZip};
-ghost use Rattle.edf_program.specs.Made.{MadeFile, made_file, begun, removed, WritesNone};
-ghost use Rattle.edf_program.specs.There.{HasName};
+ghost use Rattle.edf_cli.specs.Made.{MadeFile, made_file, begun, removed, WritesNone};
+ghost use Rattle.edf_cli.specs.There.{HasName};
 ghost use Rattle.edf_page.specs.InsideFolder.{last_held};
 ghost use Rattle.edf_page.specs.Programs.{IsGivenBack, IsWholeOrGone, finished_of, made_of};
 ghost use Rattle.edf_page.specs.declared.begun.NamedFile.{NamedFile};
 
-use edf_program::{FileStage, Unfinished};
+use edf_cli::{FileStage, Unfinished};
 use std::alloc::{AllocError, Global};
 use std::marker::Model;
 
@@ -34,7 +34,7 @@ struct BegunFile {
 
 impl BegunFile {
     ghost use Rattle.std.specs.Prelude.{◌≡◌, ◌↔◌, IsTrue, false};
-    ghost use Rattle.edf_program.specs.There.{HasName};
+    ghost use Rattle.edf_cli.specs.There.{HasName};
     ghost use Rattle.edf_page.specs.Programs.{made_of};
 
     /// Its writer was given back.
@@ -108,7 +108,7 @@ pub(crate) struct BegunFiles {
 
 impl Model for BegunFiles {
     ghost use Rattle.std.specs.Prelude.{List, map, option_map, string_bytes};
-    ghost use Rattle.edf_program.specs.Made.{MadeFile, made_file};
+    ghost use Rattle.edf_cli.specs.Made.{MadeFile, made_file};
 
     ghost Value = { List MadeFile };
 

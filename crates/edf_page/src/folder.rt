@@ -3,7 +3,7 @@
 ghost use Rattle.std.specs.Prelude.{◌≡◌, ◌++◌, ◌∷◌, [], ℕ, List, Bool, false, true, All, IfOk};
 ghost use Rattle.std.specs.Prelude.{◌||◌, IfErr, MatchResult, bytes_eq};
 ghost use Rattle.std.specs.List.{AllZip};
-ghost use Rattle.edf_program.specs.Made.{MadeFile, begun, WritesNone};
+ghost use Rattle.edf_cli.specs.Made.{MadeFile, begun, WritesNone};
 ghost use Rattle.edf_page.specs.InsideFolder.{is_among, unforgotten};
 ghost use Rattle.edf_page.specs.Programs.{IsGivenBack, IsWholeOrGone, finished_of};
 
@@ -11,8 +11,8 @@ use crate::begun::{BegunFiles, NamedFile};
 use crate::given::GivenFile;
 use crate::names::Names;
 use crate::text::Text;
+use edf_cli::{FileStage, NewFiles, Unfinished};
 use edf_fragment::saturating_increment;
-use edf_program::{FileStage, NewFiles, Unfinished};
 use std::alloc::{AllocError, Global};
 use std::io;
 

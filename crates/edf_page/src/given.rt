@@ -2,8 +2,8 @@
 
 ghost use Rattle.std.specs.Prelude.{◌≡◌, [], Some};
 
+use edf_cli::Inputs;
 use edf_fragment::Counted;
-use edf_program::Inputs;
 use std::alloc::{AllocError, Global};
 
 /// A file: its name, as lines have it, and its bytes.

@@ -4,7 +4,7 @@ ghost use Rattle.std.specs.Prelude.{◌≡◌, ◌∷◌, [], ℕ, List, None, I
 ghost use Rattle.edf_holdings.specs.Holdings.{Holdings, nothing_held};
 ghost use Rattle.edf_holdings.specs.Keys.{AreKeysOf};
 ghost use Rattle.edf_command.specs.Lines.{accepted_line, take_line};
-ghost use Rattle.edf_program.specs.Text.{IsInstantFormat};
+ghost use Rattle.edf_cli.specs.Text.{IsInstantFormat};
 ghost use Rattle.edf_export.specs.Headline.{IsOnlyFile};
 ghost use Rattle.edf_page.specs.Inside.{HasIn, HoldsStill, Submits, Takes, TakesGiven};
 ghost use Rattle.edf_page.specs.Inside.{ListsHeld, ExportsHeld, stop_in};

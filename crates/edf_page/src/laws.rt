@@ -1,7 +1,7 @@
 //! Laws of what comes of files: the contract of each function is laws, and its body does nothing.
 
 ghost use Rattle.std.specs.Prelude.{ℕ, List};
-ghost use Rattle.edf_program.specs.Text.{IsInstantFormat};
+ghost use Rattle.edf_cli.specs.Text.{IsInstantFormat};
 ghost use Rattle.edf_page.specs.Laws.{OneNightComes, TakeWritesLines, ListWritesRuns};
 ghost use Rattle.edf_page.specs.Laws.{FilesHaveFigures, StoppedAsRefused};
 

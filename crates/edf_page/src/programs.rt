@@ -9,7 +9,7 @@ use crate::begun::NamedFile;
 use crate::folder::Folder;
 use crate::given::{GivenFile, OneFile};
 use crate::text::Text;
-use edf_program::{CommandFault, Status, print_fault};
+use edf_cli::{CommandFault, Status, print_fault};
 use edfmend_command::{MendCommand, MendValues, command_of, run_mend};
 use edfruns_command::{RunsCommand, run_runs};
 use std::alloc::{AllocError, Global};

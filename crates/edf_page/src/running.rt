@@ -9,7 +9,7 @@ use crate::folder::Folder;
 use crate::given::{GivenFile, OneFile};
 use crate::stopped::Stopped;
 use crate::text::Text;
-use edf_program::Status;
+use edf_cli::Status;
 use edfruns_command::{RunsCommand, run_runs};
 use std::alloc::{AllocError, Global};
 

@@ -2,7 +2,7 @@
 
 ghost use Rattle.std.specs.Prelude.{◌≡◌, ◌∷◌, [], ◌++◌, IfOk, OnOk, map};
 ghost use Rattle.std.specs.List.{flat_map};
-ghost use Rattle.edf_program.specs.Status.{exit_code};
+ghost use Rattle.edf_cli.specs.Status.{exit_code};
 ghost use Rattle.edf_page.specs.Night.{pieces_of, pieces_of_one, taken_lines};
 ghost use Rattle.edf_page.specs.Programs.{pieces_of_file, pieces_of_ran};
 

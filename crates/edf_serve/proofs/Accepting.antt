@@ -5,7 +5,7 @@ use Rattle.edf_store.specs.Held.{StoreModel}
 use Rattle.edf_intake.specs.Refusal.{Answer}
 use Rattle.edf_intake.specs.Submitted.{IsSubmitted, IsEnded}
 use Rattle.edf_intake.specs.declared.answer.Receipt.{Receipt}
-use Rattle.edf_program.specs.Output.{OutputChange}
+use Rattle.edf_cli.specs.Output.{OutputChange}
 use Rattle.edf_serve.specs.Client.{HasAccepted, IsIdle}
 use Rattle.edf_serve.specs.Exchange.{IsWorked}
 use Rattle.edf_serve.specs.Line.{LineAsked}

@@ -3,10 +3,10 @@ use Rattle.std.proofs.Common.{◌≡◌, ℕ, List, [], ◌∷◌, ◌++◌, ref
 use Rattle.std.proofs.Common.{◌∙◌, ap, subst, inl, inr, append_assoc}
 use Rattle.std.specs.Prelude.{decimal}
 use Rattle.edf_command.specs.Lines.{accepted_line}
-use Rattle.edf_program.specs.Output.{OutputChange, Gets, GetsPrefix, IsWritten}
-use Rattle.edf_program.specs.Text.{refused_line}
-use Rattle.edf_program.specs.declared.status.Status.{Status}
-use Rattle.edf_program.specs.declared.status.Status.TheVariants.{Trouble}
+use Rattle.edf_cli.specs.Output.{OutputChange, Gets, GetsPrefix, IsWritten}
+use Rattle.edf_cli.specs.Text.{refused_line}
+use Rattle.edf_cli.specs.declared.status.Status.{Status}
+use Rattle.edf_cli.specs.declared.status.Status.TheVariants.{Trouble}
 use Rattle.edf_serve.specs.Lines.{whole_lines}
 use Rattle.edf_serve.proofs.Whole.{EndsFed, fed-behind, is-whole}
 

@@ -7,9 +7,9 @@ use Rattle.edf_fragment.specs.Failures.{saturating_increment}
 use Rattle.edf_store.specs.Held.{StoreModel, at}
 use Rattle.edf_intake.specs.Submitted.{IsSubmitted}
 use Rattle.edf_intake.specs.declared.answer.Receipt.{Receipt}
-use Rattle.edf_program.specs.Output.{IsPut}
-use Rattle.edf_program.specs.Status.{exit_code}
-use Rattle.edf_program.specs.declared.status.Status.{Status}
+use Rattle.edf_cli.specs.Output.{IsPut}
+use Rattle.edf_cli.specs.Status.{exit_code}
+use Rattle.edf_cli.specs.declared.status.Status.{Status}
 
 -- the line that ends an answer
 abbrev pub status_line : Status → List ℕ

@@ -8,10 +8,10 @@ use Rattle.edf_store.specs.declared.fault.StoreFault.TheVariants.{Store}
 use Rattle.edf_intake.specs.declared.answer.Receipt.{Receipt}
 use Rattle.edf_command.specs.Lines.{accepted_line}
 use Rattle.edf_command.specs.Listing.{AreRecordingsListed}
-use Rattle.edf_program.specs.Output.{IsWritten}
-use Rattle.edf_program.specs.Text.{refused_line}
-use Rattle.edf_program.specs.declared.status.Status.{Status}
-use Rattle.edf_program.specs.declared.status.Status.TheVariants.{Done, Usage, Trouble}
+use Rattle.edf_cli.specs.Output.{IsWritten}
+use Rattle.edf_cli.specs.Text.{refused_line}
+use Rattle.edf_cli.specs.declared.status.Status.{Status}
+use Rattle.edf_cli.specs.declared.status.Status.TheVariants.{Done, Usage, Trouble}
 use Rattle.edf_serve.specs.Client.{GetsAnswer, looked, IsIdle, status_line}
 use Rattle.edf_serve.specs.Line.{LineAsked, IsRead}
 use Rattle.edf_serve.specs.Line.LineAsked.{take, list}

@@ -6,9 +6,9 @@ use Rattle.std.specs.Option.{option_to_list}
 use Rattle.sqlite_trees.specs.declared.store.Store.{Ghosts}
 use Rattle.edf_store.specs.Held.{StoreModel}
 use Rattle.edf_intake.specs.Batch.{AreSubmittedAsList}
-use Rattle.edf_program.specs.Status.{worse}
-use Rattle.edf_program.specs.declared.status.Status.{Status}
-use Rattle.edf_program.specs.declared.status.Status.TheVariants.{Trouble}
+use Rattle.edf_cli.specs.Status.{worse}
+use Rattle.edf_cli.specs.declared.status.Status.{Status}
+use Rattle.edf_cli.specs.declared.status.Status.TheVariants.{Trouble}
 use Rattle.edf_serve.specs.Files.{LiesBelow}
 use Rattle.edf_serve.specs.Lines.{Coming, IsNext}
 use Rattle.edf_serve.specs.Exchange.{Exchange, IsServed}

@@ -7,9 +7,9 @@ use Rattle.sqlite_store.specs.declared.store.FileStore.{FileStore}
 use Rattle.sqlite.specs.Files.{over_files}
 use Rattle.edf_store.specs.Held.{StoreModel}
 use Rattle.edf_intake.specs.Batch.{Turn}
-use Rattle.edf_program.specs.Output.{OutputChange, Gets}
-use Rattle.edf_program.specs.declared.status.Status.{Status}
-use Rattle.edf_program_run.specs.ProgramRun.{Notice, ProgramRun}
+use Rattle.edf_cli.specs.Output.{OutputChange, Gets}
+use Rattle.edf_cli.specs.declared.status.Status.{Status}
+use Rattle.edfstore_files.specs.ProgramRun.{Notice, ProgramRun}
 use Rattle.edf_serve.specs.Session.{Moment, IsWholeSession, submissions}
 use Rattle.edf_serve.specs.Work.{Submission}
 use Rattle.edf_serve.specs.declared.answering.End.{End}

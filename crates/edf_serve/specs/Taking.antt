@@ -5,11 +5,11 @@ use Rattle.sqlite_trees.specs.declared.store.Store.{Ghosts}
 use Rattle.edf_intake.specs.Refusal.{Answer, IsStopped, refusal_number}
 use Rattle.edf_intake.specs.Submitted.{IsSubmitted, IsEnded}
 use Rattle.edf_command.specs.Lines.{refused_file_line, take_memory_line}
-use Rattle.edf_program.specs.Text.{IsInstantFormat}
-use Rattle.edf_program.specs.Output.{OutputChange, Gets, IsWritten, IsLinePrinted}
-use Rattle.edf_program.specs.Status.{status_of_number}
-use Rattle.edf_program.specs.declared.status.Status.{Status}
-use Rattle.edf_program.specs.declared.status.Status.TheVariants.{Refused, Trouble}
+use Rattle.edf_cli.specs.Text.{IsInstantFormat}
+use Rattle.edf_cli.specs.Output.{OutputChange, Gets, IsWritten, IsLinePrinted}
+use Rattle.edf_cli.specs.Status.{status_of_number}
+use Rattle.edf_cli.specs.declared.status.Status.{Status}
+use Rattle.edf_cli.specs.declared.status.Status.TheVariants.{Refused, Trouble}
 use Rattle.edf_serve.specs.Files.{Paths, opens, IsPlace}
 use Rattle.edf_serve.specs.Work.{Work, Submission, grown, OnlyWrites}
 use Rattle.edf_serve.specs.declared.room.Outcome.{Outcome}

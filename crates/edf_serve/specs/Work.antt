@@ -3,9 +3,9 @@ use Rattle.std.specs.Prelude.{◌≡◌, ◌↔◌, ℕ, true, List, Option, Som
 use Rattle.edf_fragment.specs.Call.{InputState}
 use Rattle.edf_store.specs.Held.{StoreModel}
 use Rattle.edf_intake.specs.Refusal.{Answer}
-use Rattle.edf_program.specs.Output.{OutputChange}
-use Rattle.edf_program.specs.declared.status.Status.{Status}
-use Rattle.edf_program.specs.declared.status.Status.TheVariants.{Trouble}
+use Rattle.edf_cli.specs.Output.{OutputChange}
+use Rattle.edf_cli.specs.declared.status.Status.{Status}
+use Rattle.edf_cli.specs.declared.status.Status.TheVariants.{Trouble}
 use Rattle.edf_serve.specs.Client.{Heard, Looks}
 use Rattle.edf_serve.specs.Files.{Paths}
 use Rattle.edf_serve.specs.declared.client.Client as client

@@ -5,13 +5,13 @@ ghost use Rattle.std.specs.Prelude.{OnOk, OnErr};
 ghost use Rattle.std.specs.List.{flat_map};
 ghost use Rattle.edf_fragment.specs.Failures.{saturating_increment};
 ghost use Rattle.edf_command.specs.Lines.{accepted_line};
-ghost use Rattle.edf_program.specs.Output.{IsPut, output_change};
-ghost use Rattle.edf_program.specs.declared.status.Status.TheVariants.{Done};
+ghost use Rattle.edf_cli.specs.Output.{IsPut, output_change};
+ghost use Rattle.edf_cli.specs.declared.status.Status.TheVariants.{Done};
 ghost use Rattle.edf_serve.specs.Client.{Heard, GetsAnswer, HasAccepted, IsIdle, status_line};
 
+use edf_cli::{Status, print_parts};
 use edf_fragment::Output;
 use edf_intake::Receipt;
-use edf_program::{Status, print_parts};
 use edf_store::Store;
 use itoa::Buffer;
 use sqlite::Alter;

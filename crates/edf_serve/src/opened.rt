@@ -4,10 +4,10 @@ ghost use Rattle.std.specs.Prelude.{◌≡◌, ◌≢◌, ◌⊎◌, Err, None, 
 ghost use Rattle.sqlite_wal.specs.Files.{outcomes, image_at};
 ghost use Rattle.sqlite.specs.Files.{image_of};
 ghost use Rattle.sqlite.specs.declared.error.Error.{Error};
-ghost use Rattle.edf_program.specs.Output.{output_change};
-ghost use Rattle.edf_program.specs.declared.status.Status.TheVariants.{Trouble};
-ghost use Rattle.edf_program_run.specs.Close.{IsRunDone, IsRefused};
-ghost use Rattle.edf_program_run.specs.ProgramRun.{IsNoticed, IsOpening, NotOpened};
+ghost use Rattle.edf_cli.specs.Output.{output_change};
+ghost use Rattle.edf_cli.specs.declared.status.Status.TheVariants.{Trouble};
+ghost use Rattle.edfstore_files.specs.Close.{IsRunDone, IsRefused};
+ghost use Rattle.edfstore_files.specs.ProgramRun.{IsNoticed, IsOpening, NotOpened};
 ghost use Rattle.edf_serve.specs.SessionRun.{session_run};
 ghost use Rattle.edf_serve.specs.Work.{point};
 
@@ -17,10 +17,10 @@ use crate::lines::Lines;
 use crate::over::serve_over;
 use crate::room::Room;
 use crate::standing::StoreFiles;
+use edf_cli::Status;
 use edf_fragment::{Input, Output};
-use edf_program::Status;
-use edf_program_run::{Cap, EndedRun, Watch, refuse};
 use edf_store::StoreFault;
+use edfstore_files::{Cap, EndedRun, Watch, refuse};
 use sqlite::{Connection, Error, FileFrom, FileStore, Leftover, Start};
 use sqlite_disk::Disk;
 use std::alloc::Global;
@@ -28,7 +28,7 @@ use std::alloc::Global;
 /// A session over the files of a store, which were opened for it, or were not: lines are answered
 /// over their store, and they are closed. It has no other way to the files. It is told in the words
 /// that a run of `edfstore` is told in, so that what many runs and sessions leave is one law
-/// (`edf_program_run::laws`).
+/// (`edfstore_files::laws`).
 ///
 /// `start` stands for what the files hold at the start, whatever that is. Where the disk gives
 /// back what was written (`ran`):

@@ -3,10 +3,10 @@
 ghost use Rattle.std.specs.Prelude.{◌≡◌, ◌≢◌, ◌⊎◌, None, Ok, false, option_map};
 ghost use Rattle.sqlite_wal.specs.Recovery.{Image};
 ghost use Rattle.sqlite.specs.Files.{file_state};
-ghost use Rattle.edf_program.specs.Output.{output_change};
-ghost use Rattle.edf_program.specs.declared.status.Status.TheVariants.{Trouble};
-ghost use Rattle.edf_program_run.specs.Close.{IsRunDone, IsRefused};
-ghost use Rattle.edf_program_run.specs.ProgramRun.{IsNoticed, IsOpening};
+ghost use Rattle.edf_cli.specs.Output.{output_change};
+ghost use Rattle.edf_cli.specs.declared.status.Status.TheVariants.{Trouble};
+ghost use Rattle.edfstore_files.specs.Close.{IsRunDone, IsRefused};
+ghost use Rattle.edfstore_files.specs.ProgramRun.{IsNoticed, IsOpening};
 ghost use Rattle.edf_serve.specs.SessionRun.{session_run};
 ghost use Rattle.edf_serve.specs.Work.{point};
 
@@ -17,9 +17,9 @@ use crate::room::Room;
 use crate::session::serve;
 use crate::standing::StoreFiles;
 use edf_fragment::{Input, Output};
-use edf_program_run::{Cap, EndedRun, Watch, close, leave, refuse};
 use edf_store::Store;
 use edf_tables::{is_ours, obey};
+use edfstore_files::{Cap, EndedRun, Watch, close, leave, refuse};
 use sqlite::{Connection, FileStore};
 use sqlite_disk::Disk;
 use std::alloc::Global;

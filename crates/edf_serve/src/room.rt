@@ -1,15 +1,15 @@
 //! What a session has beside its store, and what comes of a command.
 
 ghost use Rattle.std.specs.Prelude.{◌≡◌};
-ghost use Rattle.edf_program.specs.declared.status.Status;
+ghost use Rattle.edf_cli.specs.declared.status.Status;
 ghost use Rattle.edf_serve.specs.Work.{WentAs};
 
 use crate::client::Client;
 use crate::files::Sources;
 use crate::standing::StoreFiles;
 use crate::text::Text;
+use edf_cli::Status;
 use edf_intake::Receipt;
-use edf_program::Status;
 use std::alloc::Global;
 
 /// What a session has beside its store and its lines: what opens files, who is answered, and what

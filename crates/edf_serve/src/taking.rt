@@ -3,9 +3,9 @@
 ghost use Rattle.std.specs.Prelude.{◌≡◌, ◌⊎◌, ◌↔◌, ℕ, true, List, Option, Err, option_map};
 ghost use Rattle.edf_command.specs.Lines.{refused_file_line, take_memory_line};
 ghost use Rattle.edf_intake.specs.Refusal.{IsStopped, refusal_number};
-ghost use Rattle.edf_program.specs.Output.{output_change, IsWritten, IsLinePrinted};
-ghost use Rattle.edf_program.specs.Status.{status_of_number};
-ghost use Rattle.edf_program.specs.Text.{IsInstantFormat};
+ghost use Rattle.edf_cli.specs.Output.{output_change, IsWritten, IsLinePrinted};
+ghost use Rattle.edf_cli.specs.Status.{status_of_number};
+ghost use Rattle.edf_cli.specs.Text.{IsInstantFormat};
 ghost use Rattle.edf_serve.specs.Taking.{SubmitsFile, IsTaken, outside_line};
 ghost use Rattle.edf_serve.specs.Work.{OnlyWrites, Submission, Work, point};
 
@@ -14,10 +14,10 @@ use crate::files::Sources;
 use crate::places::place_of;
 use crate::room::{Outcome, Room};
 use crate::standing::StoreFiles;
+use edf_cli::{Status, print_memory, print_parts, print_text, status_of_number};
 use edf_command::refused_file_line;
 use edf_fragment::Output;
 use edf_intake::{Refusal, submit};
-use edf_program::{Status, print_memory, print_parts, print_text, status_of_number};
 use edf_store::Store;
 use sqlite::Alter;
 use std::alloc::Global;

@@ -2,7 +2,7 @@
 //! since nothing else breaks them.
 
 use clap::{Arg, ArgMatches, Command};
-use edf_program::{CommandFault, VERSION, fault_by, refuse_value};
+use edf_cli::{CommandFault, VERSION, fault_by, refuse_value};
 use std::alloc::{AllocError, Global};
 
 /// What `edfserve` is.

@@ -6,10 +6,10 @@ use edf_command::{Inputs, Order, Status};
 use edf_disk_sample::{Night, stopping};
 use edf_fragment::{Counted, Output};
 use edf_header::MOST_RECORDS;
-use edf_program_run::{Watch, close, leave, refuse};
 use edf_sample::{Sink, Source};
 use edf_store::{Store, StoreFault};
 use edf_tables::is_ours;
+use edfstore_files::{Watch, close, leave, refuse};
 use sqlite::{Connection, FileStore, Files, Options};
 use sqlite_disk::{Crash, Disk, Memory};
 use std::alloc::{AllocError, Global};
@@ -237,7 +237,7 @@ fn run_on<D: Disk + Drop>(
     ran.closed = closed;
 }
 
-/// One run over two files, as `edf_program_run::run_opened` does it over those of a path; they are
+/// One run over two files, as `edfstore_files::run_opened` does it over those of a path; they are
 /// closed, or let go as they are.
 fn run_over<D: Disk + Drop>(
     alloc: Global,

@@ -2,9 +2,9 @@
 //! answered is `edfmend_command`'s; here the system is handed to it.
 #![tactic(auto)]
 
+use edf_cli::Status;
 use edf_fragment::Output;
-use edf_program::Status;
-use edf_system::{Files, Mending, PartFiles, Program, Streams, Terminal, run_program};
+use edf_os::{Files, Mending, PartFiles, Program, Streams, Terminal, run_program};
 use edfmend_command::{MendCommand, read_command, run_mend};
 use std::alloc::Global;
 use std::process::ExitCode;

@@ -12,9 +12,9 @@ use Rattle.edf_mend.specs.declared.fault.MendFault.TheVariants.{Write, Read, Mem
 use Rattle.edf_mend.specs.declared.ledger.Ledger.{Ledger}
 use Rattle.edf_mend.specs.declared.surveying.Survey.{Survey}
 use Rattle.edf_mend.specs.declared.wanted.Wanted.{Wanted}
-use Rattle.edf_program.specs.Made.{MadeFile, finished, removed, kept, failed_with}
-use Rattle.edf_program.specs.Making.{Making}
-use Rattle.edf_program.specs.There.{There}
+use Rattle.edf_cli.specs.Made.{MadeFile, finished, removed, kept, failed_with}
+use Rattle.edf_cli.specs.Making.{Making}
+use Rattle.edf_cli.specs.There.{There}
 use Rattle.edfmend_command.specs.Run.{IsMendedFile, IsNotMended, CountsWrite}
 use Rattle.edfmend_command.specs.Run.{LeavesPart}
 use Rattle.edfmend_command.specs.Inside.{Surveys, MendsAs, MakesFile, StopsMaking}

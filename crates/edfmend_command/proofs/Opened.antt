@@ -2,18 +2,18 @@
 use Rattle.std.proofs.Common.{◌≡◌, ◌≢◌, ℕ, List, [], ◌∷◌, ◌++◌, refl, ap, ◌∙◌, arith}
 use Rattle.std.proofs.Common.{replicate, append_assoc, inl, inr}
 use Rattle.std.specs.Prelude.{Result, Ok, Err, MatchResult}
-use Rattle.edf_program.specs.Output.{OutputChange}
-use Rattle.edf_program.specs.declared.status.Status.{Status}
-use Rattle.edf_program.specs.declared.status.Status.TheVariants.{Done, Trouble}
+use Rattle.edf_cli.specs.Output.{OutputChange}
+use Rattle.edf_cli.specs.declared.status.Status.{Status}
+use Rattle.edf_cli.specs.declared.status.Status.TheVariants.{Done, Trouble}
 use Rattle.std.proofs.Common.{suc, Option, Some, None}
 use Rattle.edf_fragment.specs.Fault.{fragment_fault_number}
-use Rattle.edf_program.specs.Status.{is_trouble}
+use Rattle.edf_cli.specs.Status.{is_trouble}
 use Rattle.edf_mend.specs.declared.fault.MendFault.{MendFault}
 use Rattle.edf_mend.specs.declared.fault.MendFault.TheVariants as fault
 use Rattle.edfmend_command.specs.Lines.{why_line, memory_line, why_status, kept_line, kept_status}
 use Rattle.edfmend_command.specs.Run.{OpensTwice, SaysWhy}
-use Rattle.edf_program.specs.Opened.{OpensUpTo}
-use Rattle.edf_program.proofs.Undone.{undone, either-undone}
+use Rattle.edf_cli.specs.Opened.{OpensUpTo}
+use Rattle.edf_cli.proofs.Undone.{undone, either-undone}
 
 pub once : {T E : Type 0} (r : Result T E) (before after : List (List ℕ)) (name : List ℕ) →
     after ≡ before ++ (name ∷ []) → MatchResult r (λ _. after ≡ before ++ replicate 1 name)

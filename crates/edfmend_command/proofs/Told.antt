@@ -4,11 +4,11 @@ use Rattle.std.proofs.Common.{decimal, Option, Some, None, refl, subst, inl, inr
 use Rattle.std.specs.Prelude.{option_map}
 use Rattle.std.proofs.lemmas.List.{append-nil}
 use Rattle.edf_mend.specs.declared.fault.MendFault.{MendFault}
-use Rattle.edf_program.specs.Output.{OutputChange, Gets, GetsPrefix, IsWritten}
-use Rattle.edf_program.proofs.Parts.{four-parts}
-use Rattle.edf_program.proofs.Puts.{grown, gets-after, front-after}
-use Rattle.edf_program.specs.declared.status.Status.{Status}
-use Rattle.edf_program.specs.declared.status.Status.TheVariants.{Trouble}
+use Rattle.edf_cli.specs.Output.{OutputChange, Gets, GetsPrefix, IsWritten}
+use Rattle.edf_cli.proofs.Parts.{four-parts}
+use Rattle.edf_cli.proofs.Puts.{grown, gets-after, front-after}
+use Rattle.edf_cli.specs.declared.status.Status.{Status}
+use Rattle.edf_cli.specs.declared.status.Status.TheVariants.{Trouble}
 use Rattle.edfmend_command.specs.Lines.{why_line, memory_line, why_status, kept_line, kept_status}
 use Rattle.edfmend_command.specs.Run.{SaysWhy}
 use Rattle.edf_mend.specs.Edits.{Edit, RuleEdits}

@@ -1,8 +1,8 @@
 -- Two words that are IN and OUT.
 use Rattle.std.proofs.Common.{◌≡◌, ℕ, List, [], ◌∷◌, refl, ap, sym, ◌∙◌, subst, inr}
 use Rattle.std.specs.Prelude.{take, Result, Ok, Err, IfOk, MatchResult}
-use Rattle.edf_program.specs.declared.words.CommandFault.{CommandFault}
-use Rattle.edf_program.specs.declared.words.CommandFault.TheVariants.{Memory}
+use Rattle.edf_cli.specs.declared.words.CommandFault.{CommandFault}
+use Rattle.edf_cli.specs.declared.words.CommandFault.TheVariants.{Memory}
 use Rattle.edfmend_command.specs.InsideWords.{two_values}
 use Rattle.edfmend_command.specs.Run.{Asked, meaning}
 use Rattle.edfmend_command.specs.Words.{Values, Mean, HasNoStroke, MeansTwo}

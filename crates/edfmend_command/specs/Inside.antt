@@ -6,8 +6,8 @@ use Rattle.edf_mend.specs.declared.fault.MendFault.{MendFault}
 use Rattle.edf_mend.specs.declared.ledger.Ledger.{Ledger}
 use Rattle.edf_mend.specs.declared.surveying.Survey.{Survey}
 use Rattle.edf_mend.specs.declared.wanted.Wanted.{Wanted}
-use Rattle.edf_program.specs.Made.{MadeFile, begun, finished, HasPart}
-use Rattle.edf_program.specs.Making.{Making}
+use Rattle.edf_cli.specs.Made.{MadeFile, begun, finished, HasPart}
+use Rattle.edf_cli.specs.Making.{Making}
 use Rattle.edfmend_command.specs.Run.{IsMendedFile, IsNotMended, CountsWrite, LeavesPart}
 use Rattle.edfmend_command.specs.declared.mend_command.Stop.{Stop}
 

@@ -4,10 +4,10 @@ use Rattle.edf_fragment.specs.Fault.{fragment_fault_number}
 use Rattle.edf_fragment.specs.declared.fault.FragmentFault.{FragmentFault}
 use Rattle.edf_mend.specs.declared.fault.MendFault.{MendFault}
 use Rattle.edf_mend.specs.declared.fault.MendFault.TheVariants as fault
-use Rattle.edf_program.specs.Status.{status_of_number}
-use Rattle.edf_program.specs.Text.{fragment_fault_text}
-use Rattle.edf_program.specs.declared.status.Status.{Status}
-use Rattle.edf_program.specs.declared.status.Status.TheVariants.{Refused, Trouble}
+use Rattle.edf_cli.specs.Status.{status_of_number}
+use Rattle.edf_cli.specs.Text.{fragment_fault_text}
+use Rattle.edf_cli.specs.declared.status.Status.{Status}
+use Rattle.edf_cli.specs.declared.status.Status.TheVariants.{Refused, Trouble}
 
 -- after a name, why a file is refused by its form
 abbrev pub form_text : FragmentFault → List ℕ

@@ -10,13 +10,13 @@ use Rattle.edf_mend.specs.declared.fault.MendFault.{MendFault}
 use Rattle.edf_mend.specs.declared.fault.MendFault.TheVariants as fault
 use Rattle.edf_mend.specs.declared.ledger.Ledger.{Ledger}
 use Rattle.edf_mend.specs.declared.wanted.Wanted.{Wanted}
-use Rattle.edf_program.specs.Output.{OutputChange, Gets, GetsPrefix, IsWritten, Explains}
-use Rattle.edf_program.specs.Text.{there_line}
-use Rattle.edf_program.specs.declared.status.Status.{Status}
-use Rattle.edf_program.specs.declared.status.Status.TheVariants.{Done, Refused, Trouble}
-use Rattle.edf_program.specs.Made.{MadeFile, finished, removed, kept as kept_file}
-use Rattle.edf_program.specs.Making.{Making, MakesNothing}
-use Rattle.edf_program.specs.There.{IsVacant, MayBeThere}
+use Rattle.edf_cli.specs.Output.{OutputChange, Gets, GetsPrefix, IsWritten, Explains}
+use Rattle.edf_cli.specs.Text.{there_line}
+use Rattle.edf_cli.specs.declared.status.Status.{Status}
+use Rattle.edf_cli.specs.declared.status.Status.TheVariants.{Done, Refused, Trouble}
+use Rattle.edf_cli.specs.Made.{MadeFile, finished, removed, kept as kept_file}
+use Rattle.edf_cli.specs.Making.{Making, MakesNothing}
+use Rattle.edf_cli.specs.There.{IsVacant, MayBeThere}
 use Rattle.edfmend_command.specs.Lines.{why_line, why_status, kept_line, kept_status}
 use Rattle.edfmend_command.specs.Lines.{unwritten_line, memory_line, standard_output}
 use Rattle.edfmend_command.specs.Ledger.{ledger_lines}

@@ -11,8 +11,8 @@ use Rattle.edf_mend.specs.Wanted.{AsksRulesAlone}
 use Rattle.edf_mend.specs.declared.rule.Rule.{Rule}
 use Rattle.edf_mend.specs.declared.wanted.Who.{Who}
 use Rattle.edf_mend.specs.declared.wanted.Who.TheVariants.{AsNamed, Given, Replaced, Hidden}
-use Rattle.edf_program.specs.declared.words.CommandFault.{CommandFault}
-use Rattle.edf_program.specs.declared.words.CommandFault.TheVariants.{Usage}
+use Rattle.edf_cli.specs.declared.words.CommandFault.{CommandFault}
+use Rattle.edf_cli.specs.declared.words.CommandFault.TheVariants.{Usage}
 use Rattle.edfmend_command.specs.Run.{Asked}
 
 -- the values of the words, each once at most: IN, OUT, whether --dry-run, and of --patient,

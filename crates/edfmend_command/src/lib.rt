@@ -3,8 +3,8 @@
 //! - [`read_command`]: the words after the program's name, as a [`MendCommand`]; help and usage are
 //!   written. [`parse`]: the words, read, and nothing else. [`command_of`]: the same of the values
 //!   of words ([`MendValues`]).
-//! - [`run_mend`]: the command, over what opens files (`edf_program`'s `Inputs`) and what makes
-//!   them (`edf_program`' `NewFiles`).
+//! - [`run_mend`]: the command, over what opens files (`edf_cli`'s `Inputs`) and what makes
+//!   them (`edf_cli`' `NewFiles`).
 #![tactic(auto)]
 
 mod arguments;

@@ -2,7 +2,7 @@
 
 ghost use Rattle.std.specs.Prelude.{◌≡◌, ◌++◌, ◌+◌, ◌==◌, ◌<◌, not, ◌&&◌, length, IfOk, OnOk};
 ghost use Rattle.std.specs.List.{flat_map, list_any, list_all};
-ghost use Rattle.edf_program.specs.Output.{output_change, IsPut};
+ghost use Rattle.edf_cli.specs.Output.{output_change, IsPut};
 ghost use Rattle.edfmend_command.specs.Ledger.{hex_digit, quoted_byte, quoted, cut_text, step_end};
 ghost use Rattle.edfmend_command.specs.Ledger.{is_new, change_line, changed_line, added_line};
 ghost use Rattle.edfmend_command.specs.Ledger.{signal_line, step_lines, bytes_text, record_line};
@@ -11,9 +11,9 @@ ghost use Rattle.edfmend_command.specs.Run.{TellsLedger};
 ghost use Rattle.edf_mend.specs.Header.{trimmed};
 ghost use Rattle.edfmend_command.specs.Ledger.{clock_text, clock_line, left_out_line, ledger_lines};
 
+use edf_cli::{Status, concat, print_parts, put_parts};
 use edf_fragment::Output;
 use edf_mend::{Change, Ledger, RecordChanges, Rule, Step};
-use edf_program::{Status, concat, print_parts, put_parts};
 use edf_time::write_seconds;
 use std::alloc::{AllocError, Global};
 

@@ -2,9 +2,9 @@
 
 ghost use Rattle.std.specs.Prelude.{◌≡◌, ◌≢◌, ◌⊎◌, ◌++◌, ℕ, List, IfOk, IfErr, IfSome};
 ghost use Rattle.std.specs.Prelude.{MatchResult, option_map, replicate, string_bytes};
-ghost use Rattle.edf_program.specs.Opened.{OpensUpTo};
-ghost use Rattle.edf_program.specs.Output.{output_change};
-ghost use Rattle.edf_program.specs.Making.{making};
+ghost use Rattle.edf_cli.specs.Opened.{OpensUpTo};
+ghost use Rattle.edf_cli.specs.Output.{output_change};
+ghost use Rattle.edf_cli.specs.Making.{making};
 ghost use Rattle.edfmend_command.specs.Inside.{Surveys, MendsAs, WritesFile, StopsWriting};
 ghost use Rattle.edfmend_command.specs.Inside.{MakesFile, StopsMaking};
 ghost use Rattle.edfmend_command.specs.Run.{IsMendedFile, IsNotMended, CountsWrite, left_name};
@@ -13,9 +13,9 @@ ghost use Rattle.edfmend_command.specs.Run.{LacksMended, IsMendDone, OpensTwice,
 
 use crate::lines::tell_ledger;
 use crate::refusal::refuse;
+use edf_cli::{Inputs, NewFiles, Status, print_name_taken};
 use edf_fragment::{Counted, Output};
 use edf_mend::{Ledger, MendFault, Survey, Wanted, mend, survey_file};
-use edf_program::{Inputs, NewFiles, Status, print_name_taken};
 use std::alloc::Global;
 use std::io;
 

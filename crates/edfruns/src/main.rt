@@ -3,9 +3,9 @@
 //! system is handed to it.
 #![tactic(auto)]
 
+use edf_cli::Status;
 use edf_fragment::Output;
-use edf_program::Status;
-use edf_system::{Files, PartFiles, Program, Streams, Terminal, run_program};
+use edf_os::{Files, PartFiles, Program, Streams, Terminal, run_program};
 use edfruns_command::{RunsCommand, read_command, run_runs};
 use std::alloc::Global;
 use std::process::ExitCode;

@@ -5,17 +5,17 @@ use Rattle.std.specs.Prelude.{Option}
 use Rattle.std.specs.Bool.{MatchBool}
 use Rattle.edf_fragment.specs.declared.fault.FragmentFault.{FragmentFault}
 use Rattle.edf_fragment.specs.declared.fault.FragmentFault.TheVariants.{Memory}
-use Rattle.edf_program.specs.Output.{OutputChange, Gets, IsPut, IsWritten}
-use Rattle.edf_program.specs.Text.{memory_line}
-use Rattle.edf_program.specs.declared.status.Status.{Status}
-use Rattle.edf_program.specs.declared.status.Status.TheVariants.{Done, Trouble}
+use Rattle.edf_cli.specs.Output.{OutputChange, Gets, IsPut, IsWritten}
+use Rattle.edf_cli.specs.Text.{memory_line}
+use Rattle.edf_cli.specs.declared.status.Status.{Status}
+use Rattle.edf_cli.specs.declared.status.Status.TheVariants.{Done, Trouble}
 use Rattle.edf_runs.specs.declared.fault.WriteFault.{WriteFault}
 use Rattle.edf_runs.specs.declared.fault.WriteFault.TheVariants.{Undated}
 use Rattle.edf_runs.specs.Written.{CountsFault}
 use Rattle.edf_runs.specs.declared.onset_fault.OnsetFault.{OnsetFault}
 use Rattle.edf_runs.specs.declared.onset_fault.OnsetFault.TheVariants as onset
 use Rattle.edf_fragment.specs.Fault.{fragment_fault_number}
-use Rattle.edf_program.proofs.Undone.{undone, refused-undone, trouble-undone, number-undone}
+use Rattle.edf_cli.proofs.Undone.{undone, refused-undone, trouble-undone, number-undone}
 use Rattle.edfruns_command.specs.Inside.{OpensUpTo, IsPlanRefused}
 use Rattle.edfruns_command.specs.Canonical.{CountsWrite, HasPlanFault, LacksPlan}
 use Rattle.edfruns_command.specs.Lines.{file_refused_line, file_refused_status, crowded_line}

@@ -7,7 +7,7 @@ use Rattle.edf_runs.specs.ByOnset.{annotations_of}
 use Rattle.edf_runs.specs.Counted.{AreCounted}
 use Rattle.edf_runs.specs.declared.run.Run.{Run}
 use Rattle.edfruns_command.specs.Counting.{counts_text, counts_of, counted_line, split_lines}
-use Rattle.edf_program.proofs.Parts.{four-parts}
+use Rattle.edf_cli.proofs.Parts.{four-parts}
 
 -- the line of a file, whose parts are these
 pub file-of : (front counts name n f c line : List ℕ) → n ≡ name → f ≡ front → c ≡ counts →

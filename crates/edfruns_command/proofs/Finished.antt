@@ -7,8 +7,8 @@ use Rattle.edf_field.specs.Number.{duration_of}
 use Rattle.edf_header.specs.Key.{Key}
 use Rattle.edf_fragment.specs.Fragment.{DataRecord}
 use Rattle.edf_runs.specs.declared.run.Run.{Run}
-use Rattle.edf_program.specs.Made.{MadeFile, names_of}
-use Rattle.edf_program.specs.Making.{Making}
+use Rattle.edf_cli.specs.Made.{MadeFile, names_of}
+use Rattle.edf_cli.specs.Making.{Making}
 use Rattle.edfruns_command.specs.Made.{IsHalf}
 use Rattle.edf_runs.specs.Runs.{IsListed}
 use Rattle.edfruns_command.specs.Splitting.{HasMade, HoldsRun, WereFinished}

@@ -3,7 +3,7 @@ use Rattle.std.proofs.Common.{◌≡◌, ℕ, ◌-◌, List, [], ◌++◌, ap, �
 use Rattle.edf_time.specs.Decimal.{short}
 use Rattle.edf_runs.specs.declared.run.Run.{Run}
 use Rattle.edfruns_command.specs.Lines.{end_of, gap_text, run_front}
-use Rattle.edf_program.proofs.Parts.{four-parts}
+use Rattle.edf_cli.proofs.Parts.{four-parts}
 
 -- its parts are these
 pub front-of : (spell : ℕ → List ℕ) (d number : ℕ) (run : Run) (next : Option Run)

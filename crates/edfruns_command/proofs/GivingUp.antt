@@ -4,12 +4,12 @@ use Rattle.std.proofs.Common.{drop, map, refl, sym, ap, ◌∙◌, arith, length
 use Rattle.std.proofs.Common.{◌⊎◌, inl, inr, Option}
 use Rattle.std.proofs.lemmas.List.{length-map}
 use Rattle.edf_header.specs.Key.{Key}
-use Rattle.edf_program.specs.Output.{OutputChange, Gets, GetsPrefix}
-use Rattle.edf_program.specs.declared.status.Status.{Status}
+use Rattle.edf_cli.specs.Output.{OutputChange, Gets, GetsPrefix}
+use Rattle.edf_cli.specs.declared.status.Status.{Status}
 use Rattle.edf_runs.specs.declared.run.Run.{Run}
 use Rattle.edf_runs.specs.declared.run_list.Listing.{Listing}
-use Rattle.edf_program.specs.Made.{MadeFile, names_of}
-use Rattle.edf_program.specs.Making.{Making}
+use Rattle.edf_cli.specs.Made.{MadeFile, names_of}
+use Rattle.edf_cli.specs.Making.{Making}
 use Rattle.edfruns_command.specs.Lines.{IsInstantFormat, stop_line, unwritten_line, standard_output}
 use Rattle.edfruns_command.proofs.Finished.{has-all, finished-still, same-names}
 use Rattle.edfruns_command.specs.Splitting.{GivesUp, HasMade, AreRuns, LacksFiles, LacksLines}

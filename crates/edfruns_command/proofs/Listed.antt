@@ -5,10 +5,10 @@ use Rattle.std.proofs.Common.{◌+◌, ◌<◌, ◌≤◌, length, take, drop, g
 use Rattle.std.proofs.Common.{take-append-drop}
 use Rattle.std.proofs.lemmas.List.{map-append, take_more, drop_more}
 use Rattle.std.specs.Prelude.{Option, Result, Ok, Err, MatchResult}
-use Rattle.edf_program.specs.Output.{OutputChange, Gets, GetsPrefix, IsWritten}
-use Rattle.edf_program.specs.Status.{exit_code, worse}
-use Rattle.edf_program.specs.declared.status.Status.{Status}
-use Rattle.edf_program.specs.declared.status.Status.TheVariants.{Done, Refused, Usage, Trouble}
+use Rattle.edf_cli.specs.Output.{OutputChange, Gets, GetsPrefix, IsWritten}
+use Rattle.edf_cli.specs.Status.{exit_code, worse}
+use Rattle.edf_cli.specs.declared.status.Status.{Status}
+use Rattle.edf_cli.specs.declared.status.Status.TheVariants.{Done, Refused, Usage, Trouble}
 use Rattle.edfruns_command.specs.Inside.{OpensUpTo}
 use Rattle.edfruns_command.specs.Lines.{standard_output, unwritten_line}
 use Rattle.edfruns_command.specs.Listed.{AreListed, IsFileListed, CutsLines, TellsRuns}

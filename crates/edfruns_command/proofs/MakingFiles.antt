@@ -18,8 +18,8 @@ use Rattle.edf_runs.specs.declared.run.Run.{Run}
 use Rattle.edf_runs.specs.declared.written.Written.{Written}
 use Rattle.edf_runs.specs.declared.fault.WriteFault.{WriteFault}
 use Rattle.edf_runs.proofs.Growing.{joined_more}
-use Rattle.edf_program.specs.Made.{MadeFile, names_of, HasPart, failed_with}
-use Rattle.edf_program.specs.Making.{Making}
+use Rattle.edf_cli.specs.Made.{MadeFile, names_of, HasPart, failed_with}
+use Rattle.edf_cli.specs.Making.{Making}
 use Rattle.edfruns_command.specs.Rereading.{IsAtRun, IsOfReading, ComesToOutput, IsPassed}
 use Rattle.edfruns_command.specs.Rereading.{PassesRuns, StopsAtRuns}
 use Rattle.edfruns_command.specs.Splitting.{HasMade, HoldsRun}

@@ -1,8 +1,8 @@
 -- What is told of annotations outside of all data records.
 use Rattle.std.proofs.Common.{◌≡◌, ℕ, zero, suc, List, refl}
-use Rattle.edf_program.specs.Output.{OutputChange, IsWritten}
-use Rattle.edf_program.specs.declared.status.Status.{Status}
-use Rattle.edf_program.specs.declared.status.Status.TheVariants.{Done}
+use Rattle.edf_cli.specs.Output.{OutputChange, IsWritten}
+use Rattle.edf_cli.specs.declared.status.Status.{Status}
+use Rattle.edf_cli.specs.declared.status.Status.TheVariants.{Done}
 use Rattle.edfruns_command.specs.Canonical.{TellsOutside}
 use Rattle.edfruns_command.specs.Lines.{outside_line}
 

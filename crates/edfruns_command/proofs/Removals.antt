@@ -9,10 +9,10 @@ use Rattle.std.proofs.lemmas.List.{take_more, drop_more, map-append, length-map,
 use Rattle.std.proofs.lemmas.List.{length-take-le, flat_map_more}
 use Rattle.std.proofs.lemmas.List.Elements.{All-push, All-nil}
 use Rattle.std.specs.Io.KnownBytes.{Appends}
-use Rattle.edf_program.specs.Output.{OutputChange, Gets, GetsPrefix, IsPut, IsWritten}
-use Rattle.edf_program.specs.declared.status.Status.TheVariants.{Trouble}
-use Rattle.edf_program.proofs.Puts.{grown, gets-after, front-after}
-use Rattle.edf_program.specs.Made.{MadeFile, begun}
+use Rattle.edf_cli.specs.Output.{OutputChange, Gets, GetsPrefix, IsPut, IsWritten}
+use Rattle.edf_cli.specs.declared.status.Status.TheVariants.{Trouble}
+use Rattle.edf_cli.proofs.Puts.{grown, gets-after, front-after}
+use Rattle.edf_cli.specs.Made.{MadeFile, begun}
 use Rattle.edfruns_command.specs.Made.{IsOver, left_text}
 use Rattle.edfruns_command.specs.InsideSplit.{as_begun, IsPutAfter, RemovesOne, RemovesFrom}
 

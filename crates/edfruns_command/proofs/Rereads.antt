@@ -22,7 +22,7 @@ use Rattle.edf_runs.specs.declared.run.Run.{Run}
 use Rattle.edf_runs.specs.declared.run_list.Listing.{Listing}
 use Rattle.edf_runs.specs.declared.fault.WriteFault.{WriteFault}
 use Rattle.edf_runs.specs.declared.fault.WriteFault.TheVariants as fault
-use Rattle.edf_program.specs.Making.{Making}
+use Rattle.edf_cli.specs.Making.{Making}
 use Rattle.edfruns_command.specs.Rereading.{IsNotReread, IsOfReading, IsNoEnd, ReadsAgain}
 use Rattle.edfruns_command.specs.Splitting.{HasMade, MakesRuns}
 use Rattle.edfruns_command.proofs.Finished.{has-made, has-all}

@@ -8,7 +8,7 @@ use Rattle.edf_header.specs.Key.{Key}
 use Rattle.edf_fragment.specs.Fragment.{DataRecord}
 use Rattle.edf_runs.specs.Runs.{IsRuns, IsListed}
 use Rattle.edf_runs.specs.declared.run_list.Listing.{Listing}
-use Rattle.edf_program.specs.Making.{Making}
+use Rattle.edf_cli.specs.Making.{Making}
 use Rattle.edfruns_command.specs.Naming.{run_name, run_names, first_names, asked_names}
 use Rattle.edfruns_command.specs.Listing.{HasRuns}
 use Rattle.edfruns_command.specs.Splitting.{RereadsRuns, AreRuns}

@@ -2,9 +2,9 @@
 use Rattle.std.specs.Prelude.{◌≡◌, ◌⊎◌, ℕ, zero, suc, List, [], Bool, true, false, Option, Err}
 use Rattle.edf_fragment.specs.Failures.{saturating_increment}
 use Rattle.edf_fragment.specs.declared.fault.FragmentFault.TheVariants.{Memory as NoMemory}
-use Rattle.edf_program.specs.Output.{OutputChange, Gets, IsWritten, Explains}
-use Rattle.edf_program.specs.declared.status.Status.{Status}
-use Rattle.edf_program.specs.declared.status.Status.TheVariants.{Done, Refused, Trouble}
+use Rattle.edf_cli.specs.Output.{OutputChange, Gets, IsWritten, Explains}
+use Rattle.edf_cli.specs.declared.status.Status.{Status}
+use Rattle.edf_cli.specs.declared.status.Status.TheVariants.{Done, Refused, Trouble}
 use Rattle.edf_runs.specs.Canonical.{ReadsPlan, IsCanonicalWritten, IsNotCanonical}
 use Rattle.edf_runs.specs.Canonical.{IsToldUnchanged}
 use Rattle.edf_runs.specs.OnsetRead.{ReadsCrowded}

@@ -1,13 +1,13 @@
 -- What private functions do.
 use Rattle.std.specs.Prelude.{◌⊎◌, List, ℕ}
-use Rattle.edf_program.specs.Output.{OutputChange, IsWritten}
-use Rattle.edf_program.specs.Text.{memory_line}
-use Rattle.edf_program.specs.declared.status.Status.{Status}
-use Rattle.edf_program.specs.declared.status.Status.TheVariants.{Refused, Trouble}
+use Rattle.edf_cli.specs.Output.{OutputChange, IsWritten}
+use Rattle.edf_cli.specs.Text.{memory_line}
+use Rattle.edf_cli.specs.declared.status.Status.{Status}
+use Rattle.edf_cli.specs.declared.status.Status.TheVariants.{Refused, Trouble}
 use Rattle.edf_runs.specs.declared.onset_fault.OnsetFault.{OnsetFault}
 use Rattle.edf_runs.specs.declared.onset_fault.OnsetFault.TheVariants as fault
 use Rattle.edfruns_command.specs.Lines.{crowded_line, file_refused_line, file_refused_status}
-pub use Rattle.edf_program.specs.Opened.{OpensUpTo}
+pub use Rattle.edf_cli.specs.Opened.{OpensUpTo}
 
 -- a line says why nothing is written of a file
 abbrev pub IsPlanRefused : OutputChange → List ℕ → OnsetFault → Status → Type 0

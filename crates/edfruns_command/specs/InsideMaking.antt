@@ -18,8 +18,8 @@ use Rattle.edf_runs.specs.declared.run.Run.{Run}
 use Rattle.edf_runs.specs.declared.run_list.Listing.{Listing}
 use Rattle.edf_runs.specs.declared.fault.WriteFault.{WriteFault}
 use Rattle.edf_runs.specs.declared.fault.WriteFault.TheVariants as fault
-use Rattle.edf_program.specs.Made.{MadeFile, HasPart, names_of}
-use Rattle.edf_program.specs.Making.{Making}
+use Rattle.edf_cli.specs.Made.{MadeFile, HasPart, names_of}
+use Rattle.edf_cli.specs.Making.{Making}
 use Rattle.edfruns_command.specs.Rereading.{IsOfReading, IsNoEnd, StopsAtRuns, StopsRereading}
 use Rattle.edfruns_command.specs.Rereading.{failed_by}
 use Rattle.edfruns_command.specs.Splitting.{HoldsRun, HasMade, MakesRuns, lines_of}

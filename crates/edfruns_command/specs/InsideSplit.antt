@@ -2,13 +2,13 @@
 use Rattle.std.specs.Prelude.{◌≡◌, ℕ, List, [], ◌∷◌, ◌++◌, Bool, false, All, Option, map, take, drop}
 use Rattle.std.specs.List.{flat_map}
 use Rattle.std.specs.Bool.{MatchBool}
-use Rattle.edf_program.specs.Output.{OutputChange, Gets, IsPut, IsWritten}
-use Rattle.edf_program.specs.declared.status.Status.{Status}
-use Rattle.edf_program.specs.declared.status.Status.TheVariants.{Trouble}
+use Rattle.edf_cli.specs.Output.{OutputChange, Gets, IsPut, IsWritten}
+use Rattle.edf_cli.specs.declared.status.Status.{Status}
+use Rattle.edf_cli.specs.declared.status.Status.TheVariants.{Trouble}
 use Rattle.edf_runs.specs.declared.run_list.Listing.{Listing}
-use Rattle.edf_program.specs.Made.{MadeFile, made_file}
-use Rattle.edf_program.specs.Making.{Making}
-use Rattle.edf_program.specs.declared.new_files.FileStage.TheVariants.{Begun}
+use Rattle.edf_cli.specs.Made.{MadeFile, made_file}
+use Rattle.edf_cli.specs.Making.{Making}
+use Rattle.edf_cli.specs.declared.new_files.FileStage.TheVariants.{Begun}
 use Rattle.edfruns_command.specs.Listing.{HasRuns}
 use Rattle.edfruns_command.specs.Made.{IsOver, left_text}
 use Rattle.edfruns_command.specs.Splitting.{SplitsFiles}

@@ -5,15 +5,15 @@ use Rattle.edf_time.specs.Decimal.{short}
 use Rattle.edf_fragment.specs.Fault.{fragment_fault_number, fragment_fault_name}
 use Rattle.edf_fragment.specs.declared.fault.FragmentFault.{FragmentFault}
 use Rattle.edf_fragment.specs.declared.fault.FragmentFault.TheVariants as fragment
-use Rattle.edf_program.specs.Status.{status_of_number}
-use Rattle.edf_program.specs.Text.{fault_text, fragment_details, refused_line, memory_line}
-use Rattle.edf_program.specs.declared.status.Status.{Status}
+use Rattle.edf_cli.specs.Status.{status_of_number}
+use Rattle.edf_cli.specs.Text.{fault_text, fragment_details, refused_line, memory_line}
+use Rattle.edf_cli.specs.declared.status.Status.{Status}
 use Rattle.edf_runs.specs.declared.run.Run.{Run}
 use Rattle.edf_runs.specs.declared.fault.WriteFault.{WriteFault}
 use Rattle.edf_runs.specs.declared.fault.WriteFault.TheVariants as run
 use Rattle.edfruns_command.specs.declared.stop.Stop.{Stop}
 use Rattle.edfruns_command.specs.declared.stop.Stop.TheVariants as stop
-pub use Rattle.edf_program.specs.Text.{IsInstantFormat}
+pub use Rattle.edf_cli.specs.Text.{IsInstantFormat}
 
 -- ---- lines of runs, whose data records last d nanoseconds
 

@@ -2,10 +2,10 @@
 use Rattle.std.specs.Prelude.{◌≡◌, ◌⊎◌, ℕ, List, [], ◌∷◌, ◌++◌, Bool, true, false, Option}
 use Rattle.std.specs.Prelude.{nat_lt, length, codes}
 use Rattle.edf_field.specs.Number.{duration_of}
-use Rattle.edf_program.specs.Output.{OutputChange, Gets, GetsPrefix, IsWritten}
-use Rattle.edf_program.specs.Status.{worse}
-use Rattle.edf_program.specs.declared.status.Status.{Status}
-use Rattle.edf_program.specs.declared.status.Status.TheVariants.{Done, Trouble}
+use Rattle.edf_cli.specs.Output.{OutputChange, Gets, GetsPrefix, IsWritten}
+use Rattle.edf_cli.specs.Status.{worse}
+use Rattle.edf_cli.specs.declared.status.Status.{Status}
+use Rattle.edf_cli.specs.declared.status.Status.TheVariants.{Done, Trouble}
 use Rattle.edf_runs.specs.declared.run_list.Listing.{Listing}
 use Rattle.edfruns_command.specs.Lines.{IsInstantFormat, run_lines, standard_output, unwritten_line}
 use Rattle.edfruns_command.specs.Listing.{HasRuns, RefusesFile, LacksMemory}

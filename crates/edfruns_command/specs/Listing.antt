@@ -2,10 +2,10 @@
 use Rattle.std.specs.Prelude.{◌≡◌, ℕ, ◌≤◌, List, ◌++◌, Option, replicate}
 use Rattle.edf_fragment.specs.Whole.{IsFragmentFault}
 use Rattle.edf_fragment.specs.declared.fault.FragmentFault.{FragmentFault}
-use Rattle.edf_program.specs.Output.{OutputChange, Explains}
-use Rattle.edf_program.specs.Text.{memory_line}
-use Rattle.edf_program.specs.declared.status.Status.{Status}
-use Rattle.edf_program.specs.declared.status.Status.TheVariants.{Done, Trouble}
+use Rattle.edf_cli.specs.Output.{OutputChange, Explains}
+use Rattle.edf_cli.specs.Text.{memory_line}
+use Rattle.edf_cli.specs.declared.status.Status.{Status}
+use Rattle.edf_cli.specs.declared.status.Status.TheVariants.{Done, Trouble}
 use Rattle.edf_runs.specs.Read.{ReadsRuns}
 use Rattle.edf_runs.specs.declared.run_list.Listing.{Listing}
 use Rattle.edfruns_command.specs.Lines.{file_refused_line, file_refused_status}

@@ -1,10 +1,10 @@
 -- Files of runs that are half written, or removed again.
 use Rattle.std.specs.Prelude.{◌≡◌, List, [], ℕ, false}
-use Rattle.edf_program.specs.Made.{MadeFile}
-use Rattle.edf_program.specs.declared.new_files.FileStage.{FileStage}
-use Rattle.edf_program.specs.declared.new_files.FileStage.TheVariants.{Begun, Left, Finished}
-use Rattle.edf_program.specs.declared.new_files.FileStage.TheVariants.{Removed}
-use Rattle.edf_program.specs.declared.new_files.FileStage.TheVariants.{Kept}
+use Rattle.edf_cli.specs.Made.{MadeFile}
+use Rattle.edf_cli.specs.declared.new_files.FileStage.{FileStage}
+use Rattle.edf_cli.specs.declared.new_files.FileStage.TheVariants.{Begun, Left, Finished}
+use Rattle.edf_cli.specs.declared.new_files.FileStage.TheVariants.{Removed}
+use Rattle.edf_cli.specs.declared.new_files.FileStage.TheVariants.{Kept}
 use Rattle.edfruns_command.specs.Lines.{left_line}
 
 -- it was left half written

@@ -11,9 +11,9 @@ use Rattle.edf_fragment.specs.Whole.{ReadsFragment}
 use Rattle.edf_header.specs.Header.{Layout}
 use Rattle.edf_header.specs.Key.{Key, patient_code, investigation_code}
 use Rattle.edf_picture.specs.Picture.{IsPicture, Named, drawn_words}
-use Rattle.edf_program.specs.Output.{OutputChange, Gets, GetsPrefix, IsWritten}
-use Rattle.edf_program.specs.declared.status.Status.{Status}
-use Rattle.edf_program.specs.declared.status.Status.TheVariants.{Done, Trouble}
+use Rattle.edf_cli.specs.Output.{OutputChange, Gets, GetsPrefix, IsWritten}
+use Rattle.edf_cli.specs.declared.status.Status.{Status}
+use Rattle.edf_cli.specs.declared.status.Status.TheVariants.{Done, Trouble}
 use Rattle.edf_runs.specs.ByOnset.{annotations_of}
 use Rattle.edf_runs.specs.declared.run.Run.{Run}
 use Rattle.edf_runs.specs.declared.run_list.Listing.{Listing}

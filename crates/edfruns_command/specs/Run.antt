@@ -1,8 +1,8 @@
 -- What a command does: what it writes, the status that it answers, and which files it opens.
 use Rattle.std.specs.Prelude.{ℕ, Bool, List, Option, length, map, string_bytes}
-use Rattle.edf_program.specs.Output.{OutputChange}
-use Rattle.edf_program.specs.declared.status.Status.{Status}
-use Rattle.edf_program.specs.Making.{Making, MakesNothing}
+use Rattle.edf_cli.specs.Output.{OutputChange}
+use Rattle.edf_cli.specs.declared.status.Status.{Status}
+use Rattle.edf_cli.specs.Making.{Making, MakesNothing}
 use Rattle.edfruns_command.specs.Listed.{IsListOut, OpensEach}
 use Rattle.edfruns_command.specs.Listing.{OpensAgain}
 use Rattle.edfruns_command.specs.Picturing.{IsPictured}

@@ -7,18 +7,18 @@ use Rattle.edf_header.specs.Key.{Key, MayStart}
 use Rattle.edf_header.specs.Header.{Layout}
 use Rattle.edf_fragment.specs.Fragment.{DataRecord}
 use Rattle.edf_fragment.specs.Whole.{ReadsFragment}
-use Rattle.edf_program.specs.Output.{OutputChange, Gets, GetsPrefix, IsWritten, Explains}
-use Rattle.edf_program.specs.Text.{there_line}
-use Rattle.edf_program.specs.declared.status.Status.{Status}
-use Rattle.edf_program.specs.declared.status.Status.TheVariants.{Done, Refused, Trouble}
+use Rattle.edf_cli.specs.Output.{OutputChange, Gets, GetsPrefix, IsWritten, Explains}
+use Rattle.edf_cli.specs.Text.{there_line}
+use Rattle.edf_cli.specs.declared.status.Status.{Status}
+use Rattle.edf_cli.specs.declared.status.Status.TheVariants.{Done, Refused, Trouble}
 use Rattle.edf_runs.specs.File.{IsRunFile}
 use Rattle.edf_runs.specs.Runs.{IsRuns, IsListed}
 use Rattle.edf_runs.specs.declared.run.Run.{Run}
 use Rattle.edf_runs.specs.declared.run_list.Listing.{Listing}
-use Rattle.edf_program.specs.Made.{MadeFile, names_of}
-use Rattle.edf_program.specs.Making.{Making, MakesNothing}
-use Rattle.edf_program.specs.There.{There, IsVacant, MayBeThere}
-use Rattle.edf_program.specs.declared.new_files.FileStage.TheVariants.{Finished}
+use Rattle.edf_cli.specs.Made.{MadeFile, names_of}
+use Rattle.edf_cli.specs.Making.{Making, MakesNothing}
+use Rattle.edf_cli.specs.There.{There, IsVacant, MayBeThere}
+use Rattle.edf_cli.specs.declared.new_files.FileStage.TheVariants.{Finished}
 use Rattle.edfruns_command.specs.Naming.{run_names, asked_names}
 use Rattle.edfruns_command.specs.Lines.{IsInstantFormat, undated_line, stop_line}
 use Rattle.edfruns_command.specs.Lines.{unwritten_line, standard_output}

@@ -7,8 +7,8 @@ use crate::picture_command::{picture_words, read_picture};
 use crate::runs_command::RunsCommand;
 use crate::split_command::{read_split, split_words};
 use clap::{Arg, ArgMatches, Command};
+use edf_cli::{CommandFault, Status, VERSION, fault_by, print_fault, refuse_value};
 use edf_fragment::Output;
-use edf_program::{CommandFault, Status, VERSION, fault_by, print_fault, refuse_value};
 use std::alloc::{AllocError, Global};
 
 /// What `edfruns` is.

@@ -1,7 +1,7 @@
 //! `canonical`: the canonical file of a whole file.
 
 ghost use Rattle.std.specs.Prelude.{◌≡◌, ◌++◌, ℕ, List, MatchResult, replicate};
-ghost use Rattle.edf_program.specs.Output.{output_change};
+ghost use Rattle.edf_cli.specs.Output.{output_change};
 ghost use Rattle.edfruns_command.specs.Canonical.{HasPlan, HasPlanFault, IsCanonicalOut};
 ghost use Rattle.edfruns_command.specs.Canonical.{WritesFile, StopsAgain};
 ghost use Rattle.edfruns_command.specs.Inside.{IsPlanRefused, OpensUpTo};
@@ -11,8 +11,8 @@ use crate::arguments::{refuse_stream, twice_read_file_value, value_in};
 use crate::refusal::{refuse, refuse_canonical, tell_crowded, tell_outside};
 use crate::runs_command::RunsCommand;
 use clap::{Arg, ArgAction, ArgMatches, Command};
+use edf_cli::{CommandFault, Inputs, Status, print_memory};
 use edf_fragment::{Input, Output};
-use edf_program::{CommandFault, Inputs, Status, print_memory};
 use edf_runs::{
     CanonicalPlan, OnsetFault, WriteFault, plan_by_onset, plan_canonical, write_canonical,
 };

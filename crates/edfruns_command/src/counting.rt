@@ -6,9 +6,9 @@ ghost use Rattle.edfruns_command.specs.Counting.{counts_text};
 ghost use Rattle.edfruns_command.specs.Lines.{IsInstantFormat, run_front};
 
 use crate::lines::{line_front, run_at};
+use edf_cli::concat;
 use edf_field::MOST_DURATION;
 use edf_fragment::{Output, Remark};
-use edf_program::concat;
 use edf_runs::{Run, Written};
 use std::alloc::{AllocError, Global};
 

@@ -3,8 +3,8 @@
 //!
 //! - [`read_command`]: the words after the program's name, as a [`RunsCommand`]; help and usage are
 //!   written. [`parse`]: the words, read, and nothing else.
-//! - [`run_runs`]: one command, over what opens files (`edf_program`'s `Inputs`) and what makes
-//!   them (`edf_program`' `NewFiles`).
+//! - [`run_runs`]: one command, over what opens files (`edf_cli`'s `Inputs`) and what makes
+//!   them (`edf_cli`' `NewFiles`).
 //! - [`runs_text`]: the lines of runs that were listed; [`Sight`]: what a picture shows of a
 //!   recording, data record by data record, and the picture.
 #![tactic(auto)]

@@ -6,8 +6,8 @@ ghost use Rattle.edfruns_command.specs.Lines.{IsInstantFormat, each_line, end_of
 ghost use Rattle.edfruns_command.specs.Lines.{run_front};
 ghost use Rattle.edfruns_command.specs.Lines.{run_lines};
 
+use edf_cli::{concat, spelled};
 use edf_field::MOST_DURATION;
-use edf_program::{concat, spelled};
 use edf_runs::{Listing, Run};
 use edf_time::write_seconds;
 use std::alloc::{AllocError, Global};

@@ -3,7 +3,7 @@
 ghost use Rattle.std.specs.Prelude.{◌≡◌, ◌⊎◌, ◌++◌, ◌∷◌, [], ℕ, List, Ok, IfOk, MatchResult};
 ghost use Rattle.std.specs.Prelude.{map, replicate, string_bytes};
 ghost use Rattle.edf_field.specs.Number.{duration_of};
-ghost use Rattle.edf_program.specs.Output.{output_change, Gets, GetsPrefix, IsWritten};
+ghost use Rattle.edf_cli.specs.Output.{output_change, Gets, GetsPrefix, IsWritten};
 ghost use Rattle.edfruns_command.specs.Inside.{OpensUpTo};
 ghost use Rattle.edfruns_command.specs.Lines.{IsInstantFormat, run_lines, standard_output};
 ghost use Rattle.edfruns_command.specs.Lines.{unwritten_line};
@@ -16,8 +16,8 @@ use crate::lines::list_text;
 use crate::refusal::{STANDARD_OUTPUT, print_unwritten, refuse};
 use crate::runs_command::RunsCommand;
 use clap::{Arg, ArgAction, ArgMatches, Command};
+use edf_cli::{CommandFault, Inputs, Status, concat, print_memory, refuse_value, worse};
 use edf_fragment::{FragmentFault, Output, send};
-use edf_program::{CommandFault, Inputs, Status, concat, print_memory, refuse_value, worse};
 use edf_runs::{Listing, list_runs};
 use std::alloc::{AllocError, Global};
 

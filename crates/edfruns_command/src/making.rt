@@ -6,7 +6,7 @@ ghost use Rattle.edf_field.specs.Number.{duration_of};
 ghost use Rattle.edf_header.specs.Key.{MayStart};
 ghost use Rattle.edf_fragment.specs.Reading.{initial_progress};
 ghost use Rattle.edf_runs.specs.declared.run.Run.{Run as ListedRun};
-ghost use Rattle.edf_program.specs.Making.{making};
+ghost use Rattle.edf_cli.specs.Making.{making};
 ghost use Rattle.edfruns_command.specs.Inside.{OpensUpTo};
 ghost use Rattle.edfruns_command.specs.InsideMaking.{MakesFile, StopsFile, MakesFirst, StopsEach};
 ghost use Rattle.edfruns_command.specs.InsideMaking.{RereadsWith, StopsMaking, IsStopOf};
@@ -14,9 +14,9 @@ ghost use Rattle.edfruns_command.specs.InsideMaking.{IsAtEnd, StopsAtEnd};
 
 use crate::counting::{first_outside, with_line};
 use crate::stop::Stop;
+use edf_cli::{Inputs, NewFiles};
 use edf_field::MOST_DURATION;
 use edf_fragment::{FragmentFault, Input, OpenFragment};
-use edf_program::{Inputs, NewFiles};
 use edf_runs::{Listing, Run, WriteFault, Written, reopen_listed, write_run};
 use std::alloc::Global;
 

@@ -5,7 +5,7 @@ ghost use Rattle.edf_fragment.specs.Fragment.{DataRecord};
 ghost use Rattle.edf_fragment.specs.Reading.{initial_progress};
 ghost use Rattle.edf_fragment.specs.Whole.{FailsAfterRecords, IsFragmentFault};
 ghost use Rattle.edf_fragment.specs.Inside.Steps.{ReadsRecords};
-ghost use Rattle.edf_program.specs.Output.{output_change};
+ghost use Rattle.edf_cli.specs.Output.{output_change};
 ghost use Rattle.edf_runs.specs.ByOnset.{annotations_of};
 ghost use Rattle.edf_runs.specs.Read.{ReadsRuns};
 ghost use Rattle.edf_runs.specs.Runs.{AreListed};
@@ -20,11 +20,11 @@ use crate::refusal::{STANDARD_OUTPUT, print_unwritten, refuse};
 use crate::runs_command::RunsCommand;
 use crate::sight::Sight;
 use clap::{Arg, ArgAction, ArgMatches, Command};
+use edf_cli::{CommandFault, Inputs, Status, print_memory};
 use edf_field::MOST_DURATION;
 use edf_fragment::{FragmentFault, Input, OpenFragment, Output, send};
 use edf_header::Identity;
 use edf_header::laws::header_is_layout;
-use edf_program::{CommandFault, Inputs, Status, print_memory};
 use std::alloc::{AllocError, Global};
 
 /// What the picture shows.

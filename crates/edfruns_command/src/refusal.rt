@@ -2,19 +2,19 @@
 
 ghost use Rattle.std.specs.Prelude.{◌≡◌, ◌≢◌, ◌⊎◌};
 ghost use Rattle.std.specs.Bool.{MatchBool};
-ghost use Rattle.edf_program.specs.Output.{output_change, IsPut, IsWritten};
-ghost use Rattle.edf_program.specs.Text.{memory_line};
+ghost use Rattle.edf_cli.specs.Output.{output_change, IsPut, IsWritten};
+ghost use Rattle.edf_cli.specs.Text.{memory_line};
 ghost use Rattle.edfruns_command.specs.Canonical.{TellsOutside};
 ghost use Rattle.edfruns_command.specs.Lines.{canonical_refused_line, crowded_line, left_line};
 ghost use Rattle.edfruns_command.specs.Lines.{file_refused_line, file_refused_status};
 ghost use Rattle.edfruns_command.specs.Lines.{reread_line, stop_line, undated_line, unwritten_line};
 
 use crate::stop::Stop;
-use edf_fragment::{FragmentFault, Output, Remark};
-use edf_program::{
+use edf_cli::{
     Status, fragment_fault_text, print_line, print_memory, print_parts, print_refused,
     status_of_number,
 };
+use edf_fragment::{FragmentFault, Output, Remark};
 use edf_runs::WriteFault;
 use itoa::Buffer;
 use std::alloc::Global;

@@ -2,15 +2,15 @@
 
 ghost use Rattle.std.specs.Prelude.{◌≡◌, ◌-◌, ◌≤◌, ◌++◌, ◌∷◌, List, length, map, string_bytes};
 ghost use Rattle.std.specs.Prelude.{drop, take};
-ghost use Rattle.edf_program.specs.Output.{output_change};
-ghost use Rattle.edf_program.specs.Made.{MadeFile, names_of};
+ghost use Rattle.edf_cli.specs.Output.{output_change};
+ghost use Rattle.edf_cli.specs.Made.{MadeFile, names_of};
 ghost use Rattle.edfruns_command.specs.InsideSplit.{RemovesOne, RemovesFrom};
 ghost use Rattle.edfruns_command.specs.Lines.{stop_line};
 
 use crate::refusal::{is_left_told, is_stop_told};
 use crate::stop::Stop;
+use edf_cli::{NewFiles, Status};
 use edf_fragment::Output;
-use edf_program::{NewFiles, Status};
 
 /// Removes the file at a place of those that were made, and prints its name where that can't be
 /// done, unless printing failed before. Whether all was printed whole.

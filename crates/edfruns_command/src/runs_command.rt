@@ -1,15 +1,15 @@
 //! The commands: what each asks for, how often it reads its file, and its work.
 
-ghost use Rattle.edf_program.specs.Output.{output_change};
-ghost use Rattle.edf_program.specs.Making.{making};
+ghost use Rattle.edf_cli.specs.Output.{output_change};
+ghost use Rattle.edf_cli.specs.Making.{making};
 ghost use Rattle.edfruns_command.specs.Run.{IsDone, HasMade, HasOpened, meaning};
 
 use crate::canonical_command::canonical;
 use crate::list_command::list;
 use crate::picture_command::picture;
 use crate::split_command::split;
+use edf_cli::{Inputs, NewFiles, Status};
 use edf_fragment::Output;
-use edf_program::{Inputs, NewFiles, Status};
 use std::alloc::Global;
 
 /// What a command line of `edfruns` asks for. A file is a path, or `-` for the standard input of

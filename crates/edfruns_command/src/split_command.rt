@@ -3,10 +3,10 @@
 ghost use Rattle.std.specs.Prelude.{◌≡◌, ◌-◌, ◌≤◌, ℕ, List, All, IfOk, MatchOption, length, map};
 ghost use Rattle.std.specs.Prelude.{string_bytes, take};
 ghost use Rattle.edf_header.specs.Key.{MayStart};
-ghost use Rattle.edf_program.specs.Output.{output_change};
+ghost use Rattle.edf_cli.specs.Output.{output_change};
 ghost use Rattle.edf_runs.specs.declared.run.Run.{Run as ListedRun};
-ghost use Rattle.edf_program.specs.Making.{making};
-ghost use Rattle.edf_program.specs.There.{IsVacant};
+ghost use Rattle.edf_cli.specs.Making.{making};
+ghost use Rattle.edf_cli.specs.There.{IsVacant};
 ghost use Rattle.edfruns_command.specs.InsideSplit.{SplitsListed};
 ghost use Rattle.edfruns_command.specs.Listing.{OpensAgain};
 ghost use Rattle.edfruns_command.specs.Naming.{asked_names};
@@ -22,8 +22,8 @@ use crate::removing::give_up;
 use crate::runs_command::RunsCommand;
 use crate::stop::Stop;
 use clap::{ArgMatches, Command};
+use edf_cli::{CommandFault, Inputs, NewFiles, Status, print_memory, print_name_taken};
 use edf_fragment::{Output, send};
-use edf_program::{CommandFault, Inputs, NewFiles, Status, print_memory, print_name_taken};
 use edf_runs::Listing;
 use std::alloc::{AllocError, Global};
 

@@ -3,7 +3,7 @@
 ghost use Rattle.std.specs.Prelude.{◌≡◌};
 
 use edf_fragment::Input;
-use edfstore_host::Standing;
+use edfstore_open::Standing;
 use std::io;
 
 /// An input, after each of whose reads it is asked whether the files of the store stand: so also

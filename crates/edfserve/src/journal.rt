@@ -1,14 +1,14 @@
 //! What a session tells of its store on standard error, where a service's journal reads it.
 
 ghost use Rattle.std.specs.Prelude.{◌≡◌, ◌⊎◌, None};
-ghost use Rattle.edf_program.specs.declared.status.Status.TheVariants.{Trouble};
+ghost use Rattle.edf_cli.specs.declared.status.Status.TheVariants.{Trouble};
 
 use edf_command::{Status, print_store_not_closed};
 use edf_fragment::Output;
-use edf_program_run::{EndedRun, Watch};
+use edf_os::Terminal;
 use edf_store::StoreFault;
-use edf_system::Terminal;
-use edfstore_host::{Refused, Standing, print_cause, print_failure_of, print_lost};
+use edfstore_files::{EndedRun, Watch};
+use edfstore_open::{Refused, Standing, print_cause, print_failure_of, print_lost};
 use sqlite_std_file::File;
 
 /// Tells how the opening of a store went, and its close.

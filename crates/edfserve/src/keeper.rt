@@ -4,7 +4,7 @@ use edf_fragment::saturating_increment;
 use edf_intake::Receipt;
 use edf_serve::StoreFiles;
 use edf_store::Store;
-use edfstore_host::Standing;
+use edfstore_open::Standing;
 use sqlite::Alter;
 
 /// Asks the system, and counts its answers, each up to `u64::MAX`.

@@ -9,12 +9,12 @@ mod keeper;
 mod output;
 mod sources;
 
+use edf_cli::{Status, print_fault, print_memory};
 use edf_fragment::Counted;
-use edf_program::{Status, print_fault, print_memory};
-use edf_program_run::Cap;
+use edf_os::{Terminal, refuse_words, words};
 use edf_serve::{Console, Lines, Room, ServeWords, parse_words, serve_opened};
-use edf_system::{Terminal, refuse_words, words};
-use edfstore_host::{Standing, open_standing};
+use edfstore_files::Cap;
+use edfstore_open::{Standing, open_standing};
 use input::WatchedInput;
 use journal::Journal;
 use keeper::Keeper;

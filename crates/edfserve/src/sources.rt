@@ -2,11 +2,11 @@
 
 ghost use Rattle.std.specs.Prelude.{None};
 
+use edf_cli::Inputs;
 use edf_fragment::Counted;
-use edf_program::Inputs;
+use edf_os::{FileReader, Files, Terminal};
 use edf_serve::Sources;
-use edf_system::{FileReader, Files, Terminal};
-use edfstore_host::Standing;
+use edfstore_open::Standing;
 use std::alloc::{AllocError, Global};
 use std::fs;
 

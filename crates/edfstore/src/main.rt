@@ -1,8 +1,8 @@
 //! The program `edfstore`: takes, lists, exports and converts sleep recordings. What it does is
-//! `edfstore_host`'s.
+//! `edfstore_open`'s.
 #![tactic(auto)]
 
-use edfstore_host::run_program;
+use edfstore_open::run_program;
 use std::process::ExitCode;
 
 fn main(rt: HostRuntime) -> ExitCode {

@@ -2,8 +2,8 @@
 
 use crate::{Outcome, print_out, print_outcome, words_of};
 use edf_fragment::Counted;
+use edf_os::{Files, PartFiles, Terminal};
 use edf_sample::Sink;
-use edf_system::{Files, PartFiles, Terminal};
 use std::{fs, io};
 
 /// Does what words ask `edfruns` for.

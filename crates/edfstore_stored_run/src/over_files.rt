@@ -5,10 +5,10 @@ ghost use Rattle.std.specs.Prelude.{None};
 use crate::{Outcome, print_outcome, words_of};
 use edf_command::{Order, Status, read_command, store_path};
 use edf_fragment::{Counted, Output};
-use edf_program_run::{Cap, Watch, open_path, run_opened};
+use edf_os::{Files, Terminal};
 use edf_sample::Sink;
 use edf_store::StoreFault;
-use edf_system::{Files, Terminal};
+use edfstore_files::{Cap, Watch, open_path, run_opened};
 use sqlite::Unknown;
 use std::io;
 

@@ -2,9 +2,9 @@
 use Rattle.std.specs.Prelude.{◌≡◌, ◌≢◌, String, List, Option, Result, IfOk, IfErr, IsErrAnd}
 use Rattle.std.specs.Prelude.{option_map}
 use Rattle.std.specs.Global.{Global}
-use Rattle.edf_program.specs.Words.{IsNoHelp, IsNoUsage}
-use Rattle.edf_program.specs.declared.words.CommandFault.{CommandFault}
-use Rattle.edf_program.specs.declared.words.CommandFault.TheVariants.{Memory}
+use Rattle.edf_cli.specs.Words.{IsNoHelp, IsNoUsage}
+use Rattle.edf_cli.specs.declared.words.CommandFault.{CommandFault}
+use Rattle.edf_cli.specs.declared.words.CommandFault.TheVariants.{Memory}
 use Rattle.edf_command.specs.Arguments.{AreValues, AskForHelp, AskForNoHelp, WordsParseToNothing}
 use Rattle.edf_command.specs.Arguments.{request, meaning, texts}
 use Rattle.edf_command.specs.declared.order.Order.{Order}

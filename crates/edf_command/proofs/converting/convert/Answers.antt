@@ -2,10 +2,10 @@ use Rattle.std.proofs.Common.{◌∙◌, ap, subst, refl, inl, inr}
 use Rattle.std.proofs.lemmas.Result.{IfOk-weaker}
 use Rattle.edf_fragment.specs.Call.{input_state}
 use Rattle.edf_command.specs.Lines.{refused_file_line}
-use Rattle.edf_program.specs.Status.{status_of_number}
-use Rattle.edf_program.specs.Output.{output_change, IsLinePrinted}
-use Rattle.edf_program.specs.declared.status.Status.{Status}
-use Rattle.edf_program.proofs.Puts.{nothing-gets, remarked}
+use Rattle.edf_cli.specs.Status.{status_of_number}
+use Rattle.edf_cli.specs.Output.{output_change, IsLinePrinted}
+use Rattle.edf_cli.specs.declared.status.Status.{Status}
+use Rattle.edf_cli.proofs.Puts.{nothing-gets, remarked}
 use Rattle.edf_command.proofs.converting.convert.Goals as goal
 
 pub returns-in_default-clause-converted : goal.returns-in_default-clause-converted

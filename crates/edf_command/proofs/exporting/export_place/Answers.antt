@@ -6,11 +6,11 @@ use Rattle.edf_store.proofs.Readiness.{stays_then}
 use Rattle.edf_command.specs.Exporting.{at_place}
 use Rattle.edf_export.specs.declared.fault.ExportFault.TheVariants.{Store}
 use Rattle.edf_command.specs.Lines.{no_recording_line}
-use Rattle.edf_program.specs.Output.{output_change, Explains}
-use Rattle.edf_program.specs.declared.status.Status.TheVariants.{Refused}
+use Rattle.edf_cli.specs.Output.{output_change, Explains}
+use Rattle.edf_cli.specs.declared.status.Status.TheVariants.{Refused}
 use Rattle.edf_export.proofs.Walks.{clean_before}
 use Rattle.edf_command.proofs.Staying.{is-refusal, not-failed}
-use Rattle.edf_program.proofs.Puts.{nothing-gets}
+use Rattle.edf_cli.proofs.Puts.{nothing-gets}
 use Rattle.edf_command.proofs.exporting.export_place.Goals as goal
 
 pub returns-in-Err : goal.returns-in-Err

@@ -1,6 +1,6 @@
 use Rattle.std.proofs.Common.{Err, refl, inl, inr, ap}
 use Rattle.edf_export.specs.declared.fault.ExportFault.{ExportFault}
-use Rattle.edf_program.proofs.Puts.{nothing-gets}
+use Rattle.edf_cli.proofs.Puts.{nothing-gets}
 use Rattle.edf_command.proofs.exporting.export_recording.Goals as goal
 
 pub returns-in-Ok-clause-exported : goal.returns-in-Ok-clause-exported

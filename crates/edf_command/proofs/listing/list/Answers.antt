@@ -5,9 +5,9 @@ use Rattle.edf_holdings.proofs.KeyLists.{keys_are_one}
 use Rattle.edf_store.proofs.Readiness.{stays_then}
 use Rattle.edf_command.specs.Listing.{AreHeldBy}
 use Rattle.edf_command.specs.Lines.{first_list_lines}
-use Rattle.edf_program.specs.Output.{output_change, Gets, AreLinesWritten}
-use Rattle.edf_program.specs.declared.status.Status.TheVariants.{Done}
-use Rattle.edf_program.proofs.Puts.{nothing-gets, trouble-lines}
+use Rattle.edf_cli.specs.Output.{output_change, Gets, AreLinesWritten}
+use Rattle.edf_cli.specs.declared.status.Status.TheVariants.{Done}
+use Rattle.edf_cli.proofs.Puts.{nothing-gets, trouble-lines}
 use Rattle.edf_export.proofs.Walks.{clean_before}
 use Rattle.edf_command.proofs.Staying.{is-refusal, not-failed}
 use Rattle.edf_command.proofs.listing.list.Goals as goal

@@ -4,8 +4,8 @@ use Rattle.std.proofs.lemmas.List.{take_all}
 use Rattle.std.proofs.lemmas.Result.{err_from_is_err_and}
 use Rattle.edf_store.proofs.Readiness.{stays_then}
 use Rattle.edf_command.specs.Lines.{list_line, list_lines, first_list_lines}
-use Rattle.edf_program.specs.Output.{output_change, Gets, IsLineWritten}
-use Rattle.edf_program.proofs.Puts.{nothing-gets, gets-after, gets-no_more, stops-after}
+use Rattle.edf_cli.specs.Output.{output_change, Gets, IsLineWritten}
+use Rattle.edf_cli.proofs.Puts.{nothing-gets, gets-after, gets-no_more, stops-after}
 use Rattle.edf_export.proofs.Walks.{stays_same, clean_before}
 use Rattle.edf_command.proofs.Written.{listed-next, listed-past}
 use Rattle.edf_command.proofs.listing.put_recordings.Goals as goal

@@ -2,9 +2,9 @@ use Rattle.std.proofs.Common.{◌≡◌, ℕ, List}
 use Rattle.sqlite.specs.State.{HasCleanDisk}
 use Rattle.edf_holdings.specs.Holdings.{Holdings}
 use Rattle.edf_store.specs.Held.{at, Holds, KeepsHoldings}
-use Rattle.edf_program.specs.Text.{IsInstantFormat}
+use Rattle.edf_cli.specs.Text.{IsInstantFormat}
 use Rattle.edf_command.specs.Lines.{first_list_lines}
-use Rattle.edf_program.specs.Output.{output_change, Gets}
+use Rattle.edf_cli.specs.Output.{output_change, Gets}
 use Rattle.edf_command.specs.Listing.{AreHeldBy}
 use Rattle.edf_command.proofs.listing.put_recordings.Given as goal
 

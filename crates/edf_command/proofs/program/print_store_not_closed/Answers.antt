@@ -1,7 +1,7 @@
 use Rattle.std.proofs.Common.{List, ℕ, ◌++◌, ◌∷◌, [], ap, subst, codes, decimal, ◌∙◌}
 use Rattle.edf_store.specs.Fault.{number}
-use Rattle.edf_program.specs.Output.{output_change, IsWritten}
-use Rattle.edf_program.specs.declared.status.Status.TheVariants.{Trouble}
+use Rattle.edf_cli.specs.Output.{output_change, IsWritten}
+use Rattle.edf_cli.specs.declared.status.Status.TheVariants.{Trouble}
 use Rattle.edf_command.proofs.program.print_store_not_closed.Goals as goal
 
 pub returns : goal.returns

@@ -1,4 +1,4 @@
-use Rattle.edf_program.proofs.Puts.{nothing-gets}
+use Rattle.edf_cli.proofs.Puts.{nothing-gets}
 use Rattle.edf_command.proofs.program.read_command.Goals as goal
 
 pub returns-in-Ok : goal.returns-in-Ok

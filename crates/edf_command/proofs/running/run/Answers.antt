@@ -1,7 +1,7 @@
 use Rattle.std.proofs.Common.{List, ℕ, sym, subst}
 use Rattle.edf_command.specs.Arguments.{meaning}
 use Rattle.edf_command.specs.declared.order.Order.{Order}
-use Rattle.edf_program.specs.Output.{output_change}
+use Rattle.edf_cli.specs.Output.{output_change}
 use Rattle.edf_command.specs.Run.{IsDone, IsConverted}
 use Rattle.edf_command.proofs.running.run.Goals as goal
 

@@ -1,8 +1,8 @@
 use Rattle.std.proofs.Common.{true}
 use Rattle.std.proofs.lemmas.Result.{IfOk-weaker}
 use Rattle.edf_command.specs.Lines.{take_line}
-use Rattle.edf_program.specs.Output.{IsLineWritten}
-use Rattle.edf_program.proofs.Puts.{remarked}
+use Rattle.edf_cli.specs.Output.{IsLineWritten}
+use Rattle.edf_cli.proofs.Puts.{remarked}
 use Rattle.edf_command.proofs.taking.put_answer.Goals as goal
 
 pub returns-then-not-put_line : goal.returns-then-not-put_line

@@ -4,8 +4,8 @@ use Rattle.std.proofs.lemmas.List.{length_push, take_all}
 use Rattle.std.proofs.lemmas.Slice.Zip.{zip_turn, zip_end}
 use Rattle.std.specs.List.{flat_map}
 use Rattle.edf_command.specs.Lines.{take_line, first_take_lines}
-use Rattle.edf_program.specs.Output.{output_change, Gets}
-use Rattle.edf_program.proofs.Puts.{grown, nothing-gets, gets-after, stops-after}
+use Rattle.edf_cli.specs.Output.{output_change, Gets}
+use Rattle.edf_cli.proofs.Puts.{grown, nothing-gets, gets-after, stops-after}
 use Rattle.edf_command.proofs.Written.{pairs, pair_line, length-pairs, first-pairs, all-pairs}
 use Rattle.edf_command.proofs.Written.{taken-more, first-split}
 use Rattle.edf_command.proofs.taking.put_answers.Goals as goal

@@ -1,8 +1,8 @@
 use Rattle.std.proofs.Common.{ℕ, List, map, take, length, string_bytes}
 use Rattle.std.specs.List.{flat_map, zip}
-use Rattle.edf_program.specs.Text.{IsInstantFormat}
+use Rattle.edf_cli.specs.Text.{IsInstantFormat}
 use Rattle.edf_command.specs.Lines.{take_line}
-use Rattle.edf_program.specs.Output.{output_change, Gets}
+use Rattle.edf_cli.specs.Output.{output_change, Gets}
 use Rattle.edf_command.proofs.taking.put_answers.Given as goal
 
 abbrev pub invariant-loop-file : goal.invariant-loop-file

@@ -5,8 +5,8 @@ use Rattle.std.proofs.lemmas.Simd.{map-map}
 use Rattle.edf_intake.specs.Refusal.{Answer}
 use Rattle.edf_fragment.specs.Call.{InputState, input_state}
 use Rattle.edf_command.specs.Lines.{first_take_lines, take_status}
-use Rattle.edf_program.specs.Output.{output_change, AreLinesWritten}
-use Rattle.edf_program.proofs.Puts.{nothing-gets, trouble-lines}
+use Rattle.edf_cli.specs.Output.{output_change, AreLinesWritten}
+use Rattle.edf_cli.proofs.Puts.{nothing-gets, trouble-lines}
 use Rattle.edf_command.proofs.taking.take.Goals as goal
 
 pub returns-in_default-clause-taken : goal.returns-in_default-clause-taken

@@ -1,7 +1,7 @@
 use Rattle.std.proofs.Common.{◌≡◌, fold, take}
-use Rattle.edf_program.specs.Status.{worse}
+use Rattle.edf_cli.specs.Status.{worse}
 use Rattle.edf_command.specs.Lines.{answer_status}
-use Rattle.edf_program.specs.declared.status.Status.TheVariants.{Done}
+use Rattle.edf_cli.specs.declared.status.Status.TheVariants.{Done}
 use Rattle.edf_command.proofs.taking.take_status.Given as goal
 
 abbrev pub invariant-loop-answer : goal.invariant-loop-answer

@@ -1,6 +1,6 @@
 use Rattle.std.proofs.Common.{◌≡◌, ℕ, List, Some, true, ap, refl, subst, rules}
-use Rattle.edf_program.specs.Making.{Making}
-use Rattle.edf_program.specs.Output.{OutputChange}
+use Rattle.edf_cli.specs.Making.{Making}
+use Rattle.edf_cli.specs.Output.{OutputChange}
 use Rattle.edfmend_command.specs.Run.{IsMendDone, meaning}
 use Rattle.edf_page.specs.InsideFolder.{there_in, unforgotten}
 use Rattle.edf_page.specs.declared.given.GivenFile.{GivenFile}

@@ -1,7 +1,7 @@
 use Rattle.std.proofs.Common.{List, ℕ, None, ap, subst}
 use Rattle.edf_store.specs.Fault.{number, store_fault_name}
 use Rattle.edf_store.specs.declared.fault.StoreFault.TheVariants.{Store}
-use Rattle.edf_program.specs.declared.status.Status.TheVariants.{Trouble}
+use Rattle.edf_cli.specs.declared.status.Status.TheVariants.{Trouble}
 use Rattle.edf_serve.specs.Client.{GetsAnswer, Looks, status_line}
 use Rattle.edf_serve.specs.Lines.{whole_lines}
 use Rattle.edf_serve.specs.Work.{Point, grown, point}

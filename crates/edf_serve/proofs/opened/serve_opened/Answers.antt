@@ -1,6 +1,6 @@
 use Rattle.std.proofs.Common.{refl, subst}
 use Rattle.sqlite_wal.specs.Files.{image_at}
-use Rattle.edf_program_run.specs.ProgramRun.{IsOpening}
+use Rattle.edfstore_files.specs.ProgramRun.{IsOpening}
 use Rattle.edf_serve.proofs.opened.serve_opened.Goals as goal
 
 pub returns-in-Ok-clause-ran : goal.returns-in-Ok-clause-ran

@@ -6,11 +6,11 @@ use Rattle.sqlite.specs.Files.{over_files}
 use Rattle.edf_tables.specs.Schema.{AreOurs}
 use Rattle.edf_store.specs.Held.{StoreModel}
 use Rattle.edf_store.specs.Open.{IsReturned}
-use Rattle.edf_program.specs.Output.{output_change}
-use Rattle.edf_program.proofs.Puts.{nothing-gets}
-use Rattle.edf_program_run.specs.ProgramRun.{IsNoticed, ProgramRun, Refuses}
-use Rattle.edf_program_run.proofs.Ending.{ran_back, is_refused, none_failed}
-use Rattle.edf_program_run.proofs.Working.{Works, Returns}
+use Rattle.edf_cli.specs.Output.{output_change}
+use Rattle.edf_cli.proofs.Puts.{nothing-gets}
+use Rattle.edfstore_files.specs.ProgramRun.{IsNoticed, ProgramRun, Refuses}
+use Rattle.edfstore_files.proofs.Ending.{ran_back, is_refused, none_failed}
+use Rattle.edfstore_files.proofs.Working.{Works, Returns}
 use Rattle.edf_serve.specs.Session.{Moment}
 use Rattle.edf_serve.specs.SessionRun.{session_run}
 use Rattle.edf_serve.specs.Work.{point}

@@ -1,6 +1,6 @@
 use Rattle.std.proofs.Common.{◌∙◌, Some, None, refl, ap, subst, sym}
 use Rattle.edf_serve.specs.Lines.{IsNext}
-use Rattle.edf_program.specs.Status.{worse}
+use Rattle.edf_cli.specs.Status.{worse}
 use Rattle.edf_serve.specs.Work.{point}
 use Rattle.edf_serve.specs.declared.answering.Answered.{Answered}
 use Rattle.edf_serve.specs.declared.answering.End.TheVariants as end

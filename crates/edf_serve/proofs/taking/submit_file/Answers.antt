@@ -1,6 +1,6 @@
 use Rattle.std.proofs.Common.{Some, Ok, Err, refl, ap, inl}
 use Rattle.edf_fragment.specs.Call.{input_state}
-use Rattle.edf_program.proofs.Puts.{nothing-gets}
+use Rattle.edf_cli.proofs.Puts.{nothing-gets}
 use Rattle.edf_serve.specs.Files.{Paths}
 use Rattle.edf_serve.specs.Work.{Point, Submission, point}
 use Rattle.edf_serve.proofs.taking.submit_file.Goals as goal

@@ -1,6 +1,6 @@
 use Rattle.std.proofs.Common.{List, ℕ, ◌++◌, ◌∷◌, [], subst, codes}
-use Rattle.edf_program.specs.Output.{output_change, IsWritten}
-use Rattle.edf_program.specs.declared.status.Status.TheVariants.{Refused}
+use Rattle.edf_cli.specs.Output.{output_change, IsWritten}
+use Rattle.edf_cli.specs.declared.status.Status.TheVariants.{Refused}
 use Rattle.edf_serve.proofs.taking.tell_outside.Goals as goal
 
 pub returns : goal.returns

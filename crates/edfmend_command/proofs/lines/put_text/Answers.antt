@@ -1,6 +1,6 @@
 use Rattle.std.proofs.Common.{List, ℕ, subst}
 use Rattle.std.proofs.lemmas.List.{append-nil}
-use Rattle.edf_program.specs.Output.{output_change, IsPut}
+use Rattle.edf_cli.specs.Output.{output_change, IsPut}
 use Rattle.edfmend_command.proofs.lines.put_text.Goals as goal
 
 pub returns : goal.returns

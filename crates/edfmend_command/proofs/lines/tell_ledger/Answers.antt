@@ -1,6 +1,6 @@
 use Rattle.std.proofs.Common.{subst, refl, ◌∙◌}
-use Rattle.edf_program.specs.Output.{output_change, Gets, GetsPrefix}
-use Rattle.edf_program.proofs.Puts.{nothing-gets}
+use Rattle.edf_cli.specs.Output.{output_change, Gets, GetsPrefix}
+use Rattle.edf_cli.proofs.Puts.{nothing-gets}
 use Rattle.edfmend_command.specs.Run.{told, cut, unsaid}
 use Rattle.edfmend_command.proofs.lines.tell_ledger.Goals as goal
 

@@ -2,10 +2,10 @@ use Rattle.std.proofs.Common.{◌≡◌, ◌⊎◌, ℕ, List, Option, subst, sy
 use Rattle.edf_mend.specs.declared.fault.MendFault.{MendFault}
 use Rattle.edf_mend.specs.declared.fault.MendFault.TheVariants.{Read, Memory}
 use Rattle.std.specs.Prelude.{option_map}
-use Rattle.edf_program.specs.Output.{output_change}
-use Rattle.edf_program.proofs.Puts.{nothing-gets}
+use Rattle.edf_cli.specs.Output.{output_change}
+use Rattle.edf_cli.proofs.Puts.{nothing-gets}
 use Rattle.edfmend_command.specs.Run.{SaysWhy, CountsWrite}
-use Rattle.edf_program.proofs.Filled.{filled}
+use Rattle.edf_cli.proofs.Filled.{filled}
 use Rattle.edfmend_command.proofs.Mending.{asked-makes, asked-stops, asked-surveys, unread}
 use Rattle.edfmend_command.proofs.Opened.{fewer, then-up, then-twice, says-undone}
 use Rattle.edfmend_command.proofs.mend_command.mend_to.Goals as goal

@@ -1,7 +1,7 @@
 use Rattle.std.proofs.Common.{◌⊎◌, ℕ, List, Option, sym, subst, refl}
 use Rattle.std.specs.Prelude.{option_map, string_bytes}
-use Rattle.edf_program.specs.Output.{output_change}
-use Rattle.edf_program.specs.Making.{making}
+use Rattle.edf_cli.specs.Output.{output_change}
+use Rattle.edf_cli.specs.Making.{making}
 use Rattle.edfmend_command.specs.Run.{IsDoneTo, meaning, FindsName, MakesMended, LacksMended}
 use Rattle.edfmend_command.specs.Run.{TellsChanges, LacksChanges}
 use Rattle.edfmend_command.proofs.mend_command.run_mend.Goals as goal

@@ -1,6 +1,6 @@
 use Rattle.std.proofs.Common.{inl, inr}
-use Rattle.edf_program.specs.Output.{output_change}
-use Rattle.edf_program.proofs.Puts.{nothing-gets}
+use Rattle.edf_cli.specs.Output.{output_change}
+use Rattle.edf_cli.proofs.Puts.{nothing-gets}
 use Rattle.edfmend_command.proofs.Opened.{fewer, says-undone}
 use Rattle.std.specs.Prelude.{None}
 use Rattle.edfmend_command.proofs.mend_command.tell_changes.Goals as goal

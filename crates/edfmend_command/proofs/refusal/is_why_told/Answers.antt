@@ -1,8 +1,8 @@
 use Rattle.std.proofs.Common.{List, ℕ, true}
 use Rattle.std.specs.List.{flat_map}
 use Rattle.std.specs.Borrow.{Bor}
-use Rattle.edf_program.specs.Output.{IsPut}
-use Rattle.edf_program.proofs.Puts.{remarked}
+use Rattle.edf_cli.specs.Output.{IsPut}
+use Rattle.edf_cli.proofs.Puts.{remarked}
 use Rattle.edfmend_command.proofs.refusal.is_why_told.Goals as goal
 
 pub returns : goal.returns

@@ -3,7 +3,7 @@ use Rattle.std.specs.Prelude.{option_map}
 use Rattle.edf_mend.specs.declared.fault.MendFault.TheVariants.{Code, Count, NoRoom, Changed}
 use Rattle.edf_mend.specs.declared.fault.MendFault.TheVariants.{Read, Write, Memory}
 use Rattle.edf_mend.specs.declared.fault.MendFault.TheVariants.{Unused, Startdate, Starttime, SecondHeader}
-use Rattle.edf_program.specs.Output.{output_change}
+use Rattle.edf_cli.specs.Output.{output_change}
 use Rattle.edfmend_command.proofs.Told.{says}
 use Rattle.edfmend_command.proofs.refusal.refuse.Goals as goal
 

@@ -2,8 +2,8 @@ use Rattle.std.proofs.Common.{◌++◌, [], ℕ, List, ap, ◌∙◌, codes}
 use Rattle.std.specs.Prelude.{option_map}
 use Rattle.std.proofs.lemmas.List.{append-nil}
 use Rattle.edf_mend.specs.declared.fault.MendFault.TheVariants.{Refused}
-use Rattle.edf_program.specs.Output.{output_change}
-use Rattle.edf_program.specs.Status.{status_of_number}
+use Rattle.edf_cli.specs.Output.{output_change}
+use Rattle.edf_cli.specs.Status.{status_of_number}
 use Rattle.edfmend_command.proofs.Told.{says-by, says-memory}
 use Rattle.edfmend_command.proofs.refusal.refuse_form.Goals as goal
 

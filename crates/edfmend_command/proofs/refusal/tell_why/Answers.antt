@@ -3,8 +3,8 @@ use Rattle.std.specs.Prelude.{option_map}
 use Rattle.std.specs.Borrow.{Bor}
 use Rattle.std.specs.List.{flat_map}
 use Rattle.std.proofs.lemmas.List.{append-nil}
-use Rattle.edf_program.specs.Output.{output_change, IsWritten}
-use Rattle.edf_program.specs.declared.status.Status.TheVariants.{Trouble}
+use Rattle.edf_cli.specs.Output.{output_change, IsWritten}
+use Rattle.edf_cli.specs.declared.status.Status.TheVariants.{Trouble}
 use Rattle.edfmend_command.specs.Lines.{kept_line, kept_status}
 use Rattle.edfmend_command.proofs.Told.{mapped-some, kept-cut, kept-none, written-after}
 use Rattle.edfmend_command.proofs.refusal.tell_why.Goals as goal

@@ -1,9 +1,9 @@
 use Rattle.std.proofs.Common.{List, ℕ, ◌∙◌, subst, inl, inr}
 use Rattle.std.specs.Prelude.{Option}
-use Rattle.edf_program.specs.Output.{output_change}
-use Rattle.edf_program.proofs.Puts.{nothing-gets}
+use Rattle.edf_cli.specs.Output.{output_change}
+use Rattle.edf_cli.proofs.Puts.{nothing-gets}
 use Rattle.edfruns_command.specs.Canonical.{WritesFile, StopsAgain, TellsOutside}
-use Rattle.edf_program.proofs.Undone.{trouble-undone}
+use Rattle.edf_cli.proofs.Undone.{trouble-undone}
 use Rattle.edfruns_command.proofs.Answered.{opened-again, opened-twice, lacks-plan}
 use Rattle.edfruns_command.proofs.Answered.{opened-refused, plan-undone}
 use Rattle.edfruns_command.proofs.canonical_command.canonical.Goals as goal

@@ -1,10 +1,10 @@
 use Rattle.std.proofs.Common.{List, ℕ, subst, ap, inl, ◌∙◌}
 use Rattle.std.specs.Prelude.{Option, Err}
 use Rattle.std.proofs.lemmas.Result.{err_from_is_err_and}
-use Rattle.edf_program.specs.Output.{output_change}
+use Rattle.edf_cli.specs.Output.{output_change}
 use Rattle.edf_runs.specs.Canonical.{IsNotCanonical}
 use Rattle.edf_runs.specs.declared.fault.WriteFault.{WriteFault}
-use Rattle.edf_program.proofs.Opened.{opened-once}
+use Rattle.edf_cli.proofs.Opened.{opened-once}
 use Rattle.edf_runs.proofs.Whole.{err_is}
 use Rattle.edfruns_command.proofs.Answered.{counts-write}
 use Rattle.edfruns_command.proofs.canonical_command.write_planned.Goals as goal

@@ -1,5 +1,5 @@
 use Rattle.std.proofs.Common.{◌≡◌, ℕ, List, map, take, string_bytes}
-use Rattle.edf_program.specs.Output.{output_change}
+use Rattle.edf_cli.specs.Output.{output_change}
 use Rattle.edfruns_command.specs.Listed.{AreListed, OpensEach, held_before, held_after}
 use Rattle.edfruns_command.proofs.list_command.list.Given as goal
 

@@ -1,6 +1,6 @@
 use Rattle.std.proofs.Common.{◌∙◌, inr}
-use Rattle.edf_program.specs.Output.{output_change}
-use Rattle.edf_program.proofs.Puts.{nothing-gets}
+use Rattle.edf_cli.specs.Output.{output_change}
+use Rattle.edf_cli.proofs.Puts.{nothing-gets}
 use Rattle.edfruns_command.specs.Listed.{file_label}
 use Rattle.edfruns_command.proofs.Answered.{refused}
 use Rattle.edfruns_command.proofs.Listed.{sent}

@@ -1,6 +1,6 @@
 use Rattle.std.proofs.Common.{Bool, subst, refl, true}
-use Rattle.edf_program.specs.Output.{output_change, IsPut}
-use Rattle.edf_program.proofs.Puts.{nothing-gets, put-sent}
+use Rattle.edf_cli.specs.Output.{output_change, IsPut}
+use Rattle.edf_cli.proofs.Puts.{nothing-gets, put-sent}
 use Rattle.edfruns_command.proofs.list_command.send_lines.Goals as goal
 
 pub returns-then-send : goal.returns-then-send

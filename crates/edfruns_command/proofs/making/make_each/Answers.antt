@@ -6,7 +6,7 @@ use Rattle.std.proofs.lemmas.Option.{slice_get-get_or}
 use Rattle.std.proofs.lemmas.Result.{err_from_is_err_and}
 use Rattle.edf_field.specs.Number.{duration_of}
 use Rattle.edf_header.specs.Header.{Layout}
-use Rattle.edf_program.specs.Making.{making}
+use Rattle.edf_cli.specs.Making.{making}
 use Rattle.edfruns_command.specs.Counting.{counts_text}
 use Rattle.edfruns_command.specs.Lines.{IsInstantFormat, run_front}
 use Rattle.edfruns_command.specs.InsideMaking.{MakesFile, StopsFile, MakesFirst}

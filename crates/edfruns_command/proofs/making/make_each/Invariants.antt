@@ -1,5 +1,5 @@
 use Rattle.std.proofs.Common.{◌≡◌, ◌≤◌, length, map, string_bytes}
-use Rattle.edf_program.specs.Making.{making}
+use Rattle.edf_cli.specs.Making.{making}
 use Rattle.edfruns_command.specs.InsideMaking.{MakesFirst}
 use Rattle.edfruns_command.proofs.making.make_each.Given as goal
 

@@ -1,9 +1,9 @@
 use Rattle.std.proofs.Common.{◌∙◌, ap, refl, inr, Err}
 use Rattle.edf_fragment.specs.Failures.{saturating_increment}
 use Rattle.edf_runs.specs.declared.fault.WriteFault.{WriteFault}
-use Rattle.edf_program.specs.Made.{finished, half, unnamed, failed_with}
-use Rattle.edf_program.specs.Making.{making}
-use Rattle.edf_program.proofs.Filled.{filled}
+use Rattle.edf_cli.specs.Made.{finished, half, unnamed, failed_with}
+use Rattle.edf_cli.specs.Making.{making}
+use Rattle.edf_cli.proofs.Filled.{filled}
 use Rattle.edfruns_command.proofs.MakingFiles.{half-made}
 use Rattle.edfruns_command.proofs.making.make_file.Goals as goal
 

@@ -10,10 +10,10 @@ use Rattle.edf_fragment.specs.Reading.{ReadsHeader}
 use Rattle.edf_runs.specs.Again.{IsNotReopened}
 use Rattle.edf_runs.specs.declared.run.Run.{Run}
 use Rattle.edf_runs.specs.declared.fault.WriteFault.TheVariants.{Memory}
-use Rattle.edf_program.specs.Making.{making}
+use Rattle.edf_cli.specs.Making.{making}
 use Rattle.edfruns_command.specs.Rereading.{ReadsAgain}
 use Rattle.edfruns_command.specs.InsideMaking.{MakesFirst, StopsEach, IsAtEnd, StopsAtEnd}
-use Rattle.edf_program.proofs.Opened.{opened-once}
+use Rattle.edf_cli.proofs.Opened.{opened-once}
 use Rattle.edfruns_command.proofs.Rereads.{not-begun, of-reading, stops-making, stops-after}
 use Rattle.edfruns_command.proofs.Rereads.{all-made, rereads-with}
 use Rattle.edfruns_command.proofs.making.make_files.Goals as goal

@@ -1,4 +1,4 @@
-use Rattle.edf_program.proofs.Opened.{opened-either}
+use Rattle.edf_cli.proofs.Opened.{opened-either}
 use Rattle.edfruns_command.proofs.picture_command.seen_file.Goals as goal
 
 pub returns-in-Ok-clause-opened : goal.returns-in-Ok-clause-opened

@@ -1,6 +1,6 @@
 use Rattle.std.proofs.Common.{ℕ, List, Bool, inr, subst}
-use Rattle.edf_program.specs.Output.{output_change, GetsPrefix, IsPut}
-use Rattle.edf_program.proofs.Puts.{put-sent}
+use Rattle.edf_cli.specs.Output.{output_change, GetsPrefix, IsPut}
+use Rattle.edf_cli.proofs.Puts.{put-sent}
 use Rattle.edfruns_command.proofs.picture_command.send_picture.Goals as goal
 
 pub returns-else-send : goal.returns-else-send

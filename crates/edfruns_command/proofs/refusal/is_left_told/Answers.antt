@@ -1,6 +1,6 @@
 use Rattle.std.proofs.Common.{◌++◌, ℕ, List, [], ap, subst, ◌∙◌, codes}
-use Rattle.edf_program.specs.Output.{output_change, IsWritten}
-use Rattle.edf_program.specs.declared.status.Status.TheVariants.{Done}
+use Rattle.edf_cli.specs.Output.{output_change, IsWritten}
+use Rattle.edf_cli.specs.declared.status.Status.TheVariants.{Done}
 use Rattle.edfruns_command.specs.Lines.{left_line}
 use Rattle.edfruns_command.proofs.Answered.{put-told}
 use Rattle.edfruns_command.proofs.refusal.is_left_told.Goals as goal

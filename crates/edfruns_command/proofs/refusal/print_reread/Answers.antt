@@ -1,5 +1,5 @@
 use Rattle.std.proofs.Common.{◌++◌, ℕ, List, [], ap, subst, ◌∙◌}
-use Rattle.edf_program.specs.Output.{output_change, IsWritten}
+use Rattle.edf_cli.specs.Output.{output_change, IsWritten}
 use Rattle.edfruns_command.proofs.refusal.print_reread.Goals as goal
 
 pub returns-in-Changed : goal.returns-in-Changed

@@ -1,6 +1,6 @@
 use Rattle.std.proofs.Common.{◌++◌, ◌∷◌, [], ℕ, List, ap, subst, ◌∙◌, codes}
-use Rattle.edf_program.specs.Output.{output_change, IsWritten}
-use Rattle.edf_program.specs.declared.status.Status.TheVariants.{Done}
+use Rattle.edf_cli.specs.Output.{output_change, IsWritten}
+use Rattle.edf_cli.specs.declared.status.Status.TheVariants.{Done}
 use Rattle.edfruns_command.proofs.Outside.{tells-some}
 use Rattle.edfruns_command.proofs.refusal.tell_outside.Goals as goal
 

@@ -2,8 +2,8 @@ use Rattle.std.proofs.Common.{◌≡◌, ◌+◌, ◌-◌, ◌<◌, ◌++◌, []
 use Rattle.std.proofs.Common.{arith, length, map, take, drop, get_or, string_bytes}
 use Rattle.std.proofs.lemmas.List.{length-map, length-take, length-take-le, length-drop, get_or-map}
 use Rattle.std.proofs.lemmas.List.{get_or-take}
-use Rattle.edf_program.specs.Output.{output_change}
-use Rattle.edf_program.specs.Made.{MadeFile, begun}
+use Rattle.edf_cli.specs.Output.{output_change}
+use Rattle.edf_cli.specs.Made.{MadeFile, begun}
 use Rattle.edfruns_command.specs.Lines.{stop_line}
 use Rattle.edfruns_command.proofs.Removals.{RemovedSoFar, nth, next-there, next-place}
 use Rattle.edfruns_command.proofs.Removals.{removes-more, removes-all, removes-none}

@@ -1,5 +1,5 @@
 use Rattle.std.proofs.Common.{◌≡◌, ◌-◌, ◌≤◌, drop, take}
-use Rattle.edf_program.specs.Output.{output_change}
+use Rattle.edf_cli.specs.Output.{output_change}
 use Rattle.edfruns_command.specs.Lines.{stop_line}
 use Rattle.edfruns_command.proofs.Removals.{RemovedSoFar}
 use Rattle.edfruns_command.proofs.removing.give_up.Given as goal

@@ -1,6 +1,6 @@
 use Rattle.std.proofs.Common.{List, ℕ, sym, subst, map, string_bytes}
-use Rattle.edf_program.specs.Output.{output_change}
-use Rattle.edf_program.specs.Making.{making}
+use Rattle.edf_cli.specs.Output.{output_change}
+use Rattle.edf_cli.specs.Making.{making}
 use Rattle.edfruns_command.specs.Listed.{IsListOut, OpensEach}
 use Rattle.edfruns_command.specs.Run.{IsDone, HasOpened, meaning}
 use Rattle.edfruns_command.specs.Canonical.{IsCanonicalOut}

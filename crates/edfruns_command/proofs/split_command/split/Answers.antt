@@ -3,15 +3,15 @@ use Rattle.std.proofs.Common.{length, map, take, string_bytes, decimal, All}
 use Rattle.std.specs.Prelude.{Option}
 use Rattle.std.proofs.lemmas.List.{length-map, length-take-le, take-map}
 use Rattle.std.proofs.lemmas.List.FromFn.{length-map-range_with_len}
-use Rattle.edf_program.specs.Output.{output_change}
-use Rattle.edf_program.proofs.Puts.{nothing-gets}
+use Rattle.edf_cli.specs.Output.{output_change}
+use Rattle.edf_cli.proofs.Puts.{nothing-gets}
 use Rattle.edf_runs.specs.declared.run.Run.{Run}
-use Rattle.edf_program.specs.Making.{Making, making}
-use Rattle.edf_program.specs.There.{IsVacant}
+use Rattle.edf_cli.specs.Making.{Making, making}
+use Rattle.edf_cli.specs.There.{IsVacant}
 use Rattle.edfruns_command.specs.Naming.{run_name, run_names, first_names, asked_names}
 use Rattle.edfruns_command.specs.InsideSplit.{SplitsListed}
 use Rattle.edfruns_command.proofs.Answered.{opened-first, opened-then, opened-refused}
-use Rattle.edf_program.proofs.Undone.{refused-undone, trouble-undone}
+use Rattle.edf_cli.proofs.Undone.{refused-undone, trouble-undone}
 use Rattle.edfruns_command.proofs.Answered.{file-undone, refused}
 use Rattle.edfruns_command.proofs.GivingUp.{take-front}
 use Rattle.edfruns_command.specs.Splitting.{IsTaken}

@@ -1,8 +1,8 @@
 use Rattle.std.proofs.Common.{◌∙◌, inl, inr, refl, subst, map, string_bytes, true, false}
 use Rattle.std.proofs.lemmas.List.{length-map}
-use Rattle.edf_program.specs.Output.{Gets, GetsPrefix, output_change}
-use Rattle.edf_program.proofs.Puts.{nothing-gets, put-sent, remarked}
-use Rattle.edf_program.specs.Making.{making}
+use Rattle.edf_cli.specs.Output.{Gets, GetsPrefix, output_change}
+use Rattle.edf_cli.proofs.Puts.{nothing-gets, put-sent, remarked}
+use Rattle.edf_cli.specs.Making.{making}
 use Rattle.edfruns_command.proofs.GivingUp.{named, stopped, untold}
 use Rattle.edfruns_command.proofs.Splits.{are-runs}
 use Rattle.edfruns_command.proofs.split_command.split_listed.Goals as goal

@@ -1,7 +1,7 @@
 use Rattle.std.proofs.Common.{◌≡◌, ◌+◌, ◌<◌, ◌∷◌, ◌++◌, ℕ, List, ap, sym, ◌∙◌, subst, arith}
 use Rattle.std.proofs.Common.{All, take, drop, length, map, string_bytes, ◌≢◌, Option, None, IfSome}
 use Rattle.std.proofs.lemmas.List.{take_all, length-map}
-use Rattle.edf_program.specs.There.{Entry, IsVacant, MayBeThere}
+use Rattle.edf_cli.specs.There.{Entry, IsVacant, MayBeThere}
 use Rattle.edfruns_command.proofs.Walking.{all-more, around, mapped}
 use Rattle.edfruns_command.proofs.split_command.taken_name.Goals as goal
 

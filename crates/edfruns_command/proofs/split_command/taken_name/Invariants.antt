@@ -1,5 +1,5 @@
 use Rattle.std.proofs.Common.{◌≡◌, ℕ, List, All, map, string_bytes, take}
-use Rattle.edf_program.specs.There.{IsVacant}
+use Rattle.edf_cli.specs.There.{IsVacant}
 use Rattle.edfruns_command.proofs.split_command.taken_name.Given as goal
 
 abbrev pub invariant-loop-name : goal.invariant-loop-name

@@ -2,9 +2,9 @@ use Rattle.std.proofs.Common.{◌≡◌, ◌<◌, ◌-◌, ◌++◌, ◌∷◌, 
 use Rattle.std.proofs.Common.{Option, map, string_bytes, length-append, false, sym}
 use Rattle.std.specs.Prelude.{option_map}
 use Rattle.std.proofs.lemmas.List.{length-map, map-set, get_or-map}
-use Rattle.edf_program.specs.Made.{MadeFile, made_file, begun}
-use Rattle.edf_program.specs.declared.new_files.FileStage.{FileStage}
-use Rattle.edf_program.specs.declared.new_files.Unfinished.{Unfinished}
+use Rattle.edf_cli.specs.Made.{MadeFile, made_file, begun}
+use Rattle.edf_cli.specs.declared.new_files.FileStage.{FileStage}
+use Rattle.edf_cli.specs.declared.new_files.Unfinished.{Unfinished}
 use Rattle.edf_page.specs.declared.begun.BegunFile.{BegunFile}
 use Rattle.edf_page.specs.Programs.{made_of}
 use Rattle.edf_page.specs.InsideFolder.{last_held}

@@ -3,7 +3,7 @@ use Rattle.std.specs.List.{AllZip}
 use Rattle.std.specs.Vec.Iter.{into_iter_items}
 use Rattle.std.proofs.lemmas.List.{map_push}
 use Rattle.std.proofs.lemmas.List.Elements.{All-push}
-use Rattle.edf_program.specs.Made.{MadeFile}
+use Rattle.edf_cli.specs.Made.{MadeFile}
 use Rattle.edf_page.specs.Programs.{IsGivenBack, IsWholeOrGone, finished_of, made_of}
 use Rattle.edf_page.specs.declared.begun.NamedFile.{NamedFile}
 use Rattle.edf_page.proofs.Replacing.{finished-more}

@@ -1,8 +1,8 @@
 use Rattle.std.proofs.Common.{◌≡◌, ◌<◌, ◌++◌, ◌∷◌, List, ap, sym, ◌∙◌, subst, rules, arith, length, map}
 use Rattle.std.proofs.Common.{length-append, true, false}
 use Rattle.std.proofs.lemmas.List.{length-map}
-use Rattle.edf_program.specs.Made.{MadeFile}
-use Rattle.edf_program.specs.There.{HasName}
+use Rattle.edf_cli.specs.Made.{MadeFile}
+use Rattle.edf_cli.specs.There.{HasName}
 use Rattle.edf_page.specs.Programs.{made_of}
 use Rattle.edf_page.proofs.Replacing.{was}
 use Rattle.edf_page.proofs.begun.BegunFiles.named_at.Goals as goal

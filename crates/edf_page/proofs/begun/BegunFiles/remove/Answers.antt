@@ -1,6 +1,6 @@
 use Rattle.std.proofs.Common.{◌≡◌, ◌<◌, ◌++◌, ◌∷◌, ap, ◌∙◌, arith, length, map}
-use Rattle.edf_program.specs.Made.{MadeFile, removed}
-use Rattle.edf_program.specs.declared.new_files.FileStage.TheVariants.{Removed}
+use Rattle.edf_cli.specs.Made.{MadeFile, removed}
+use Rattle.edf_cli.specs.declared.new_files.FileStage.TheVariants.{Removed}
 use Rattle.edf_page.specs.declared.begun.BegunFile.{BegunFile}
 use Rattle.edf_page.specs.Programs.{made_of}
 use Rattle.edf_page.proofs.Replacing.{replaced, was}

@@ -1,5 +1,5 @@
 use Rattle.std.proofs.Common.{◌≡◌, ◌++◌, ◌∷◌, [], rules}
-use Rattle.edf_program.specs.Made.{begun}
+use Rattle.edf_cli.specs.Made.{begun}
 use Rattle.edf_page.proofs.LastHeld.{held-begun}
 use Rattle.edf_page.proofs.There.{same-there}
 use Rattle.edf_page.proofs.folder.FolderNewFiles.create.Goals as goal

@@ -1,7 +1,7 @@
 use Rattle.std.proofs.Common.{◌≡◌, ◌∙◌, ℕ, List, [], ◌∷◌, ◌++◌, codes, ap, sym, subst}
 use Rattle.std.proofs.Common.{append_assoc}
 use Rattle.std.specs.Prelude.{decimal}
-use Rattle.edf_program.specs.Output.{output_change, IsPut}
+use Rattle.edf_cli.specs.Output.{output_change, IsPut}
 use Rattle.edf_serve.proofs.client.ConsoleClient.accept.Goals as goal
 
 module _ (name a new b known d code : List ℕ) where

@@ -1,0 +1,164 @@
+//! What makes new files.
+
+ghost use Rattle.std.specs.Prelude.{◌≡◌, ◌≤◌, ◌++◌, ◌∷◌, [], ℕ, Bool, true, false, List, Some};
+ghost use Rattle.std.specs.Prelude.{IfOk, IfSome, MatchResult, length};
+ghost use Rattle.std.specs.Bool.{MatchBool};
+ghost use Rattle.edf_fragment.specs.Failures.{saturating_increment};
+ghost use Rattle.edf_cli.specs.Made.{MadeFile, begun, half, removed, kept};
+ghost use Rattle.edf_cli.specs.Made.{IsEnded, WritesNone, failed_with};
+ghost use Rattle.edf_cli.specs.There.{There, IsVacant, MayBeThere, IsSame, IsNamed};
+ghost use Rattle.edf_cli.specs.There.{IsTakenAway};
+
+use edf_fragment::Output;
+use std::alloc::Global;
+use std::io;
+
+/// How far a file is that was begun.
+#[derive(Clone, Copy, Debug, PartialEq, Eq, Drop)]
+pub enum FileStage {
+    /// It is written, and has not its name.
+    Begun,
+    /// It was left half written.
+    Left,
+    /// It is there under its name with all that was written.
+    Finished,
+    /// It was removed again.
+    Removed,
+    /// It was to be removed, and could not be.
+    Kept,
+}
+
+/// Why a file that was written did not get its name.
+#[derive(Clone, Copy, Debug, PartialEq, Eq, Drop)]
+pub enum Unfinished {
+    /// Something of that name came in between, and is as it was.
+    IsThere,
+    /// It could not be made whole or named.
+    Failed,
+}
+
+/// What makes new files.
+///
+/// Contracts speak of the files that were begun, in turn, of their bytes where these are known, as
+/// those of a disk are not, and of what is there where that is known. What was there is never
+/// touched: a file is begun only where nothing has its name, and only files that were begun here
+/// are removed. A file is written under another name, and gets its own, where nothing has it, once
+/// it is whole and on the disk: so what has the name is whole. One is written at a time, and its
+/// writer is given back before the next is begun.
+pub trait NewFiles {
+    /// The writers.
+    type Writer: Output + Drop;
+
+    // Whether the bytes of the files that are made here are known.
+    ghost known: { Self → Bool };
+
+    // What is there under a name, where that is known. A file has its name once it is finished.
+    ghost there: { Self → There };
+
+    // The files that were begun here, in turn, but for those that were forgotten.
+    ghost made: { Self → List MadeFile };
+
+    // How many files were begun here, with those that were forgotten.
+    ghost begun_count: { Self → ℕ };
+
+    // How many files could not be begun or finished, and how many writes of abandoned ones failed.
+    ghost failed: { Self → ℕ };
+
+    /// Whether there is something of that name. Where that can't be found out, `create` or `finish`
+    /// finds it out.
+    fn is_there(&mut self, name: &str) -> bool
+        ensures answer { MatchBool result
+            (MayBeThere (there self.old) name.now)
+            (IsVacant (there self.old) name.now) }
+        ensures there { IsSame (there self.old) (there self.new) }
+        ensures made { made self.new ≡ made self.old }
+        ensures begun_count { begun_count self.new ≡ begun_count self.old }
+        ensures failed { failed self.new ≡ failed self.old }
+        ensures known { known self.new ≡ known self.old };
+
+    /// Begins a new, empty file of that name, and answers its writer.
+    ///
+    /// # Errors
+    /// Where no file of that name could be made, or there was one. What was there is as it was.
+    fn create(&mut self, alloc: Global, name: &str) -> io::Result<Self::Writer>
+        ensures made { MatchResult result
+            (λ _. made self.new ≡ made self.old ++ (begun name.now ∷ []))
+            (λ _. made self.new ≡ made self.old) }
+        ensures begun_count { MatchResult result
+            (λ _. begun_count self.new ≡ saturating_increment (begun_count self.old))
+            (λ _. begun_count self.new ≡ begun_count self.old) }
+        ensures failed { MatchResult result
+            (λ _. failed self.new ≡ failed self.old)
+            (λ _. failed self.new ≡ saturating_increment (failed self.old)) }
+        ensures empty { IfOk result (λ writer. known self.old ≡ true →
+            Self.Writer.contents writer ≡ Some []) }
+        ensures unfailed { IfOk result (λ writer. Self.Writer.failures writer ≡ 0) }
+        ensures free { IfOk result (λ _. IsVacant (there self.old) name.now) }
+        ensures there { IsSame (there self.old) (there self.new) }
+        ensures known { known self.new ≡ known self.old };
+
+    /// Ends the file that was begun last, all of which was written by this writer of it, and
+    /// answers how many bytes it has. It has its name then, and has all that was written.
+    ///
+    /// # Errors
+    /// Where it has not its name. What was written is removed then, if it could be. Where none is
+    /// written here, as after `forget`, nothing gets a name.
+    fn finish(&mut self, writer: Self::Writer) -> Result<u64, Unfinished>
+        ensures made { (files : List MadeFile) (name : List ℕ) →
+            made self.old ≡ files ++ (begun name ∷ []) →
+            IsEnded files name (Self.Writer.contents writer) (made self.new) result }
+        ensures none { WritesNone (made self.old) → IfOk result (λ _. ⊥)
+            × (made self.new ≡ made self.old) × IsSame (there self.old) (there self.new) }
+        ensures begun_count { begun_count self.new ≡ begun_count self.old }
+        ensures failed { MatchResult result
+            (λ _. failed self.new ≡ failed self.old)
+            (λ _. failed self.new ≡ saturating_increment (failed self.old)) }
+        ensures whole { IfOk result (λ bytes. (Self.Writer.failures writer ≡ 0)
+            × IfSome (Self.Writer.contents writer) (λ held. length held ≡ bytes)) }
+        ensures there { (files : List MadeFile) (name : List ℕ) →
+            made self.old ≡ files ++ (begun name ∷ []) →
+            IsNamed (there self.old) (there self.new) name (Self.Writer.contents writer) result }
+        ensures known { known self.new ≡ known self.old };
+
+    /// Takes back the writer of the file that was begun last, which is left half written.
+    fn abandon(&mut self, writer: Self::Writer)
+        ensures made { (files : List MadeFile) (name : List ℕ) →
+            made self.old ≡ files ++ (begun name ∷ []) →
+            made self.new ≡ files ++ (half name (Self.Writer.contents writer) ∷ []) }
+        ensures none { WritesNone (made self.old) → made self.new ≡ made self.old }
+        ensures begun_count { begun_count self.new ≡ begun_count self.old }
+        ensures failed { failed self.new
+            ≡ failed_with (failed self.old) (Self.Writer.failures writer) }
+        ensures there { IsSame (there self.old) (there self.new) }
+        ensures known { known self.new ≡ known self.old };
+
+    /// How many files were begun here so far, with those that were removed again.
+    fn count(&self) -> usize
+        ensures { result ≡ length (made self.now) };
+
+    /// Removes the file at this place, from 0, of those that were begun here. Whether there was one
+    /// and it is gone.
+    fn remove(&mut self, place: usize) -> bool
+        ensures made { (front later : List MadeFile) (file : MadeFile) →
+            made self.old ≡ front ++ (file ∷ later) → length front ≡ place →
+            MatchBool result
+            (made self.new ≡ front ++ (removed file ∷ later))
+            (made self.new ≡ front ++ (kept file ∷ later)) }
+        ensures none { length (made self.old) ≤ place → (result ≡ false)
+            × (made self.new ≡ made self.old) × IsSame (there self.old) (there self.new) }
+        ensures begun_count { begun_count self.new ≡ begun_count self.old }
+        ensures failed { failed self.new ≡ failed self.old }
+        ensures there { (front later : List MadeFile) (file : MadeFile) →
+            made self.old ≡ front ++ (file ∷ later) → length front ≡ place →
+            IsTakenAway (there self.old) (there self.new) file result }
+        ensures known { known self.new ≡ known self.old };
+
+    /// Forgets the files that were begun here so far. They stay as they are, and can no more be
+    /// removed here.
+    fn forget(&mut self)
+        ensures made { made self.new ≡ [] }
+        ensures begun_count { begun_count self.new ≡ begun_count self.old }
+        ensures failed { failed self.new ≡ failed self.old }
+        ensures there { IsSame (there self.old) (there self.new) }
+        ensures known { known self.new ≡ known self.old };
+}

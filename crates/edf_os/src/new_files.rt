@@ -1,0 +1,145 @@
+//! What makes new files of the system.
+
+ghost use Rattle.std.specs.Prelude.{◌≡◌, None, false, IfOk};
+
+use crate::parts::{NewFile, Parts};
+use crate::terminal::Terminal;
+use edf_cli::{FileStage, MadeFiles, NewFiles, Unfinished};
+use std::alloc::Global;
+use std::io::{self, ErrorKind};
+
+/// Makes new files, and prints why that failed. Each is written as `NAME.part`, and gets its name
+/// once it is whole and on the disk.
+#[derive(Drop)]
+pub struct PartFiles<'rt> {
+    system: Parts<'rt>,
+    made: MadeFiles,
+    /// The other name of each of the files, while it has that.
+    parts: Vec<Option<String>>,
+}
+
+impl<'rt> PartFiles<'rt> {
+    /// No file yet.
+    pub fn new(rt: &'rt HostRuntime, terminal: &'rt Terminal<'rt>) -> PartFiles<'rt> {
+        PartFiles {
+            system: Parts::new(rt, terminal),
+            made: MadeFiles::new(rt.alloc()),
+            parts: Vec::new(rt.alloc()),
+        }
+    }
+
+    /// Begins a file. Its names are kept first: what fails after it is made would leave it.
+    fn begin(&mut self, alloc: Global, name: &str) -> io::Result<NewFile<'rt>>
+        ensures unfailed { IfOk result (λ file. file.failures ≡ 0) }
+        ensures made { self.new.made ≡ self.old.made }
+    {
+        let part = format!(in alloc; "{name}.part")?;
+        let kept = String::from_str(alloc, part.as_str())?;
+        let name = String::from_str(alloc, name)?;
+        self.parts.reserve(1)?;
+        let file = self.system.create(name, part)?;
+        self.parts.push(Some(kept))?;
+        Ok(file)
+    }
+
+    /// Notes that the file that was begun last has its name.
+    fn settle(&mut self)
+        ensures { self.new.made ≡ self.old.made }
+    {
+        let count = self.parts.len();
+        if count > 0 {
+            self.parts[count - 1] = None;
+        }
+    }
+
+    /// Whether the file at a place is gone, which is removed under the name that it has.
+    fn is_removed(&self, place: usize) -> bool {
+        if let Some(Some(part)) = self.parts.get(place) {
+            return self.system.is_removed(part.as_str());
+        }
+        match self.made.name(place) {
+            Some(name) => self.system.is_removed(name),
+            None => false,
+        }
+    }
+}
+
+impl<'rt> NewFiles for PartFiles<'rt> {
+    type Writer = NewFile<'rt>;
+
+    ghost known = { λ _. false };
+
+    ghost there = { λ _ _. None };
+
+    ghost made = { λ files. files.made.files };
+
+    ghost begun_count = { λ files. files.made.begun_count };
+
+    ghost failed = { λ files. files.made.failed };
+
+    fn is_there(&mut self, name: &str) -> bool {
+        self.system.is_there(name)
+    }
+
+    fn create(&mut self, alloc: Global, name: &str) -> io::Result<NewFile<'rt>> {
+        self.made.begin(alloc, name)?;
+        match self.begin(alloc, name) {
+            Ok(writer) => {
+                self.made.confirm();
+                Ok(writer)
+            }
+            Err(error) => {
+                self.made.cancel();
+                Err(error)
+            }
+        }
+    }
+
+    fn finish(&mut self, writer: NewFile<'rt>) -> Result<u64, Unfinished> {
+        if !self.made.is_writing() {
+            self.made.fail(Unfinished::Failed, None, false);
+            return Err(Unfinished::Failed);
+        }
+        let bytes = writer.bytes();
+        match self.system.finish(writer) {
+            Ok(()) => {
+                self.settle();
+                self.made.finish(None);
+                Ok(bytes)
+            }
+            Err(error) => {
+                let last = self.made.count().saturating_sub(1);
+                let is_gone = self.is_removed(last);
+                let why = match error.kind() {
+                    ErrorKind::AlreadyExists => Unfinished::IsThere,
+                    _ => Unfinished::Failed,
+                };
+                self.made.fail(why, None, is_gone);
+                Err(why)
+            }
+        }
+    }
+
+    fn abandon(&mut self, writer: NewFile<'rt>) {
+        self.made.leave(None, writer.failures());
+    }
+
+    fn count(&self) -> usize {
+        self.made.count()
+    }
+
+    fn remove(&mut self, place: usize) -> bool {
+        if place >= self.made.count() {
+            return false;
+        }
+        let was_gone = matches!(self.made.stage(place), Some(FileStage::Removed));
+        let is_gone = was_gone || self.is_removed(place);
+        self.made.end(place, is_gone);
+        is_gone
+    }
+
+    fn forget(&mut self) {
+        self.parts.clear();
+        self.made.forget();
+    }
+}

@@ -1,0 +1,46 @@
+//! What a program does with its words.
+
+use crate::streams::{refuse_words, words};
+use edf_cli::Status;
+use edf_fragment::{Counted, Output};
+use std::alloc::Global;
+use std::process::ExitCode;
+
+/// A program: what its words ask for, and what does that over the system.
+pub trait Program {
+    /// What words ask for.
+    type Command: Drop;
+
+    /// The command that the words after the program's name ask for.
+    ///
+    /// # Errors
+    /// The status that the program ends with, where there is no command to run. Why was written.
+    fn read<O: Output, F: Output>(
+        alloc: Global,
+        words: &[String],
+        out: &mut O,
+        err: &mut F,
+    ) -> Result<Self::Command, Status>;
+
+    /// Does what a command asks for, over the system's files and streams.
+    fn run(rt: &HostRuntime, command: &Self::Command) -> Status;
+}
+
+/// Does what the words after the program's name ask for, and answers how it went.
+pub fn run_words<P: Program>(rt: &HostRuntime, words: &[String]) -> Status {
+    let mut out = Counted::new(rt.stdout());
+    let mut err = Counted::new(rt.stderr());
+    match P::read(rt.alloc(), words, &mut out, &mut err) {
+        Ok(command) => P::run(rt, &command),
+        Err(status) => status,
+    }
+}
+
+/// Does what the program's words ask for, and answers the status that it ends with: 0 to 3.
+pub fn run_program<P: Program>(rt: &HostRuntime) -> ExitCode {
+    let status = match words(rt) {
+        Ok(words) => run_words::<P>(rt, words.as_slice()),
+        Err(error) => refuse_words(rt, &error),
+    };
+    ExitCode::from(status.code())
+}

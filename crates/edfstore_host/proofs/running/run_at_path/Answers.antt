@@ -1,4 +1,0 @@
-use Rattle.edfstore_host.proofs.running.run_at_path.Goals as goal
-
-pub returns : goal.returns
-returns g c = (c.find-found.result, c.find-found.ensures, c.run_on_file-ended.ensures.run)

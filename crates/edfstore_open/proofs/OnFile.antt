@@ -1,0 +1,15 @@
+-- A run over the files of a store, under the greatest cap.
+use Rattle.std.proofs.Common.{◌≡◌, ◌≢◌, ◌⊎◌, ℕ, Option, None, Some, sym, ◌∙◌, subst}
+use Rattle.sqlite_disk.specs.declared.Disk.{Ghosts}
+use Rattle.edfstore_files.specs.Close.{IsRunDone, IsRefused}
+use Rattle.edfstore_files.specs.ProgramRun.{ProgramRun}
+use Rattle.edfstore_files.specs.declared.session.EndedRun.{EndedRun}
+
+pub some_is_found : {A : Type 0} (found : Option A) (it : A) → found ≡ Some it → found ≢ None
+some_is_found found it some none = let e : Some it ≡ None = sym some ∙ none in absurd (cc)
+
+module _ {D : Type 0} {g : Ghosts D} (r : ProgramRun g) (cap : ℕ) (is : r.cap ≡ cap) where
+  pub run_under : (s : EndedRun D) → IsRunDone r s ⊎ IsRefused r s →
+      IsRunDone (record r { cap = cap }) s ⊎ IsRefused (record r { cap = cap }) s
+  run_under s =
+      subst (λ (n : ℕ). IsRunDone (record r { cap = n }) s ⊎ IsRefused (record r { cap = n }) s) is

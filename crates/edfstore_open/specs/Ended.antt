@@ -1,0 +1,10 @@
+-- How a command went, by what it came to.
+use Rattle.sqlite_disk.specs.declared.Disk.{Ghosts}
+use Rattle.edf_cli.specs.declared.status.Status.{Status}
+use Rattle.edfstore_open.specs.declared.ended.Ended.{Ended}
+use Rattle.edfstore_open.specs.declared.ended.Ended.TheVariants.{Run, NotOpened, WithoutFiles}
+
+abbrev pub status_of : {D : Type 0} {g : Ghosts D} → Ended D g → Status
+status_of (Run session) = session.status
+status_of (NotOpened status left) = status
+status_of (WithoutFiles status) = status

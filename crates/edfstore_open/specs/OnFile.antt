@@ -1,0 +1,61 @@
+-- What a command does whose store is that of a path.
+use Rattle.std.specs.Prelude.{◌≡◌, ◌≢◌, ◌⊎◌, [], Option, Some, None, Result, Err, MatchOption}
+use Rattle.sqlite_disk.specs.declared.Disk.{Ghosts}
+use Rattle.sqlite_wal.specs.Files.{outcomes}
+use Rattle.sqlite_store.specs.declared.store.FileStore.{FileStore}
+use Rattle.sqlite.specs.Files.{image_of}
+use Rattle.sqlite.specs.Held.{Held}
+use Rattle.sqlite.specs.declared.error.Error.{Error}
+use Rattle.sqlite.specs.declared.file.Leftover.{Leftover}
+use Rattle.edf_command.specs.Arguments.{Request}
+use Rattle.edf_command.specs.Arguments.Request.{take, list, export, convert}
+use Rattle.edf_command.specs.Lines.{no_recording_line}
+use Rattle.edf_cli.specs.Output.{OutputChange, Gets, IsWritten}
+use Rattle.edf_cli.specs.declared.status.Status.{Status}
+use Rattle.edf_cli.specs.declared.status.Status.TheVariants.{Done, Refused, Trouble}
+use Rattle.edfstore_files.specs.Close.{IsRunDone, IsRefused}
+use Rattle.edfstore_files.specs.ProgramRun as run
+use Rattle.edfstore_files.specs.ProgramRun.{IsOpening}
+use Rattle.edfstore_open.specs.declared.ended.Ended.{Ended}
+use Rattle.edfstore_open.specs.declared.ended.Ended.TheVariants.{Run, NotOpened, WithoutFiles}
+
+-- it makes no store where there is none
+abbrev pub OnlyReads : Request → Type 0
+OnlyReads (take store files) = ⊥
+OnlyReads (list store) = Unit {0}
+OnlyReads (export store place) = Unit {0}
+OnlyReads (convert file) = ⊥
+
+-- what such a command says where there is none: an empty list, or no recording at its place
+abbrev pub FindsNothing : Request → OutputChange → Status → Type 0
+FindsNothing (take store files) err status = ⊥
+FindsNothing (list store) err status = Gets err [] × (status ≡ Done)
+FindsNothing (export store place) err status =
+    IsWritten err (no_recording_line place) Refused status
+FindsNothing (convert file) err status = ⊥
+
+-- the files of a store, as they were opened, or why they were not and what is left of them
+abbrev pub Opening : (D : Type 0) → Ghosts D → Type 0
+Opening D g = Result (Held (FileStore D g)) (Error × Option (Leftover D g))
+
+module _ {D : Type 0} {g : Ghosts D} (r : run.ProgramRun g) (asked : Request) where
+  -- It was run over the files that were opened. They are closed under every status but trouble,
+  -- and what they are read as then is among what a crash may leave. Or they were not opened, for
+  -- this error, and what is left of them is what was. Or none were looked for, and it only reads.
+  abbrev pub IsRunOn : Option (Opening D g) → Ended D g → Type 0
+  IsRunOn found (Run s) = (found ≢ None) × (IsRunDone r s ⊎ IsRefused r s)
+      × (s.status ≢ Trouble → s.failure ≡ None)
+      × outcomes g s.files.log s.files.db (image_of g s.files)
+  IsRunOn found (NotOpened status left) = (error : Error) × (found ≡ Some (Err (error, left)))
+      × run.NotOpened r error status
+  IsRunOn found (WithoutFiles status) = (found ≡ None) × r.Untouched
+      × FindsNothing asked r.err status
+
+  -- the files are opened, whatever they hold, or there is a reason why not; or none are, and the
+  -- command only reads
+  abbrev pub IsFound : Option (Opening D g) → Type 0
+  IsFound found = MatchOption found (OnlyReads asked) (IsOpening r.start)
+
+  -- so it is run, whatever was found
+  abbrev pub IsRunAtPath : Ended D g → Type 0
+  IsRunAtPath ended = (found : Option (Opening D g)) × IsFound found × IsRunOn found ended

@@ -1,0 +1,110 @@
+//! How many pages of a store are kept in memory while it is open, and what the system says of that.
+
+ghost use Rattle.std.specs.Prelude.{◌≡◌, ◌/◌, MatchOption};
+ghost use Rattle.edfstore_open.specs.Cache.{IsCacheSize};
+
+/// How many bytes a page has of the stores that are made here.
+const PAGE: u64 = 4_096;
+
+/// How many pages the port of SQLite keeps by itself.
+const OWN: u64 = 2_000;
+
+/// How many pages are kept at most: 512 MiB of them.
+const MOST: u64 = 131_072;
+
+/// What takes up no more than one part in so many of the room may be kept.
+const SHARE: u64 = 4;
+
+/// How many pages a file of so many bytes has, where all of them may be kept in so many bytes of
+/// room; else the port's own number does, since to keep a part of them spares no reading.
+pub(crate) fn pages_kept(bytes: u64, room: u64) -> Option<usize>
+    ensures { MatchOption result (¬ IsCacheSize (bytes / 4096) room)
+        (λ pages. (pages ≡ bytes / 4096) × IsCacheSize pages room) }
+{
+    let pages = bytes / PAGE;
+    if OWN < pages && pages <= MOST && pages * (PAGE * SHARE) <= room {
+        Some(pages as usize)
+    } else {
+        None
+    }
+}
+
+/// Whether a file that begins so has pages as stores have that are made here: SQLite writes their
+/// size behind its name.
+pub(crate) fn has_own_pages(head: &[u8; 18]) -> bool {
+    head[16] == 0x10 && head[17] == 0
+}
+
+/// The bytes of a number of kilobytes, as `  16141056 kB`.
+fn bytes_of(text: &str) -> Option<u64> {
+    let number = text.trim().strip_suffix(" kB")?;
+    number.trim().parse::<u64>().ok()?.checked_mul(1_024)
+}
+
+/// How many bytes are free, or may be made so, by the text of `/proc/meminfo`.
+pub(crate) fn free_bytes(text: &str) -> Option<u64> {
+    for line in text.lines() {
+        if let Some(number) = line.strip_prefix("MemAvailable:") {
+            return bytes_of(number);
+        }
+    }
+    None
+}
+
+/// A control group of processes, whose memory may have a limit: its path below a folder of the
+/// system, and the names of the files with the limit and with what is in use.
+#[derive(Clone, Copy)]
+pub(crate) struct Group<'t> {
+    pub(crate) folder: &'static str,
+    pub(crate) path: &'t str,
+    pub(crate) limit: &'static str,
+    pub(crate) used: &'static str,
+}
+
+impl<'t> Group<'t> {
+    /// The one of version 1.
+    fn first(path: &'t str) -> Group<'t> {
+        Group {
+            folder: "/sys/fs/cgroup/memory",
+            path,
+            limit: "memory.limit_in_bytes",
+            used: "memory.usage_in_bytes",
+        }
+    }
+
+    /// The one of version 2.
+    fn second(path: &'t str) -> Group<'t> {
+        Group {
+            folder: "/sys/fs/cgroup",
+            path,
+            limit: "memory.max",
+            used: "memory.current",
+        }
+    }
+}
+
+/// The path of a line of `/proc/self/cgroup` that has the memory of version 1, as `4:memory:/a`.
+fn first_path(line: &str) -> Option<&str> {
+    let (_, rest) = line.split_once(':')?;
+    let (kinds, path) = rest.split_once(':')?;
+    if kinds.split(',').any(|kind| kind == "memory") {
+        Some(path)
+    } else {
+        None
+    }
+}
+
+/// The group whose limit holds, by the text of `/proc/self/cgroup`: that of version 1 where memory
+/// has one, else that of version 2, as `0::/user.slice`.
+pub(crate) fn group_of(text: &str) -> Option<Group<'_>> {
+    let mut found = None;
+    for line in text.lines() {
+        if let Some(path) = first_path(line) {
+            return Some(Group::first(path));
+        }
+        if let Some(path) = line.strip_prefix("0::") {
+            found = Some(Group::second(path));
+        }
+    }
+    found
+}

@@ -1,0 +1,193 @@
+//! How a store was opened, or why it was refused, in plain words for a person.
+
+ghost use Rattle.std.specs.Prelude.{None};
+
+use crate::ended::Ended;
+use crate::path::{is_address, look_at, why_none};
+use edf_command::Status;
+use edf_fragment::Output;
+use edf_os::{FULL, Terminal, print_system_error};
+use edf_store::StoreFault;
+use edfstore_files::{EndedRun, Watch};
+use sqlite::{Error, ErrorCode};
+use sqlite_disk::{Disk, Tally};
+use sqlite_std_file::{OpenError, Unknown};
+
+const BUSY: &str = "another program has it open; run this again when that has ended";
+
+const OTHER_TABLES: &str =
+    "its tables are not a store's, or have an index or a trigger; it was left as it is";
+
+const OTHER_ROWS: &str = "its rows are such as no submissions leave; put it aside, as it is";
+
+/// A page sum goes wrong in two ways, and which of them it was can't be seen.
+const DAMAGED: &str = "the file is damaged, or it was copied without its -wal, so copy both, or it \
+    has page sums and sqlite3 wrote or copied it (ANALYZE, VACUUM, .backup): take all its files \
+    into a new store; 'man edfstore' has more";
+
+/// What is said where the path of a store does not stand for the files that are open.
+const LOST: &str = "its file or its log was removed, replaced or cut while it was open: \
+    what was taken may be lost, so send it again";
+
+const IN_MEMORY: &str = "a session keeps its store in a file; './:memory:' is a file of that name";
+
+/// Why a store was not opened.
+#[derive(Clone, Copy, Drop)]
+pub struct Refused {
+    pub fault: StoreFault,
+    /// Whether the file was opened and has no table, the first of a store's two alone, or both and
+    /// perhaps others after them.
+    pub has_our_tables: bool,
+}
+
+/// Prints why the store could not be opened. SQLite's port gives no cause, so where the path tells
+/// none, it is opened again to get one.
+fn print_unopened(rt: &HostRuntime, terminal: &Terminal<'_>, path: &str) {
+    if is_address(path) {
+        return terminal.say(path, "a path that begins with 'file:' is written './file:'");
+    }
+    if path == ":memory:" {
+        return terminal.say(path, IN_MEMORY);
+    }
+    if let Some(words) = why_none(look_at(rt, path)) {
+        return terminal.say(path, words);
+    }
+    match sqlite_std_file::open(rt, path, Unknown) {
+        Ok(_) => terminal.say(
+            path,
+            "it could not be opened, but now it can: run this again",
+        ),
+        Err(OpenError::Io(error)) => print_system_error(terminal, path, &error),
+        Err(OpenError::Busy) => terminal.say(path, BUSY),
+        Err(error) => terminal.say(path, error),
+    }
+}
+
+/// Plain words for an error code of `sqlite`; `None` means print the code itself.
+fn code_words(code: ErrorCode) -> Option<&'static str> {
+    match code {
+        ErrorCode::NotADatabase => Some("not a database, or none that can be read here"),
+        ErrorCode::DatabaseCorrupt => Some("the file is damaged"),
+        ErrorCode::DatabaseBusy => Some(BUSY),
+        ErrorCode::DiskFull => Some(FULL),
+        ErrorCode::SystemIoFailure => Some("the disk could not be read or written"),
+        ErrorCode::Closed => Some("a failure of the disk closed it"),
+        _ => None,
+    }
+}
+
+/// Prints why `sqlite` refused a store.
+fn print_error(rt: &HostRuntime, terminal: &Terminal<'_>, path: &str, error: Error) {
+    let Error::SqliteFailure(code) = error else {
+        return terminal.say(path, error);
+    };
+    if code == ErrorCode::CannotOpen {
+        return print_unopened(rt, terminal, path);
+    }
+    match code_words(code) {
+        Some(words) => terminal.say(path, words),
+        None => terminal.say(path, code),
+    }
+}
+
+/// Prints why a store was not opened, by an error of `sqlite`.
+fn print_refusal(rt: &HostRuntime, terminal: &Terminal<'_>, path: &str, error: Error) {
+    match error {
+        Error::SqliteFailure(ErrorCode::DatabaseCorrupt) => terminal.say(path, DAMAGED),
+        _ => print_error(rt, terminal, path, error),
+    }
+}
+
+/// Prints why a store was not opened. Out of memory has no further cause.
+pub fn print_cause(rt: &HostRuntime, terminal: &Terminal<'_>, path: &str, refused: &Refused) {
+    if !terminal.is_there() {
+        return;
+    }
+    match refused.fault {
+        StoreFault::Store(Some(error)) => print_refusal(rt, terminal, path, error),
+        StoreFault::Foreign if refused.has_our_tables => terminal.say(path, OTHER_ROWS),
+        StoreFault::Foreign => terminal.say(path, OTHER_TABLES),
+        _ => {}
+    }
+}
+
+/// Prints that the path of a store does not stand for the files that are open, or were.
+pub fn print_lost(terminal: &Terminal<'_>, path: &str) {
+    terminal.say(path, LOST);
+}
+
+/// What the disk refused, by the count of what its failed calls met.
+fn disk_failure(tally: Tally) -> Option<Error> {
+    if tally.caught > 0 {
+        Some(Error::SqliteFailure(ErrorCode::DatabaseCorrupt))
+    } else if tally.refused > 0 {
+        Some(Error::SqliteFailure(ErrorCode::DiskFull))
+    } else {
+        None
+    }
+}
+
+/// Prints what failed of the disk in a run or a session, or as its files were closed, if that is
+/// known.
+pub fn print_failure_of<D: Disk>(
+    rt: &HostRuntime,
+    terminal: &Terminal<'_>,
+    path: &str,
+    session: &EndedRun<D>,
+) {
+    if terminal.is_there()
+        && let Some(failure) = disk_failure(session.files.tally()).or(session.failure)
+    {
+        print_error(rt, terminal, path, failure);
+    }
+}
+
+/// Tells a person that a new store was made, and keeps why a store was refused.
+#[derive(Drop)]
+pub(crate) struct Teller<'t> {
+    terminal: &'t Terminal<'t>,
+    path: &'t str,
+    /// Whether there was no file.
+    is_new: bool,
+    refused: Option<Refused>,
+}
+
+impl<'t> Teller<'t> {
+    pub(crate) fn new(terminal: &'t Terminal<'t>, path: &'t str, is_new: bool) -> Teller<'t> {
+        Teller {
+            terminal,
+            path,
+            is_new,
+            refused: None,
+        }
+    }
+
+    /// Prints why the store was refused, or what failed of the disk in a run that is trouble.
+    pub(crate) fn print_ended<D: Disk>(&self, rt: &HostRuntime, ended: &Ended<D>) {
+        if let Some(refused) = self.refused {
+            print_cause(rt, self.terminal, self.path, &refused);
+        } else if let Ended::Run(session) = ended
+            && session.status == Status::Trouble
+        {
+            print_failure_of(rt, self.terminal, self.path, session);
+        }
+    }
+}
+
+impl Watch for Teller<'_> {
+    ghost noticed = { λ _. None };
+
+    fn opened<O: Output>(&mut self, _out: &O) {
+        if self.is_new {
+            self.terminal
+                .say(self.path, "no such file; made a new, empty store");
+        }
+    }
+
+    fn refused(&mut self, fault: &StoreFault, has_our_tables: bool) {
+        self.refused = Some(Refused {
+            fault: *fault,
+            has_our_tables,
+        });
+    }
+}

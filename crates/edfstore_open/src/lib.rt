@@ -1,0 +1,76 @@
+//! The program `edfstore` over the system: its stores, beside the words, files and streams of
+//! `edf_os`.
+//!
+//! - [`run_program`]: what the program does. What is read, written and answered is `edf_command`'s;
+//!   here the system is handed to it.
+//! - [`run_words`]: the same by words that the caller has.
+//! - [`open_standing`], [`open_when_free`]: the files of a store, opened for a program that keeps
+//!   them open, or not; [`Standing`]: whether its path still stands for them.
+//! - [`Refused`], [`print_cause`], [`print_failure_of`], [`print_lost`]: why a store was not opened
+//!   or
+//!   closed, for a person.
+#![tactic(auto)]
+
+mod cache;
+mod cache_size;
+mod cause;
+mod ended;
+mod heap;
+mod memory;
+mod opening;
+mod path;
+mod running;
+mod same_files;
+mod spare;
+mod waiting;
+
+pub use cause::{Refused, print_cause, print_failure_of, print_lost};
+use edf_command::{Order, Status, read_command};
+use edf_fragment::Counted;
+use edf_os::{Files, Streams, Terminal, refuse_words, words};
+pub use opening::{Again, open_standing, open_when_free};
+use running::run_over_store;
+pub use same_files::Standing;
+use sqlite::Unknown;
+use std::process::ExitCode;
+
+/// The terminal of a command, which shows a person how far `take` is.
+fn terminal_of<'rt>(rt: &'rt HostRuntime, command: &Order) -> Terminal<'rt> {
+    match command {
+        Order::Take { store: _, files } => Terminal::new(rt, "file", files.len()),
+        Order::List { .. } | Order::Export { .. } | Order::Convert { .. } => {
+            Terminal::new(rt, "file", 0)
+        }
+    }
+}
+
+/// What the command asks for, done over the system's files and streams.
+fn run_command(rt: &HostRuntime, command: &Order) -> Status {
+    let terminal = terminal_of(rt, command);
+    let Streams { mut out, mut err } = Streams::new(rt, &terminal);
+    let mut inputs = Files::new(rt, &terminal);
+    let (inputs, out, err) = (&mut inputs, &mut out, &mut err);
+    let ended = run_over_store(rt, &terminal, Unknown, command, inputs, out, err);
+    terminal.wipe_progress();
+    ended.status()
+}
+
+/// Does what the words after the program's name ask for, and answers the status that the program
+/// ends with: 0 to 3.
+pub fn run_words(rt: &HostRuntime, words: &[String]) -> Status {
+    let mut out = Counted::new(rt.stdout());
+    let mut err = Counted::new(rt.stderr());
+    match read_command(rt.alloc(), words, &mut out, &mut err) {
+        Ok(command) => run_command(rt, &command),
+        Err(status) => status,
+    }
+}
+
+/// Does what the program's words ask for, and answers the status that it ends with: 0 to 3.
+pub fn run_program(rt: &HostRuntime) -> ExitCode {
+    let status = match words(rt) {
+        Ok(words) => run_words(rt, words.as_slice()),
+        Err(error) => refuse_words(rt, &error),
+    };
+    ExitCode::from(status.code())
+}

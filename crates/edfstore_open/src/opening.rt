@@ -1,0 +1,160 @@
+//! How the files of a store are opened: they are waited for where another program has them.
+
+ghost use Rattle.std.specs.Prelude.{◌≡◌, true, Ok, IfOk, IfErr, MatchOption};
+ghost use Rattle.sqlite_wal.specs.Recovery.{Image};
+ghost use Rattle.sqlite_wal.specs.Files.{image_at};
+ghost use Rattle.edf_command.specs.Arguments.{meaning};
+ghost use Rattle.edfstore_files.specs.ProgramRun.{IsOfNoFiles, IsOpening};
+ghost use Rattle.edfstore_open.specs.OnFile.{OnlyReads};
+
+use crate::cache_size::pages_at;
+use crate::heap::give_back;
+use crate::same_files::Standing;
+use crate::spare::without_spares;
+use crate::waiting::{TRIES, is_held, pause};
+use edf_command::Order;
+use edfstore_files::open_path;
+use sqlite::{Connection, Error, ErrorCode, FileFrom, FileStore, Leftover, Start, Unknown};
+use sqlite_disk::Disk;
+use std::alloc::Global;
+
+/// What stands for what files hold, and can do so again at the next try.
+pub trait Again {
+    /// One that stands for the same.
+    fn again(&self) -> Self;
+}
+
+impl Again for Unknown {
+    fn again(&self) -> Unknown {
+        Unknown
+    }
+}
+
+/// Whether memory ran out.
+fn lacks_memory(error: &Error) -> bool {
+    matches!(error, Error::SqliteFailure(ErrorCode::OutOfMemory))
+}
+
+/// Opens the files of the store at a path with all of their pages in memory, where there is room
+/// and they do not stay open; and once more, as SQLite's port does by itself, where memory ran out
+/// then. What an opening that failed leaves of files keeps what they kept
+/// (`edfstore_files::laws`), and
+/// is let go before.
+fn open_with_room<S: Start + Again>(
+    rt: &HostRuntime,
+    path: &str,
+    stay_open: bool,
+    start: &S,
+) -> Result<Connection<FileStore<FileFrom<S>>>, (Error, Option<Leftover<FileFrom<S>>>)>
+    ensures { IsOpening (image_at S.Start) result }
+{
+    let pages = if stay_open { None } else { pages_at(rt, path) };
+    match open_path(rt, path, pages, start.again()) {
+        Ok(conn) => Ok(conn),
+        Err((error, left)) => {
+            if pages.is_some() && lacks_memory(&error) {
+                drop(left);
+                return open_path(rt, path, None, start.again());
+            }
+            Err((error, left))
+        }
+    }
+}
+
+/// Opens the files of the store at a path, which are made where there are none. Each page of a new
+/// one ends in SQLite's page sum, and where a file has sums each is compared as it is read. Where
+/// another program has them, this is tried again for two seconds; every other refusal comes at
+/// once, but where memory ran out for all pages of the file: these are kept in memory where there
+/// is room, and the files do not stay open.
+///
+/// `start` stands for what the files hold, whatever that is. Of the path that is opened, and of
+/// what is done to it before and after, no clause speaks.
+///
+/// # Errors
+/// As those of [`open_path`].
+pub fn open_when_free<S: Start + Again>(
+    rt: &HostRuntime,
+    path: &str,
+    stay_open: bool,
+    start: S,
+) -> Result<Connection<FileStore<FileFrom<S>>>, (Error, Option<Leftover<FileFrom<S>>>)>
+    ensures { IsOpening (image_at S.Start) result }
+{
+    for _ in 0..TRIES {
+        match open_with_room(rt, path, stay_open, &start) {
+            Err((error, None)) if is_held(&error) => pause(rt),
+            opened => return opened,
+        }
+    }
+    open_with_room(rt, path, stay_open, &start)
+}
+
+/// A connection whose files stay open, without the memory that only their check took.
+fn settled<D: Disk + Drop>(
+    alloc: Global,
+    conn: Connection<FileStore<D>>,
+) -> Result<Connection<FileStore<D>>, Error>
+    ensures opening { (start : Image) → IsOpening {g = D.Disk} start (Ok conn) →
+        IfOk result (λ c. IsOpening {g = D.Disk} start (Ok c)) }
+    ensures why { IfErr result IsOfNoFiles }
+{
+    let kept = without_spares(conn);
+    give_back(alloc);
+    kept
+}
+
+/// The same for a program that keeps them open: what the path stands for is kept then, and no
+/// memory that only the check of the files took.
+///
+/// # Errors
+/// As those of `open_when_free`. Nothing is left where the path does not stand for the files that
+/// were opened, or memory ran out once they were: they are let go as they are.
+pub fn open_standing<S: Start + Again>(
+    standing: &Standing<'_>,
+    start: S,
+) -> Result<Connection<FileStore<FileFrom<S>>>, (Error, Option<Leftover<FileFrom<S>>>)>
+    ensures { IsOpening (image_at S.Start) result }
+{
+    let rt = standing.rt();
+    let before = standing.db();
+    let conn = match open_when_free(rt, standing.path(), true, start) {
+        Ok(conn) => conn,
+        Err(refused) => return Err(refused),
+    };
+    let conn = match settled(rt.alloc(), conn) {
+        Ok(conn) => conn,
+        Err(error) => return Err((error, None)),
+    };
+    match standing.keep(before) {
+        Ok(()) => Ok(conn),
+        Err(error) => Err((error, None)),
+    }
+}
+
+/// Whether the command makes no store where its path names no file.
+fn only_reads(command: &Order) -> bool
+    ensures { result ≡ true → OnlyReads (meaning command.now) }
+{
+    match command {
+        Order::List { .. } | Order::Export { .. } => true,
+        Order::Take { .. } | Order::Convert { .. } => false,
+    }
+}
+
+/// Opens the files at the path of a command, or nothing where there is none and it only reads.
+pub(crate) fn find<S: Start + Again>(
+    rt: &HostRuntime,
+    path: &str,
+    is_new: bool,
+    start: S,
+    command: &Order,
+) -> Option<Result<Connection<FileStore<FileFrom<S>>>, (Error, Option<Leftover<FileFrom<S>>>)>>
+    ensures { MatchOption result
+        (OnlyReads (meaning command.now)) (IsOpening (image_at S.Start)) }
+{
+    if is_new && only_reads(command) {
+        None
+    } else {
+        Some(open_when_free(rt, path, false, start))
+    }
+}

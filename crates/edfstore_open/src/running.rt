@@ -1,0 +1,136 @@
+//! A command over the store that it names.
+
+ghost use Rattle.std.specs.Prelude.{◌≡◌, Some, None, MatchOption};
+ghost use Rattle.sqlite_wal.specs.Files.{image_at};
+ghost use Rattle.edf_command.specs.Arguments.{meaning};
+ghost use Rattle.edf_command.specs.Command.{store_path};
+ghost use Rattle.edf_header.specs.declared.limits.TheConstants.{MOST_RECORDS};
+ghost use Rattle.edf_cli.specs.Output.{output_change};
+ghost use Rattle.edfstore_files.specs.ProgramRun.{IsNoticed, IsOpening, run_of};
+ghost use Rattle.edfstore_open.specs.OnFile.{OnlyReads, FindsNothing, IsRunOn, IsRunAtPath};
+ghost use Rattle.edfstore_open.specs.Program.{program_run, IsProgramRun};
+
+use crate::cause::Teller;
+use crate::ended::Ended;
+use crate::memory::run_in_memory;
+use crate::opening::{Again, find};
+use crate::path::{AtPath, look_at};
+use edf_command::{Inputs, Order, Status, print_no_recording, store_path};
+use edf_fragment::Output;
+use edf_os::Terminal;
+use edfstore_files::{Cap, Watch, run_opened};
+use sqlite::{Connection, Error, FileFrom, FileStore, Leftover, Start};
+use sqlite_disk::Disk;
+use std::alloc::Global;
+
+/// What a command that makes no store answers where there is none: what an empty one has.
+fn find_nothing<F: Output>(command: &Order, err: &mut F) -> Status
+    requires reads { OnlyReads (meaning command.now) }
+    ensures { FindsNothing (meaning command.now) (output_change F.Output err.old err.new) result }
+{
+    match command {
+        Order::Export { store: _, place } => print_no_recording(err, *place),
+        Order::Take { .. } | Order::List { .. } | Order::Convert { .. } => Status::Done,
+    }
+}
+
+/// Runs a command over the files of its store, which were opened for it, or were not; or answers
+/// one that only reads, for which there are none. It has no other way to the files.
+fn run_on_file<S: Start, I: Inputs, O: Output, F: Output, W: Watch>(
+    alloc: Global,
+    found: Option<
+        Result<Connection<FileStore<FileFrom<S>>>, (Error, Option<Leftover<FileFrom<S>>>)>,
+    >,
+    command: &Order,
+    inputs: &mut I,
+    out: &mut O,
+    err: &mut F,
+    watch: &mut W,
+) -> Ended<FileFrom<S>>
+    requires { MatchOption found
+        (OnlyReads (meaning command.now)) (IsOpening (image_at S.Start)) }
+    ensures run { let r = run_of ⟦<FileFrom<S> as Disk>⟧ MOST_RECORDS (image_at S.Start) (
+      meaning command.now,
+      I.bytes inputs.old,
+      I.opened inputs.old,
+      I.opened inputs.new,
+      output_change O.Output out.old out.new,
+    ) (output_change F.Output err.old err.new)
+        (IsNoticed (W.noticed watch.old) (W.noticed watch.new)) (inputs.new ≡ inputs.old) in
+        IsRunOn r (meaning command.now) found result }
+    ensures quiet { found ≡ None → watch.new ≡ watch.old }
+{
+    let Some(opened) = found else {
+        return Ended::WithoutFiles(find_nothing(command, err));
+    };
+    let cap = Cap::most();
+    match run_opened(alloc, opened, cap, command, inputs, out, err, watch) {
+        Ok(session) => Ended::Run(session),
+        Err((status, left)) => Ended::NotOpened(status, left),
+    }
+}
+
+/// Runs a command over the file of the store that it names. Where there is no such file, `take`
+/// makes it, and the others find nothing and leave none; for a person it prints which of these it
+/// was, and why a store is refused. A store that another program has is waited for, two seconds at
+/// most.
+///
+/// `start` stands for what the files hold, whatever that is. Of the path that is opened, and of
+/// what the system does with it, no clause speaks: these lines are to be read.
+fn run_at_path<'x, S: Start + Again, I: Inputs, O: Output, F: Output>(
+    rt: &HostRuntime,
+    terminal: &'x Terminal<'x>,
+    path: &'x str,
+    start: S,
+    command: &Order,
+    inputs: &mut I,
+    out: &mut O,
+    err: &mut F,
+) -> Ended<FileFrom<S>>
+    requires named { store_path (meaning command.now) ≡ Some path.now }
+    ensures { IsRunAtPath (program_run ⟦<FileFrom<S> as Disk>⟧ (image_at S.Start) (
+      meaning command.now,
+      I.bytes inputs.old,
+      I.opened inputs.old,
+      I.opened inputs.new,
+      output_change O.Output out.old out.new,
+    ) (output_change F.Output err.old err.new) (inputs.new
+        ≡ inputs.old)) (meaning command.now) result }
+{
+    let is_new = look_at(rt, path) == AtPath::Nothing;
+    let found = find(rt, path, is_new, start, command);
+    if found.is_none() {
+        terminal.say(path, "no such file");
+    }
+    let mut teller = Teller::new(terminal, path, is_new);
+    let ended = run_on_file(rt.alloc(), found, command, inputs, out, err, &mut teller);
+    teller.print_ended(rt, &ended);
+    ended
+}
+
+/// Runs a command over the store that it names: that of a file, or an empty one in memory.
+pub(crate) fn run_over_store<'x, S: Start + Again, I: Inputs, O: Output, F: Output>(
+    rt: &HostRuntime,
+    terminal: &'x Terminal<'x>,
+    start: S,
+    command: &'x Order,
+    inputs: &mut I,
+    out: &mut O,
+    err: &mut F,
+) -> Ended<FileFrom<S>>
+    ensures { IsProgramRun ⟦<FileFrom<S> as Disk>⟧ (image_at S.Start) (
+      meaning command.now,
+      I.bytes inputs.old,
+      I.opened inputs.old,
+      I.opened inputs.new,
+      output_change O.Output out.old out.new,
+    ) (output_change F.Output err.old err.new) (inputs.new ≡ inputs.old) result }
+{
+    match store_path(command) {
+        Some(path) => run_at_path(rt, terminal, path, start, command, inputs, out, err),
+        None => {
+            let status = run_in_memory(rt.alloc(), command, inputs, out, err);
+            Ended::WithoutFiles(status)
+        }
+    }
+}
