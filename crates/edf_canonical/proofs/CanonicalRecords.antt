@@ -8,8 +8,7 @@ use Rattle.edf_time.specs.Civil.{window}
 use Rattle.edf_field.specs.Number.{duration_of}
 use Rattle.edf_header.specs.Signal.{samples_in_all}
 use Rattle.edf_header.specs.Header.{Layout}
-use Rattle.edf_tal.specs.Tal.{Annotation}
-use Rattle.edf_tal.specs.Tal.{IsAnnotation}
+use Rattle.edf_tal.specs.Tal.{Annotation, IsAnnotation}
 use Rattle.edf_tal.specs.Block.{BlockParsesTo, IsWithinLimits}
 use Rattle.edf_tal.specs.Canonical.{block_text}
 use Rattle.edf_tal.specs.declared.place.Place.{Place}

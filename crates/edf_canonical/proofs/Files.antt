@@ -4,8 +4,7 @@ use Rattle.std.proofs.Common.{sym, ap, ◌∙◌, subst, arith, All}
 use Rattle.std.specs.List.{flat_map}
 use Rattle.std.proofs.lemmas.List.Elements.{All-head, All-cons, All-nil}
 use Rattle.edf_header.specs.Spelled.{spelled_layout}
-use Rattle.edf_header.proofs.Cited.{one-canonical-header}
-use Rattle.edf_header.proofs.Cited.{canonical-header-reads}
+use Rattle.edf_header.proofs.Cited.{one-canonical-header, canonical-header-reads}
 use Rattle.edf_tal.proofs.Cited.{block-length}
 use Rattle.edf_time.specs.Civil.{window}
 use Rattle.edf_field.specs.Number.{duration_of}

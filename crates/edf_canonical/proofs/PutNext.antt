@@ -13,8 +13,7 @@ use Rattle.edf_canonical.specs.Kept.{annotated, annotated_one}
 use Rattle.edf_canonical.specs.Measure.{IsMeasured, IsMeasuredSoFar, IsWithinMeasure, MayBePrefix}
 use Rattle.edf_canonical.specs.Measure.{HoldsBlock, records_text}
 use Rattle.edf_canonical.specs.Output.{Buffered, Writes}
-use Rattle.edf_canonical.specs.Sending.{next_text, PutsNext, SendsAll, StopsAfter}
-use Rattle.edf_canonical.specs.Sending.{StopsFor}
+use Rattle.edf_canonical.specs.Sending.{next_text, PutsNext, SendsAll, StopsAfter, StopsFor}
 use Rattle.edf_canonical.specs.Source.{At, Answers, Gives}
 use Rattle.edf_canonical.specs.declared.fault.OutputFault.{OutputFault}
 use Rattle.edf_canonical.specs.declared.fault.SendFault.{SendFault}

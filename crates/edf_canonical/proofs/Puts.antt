@@ -5,8 +5,7 @@ use Rattle.std.specs.Io.KnownBytes.{Appends}
 use Rattle.std.proofs.KnownBytes.{Appends-trans, Appends-nil}
 use Rattle.edf_fragment.specs.Failures.{saturating_increment}
 use Rattle.edf_canonical.specs.Output.{Buffered, Writes, CountsOutputFault, IsWrittenOrBuffered}
-use Rattle.edf_canonical.specs.Output.{IsFlushed}
-use Rattle.edf_canonical.specs.Output.{WritesPrefix}
+use Rattle.edf_canonical.specs.Output.{IsFlushed, WritesPrefix}
 use Rattle.edf_canonical.specs.declared.fault.OutputFault.{OutputFault}
 use Rattle.edf_canonical.specs.declared.fault.OutputFault.TheVariants.{Write}
 

@@ -1,7 +1,6 @@
 -- The records of a canonical file are read again as they were.
-use Rattle.std.proofs.Common.{◌≡◌, ℕ, ◌+◌, ◌-◌, ◌≤◌, List, []}
-use Rattle.std.proofs.Common.{◌∷◌, ◌++◌, length, map, take, drop, refl, sym, ap, ◌∙◌, subst, arith}
-use Rattle.std.proofs.Common.{length-append, replicate}
+use Rattle.std.proofs.Common.{◌≡◌, ℕ, ◌+◌, ◌-◌, ◌≤◌, List, [], ◌∷◌, ◌++◌, length, map, take, drop}
+use Rattle.std.proofs.Common.{refl, sym, ap, ◌∙◌, subst, arith, length-append, replicate}
 use Rattle.std.proofs.lemmas.List.{take_at, drop_at, take_all, drop_all, length-replicate}
 use Rattle.std.proofs.lemmas.List.{append-nil}
 use Rattle.std.specs.List.{flat_map}
@@ -11,8 +10,7 @@ use Rattle.edf_header.specs.declared.header.Block.{Block}
 use Rattle.edf_tal.specs.Block.{BlocksParseTo, BlockParsesTo}
 use Rattle.edf_tal.specs.declared.place.Place.{Place}
 use Rattle.edf_fragment.specs.Fragment.{DataRecord, IsDataRecord, AreDataRecords, blocks}
-use Rattle.edf_fragment.specs.Fragment.{bytes_outside}
-use Rattle.edf_fragment.specs.Fragment.{ordinary_bytes, place_after}
+use Rattle.edf_fragment.specs.Fragment.{bytes_outside, ordinary_bytes, place_after}
 use Rattle.edf_canonical.specs.File.{block_of, record_text}
 
 -- the one block, of `size` bytes, that comes after `at` bytes

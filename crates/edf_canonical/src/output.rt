@@ -1,7 +1,6 @@
 //! Writing through a buffer of 64 KiB, which the caller keeps beside its writer.
 
-ghost use Rattle.std.specs.Prelude.{◌≡◌, ◌+◌, ◌-◌, ◌≤◌, [], length, vec_len};
-ghost use Rattle.std.specs.Prelude.{replicate};
+ghost use Rattle.std.specs.Prelude.{◌≡◌, ◌+◌, ◌-◌, ◌≤◌, [], length, vec_len, replicate};
 ghost use Rattle.edf_canonical.specs.Output.{buffered, IsWrittenOrBuffered, IsFlushed};
 ghost use Rattle.edf_canonical.specs.declared.output.TheConstants.{MOST_HELD};
 

@@ -2,8 +2,7 @@
 use Rattle.std.specs.Prelude.{◌≡◌, ◌≢◌, ◌⊎◌, ℕ, zero, suc, ◌+◌, ◌-◌, ◌^◌, min, List, [], ◌∷◌, ◌++◌, map}
 use Rattle.std.specs.Prelude.{Bool, true, false, Option, Some, None, Result, Ok, Err}
 use Rattle.edf_cli.specs.declared.new_files.FileStage.{FileStage}
-use Rattle.edf_cli.specs.declared.new_files.FileStage.TheVariants.{Begun, Left, Finished}
-use Rattle.edf_cli.specs.declared.new_files.FileStage.TheVariants.{Removed}
+use Rattle.edf_cli.specs.declared.new_files.FileStage.TheVariants.{Begun, Left, Finished, Removed}
 use Rattle.edf_cli.specs.declared.new_files.FileStage.TheVariants.{Kept}
 use Rattle.edf_cli.specs.declared.new_files.Unfinished.{Unfinished}
 

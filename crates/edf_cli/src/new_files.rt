@@ -6,8 +6,7 @@ ghost use Rattle.std.specs.Bool.{MatchBool};
 ghost use Rattle.edf_fragment.specs.Failures.{saturating_increment};
 ghost use Rattle.edf_cli.specs.Made.{MadeFile, begun, half, removed, kept};
 ghost use Rattle.edf_cli.specs.Made.{IsEnded, WritesNone, failed_with};
-ghost use Rattle.edf_cli.specs.There.{There, IsVacant, MayBeThere, IsSame, IsNamed};
-ghost use Rattle.edf_cli.specs.There.{IsTakenAway};
+ghost use Rattle.edf_cli.specs.There.{There, IsVacant, MayBeThere, IsSame, IsNamed, IsTakenAway};
 
 use edf_fragment::Output;
 use std::alloc::Global;

@@ -5,8 +5,7 @@ ghost use Rattle.std.specs.Prelude.{◌≡◌, ◌++◌, ℕ, List, IfOk, OnOk, 
 ghost use Rattle.std.specs.List.{flat_map};
 ghost use Rattle.edf_cli.specs.Output.{output_change, IsWritten};
 ghost use Rattle.edf_cli.specs.Text.{IsInstantFormat, detail, fragment_details};
-ghost use Rattle.edf_cli.specs.Text.{fragment_fault_text, memory_line, refused_line};
-ghost use Rattle.edf_cli.specs.Text.{there_line};
+ghost use Rattle.edf_cli.specs.Text.{fragment_fault_text, memory_line, refused_line, there_line};
 
 use crate::output::print_line;
 use crate::status::Status;

@@ -18,10 +18,9 @@ use Rattle.edf_cli.specs.Words.{is_mistake}
 use Rattle.edf_command.specs.Inside.Matches.{asked_in}
 use Rattle.edf_command.proofs.Values.{and_left, and_right, is_value_is}
 use Rattle.edf_command.proofs.Levels.{level_by, top}
-use Rattle.edf_command.proofs.FewValues.{list_none, list_one, list_rows, list_many}
-use Rattle.edf_command.proofs.FewValues.{convert_none, convert_one, convert_rows}
-use Rattle.edf_command.proofs.FewValues.{convert_many, export_none, export_one, export_two}
-use Rattle.edf_command.proofs.FewValues.{export_rows, export_many}
+use Rattle.edf_command.proofs.FewValues.{list_none, list_one, list_rows, list_many, convert_none}
+use Rattle.edf_command.proofs.FewValues.{convert_one, convert_rows, convert_many, export_none}
+use Rattle.edf_command.proofs.FewValues.{export_one, export_two, export_rows, export_many}
 use Rattle.edf_command.proofs.ManyValues.{take_none, take_one, take_more, take_rows}
 
 abbrev names : Names

@@ -5,8 +5,7 @@ ghost use Rattle.sqlite.specs.State.{HasCleanDisk};
 ghost use Rattle.edf_holdings.specs.Holdings.{Holdings};
 ghost use Rattle.edf_store.specs.Held.{at, Holds};
 ghost use Rattle.edf_export.specs.Export.{IsExported, IsNotExported, KeepsStore};
-ghost use Rattle.edf_export.specs.Export.{ReportsWriteFailures};
-ghost use Rattle.edf_export.specs.Export.{ExportsUnlessBusy};
+ghost use Rattle.edf_export.specs.Export.{ReportsWriteFailures, ExportsUnlessBusy};
 
 use crate::fault::ExportFault;
 use crate::planning::plan_file;

@@ -17,8 +17,7 @@ use Rattle.edf_time.specs.Decimal.{fraction_value as places}
 use Rattle.edf_time.specs.declared.decimal.DecimalFault.{DecimalFault}
 use Rattle.edf_time.specs.declared.decimal.DecimalFault.TheVariants.{Syntax, TooFine, TooLarge}
 use Rattle.edf_field.specs.Number.{AreSpaces, digits, after_digits, fraction, unpadded_len}
-use Rattle.edf_field.specs.Number.{IsDuration}
-use Rattle.edf_field.specs.Number.{IsDurationInRange, duration_of}
+use Rattle.edf_field.specs.Number.{IsDuration, IsDurationInRange, duration_of}
 use Rattle.edf_field.specs.Grammar.{AreDigits, point_text}
 use Rattle.edf_field.specs.declared.number.TheConstants.{MOST_DURATION}
 use Rattle.edf_field.proofs.Grammar.{front, after, tail-off, fraction-is, spaces-are}

@@ -1,6 +1,5 @@
 -- Why a text is no identification: one reason at most, and none where it is one.
-use Rattle.std.proofs.Common.{◌≡◌, ℕ, List, [], ◌∷◌, arith, refl}
-use Rattle.std.proofs.Common.{subst, ℤ, Option}
+use Rattle.std.proofs.Common.{◌≡◌, ℕ, List, [], ◌∷◌, arith, refl, subst, ℤ, Option}
 use Rattle.edf_field.specs.Text.{subfields, IsSex, IsBirthdate, IsPatient, IsRecording}
 use Rattle.edf_field.specs.Fault.{SubfieldsHaveFault, IsPatientFault, IsRecordingFault}
 use Rattle.edf_field.specs.declared.fault.PatientFault.{PatientFault}

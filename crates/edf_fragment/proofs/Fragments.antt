@@ -21,8 +21,7 @@ use Rattle.edf_fragment.specs.Reading.{IsNextFault, IsNext}
 use Rattle.edf_fragment.specs.Stops.{EndsInRecord, RefusesBlock, HasTrailingByte}
 use Rattle.edf_fragment.specs.Reading.{initial_progress, progress_after, IsAnswerInState, IsAnswer}
 use Rattle.edf_fragment.specs.Whole.{HasReadRecords, FailsAfterRecords, ReadsFragment}
-use Rattle.edf_fragment.specs.Whole.{IsFirstFaultIfKnown}
-use Rattle.edf_fragment.specs.Whole.{IsFragmentFault}
+use Rattle.edf_fragment.specs.Whole.{IsFirstFaultIfKnown, IsFragmentFault}
 use Rattle.edf_fragment.specs.Inside.Steps.{ReadsRecords}
 use Rattle.edf_fragment.specs.declared.advance.Progress.{Progress}
 use Rattle.edf_fragment.specs.declared.advance.ReaderState.{ReaderState}

@@ -12,8 +12,7 @@ use Rattle.edf_header.specs.Header.{FixedPart, IsFixedHeader, IsHeader, Layout}
 use Rattle.edf_header.specs.Fault.{FixedPartFails, SignalsFail, HasSignals, IsHeaderFault, IsFirst}
 use Rattle.edf_header.specs.Fault.{IsClean, IsSignalsRefusal, header_fault_number}
 use Rattle.edf_header.specs.declared.fault.HeaderFault.{HeaderFault}
-use Rattle.edf_header.specs.declared.fault.HeaderFault.TheVariants.{Cut}
-use Rattle.edf_header.specs.declared.fault.HeaderFault.TheVariants.{CutSignals}
+use Rattle.edf_header.specs.declared.fault.HeaderFault.TheVariants.{Cut, CutSignals}
 use Rattle.edf_header.specs.declared.fault.HeaderFault.TheVariants.{UnprintableSignals, Annotations}
 use Rattle.edf_header.specs.declared.fault.HeaderFault.TheVariants.{Physical, Digital, Samples}
 use Rattle.edf_header.specs.declared.fault.HeaderFault.TheVariants.{Size, Memory}

@@ -9,11 +9,8 @@ use Rattle.std.proofs.lemmas.List.Elements.{All-nil, All-cons}
 use Rattle.edf_field.specs.Number.{duration_of}
 use Rattle.edf_header.specs.Signal.{samples_in_all}
 use Rattle.edf_header.specs.Key.{Key, IsKey}
-use Rattle.edf_header.specs.Header.{IsLayout}
-use Rattle.edf_header.specs.Header.{HeaderRecord, IsHeader, Layout, layout_of}
-use Rattle.edf_header.proofs.Cited.{key-duration-some}
-use Rattle.edf_header.proofs.Cited.{header-has-layout}
-use Rattle.edf_header.proofs.Cited.{one-header}
+use Rattle.edf_header.specs.Header.{IsLayout, HeaderRecord, IsHeader, Layout, layout_of}
+use Rattle.edf_header.proofs.Cited.{key-duration-some, header-has-layout, one-header}
 use Rattle.edf_tal.specs.Tal.{Tal, Annotation, HasTimeKeepingTal, record_start, first_tals}
 use Rattle.edf_tal.specs.Block.{BlocksParseTo, StartFitsPlace}
 use Rattle.edf_header.specs.declared.limits.TheConstants.{MOST_BLOCK_BYTES, MOST_RECORDS}

@@ -3,8 +3,7 @@ use Rattle.std.proofs.Common.{◌≡◌, ℕ, ◌+◌, ◌-◌, ◌*◌, ◌≤�
 use Rattle.std.proofs.Common.{arith, sym, subst, inl, inr}
 use Rattle.std.proofs.lemmas.Bool.{cases_lt}
 use Rattle.edf_header.specs.Identity.{HasLength, HasMark, IsCleanKey, KeyFails}
-use Rattle.edf_header.specs.Identity.{identity_fault_order}
-use Rattle.edf_header.specs.Identity.{signals_at}
+use Rattle.edf_header.specs.Identity.{identity_fault_order, signals_at}
 use Rattle.edf_header.specs.Key.{IsKey, Key, key_at, key_bytes}
 use Rattle.edf_field.specs.Number.{field, IsDuration}
 use Rattle.edf_header.specs.Inside.Shape.{IsKeyPrefix, check_order}

@@ -1,7 +1,6 @@
 -- Rows that are decided, in the order of their numbers: none is true, or one is the first.
 use Rattle.std.proofs.Common.{◌≡◌, ◌≢◌, ℕ, suc, ◌+◌, ◌*◌, List, [], length, arith, refl, sym, ap}
-use Rattle.std.proofs.Common.{◌∙◌}
-use Rattle.std.proofs.Common.{subst, inl, inr, cond, eqb, Option, ℤ, Some}
+use Rattle.std.proofs.Common.{◌∙◌, subst, inl, inr, cond, eqb, Option, ℤ, Some}
 use Rattle.std.specs.Prelude.{◌⊎◌, codes}
 use Rattle.edf_time.specs.Civil.{HasDateForm, IsDateText, IsTimeText}
 use Rattle.edf_field.specs.Number.{field, IsDuration, IsNumber}

@@ -1,6 +1,5 @@
 -- What a file is by its first bytes: one thing, and always one.
-use Rattle.std.proofs.Common.{◌≡◌, ℕ, ◌<◌, List, get_or, take, arith, refl, sym}
-use Rattle.std.proofs.Common.{ap, ◌∙◌, inl, inr}
+use Rattle.std.proofs.Common.{◌≡◌, ℕ, ◌<◌, List, get_or, take, arith, refl, sym, ap, ◌∙◌, inl, inr}
 use Rattle.std.proofs.lemmas.List.{get_or-take}
 use Rattle.edf_header.specs.Format.{IsFormat, edf_mark, bdf_mark, zip_mark, sqlite_mark}
 use Rattle.edf_header.specs.declared.format.Format.{Format}

@@ -4,8 +4,7 @@ use Rattle.std.proofs.Common.{refl, sym, ap, subst, inl, inr, Option, None, Some
 use Rattle.std.proofs.lemmas.Bool.{cases_lt, false≢true}
 use Rattle.std.specs.Prelude.{◌⊎◌, ◌↔◌, All, IsTrue, MatchOption, is_some}
 use Rattle.edf_field.specs.Text.{IsPrintable}
-use Rattle.edf_header.specs.Signal.{Passes, labelled, ordinary, samples_in_all}
-use Rattle.edf_header.specs.Signal.{signals_of}
+use Rattle.edf_header.specs.Signal.{Passes, labelled, ordinary, samples_in_all, signals_of}
 use Rattle.edf_header.specs.Inside.Rows.{RowsFail, AreSoundRows}
 use Rattle.edf_header.specs.Fault.{SignalsFail, IsClean}
 use Rattle.edf_header.specs.Condition.{HasAnnotations, IsBadSignal, IsTooLarge}

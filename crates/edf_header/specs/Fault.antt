@@ -10,10 +10,9 @@ use Rattle.edf_header.specs.Fields.{starttime_field, reserved_field, duration_fi
 use Rattle.edf_header.specs.Signal.{signals_of, IsFirstBad}
 use Rattle.edf_header.specs.Fixed.{IsPlus}
 use Rattle.edf_header.specs.Format.{IsFormat}
-use Rattle.edf_header.specs.Condition.{HasCount, HasNoSignals, HasOtherHeaderBytes}
-use Rattle.edf_header.specs.Condition.{IsNoTime, IsNoDuration, IsNoStartdate, HasNoYear}
-use Rattle.edf_header.specs.Condition.{DatesAreOther, HasAnnotations, IsBadSignal, IsTooLarge}
-use Rattle.edf_header.specs.Condition.{HasBadByteAt}
+use Rattle.edf_header.specs.Condition.{HasCount, HasNoSignals, HasOtherHeaderBytes, IsNoTime}
+use Rattle.edf_header.specs.Condition.{IsNoDuration, IsNoStartdate, HasNoYear, DatesAreOther}
+use Rattle.edf_header.specs.Condition.{HasAnnotations, IsBadSignal, IsTooLarge, HasBadByteAt}
 use Rattle.edf_header.specs.declared.signal_checks.Check.TheVariants as checks
 use Rattle.edf_header.specs.declared.fault.HeaderFault.{HeaderFault}
 use Rattle.edf_header.specs.declared.fault.HeaderFault.TheVariants.{Cut, Unprintable, Version}

@@ -7,8 +7,7 @@ use Rattle.edf_header.specs.Fields.{key_size_before_signals, key_signals_count, 
 use Rattle.edf_header.specs.Signal.{rows, samples_in_all, IsFirstBad}
 use Rattle.edf_header.specs.Key.{key_at}
 use Rattle.edf_header.specs.Condition.{IsBadSignal}
-use Rattle.edf_header.specs.declared.limits.TheConstants.{MOST_BLOCK_BYTES}
-use Rattle.edf_header.specs.declared.limits.TheConstants.{MOST_ORDINARY_SIGNALS}
+use Rattle.edf_header.specs.declared.limits.TheConstants.{MOST_BLOCK_BYTES, MOST_ORDINARY_SIGNALS}
 use Rattle.edf_header.specs.declared.signal_checks.Check.TheVariants as checks
 use Rattle.edf_header.specs.declared.identity.IdentityFault.{IdentityFault}
 use Rattle.edf_header.specs.declared.identity.IdentityFault.TheVariants.{Length, Unprintable}

@@ -8,8 +8,7 @@ use Rattle.edf_field.specs.Text.{IsPrintable, IsPatient, FollowsStartdate, space
 use Rattle.edf_header.specs.Fields.{key_patient_field, key_mark, key_after_field}
 use Rattle.edf_header.specs.Fields.{key_duration_field, key_signals_count, key_signals_part}
 use Rattle.edf_header.specs.Signal.{rows, IsOrdinary, HasSamples, samples_in_all}
-use Rattle.edf_header.specs.declared.limits.TheConstants.{MOST_BLOCK_BYTES}
-use Rattle.edf_header.specs.declared.limits.TheConstants.{MOST_ORDINARY_SIGNALS}
+use Rattle.edf_header.specs.declared.limits.TheConstants.{MOST_BLOCK_BYTES, MOST_ORDINARY_SIGNALS}
 
 -- the patient field; whether the Startdate subfield is a date; what follows it, 59 bytes after a
 -- date and 69 after X; the duration field; the ordinary signals' headers

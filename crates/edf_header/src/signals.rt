@@ -1,5 +1,4 @@
-ghost use Rattle.std.specs.Prelude.{◌≡◌, ◌*◌, ◌≤◌, ◌↔◌, ℕ, List, length};
-ghost use Rattle.std.specs.Prelude.{IfOk, IsTrue, MatchResult};
+ghost use Rattle.std.specs.Prelude.{◌≡◌, ◌*◌, ◌≤◌, ◌↔◌, ℕ, List, length, IfOk, IsTrue, MatchResult};
 ghost use Rattle.edf_header.specs.Header.{HeaderRecord, AreSignals, layout_of};
 ghost use Rattle.edf_header.specs.Fixed.{IsFixed};
 ghost use Rattle.edf_header.specs.Fault.{IsFirst, IsSignalsRefusal};

@@ -13,8 +13,7 @@ use Rattle.edf_holdings.specs.Rising.{union, StartsAreSpaced, IsRising}
 use Rattle.edf_holdings.specs.Holdings.{Holdings, IsSound, with_records, nothing_held}
 use Rattle.edf_holdings.specs.Reply.{IsWellFormed}
 use Rattle.edf_holdings.specs.ConflictFree.{IsFragment, union_with, union_with_all, IsConflictFree}
-use Rattle.edf_holdings.specs.ConflictFree.{Has}
-use Rattle.edf_holdings.specs.ConflictFree.{SameRecords}
+use Rattle.edf_holdings.specs.ConflictFree.{Has, SameRecords}
 use Rattle.edf_holdings.specs.Laws.{AreWellFormed, Reordered, SameRecordsStayConflictFree}
 use Rattle.edf_holdings.specs.Laws.{OneIsConflictFree}
 use Rattle.edf_holdings.proofs.Same.{Clash-from_test, test_from_Clash}
@@ -24,8 +23,7 @@ use Rattle.edf_holdings.proofs.Joining.{IsGood-from_sound, In-from_Contains, Con
 use Rattle.edf_holdings.proofs.Joining.{put_cases, put_here, rising_from_apart, free_from_apart}
 use Rattle.edf_holdings.proofs.Joining.{lasting, apart-sound}
 use Rattle.edf_holdings.proofs.ConflictFree.{all_grows, IsAmong-from_Any, Any-from_IsAmong}
-use Rattle.edf_holdings.proofs.ConflictFree.{any_order_law}
-use Rattle.edf_holdings.proofs.ConflictFree.{all_within}
+use Rattle.edf_holdings.proofs.ConflictFree.{any_order_law, all_within}
 use Rattle.edf_holdings.proofs.InSets.{from_nothing}
 
 -- each key's records rise and lie apart

@@ -8,9 +8,8 @@ use Rattle.edf_fragment.specs.Parsed.{Parsed, Fragment, Fault}
 use Rattle.edf_holdings.specs.Same.{same_key, same_record}
 use Rattle.edf_holdings.specs.Clash.{clashes}
 use Rattle.edf_holdings.specs.Holdings.{nothing_held}
-use Rattle.edf_holdings.specs.Reply.{after_one, after, Form, Conflicts, Overlap, Differs}
-use Rattle.edf_holdings.specs.Reply.{Full, Accepted}
-use Rattle.edf_holdings.specs.Reply.{reply, replies}
+use Rattle.edf_holdings.specs.Reply.{after_one, after, Form, Conflicts, Overlap, Differs, Full}
+use Rattle.edf_holdings.specs.Reply.{Accepted, reply, replies}
 
 -- keys of a record duration of 10 nanoseconds, and fragments of records that begin at these starts
 -- and have this byte

@@ -1,11 +1,9 @@
 //! Laws of lists of submissions: each function has laws for a contract, and does nothing.
 
 ghost use Rattle.edf_holdings.specs.Laws.{ParsedIsWellFormed, NothingIsSound, StaysSound};
-ghost use Rattle.edf_holdings.specs.Laws.{AddStaysSound};
-ghost use Rattle.edf_holdings.specs.Laws.{HeldIsKnown, AcceptedAgain, RefusedAgain};
-ghost use Rattle.edf_holdings.specs.Laws.{RepeatsChangeNothing};
-ghost use Rattle.edf_holdings.specs.Laws.{ResentFromStart, AnyOrder, Reordered, OneIsConflictFree};
-ghost use Rattle.edf_holdings.specs.Laws.{Recut};
+ghost use Rattle.edf_holdings.specs.Laws.{AddStaysSound, HeldIsKnown, AcceptedAgain, RefusedAgain};
+ghost use Rattle.edf_holdings.specs.Laws.{RepeatsChangeNothing, ResentFromStart, AnyOrder};
+ghost use Rattle.edf_holdings.specs.Laws.{Reordered, OneIsConflictFree, Recut};
 ghost use Rattle.edf_holdings.specs.Laws.{SameRecordsStayConflictFree};
 
 /// What bytes amount to is sound, and so are holdings of nothing. Sound holdings stay so after any

@@ -5,9 +5,8 @@ ghost use Rattle.edf_holdings.specs.Meaning.{SameKeyIsEqual, SameRecordIsEqual, 
 ghost use Rattle.edf_holdings.specs.Meaning.{TestIsContains, ListIsSet, HoldingsAreSets};
 ghost use Rattle.edf_holdings.specs.Meaning.{JoinedHasBoth, AllHasBoth, TestIsFits};
 ghost use Rattle.edf_holdings.specs.Meaning.{AcceptedWhereFits, RepliesNameTheClash};
-ghost use Rattle.edf_holdings.specs.Meaning.{FirstClashExists};
-ghost use Rattle.edf_holdings.specs.Meaning.{CountsAreNamed, NewRecordsAreCounted};
-ghost use Rattle.edf_holdings.specs.Meaning.{AfterHasAccepted};
+ghost use Rattle.edf_holdings.specs.Meaning.{FirstClashExists, CountsAreNamed};
+ghost use Rattle.edf_holdings.specs.Meaning.{NewRecordsAreCounted, AfterHasAccepted};
 ghost use Rattle.edf_holdings.specs.Meaning.{RefusedChangesNothing, OwnRecordsAreKnown, NearTwo};
 ghost use Rattle.edf_holdings.specs.Meaning.{NearIsSelected};
 ghost use Rattle.edf_holdings.specs.Keys.{KeysAreOne};

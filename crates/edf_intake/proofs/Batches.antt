@@ -13,8 +13,7 @@ use Rattle.edf_fragment.specs.Fault.{IsFirstFault}
 use Rattle.edf_fragment.specs.Parsed.{Parsed, Fragment, Fault, ParsesTo}
 use Rattle.edf_fragment.specs.Whole.{IsFirstFaultIfKnown}
 use Rattle.edf_fragment.specs.declared.fault.FragmentFault.{FragmentFault}
-use Rattle.edf_fragment.specs.declared.fault.FragmentFault.TheVariants.{Read, Memory}
-use Rattle.edf_fragment.specs.declared.fault.FragmentFault.TheVariants.{Failed}
+use Rattle.edf_fragment.specs.declared.fault.FragmentFault.TheVariants.{Read, Memory, Failed}
 use Rattle.edf_fragment.proofs.Parsed.{one-parse}
 use Rattle.edf_holdings.specs.Holdings.{Holdings}
 use Rattle.edf_holdings.specs.Reply.{Reply, replies, after}
@@ -34,11 +33,9 @@ use Rattle.edf_store.specs.declared.fault.StoreFault.TheVariants.{Memory as NoMe
 use Rattle.edf_store.specs.declared.fault.StoreFault.TheVariants.{Failed as FailedBefore}
 use Rattle.edf_intake.specs.Submitted.{IsRefusal, IsSubmitted, IsEnded}
 use Rattle.edf_intake.specs.Batch.{Turn, some_values, submissions_in, replies_in, IsPossibleReply}
-use Rattle.edf_intake.specs.Batch.{IsTurn}
-use Rattle.edf_intake.specs.Batch.{MayHaveCommittedNext, IsOwnCause, IsOwnRefusal}
-use Rattle.edf_intake.specs.Batch.{MayRemainAfterCrash, AreEnded}
-use Rattle.edf_intake.specs.Batch.{SubmitsOne, AreSubmitted, AreSubmittedAsList}
-use Rattle.edf_intake.specs.Batch.{InTurnIsAsList, AnswersAll}
+use Rattle.edf_intake.specs.Batch.{IsTurn, MayHaveCommittedNext, IsOwnCause, IsOwnRefusal}
+use Rattle.edf_intake.specs.Batch.{MayRemainAfterCrash, AreEnded, SubmitsOne, AreSubmitted}
+use Rattle.edf_intake.specs.Batch.{AreSubmittedAsList, InTurnIsAsList, AnswersAll}
 use Rattle.edf_intake.proofs.Turns.{IsMade, told-next, replies-next, map-next, all-next, turn_of}
 
 -- what was no refusal of a clean disk is none later

@@ -1,6 +1,5 @@
 -- How a submission ends: what the calls of its transaction left, one after another.
-use Rattle.std.proofs.Common.{◌≡◌, ℕ, List, Some, None, Ok, Err, sym, subst, ◌∙◌, inl, inr}
-use Rattle.std.proofs.Common.{arith}
+use Rattle.std.proofs.Common.{◌≡◌, ℕ, List, Some, None, Ok, Err, sym, subst, ◌∙◌, inl, inr, arith}
 use Rattle.std.specs.Result.{IsErrAnd}
 use Rattle.sqlite_trees.specs.declared.store.Store.{Ghosts}
 use Rattle.sqlite.specs.State.{HasCleanDisk, Survives}
@@ -27,8 +26,7 @@ use Rattle.edf_intake.specs.Refusal.{Answer, IsStopped, IsInDoubt, cause}
 use Rattle.edf_fragment.specs.Call.{InputState}
 use Rattle.edf_intake.specs.Input.{ReadsPrefix}
 use Rattle.edf_intake.specs.Submitted.{RemainAfterCrash, Accepts, Refuses, IsInterrupted}
-use Rattle.edf_intake.specs.Submitted.{IsRefusedFor}
-use Rattle.edf_intake.specs.Submitted.{IsSubmitted}
+use Rattle.edf_intake.specs.Submitted.{IsRefusedFor, IsSubmitted}
 use Rattle.edf_intake.specs.Inside.Halt.{store_refusal}
 use Rattle.edf_intake.specs.Inside.Taken.{IsAcceptedInside, StopsFor, IsStop, IsConflictInside}
 use Rattle.edf_intake.specs.declared.answer.Receipt.{Receipt}

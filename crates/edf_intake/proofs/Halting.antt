@@ -6,8 +6,7 @@ use Rattle.edf_fragment.specs.Reading.{ReadsHeader, CountsFault, initial_progres
 use Rattle.edf_fragment.specs.Whole.{IsFragmentFault, ReadsFragment}
 use Rattle.edf_fragment.specs.Fragment.{DataRecord}
 use Rattle.edf_fragment.specs.declared.fault.FragmentFault.{FragmentFault}
-use Rattle.edf_fragment.specs.declared.fault.FragmentFault.TheVariants.{Read, Memory}
-use Rattle.edf_fragment.specs.declared.fault.FragmentFault.TheVariants.{Failed}
+use Rattle.edf_fragment.specs.declared.fault.FragmentFault.TheVariants.{Read, Memory, Failed}
 use Rattle.edf_fragment.proofs.Fragments.{reads_none}
 use Rattle.edf_fragment.proofs.OneFragment.{spelled-no-fault}
 use Rattle.sqlite_trees.specs.declared.store.Store.{Ghosts}

@@ -1,6 +1,5 @@
 -- One data record more, in a transaction.
-use Rattle.std.proofs.Common.{◌≡◌, ℕ, ◌+◌, ◌<◌, ◌≤◌, ℤ, false, true, List, [], ◌∷◌, Option}
-use Rattle.std.proofs.Common.{Some}
+use Rattle.std.proofs.Common.{◌≡◌, ℕ, ◌+◌, ◌<◌, ◌≤◌, ℤ, false, true, List, [], ◌∷◌, Option, Some}
 use Rattle.std.proofs.Common.{None, Ok, IfSome, refl, sym, ap, subst, arith, MatchOption}
 use Rattle.std.specs.Option.{is_some}
 use Rattle.sqlite_trees.specs.declared.store.Store.{Ghosts}

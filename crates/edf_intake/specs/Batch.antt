@@ -1,7 +1,6 @@
 -- What a list of submissions answers, and what it leaves: first call by call; then what all of it
 -- comes to, where each answer tells a reply, and in every case, with what a crash may leave.
-use Rattle.std.specs.Prelude.{◌≡◌, ◌⊎◌, ℕ, List, [], ◌∷◌, ◌++◌, map, Option, Some, None, Ok}
-use Rattle.std.specs.Prelude.{Err}
+use Rattle.std.specs.Prelude.{◌≡◌, ◌⊎◌, ℕ, List, [], ◌∷◌, ◌++◌, map, Option, Some, None, Ok, Err}
 use Rattle.std.specs.List.{AllByRecursion, AllZip}
 use Rattle.sqlite_trees.specs.declared.store.Store.{Ghosts}
 use Rattle.sqlite_trees.specs.Tree.{Trees}
@@ -12,8 +11,7 @@ use Rattle.edf_holdings.specs.Reply.{Reply, Form, Accepted, after_one, after, re
 use Rattle.edf_rows.specs.Rows.{RepresentCommitted}
 use Rattle.edf_store.specs.Call.{IsBusy}
 use Rattle.edf_store.specs.Held.{StoreModel, at, Holds, KeepsOtherTables}
-use Rattle.edf_intake.specs.Refusal.{Answer, reply_of, IsStopped, IsInDoubt, cause}
-use Rattle.edf_intake.specs.Refusal.{Cause, OfStore}
+use Rattle.edf_intake.specs.Refusal.{Answer, reply_of, IsStopped, IsInDoubt, cause, Cause, OfStore}
 use Rattle.edf_intake.specs.Submitted.{IsRefusal, IsSubmitted, IsEnded, found_busy}
 use Rattle.edf_fragment.specs.Call.{InputState}
 use Rattle.edf_intake.specs.Input.{ReadsAs, FailsToRead, ReadsPrefix}

@@ -1,9 +1,8 @@
 //! Laws of lists of submissions: each function has laws for a contract, and does nothing.
 
 ghost use Rattle.edf_holdings.specs.Laws.{HeldIsKnown, AcceptedAgain, RefusedAgain};
-ghost use Rattle.edf_holdings.specs.Laws.{RepeatsChangeNothing};
-ghost use Rattle.edf_holdings.specs.Laws.{ResentFromStart, AnyOrder, Reordered, OneIsConflictFree};
-ghost use Rattle.edf_holdings.specs.Laws.{Recut};
+ghost use Rattle.edf_holdings.specs.Laws.{RepeatsChangeNothing, ResentFromStart, AnyOrder};
+ghost use Rattle.edf_holdings.specs.Laws.{Reordered, OneIsConflictFree, Recut};
 ghost use Rattle.edf_holdings.specs.Laws.{SameRecordsStayConflictFree};
 ghost use Rattle.edf_holdings.specs.Meaning.{OwnRecordsAreKnown};
 ghost use Rattle.edf_intake.specs.Batch.{InTurnIsAsList};

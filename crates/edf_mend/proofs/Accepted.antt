@@ -19,8 +19,7 @@ use Rattle.edf_fragment.specs.declared.fault.FragmentFault.TheVariants as fragme
 use Rattle.edf_fragment.proofs.Fragments.{open_refused}
 use Rattle.edf_fragment.proofs.Layouts.{record-some}
 use Rattle.edf_fragment.proofs.Runs.{IsHeader-more}
-use Rattle.edf_mend.specs.Inside.Accepted.{IsHeaderOpen, RefusesHeader}
-use Rattle.edf_mend.specs.Inside.Accepted.{IsNextRead, RefusesNext}
+use Rattle.edf_mend.specs.Inside.Accepted.{IsHeaderOpen, RefusesHeader, IsNextRead, RefusesNext}
 use Rattle.edf_mend.specs.declared.fault.MendFault.{MendFault}
 use Rattle.edf_mend.specs.declared.fault.MendFault.TheVariants.{Refused, Memory}
 

@@ -1,7 +1,6 @@
 -- The header by which data records are read before it is known how many there are says the same of
 -- them as the one that the rules leave.
-use Rattle.std.proofs.Common.{◌≡◌, ℕ, ◌≤◌, ◌<◌, List, [], ◌∷◌, ◌++◌, length, ap, sym}
-use Rattle.std.proofs.Common.{refl, ◌∙◌}
+use Rattle.std.proofs.Common.{◌≡◌, ℕ, ◌≤◌, ◌<◌, List, [], ◌∷◌, ◌++◌, length, ap, sym, refl, ◌∙◌}
 use Rattle.std.proofs.Common.{subst, inl, inr, arith, Option, None}
 use Rattle.edf_header.proofs.Cited.{one-header as one-header-record}
 use Rattle.edf_header.specs.Header.{HeaderRecord, IsHeader, Layout, layout_of}
@@ -14,8 +13,7 @@ use Rattle.edf_mend.specs.Inside.Proposals.{AsksFew, HasRoom}
 use Rattle.edf_mend.specs.Inside.Surveyed.{IsProvisional, OpensProvisional, RefusesProvisional}
 use Rattle.edf_mend.specs.Inside.Surveyed.{IsLeftOver, uncounted}
 use Rattle.edf_mend.specs.Laws.{IsWanted}
-use Rattle.edf_mend.specs.Objections.{Objects, HasNone, LacksGiven, ChangesCodes}
-use Rattle.edf_mend.specs.Objections.{rank}
+use Rattle.edf_mend.specs.Objections.{Objects, HasNone, LacksGiven, ChangesCodes, rank}
 use Rattle.edf_mend.specs.Rules.{before_mark, order}
 use Rattle.edf_mend.specs.Steps.{Follow, own_signals}
 use Rattle.edf_mend.specs.declared.fault.MendFault.{MendFault}
@@ -25,8 +23,7 @@ use Rattle.edf_mend.specs.declared.rule.Rule.{Rule}
 use Rattle.edf_mend.specs.declared.rule.Rule.TheVariants as rule
 use Rattle.edf_mend.specs.declared.wanted.Wanted.{Wanted}
 use Rattle.edf_mend.proofs.NoGaps.{room-for}
-use Rattle.edf_mend.proofs.OtherBodies.{OtherMade, before-alike, follow-alike}
-use Rattle.edf_mend.proofs.OtherBodies.{wants-other}
+use Rattle.edf_mend.proofs.OtherBodies.{OtherMade, before-alike, follow-alike, wants-other}
 use Rattle.edf_mend.proofs.OtherBodies.{other-back}
 use Rattle.edf_mend.proofs.OtherMark.{other-count, without_count}
 use Rattle.edf_mend.proofs.Through.{split}

@@ -6,8 +6,7 @@ use Rattle.std.specs.List.{AllByRecursion}
 use Rattle.edf_mend.proofs.OneFollow.{after-one, makes-one}
 use Rattle.edf_mend.specs.Edits.{RuleEdits}
 use Rattle.edf_mend.specs.Header.{HeaderTexts, fitted}
-use Rattle.edf_mend.specs.Mark.{GetsSignalIf, IsMarkMade, IsMarkWritten, IsMarkedPlus}
-use Rattle.edf_mend.specs.Mark.{new_signal}
+use Rattle.edf_mend.specs.Mark.{GetsSignalIf, IsMarkMade, IsMarkWritten, IsMarkedPlus, new_signal}
 use Rattle.edf_mend.specs.Recording.{HasThreeCodes}
 use Rattle.edf_mend.specs.Rules.{order}
 use Rattle.edf_mend.specs.Steps.{Makes, Follow, IsPlainMade, IsHiddenMade, IsMarkedIf, WantsMark}

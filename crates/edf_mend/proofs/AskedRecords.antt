@@ -1,7 +1,6 @@
 -- What a file is asked by its data records, and by the room for the mark.
-use Rattle.std.proofs.Common.{◌≡◌, ◌⊎◌, ℕ, ◌+◌, ◌-◌, ◌*◌, ◌≤◌, ◌<◌, Bool, List, length, ap}
-use Rattle.std.proofs.Common.{sym, refl, ◌∙◌, subst, arith, inl, inr, Option, Some, None, take}
-use Rattle.std.proofs.Common.{take_all}
+use Rattle.std.proofs.Common.{◌≡◌, ◌⊎◌, ℕ, ◌+◌, ◌-◌, ◌*◌, ◌≤◌, ◌<◌, Bool, List, length, ap, sym}
+use Rattle.std.proofs.Common.{refl, ◌∙◌, subst, arith, inl, inr, Option, Some, None, take, take_all}
 use Rattle.std.specs.Prelude.{◌↔◌, ◌^◌, IsTrue}
 use Rattle.std.proofs.Common.{true, false}
 use Rattle.std.proofs.lemmas.Bool.{false≢true}

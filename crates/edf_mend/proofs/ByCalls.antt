@@ -11,8 +11,7 @@ use Rattle.std.specs.Prelude.{IsTrue, ◌↔◌, codes, decimal, IfSome}
 use Rattle.edf_mend.specs.Counted.{IsMiscounted, CountStays, record_size}
 use Rattle.edf_mend.specs.Header.{HeaderTexts, fitted, trimmed}
 use Rattle.edf_mend.specs.Patient.{IsPatientText, with_spaces}
-use Rattle.edf_mend.specs.Recording.{HasThreeCodes}
-use Rattle.edf_mend.specs.Recording.{IsRecordingText, mark}
+use Rattle.edf_mend.specs.Recording.{HasThreeCodes, IsRecordingText, mark}
 use Rattle.edf_mend.specs.Starts.{HasStartdate, HasStarttime, IsStartdateMade, IsStarttimeMade}
 use Rattle.edf_mend.specs.Steps.{IsRecodedBy, WantsMark, GotSignal, own_signals}
 use Rattle.edf_mend.specs.Wanted.{IsListed, IsNamed, If}
@@ -21,8 +20,7 @@ use Rattle.edf_mend.specs.Counted.CountStays.{beyond}
 use Rattle.edf_mend.specs.Inside.Head.{HasWidths}
 use Rattle.edf_mend.specs.Inside.Patients.{AsksNoCode, IsRecodedFrom}
 use Rattle.edf_mend.specs.Inside.Recordings.{IsHidden}
-use Rattle.edf_mend.specs.Inside.Proposed.{proposed, given_texts}
-use Rattle.edf_mend.specs.Inside.Proposed.{AreAscii, places_of, IsTableRow}
+use Rattle.edf_mend.specs.Inside.Proposed.{proposed, given_texts, AreAscii, places_of, IsTableRow}
 use Rattle.edf_mend.specs.Inside.Proposals.{Proposes, ProposesRule, IsFresh}
 use Rattle.edf_mend.specs.Inside.Proposals.{ProposesEach, IsReadyFor}
 use Rattle.edf_mend.specs.declared.field.Field.{Field}

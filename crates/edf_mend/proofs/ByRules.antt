@@ -9,8 +9,7 @@ use Rattle.std.specs.Prelude.{IsTrue, ◌↔◌, codes, decimal}
 use Rattle.edf_mend.specs.Counted.{IsMiscounted, CountStays, record_size, size_text}
 use Rattle.edf_mend.specs.Header.{HeaderTexts, fitted, trimmed}
 use Rattle.edf_mend.specs.Patient.{IsPatientText, with_spaces}
-use Rattle.edf_mend.specs.Recording.{HasThreeCodes}
-use Rattle.edf_mend.specs.Recording.{IsRecordingText, HidesTechnician, mark}
+use Rattle.edf_mend.specs.Recording.{HasThreeCodes, IsRecordingText, HidesTechnician, mark}
 use Rattle.edf_mend.specs.Starts.{HasStartdate, HasStarttime, IsStartdateMade, IsStarttimeMade}
 use Rattle.edf_mend.specs.Starts.{IsGivenStart}
 use Rattle.edf_mend.specs.Steps.{with_starts, with_recording, with_patient}
@@ -21,8 +20,7 @@ use Rattle.edf_mend.specs.Inside.Patients.{IsRecodedFrom}
 use Rattle.edf_mend.specs.Inside.Recordings.{IsHidden}
 use Rattle.edf_mend.specs.Inside.Proposed.{ProposedText, proposed, put_all}
 use Rattle.edf_mend.specs.Inside.Proposed.{AreAscii, places_of, IsTableRow}
-use Rattle.edf_mend.specs.Inside.Proposals.{Proposes, ProposesRule, IsFresh, Changes}
-use Rattle.edf_mend.specs.Inside.Proposals.{ProposesEach}
+use Rattle.edf_mend.specs.Inside.Proposals.{Proposes, ProposesRule, IsFresh, Changes, ProposesEach}
 use Rattle.edf_mend.specs.declared.field.Field.{Field}
 use Rattle.edf_mend.specs.declared.field.Field.TheVariants as at
 use Rattle.edf_mend.specs.declared.rule.Rule.{Rule}

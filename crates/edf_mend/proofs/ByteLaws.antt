@@ -31,8 +31,7 @@ use Rattle.edf_mend.specs.Header.{SignalTexts, HeaderTexts, HasHeader, row_of}
 use Rattle.edf_mend.specs.Inside.Head.{HasSignalWidths}
 use Rattle.edf_mend.specs.Laws.{EachByteStays}
 use Rattle.edf_mend.specs.Mark.{IsContinuous}
-use Rattle.edf_mend.specs.Mended.{LeavesHeader, LeavesNoHeader, LeavesRecords, concatenated}
-use Rattle.edf_mend.specs.Mended.{IsCut}
+use Rattle.edf_mend.specs.Mended.{LeavesHeader, LeavesNoHeader, LeavesRecords, concatenated, IsCut}
 use Rattle.edf_mend.specs.Retimed.{HasGap, IsClockMade, AreRetimed}
 use Rattle.edf_mend.specs.Rewritten.{RecordEdits, AreRewritten}
 use Rattle.edf_mend.specs.Rules.{order}

@@ -1,7 +1,6 @@
 -- Where nothing is asked of the patient, the patient's rule has what it wants.
-use Rattle.std.proofs.Common.{◌≡◌, ℕ, suc, ◌≤◌, Bool, true, false, List, [], ◌∷◌}
-use Rattle.std.proofs.Common.{length, take, ap, sym, refl, ◌∙◌, subst, inl, arith, cond, filter}
-use Rattle.std.proofs.Common.{None}
+use Rattle.std.proofs.Common.{◌≡◌, ℕ, suc, ◌≤◌, Bool, true, false, List, [], ◌∷◌, length, take, ap}
+use Rattle.std.proofs.Common.{sym, refl, ◌∙◌, subst, inl, arith, cond, filter, None}
 use Rattle.std.specs.Global.{Vec}
 use Rattle.std.specs.List.{slice_split, onto_first}
 use Rattle.std.specs.Prelude.{nat_lt, ◌==◌}

@@ -10,8 +10,7 @@ use Rattle.edf_mend.proofs.Tracks.{IsPatientStep, IsWalk, patient-step, marked-p
 use Rattle.edf_mend.proofs.Tracks.{all-sound}
 use Rattle.edf_mend.proofs.Widths.{IsFormed}
 use Rattle.edf_mend.specs.Code.{IsCode}
-use Rattle.edf_mend.specs.Laws.{AGivenCodeIsWritten, ACodeStays, IsWanted, IsGivenCode}
-use Rattle.edf_mend.specs.Laws.{FillsField}
+use Rattle.edf_mend.specs.Laws.{AGivenCodeIsWritten, ACodeStays, IsWanted, IsGivenCode, FillsField}
 use Rattle.edf_mend.specs.Edits.{RuleEdits}
 use Rattle.edf_mend.specs.Header.{HeaderTexts, spaced}
 use Rattle.edf_mend.specs.Patient.{NamesCode, IsPlain, IsPatientText, hidden_patient}

@@ -8,8 +8,7 @@ use Rattle.std.proofs.lemmas.Bool.{cases_lt, ltb-true, lt-ltb}
 use Rattle.std.proofs.lemmas.Bool.Decides.{nat_tests}
 use Rattle.std.proofs.lemmas.List.{take-append-le, length-take, append_assoc}
 use Rattle.std.proofs.lemmas.List.Elements.{All-nil, All-cons, All-head, All-tail, All-same}
-use Rattle.std.proofs.lemmas.List.Elements.{All-take, All-filter, All-weaker}
-use Rattle.std.proofs.lemmas.List.Elements.{filter_passes}
+use Rattle.std.proofs.lemmas.List.Elements.{All-take, All-filter, All-weaker, filter_passes}
 use Rattle.std.proofs.lemmas.List.Splits.{slice_split_at, slice_split_none}
 use Rattle.std.proofs.Math.Seq.{take-append-add}
 use Rattle.edf_time.specs.Civil.{IsVisible}
@@ -22,8 +21,7 @@ use Rattle.edf_mend.specs.Code.{IsCode, IsNoCode}
 use Rattle.edf_mend.specs.Header.{spaced, fitted}
 use Rattle.edf_mend.specs.Letters.{letters, characters, HasNoOtherBlank}
 use Rattle.edf_mend.specs.Patient.{NamesPatient, NamesCode, LacksCode, IsPlain, IsPatientText}
-use Rattle.edf_mend.specs.Patient.{StaysNamed, KeepsCode}
-use Rattle.edf_mend.specs.Patient.{hidden_patient}
+use Rattle.edf_mend.specs.Patient.{StaysNamed, KeepsCode, hidden_patient}
 use Rattle.edf_mend.specs.declared.wanted.Who.{Who}
 use Rattle.edf_mend.specs.declared.wanted.Who.TheVariants.{AsNamed, Given, Replaced, Hidden}
 

@@ -1,6 +1,5 @@
 -- A file that ends in its header has none, and no data records.
-use Rattle.std.proofs.Common.{◌≡◌, ℕ, List, length, inl, inr, ap, ◌∙◌, arith}
-use Rattle.std.proofs.Common.{length-append}
+use Rattle.std.proofs.Common.{◌≡◌, ℕ, List, length, inl, inr, ap, ◌∙◌, arith, length-append}
 use Rattle.edf_header.specs.Fields.{signals_field}
 use Rattle.edf_mend.specs.Header.{HeaderTexts, HasHeader}
 use Rattle.edf_mend.specs.Inside.Surveyed.{EndsInHeader}

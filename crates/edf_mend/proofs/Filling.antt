@@ -1,7 +1,6 @@
 -- Zeros at the end of bytes.
-use Rattle.std.proofs.Common.{◌≡◌, ℕ, ◌+◌, ◌≤◌, ◌<◌, ◌==◌, List, [], ◌∷◌, ◌++◌, length, cond}
-use Rattle.std.proofs.Common.{Bool, true, false, arith, refl, ap, ◌∙◌, length-append}
-use Rattle.std.proofs.Common.{append_assoc}
+use Rattle.std.proofs.Common.{◌≡◌, ℕ, ◌+◌, ◌≤◌, ◌<◌, ◌==◌, List, [], ◌∷◌, ◌++◌, length, cond, Bool}
+use Rattle.std.proofs.Common.{true, false, arith, refl, ap, ◌∙◌, length-append, append_assoc}
 use Rattle.std.proofs.lemmas.List.{length-reverse, reverse-append}
 use Rattle.std.proofs.lemmas.List.Sums.{suffix_len-le-length}
 use Rattle.std.specs.List.{prefix_len, suffix_len}

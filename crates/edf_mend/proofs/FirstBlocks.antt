@@ -1,8 +1,7 @@
 -- What a block that is read begins and ends with, and blocks of which the first is another.
 use Rattle.std.proofs.Common.{◌≡◌, ◌≢◌, ℕ, zero, suc, ◌⊎◌, List, [], ◌∷◌, ◌++◌, take, drop}
 use Rattle.std.proofs.Common.{replicate, Option, Some, None, arith, refl, sym, ap, ◌∙◌, subst, inl}
-use Rattle.std.proofs.Common.{inr}
-use Rattle.std.proofs.Common.{append_assoc, append-nil, ℤ}
+use Rattle.std.proofs.Common.{inr, append_assoc, append-nil, ℤ}
 use Rattle.std.proofs.lemmas.Grind.{flat_map-append}
 use Rattle.std.specs.List.{AllByRecursion, flat_map}
 use Rattle.std.specs.Prelude.{IsUtf8}

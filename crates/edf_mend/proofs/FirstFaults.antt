@@ -1,9 +1,7 @@
 -- The fault of a data record that was met is the first one of the whole file.
-use Rattle.std.proofs.Common.{◌≡◌, ◌⊎◌, ℕ, ◌≤◌, ◌<◌, List, [], ◌∷◌, ◌++◌, length, sym}
-use Rattle.std.proofs.Common.{ap, ◌∙◌, subst, inl, inr, arith, append-nil}
-use Rattle.std.proofs.Common.{length-append}
-use Rattle.edf_header.specs.Header.{HeaderRecord, IsHeader, IsLayout, layout_of}
-use Rattle.edf_header.specs.Header.{least_records}
+use Rattle.std.proofs.Common.{◌≡◌, ◌⊎◌, ℕ, ◌≤◌, ◌<◌, List, [], ◌∷◌, ◌++◌, length, sym, ap, ◌∙◌}
+use Rattle.std.proofs.Common.{subst, inl, inr, arith, append-nil, length-append}
+use Rattle.edf_header.specs.Header.{HeaderRecord, IsHeader, IsLayout, layout_of, least_records}
 use Rattle.edf_tal.specs.Block.{IsFirstBlocksFault}
 use Rattle.edf_tal.specs.declared.place.Place.{Place}
 use Rattle.edf_tal.specs.declared.place.Place.TheVariants.{First}

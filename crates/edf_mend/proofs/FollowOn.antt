@@ -12,8 +12,7 @@ use Rattle.edf_mend.specs.Objections.{HasDots}
 use Rattle.edf_mend.specs.Recording.{HasThreeCodes}
 use Rattle.edf_mend.specs.Rules.{order}
 use Rattle.edf_mend.specs.Starts.{IsStartdateMade, IsStarttimeMade, HasStartdate, HasStarttime}
-use Rattle.edf_mend.specs.Steps.{Makes, TellsStep, Follow, IsHiddenMade}
-use Rattle.edf_mend.specs.Steps.{IsMarkedIf, ascii_signal}
+use Rattle.edf_mend.specs.Steps.{Makes, TellsStep, Follow, IsHiddenMade, IsMarkedIf, ascii_signal}
 use Rattle.edf_mend.specs.Values.{IsPhysicalMade, IsDigitalMade, IsAnnotationsMade}
 use Rattle.edf_mend.specs.Wanted.{IsAsked}
 use Rattle.edf_mend.specs.Inside.Proposals.{IsReadyFor, AsksFew, HasRoom}

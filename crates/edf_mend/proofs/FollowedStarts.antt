@@ -12,9 +12,8 @@ use Rattle.edf_fragment.specs.Fragment.{blocks}
 use Rattle.edf_mend.specs.Edits.{Edit}
 use Rattle.edf_mend.specs.Retimed.{StartsAt, AreToldAnew}
 use Rattle.edf_mend.specs.Rewritten.{RecordEdits}
-use Rattle.edf_mend.specs.Inside.Followed.{TellsStart, TellsFirst, TellsLast}
-use Rattle.edf_mend.specs.Inside.Followed.{IsFollowed, IsMovedTo, MayNotMove, StaysToo, MovesToo}
-use Rattle.edf_mend.specs.Inside.Followed.{BelongsAt}
+use Rattle.edf_mend.specs.Inside.Followed.{TellsStart, TellsFirst, TellsLast, IsFollowed, IsMovedTo}
+use Rattle.edf_mend.specs.Inside.Followed.{MayNotMove, StaysToo, MovesToo, BelongsAt}
 use Rattle.edf_mend.specs.declared.records.Starts.{Starts}
 use Rattle.edf_mend.specs.declared.retiming.Moved.{Moved}
 use Rattle.edf_mend.proofs.Following.{none-or, tells-last, tells-first, tells-only, tells-some}

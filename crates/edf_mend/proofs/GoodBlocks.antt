@@ -1,8 +1,7 @@
 -- Blocks that are those of EDF+ have no other spelling.
-use Rattle.std.proofs.Common.{◌≡◌, ◌⊎◌, ℕ, ◌+◌, List, [], ◌∷◌, ◌++◌, length}
-use Rattle.std.proofs.Common.{replicate, Option, Some, None, refl, sym, ap, ◌∙◌, subst, inl, inr}
-use Rattle.std.proofs.Common.{arith, append_assoc, append-nil, Bool, true}
-use Rattle.std.proofs.Common.{if◌then◌else◌}
+use Rattle.std.proofs.Common.{◌≡◌, ◌⊎◌, ℕ, ◌+◌, List, [], ◌∷◌, ◌++◌, length, replicate, Option}
+use Rattle.std.proofs.Common.{Some, None, refl, sym, ap, ◌∙◌, subst, inl, inr, arith, append_assoc}
+use Rattle.std.proofs.Common.{append-nil, Bool, true, if◌then◌else◌}
 use Rattle.std.specs.Prelude.{IsUtf8, ℤ}
 use Rattle.std.specs.List.{AllByRecursion, AllZip, flat_map}
 use Rattle.std.specs.Str.{bytes_eq}
@@ -17,9 +16,8 @@ use Rattle.edf_fragment.proofs.Fronts.{same_front}
 use Rattle.edf_mend.proofs.SpelledBlocks.{same-lists, one-list, one-block, fill-none}
 use Rattle.edf_mend.specs.Edits.{Edit}
 use Rattle.edf_mend.specs.Texts.{WrittenTal, tal_bytes, duration_part, IsTime, IsTimeOrNone}
-use Rattle.edf_mend.specs.Texts.{IsWritten, IsTimeSpelled, IsDurationSpelled}
-use Rattle.edf_mend.specs.Texts.{IsTextSpelled, IsTalSpelled, IsBlockSpelled, IsBlockMade}
-use Rattle.edf_mend.specs.Texts.{tal_pairs, IsBlockTold}
+use Rattle.edf_mend.specs.Texts.{IsWritten, IsTimeSpelled, IsDurationSpelled, IsTextSpelled}
+use Rattle.edf_mend.specs.Texts.{IsTalSpelled, IsBlockSpelled, IsBlockMade, tal_pairs, IsBlockTold}
 use Rattle.edf_mend.specs.Told.{FieldPair, pair, edits_from}
 use Rattle.edf_mend.specs.declared.field.Field.TheVariants as at
 

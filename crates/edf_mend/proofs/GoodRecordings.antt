@@ -14,8 +14,7 @@ use Rattle.std.proofs.Common.{drop-drop}
 use Rattle.edf_time.specs.Civil.{IsIdDate, IsVisible}
 use Rattle.edf_time.proofs.Cited.{id_date-length, id_date-visible}
 use Rattle.edf_field.specs.Number.{field}
-use Rattle.edf_field.specs.Text.{subfields, spaces, IsPrintable, IsRecording}
-use Rattle.edf_field.specs.Text.{FollowsStartdate}
+use Rattle.edf_field.specs.Text.{subfields, spaces, IsPrintable, IsRecording, FollowsStartdate}
 use Rattle.edf_header.proofs.SpelledTexts.{printable-by}
 use Rattle.edf_mend.proofs.Codes.{is_space, IsPart, first-part, visible-clean}
 use Rattle.edf_mend.proofs.GoodPatients.{all-of}

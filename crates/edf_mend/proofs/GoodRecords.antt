@@ -1,8 +1,7 @@
 -- The data records of a fragment, and that no rule changes them.
-use Rattle.std.proofs.Common.{◌≡◌, ℕ, suc, ◌+◌, ◌*◌, ◌≤◌, ◌<◌, List}
-use Rattle.std.proofs.Common.{[], ◌∷◌, ◌++◌, length, map, refl, sym, ap, ◌∙◌, subst, inl, inr}
-use Rattle.std.proofs.Common.{arith}
-use Rattle.std.proofs.Common.{append_assoc, append-nil, length-append}
+use Rattle.std.proofs.Common.{◌≡◌, ℕ, suc, ◌+◌, ◌*◌, ◌≤◌, ◌<◌, List, [], ◌∷◌, ◌++◌, length, map}
+use Rattle.std.proofs.Common.{refl, sym, ap, ◌∙◌, subst, inl, inr, arith, append_assoc, append-nil}
+use Rattle.std.proofs.Common.{length-append}
 use Rattle.std.specs.Prelude.{All}
 use Rattle.std.specs.List.{AllByRecursion, AllZip}
 use Rattle.std.proofs.lemmas.List.Elements.{All-nil, All-cons, All-head, All-tail}
@@ -16,8 +15,7 @@ use Rattle.edf_tal.specs.declared.place.Place.TheVariants.{Any, After}
 use Rattle.edf_tal.proofs.Cited.{blocks-one-read}
 use Rattle.edf_fragment.proofs.Fronts.{same_front}
 use Rattle.edf_fragment.specs.Fragment.{DataRecord, IsDataRecord, AreDataRecords, blocks}
-use Rattle.edf_fragment.specs.Fragment.{place_after}
-use Rattle.edf_fragment.specs.Fragment.{ordinary_bytes}
+use Rattle.edf_fragment.specs.Fragment.{place_after, ordinary_bytes}
 use Rattle.edf_mend.proofs.GoodBlocks.{IsGoodBlock, good-blocks, all-same, told-none}
 use Rattle.edf_mend.proofs.Rebuilt.{rebuilt}
 use Rattle.edf_mend.specs.Carried.{AreCarried}

@@ -17,8 +17,7 @@ use Rattle.std.proofs.lemmas.Bool.{cases_lt}
 use Rattle.edf_field.specs.Text.{IsPrintable}
 use Rattle.edf_header.proofs.Decided.{same-bytes}
 use Rattle.edf_header.specs.Fields.{label_field, digital_minimum_field, digital_maximum_field}
-use Rattle.edf_header.specs.Signal.{IsLabelled, IsAnnotationsSignal}
-use Rattle.edf_header.specs.Signal.{IsOrdinary as IsOrdinaryRow}
+use Rattle.edf_header.specs.Signal.{IsLabelled, IsAnnotationsSignal, IsOrdinary as IsOrdinaryRow}
 use Rattle.edf_header.proofs.SpelledParts.{all-left, all-right}
 use Rattle.edf_mend.specs.Counted.{IsGoodSignal, IsMiscounted, record_size}
 use Rattle.edf_mend.specs.Header.{SignalTexts, HeaderTexts, row_of}

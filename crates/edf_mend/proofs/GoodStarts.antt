@@ -1,14 +1,11 @@
 -- The starts of a fragment's header, and its recording field.
-use Rattle.std.proofs.Common.{◌≡◌, ℕ, ◌<◌, List, [], ◌∷◌, ◌++◌, length, take, drop}
-use Rattle.std.proofs.Common.{refl, sym, ap, ◌∙◌, subst, inl, inr, arith, Option, Some, None}
-use Rattle.std.proofs.Common.{false}
+use Rattle.std.proofs.Common.{◌≡◌, ℕ, ◌<◌, List, [], ◌∷◌, ◌++◌, length, take, drop, refl, sym, ap}
+use Rattle.std.proofs.Common.{◌∙◌, subst, inl, inr, arith, Option, Some, None, false}
 use Rattle.std.specs.Prelude.{All, codes, ℤ, pos, slice_index_or}
 use Rattle.std.specs.Str.{str_to_ascii_uppercase}
 use Rattle.std.proofs.lemmas.List.{take-append-drop, drop-drop}
-use Rattle.std.proofs.lemmas.List.Elements.{All-weaker, All-from_recursion}
-use Rattle.std.proofs.lemmas.List.Elements.{All-same}
-use Rattle.edf_time.specs.Civil.{IsVisible, IsIdDate}
-use Rattle.edf_time.specs.Civil.{AreStartdates, IsLateDateText, IsYearlessText}
+use Rattle.std.proofs.lemmas.List.Elements.{All-weaker, All-from_recursion, All-same}
+use Rattle.edf_time.specs.Civil.{IsVisible, IsIdDate, AreStartdates, IsLateDateText, IsYearlessText}
 use Rattle.edf_time.proofs.Cited.{id_date-visible, id_date-length, one-id_text}
 use Rattle.edf_time.proofs.Startdates.{digits-whatever}
 use Rattle.edf_field.specs.Number.{field}

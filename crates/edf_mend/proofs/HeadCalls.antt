@@ -14,8 +14,7 @@ use Rattle.edf_mend.specs.declared.field.Field.{Field}
 use Rattle.edf_mend.specs.declared.field.Field.TheVariants as at
 use Rattle.edf_mend.proofs.HeaderFields.{put}
 use Rattle.edf_mend.proofs.Heads.{signals-count, widths-of, bytes-again, text-is, field-fits}
-use Rattle.edf_mend.proofs.Heads.{set-fixed-is, set-signal-is, column-bytes}
-use Rattle.edf_mend.proofs.Heads.{length-fitted}
+use Rattle.edf_mend.proofs.Heads.{set-fixed-is, set-signal-is, column-bytes, length-fitted}
 use Rattle.std.proofs.Common.{length-append}
 
 -- a header of these bytes and so many signals

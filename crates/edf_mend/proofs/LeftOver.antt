@@ -1,6 +1,5 @@
 -- Whether the rules leave a header of EDF+ of a file of which nothing is asked.
-use Rattle.std.proofs.Common.{◌≡◌, ℕ, List, [], subst, sym, refl, Option, Some, None, Bool}
-use Rattle.std.proofs.Common.{false}
+use Rattle.std.proofs.Common.{◌≡◌, ℕ, List, [], subst, sym, refl, Option, Some, None, Bool, false}
 use Rattle.std.specs.Prelude.{IsTrue, IsSome, is_some, MatchOption, ◌↔◌, IfOk, Result, Ok, Err}
 use Rattle.std.proofs.lemmas.Bool.{false≢true}
 use Rattle.edf_header.specs.Header.{IsHeader}

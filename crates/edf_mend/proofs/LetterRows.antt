@@ -1,8 +1,7 @@
 -- A character by the rows of the table.
 use Rattle.std.proofs.Common.{◌≡◌, ◌≢◌, ◌⊎◌, ℕ, zero, suc, ◌+◌, ◌≤◌, ◌<◌, Bool, List, [], ◌∷◌, map, drop}
 use Rattle.std.proofs.Common.{length, get_or, ap, sym, refl, ◌∙◌, arith, drop-cons, inl, inr}
-use Rattle.std.proofs.lemmas.Bool.{le-leb, and_left, and_right, lt-leb, cases_lt}
-use Rattle.std.proofs.lemmas.Bool.{cases_eq}
+use Rattle.std.proofs.lemmas.Bool.{le-leb, and_left, and_right, lt-leb, cases_lt, cases_eq}
 use Rattle.std.specs.Prelude.{nat_le, ◌&&◌, if◌then◌else◌, codes}
 use Rattle.std.specs.Borrow.{Bor}
 use Rattle.edf_mend.specs.Letters.{Row, table, by_rows, letters}

@@ -1,8 +1,6 @@
 -- A limit as a number, and as EDF spells it.
-use Rattle.std.proofs.Common.{◌≡◌, ◌≢◌, ◌⊎◌, ◌↔◌, ℕ, ◌+◌, ◌-◌, ◌*◌, ◌^◌, ◌≤◌, ◌<◌}
-use Rattle.std.proofs.Common.{List}
-use Rattle.std.proofs.Common.{◌++◌, length, min, All, codes, ap, sym, refl, ◌∙◌, subst}
-use Rattle.std.proofs.Common.{arith, inl, inr}
+use Rattle.std.proofs.Common.{◌≡◌, ◌≢◌, ◌⊎◌, ◌↔◌, ℕ, ◌+◌, ◌-◌, ◌*◌, ◌^◌, ◌≤◌, ◌<◌, List, ◌++◌}
+use Rattle.std.proofs.Common.{length, min, All, codes, ap, sym, refl, ◌∙◌, subst, arith, inl, inr}
 use Rattle.std.proofs.Common.{slice_index, if◌then◌else◌, nat_le}
 use Rattle.std.proofs.lemmas.Int.{ints}
 use Rattle.std.proofs.lemmas.List.{nil_from_length}
@@ -13,16 +11,14 @@ use Rattle.edf_field.specs.Number.{scaled}
 use Rattle.edf_field.specs.Text.{IsPrintable}
 use Rattle.edf_field.proofs.Decimals.{power}
 use Rattle.edf_mend.specs.Header.{fitted}
-use Rattle.edf_mend.specs.Values.{IsLoose, IsExponent, IsLimit, FitsLimit}
-use Rattle.edf_mend.specs.Values.{MayBeThousands}
-use Rattle.edf_mend.specs.Values.{spelled, value_of, zeros, pointed}
+use Rattle.edf_mend.specs.Values.{IsLoose, IsExponent, IsLimit, FitsLimit, MayBeThousands, spelled}
+use Rattle.edf_mend.specs.Values.{value_of, zeros, pointed}
 use Rattle.edf_mend.specs.Inside.Loose.{front_one, behind_one, IsRead, spelled_of, AreThousands}
 use Rattle.edf_mend.specs.Inside.Loose.{AreEqual}
 use Rattle.edf_mend.specs.Values.{AreSame}
 use Rattle.edf_mend.specs.declared.loose.Loose.{Loose}
 use Rattle.edf_mend.proofs.Filled.{fitted-same}
-use Rattle.edf_mend.proofs.LooseTexts.{HasExponent, exponent-has, exponent-made, trim_of}
-use Rattle.edf_mend.proofs.LooseTexts.{trim-is}
+use Rattle.edf_mend.proofs.LooseTexts.{HasExponent, exponent-has, exponent-made, trim_of, trim-is}
 use Rattle.edf_mend.proofs.LooseTexts.{rest_of, tail_of, end_of}
 use Rattle.edf_mend.proofs.LooseReadings.{ReadsAs, loose-one, loose-made, loose-exponent}
 use Rattle.edf_mend.proofs.LooseReadings.{loose-some}

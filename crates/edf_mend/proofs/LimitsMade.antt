@@ -7,9 +7,8 @@ use Rattle.edf_field.specs.Number.{IsSigned, signed_value}
 use Rattle.edf_header.specs.Signal.{IsLabelled}
 use Rattle.edf_mend.specs.Header.{SignalTexts, fitted, row_of}
 use Rattle.edf_mend.specs.Rules.{limits}
-use Rattle.edf_mend.specs.Values.{IsDigitalMade, Falls, swapped, IsPhysicalMade}
-use Rattle.edf_mend.specs.Values.{HasLimits, HasBlockLimits, IsAnnotationsMade}
-use Rattle.edf_mend.specs.Values.{IsBlockLimit}
+use Rattle.edf_mend.specs.Values.{IsDigitalMade, Falls, swapped, IsPhysicalMade, HasLimits}
+use Rattle.edf_mend.specs.Values.{HasBlockLimits, IsAnnotationsMade, IsBlockLimit}
 use Rattle.edf_mend.specs.Inside.Head.{HasSignalWidths}
 use Rattle.edf_mend.specs.Inside.Limits.{ChangesSignal, MendsIf, ReadsSigned, AreOfSignal}
 use Rattle.edf_mend.specs.Inside.Limits.{put_signal, ProposesUnless, ProposesValues}

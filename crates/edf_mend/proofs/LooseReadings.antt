@@ -1,10 +1,7 @@
 -- A text has one reading as a number: its parts are those that are cut from it in turn.
-use Rattle.std.proofs.Common.{◌≡◌, ◌≢◌, ℕ, ◌+◌, ◌<◌, List}
-use Rattle.std.proofs.Common.{[]}
-use Rattle.std.proofs.Common.{◌∷◌, ◌++◌, length, take, drop, get_or, All, append_assoc}
-use Rattle.std.proofs.Common.{ap, sym, refl, ◌∙◌, subst, arith, inl, inr, length-append}
-use Rattle.std.proofs.Common.{length-drop}
-use Rattle.std.proofs.Common.{take-append-drop, length-take}
+use Rattle.std.proofs.Common.{◌≡◌, ◌≢◌, ℕ, ◌+◌, ◌<◌, List, [], ◌∷◌, ◌++◌, length, take, drop}
+use Rattle.std.proofs.Common.{get_or, All, append_assoc, ap, sym, refl, ◌∙◌, subst, arith, inl, inr}
+use Rattle.std.proofs.Common.{length-append, length-drop, take-append-drop, length-take}
 use Rattle.std.proofs.lemmas.List.{get_or-drop, nil_from_length, get_or-take}
 use Rattle.std.proofs.lemmas.List.Elements.{All-append, All-from_get_or, All-weaker}
 use Rattle.std.proofs.lemmas.List.Sums.{prefix_len_is, prefix_len_stops}
@@ -16,11 +13,10 @@ use Rattle.edf_field.specs.Text.{IsPrintable}
 use Rattle.edf_mend.specs.Values.{IsLoose, IsExponent}
 use Rattle.edf_mend.specs.Inside.Loose.{front_one, behind_one}
 use Rattle.edf_mend.proofs.LooseTexts.{IsGraphic, IsPoint, IsParsed, parsed, rest_of, tail_of}
-use Rattle.edf_mend.proofs.LooseTexts.{end_of}
-use Rattle.edf_mend.proofs.LooseTexts.{trim_of, middle, all-of, are-of, exponent-apart}
+use Rattle.edf_mend.proofs.LooseTexts.{end_of, trim_of, middle, all-of, are-of, exponent-apart}
 use Rattle.edf_mend.proofs.LooseTexts.{sign-graphic, digits-graphic, point-graphic}
-use Rattle.edf_mend.proofs.LooseTexts.{exponent-graphic}
-use Rattle.edf_mend.proofs.LooseTexts.{blank-space, one-parts, two-ways, sign-is, one-exponent}
+use Rattle.edf_mend.proofs.LooseTexts.{exponent-graphic, blank-space, one-parts, two-ways, sign-is}
+use Rattle.edf_mend.proofs.LooseTexts.{one-exponent}
 
 abbrev pub body_of : {text : List ℕ} → IsLoose text → List ℕ
 body_of l = l.sign ++ (l.whole ++ (l.point ++ (l.fraction ++ l.exponent)))

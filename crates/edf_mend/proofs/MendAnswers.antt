@@ -6,8 +6,7 @@ use Rattle.std.specs.Io.KnownBytes.{Consumes, IsAtEnd}
 use Rattle.std.proofs.KnownBytes.{Consumes-trans}
 use Rattle.std.proofs.lemmas.List.{take-append-le}
 use Rattle.edf_header.proofs.Cited.{header-has-layout}
-use Rattle.edf_header.specs.Header.{HeaderRecord, IsHeader, Layout, layout_of}
-use Rattle.edf_header.specs.Header.{least_records}
+use Rattle.edf_header.specs.Header.{HeaderRecord, IsHeader, Layout, layout_of, least_records}
 use Rattle.edf_tal.specs.declared.place.Place.{Place}
 use Rattle.edf_fragment.specs.declared.advance.Progress.{Progress}
 use Rattle.edf_fragment.specs.declared.fault.FragmentFault.{FragmentFault}

@@ -18,8 +18,7 @@ use Rattle.edf_mend.specs.Steps.{Follow}
 use Rattle.edf_mend.specs.Wanted.{Hides, If}
 use Rattle.edf_mend.specs.Inside.Accepted.{IsHeaderOpen}
 use Rattle.edf_mend.specs.Inside.Asking.{IsKnown}
-use Rattle.edf_mend.specs.Inside.Carrying.{WritesMended, CarriesUnder}
-use Rattle.edf_mend.specs.Inside.Carrying.{unread_of}
+use Rattle.edf_mend.specs.Inside.Carrying.{WritesMended, CarriesUnder, unread_of}
 use Rattle.edf_mend.specs.Inside.Head.{IsHeaderRead}
 use Rattle.edf_mend.specs.declared.counted.Body.{Body}
 use Rattle.edf_mend.specs.declared.ledger.Ledger.{Ledger}

@@ -1,12 +1,10 @@
 -- What the rule `physical` makes of a signal whose limits are numbers, or are none.
-use Rattle.std.proofs.Common.{◌≡◌, ℕ, List, [], ◌∷◌, ap, refl, ◌∙◌}
-use Rattle.std.proofs.Common.{subst, arith}
-use Rattle.std.proofs.Common.{inl, inr, get_or, Contains, ◌<◌, ◌++◌}
+use Rattle.std.proofs.Common.{◌≡◌, ℕ, List, [], ◌∷◌, ap, refl, ◌∙◌, subst, arith, inl, inr, get_or}
+use Rattle.std.proofs.Common.{Contains, ◌<◌, ◌++◌}
 use Rattle.std.proofs.lemmas.List.Elements.{Contains-get_or}
 use Rattle.edf_mend.specs.Header.{SignalTexts, fitted}
 use Rattle.edf_mend.specs.Rules.{physical_limits}
-use Rattle.edf_mend.specs.Values.{IsLoose, IsLimit, MendsPhysical, SpellsLimits}
-use Rattle.edf_mend.specs.Values.{LosesLimits}
+use Rattle.edf_mend.specs.Values.{IsLoose, IsLimit, MendsPhysical, SpellsLimits, LosesLimits}
 use Rattle.edf_mend.specs.Inside.Head.{HasSignalWidths}
 use Rattle.edf_mend.specs.Inside.Limits.{ChangesSignal, MendsIf}
 use Rattle.edf_mend.specs.Inside.Loose.{IsRead, AreEqual, AreThousands}

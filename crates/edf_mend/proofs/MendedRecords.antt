@@ -6,8 +6,7 @@ use Rattle.std.proofs.lemmas.Nat.{div-mul-add, mod-mul-add}
 use Rattle.std.specs.Prelude.{All, IfSome}
 use Rattle.std.specs.List.{AllZip}
 use Rattle.edf_field.specs.Number.{duration_of}
-use Rattle.edf_header.specs.Header.{HeaderRecord, IsHeader, layout_of, least_records}
-use Rattle.edf_header.specs.Header.{most_records}
+use Rattle.edf_header.specs.Header.{HeaderRecord, IsHeader, layout_of, least_records, most_records}
 use Rattle.edf_header.specs.declared.limits.TheConstants.{MOST_RECORDS}
 use Rattle.edf_tal.specs.declared.place.Place.TheVariants.{First}
 use Rattle.edf_fragment.specs.Fragment.{DataRecord, IsFragmentFile, AreDataRecords}

@@ -19,8 +19,7 @@ use Rattle.edf_mend.specs.Laws.{IsGivenCode}
 use Rattle.edf_mend.specs.Mendable.{IsStarted, KnowsWho}
 use Rattle.edf_mend.specs.Objections.{HasDots}
 use Rattle.edf_mend.specs.Patient.{IsPatientText, NamesCode, with_spaces}
-use Rattle.edf_mend.specs.Recording.{HasThreeCodes}
-use Rattle.edf_mend.specs.Recording.{IsRecordingText, HidesTechnician, GetsMark}
+use Rattle.edf_mend.specs.Recording.{HasThreeCodes, IsRecordingText, HidesTechnician, GetsMark}
 use Rattle.edf_mend.specs.Starts.{IsGivenStart, IsStartdateMade, IsStarttimeMade, HasStartdate}
 use Rattle.edf_mend.specs.Starts.{HasStarttime}
 use Rattle.edf_mend.specs.Wanted.{IsAsked, IsListed, IsNamed, Hides, given_code, If}

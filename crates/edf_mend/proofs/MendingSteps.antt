@@ -1,7 +1,6 @@
 -- The second reading, call by call.
-use Rattle.std.proofs.Common.{◌≡◌, ◌≢◌, ◌⊎◌, ℕ, ◌≤◌, List, [], ◌++◌, length, refl, sym, ap}
-use Rattle.std.proofs.Common.{subst, inl, inr, arith, length-append, Option, Some, None}
-use Rattle.std.proofs.Common.{Result, Ok, Err}
+use Rattle.std.proofs.Common.{◌≡◌, ◌≢◌, ◌⊎◌, ℕ, ◌≤◌, List, [], ◌++◌, length, refl, sym, ap, subst}
+use Rattle.std.proofs.Common.{inl, inr, arith, length-append, Option, Some, None, Result, Ok, Err}
 use Rattle.std.specs.Prelude.{Bool, false, IfErr, IsErrAnd, IsTrue, MatchOption, MatchResult}
 use Rattle.std.specs.Io.KnownBytes.{Consumes, Appends}
 use Rattle.edf_header.specs.Header.{HeaderRecord, IsHeader, Layout}

@@ -1,19 +1,14 @@
 -- A data record whose first block starts at another time.
-use Rattle.std.proofs.Common.{◌≡◌, ◌≢◌, ℕ, ◌+◌, ◌-◌, ◌≤◌, ◌<◌, List, [], ◌∷◌}
-use Rattle.std.proofs.Common.{◌++◌, length}
-use Rattle.std.proofs.Common.{take, drop, map, replicate, arith, refl, sym, ap}
-use Rattle.std.proofs.Common.{◌∙◌, subst, length-append}
-use Rattle.std.proofs.Common.{take_at, drop_at, drop-drop, Bool, true, false}
-use Rattle.std.proofs.Common.{if◌then◌else◌}
+use Rattle.std.proofs.Common.{◌≡◌, ◌≢◌, ℕ, ◌+◌, ◌-◌, ◌≤◌, ◌<◌, List, [], ◌∷◌, ◌++◌, length, take}
+use Rattle.std.proofs.Common.{drop, map, replicate, arith, refl, sym, ap, ◌∙◌, subst, length-append}
+use Rattle.std.proofs.Common.{take_at, drop_at, drop-drop, Bool, true, false, if◌then◌else◌}
 use Rattle.std.specs.Prelude.{IsTrue}
 use Rattle.std.specs.Str.{bytes_eq}
 use Rattle.edf_field.specs.Number.{field}
 use Rattle.edf_time.specs.Decimal.{short}
 use Rattle.edf_header.specs.Header.{Layout, AreApart}
 use Rattle.edf_header.specs.declared.header.Block.{Block}
-use Rattle.edf_tal.specs.Tal.{Tal, Annotation}
-use Rattle.edf_tal.specs.Tal.{AreTalsAndZeros, AreBlocks, first_tals}
-use Rattle.edf_tal.specs.Tal.{record_start}
+use Rattle.edf_tal.specs.Tal.{Tal, Annotation, AreTalsAndZeros, AreBlocks, first_tals, record_start}
 use Rattle.edf_tal.specs.Block.{BlocksParseTo, BlockParsesTo}
 use Rattle.edf_tal.specs.declared.place.Place.TheVariants.{Any}
 use Rattle.edf_tal.proofs.OneBlock.{one-block}
@@ -27,8 +22,7 @@ use Rattle.edf_mend.specs.Retimed.{IsBelowHalfSample, StartsAt, apart}
 use Rattle.edf_mend.specs.Inside.Retimings.{GetsOnset, ReadsBoth, IsCutAt}
 use Rattle.edf_mend.specs.Inside.Followed.{IsMovedTo}
 use Rattle.edf_mend.proofs.FirstBlocks.{ReadsOnset, reads-onset, time-unmarked, behind-zeros}
-use Rattle.edf_mend.proofs.FirstBlocks.{behind-front}
-use Rattle.edf_mend.proofs.FirstBlocks.{read-end, reread, single}
+use Rattle.edf_mend.proofs.FirstBlocks.{behind-front, read-end, reread, single}
 use Rattle.edf_mend.proofs.Onsets.{one-gets, one-onset}
 use Rattle.edf_mend.proofs.Respelling.{field-back}
 

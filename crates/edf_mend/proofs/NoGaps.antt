@@ -1,7 +1,6 @@
 -- Whether there are gaps changes nothing of a header but the mark that the rules write.
-use Rattle.std.proofs.Common.{◌≡◌, ◌≢◌, ◌⊎◌, ℕ, Bool, true, false, List, []}
-use Rattle.std.proofs.Common.{◌∷◌, length}
-use Rattle.std.proofs.Common.{refl, sym, ap, ◌∙◌, subst, inl, inr}
+use Rattle.std.proofs.Common.{◌≡◌, ◌≢◌, ◌⊎◌, ℕ, Bool, true, false, List, [], ◌∷◌, length, refl, sym}
+use Rattle.std.proofs.Common.{ap, ◌∙◌, subst, inl, inr}
 use Rattle.std.specs.Prelude.{codes}
 use Rattle.std.specs.List.{AllByRecursion}
 use Rattle.std.proofs.lemmas.Bool.{cases_lt}
@@ -11,9 +10,8 @@ use Rattle.edf_mend.specs.Mark.{IsMarkedPlus, IsMarkWritten, IsMarkMade}
 use Rattle.edf_mend.specs.Objections.{LacksRoom}
 use Rattle.edf_mend.specs.Recording.{HasThreeCodes}
 use Rattle.edf_mend.specs.Rules.{before_mark, order}
-use Rattle.edf_mend.specs.Steps.{Makes, Follow, TellsStep, IsRecodedBy}
-use Rattle.edf_mend.specs.Steps.{IsHiddenMade, with_reserved, WantsMark, KeepsIdentity}
-use Rattle.edf_mend.specs.Steps.{IsMarkedIf}
+use Rattle.edf_mend.specs.Steps.{Makes, Follow, TellsStep, IsRecodedBy, IsHiddenMade, with_reserved}
+use Rattle.edf_mend.specs.Steps.{WantsMark, KeepsIdentity, IsMarkedIf}
 use Rattle.edf_mend.specs.Told.{edits_of}
 use Rattle.edf_mend.specs.Inside.Proposals.{HasRoom}
 use Rattle.edf_mend.specs.declared.rule.Rule.{Rule}

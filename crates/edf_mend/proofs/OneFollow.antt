@@ -8,8 +8,7 @@ use Rattle.edf_mend.specs.Header.{HeaderTexts, fitted}
 use Rattle.edf_mend.specs.Mark.{GetsSignal, IsSizeAfter, GetsSignalIf, IsMarkWritten}
 use Rattle.edf_mend.specs.Mark.{IsMarkMade, IsMarkedPlus, IsContinuous, new_signal}
 use Rattle.edf_mend.specs.Patient.{with_spaces, hidden_patient}
-use Rattle.edf_mend.specs.Recording.{HasThreeCodes}
-use Rattle.edf_mend.specs.Recording.{HidesTechnician}
+use Rattle.edf_mend.specs.Recording.{HasThreeCodes, HidesTechnician}
 use Rattle.edf_mend.specs.Starts.{IsGivenStart, HasStartdate, HasStarttime}
 use Rattle.edf_mend.specs.Steps.{Makes, Follow, TellsRule, TellsStep, IsRecodedBy, IsPlainMade}
 use Rattle.edf_mend.specs.Steps.{IsNotedMade, IsHiddenMade, IsMarkedIf, with_size, with_starts}

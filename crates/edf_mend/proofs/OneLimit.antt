@@ -1,7 +1,6 @@
 -- The rules make one signal of each.
-use Rattle.std.proofs.Common.{◌≡◌, ◌⊎◌, ℕ, ◌+◌, ◌*◌, ◌≤◌, List, [], ◌∷◌, ◌++◌}
-use Rattle.std.proofs.Common.{length, take}
-use Rattle.std.proofs.Common.{refl, sym, ap, ◌∙◌, subst, inl, inr, arith}
+use Rattle.std.proofs.Common.{◌≡◌, ◌⊎◌, ℕ, ◌+◌, ◌*◌, ◌≤◌, List, [], ◌∷◌, ◌++◌, length, take, refl}
+use Rattle.std.proofs.Common.{sym, ap, ◌∙◌, subst, inl, inr, arith}
 use Rattle.std.specs.Prelude.{ℤ, pos, neg_ℤ, codes, Contains, nat_le, if◌then◌else◌, ◌^◌, ◌-◌}
 use Rattle.std.specs.List.{AllZip}
 use Rattle.std.proofs.Common.{take_all}
@@ -9,10 +8,9 @@ use Rattle.std.proofs.lemmas.List.{length-append, length-replicate, take-append-
 use Rattle.edf_mend.specs.Header.{SignalTexts, HeaderTexts, fitted}
 use Rattle.edf_mend.specs.Steps.{OfSignals}
 use Rattle.edf_mend.specs.Values.{IsLoose, FitsLimit, IsSpelled, IsLimit, zeros, spelled, pointed}
-use Rattle.edf_mend.specs.Values.{SameValue, OtherValue, AreSame, value_of}
-use Rattle.edf_mend.specs.Values.{SpellsLimits, MendsPhysical}
-use Rattle.edf_mend.specs.Values.{IsPhysicalMade, IsDigitalMade, IsBlockLimit, AreBlockValues}
-use Rattle.edf_mend.specs.Values.{HasBlockLimits, IsAnnotationsMade}
+use Rattle.edf_mend.specs.Values.{SameValue, OtherValue, AreSame, value_of, SpellsLimits}
+use Rattle.edf_mend.specs.Values.{MendsPhysical, IsPhysicalMade, IsDigitalMade, IsBlockLimit}
+use Rattle.edf_mend.specs.Values.{AreBlockValues, HasBlockLimits, IsAnnotationsMade}
 use Rattle.edf_mend.proofs.LooseReadings.{loose-one}
 
 -- ---- a number

@@ -1,6 +1,5 @@
 -- The rule `patient` makes one text of a field.
-use Rattle.std.proofs.Common.{◌≡◌, ℕ, List, ◌∷◌, drop, ap, sym, refl, ◌∙◌, subst}
-use Rattle.std.proofs.Common.{inl, inr}
+use Rattle.std.proofs.Common.{◌≡◌, ℕ, List, ◌∷◌, drop, ap, sym, refl, ◌∙◌, subst, inl, inr}
 use Rattle.std.specs.Str.{str_to_ascii_uppercase}
 use Rattle.edf_mend.specs.Code.{IsNoCode}
 use Rattle.edf_mend.specs.Header.{fitted}

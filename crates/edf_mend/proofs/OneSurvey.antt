@@ -1,7 +1,6 @@
 -- What is found of a file, and that it is one.
-use Rattle.std.proofs.Common.{◌≡◌, ℕ, List, ◌++◌, refl, sym, ap}
-use Rattle.std.proofs.Common.{◌∙◌, subst, inl, inr, arith, Option, Some, None, Bool}
-use Rattle.std.proofs.Common.{true, false}
+use Rattle.std.proofs.Common.{◌≡◌, ℕ, List, ◌++◌, refl, sym, ap, ◌∙◌, subst, inl, inr, arith}
+use Rattle.std.proofs.Common.{Option, Some, None, Bool, true, false}
 use Rattle.std.proofs.lemmas.Bool.{cases_lt}
 use Rattle.edf_mend.specs.Counted.{IsSecondHeader, searched_bytes}
 use Rattle.edf_mend.specs.Header.{HeaderTexts, HasHeader, header_bytes}

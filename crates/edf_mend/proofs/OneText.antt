@@ -1,14 +1,12 @@
 -- Each rule makes one text of a field.
-use Rattle.std.proofs.Common.{◌≡◌, ℕ, List, ◌∷◌, ap, sym, ◌∙◌}
-use Rattle.std.proofs.Common.{subst, inl, inr}
+use Rattle.std.proofs.Common.{◌≡◌, ℕ, List, ◌∷◌, ap, sym, ◌∙◌, subst, inl, inr}
 use Rattle.std.specs.Prelude.{◌↔◌, IsTrue, Bool, take, drop, codes}
 use Rattle.edf_field.specs.Text.{subfields}
 use Rattle.edf_mend.specs.Letters.{spelling}
 use Rattle.edf_mend.specs.Header.{fitted, spaced}
 use Rattle.edf_mend.specs.Recording.{BeginsWell, KeepsCodes, IsPutBehind, IsRecordingMade}
 use Rattle.edf_mend.specs.Recording.{IsRecordingText, IsDated, dated_text}
-use Rattle.edf_mend.specs.Starts.{IsStartdateMade}
-use Rattle.edf_mend.specs.Starts.{IsStarttimeMade}
+use Rattle.edf_mend.specs.Starts.{IsStartdateMade, IsStarttimeMade}
 use Rattle.edf_mend.specs.Wanted.{If}
 use Rattle.edf_mend.proofs.Dots.{dots-one}
 use Rattle.edf_mend.proofs.HeaderDates.{dated-one, has-date-one}

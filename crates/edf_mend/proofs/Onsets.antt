@@ -4,9 +4,8 @@ use Rattle.std.proofs.Common.{length}
 use Rattle.std.proofs.Common.{take, drop, get_or, replicate, arith, refl, sym, ap, ◌∙◌, subst}
 use Rattle.std.proofs.Common.{inl, inr, append_assoc, append-nil, length-append, length-take-le}
 use Rattle.std.proofs.Common.{take-append-drop, take_at, drop_at, ext_get_or, get_or-take}
-use Rattle.std.proofs.lemmas.List.{length-replicate, replicate_more}
-use Rattle.std.proofs.lemmas.List.{take_more, take_all, get_or_push}
-use Rattle.std.proofs.lemmas.List.{get_or_past, drop_more}
+use Rattle.std.proofs.lemmas.List.{length-replicate, replicate_more, take_more, take_all}
+use Rattle.std.proofs.lemmas.List.{get_or_push, get_or_past, drop_more}
 use Rattle.std.specs.List.{AllByRecursion}
 use Rattle.edf_tal.proofs.Unique.{SameSides}
 use Rattle.edf_mend.specs.Inside.Retimings.{HasOnset, GetsOnset}

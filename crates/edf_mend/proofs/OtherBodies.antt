@@ -1,7 +1,6 @@
 -- Behind other bytes the rules leave the same header, but for what counts those bytes.
-use Rattle.std.proofs.Common.{◌≡◌, ◌⊎◌, ℕ, ◌+◌, ◌≤◌, ◌<◌, List, [], ◌∷◌, ◌++◌, length, refl}
-use Rattle.std.proofs.Common.{sym, ap, ◌∙◌}
-use Rattle.std.proofs.Common.{subst, inl, inr, All}
+use Rattle.std.proofs.Common.{◌≡◌, ◌⊎◌, ℕ, ◌+◌, ◌≤◌, ◌<◌, List, [], ◌∷◌, ◌++◌, length, refl, sym}
+use Rattle.std.proofs.Common.{ap, ◌∙◌, subst, inl, inr, All}
 use Rattle.std.specs.Prelude.{decimal}
 use Rattle.std.specs.List.{AllByRecursion}
 use Rattle.edf_header.specs.declared.limits.TheConstants.{MOST_SIGNALS}

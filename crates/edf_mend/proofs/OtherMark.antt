@@ -1,6 +1,5 @@
 -- A header is one of EDF+ with either mark, and before its data records are counted.
-use Rattle.std.proofs.Common.{◌≡◌, ◌⊎◌, ℕ, ◌+◌, ◌*◌, ◌≤◌, List, [], ◌++◌, length, take, refl}
-use Rattle.std.proofs.Common.{sym}
+use Rattle.std.proofs.Common.{◌≡◌, ◌⊎◌, ℕ, ◌+◌, ◌*◌, ◌≤◌, List, [], ◌++◌, length, take, refl, sym}
 use Rattle.std.proofs.Common.{ap, ◌∙◌, subst, inl, inr, arith, append-nil, ◌-◌, ◌^◌, ◌<◌}
 use Rattle.std.specs.Prelude.{All, codes, decimal, None}
 use Rattle.std.specs.List.{flat_map}

@@ -15,8 +15,7 @@ use Rattle.edf_mend.specs.Mark.{IsContinuous, IsMarkedPlus, MayGetSignal, IsSize
 use Rattle.edf_mend.specs.Mark.{IsMarkMade, new_signal}
 use Rattle.edf_mend.specs.Objections.{IsReady}
 use Rattle.edf_mend.specs.Patient.{IsPatientText}
-use Rattle.edf_mend.specs.Recording.{HasThreeCodes}
-use Rattle.edf_mend.specs.Recording.{IsRecordingText, GetsMark}
+use Rattle.edf_mend.specs.Recording.{HasThreeCodes, IsRecordingText, GetsMark}
 use Rattle.edf_mend.specs.Rules.{order}
 use Rattle.edf_mend.specs.Starts.{IsStartdateMade, IsStarttimeMade, HasStartdate, HasStarttime}
 use Rattle.edf_mend.specs.Starts.{IsGivenStart}

@@ -9,8 +9,7 @@ use Rattle.edf_mend.specs.Header.{SignalTexts, HeaderTexts, fitted}
 use Rattle.edf_mend.specs.Mark.{IsContinuous, IsMarkedPlus, GetsSignalIf, MayGetSignal, IsSizeAfter}
 use Rattle.edf_mend.specs.Mark.{IsMarkMade, new_signal}
 use Rattle.edf_mend.specs.Patient.{IsPatientText, hidden_patient}
-use Rattle.edf_mend.specs.Recording.{HasThreeCodes}
-use Rattle.edf_mend.specs.Recording.{IsRecordingText, GetsMark, HidesTechnician}
+use Rattle.edf_mend.specs.Recording.{HasThreeCodes, IsRecordingText, GetsMark, HidesTechnician}
 use Rattle.edf_mend.specs.Starts.{IsStartdateMade, IsStarttimeMade, HasStartdate, HasStarttime}
 use Rattle.edf_mend.specs.Starts.{IsGivenStart}
 use Rattle.edf_mend.specs.Steps.{Follow, IsHiddenMade, IsMarkedIf, OfSignals, own_signals}

@@ -18,8 +18,7 @@ use Rattle.edf_mend.specs.Header.{FixedTexts, SignalTexts, HeaderTexts, spaced}
 use Rattle.edf_mend.specs.Header.{row_of, trimmed, fixed_of}
 use Rattle.edf_mend.specs.Laws.{APieceJoins}
 use Rattle.edf_mend.specs.Mark.{GetsSignalIf}
-use Rattle.edf_mend.specs.Recording.{SaysMended, GetsMark, IsPlainRecording, mark}
-use Rattle.edf_mend.specs.Recording.{IsRecordingText}
+use Rattle.edf_mend.specs.Recording.{SaysMended, GetsMark, IsPlainRecording, mark, IsRecordingText}
 use Rattle.edf_mend.specs.Rules.{before_mark, order}
 use Rattle.edf_mend.specs.Steps.{Makes, Follow, KeepsIdentity, StaysText, StaysOrdinary}
 use Rattle.edf_mend.specs.Steps.{IsMarkedIf, texts_of_signal, own_signals}

@@ -1,6 +1,5 @@
 -- Limits of annotations signals, as they are proposed.
-use Rattle.std.proofs.Common.{◌≡◌, ℕ, List, [], ◌∷◌, codes}
-use Rattle.std.proofs.Common.{subst, inl, inr}
+use Rattle.std.proofs.Common.{◌≡◌, ℕ, List, [], ◌∷◌, codes, subst, inl, inr}
 use Rattle.edf_mend.specs.Header.{SignalTexts}
 use Rattle.edf_mend.specs.Values.{HasLimits}
 use Rattle.edf_mend.specs.Inside.Limits.{ProposesUnless, ProposesValues}

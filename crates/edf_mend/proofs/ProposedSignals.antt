@@ -1,8 +1,7 @@
 -- What is proposed for one signal after another.
-use Rattle.std.proofs.Common.{◌≡◌, ℕ, suc, ◌+◌, ◌≤◌, ◌<◌, Bool, List, [], ◌∷◌}
-use Rattle.std.proofs.Common.{◌++◌}
-use Rattle.std.proofs.Common.{length, take, drop, get_or, set, ap, sym, refl, ◌∙◌, subst, arith}
-use Rattle.std.proofs.Common.{append_assoc, append-nil, length-append, take-suc, drop-cons}
+use Rattle.std.proofs.Common.{◌≡◌, ℕ, suc, ◌+◌, ◌≤◌, ◌<◌, Bool, List, [], ◌∷◌, ◌++◌, length, take}
+use Rattle.std.proofs.Common.{drop, get_or, set, ap, sym, refl, ◌∙◌, subst, arith, append_assoc}
+use Rattle.std.proofs.Common.{append-nil, length-append, take-suc, drop-cons}
 use Rattle.std.proofs.Math.Seq.{set-append_seam, get_or-append_seam}
 use Rattle.std.proofs.lemmas.List.{take_all, drop_all, length-take, length-set}
 use Rattle.std.proofs.lemmas.List.Elements.{AllZip-push, length_all_zip}
@@ -11,8 +10,7 @@ use Rattle.std.specs.Prelude.{if◌then◌else◌}
 use Rattle.std.specs.List.{AllZip}
 use Rattle.edf_mend.specs.Header.{HeaderTexts, SignalTexts}
 use Rattle.edf_mend.specs.Steps.{OfSignals}
-use Rattle.edf_mend.specs.Inside.Head.{set_signal, set_fixed, set_text, signal_at}
-use Rattle.edf_mend.specs.Inside.Head.{no_signal}
+use Rattle.edf_mend.specs.Inside.Head.{set_signal, set_fixed, set_text, signal_at, no_signal}
 use Rattle.edf_mend.specs.Inside.Limits.{AreOfSignal, put_signal, ChangesSignal}
 use Rattle.edf_mend.specs.Inside.Proposed.{ProposedText, put_all, AreOfRow}
 use Rattle.edf_mend.specs.Inside.Proposals.{Proposes, Changes}

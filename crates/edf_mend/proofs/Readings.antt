@@ -1,7 +1,6 @@
 -- What parts of a date are, and how a text reads as one.
-use Rattle.std.proofs.Common.{◌≡◌, ◌⊎◌, ℕ, ◌+◌, ◌/◌, ◌%◌, ◌≤◌, ◌<◌, Bool, List, [], ◌∷◌}
-use Rattle.std.proofs.Common.{◌++◌, length, get_or, ap, sym, refl, ◌∙◌, subst, arith, inl, inr}
-use Rattle.std.proofs.Common.{ℤ, pos}
+use Rattle.std.proofs.Common.{◌≡◌, ◌⊎◌, ℕ, ◌+◌, ◌/◌, ◌%◌, ◌≤◌, ◌<◌, Bool, List, [], ◌∷◌, ◌++◌}
+use Rattle.std.proofs.Common.{length, get_or, ap, sym, refl, ◌∙◌, subst, arith, inl, inr, ℤ, pos}
 use Rattle.std.specs.Prelude.{◌==◌, ◌||◌, cond, true, false}
 use Rattle.jiff_core.proofs.SignedLemmas.{signed_arith}
 use Rattle.std.proofs.lemmas.Bool.{cases_lt, false≢true}

@@ -17,16 +17,14 @@ use Rattle.edf_mend.specs.Recording.{HasThreeCodes}
 use Rattle.edf_mend.specs.Recording.{dated_text, BeginsWell, KeepsCodes, IsPutBehind}
 use Rattle.edf_mend.specs.Recording.{IsPlainRecording, IsRecordingMade, IsRecordingText, StaysRecording, IsDated}
 use Rattle.edf_mend.specs.Inside.Patients.{joined_to, unfilled}
-use Rattle.edf_mend.specs.Inside.Recordings.{missing_text, BeginsWith, BeginsOtherwise}
-use Rattle.edf_mend.specs.Inside.Recordings.{IsCodesText, IsBehind, HasNoDate, HasThisDate}
-use Rattle.edf_mend.specs.Inside.Recordings.{IsHidden}
+use Rattle.edf_mend.specs.Inside.Recordings.{missing_text, BeginsWith, BeginsOtherwise, IsCodesText}
+use Rattle.edf_mend.specs.Inside.Recordings.{IsBehind, HasNoDate, HasThisDate, IsHidden}
 use Rattle.edf_mend.proofs.Filled.{spaced-printable, unfilled-printable, fitted-unfilled}
 use Rattle.edf_mend.proofs.Filled.{fitted-same}
 use Rattle.edf_mend.proofs.HeaderDates.{dated-one}
 use Rattle.edf_mend.proofs.Tests.{told-not}
 use Rattle.edf_mend.specs.Recording.{Contradicts, KeepsAfterDate, SaysMended, mark}
-use Rattle.edf_mend.proofs.Subfields.{subfields-spaced}
-use Rattle.edf_mend.proofs.Subfields.{glue, joined-two, join-more}
+use Rattle.edf_mend.proofs.Subfields.{subfields-spaced, glue, joined-two, join-more}
 
 abbrev x : List ℕ
 x = codes "X"

@@ -21,8 +21,7 @@ use Rattle.edf_mend.specs.declared.ledger.Ledger.{Ledger}
 use Rattle.edf_mend.specs.declared.records.Starts.{Starts}
 use Rattle.edf_mend.specs.declared.surveying.Survey.{Survey}
 use Rattle.edf_mend.specs.declared.wanted.Wanted.{Wanted}
-use Rattle.edf_mend.proofs.FaultyFile.{first-met, records-met, ledger_met}
-use Rattle.edf_mend.proofs.FaultyFile.{tail_met, ends-kept}
+use Rattle.edf_mend.proofs.FaultyFile.{first-met, records-met, ledger_met, tail_met, ends-kept}
 use Rattle.edf_mend.proofs.SameWalks.{follow-by}
 
 module _ (w : Wanted) (file : List ℕ) (first t : HeaderTexts) (steps : List RuleEdits)

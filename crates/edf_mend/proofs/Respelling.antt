@@ -1,11 +1,9 @@
 -- A data record whose blocks are spelled again, one after another.
-use Rattle.std.proofs.Common.{◌≡◌, ℕ, zero, suc, ◌+◌, ◌-◌, ◌≤◌, ◌<◌, List, [], ◌∷◌, ◌++◌}
-use Rattle.std.proofs.Common.{length}
-use Rattle.std.proofs.Common.{take, drop, map, arith, refl, sym, ap, ◌∙◌, subst}
-use Rattle.std.proofs.Common.{append_assoc, append-nil, length-append, take_at}
-use Rattle.std.proofs.Common.{drop_at, drop-drop, take-take, length-take-le, get_or}
-use Rattle.std.proofs.lemmas.List.{drop-take, drop_more}
-use Rattle.std.proofs.lemmas.List.{length-drop}
+use Rattle.std.proofs.Common.{◌≡◌, ℕ, zero, suc, ◌+◌, ◌-◌, ◌≤◌, ◌<◌, List, [], ◌∷◌, ◌++◌, length}
+use Rattle.std.proofs.Common.{take, drop, map, arith, refl, sym, ap, ◌∙◌, subst, append_assoc}
+use Rattle.std.proofs.Common.{append-nil, length-append, take_at, drop_at, drop-drop, take-take}
+use Rattle.std.proofs.Common.{length-take-le, get_or}
+use Rattle.std.proofs.lemmas.List.{drop-take, drop_more, length-drop}
 use Rattle.std.proofs.lemmas.Slice.{take-put_mid_below, drop-put_mid}
 use borrow.Rule.Slice.PartMut.{put_mid, post_of}
 use Rattle.std.specs.List.{AllZip}

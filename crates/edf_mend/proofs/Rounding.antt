@@ -1,8 +1,7 @@
 -- A time that is finer than a nanosecond is rounded in one way.
 use Rattle.std.proofs.Common.{◌≡◌, ◌≢◌, ℕ, ◌+◌, ◌≤◌, ◌<◌, ◌^◌, List, [], ◌∷◌, ◌++◌, length, drop}
-use Rattle.std.proofs.Common.{All}
-use Rattle.std.proofs.Common.{arith, refl, sym, ap, ◌∙◌, subst, inl, inr, ◌⊎◌}
-use Rattle.std.proofs.Common.{take, take_at, drop_at}
+use Rattle.std.proofs.Common.{All, arith, refl, sym, ap, ◌∙◌, subst, inl, inr, ◌⊎◌, take, take_at}
+use Rattle.std.proofs.Common.{drop_at}
 use Rattle.std.proofs.lemmas.List.Elements.{All-nil}
 use Rattle.std.proofs.lemmas.List.{drop_all}
 use Rattle.std.specs.Str.Parse.{AllDigits}

@@ -6,14 +6,12 @@ use Rattle.std.specs.List.{AllZip}
 use Rattle.std.proofs.lemmas.List.Elements.{All-nil, All-cons, All-append, All-from_recursion}
 use Rattle.edf_mend.specs.Header.{FixedTexts, SignalTexts, HeaderTexts, fitted}
 use Rattle.edf_mend.specs.Laws.{KeepsToItsRow, EachRuleKeepsToItsRow}
-use Rattle.edf_mend.specs.Mark.{GetsSignalIf, new_signal, IsMarkedPlus}
-use Rattle.edf_mend.specs.Mark.{IsContinuous}
+use Rattle.edf_mend.specs.Mark.{GetsSignalIf, new_signal, IsMarkedPlus, IsContinuous}
 use Rattle.edf_mend.specs.Patient.{hidden_patient}
 use Rattle.edf_mend.specs.Recording.{HasThreeCodes}
 use Rattle.edf_mend.specs.Rules.{rules, row, TableRow}
 use Rattle.edf_mend.specs.Steps.{Makes, ascii_texts, ascii_fixed, ascii_signal, IsHiddenMade}
-use Rattle.edf_mend.specs.Steps.{IsMarkedIf, OfSignals}
-use Rattle.edf_mend.specs.Steps.{with_reserved}
+use Rattle.edf_mend.specs.Steps.{IsMarkedIf, OfSignals, with_reserved}
 use Rattle.edf_mend.specs.Inside.Head.{fixed_text, signal_text}
 use Rattle.edf_mend.specs.Told.{FieldPair, pair, pairs, fixed_pairs, pairs_of}
 use Rattle.edf_mend.specs.Values.{IsPhysicalMade, IsDigitalMade, IsAnnotationsMade}

@@ -1,9 +1,7 @@
 -- A signal whose limits stay the same numbers, or change their places, keeps its line.
 use Rattle.std.proofs.Common.{◌≡◌, ◌≢◌, ◌⊎◌, ℕ, zero, suc, ◌+◌, ◌-◌, ◌*◌, ◌^◌, ◌≤◌, ◌<◌, List}
-use Rattle.std.proofs.Common.{length}
-use Rattle.std.proofs.Common.{get_or, codes, ap, sym, refl, ◌∙◌, subst, arith, inl, inr, ℤ, pos}
-use Rattle.std.proofs.Common.{neg_ℤ, negsuc}
-use Rattle.std.proofs.Common.{◌-ℤ◌, ◌*ℤ◌, zero-mul, mul-pos, zero-lt-suc}
+use Rattle.std.proofs.Common.{length, get_or, codes, ap, sym, refl, ◌∙◌, subst, arith, inl, inr, ℤ}
+use Rattle.std.proofs.Common.{pos, neg_ℤ, negsuc, ◌-ℤ◌, ◌*ℤ◌, zero-mul, mul-pos, zero-lt-suc}
 use Rattle.std.proofs.lemmas.Int.{ints}
 use Rattle.std.proofs.Math.Nat.{eq_of_mul-eq-mul_right}
 use lib.IntN.{*ℤ_comm, zero-*ℤ, *ℤ-one, one, pos-*ℤ-pos, negsuc-*ℤ-pos}

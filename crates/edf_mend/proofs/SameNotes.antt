@@ -1,6 +1,5 @@
 -- Lists of a block that were spelled again, and the annotations that are read of them.
-use Rattle.std.proofs.Common.{◌≡◌, ◌≢◌, ◌⊎◌, ℕ, suc, ◌+◌, ◌^◌, ◌<◌, List, [], ◌∷◌, ◌++◌}
-use Rattle.std.proofs.Common.{length}
+use Rattle.std.proofs.Common.{◌≡◌, ◌≢◌, ◌⊎◌, ℕ, suc, ◌+◌, ◌^◌, ◌<◌, List, [], ◌∷◌, ◌++◌, length}
 use Rattle.std.proofs.Common.{map, drop, replicate, get_or, Option, Some, None, refl, sym, ap, ◌∙◌}
 use Rattle.std.proofs.Common.{subst, inl, inr, arith, append_assoc, append-nil, encode_utf8}
 use Rattle.std.proofs.Common.{encode_utf8_all, ℤ}
@@ -10,16 +9,13 @@ use Rattle.std.proofs.lemmas.List.Elements.{All-replicate, All-same}
 use Rattle.std.proofs.lemmas.Str.{inside_one}
 use Rattle.edf_time.specs.Decimal.{IsSeconds, short}
 use Rattle.edf_time.proofs.Cited.{IsSeconds-short}
-use Rattle.edf_tal.specs.Tal.{Tal, IsTal, IsOnset, IsDurationPart, IsText, terminated}
-use Rattle.edf_tal.specs.Tal.{AreTals}
+use Rattle.edf_tal.specs.Tal.{Tal, IsTal, IsOnset, IsDurationPart, IsText, terminated, AreTals}
 use Rattle.edf_tal.specs.Tal.{AreTalsAndZeros, AreBlocks, HaveUtf8Texts, all_tals, instant}
 use Rattle.edf_tal.specs.Tal.{tal_annotations}
 use Rattle.edf_tal.proofs.OneBlock.{tal-sides}
-use Rattle.edf_mend.proofs.GoodBlocks.{good-block, front-utf8, back-utf8}
-use Rattle.edf_mend.proofs.GoodBlocks.{zeros-are}
+use Rattle.edf_mend.proofs.GoodBlocks.{good-block, front-utf8, back-utf8, zeros-are}
 use Rattle.edf_mend.proofs.SpelledBlocks.{same-lists, fill-none}
-use Rattle.edf_mend.specs.Notes.{notes_of, AreWritten, IsSameDuration}
-use Rattle.edf_mend.specs.Notes.{IsSameNote}
+use Rattle.edf_mend.specs.Notes.{notes_of, AreWritten, IsSameDuration, IsSameNote}
 use Rattle.edf_mend.specs.Texts.{WrittenTal, tal_bytes, duration_part, IsTime, IsTimeOrNone}
 use Rattle.edf_mend.specs.Texts.{IsWritten, IsBlockOf, IsTimeSpelled, IsDurationSpelled}
 use Rattle.edf_mend.specs.Texts.{IsTextSpelled, IsTalSpelled, IsBlockSpelled, IsBlockMade}

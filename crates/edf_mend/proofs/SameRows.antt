@@ -3,8 +3,7 @@ use Rattle.std.proofs.Common.{◌≡◌, ℕ, ◌≤◌, List, sym, ◌∙◌, s
 use Rattle.std.specs.Prelude.{pos, neg_ℤ, ◌<ℤ◌, ◌≤ℤ◌}
 use Rattle.edf_time.proofs.Decided.{Decided, both, like}
 use Rattle.edf_field.specs.Number.{field, IsPhysical, IsSigned, signed_value, DifferAsNumbers}
-use Rattle.edf_field.specs.Number.{IsWhole}
-use Rattle.edf_field.specs.Number.{whole_value}
+use Rattle.edf_field.specs.Number.{IsWhole, whole_value}
 use Rattle.edf_header.proofs.DecidedFields.{physical, differ}
 use Rattle.edf_header.specs.Signal.{IsLabelled, HasPhysical, HasDigital, HasSamples}
 use Rattle.edf_mend.specs.Header.{SignalTexts, row_of}

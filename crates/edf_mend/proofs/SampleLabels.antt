@@ -1,9 +1,7 @@
 -- A label is that of annotations signals after the rule `ascii` only where it was so before.
-use Rattle.std.proofs.Common.{◌≡◌, ℕ, zero, suc, ◌-◌, ◌≤◌, Bool, true, false}
-use Rattle.std.proofs.Common.{List, [], ◌++◌}
-use Rattle.std.proofs.Common.{length, take, codes, ap, sym, refl, ◌∙◌, arith}
-use Rattle.std.proofs.Common.{leb-true}
-use Rattle.std.proofs.Common.{append-nil, if◌then◌else◌}
+use Rattle.std.proofs.Common.{◌≡◌, ℕ, zero, suc, ◌-◌, ◌≤◌, Bool, true, false, List, [], ◌++◌}
+use Rattle.std.proofs.Common.{length, take, codes, ap, sym, refl, ◌∙◌, arith, leb-true, append-nil}
+use Rattle.std.proofs.Common.{if◌then◌else◌}
 use Rattle.std.proofs.lemmas.List.{take_at}
 use Rattle.std.specs.Str.{bytes_eq}
 use Rattle.edf_field.specs.Text.{spaces}

@@ -1,7 +1,6 @@
 -- No sample means anything else: what the rules make of each signal, one after another.
-use Rattle.std.proofs.Common.{◌≡◌, ◌⊎◌, ℕ, List, [], length}
-use Rattle.std.proofs.Common.{All}
-use Rattle.std.proofs.Common.{ap, sym, refl, ◌∙◌, subst, inl, inr}
+use Rattle.std.proofs.Common.{◌≡◌, ◌⊎◌, ℕ, List, [], length, All, ap, sym, refl, ◌∙◌, subst, inl}
+use Rattle.std.proofs.Common.{inr}
 use Rattle.edf_field.specs.Text.{IsPrintable}
 use Rattle.edf_header.specs.Signal.{IsLabelled}
 use Rattle.edf_mend.specs.Header.{SignalTexts, row_of, spaced, fitted}
@@ -9,16 +8,14 @@ use Rattle.edf_mend.specs.Inside.Head.{HasSignalWidths}
 use Rattle.edf_mend.specs.Laws.{spaced_limits, MeansTheSame}
 use Rattle.edf_mend.specs.Letters.{ascii}
 use Rattle.edf_mend.specs.Steps.{ascii_label, ascii_signal}
-use Rattle.edf_mend.specs.Values.{IsOrdinary, IsLimit, MendsPhysical}
-use Rattle.edf_mend.specs.Values.{swapped}
-use Rattle.edf_mend.specs.Values.{HasBlockLimits, SameValue, SameLine}
+use Rattle.edf_mend.specs.Values.{IsOrdinary, IsLimit, MendsPhysical, swapped, HasBlockLimits}
+use Rattle.edf_mend.specs.Values.{SameValue, SameLine}
 use Rattle.edf_mend.proofs.Fills.{spaced-printable}
 use Rattle.edf_mend.proofs.Widths.{length-spaced}
 use Rattle.edf_mend.proofs.GoodHeaders.{ArePrintable}
 use Rattle.edf_mend.proofs.Grown.{label-new}
 use Rattle.edf_mend.proofs.LooseReadings.{loose-printable}
-use Rattle.edf_mend.proofs.SameLines.{Moves, moves-equal, moves-same, same-line}
-use Rattle.edf_mend.proofs.SameLines.{swapped-line}
+use Rattle.edf_mend.proofs.SameLines.{Moves, moves-equal, moves-same, same-line, swapped-line}
 use Rattle.edf_mend.proofs.SameLines.{lost-line}
 use Rattle.edf_mend.proofs.SampleLabels.{label_text, labelled-by, label-of, label-was}
 

@@ -1,7 +1,6 @@
 -- What the rules make of each signal that a file had, through all steps.
-use Rattle.std.proofs.Common.{◌≡◌, ◌⊎◌, ℕ, ◌≤◌, List, [], ◌∷◌, ◌++◌, length, take}
-use Rattle.std.proofs.Common.{All, map}
-use Rattle.std.proofs.Common.{ap, sym, refl, ◌∙◌, subst, arith, inl, inr, length-append}
+use Rattle.std.proofs.Common.{◌≡◌, ◌⊎◌, ℕ, ◌≤◌, List, [], ◌∷◌, ◌++◌, length, take, All, map, ap}
+use Rattle.std.proofs.Common.{sym, refl, ◌∙◌, subst, arith, inl, inr, length-append}
 use Rattle.std.proofs.lemmas.List.{take_all, take-append-le}
 use Rattle.std.proofs.lemmas.List.Elements.{All-head, All-tail, All-take, length_all_zip}
 use Rattle.std.specs.List.{AllZip, AllByRecursion}
@@ -14,11 +13,9 @@ use Rattle.edf_mend.specs.Mended.{LeavesHeader, LeavesNoHeader}
 use Rattle.edf_mend.specs.Recording.{HasThreeCodes}
 use Rattle.edf_mend.specs.Retimed.{HasGap}
 use Rattle.edf_mend.specs.Rules.{order}
-use Rattle.edf_mend.specs.Steps.{Makes, Follow, ascii_signal, own_signals, IsHiddenMade}
-use Rattle.edf_mend.specs.Steps.{IsMarkedIf}
+use Rattle.edf_mend.specs.Steps.{Makes, Follow, ascii_signal, own_signals, IsHiddenMade, IsMarkedIf}
 use Rattle.edf_mend.specs.Values.{IsPhysicalMade, IsDigitalMade, IsAnnotationsMade, MendsPhysical}
-use Rattle.edf_mend.specs.Values.{swapped}
-use Rattle.edf_mend.specs.Values.{HasBlockLimits}
+use Rattle.edf_mend.specs.Values.{swapped, HasBlockLimits}
 use Rattle.edf_header.specs.Header.{layout_of}
 use Rattle.edf_header.specs.Signal.{IsLabelled}
 use Rattle.edf_mend.specs.declared.rule.Rule.{Rule}

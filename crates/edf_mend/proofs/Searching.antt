@@ -2,9 +2,8 @@
 use Rattle.std.proofs.Common.{◌≡◌, ◌≢◌, ℕ, ◌+◌, ◌-◌, ◌*◌, ◌≤◌, ◌<◌, ◌⊎◌, min, List, [], ◌++◌}
 use Rattle.std.proofs.Common.{length, take, drop, Option, Some, None, arith, refl, sym, ap, ◌∙◌}
 use Rattle.std.proofs.Common.{subst, inl, inr, append_assoc, append-nil, length-append}
-use Rattle.std.proofs.Common.{take-append-drop, length-take-le, drop-drop, drop_at}
-use Rattle.std.proofs.Common.{get_or, ◌^◌, Result, map}
-use Rattle.std.proofs.Common.{true, false, true≢false}
+use Rattle.std.proofs.Common.{take-append-drop, length-take-le, drop-drop, drop_at, get_or, ◌^◌}
+use Rattle.std.proofs.Common.{Result, map, true, false, true≢false}
 use Rattle.std.specs.Prelude.{OnOk, is_some}
 use Rattle.std.proofs.lemmas.Result.{on_ok_weaker}
 use Rattle.std.specs.Prelude.{codes}

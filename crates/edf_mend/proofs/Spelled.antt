@@ -1,6 +1,5 @@
 -- The header of a file that spells a fragment.
-use Rattle.std.proofs.Common.{◌≡◌, ℕ, List, ◌++◌, drop, arith}
-use Rattle.std.proofs.Common.{sym, ap, ◌∙◌, subst}
+use Rattle.std.proofs.Common.{◌≡◌, ℕ, List, ◌++◌, drop, arith, sym, ap, ◌∙◌, subst}
 use Rattle.std.specs.Prelude.{All}
 use Rattle.std.proofs.lemmas.List.Elements.{All-take, All-drop, All-same}
 use Rattle.edf_field.specs.Number.{field}

@@ -1,9 +1,8 @@
 -- Lists of a block that are spelled again, one after another.
-use Rattle.std.proofs.Common.{◌≡◌, ℕ, ◌+◌, ◌-◌, ◌≤◌, List, [], ◌∷◌, ◌++◌, length}
-use Rattle.std.proofs.Common.{replicate}
-use Rattle.std.proofs.Common.{Option, Some, None, All, Bool, true, false, arith, refl, sym, ap, ◌∙◌}
-use Rattle.std.proofs.Common.{subst, inl, inr, append_assoc, length-append, ◌⊎◌}
-use Rattle.std.proofs.Common.{add-zero, add_assoc, if◌then◌else◌}
+use Rattle.std.proofs.Common.{◌≡◌, ℕ, ◌+◌, ◌-◌, ◌≤◌, List, [], ◌∷◌, ◌++◌, length, replicate, Option}
+use Rattle.std.proofs.Common.{Some, None, All, Bool, true, false, arith, refl, sym, ap, ◌∙◌, subst}
+use Rattle.std.proofs.Common.{inl, inr, append_assoc, length-append, ◌⊎◌, add-zero, add_assoc}
+use Rattle.std.proofs.Common.{if◌then◌else◌}
 use Rattle.std.proofs.lemmas.List.{flat_map_more, length-replicate}
 use Rattle.std.proofs.lemmas.List.Elements.{AllZip-push, All-head}
 use Rattle.std.specs.List.{AllByRecursion, AllZip, flat_map}

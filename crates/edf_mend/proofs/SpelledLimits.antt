@@ -1,8 +1,7 @@
 -- The spelling of a number, as it is made.
-use Rattle.std.proofs.Common.{◌≡◌, ◌≢◌, ◌↔◌, ℕ, ◌+◌, ◌-◌, ◌*◌, ◌/◌, ◌%◌, ◌^◌, ◌≤◌, ◌<◌, ◌==◌}
-use Rattle.std.proofs.Common.{Bool, true, false, min}
-use Rattle.std.proofs.Common.{List, [], ◌∷◌, ◌++◌, length, take, drop, codes, nat_le, All, IsTrue}
-use Rattle.std.proofs.Common.{ap, sym, refl, ◌∙◌, subst, arith, append_assoc}
+use Rattle.std.proofs.Common.{◌≡◌, ◌≢◌, ◌↔◌, ℕ, ◌+◌, ◌-◌, ◌*◌, ◌/◌, ◌%◌, ◌^◌, ◌≤◌, ◌<◌, ◌==◌, Bool}
+use Rattle.std.proofs.Common.{true, false, min, List, [], ◌∷◌, ◌++◌, length, take, drop, codes}
+use Rattle.std.proofs.Common.{nat_le, All, IsTrue, ap, sym, refl, ◌∙◌, subst, arith, append_assoc}
 use Rattle.std.proofs.Common.{pow-add, Option, MatchOption}
 use Rattle.std.proofs.lemmas.Bool.Decides.{nat_tests}
 use Rattle.std.specs.Option.{unwrap_or}

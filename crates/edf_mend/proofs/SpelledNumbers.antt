@@ -1,25 +1,21 @@
 -- A number as EDF spells it is the same number.
-use Rattle.std.proofs.Common.{◌≡◌, ◌≢◌, ◌↔◌, ℕ, zero, suc, ◌+◌, ◌-◌, ◌*◌, ◌^◌, ◌≤◌, ◌<◌}
-use Rattle.std.proofs.Common.{true, false, min}
-use Rattle.std.proofs.Common.{List, [], ◌∷◌, ◌++◌, length, take, drop, get_or, All, Contains, codes}
-use Rattle.std.proofs.Common.{nat_le}
-use Rattle.std.proofs.Common.{ap, sym, refl, ◌∙◌, subst, arith, inl, inr, append_assoc, append-nil}
-use Rattle.std.proofs.Common.{length-append}
-use Rattle.std.proofs.Common.{length-drop, take-append-drop, length-take}
+use Rattle.std.proofs.Common.{◌≡◌, ◌≢◌, ◌↔◌, ℕ, zero, suc, ◌+◌, ◌-◌, ◌*◌, ◌^◌, ◌≤◌, ◌<◌, true}
+use Rattle.std.proofs.Common.{false, min, List, [], ◌∷◌, ◌++◌, length, take, drop, get_or, All}
+use Rattle.std.proofs.Common.{Contains, codes, nat_le, ap, sym, refl, ◌∙◌, subst, arith, inl, inr}
+use Rattle.std.proofs.Common.{append_assoc, append-nil, length-append, length-drop}
+use Rattle.std.proofs.Common.{take-append-drop, length-take}
 use Rattle.std.proofs.lemmas.Bool.{cases_lt}
 use Rattle.std.proofs.lemmas.Bool.Decides.{nat_tests}
 use Rattle.std.proofs.lemmas.List.{take_at, drop_at, drop-append-le, take-append-le}
 use Rattle.std.proofs.lemmas.List.{length-replicate, get_or_append_left}
 use Rattle.std.proofs.lemmas.List.Elements.{All-append, All-from_get_or, All-cons, All-nil}
-use Rattle.std.proofs.lemmas.List.Elements.{All-contains}
-use Rattle.std.proofs.lemmas.List.Elements.{Contains-append_left, All-replicate}
+use Rattle.std.proofs.lemmas.List.Elements.{All-contains, Contains-append_left, All-replicate}
 use Rattle.std.specs.Str.Parse.{AllDigits}
 use Rattle.edf_time.proofs.Digits.{byte-at}
 use Rattle.edf_field.specs.Text.{spaces}
 use Rattle.edf_field.proofs.Decimals.{value-append, value-zeros}
 use Rattle.edf_mend.specs.Header.{fitted}
-use Rattle.edf_mend.specs.Values.{IsLoose, IsSign, value_of, mantissa, places, AreSame}
-use Rattle.edf_mend.specs.Values.{SameValue}
+use Rattle.edf_mend.specs.Values.{IsLoose, IsSign, value_of, mantissa, places, AreSame, SameValue}
 use Rattle.edf_mend.specs.Values.{FitsLimit, zeros, pointed, spelled}
 use Rattle.edf_mend.proofs.Filled.{fitted-room}
 use Rattle.edf_mend.proofs.LooseTexts.{IsPoint, all-of, are-of}

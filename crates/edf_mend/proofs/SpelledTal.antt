@@ -1,8 +1,7 @@
 -- A list that is spelled again, from its parts.
-use Rattle.std.proofs.Common.{◌≡◌, ◌≢◌, ℕ, List, [], ◌∷◌, ◌++◌, refl, sym, ap, ◌∙◌, subst, inl}
-use Rattle.std.proofs.Common.{inr, ◌⊎◌}
-use Rattle.std.proofs.Common.{append_assoc, append-nil, Option, Some, None, Bool, true, false, ◌==◌}
-use Rattle.std.proofs.Common.{length, eq-eqb, arith}
+use Rattle.std.proofs.Common.{◌≡◌, ◌≢◌, ℕ, List, [], ◌∷◌, ◌++◌, refl, sym, ap, ◌∙◌, subst, inl, inr}
+use Rattle.std.proofs.Common.{◌⊎◌, append_assoc, append-nil, Option, Some, None, Bool, true, false}
+use Rattle.std.proofs.Common.{◌==◌, length, eq-eqb, arith}
 use Rattle.std.proofs.lemmas.Bool.{eqb-true}
 use Rattle.edf_tal.specs.Tal.{terminated}
 use Rattle.edf_mend.specs.Texts.{WrittenTal, tal_bytes, duration_part, IsTimeOrNone}

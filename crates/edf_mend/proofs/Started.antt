@@ -1,10 +1,8 @@
 -- When a file starts: its own fields, and what separates their parts.
-use Rattle.std.proofs.Common.{◌≡◌, ℕ, ◌+◌, ◌*◌, ◌^◌}
-use Rattle.std.proofs.Common.{List, ◌∷◌, sym, refl, ◌∙◌}
-use Rattle.std.proofs.Common.{subst, arith, inl, inr, ℤ, pos, Option, Some, None}
+use Rattle.std.proofs.Common.{◌≡◌, ℕ, ◌+◌, ◌*◌, ◌^◌, List, ◌∷◌, sym, refl, ◌∙◌, subst, arith, inl}
+use Rattle.std.proofs.Common.{inr, ℤ, pos, Option, Some, None}
 use Rattle.std.specs.Prelude.{codes, MatchOption}
-use Rattle.edf_time.specs.Civil.{IsDateText, IsIdDate, IsCivil}
-use Rattle.edf_time.specs.Civil.{IsStartFault, HasDateForm}
+use Rattle.edf_time.specs.Civil.{IsDateText, IsIdDate, IsCivil, IsStartFault, HasDateForm}
 use Rattle.edf_time.specs.declared.civil.StartFault.{StartFault}
 use Rattle.edf_time.specs.declared.civil.StartFault.TheVariants.{Date, Time, Differs}
 use Rattle.edf_time.proofs.Cited.{no-start_fault, has-form, not-yearless}
@@ -14,8 +12,7 @@ use Rattle.edf_mend.proofs.FirstDay.{first-day}
 use Rattle.edf_mend.specs.Header.{spaced}
 use Rattle.edf_mend.specs.Letters.{spelling}
 use Rattle.edf_mend.specs.Recording.{BeginsWell, IsOwnDate}
-use Rattle.edf_mend.specs.Starts.{HasOwnDate, HasStartdate, HasStarttime}
-use Rattle.edf_mend.specs.Starts.{AgreesWith}
+use Rattle.edf_mend.specs.Starts.{HasOwnDate, HasStartdate, HasStarttime, AgreesWith}
 use Rattle.edf_mend.specs.Inside.Recordings.{BeginsWith, BeginsOtherwise, HasNoDate, HasThisDate}
 use Rattle.edf_mend.specs.Inside.Started.{HasDay}
 use Rattle.edf_mend.proofs.HeaderDates.{midnight, midnight-start, own-one}

@@ -10,8 +10,7 @@ use Rattle.std.proofs.lemmas.Str.{is_utf8-from_IsUtf8, IsUtf8-from_ascii, chars-
 use Rattle.std.proofs.lemmas.Str.Ascii.{IsAscii-from_all}
 use Rattle.std.proofs.lemmas.List.{take-append-le, take_all, length-take}
 use Rattle.edf_field.specs.Text.{IsPrintable}
-use Rattle.edf_mend.specs.Letters.{letters, characters, spelling, ascii, by_rows, table}
-use Rattle.edf_mend.specs.Letters.{has_room}
+use Rattle.edf_mend.specs.Letters.{letters, characters, spelling, ascii, by_rows, table, has_room}
 use Rattle.edf_mend.specs.Header.{fitted, spaced, trimmed}
 use Rattle.edf_field.specs.Text.{spaces}
 use Rattle.edf_mend.specs.Patient.{NamesPatient, NamesCode}

@@ -14,8 +14,7 @@ use Rattle.edf_mend.specs.Mark.{IsContinuous}
 use Rattle.edf_mend.specs.Objections.{IsReady}
 use Rattle.edf_mend.specs.Starts.{HasStartdate, HasStarttime, GetsDots, IsStartdateMade}
 use Rattle.edf_mend.specs.Starts.{IsStarttimeMade, IsGivenStart}
-use Rattle.edf_mend.specs.Times.{AStartStays, KeepsStart, EachStartStays, StartsNear}
-use Rattle.edf_mend.specs.Times.{HasSameParts}
+use Rattle.edf_mend.specs.Times.{AStartStays, KeepsStart, EachStartStays, StartsNear, HasSameParts}
 use Rattle.edf_mend.specs.Times.{NewStartsFollow}
 use Rattle.edf_mend.specs.Wanted.{IsAsked, If}
 use Rattle.edf_mend.specs.declared.rule.Rule.TheVariants as rule

@@ -1,8 +1,7 @@
 -- Starts of data records that are told anew.
-use Rattle.std.proofs.Common.{◌≡◌, ℕ, ◌+◌, ◌*◌, ◌<◌, ◌⊎◌, max, List, []}
-use Rattle.std.proofs.Common.{◌∷◌}
-use Rattle.std.proofs.Common.{◌++◌, length, Option, Some, None, Bool, true, false, arith, refl, sym}
-use Rattle.std.proofs.Common.{ap, ◌∙◌, subst, inl, inr, append_assoc, length-append}
+use Rattle.std.proofs.Common.{◌≡◌, ℕ, ◌+◌, ◌*◌, ◌<◌, ◌⊎◌, max, List, [], ◌∷◌, ◌++◌, length, Option}
+use Rattle.std.proofs.Common.{Some, None, Bool, true, false, arith, refl, sym, ap, ◌∙◌, subst, inl}
+use Rattle.std.proofs.Common.{inr, append_assoc, length-append}
 use Rattle.std.proofs.Math.Nat.{suc-mul}
 use Rattle.std.specs.Prelude.{IsTrue, IsSome, ◌↔◌}
 use Rattle.edf_time.specs.Civil.{window}
@@ -13,8 +12,7 @@ use Rattle.edf_mend.specs.Retimed.{IsRetimed, AreRetimed, StartsAt, AreInStep, A
 use Rattle.edf_mend.specs.Rewritten.{RecordEdits}
 use Rattle.edf_mend.specs.Inside.Followed.{TellsStart, TellsFirst, MayBeToldAnew, IsMovedTo}
 use Rattle.edf_mend.specs.Inside.Followed.{MayNotMove, StaysToo, MovesToo, BelongsAt}
-use Rattle.edf_mend.proofs.Following.{snoc-at, cons-some, none-or, nil-of}
-use Rattle.edf_mend.proofs.Following.{tells-one, tells-some}
+use Rattle.edf_mend.proofs.Following.{snoc-at, cons-some, none-or, nil-of, tells-one, tells-some}
 
 module _ (l : Layout) where
   -- ---- starts that are told anew

@@ -11,9 +11,8 @@ use Rattle.std.specs.Str.{bytes_eq}
 use Rattle.edf_mend.specs.Edits.{Edit}
 use Rattle.edf_mend.specs.Header.{HeaderTexts, SignalTexts}
 use Rattle.edf_mend.specs.Told.{FieldPair, pair, pairs_of, column, pairs, edits_from, fixed_pairs, edits_of}
-use Rattle.edf_mend.specs.Inside.Head.{of_signal, text_of, signal_at, no_signal}
-use Rattle.edf_mend.specs.Inside.Head.{offset_of, width_of, times_of, HasWidths}
-use Rattle.edf_mend.specs.Inside.Head.{HasSignalWidths}
+use Rattle.edf_mend.specs.Inside.Head.{of_signal, text_of, signal_at, no_signal, offset_of}
+use Rattle.edf_mend.specs.Inside.Head.{width_of, times_of, HasWidths, HasSignalWidths}
 use Rattle.edf_mend.specs.Inside.Telling.{pairs_in, in_order}
 use Rattle.edf_mend.specs.declared.field.Field.{Field}
 use Rattle.edf_mend.specs.declared.field.Field.TheVariants as at

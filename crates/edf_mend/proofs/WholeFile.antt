@@ -28,8 +28,7 @@ use Rattle.edf_mend.specs.Steps.{own_signals}
 use Rattle.edf_mend.specs.Texts.{IsRespelled, IsToldRespelled}
 use Rattle.edf_mend.specs.Wanted.{IsAsked, IsListed, If}
 use Rattle.edf_mend.specs.Inside.Accepted.{RefusesNext}
-use Rattle.edf_mend.specs.Inside.Carrying.{ArePut, EndsSo}
-use Rattle.edf_mend.specs.Inside.Carrying.{EndsOpen, CarriesToEnd, CarriesUnder}
+use Rattle.edf_mend.specs.Inside.Carrying.{ArePut, EndsSo, EndsOpen, CarriesToEnd, CarriesUnder}
 use Rattle.edf_mend.specs.Inside.Carrying.{SaysRetold, at_place}
 use Rattle.edf_mend.specs.Inside.Followed.{IsFollowed}
 use Rattle.edf_mend.specs.Inside.Tallied.{Measures}

@@ -1,13 +1,11 @@
 -- How many data records a file has: those that its header counts, and no other without a word.
-use Rattle.std.specs.Prelude.{◌≡◌, ◌⊎◌, ℕ, ◌+◌, ◌-◌, ◌*◌, ◌/◌, ◌%◌, ◌≤◌, ◌<◌, List, ◌++◌}
-use Rattle.std.specs.Prelude.{length, drop, codes, decimal, All, map, ◌==◌, if◌then◌else◌}
-use Rattle.std.specs.Prelude.{sum_by}
+use Rattle.std.specs.Prelude.{◌≡◌, ◌⊎◌, ℕ, ◌+◌, ◌-◌, ◌*◌, ◌/◌, ◌%◌, ◌≤◌, ◌<◌, List, ◌++◌, length}
+use Rattle.std.specs.Prelude.{drop, codes, decimal, All, map, ◌==◌, if◌then◌else◌, sum_by}
 use Rattle.std.specs.Char.{is_ascii_whitespace}
 use Rattle.std.specs.List.{prefix_len}
 use Rattle.edf_field.specs.Number.{field, IsNumber, whole_value}
 use Rattle.edf_field.specs.Text.{IsPrintable}
-use Rattle.edf_header.specs.Signal.{HasSamples, IsAnnotationsSignal}
-use Rattle.edf_header.specs.Signal.{IsOrdinary as IsOrdinaryRow}
+use Rattle.edf_header.specs.Signal.{HasSamples, IsAnnotationsSignal, IsOrdinary as IsOrdinaryRow}
 use Rattle.edf_header.specs.declared.limits.TheConstants.{MOST_RECORDS}
 use Rattle.edf_mend.specs.Header.{HeaderTexts, SignalTexts, row_of, fitted, spaced}
 use Rattle.edf_mend.specs.Starts.{GetsDots}

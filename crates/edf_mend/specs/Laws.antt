@@ -1,7 +1,6 @@
 -- What a person who sends a file may rely on, in the words of the field.
-use Rattle.std.specs.Prelude.{◌+◌, ◌*◌}
-use Rattle.std.specs.Prelude.{◌≡◌, ◌≢◌, ◌⊎◌, ℕ, ◌-◌, List, [], ◌∷◌, ◌++◌, take, drop, length, All}
-use Rattle.std.specs.Prelude.{Option, Some, None, IsSome, ℤ, slice_index_or, codes}
+use Rattle.std.specs.Prelude.{◌+◌, ◌*◌, ◌≡◌, ◌≢◌, ◌⊎◌, ℕ, ◌-◌, List, [], ◌∷◌, ◌++◌, take, drop}
+use Rattle.std.specs.Prelude.{length, All, Option, Some, None, IsSome, ℤ, slice_index_or, codes}
 use Rattle.std.specs.List.{AllZip}
 use Rattle.edf_field.specs.Number.{IsNumber}
 use Rattle.edf_field.specs.Text.{subfields}

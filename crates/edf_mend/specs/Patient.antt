@@ -1,6 +1,5 @@
 -- Whose a file is: nobody is ever guessed.
-use Rattle.std.specs.Prelude.{◌≡◌, ◌≢◌, ◌⊎◌, ℕ, List, [], ◌∷◌, take, drop}
-use Rattle.std.specs.Prelude.{All, codes}
+use Rattle.std.specs.Prelude.{◌≡◌, ◌≢◌, ◌⊎◌, ℕ, List, [], ◌∷◌, take, drop, All, codes}
 use Rattle.std.specs.List.{join_with_byte}
 use Rattle.std.specs.Str.{str_to_ascii_uppercase}
 use Rattle.edf_field.specs.Text.{subfields, IsPatient, IsPrintable, IsSex, IsBirthdate}

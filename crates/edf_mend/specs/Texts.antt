@@ -1,7 +1,6 @@
 -- What the rule `texts` makes of annotations blocks: the same list of annotations.
-use Rattle.std.specs.Prelude.{◌≡◌, ◌⊎◌, ℕ, ◌+◌, ◌^◌, ◌≤◌, ◌<◌, List, [], ◌∷◌, ◌++◌}
-use Rattle.std.specs.Prelude.{length, replicate, All, Option, Some, None, IsUtf8}
-use Rattle.std.specs.Prelude.{encode_utf8_all}
+use Rattle.std.specs.Prelude.{◌≡◌, ◌⊎◌, ℕ, ◌+◌, ◌^◌, ◌≤◌, ◌<◌, List, [], ◌∷◌, ◌++◌, length}
+use Rattle.std.specs.Prelude.{replicate, All, Option, Some, None, IsUtf8, encode_utf8_all}
 use Rattle.std.specs.List.{AllByRecursion, AllZip, flat_map}
 use Rattle.edf_field.specs.Number.{field}
 use Rattle.edf_time.specs.Decimal.{IsDecimal, IsSeconds, IsDecimalFault, short}

@@ -1,8 +1,7 @@
 -- What a sample means: the limits of signals, and the same numbers in other spellings.
-use Rattle.std.specs.Prelude.{◌≡◌, ◌≢◌, ◌⊎◌, ℕ, ◌+◌, ◌-◌, ◌*◌, ◌^◌, ◌≤◌, List, []}
-use Rattle.std.specs.Prelude.{◌∷◌, ◌++◌, length, take, drop, replicate, codes}
-use Rattle.std.specs.Prelude.{ℤ, pos, neg_ℤ, ◌-ℤ◌, ◌*ℤ◌, ◌<ℤ◌, slice_index, nat_le, Contains}
-use Rattle.std.specs.Prelude.{if◌then◌else◌}
+use Rattle.std.specs.Prelude.{◌≡◌, ◌≢◌, ◌⊎◌, ℕ, ◌+◌, ◌-◌, ◌*◌, ◌^◌, ◌≤◌, List, [], ◌∷◌, ◌++◌}
+use Rattle.std.specs.Prelude.{length, take, drop, replicate, codes, ℤ, pos, neg_ℤ, ◌-ℤ◌, ◌*ℤ◌, ◌<ℤ◌}
+use Rattle.std.specs.Prelude.{slice_index, nat_le, Contains, if◌then◌else◌}
 use Rattle.std.specs.Str.Parse.{IsNumeral, digits_value}
 use Rattle.edf_field.specs.Number.{AreSpaces, IsSigned, signed_value, IsPhysical}
 use Rattle.edf_header.specs.Signal.{HasPhysical, IsLabelled}

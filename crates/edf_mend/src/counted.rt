@@ -1,13 +1,11 @@
 //! The rules `count` and `header`, and another file behind a first one.
 
 ghost use Rattle.std.specs.Prelude.{◌≡◌, ◌≤◌, ◌<◌, ◌+◌, ◌*◌, ◌/◌, ◌%◌, ◌^◌, ◌↔◌, ℕ, List, take};
-ghost use Rattle.std.specs.Prelude.{length};
-ghost use Rattle.std.specs.Prelude.{IsTrue, All, pos, neg_ℤ, ◌-◌, ◌⊎◌, MatchOption};
+ghost use Rattle.std.specs.Prelude.{length, IsTrue, All, pos, neg_ℤ, ◌-◌, ◌⊎◌, MatchOption};
 ghost use Rattle.edf_field.specs.Number.{IsWhole, IsNumber, whole_value, field};
-ghost use Rattle.edf_mend.specs.Counted.{AreZerosFrom, CountStays, IsOpen, IsSearched};
-ghost use Rattle.edf_mend.specs.Counted.{WantsCount, IsGoodSignal, IsMiscounted, IsHeaderFront};
-ghost use Rattle.edf_mend.specs.Counted.{IsUncounted, ShowsNumber, LooksDotted, HasSpaces};
-ghost use Rattle.edf_mend.specs.Counted.{GoesWith};
+ghost use Rattle.edf_mend.specs.Counted.{AreZerosFrom, CountStays, IsOpen, IsSearched, WantsCount};
+ghost use Rattle.edf_mend.specs.Counted.{IsGoodSignal, IsMiscounted, IsHeaderFront, IsUncounted};
+ghost use Rattle.edf_mend.specs.Counted.{ShowsNumber, LooksDotted, HasSpaces, GoesWith};
 ghost use Rattle.edf_mend.specs.Counted.{piece_len as piece_in, whole_records as records_in};
 ghost use Rattle.edf_mend.specs.Counted.{record_size as size_of};
 ghost use Rattle.edf_field.specs.Text.{IsPrintable};

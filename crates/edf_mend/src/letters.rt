@@ -1,8 +1,7 @@
 //! Texts of a header: what fills them, and what ASCII has in place of other letters.
 
 ghost use Rattle.std.specs.Prelude.{◌≡◌, ◌≢◌, ◌↔◌, ◌≤◌, ◌-◌, ◌++◌, ◌==◌, ◌||◌, length, take};
-ghost use Rattle.std.specs.Prelude.{IsTrue, All};
-ghost use Rattle.std.specs.Prelude.{IfOk, OnOk, codes, filter, not, chars};
+ghost use Rattle.std.specs.Prelude.{IsTrue, All, IfOk, OnOk, codes, filter, not, chars};
 ghost use Rattle.std.specs.Str.{str_to_ascii_uppercase};
 ghost use Rattle.edf_field.specs.Text.{IsPrintable};
 ghost use Rattle.edf_mend.specs.Header.{fill_len, spaced, fitted, trimmed};

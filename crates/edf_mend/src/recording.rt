@@ -3,8 +3,7 @@
 
 ghost use Rattle.std.specs.Prelude.{◌≡◌, ◌↔◌, ◌∷◌, [], ◌++◌, ◌≤◌, ℕ, ℤ, List, Option, length, min};
 ghost use Rattle.std.specs.Prelude.{take, drop, codes, IsTrue, IfOk, MatchOption, slice_index_or};
-ghost use Rattle.std.specs.Prelude.{◌-◌, ◌≢◌};
-ghost use Rattle.std.specs.Prelude.{All};
+ghost use Rattle.std.specs.Prelude.{◌-◌, ◌≢◌, All};
 ghost use Rattle.edf_mend.specs.Patient.{with_spaces};
 ghost use Rattle.edf_field.specs.Text.{subfields, IsPrintable, IsRecording};
 ghost use Rattle.edf_mend.specs.Header.{spaced, trimmed, fitted};

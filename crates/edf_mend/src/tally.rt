@@ -1,8 +1,7 @@
 //! What is counted of a file as it is read, and where another header begins in it.
 
 ghost use Rattle.std.specs.Prelude.{◌≡◌, ◌≤◌, ◌<◌, ◌+◌, ◌^◌, ◌⊎◌, ℕ, List, [], ◌++◌, length, take};
-ghost use Rattle.std.specs.Prelude.{drop, map};
-ghost use Rattle.std.specs.Prelude.{IfOk, IfErr, OnOk, IsTrue, ◌↔◌, vec_len};
+ghost use Rattle.std.specs.Prelude.{drop, map, IfOk, IfErr, OnOk, IsTrue, ◌↔◌, vec_len};
 ghost use Rattle.std.specs.Io.KnownBytes.{Consumes};
 ghost use Rattle.edf_mend.specs.Counted.{HasHeaderAt, searched_bytes, zero_for_space};
 ghost use Rattle.edf_mend.specs.Counts.{CountsReads};

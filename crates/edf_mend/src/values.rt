@@ -2,8 +2,7 @@
 
 ghost use Rattle.std.specs.Prelude.{◌≡◌, ◌≢◌, ◌↔◌, ◌+◌, ◌^◌, ◌≤◌, ◌<◌, ◌++◌, ℕ, List, [], ◌∷◌};
 ghost use Rattle.std.specs.Prelude.{length, codes, min, IsTrue, IfOk, OnOk, MatchOption, Some};
-ghost use Rattle.std.specs.Prelude.{Contains};
-ghost use Rattle.std.specs.Prelude.{◌-◌, slice_index};
+ghost use Rattle.std.specs.Prelude.{Contains, ◌-◌, slice_index};
 ghost use Rattle.edf_field.specs.Number.{IsPhysical, DifferAsNumbers, IsSigned, signed_value};
 ghost use Rattle.edf_header.specs.Signal.{IsLabelled};
 ghost use Rattle.edf_mend.specs.Header.{row_of, fitted};

@@ -1,8 +1,7 @@
 -- What a store in memory listed, what was written of a file, and a recording by its file.
-use Rattle.std.proofs.Common.{◌≡◌, ◌≢◌, ◌⊎◌, ℕ, List, [], ◌∷◌, length, map, Bool, true}
-use Rattle.std.proofs.Common.{false, Option, Some, None, inl, inr, refl, sym, ap, subst}
-use Rattle.std.proofs.Common.{if◌then◌else◌, arith}
-use Rattle.std.proofs.Common.{◌∙◌}
+use Rattle.std.proofs.Common.{◌≡◌, ◌≢◌, ◌⊎◌, ℕ, List, [], ◌∷◌, length, map, Bool, true, false}
+use Rattle.std.proofs.Common.{Option, Some, None, inl, inr, refl, sym, ap, subst, if◌then◌else◌}
+use Rattle.std.proofs.Common.{arith, ◌∙◌}
 use Rattle.std.proofs.lemmas.List.{take_all}
 use Rattle.std.specs.Io.KnownBytes.{Appends}
 use Rattle.sqlite_trees.specs.declared.memory.MemStore.{MemStore}
@@ -39,8 +38,7 @@ use Rattle.edfruns_command.specs.Picturing.{AreNoted, HasNotes, IsPictureOf, run
 use Rattle.edfruns_command.specs.Picturing as drawn
 use Rattle.edfruns_command.specs.Run.{Asked, IsDone}
 use Rattle.edf_page.specs.Night.{AreRunLines, IsRecording}
-use Rattle.edf_page.specs.Inside.{HoldsStill, ListsHeld, IsWrittenOf, ListsFile}
-use Rattle.edf_page.specs.Inside.{DrawsFile}
+use Rattle.edf_page.specs.Inside.{HoldsStill, ListsHeld, IsWrittenOf, ListsFile, DrawsFile}
 use Rattle.edf_page.specs.Programs.{IsText}
 use Rattle.edf_page.proofs.Figures.{files-have-figures}
 use Rattle.edf_page.specs.declared.night.Recording.{Recording}

@@ -13,8 +13,7 @@ use Rattle.edf_field.proofs.Cited.{patient-no-fault}
 use Rattle.edf_header.specs.Key.{Key, IsKey, key_at, key_bytes}
 use Rattle.edf_header.specs.Signal.{samples_in_all}
 use Rattle.edf_header.specs.Identity.{HasLength, HasMark, KeyFails, IsCleanKey}
-use Rattle.edf_header.specs.Identity.{identity_fault_order}
-use Rattle.edf_header.specs.Identity.{signals_at}
+use Rattle.edf_header.specs.Identity.{identity_fault_order, signals_at}
 use Rattle.edf_header.specs.Inside.Shape.{IsKeyPrefix}
 use Rattle.edf_header.specs.declared.limits.TheConstants.{MOST_BLOCK_BYTES, MOST_ORDINARY_SIGNALS}
 use Rattle.edf_header.specs.declared.signal_checks.Check.TheVariants as checks

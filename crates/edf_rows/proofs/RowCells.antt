@@ -15,8 +15,7 @@ use Rattle.edf_tal.specs.declared.place.TalFault.TheVariants.{Memory}
 use Rattle.std.proofs.lemmas.Int.{to_z-of_z}
 use Rattle.std.proofs.lemmas.List.{append-nil}
 use Rattle.edf_tal.specs.Canonical.{block_text}
-use Rattle.edf_tal.proofs.Cited.{one-read, read-no-fault}
-use Rattle.edf_tal.proofs.Cited.{read-start, read-annotations, read-any}
+use Rattle.edf_tal.proofs.Cited.{one-read, read-no-fault, read-start, read-annotations, read-any}
 use Rattle.edf_fragment.specs.Fragment.{DataRecord, IsWithinSize}
 use Rattle.edf_fragment.specs.Sound.{IsValidRecord, IsSoundRecord}
 use Rattle.edf_rows.specs.Foreign.{IsBadRow, bad_samples, bad_block}

@@ -1,6 +1,5 @@
 -- What is measured of data records, one after another.
-use Rattle.std.proofs.Common.{ℕ, List}
-use Rattle.std.proofs.Common.{sym, subst}
+use Rattle.std.proofs.Common.{ℕ, List, sym, subst}
 use Rattle.edf_header.specs.Key.{Key, MayStart}
 use Rattle.edf_fragment.specs.Fragment.{DataRecord, IsFragmentFile}
 use Rattle.edf_fragment.specs.Sound.{MayBegin}

@@ -17,8 +17,7 @@ use Rattle.edf_holdings.specs.ConflictFree.{IsFragment, IsConflictFree, Has, Sam
 use Rattle.edf_holdings.specs.Laws.{AreWellFormed}
 use Rattle.edf_holdings.proofs.Joining.{put_cases, put_here, lasting, apart-sound}
 use Rattle.edf_holdings.proofs.ConflictFree.{IsAmong, IsAmong-from_Any, Any-from_IsAmong}
-use Rattle.edf_holdings.proofs.ConflictFree.{any_order_law}
-use Rattle.edf_holdings.proofs.ConflictFree.{recut_law}
+use Rattle.edf_holdings.proofs.ConflictFree.{any_order_law, recut_law}
 use Rattle.edf_holdings.proofs.InSets.{from_nothing}
 use Rattle.edf_holdings.proofs.Recut.{free_of_same, alone_is_free}
 use Rattle.edf_holdings.proofs.ParsedIsWellFormed.{parsed_is_well_formed}

@@ -1,7 +1,6 @@
 -- A whole file, read again and put data record by data record.
-use Rattle.std.proofs.Common.{◌≡◌, ℕ, inl, inr, List, [], ◌∷◌, length}
-use Rattle.std.proofs.Common.{sym, ap, ◌∙◌, subst}
-use Rattle.std.proofs.Common.{Option, Some, None, Ok, Err, Result, ◌⊎◌}
+use Rattle.std.proofs.Common.{◌≡◌, ℕ, inl, inr, List, [], ◌∷◌, length, sym, ap, ◌∙◌, subst, Option}
+use Rattle.std.proofs.Common.{Some, None, Ok, Err, Result, ◌⊎◌}
 use Rattle.edf_header.specs.Key.{Key, IsKey}
 use Rattle.edf_runs.specs.Canonical.{AreAsPlanned, StartAlike}
 use Rattle.edf_canonical.specs.Kept.{annotated}
@@ -15,8 +14,7 @@ use Rattle.edf_fragment.specs.declared.advance.ReaderState.TheVariants.{Reading}
 use Rattle.edf_fragment.specs.declared.fault.FragmentFault.{FragmentFault}
 use Rattle.edf_fragment.specs.declared.fault.FragmentFault.TheVariants.{Read as FailedRead}
 use Rattle.edf_fragment.specs.declared.fault.FragmentFault.TheVariants.{Memory as NoMemory}
-use Rattle.edf_fragment.proofs.Fragments.{all_read, refused_then}
-use Rattle.edf_fragment.proofs.Fragments.{fragment_of_all, fault_of_all}
+use Rattle.edf_fragment.proofs.Fragments.{all_read, refused_then, fragment_of_all, fault_of_all}
 use Rattle.edf_fragment.proofs.OneFragment.{one-fragment, spelled-no-fault}
 use Rattle.edf_fragment.proofs.Sound.{read-front}
 use Rattle.edf_canonical.proofs.Files.{one-file}

@@ -1,7 +1,6 @@
 //! Annotations assigned to the data records that have their onsets.
 
-ghost use Rattle.std.specs.Prelude.{◌≡◌, ◌++◌, ◌∷◌, [], ℕ, List, OnOk, map};
-ghost use Rattle.std.specs.Prelude.{nat_le};
+ghost use Rattle.std.specs.Prelude.{◌≡◌, ◌++◌, ◌∷◌, [], ℕ, List, OnOk, map, nat_le};
 ghost use Rattle.edf_tal.specs.Tal.{Annotation};
 ghost use Rattle.edf_fragment.specs.Fragment.{DataRecord};
 ghost use Rattle.edf_runs.specs.ByOnset.{all_assigned};

@@ -12,8 +12,7 @@ use Rattle.edf_intake.proofs.Turns.{map-next}
 use Rattle.edf_serve.specs.Exchange.{Exchange, IsAnswered}
 use Rattle.edf_serve.specs.Files.{Paths, opens, LiesBelow}
 use Rattle.edf_serve.specs.Session.{Moment, IsExchange, AreExchanges, IsStep, IsWholeSession}
-use Rattle.edf_serve.specs.Session.{AreSubmittedInTurn, IsSession, submissions}
-use Rattle.edf_serve.specs.Session.{status_at}
+use Rattle.edf_serve.specs.Session.{AreSubmittedInTurn, IsSession, submissions, status_at}
 use Rattle.edf_serve.specs.Work.{Point, Submission}
 use Rattle.edf_serve.specs.declared.answering.End.{End}
 use Rattle.edf_serve.specs.declared.answering.End.TheVariants as end

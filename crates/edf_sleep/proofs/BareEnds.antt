@@ -6,8 +6,7 @@ use Rattle.std.proofs.Common.{inl, inr, refl, sym, ap, ◌∙◌, arith, cond, i
 use Rattle.std.specs.List.{All, AllByRecursion}
 use Rattle.std.specs.List.Sorted.{IsNonDecreasingBy, IsPartitionPoint}
 use Rattle.std.proofs.lemmas.Bool.{cases_Bool, and_parts, and_left, le-leb, leb-true, leb-false}
-use Rattle.std.proofs.lemmas.Bool.{le-ltb}
-use Rattle.std.proofs.lemmas.Bool.{lt-ltb, lt-leb, ltb-true, ltb-false}
+use Rattle.std.proofs.lemmas.Bool.{le-ltb, lt-ltb, lt-leb, ltb-true, ltb-false}
 use Rattle.std.proofs.lemmas.List.{drop_more, drop-map, get_or-drop, get_or_default, get_or-map}
 use Rattle.std.proofs.lemmas.List.{length-map, length-drop, at_drop_all, at_drop_more}
 use Rattle.std.proofs.lemmas.List.Elements.{recursion_from_All, All-map, All-filter}

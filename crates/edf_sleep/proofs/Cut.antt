@@ -1,7 +1,6 @@
 -- A list that has a first element is it and the rest.
 use Rattle.std.proofs.Common.{◌≡◌, ◌-◌, ◌<◌, ◌≤◌, List, [], ◌∷◌, length, get_or, take, drop, sym}
-use Rattle.std.proofs.Common.{ap}
-use Rattle.std.proofs.Common.{arith}
+use Rattle.std.proofs.Common.{ap, arith}
 use Rattle.std.proofs.lemmas.List.{take_rest}
 
 -- all but the first, as a pattern gives it

@@ -1,9 +1,8 @@
 -- What is known where a figure is told.
 use Rattle.std.proofs.Common.{◌≡◌, ◌⊎◌, ℕ, zero, suc, ◌+◌, ◌-◌, ◌*◌, ◌^◌, ◌<◌, ◌≤◌, Bool, true}
-use Rattle.std.proofs.Common.{false}
-use Rattle.std.proofs.Common.{◌&&◌, not, is_none, Option, Some, None, Ok, Err, is_ok, inl, inr}
-use Rattle.std.proofs.Common.{refl}
-use Rattle.std.proofs.Common.{sym, ap, ◌∙◌, subst, arith, true≢false, find, if◌then◌else◌}
+use Rattle.std.proofs.Common.{false, ◌&&◌, not, is_none, Option, Some, None, Ok, Err, is_ok, inl}
+use Rattle.std.proofs.Common.{inr, refl, sym, ap, ◌∙◌, subst, arith, true≢false, find}
+use Rattle.std.proofs.Common.{if◌then◌else◌}
 use Rattle.std.specs.Option.{option_map_or}
 use Rattle.std.proofs.lemmas.Bool.{cases_Bool, cases_order, leb-false, both_ways, and_from}
 use Rattle.std.proofs.lemmas.Bool.{not_from_false}

@@ -16,9 +16,8 @@ use Rattle.edf_sleep.specs.declared.kind.Kind.TheVariants.{Rem, One, Two, Three,
 use Rattle.edf_sleep.specs.declared.moments.Moment.{Moment}
 use Rattle.edf_sleep.specs.declared.stages.Lasting.{Lasting}
 use Rattle.edf_sleep.specs.Telling.{Follows}
-use Rattle.edf_sleep.proofs.Begun.{Tells, same-kind, kind-self, told-parts, differ-from}
-use Rattle.edf_sleep.proofs.Begun.{not-differ, no-stage-not-differ, kept, was, newest, moved-more}
-use Rattle.edf_sleep.proofs.Begun.{same-told}
+use Rattle.edf_sleep.proofs.Begun.{Tells, same-kind, kind-self, told-parts, differ-from, not-differ}
+use Rattle.edf_sleep.proofs.Begun.{no-stage-not-differ, kept, was, newest, moved-more, same-told}
 
 pub tells-nothing : Tells [] nothing
 tells-nothing = record {

@@ -1,9 +1,7 @@
 -- What sound notes and runs have: bounds of stages, of the lights and of the recording.
 use Rattle.std.proofs.Common.{◌≡◌, ℕ, zero, suc, ◌+◌, ◌-◌, ◌<◌, ◌≤◌, ◌^◌, Bool, true, false, List}
-use Rattle.std.proofs.Common.{[]}
-use Rattle.std.proofs.Common.{◌∷◌, length, get_or, map, filter, Option, Some, None, refl, sym, ap}
-use Rattle.std.proofs.Common.{◌∙◌}
-use Rattle.std.proofs.Common.{arith, All, nat_lt, is_none, Ok, true≢false, if◌then◌else◌}
+use Rattle.std.proofs.Common.{[], ◌∷◌, length, get_or, map, filter, Option, Some, None, refl, sym}
+use Rattle.std.proofs.Common.{ap, ◌∙◌, arith, All, nat_lt, is_none, Ok, true≢false, if◌then◌else◌}
 use Rattle.std.proofs.Common.{string_bytes, filter_map, IfSome, ◌==◌}
 use Rattle.std.specs.Prelude.{option_map, option_and_then, unwrap_or}
 use Rattle.std.specs.List.{AllByRecursion, list_all, cons_option}
@@ -13,8 +11,7 @@ use Rattle.std.proofs.lemmas.Bool.{ltb-true}
 use Rattle.edf_time.specs.Civil.{window}
 use Rattle.edf_sleep.specs.Stages.{stage_of_text, is_lights_off, is_lights_on}
 use Rattle.edf_sleep.specs.Night.{AreRising, AreOfFile, stated_of, scored_of, stages_of, only}
-use Rattle.edf_sleep.specs.Night.{onsets_of}
-use Rattle.edf_sleep.specs.Night.{Night, lights_of, last_end, recording_of, length_of}
+use Rattle.edf_sleep.specs.Night.{onsets_of, Night, lights_of, last_end, recording_of, length_of}
 use Rattle.edf_sleep.specs.Figures.{efficiency}
 use Rattle.edf_sleep.specs.declared.extent.Extent.{Extent}
 use Rattle.edf_sleep.specs.declared.kind.Kind.{Kind}

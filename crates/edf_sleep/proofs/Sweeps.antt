@@ -1,9 +1,8 @@
 -- Sweeps over stages in order: where one can stop, and what pairs it has seen.
 use Rattle.std.proofs.Common.{◌≡◌, ◌⊎◌, ℕ, zero, suc, ◌+◌, ◌-◌, ◌*◌, ◌^◌, ◌<◌, ◌≤◌, Bool, true}
-use Rattle.std.proofs.Common.{false}
-use Rattle.std.proofs.Common.{◌&&◌, ◌||◌, not, nat_le, nat_lt, min, max, List, [], ◌∷◌, length}
-use Rattle.std.proofs.Common.{get_or}
-use Rattle.std.proofs.Common.{drop, None, inl, inr, refl, sym, ap, ◌∙◌, arith, subst}
+use Rattle.std.proofs.Common.{false, ◌&&◌, ◌||◌, not, nat_le, nat_lt, min, max, List, [], ◌∷◌}
+use Rattle.std.proofs.Common.{length, get_or, drop, None, inl, inr, refl, sym, ap, ◌∙◌, arith}
+use Rattle.std.proofs.Common.{subst}
 use Rattle.std.specs.List.{list_any, AllByRecursion}
 use Rattle.std.specs.List.Sorted.{IsNonDecreasingBy}
 use Rattle.std.proofs.lemmas.Bool.{cases_Bool, le-ltb, lt-leb, and_left, and_right, or_from}

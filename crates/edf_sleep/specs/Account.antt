@@ -7,8 +7,7 @@ use Rattle.edf_sleep.specs.Figures.{is_scored_twice}
 use Rattle.edf_sleep.specs.Pieces.{ArePieces}
 use Rattle.edf_sleep.specs.declared.account.Account.{Account}
 use Rattle.edf_sleep.specs.declared.account.Test.{Test}
-use Rattle.edf_sleep.specs.declared.account.Test.TheVariants.{Is, Sleep, Scored, Unknown}
-use Rattle.edf_sleep.specs.declared.account.Test.TheVariants.{Recorded}
+use Rattle.edf_sleep.specs.declared.account.Test.TheVariants.{Is, Sleep, Scored, Unknown, Recorded}
 use Rattle.edf_sleep.specs.declared.kind.Kind.{Kind}
 use Rattle.edf_sleep.specs.declared.kind.Kind.TheVariants.{Missing}
 use Rattle.edf_sleep.specs.declared.pieces.Piece.{Piece}

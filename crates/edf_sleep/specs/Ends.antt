@@ -1,7 +1,6 @@
 -- How long a stage lasts. All times are nanoseconds.
-use Rattle.std.specs.Prelude.{ℕ, ◌+◌, ◌*◌, ◌^◌, ◌&&◌, ◌||◌, Bool, nat_lt, nat_le, min, List}
-use Rattle.std.specs.Prelude.{[], ◌∷◌, Option, Some, None, is_some, map, filter}
-use Rattle.std.specs.Prelude.{if◌then◌else◌}
+use Rattle.std.specs.Prelude.{ℕ, ◌+◌, ◌*◌, ◌^◌, ◌&&◌, ◌||◌, Bool, nat_lt, nat_le, min, List, []}
+use Rattle.std.specs.Prelude.{◌∷◌, Option, Some, None, is_some, map, filter, if◌then◌else◌}
 use Rattle.std.specs.List.{list_any, list_all}
 use Rattle.edf_sleep.specs.Stages.{is_kind, is_stage}
 use Rattle.edf_sleep.specs.declared.extent.Extent.{Extent}

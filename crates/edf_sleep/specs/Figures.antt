@@ -1,14 +1,12 @@
 -- The figures of a night's sleep. Each is told, or the reason stands in its place. All times are
 -- nanoseconds.
 use Rattle.std.specs.Prelude.{ℕ, zero, suc, ◌+◌, ◌-◌, ◌*◌, ◌^◌, ◌&&◌, ◌||◌, not, Bool, nat_lt}
-use Rattle.std.specs.Prelude.{nat_le, Option, Some, None, is_none, Result, Ok, Err}
-use Rattle.std.specs.Prelude.{if◌then◌else◌}
+use Rattle.std.specs.Prelude.{nat_le, Option, Some, None, is_none, Result, Ok, Err, if◌then◌else◌}
 use Rattle.edf_sleep.specs.Stages.{is_kind, is_sleep, is_scored}
 use Rattle.edf_sleep.specs.Ends.{epoch}
 use Rattle.edf_sleep.specs.Told.{has_two_scorings}
-use Rattle.edf_sleep.specs.Night.{Night, all_of, lights_of, has_several_lights, span_of}
-use Rattle.edf_sleep.specs.Night.{length_of, told_at, time_until, time_from, time_told, time_of}
-use Rattle.edf_sleep.specs.Night.{time_carried}
+use Rattle.edf_sleep.specs.Night.{Night, all_of, lights_of, has_several_lights, span_of, length_of}
+use Rattle.edf_sleep.specs.Night.{told_at, time_until, time_from, time_told, time_of, time_carried}
 use Rattle.edf_sleep.specs.declared.kind.Kind.{Kind}
 use Rattle.edf_sleep.specs.declared.kind.Kind.TheVariants as kind
 use Rattle.edf_sleep.specs.declared.untold.Untold.{Untold}

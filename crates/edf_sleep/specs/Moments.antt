@@ -1,6 +1,5 @@
 -- What is told from the onset of a stage on, until another begins: how it is worked out.
-use Rattle.std.specs.Prelude.{ℕ, ◌+◌, ◌&&◌, Bool, nat_lt, nat_le, max, List, [], ◌∷◌}
-use Rattle.std.specs.Prelude.{if◌then◌else◌}
+use Rattle.std.specs.Prelude.{ℕ, ◌+◌, ◌&&◌, Bool, nat_lt, nat_le, max, List, [], ◌∷◌, if◌then◌else◌}
 use Rattle.edf_sleep.specs.Stages.{is_kind, is_stage}
 use Rattle.edf_sleep.specs.Ends.{epoch}
 use Rattle.edf_sleep.specs.declared.kind.Kind.{Kind}

@@ -1,9 +1,8 @@
 -- What is told of a night, and of which time its figures are. All times are nanoseconds.
 use Rattle.std.specs.Prelude.{ℕ, zero, suc, ◌+◌, ◌-◌, ◌^◌, ◌==◌, ◌||◌, ◌<◌, ◌≤◌, not, Bool, false}
-use Rattle.std.specs.Prelude.{nat_lt}
-use Rattle.std.specs.Prelude.{List, [], ◌∷◌, Option, Some, None, map, filter, filter_map, length}
-use Rattle.std.specs.Prelude.{unwrap_or, option_map, option_and_then, All, IfSome, slice_index_or}
-use Rattle.std.specs.Prelude.{if◌then◌else◌}
+use Rattle.std.specs.Prelude.{nat_lt, List, [], ◌∷◌, Option, Some, None, map, filter, filter_map}
+use Rattle.std.specs.Prelude.{length, unwrap_or, option_map, option_and_then, All, IfSome}
+use Rattle.std.specs.Prelude.{slice_index_or, if◌then◌else◌}
 use Rattle.std.specs.List.{list_all}
 use Rattle.std.specs.String.{string_bytes}
 use Rattle.edf_time.specs.Civil.{window}

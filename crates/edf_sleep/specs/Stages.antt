@@ -3,9 +3,8 @@ use Rattle.std.specs.Prelude.{ℕ, ◌==◌, ◌||◌, not, Bool, List, codes, t
 use Rattle.std.specs.Prelude.{Some, None, is_some, if◌then◌else◌}
 use Rattle.std.specs.Str.{str_eq_ignore_ascii_case}
 use Rattle.edf_sleep.specs.declared.kind.Kind.{Kind}
-use Rattle.edf_sleep.specs.declared.kind.Kind.TheVariants.{Missing, NotScored, NotUnderstood}
-use Rattle.edf_sleep.specs.declared.kind.Kind.TheVariants.{Wake, Rem, One, Two, Three, Nrem}
-use Rattle.edf_sleep.specs.declared.kind.Kind.TheVariants.{Movement}
+use Rattle.edf_sleep.specs.declared.kind.Kind.TheVariants.{Missing, NotScored, NotUnderstood, Wake}
+use Rattle.edf_sleep.specs.declared.kind.Kind.TheVariants.{Rem, One, Two, Three, Nrem, Movement}
 
 -- the number of a kind, which no other has
 abbrev pub kind_number : Kind → ℕ

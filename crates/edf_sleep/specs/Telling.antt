@@ -1,6 +1,5 @@
 -- What is told at an instant, as it is worked out: by stages in order of their onsets.
-use Rattle.std.specs.Prelude.{◌≡◌, ◌≤◌, ◌<◌, ◌||◌, Bool, true, false, List, [], ◌∷◌, ◌++◌}
-use Rattle.std.specs.Prelude.{Contains}
+use Rattle.std.specs.Prelude.{◌≡◌, ◌≤◌, ◌<◌, ◌||◌, Bool, true, false, List, [], ◌∷◌, ◌++◌, Contains}
 use Rattle.edf_sleep.specs.Told.{differ, are_two_scorers}
 use Rattle.edf_sleep.specs.Night.{AreRising}
 use Rattle.edf_sleep.specs.Moments.{nothing, moments_of}

@@ -11,8 +11,7 @@ use Rattle.edf_holdings.specs.Holdings.{Holdings, with_records}
 use Rattle.edf_holdings.proofs.Same.{same_key-Decides}
 use Rattle.edf_rows.proofs.Rows.{one-holdings}
 use Rattle.edf_store.specs.Transaction.{AreSeen, SeesSome, StillSees, HasRowId, AddsNoRecordingIn}
-use Rattle.edf_store.specs.Transaction.{AddsOnlyRecordingIn}
-use Rattle.edf_store.specs.Transaction.{IsAddedIn, EachHasRecordIn}
+use Rattle.edf_store.specs.Transaction.{AddsOnlyRecordingIn, IsAddedIn, EachHasRecordIn}
 use Rattle.edf_holdings.proofs.Sound.{inserted-some}
 
 -- each recording but this one holds a record

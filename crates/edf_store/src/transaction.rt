@@ -9,8 +9,7 @@ ghost use Rattle.edf_store.specs.Transaction.{IsOf, IsFoundOrMade, AreNear, IsNe
 ghost use Rattle.edf_store.specs.Transaction.{IsCountOf, IsCapacityAnswer, MayAddTo, IsAdded};
 ghost use Rattle.edf_store.specs.Transaction.{EachHasRecord};
 ghost use Rattle.edf_store.specs.StoreTx.{IsRunning, KeepsTransaction, ReadsInTransaction, Commits};
-ghost use Rattle.edf_store.specs.StoreTx.{RollsBack};
-ghost use Rattle.edf_store.specs.StoreTx.{HasCauseOrIsUnclean};
+ghost use Rattle.edf_store.specs.StoreTx.{RollsBack, HasCauseOrIsUnclean};
 
 use crate::adding::{add_record, find_or_make};
 use crate::ending::{commit_all, undo};

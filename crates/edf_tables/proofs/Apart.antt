@@ -1,8 +1,7 @@
 -- What a caller derives: no record is at the start where none is near, and an identity names at
 -- most one recording.
-use Rattle.std.proofs.Common.{◌≡◌, ◌≤◌, ℕ, Bool, true, false, List, [], ◌∷◌, filter}
-use Rattle.std.proofs.Common.{length, refl, sym, ◌∙◌, arith, Ordering, Less, Equal}
-use Rattle.std.proofs.Common.{Greater, is_eq, true≢false}
+use Rattle.std.proofs.Common.{◌≡◌, ◌≤◌, ℕ, Bool, true, false, List, [], ◌∷◌, filter, length, refl}
+use Rattle.std.proofs.Common.{sym, ◌∙◌, arith, Ordering, Less, Equal, Greater, is_eq, true≢false}
 use Rattle.std.specs.List.{AllByRecursion}
 use Rattle.std.proofs.lemmas.Cmp.{alike_right}
 use Rattle.sqlite.specs.declared.types.Value.{Value}

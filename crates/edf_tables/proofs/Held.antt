@@ -1,6 +1,5 @@
 -- What one row more makes of the sorted rows, in the words of the statements.
-use Rattle.std.proofs.Common.{◌≡◌, ℕ, ℤ, true, false, List, filter, ap, ◌∙◌}
-use Rattle.std.proofs.Common.{is_eq}
+use Rattle.std.proofs.Common.{◌≡◌, ℕ, ℤ, true, false, List, filter, ap, ◌∙◌, is_eq}
 use Rattle.std.specs.List.{AllByRecursion}
 use Rattle.std.specs.Ordering.{int_cmp}
 use Rattle.std.proofs.lemmas.Cmp.{tied_itself}

@@ -32,8 +32,7 @@ use Rattle.std.specs.List.{AllByRecursion}
 use Rattle.edf_tables.specs.Schema.{recording, records, schema_with, IsOtherTree, HasBoth}
 use Rattle.edf_tables.specs.Others.{KeepsTrees, KeepsOthers}
 use Rattle.edf_tables.proofs.Others.{no_works, others_kept}
-use Rattle.edf_tables.specs.Row.{cells, named_cells, new_row, HasRecord, HasRecording}
-use Rattle.edf_tables.specs.Row.{IsInside}
+use Rattle.edf_tables.specs.Row.{cells, named_cells, new_row, HasRecord, HasRecording, IsInside}
 use Rattle.edf_tables.proofs.Texts.{insert_record_text, insert_record_is, record_terms}
 use Rattle.edf_tables.proofs.Texts.{insert_recording_text, insert_recording_is, recording_terms}
 

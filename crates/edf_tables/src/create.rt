@@ -5,8 +5,7 @@ ghost use Rattle.sqlite.specs.Held.{state};
 ghost use Rattle.sqlite.specs.State.{Survives};
 ghost use Rattle.edf_tables.specs.Columns.{stored_recordings, stored_records};
 ghost use Rattle.edf_tables.specs.Schema.{no_schema, one_schema, both_schema, HasBoth};
-ghost use Rattle.edf_tables.specs.Made.{IsOurs, AreOf, HasFirst, HasTables};
-ghost use Rattle.edf_tables.specs.Made.{KeepsFile, IsMadeOf};
+ghost use Rattle.edf_tables.specs.Made.{IsOurs, AreOf, HasFirst, HasTables, KeepsFile, IsMadeOf};
 ghost use Rattle.edf_tables.specs.Statement.{IfClean, ChangesOnOk, KeepsCommittedOnErr};
 
 use crate::schema::has_both;

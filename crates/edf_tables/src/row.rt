@@ -1,7 +1,6 @@
 //! Rows of SQL values as typed values.
 
-ghost use Rattle.std.specs.Prelude.{◌≡◌, ◌⊎◌, [], pos, Some, IfOk, IfErr, map};
-ghost use Rattle.std.specs.Prelude.{slice_get};
+ghost use Rattle.std.specs.Prelude.{◌≡◌, ◌⊎◌, [], pos, Some, IfOk, IfErr, map, slice_get};
 ghost use Rattle.std.specs.Option.{option_map};
 ghost use Rattle.sqlite.specs.declared.types.Value.TheVariants.{Int, Blob};
 ghost use Rattle.sqlite_value.specs.Order.{column};

@@ -14,10 +14,9 @@ use Rattle.edf_time.specs.Decimal.{IsSeconds, short}
 use Rattle.edf_time.specs.Civil.{window, IsInWindow}
 use Rattle.edf_time.proofs.Cited.{IsSeconds-short}
 use Rattle.edf_tal.specs.Tal.{Tal, Annotation, IsAnnotation, IsTal, IsOnset, IsDurationPart}
-use Rattle.edf_tal.specs.Tal.{terminated}
-use Rattle.edf_tal.specs.Tal.{AreTals, AreTalsAndZeros, HaveUtf8Texts, HasTimeKeepingTal}
-use Rattle.edf_tal.specs.Tal.{IsTalInWindow}
-use Rattle.edf_tal.specs.Tal.{instant, tal_annotations, annotations, record_start}
+use Rattle.edf_tal.specs.Tal.{terminated, AreTals, AreTalsAndZeros, HaveUtf8Texts}
+use Rattle.edf_tal.specs.Tal.{HasTimeKeepingTal, IsTalInWindow, instant, tal_annotations}
+use Rattle.edf_tal.specs.Tal.{annotations, record_start}
 use Rattle.edf_tal.specs.Block.{BlocksParseTo, BlockParsesTo, IsWithinLimits, StartFitsPlace}
 use Rattle.edf_tal.specs.Canonical.{onset_text, duration_text, tal_text, time_keeping, block_text}
 use Rattle.edf_tal.specs.declared.place.Place.{Place}

@@ -22,9 +22,8 @@ use Rattle.edf_tal.specs.declared.place.Place.{Place}
 use Rattle.edf_tal.specs.declared.place.Place.TheVariants.{First, After, Any}
 use Rattle.edf_tal.proofs.Unique.{Lacks-text}
 use Rattle.edf_tal.proofs.Decide.{Front, front}
-use Rattle.edf_tal.proofs.Totals.{after-none, after-more, after-after, front-shorter}
-use Rattle.edf_tal.proofs.Totals.{good-count, survey-none, survey-more, survey-bad, survey-after}
-use Rattle.edf_tal.proofs.Totals.{both-true}
+use Rattle.edf_tal.proofs.Totals.{after-none, after-more, after-after, front-shorter, good-count}
+use Rattle.edf_tal.proofs.Totals.{survey-none, survey-more, survey-bad, survey-after, both-true}
 use Rattle.edf_tal.proofs.Joined.{form-append, form-lists, form-bad, broken-one, broken-front}
 use Rattle.edf_tal.proofs.Joined.{broken-back, surveyed-one, surveyed-none}
 

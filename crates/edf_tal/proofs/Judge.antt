@@ -7,8 +7,7 @@ use Rattle.std.specs.List.{AllByRecursion, flat_map}
 use Rattle.std.proofs.lemmas.Bool.{cases_lt}
 use Rattle.edf_tal.specs.Tal.{Tal, Annotation, AreTalsAndZeros, AreBlocks, first_tals, all_tals}
 use Rattle.edf_tal.specs.Tal.{HaveUtf8Texts, HasTimeKeepingTal, IsTalInWindow, instant}
-use Rattle.edf_tal.specs.Tal.{tal_annotations}
-use Rattle.edf_tal.specs.Tal.{annotations, record_start}
+use Rattle.edf_tal.specs.Tal.{tal_annotations, annotations, record_start}
 use Rattle.edf_tal.specs.Block.{BlocksParseTo, BlockParsesTo, IsWithinLimits, StartFitsPlace}
 use Rattle.edf_tal.specs.Condition.{IsMalformedAt, HaveInvalidUtf8At}
 use Rattle.edf_tal.specs.Block.{BlocksHaveFault, IsFirstBlocksFault, IsFirstBlockFault}

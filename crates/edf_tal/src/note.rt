@@ -1,8 +1,6 @@
-ghost use Rattle.std.specs.Prelude.{◌≡◌, ◌*◌, ◌<◌, ◌↔◌, IsSome, IfSome, string_bytes};
-ghost use Rattle.std.specs.Prelude.{IsTrue};
+ghost use Rattle.std.specs.Prelude.{◌≡◌, ◌*◌, ◌<◌, ◌↔◌, IsSome, IfSome, string_bytes, IsTrue};
 ghost use Rattle.std.specs.Option.{ForSome};
-ghost use Rattle.edf_tal.specs.Tal.{Annotation, IsText};
-ghost use Rattle.edf_tal.specs.Tal.{IsAnnotation};
+ghost use Rattle.edf_tal.specs.Tal.{Annotation, IsText, IsAnnotation};
 ghost use Rattle.edf_time.specs.Civil.{window};
 
 use crate::scan::{TAL_END, TEXT_END};
@@ -24,8 +22,7 @@ pub struct Note {
 
 impl Model for Note {
     ghost use Rattle.std.specs.Prelude.{string_bytes};
-    ghost use Rattle.edf_tal.specs.Tal.{Annotation};
-    ghost use Rattle.edf_tal.specs.Tal.{IsAnnotation};
+    ghost use Rattle.edf_tal.specs.Tal.{Annotation, IsAnnotation};
 
     ghost Value = { Annotation };
 

@@ -5,8 +5,7 @@ use Rattle.std.specs.List.{AllByRecursion}
 use Rattle.std.specs.Str.Parse.{AllDigits}
 use Rattle.std.proofs.lemmas.List.{length-append}
 use Rattle.std.proofs.Math.ListN.{get_or-append}
-use Rattle.edf_time.specs.Decimal.{IsDecimal, IsFine, IsSeconds, IsDecimalFault}
-use Rattle.edf_time.specs.Decimal.{IsDecimalByte}
+use Rattle.edf_time.specs.Decimal.{IsDecimal, IsFine, IsSeconds, IsDecimalFault, IsDecimalByte}
 use Rattle.edf_time.specs.declared.decimal.DecimalFault.{DecimalFault}
 use Rattle.edf_time.specs.declared.decimal.DecimalFault.TheVariants.{Syntax, TooFine, TooLarge}
 use Rattle.edf_time.proofs.Digits.{byte-at, digit_only}

@@ -3,8 +3,7 @@ use Rattle.std.proofs.Common.{◌≡◌, ℕ, zero, suc, ◌+◌, ◌%◌, ◌^�
 use Rattle.std.proofs.Common.{arith, rules, ap, ◌∙◌, ℤ, pos, inl, inr}
 use Rattle.std.specs.List.{AllByRecursion}
 use Rattle.std.specs.Str.Parse.{AllDigits}
-use Rattle.edf_time.specs.Civil.{IsVisible}
-use Rattle.edf_time.specs.Civil.{IsDateField, IsTimeText, IsIdDate, IsInstantText}
+use Rattle.edf_time.specs.Civil.{IsVisible, IsDateField, IsTimeText, IsIdDate, IsInstantText}
 use Rattle.edf_time.specs.Decimal.{fraction_text, fraction_digits}
 use Rattle.edf_time.proofs.Digits.{digit_only}
 use Rattle.edf_time.proofs.Short.{AllDigits-text}

@@ -15,8 +15,7 @@ use Rattle.edf_mend.specs.declared.wanted.Wanted.{Wanted}
 use Rattle.edf_cli.specs.Made.{MadeFile, finished, removed, kept, failed_with}
 use Rattle.edf_cli.specs.Making.{Making}
 use Rattle.edf_cli.specs.There.{There}
-use Rattle.edfmend_command.specs.Run.{IsMendedFile, IsNotMended, CountsWrite}
-use Rattle.edfmend_command.specs.Run.{LeavesPart}
+use Rattle.edfmend_command.specs.Run.{IsMendedFile, IsNotMended, CountsWrite, LeavesPart}
 use Rattle.edfmend_command.specs.Inside.{Surveys, MendsAs, MakesFile, StopsMaking}
 use Rattle.edfmend_command.specs.declared.mend_command.Stop.{Stop}
 

@@ -3,8 +3,7 @@
 ghost use Rattle.std.specs.Prelude.{◌≡◌, ◌++◌, IfOk, option_map};
 ghost use Rattle.std.specs.List.{flat_map};
 ghost use Rattle.edf_cli.specs.Output.{output_change, IsPut, IsWritten};
-ghost use Rattle.edfmend_command.specs.Lines.{form_text, kept_line};
-ghost use Rattle.edfmend_command.specs.Lines.{kept_status};
+ghost use Rattle.edfmend_command.specs.Lines.{form_text, kept_line, kept_status};
 ghost use Rattle.edfmend_command.specs.Run.{SaysWhy};
 
 use edf_cli::{Status, concat, fragment_fault_text, print_parts, put_parts, status_of_number};

@@ -1,8 +1,7 @@
 -- One file more is listed, or its lines are cut.
 use Rattle.std.proofs.Common.{◌≡◌, ◌≢◌, ◌⊎◌, ℕ, List, [], ◌∷◌, ◌++◌, Bool, inl, inr, refl, sym, ap}
 use Rattle.std.proofs.Common.{◌∙◌, subst, arith, replicate, zero, suc, append-nil, append_assoc}
-use Rattle.std.proofs.Common.{◌+◌, ◌<◌, ◌≤◌, length, take, drop, get_or, map, max}
-use Rattle.std.proofs.Common.{take-append-drop}
+use Rattle.std.proofs.Common.{◌+◌, ◌<◌, ◌≤◌, length, take, drop, get_or, map, max, take-append-drop}
 use Rattle.std.proofs.lemmas.List.{map-append, take_more, drop_more}
 use Rattle.std.specs.Prelude.{Option, Result, Ok, Err, MatchResult}
 use Rattle.edf_cli.specs.Output.{OutputChange, Gets, GetsPrefix, IsWritten}

@@ -1,7 +1,6 @@
 -- A list that is walked.
-use Rattle.std.proofs.Common.{◌≡◌, ℕ, ◌+◌, ◌<◌, List, ◌∷◌, ◌++◌, length}
-use Rattle.std.proofs.Common.{take, drop, get_or, map, sym, ap, ◌∙◌, subst, All}
-use Rattle.std.proofs.Common.{take-append-drop}
+use Rattle.std.proofs.Common.{◌≡◌, ℕ, ◌+◌, ◌<◌, List, ◌∷◌, ◌++◌, length, take, drop, get_or, map}
+use Rattle.std.proofs.Common.{sym, ap, ◌∙◌, subst, All, take-append-drop}
 use Rattle.std.proofs.lemmas.List.{take_more, drop_more, get_or-map}
 use Rattle.std.proofs.lemmas.List.Elements.{All-push}
 

@@ -5,8 +5,7 @@ use Rattle.edf_fragment.specs.declared.fault.FragmentFault.TheVariants.{Memory a
 use Rattle.edf_cli.specs.Output.{OutputChange, Gets, IsWritten, Explains}
 use Rattle.edf_cli.specs.declared.status.Status.{Status}
 use Rattle.edf_cli.specs.declared.status.Status.TheVariants.{Done, Refused, Trouble}
-use Rattle.edf_runs.specs.Canonical.{ReadsPlan, IsCanonicalWritten, IsNotCanonical}
-use Rattle.edf_runs.specs.Canonical.{IsToldUnchanged}
+use Rattle.edf_runs.specs.Canonical.{ReadsPlan, IsCanonicalWritten, IsNotCanonical, IsToldUnchanged}
 use Rattle.edf_runs.specs.OnsetRead.{ReadsCrowded}
 use Rattle.edf_runs.specs.PlanByOnset.{ReadsPlanByOnset}
 use Rattle.edf_runs.specs.declared.canonical_plan.CanonicalPlan.{CanonicalPlan}

@@ -2,8 +2,7 @@
 use Rattle.std.specs.Prelude.{◌≡◌, List, [], ℕ, false}
 use Rattle.edf_cli.specs.Made.{MadeFile}
 use Rattle.edf_cli.specs.declared.new_files.FileStage.{FileStage}
-use Rattle.edf_cli.specs.declared.new_files.FileStage.TheVariants.{Begun, Left, Finished}
-use Rattle.edf_cli.specs.declared.new_files.FileStage.TheVariants.{Removed}
+use Rattle.edf_cli.specs.declared.new_files.FileStage.TheVariants.{Begun, Left, Finished, Removed}
 use Rattle.edf_cli.specs.declared.new_files.FileStage.TheVariants.{Kept}
 use Rattle.edfruns_command.specs.Lines.{left_line}
 

@@ -1,7 +1,6 @@
 //! The lines of runs whose files were written.
 
-ghost use Rattle.std.specs.Prelude.{◌≡◌, ◌≤◌, ◌+◌, ◌++◌, ℕ, List, IfOk, codes, length};
-ghost use Rattle.std.specs.Prelude.{slice_get};
+ghost use Rattle.std.specs.Prelude.{◌≡◌, ◌≤◌, ◌+◌, ◌++◌, ℕ, List, IfOk, codes, length, slice_get};
 ghost use Rattle.edfruns_command.specs.Counting.{counts_text};
 ghost use Rattle.edfruns_command.specs.Lines.{IsInstantFormat, run_front};
 

@@ -3,8 +3,7 @@
 ghost use Rattle.std.specs.Prelude.{◌≡◌, ◌≤◌, ℕ, List, IfOk, option_map, slice_get};
 ghost use Rattle.edf_field.specs.Number.{duration_of};
 ghost use Rattle.edfruns_command.specs.Lines.{IsInstantFormat, each_line, end_of, gap_text};
-ghost use Rattle.edfruns_command.specs.Lines.{run_front};
-ghost use Rattle.edfruns_command.specs.Lines.{run_lines};
+ghost use Rattle.edfruns_command.specs.Lines.{run_front, run_lines};
 
 use edf_cli::{concat, spelled};
 use edf_field::MOST_DURATION;

@@ -1,9 +1,7 @@
 //! The names of the files of runs.
 
-ghost use Rattle.std.specs.Prelude.{◌≡◌, ◌++◌, ◌-◌, IfOk, OnOk, map};
-ghost use Rattle.std.specs.Prelude.{string_bytes};
-ghost use Rattle.edfruns_command.specs.Naming.{padded, run_name, run_names};
-ghost use Rattle.edfruns_command.specs.Naming.{first_names};
+ghost use Rattle.std.specs.Prelude.{◌≡◌, ◌++◌, ◌-◌, IfOk, OnOk, map, string_bytes};
+ghost use Rattle.edfruns_command.specs.Naming.{padded, run_name, run_names, first_names};
 
 use std::alloc::{AllocError, Global};
 

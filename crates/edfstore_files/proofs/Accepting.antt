@@ -16,8 +16,7 @@ use Rattle.edf_holdings.proofs.Added.{nothing_is_sound}
 use Rattle.edf_holdings.proofs.Settled.{after-append}
 use Rattle.edf_intake.specs.Refusal.{reply_of}
 use Rattle.edf_intake.specs.Batch.{Turn, IsTurn, some_values, submissions_in, replies_in}
-use Rattle.edf_intake.specs.Batch.{AgreesWith}
-use Rattle.edf_intake.specs.Batch.{IsPossibleReply}
+use Rattle.edf_intake.specs.Batch.{AgreesWith, IsPossibleReply}
 use Rattle.edf_intake.specs.declared.answer.Receipt.{Receipt}
 use Rattle.edfstore_files.specs.Files.{DatabaseHolds, no_table, one_table, both_tables, FilesHold}
 use Rattle.edfstore_files.specs.Turns.{ended, StepsBy}

@@ -18,9 +18,8 @@ use Rattle.edf_intake.proofs.Turns.{told-next, all-next, sound_told}
 use Rattle.edf_export.proofs.Headline.{headline}
 use Rattle.edfstore_files.specs.Files.{FilesHold}
 use Rattle.edfstore_files.specs.Turns.{IsSubmittedPrefix, given_in, PastRun, ended, idle}
-use Rattle.edfstore_files.specs.Turns.{interrupted}
-use Rattle.edfstore_files.specs.Turns.{MaySubmit, LeadsTo, StepsBy, Follow, AreSubmittedBy}
-use Rattle.edfstore_files.specs.Turns.{HeadlineAfterRuns}
+use Rattle.edfstore_files.specs.Turns.{interrupted, MaySubmit, LeadsTo, StepsBy, Follow}
+use Rattle.edfstore_files.specs.Turns.{AreSubmittedBy, HeadlineAfterRuns}
 
 -- ---- what turns told is sound
 

@@ -40,17 +40,14 @@ use Rattle.edfstore_files.specs.ProgramRun.{ProgramRun}
 use Rattle.edfstore_files.specs.Turns.{IsSubmittedPrefix, ended, MaySubmit, StepsBy}
 use Rattle.edfstore_files.specs.Turns.{HeadlineAfterRuns}
 use Rattle.edfstore_files.specs.Close.{AreReleased, IsClosePrinted, IsDiskClean, AreClosed}
-use Rattle.edfstore_files.specs.Close.{AreReleasedUnclosed, MayHold}
-use Rattle.edfstore_files.specs.Close.{Across}
-use Rattle.edfstore_files.specs.Close.{IsRunDone, IsRefused}
+use Rattle.edfstore_files.specs.Close.{AreReleasedUnclosed, MayHold, Across, IsRunDone, IsRefused}
 use Rattle.edfstore_files.specs.declared.session.EndedRun.{EndedRun}
 use Rattle.edfstore_files.proofs.Chains.{result}
 use Rattle.edf_cli.proofs.Undone.{trouble-told}
 use Rattle.edfstore_files.proofs.Idle.{still}
 use Rattle.edfstore_files.proofs.Keeping.{found_keeps, own_keeps, kept_is_own, keeps_once, read_as}
 use Rattle.edfstore_files.proofs.LetGo.{LeavesEach, leads, rows_left, ends_in, clean_last}
-use Rattle.edfstore_files.proofs.LetGo.{as_it_was}
-use Rattle.edfstore_files.proofs.LetGo.{still_keeps}
+use Rattle.edfstore_files.proofs.LetGo.{as_it_was, still_keeps}
 use Rattle.edfstore_files.proofs.Working.{Works, Returns, crash, holds_first, was_clean}
 use Rattle.edfstore_files.proofs.Working.{keeps_last, others_last}
 

@@ -26,8 +26,7 @@ use Rattle.edf_rows.proofs.Rows.{one-holdings, not-foreign}
 use Rattle.edf_store.specs.Held.{StoreModel, at, Holds}
 use Rattle.edf_store.specs.Open.{IsOpened}
 use Rattle.edfstore_files.specs.Files.{DatabaseHolds, no_table, one_table, both_tables, TreesHold}
-use Rattle.edfstore_files.specs.Files.{FilesHold}
-use Rattle.edfstore_files.specs.Files.{AreReadAs}
+use Rattle.edfstore_files.specs.Files.{FilesHold, AreReadAs}
 use Rattle.edfstore_files.proofs.Schemas.{schema_once, unlisted, kept_schema}
 use Rattle.edfstore_files.proofs.Nothing.{nothing_found, nothing_kept}
 

@@ -35,8 +35,7 @@ use Rattle.edf_cli.specs.declared.status.Status.{Status}
 use Rattle.edf_cli.specs.declared.status.Status.TheVariants.{Trouble}
 use Rattle.edfstore_files.specs.Files.{DatabaseHolds, TreesHold, FilesHold, AreReadAs}
 use Rattle.edfstore_files.specs.Turns.{TakesTurns, IsSubmittedPrefix, LeadsTo, PastRun, StepsBy}
-use Rattle.edfstore_files.specs.Turns.{Follow}
-use Rattle.edfstore_files.specs.Turns.{ended, idle, HeadlineAfterRuns}
+use Rattle.edfstore_files.specs.Turns.{Follow, ended, idle, HeadlineAfterRuns}
 use Rattle.edfstore_files.specs.ProgramRun.{ProgramRun, Refuses, was_opened}
 use Rattle.edfstore_files.specs.declared.session.EndedRun.{EndedRun}
 

@@ -17,13 +17,11 @@ use Rattle.edf_store.specs.Transaction.{EachHasRecord}
 use Rattle.edf_store.specs.StoreTx.{HasCauseOrIsUnclean}
 use Rattle.edf_store.specs.declared.transaction.StoreTx.{StoreTx}
 use Rattle.edf_fragment.specs.Call.{InputState}
-use Rattle.edf_intake.specs.Input.{ReadsWhole, ReadsFault, FailsToRead, ReadsSome}
-use Rattle.edf_intake.specs.Input.{RunsOutOfMemory}
+use Rattle.edf_intake.specs.Input.{ReadsWhole, ReadsFault, FailsToRead, ReadsSome, RunsOutOfMemory}
 use Rattle.edf_intake.specs.Inside.Verdict.{IsSpareInside, AreFindings}
 use Rattle.edf_intake.specs.declared.answer.Receipt.{Receipt}
 use Rattle.edf_intake.specs.declared.answer.Refusal.{Refusal}
-use Rattle.edf_intake.specs.Refusal.{Cause, OfForm, OfConflict, OfRead, OfMemory, OfStore}
-use Rattle.edf_intake.specs.Refusal.{cause}
+use Rattle.edf_intake.specs.Refusal.{Cause, OfForm, OfConflict, OfRead, OfMemory, OfStore, cause}
 use Rattle.edf_intake.specs.declared.answer.Stop.{Stop}
 use Rattle.edf_intake.specs.declared.answer.Stop.TheVariants.{Input, Store}
 use Rattle.edf_intake.specs.declared.data_records.Destination.{Destination}

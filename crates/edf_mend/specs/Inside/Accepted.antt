@@ -3,8 +3,7 @@ use Rattle.std.specs.Prelude.{◌≡◌, ◌≢◌, ◌⊎◌, List, ℕ, [], So
 use Rattle.edf_header.specs.Header.{HeaderRecord, IsHeader, Layout, layout_of}
 use Rattle.edf_fragment.specs.Fault.{IsFirstFault}
 use Rattle.edf_fragment.specs.Fragment.{DataRecord}
-use Rattle.edf_fragment.specs.Reading.{initial_progress, IsNextFault, ReadsRecord}
-use Rattle.edf_fragment.specs.Reading.{progress_after}
+use Rattle.edf_fragment.specs.Reading.{initial_progress, IsNextFault, ReadsRecord, progress_after}
 use Rattle.std.specs.Prelude.{Ok}
 use Rattle.edf_fragment.specs.declared.advance.Progress.{Progress}
 use Rattle.edf_fragment.specs.declared.fault.FragmentFault.{FragmentFault}

@@ -1,8 +1,7 @@
 -- Words of private contracts: data records, carried over one after another.
 use Rattle.std.specs.Prelude.{◌≡◌, ◌≢◌, ◌⊎◌, ◌↔◌, ℕ, ◌+◌, ◌-◌, ◌*◌, ◌%◌, ◌^◌, ◌≤◌, ◌<◌, min, max}
-use Rattle.std.specs.Prelude.{List, [], ◌∷◌, ◌++◌}
-use Rattle.std.specs.Prelude.{length, sum_by, All, Option, Some, None, Bool, true, false, IsTrue}
-use Rattle.std.specs.Prelude.{Result}
+use Rattle.std.specs.Prelude.{List, [], ◌∷◌, ◌++◌, length, sum_by, All, Option, Some, None, Bool}
+use Rattle.std.specs.Prelude.{true, false, IsTrue, Result}
 use Rattle.std.specs.Io.KnownBytes.{Consumes, Appends, IsAtEnd}
 use Rattle.edf_header.specs.Header.{Layout, least_records, most_records}
 use Rattle.edf_tal.specs.declared.place.Place.{Place}

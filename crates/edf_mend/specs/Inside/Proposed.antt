@@ -1,8 +1,7 @@
 -- Words of private contracts: the texts that a rule proposes for fields, and what the gate makes of
 -- a header by them.
-use Rattle.std.specs.Prelude.{◌≡◌, ℕ, zero, suc, List, [], ◌∷◌, ◌++◌, length, Contains}
-use Rattle.std.specs.Prelude.{Option, Some, None}
-use Rattle.std.specs.Prelude.{Bool, true, false, if◌then◌else◌}
+use Rattle.std.specs.Prelude.{◌≡◌, ℕ, zero, suc, List, [], ◌∷◌, ◌++◌, length, Contains, Option}
+use Rattle.std.specs.Prelude.{Some, None, Bool, true, false, if◌then◌else◌}
 use Rattle.std.specs.List.{AllZip}
 use Rattle.edf_mend.specs.Header.{HeaderTexts, fitted, spaced}
 use Rattle.edf_mend.specs.Letters.{ascii}

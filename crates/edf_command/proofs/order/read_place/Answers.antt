@@ -1,6 +1,5 @@
 use Rattle.std.proofs.Common.{rules}
-use Rattle.edf_command.proofs.Places.{empty_no_plus, has_no_plus, no_place, no_plus}
-use Rattle.edf_command.proofs.Places.{some_place}
+use Rattle.edf_command.proofs.Places.{empty_no_plus, has_no_plus, no_place, no_plus, some_place}
 use Rattle.edf_command.proofs.order.read_place.Goals as goal
 
 pub returns-else-place-eq0 : goal.returns-else-place-eq0

@@ -1,5 +1,4 @@
-use Rattle.std.proofs.Common.{rules, arith, ◌≡◌, ◌∙◌, ◌++◌, ap, subst, refl, take, length}
-use Rattle.std.proofs.Common.{List, ℕ}
+use Rattle.std.proofs.Common.{rules, arith, ◌≡◌, ◌∙◌, ◌++◌, ap, subst, refl, take, length, List, ℕ}
 use Rattle.std.proofs.lemmas.List.{length-take}
 use Rattle.edf_header.specs.Header.{Layout, IsLayout}
 use Rattle.edf_canonical.specs.Output.{buffered}

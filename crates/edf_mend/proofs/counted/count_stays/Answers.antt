@@ -1,5 +1,4 @@
-use Rattle.std.proofs.Common.{rules, arith, ◌≡◌, ◌∙◌, ◌*◌, ◌<◌, sym, subst, ℕ}
-use Rattle.std.proofs.Common.{true≢false, refl}
+use Rattle.std.proofs.Common.{rules, arith, ◌≡◌, ◌∙◌, ◌*◌, ◌<◌, sym, subst, ℕ, true≢false, refl}
 use Rattle.std.specs.Prelude.{IsTrue, ◌↔◌}
 use Rattle.edf_mend.specs.Counted.{AreZerosFrom}
 use Rattle.edf_mend.proofs.CountCases.{known, stays-unnamed, stays-named, place-within}

@@ -1,5 +1,4 @@
-use Rattle.std.proofs.Common.{rules, arith, ◌∙◌, ◌+◌, ◌*◌, sym, true≢false, ℕ, List}
-use Rattle.std.proofs.Common.{length, subst}
+use Rattle.std.proofs.Common.{rules, arith, ◌∙◌, ◌+◌, ◌*◌, sym, true≢false, ℕ, List, length, subst}
 use Rattle.edf_field.specs.Number.{IsNumber}
 use Rattle.edf_mend.proofs.GoodSignals.{size-all, miscounted, other-total}
 use Rattle.edf_mend.proofs.counted.is_miscounted.Goals as goal

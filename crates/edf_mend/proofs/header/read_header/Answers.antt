@@ -1,5 +1,4 @@
-use Rattle.std.proofs.Common.{rules, ◌≡◌, ◌∙◌, ◌++◌, ◌*◌, sym, subst, refl, take}
-use Rattle.std.proofs.Common.{length, List, ℕ}
+use Rattle.std.proofs.Common.{rules, ◌≡◌, ◌∙◌, ◌++◌, ◌*◌, sym, subst, refl, take, length, List, ℕ}
 use Rattle.std.proofs.KnownBytes.{Consumes-trans}
 use Rattle.edf_mend.specs.Counts.{CountsFault}
 use Rattle.edf_mend.specs.Header.{texts_of, header_bytes}

@@ -1,6 +1,5 @@
 use Rattle.std.proofs.Common.{rules, arith, ◌≡◌, ◌≤◌, ◌++◌, ◌∙◌, sym, ap, subst, List, ℕ, []}
-use Rattle.std.proofs.Common.{length}
-use Rattle.std.proofs.Common.{Option, Some}
+use Rattle.std.proofs.Common.{length, Option, Some}
 use Rattle.std.specs.Prelude.{MatchOption}
 use Rattle.edf_fragment.specs.Fault.{IsFirstFault}
 use Rattle.edf_fragment.specs.declared.fault.FragmentFault.{FragmentFault}
@@ -15,14 +14,12 @@ use Rattle.edf_mend.specs.declared.fault.MendFault.TheVariants.{Refused}
 use Rattle.edf_mend.proofs.AnswersOf.{reads-more, writes-none}
 use Rattle.edf_mend.proofs.FrontFile.{front-last}
 use Rattle.edf_mend.proofs.MendingSteps.{err-gives, err-is, err-answers, memory-counts}
-use Rattle.edf_mend.proofs.MendingSteps.{quiet-counts}
-use Rattle.edf_mend.proofs.MendingSteps.{objection-quiet, calls-read, read-then}
+use Rattle.edf_mend.proofs.MendingSteps.{quiet-counts, objection-quiet, calls-read, read-then}
 use Rattle.edf_mend.proofs.MendingWhole.{refused-so, total-so, copied-so, header-refuses, few-read}
 use Rattle.edf_mend.proofs.MendingWhole.{IsOther, other-refuses, other-same, other-counts}
 use Rattle.edf_mend.proofs.MendingWhole.{asked-refuses, asked-same, memory-so, memory-same}
-use Rattle.edf_mend.proofs.MendingWhole.{memory-trouble}
-use Rattle.edf_mend.proofs.MendingWhole.{mended-last, refused-last, same-last, total-last}
-use Rattle.edf_mend.proofs.MendingWhole.{copied-last}
+use Rattle.edf_mend.proofs.MendingWhole.{memory-trouble, mended-last, refused-last, same-last}
+use Rattle.edf_mend.proofs.MendingWhole.{total-last, copied-last}
 use Rattle.edf_mend.proofs.ReadingOn.{body-begins}
 use Rattle.edf_mend.proofs.mending.mend.Goals as goal
 

@@ -5,9 +5,8 @@ use Rattle.edf_mend.specs.declared.fault.MendFault.{MendFault}
 use Rattle.edf_mend.proofs.AnswersOf.{rests}
 use Rattle.edf_mend.proofs.CarryingSteps.{on-err}
 use Rattle.edf_mend.proofs.MendingSteps.{err-gives, err-is, err-answers, out-call, counts-put}
-use Rattle.edf_mend.proofs.MendingSteps.{shape-fits}
-use Rattle.edf_mend.proofs.MendingSteps.{put-grows, flush-grows, wrote-then, then-wrote, writes}
-use Rattle.edf_mend.proofs.MendingSteps.{refuses, faulty, file-quiet, quiet-counts}
+use Rattle.edf_mend.proofs.MendingSteps.{shape-fits, put-grows, flush-grows, wrote-then, then-wrote}
+use Rattle.edf_mend.proofs.MendingSteps.{writes, refuses, faulty, file-quiet, quiet-counts}
 use Rattle.edf_mend.proofs.StoppedFile.{stops-first, stops-carrying, stops-behind}
 use Rattle.edf_mend.proofs.mending.write_mended.Goals as goal
 

@@ -1,20 +1,17 @@
-use Rattle.std.proofs.Common.{rules, arith, refl, sym, ◌∙◌, ◌≡◌, ◌⊎◌, ◌+◌, ℕ}
-use Rattle.std.proofs.Common.{Option, Bool}
-use Rattle.std.proofs.Common.{true, false, inl, inr, subst, is_some, length}
+use Rattle.std.proofs.Common.{rules, arith, refl, sym, ◌∙◌, ◌≡◌, ◌⊎◌, ◌+◌, ℕ, Option, Bool, true}
+use Rattle.std.proofs.Common.{false, inl, inr, subst, is_some, length}
 use Rattle.std.specs.Prelude.{IsTrue, IfSome, ◌↔◌}
 use Rattle.edf_field.specs.Number.{duration_of}
 use Rattle.edf_mend.specs.Inside.Followed.{BelongsAt}
 use Rattle.edf_mend.specs.declared.records.Starts.{Starts}
 use Rattle.edf_mend.specs.declared.retiming.Moved.{Moved}
 use Rattle.edf_mend.proofs.FollowedStarts.{IsNext, IsTaken, GoesOn, FindsMove, followed-more}
-use Rattle.edf_mend.proofs.FollowedStarts.{told-more}
-use Rattle.edf_mend.proofs.FollowedStarts.{or-is, and-is, moved-len}
+use Rattle.edf_mend.proofs.FollowedStarts.{told-more, or-is, and-is, moved-len}
 use Rattle.edf_mend.proofs.records.follow_start.Goals as goal
 use Rattle.edf_mend.proofs.records.follow_start.Goals.{then-starts+in_ok-found, else-starts}
 use Rattle.edf_mend.proofs.records.follow_start.Goals.{then-starts-eq0, else-starts-eq0}
-use Rattle.edf_mend.proofs.records.follow_start.Goals.{then-starts-2, else-starts-2}
-use Rattle.edf_mend.proofs.records.follow_start.Goals.{then-starts-3, else-starts-3}
-use Rattle.edf_mend.proofs.records.follow_start.Goals.{then-starts-4, else-starts-4}
+use Rattle.edf_mend.proofs.records.follow_start.Goals.{then-starts-2, else-starts-2, then-starts-3}
+use Rattle.edf_mend.proofs.records.follow_start.Goals.{else-starts-3, then-starts-4, else-starts-4}
 
 -- what was found, of starts that may be told anew
 finds : (c : goal.Joined-starts-4) → IsTrue c.args.starts.now.may_be_retold →

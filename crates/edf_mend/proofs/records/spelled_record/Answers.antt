@@ -1,6 +1,5 @@
-use Rattle.std.proofs.Common.{arith, sym, ap, ◌∙◌, ◌≡◌, ◌+◌, ◌++◌, ◌<◌}
-use Rattle.std.proofs.Common.{inl, inr}
-use Rattle.std.proofs.Common.{length, List, ℕ, subst, length-append, Vec, Global, take_at, drop}
+use Rattle.std.proofs.Common.{arith, sym, ap, ◌∙◌, ◌≡◌, ◌+◌, ◌++◌, ◌<◌, inl, inr, length, List, ℕ}
+use Rattle.std.proofs.Common.{subst, length-append, Vec, Global, take_at, drop}
 use Rattle.edf_field.specs.Number.{duration_of}
 use Rattle.edf_mend.specs.Carried.{IsCarried}
 use Rattle.edf_mend.specs.Rewritten.{RecordEdits}

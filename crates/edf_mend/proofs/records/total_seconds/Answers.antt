@@ -1,6 +1,5 @@
-use Rattle.std.proofs.Common.{arith, refl, ap, ◌∙◌, ◌≡◌, ◌+◌, ◌*◌, ◌++◌, ◌/◌, ◌%◌, ◌^◌}
-use Rattle.std.proofs.Common.{length, drop}
-use Rattle.std.proofs.Common.{List, ℕ, Vec, Global}
+use Rattle.std.proofs.Common.{arith, refl, ap, ◌∙◌, ◌≡◌, ◌+◌, ◌*◌, ◌++◌, ◌/◌, ◌%◌, ◌^◌, length}
+use Rattle.std.proofs.Common.{drop, List, ℕ, Vec, Global}
 use Rattle.std.specs.Fmt.{decimal}
 use Rattle.edf_time.specs.Decimal.{short}
 use Rattle.edf_mend.proofs.NewBlocks.{parts-fit, whole-fits, some-short, seconds-text}

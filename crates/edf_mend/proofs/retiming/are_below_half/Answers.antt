@@ -1,5 +1,4 @@
-use Rattle.std.proofs.Common.{arith, length, ◌/◌, ◌≡◌, [], subst, sym, refl, ◌∙◌}
-use Rattle.std.proofs.Common.{true, false}
+use Rattle.std.proofs.Common.{arith, length, ◌/◌, ◌≡◌, [], subst, sym, refl, ◌∙◌, true, false}
 use Rattle.std.proofs.lemmas.List.Elements.{All-get_or}
 use Rattle.edf_header.specs.Signal.{rows_of, HasSamples}
 use Rattle.edf_header.proofs.RowSteps.{good-more, all-good, length-rows, row-one}

@@ -1,6 +1,5 @@
-use Rattle.std.proofs.Common.{rules, arith, ap, ◌≡◌, ◌++◌, ◌-◌, length}
-use Rattle.std.proofs.Common.{replicate}
-use Rattle.std.proofs.Common.{List, ℕ, length-append}
+use Rattle.std.proofs.Common.{rules, arith, ap, ◌≡◌, ◌++◌, ◌-◌, length, replicate, List, ℕ}
+use Rattle.std.proofs.Common.{length-append}
 use Rattle.std.proofs.lemmas.List.{length-replicate}
 use Rattle.edf_mend.proofs.Onsets.{gets-onset, no-room}
 use Rattle.edf_mend.proofs.retiming.moved_block.Goals as goal

@@ -1,5 +1,4 @@
-use Rattle.std.proofs.Common.{arith, refl, ◌≡◌, ap, sym, ◌∙◌, subst, List, ℕ, Bool, true}
-use Rattle.std.proofs.Common.{false}
+use Rattle.std.proofs.Common.{arith, refl, ◌≡◌, ap, sym, ◌∙◌, subst, List, ℕ, Bool, true, false}
 use Rattle.std.proofs.Common.{not, eqb, eq-eqb}
 use Rattle.std.proofs.lemmas.Bool.{eqb-true}
 use Rattle.edf_tal.specs.Block.{BlockParsesTo}

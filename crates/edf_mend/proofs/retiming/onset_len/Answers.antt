@@ -1,5 +1,4 @@
-use Rattle.std.proofs.Common.{arith, ◌≢◌, inl, inr, sym, subst, take}
-use Rattle.std.proofs.Common.{slice_index_or}
+use Rattle.std.proofs.Common.{arith, ◌≢◌, inl, inr, sym, subst, take, slice_index_or}
 use Rattle.std.proofs.lemmas.List.{take_more, take_all}
 use Rattle.edf_mend.proofs.Onsets.{NoMark, IsMark, mark-at, mark-more, no-onset}
 use Rattle.edf_mend.proofs.retiming.onset_len.Goals as goal

@@ -1,6 +1,5 @@
-use Rattle.std.proofs.Common.{arith, ◌≡◌, ◌++◌, ◌∷◌, [], ◌-◌, ◌<◌, List, ℕ, sym}
-use Rattle.std.proofs.Common.{ap, ◌∙◌}
-use Rattle.std.proofs.Common.{subst, append_assoc, true, false}
+use Rattle.std.proofs.Common.{arith, ◌≡◌, ◌++◌, ◌∷◌, [], ◌-◌, ◌<◌, List, ℕ, sym, ap, ◌∙◌, subst}
+use Rattle.std.proofs.Common.{append_assoc, true, false}
 use Rattle.edf_time.specs.Decimal.{short}
 use Rattle.edf_mend.specs.Inside.Retimings.{GetsOnset, ReadsBoth, IsCutAt}
 use Rattle.edf_mend.specs.Retimed.{IsBelowHalfSample}

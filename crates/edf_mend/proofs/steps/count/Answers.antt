@@ -1,7 +1,6 @@
 use Rattle.std.proofs.Common.{◌+◌, eqb, sym, refl, true≢false, arith}
 use Rattle.std.proofs.lemmas.Result.{on_ok_weaker}
-use Rattle.edf_mend.proofs.ByCalls.{got-told}
-use Rattle.edf_mend.proofs.ByCalls.{count-stays-by, count-goes-by}
+use Rattle.edf_mend.proofs.ByCalls.{got-told, count-stays-by, count-goes-by}
 use Rattle.edf_mend.proofs.steps.count.Goals as goal
 
 pub returns-then-count_stays : goal.returns-then-count_stays

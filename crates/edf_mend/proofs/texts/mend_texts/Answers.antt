@@ -1,6 +1,5 @@
-use Rattle.std.proofs.Common.{arith, ◌≡◌, ◌++◌, ◌∷◌, [], ◌==◌, length, List, ℕ, Bool}
-use Rattle.std.proofs.Common.{true}
-use Rattle.std.proofs.Common.{subst, sym, ap, ◌∙◌, vec_len, is_ok, not, if◌then◌else◌}
+use Rattle.std.proofs.Common.{arith, ◌≡◌, ◌++◌, ◌∷◌, [], ◌==◌, length, List, ℕ, Bool, true, subst}
+use Rattle.std.proofs.Common.{sym, ap, ◌∙◌, vec_len, is_ok, not, if◌then◌else◌}
 use Rattle.edf_header.specs.Header.{AreApart}
 use Rattle.edf_mend.specs.Edits.{Edit}
 use Rattle.edf_mend.specs.Rewritten.{RecordEdits}

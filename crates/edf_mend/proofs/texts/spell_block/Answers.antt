@@ -1,6 +1,4 @@
-use Rattle.std.proofs.Common.{rules, refl, sym, ◌≡◌, [], List, ℕ, inl, inr}
-use Rattle.std.proofs.Common.{subst}
-use Rattle.std.proofs.Common.{append-nil}
+use Rattle.std.proofs.Common.{rules, refl, sym, ◌≡◌, [], List, ℕ, inl, inr, subst, append-nil}
 use Rattle.edf_mend.specs.Texts.{IsBlockSpelled, IsBlockTold, block_pairs}
 use Rattle.edf_mend.specs.Told.{edits_from}
 use Rattle.edf_mend.proofs.texts.spell_block.Goals as goal

@@ -1,7 +1,5 @@
-use Rattle.std.proofs.Common.{arith, refl, ap, ◌≡◌, ◌+◌, ◌-◌}
-use Rattle.std.proofs.Common.{◌≤◌}
-use Rattle.std.proofs.Common.{length, drop, List, ℕ, subst, slice_index_or}
-use Rattle.std.proofs.Common.{take, length-take-le}
+use Rattle.std.proofs.Common.{arith, refl, ap, ◌≡◌, ◌+◌, ◌-◌, ◌≤◌, length, drop, List, ℕ, subst}
+use Rattle.std.proofs.Common.{slice_index_or, take, length-take-le}
 use Rattle.std.proofs.lemmas.List.{drop_all, length-drop}
 use borrow.Rule.Slice.PartMut.{put_mid}
 use Rattle.edf_field.specs.Number.{field}

@@ -1,6 +1,5 @@
-use Rattle.std.proofs.Common.{rules, arith, refl, sym, ap, ◌∙◌, ◌≡◌, ◌+◌, ◌++◌, ◌∷◌, ◌-◌}
-use Rattle.std.proofs.Common.{length, take}
-use Rattle.std.proofs.Common.{List, ℕ, [], subst, take_at, length-append}
+use Rattle.std.proofs.Common.{rules, arith, refl, sym, ap, ◌∙◌, ◌≡◌, ◌+◌, ◌++◌, ◌∷◌, ◌-◌, length}
+use Rattle.std.proofs.Common.{take, List, ℕ, [], subst, take_at, length-append}
 use Rattle.edf_mend.specs.Edits.{Edit}
 use Rattle.edf_mend.specs.Texts.{tal_bytes}
 use Rattle.edf_mend.specs.Told.{pair, edits_from}

@@ -1,6 +1,4 @@
-use Rattle.std.proofs.Common.{rules, inl, inr, ◌≡◌, refl, ap, subst, Ok, None}
-use Rattle.std.proofs.Common.{◌∙◌, arith}
-use Rattle.std.proofs.Common.{w64}
+use Rattle.std.proofs.Common.{rules, inl, inr, ◌≡◌, refl, ap, subst, Ok, None, ◌∙◌, arith, w64}
 use Rattle.std.proofs.lemmas.Int.{to_z-of_z}
 use Rattle.std.proofs.lemmas.Result.{err_from_is_err_and}
 use Rattle.sqlite.specs.declared.types.Value.TheVariants.{Int}

@@ -5,8 +5,7 @@ use Rattle.std.proofs.lemmas.Result.{err_from_is_err_and}
 use Rattle.edf_header.specs.Key.{Key, MayStart}
 use Rattle.edf_header.specs.Header.{Layout}
 use Rattle.edf_fragment.proofs.Fragments.{open_refused, fragment_read, records_refused}
-use Rattle.edf_canonical.specs.Measure.{IsMeasured}
-use Rattle.edf_canonical.specs.Measure.{IsMeasuredSoFar}
+use Rattle.edf_canonical.specs.Measure.{IsMeasured, IsMeasuredSoFar}
 use Rattle.edf_runs.proofs.Measuring.{measured_starts}
 use Rattle.edf_runs.proofs.planning.plan_canonical.Goals as goal
 

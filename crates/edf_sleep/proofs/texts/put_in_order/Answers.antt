@@ -1,6 +1,5 @@
 use Rattle.std.proofs.Common.{◌≡◌, ℕ, Bool, true, false, cond, List, [], ◌∷◌, Contains, Bor}
-use Rattle.std.proofs.Common.{bytes_eq, Ordering, Less}
-use Rattle.std.proofs.Common.{map, refl, sym}
+use Rattle.std.proofs.Common.{bytes_eq, Ordering, Less, map, refl, sym}
 use Rattle.std.specs.Ordering.{nat_cmp}
 use Rattle.std.specs.Cmp.Lexicographic.{slice_cmp, nat_list_eq_equiv, on_texts, texts_ties}
 use Rattle.std.specs.Cmp.Lexicographic.{same_text}

@@ -1,5 +1,4 @@
-use Rattle.std.proofs.Common.{arith, ◌∙◌, refl}
-use Rattle.std.proofs.Common.{w64}
+use Rattle.std.proofs.Common.{arith, ◌∙◌, refl, w64}
 use Rattle.std.proofs.lemmas.Int.{to_z-of_z}
 use Rattle.sqlite.specs.Held.{state}
 use Rattle.edf_tables.proofs.Texts.{insert_recording_text, insert_recording_is}

@@ -1,7 +1,6 @@
 use Rattle.std.proofs.Common.{◌≡◌, refl, ap, ◌∙◌, max, length, arith}
 use Rattle.edf_canonical.specs.File.{second_of, samples_of, block_of}
-use Rattle.edf_canonical.proofs.Measures.{samples_hold}
-use Rattle.edf_canonical.proofs.Measures.{more_measured}
+use Rattle.edf_canonical.proofs.Measures.{samples_hold, more_measured}
 use Rattle.edf_canonical.proofs.measure.Measure.with.Goals as goal
 
 pub returns-clause-measured : goal.returns-clause-measured

@@ -1,5 +1,4 @@
-use Rattle.std.proofs.Common.{rules, arith, ◌≡◌, ◌++◌}
-use Rattle.std.proofs.Common.{length-append, true}
+use Rattle.std.proofs.Common.{rules, arith, ◌≡◌, ◌++◌, length-append, true}
 use Rattle.std.specs.Prelude.{is_some, false}
 use Rattle.edf_mend.proofs.Searching.{none-of, pass-known, pass-more}
 use Rattle.edf_mend.proofs.tally.Search.pass_piece.Goals as goal

@@ -1,5 +1,4 @@
-use Rattle.std.proofs.Common.{◌≡◌, ◌∙◌, ℕ, List, [], ◌∷◌, ◌++◌, codes, ap, sym, subst}
-use Rattle.std.proofs.Common.{append_assoc}
+use Rattle.std.proofs.Common.{◌≡◌, ◌∙◌, ℕ, List, [], ◌∷◌, ◌++◌, codes, ap, sym, subst, append_assoc}
 use Rattle.std.specs.Prelude.{decimal}
 use Rattle.edf_cli.specs.Output.{output_change, IsPut}
 use Rattle.edf_serve.proofs.client.ConsoleClient.accept.Goals as goal
