@@ -109,8 +109,8 @@ pub(crate) fn survey_blocks(
     });
     for size in sizes {
         let start = block.len() - rest.len();
-        let (front, back) = rest.split_at(*size);
-        match form_of(front, file_start) {
+        let (prefix, suffix) = rest.split_at(*size);
+        match form_of(prefix, file_start) {
             Ok(next) => form = with_next(form, start, next),
             Err(offset) => {
                 return Err(TalFault::Tal {
@@ -118,7 +118,7 @@ pub(crate) fn survey_blocks(
                 });
             }
         }
-        rest = back;
+        rest = suffix;
     }
     match form {
         Form::Good(sums) => Ok(sums),
@@ -144,9 +144,9 @@ pub(crate) fn push_blocks(
 {
     let mut rest = block;
     for size in sizes {
-        let (front, back) = rest.split_at(*size);
-        push_tals(alloc, list, front, file_start)?;
-        rest = back;
+        let (prefix, suffix) = rest.split_at(*size);
+        push_tals(alloc, list, prefix, file_start)?;
+        rest = suffix;
     }
     Ok(())
 }

@@ -72,9 +72,9 @@ fn spans(bytes: &[u8]) -> Option<(u64, Option<u64>)>
             let onset = capped_seconds(bytes)?;
             Some((onset, None))
         }
-        Some((front, back)) => {
-            let onset = capped_seconds(front)?;
-            let duration = capped_seconds(back)?;
+        Some((prefix, suffix)) => {
+            let onset = capped_seconds(prefix)?;
+            let duration = capped_seconds(suffix)?;
             Some((onset, Some(duration)))
         }
     }

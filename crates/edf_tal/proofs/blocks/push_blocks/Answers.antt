@@ -9,7 +9,7 @@ the-next : (c : After-split_at) →
 the-next c =
     next-block c.args.sizes.now c.loop-size.size-index c.loop-size.rest.now c.split_at.result.0.now
     c.split_at.result.1.now c.loop-size-test.true
-    c.loop-size.invariant.room c.split_at.ensures.prefix c.split_at.ensures.suffix
+    c.loop-size.invariant.room c.split_at.ensures.front c.split_at.ensures.back
 
 pub push_tals-requires : goal.push_tals-requires
 push_tals-requires c =

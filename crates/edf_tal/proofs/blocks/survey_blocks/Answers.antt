@@ -15,7 +15,7 @@ the-next : (c : After-split_at) →
 the-next c =
     next-block c.args.sizes.now c.loop-size.size-index c.loop-size.rest.now c.split_at.result.0.now
     c.split_at.result.1.now c.loop-size-test.true
-    c.loop-size.invariant.left c.split_at.ensures.prefix c.split_at.ensures.suffix
+    c.loop-size.invariant.left c.split_at.ensures.front c.split_at.ensures.back
 
 pub with_next-form-requires : goal.with_next-form-requires
 with_next-form-requires c =

@@ -16,8 +16,8 @@ the-first : (c : After-split_at) (p : Place) (start : ℕ) (list : List Annotati
     list
 the-first c p start list r =
     let parts = cut-split c.args.sizes.now c.args.block.now c.split_at.result.0.now
-    c.split_at.result.1.now c.requires.sizes.some c.split_at.ensures.prefix
-    c.split_at.ensures.suffix in
+    c.split_at.result.1.now c.requires.sizes.some c.split_at.ensures.front
+    c.split_at.ensures.back in
     has-first c.args.file_start p c.split_at.result.0.now _ start list
     (subst (λ (bs : List (List ℕ)). BlocksParseTo bs c.args.file_start p start list) parts r)
 
