@@ -1,20 +1,21 @@
 """Runs the gate and samples what it costs, by crate and kind of work.
 
-    python3 -m bench.gate [--anew] [--processors N,N] [--every SECONDS] [--by FILE]
+    python3 -m bench.gate [--processors N,N] [--every SECONDS] [--by FILE]
                           [--pid PID | COMMAND...]
 
-The command is `.ci/run` of this clone where none is given. Some builds of the toolchain keep what a
-run passed, and do not do it again: there --anew, by which the command is `.ci/run --anew`, begins
-from nothing. The others always do, and do not know the word. --processors 0,1 runs the command on
-those two alone. --pid looks at a run that has begun already, from now on.
+The command is `rt ci` where none is given; `.ci/run` runs it so. Some builds of the toolchain keep
+what a run passed, and do not do it again: there `rt ci --anew` begins from nothing. The others
+always do, and do not know the word. --processors 0,1 runs the command on those two alone. --pid
+looks at a run that has begun already, from now on.
 
 Each second the processor time of each process below the command is read from /proc, so a process
 that ended between two looks lacks up to that second. The line "in all" lacks nothing: it is what
 the system says of the command and all below it. The kinds are the proof of a crate, that of its
 tests with their build, its edits that must fail, the builds by the two compilers, and the runs of
-programs and tests. Before and after stands what twenty million additions take in Python (in a
-function, of the processor): it tells a fast hour of the host from a slow one. --by writes lines of
-crate, kind and seconds, with a tab between, to a file too.
+programs and tests. Below stands the whole by the proof of the five lowest crates, by which hosts
+compare. Before and after stands what twenty million additions take in Python (in a function, of
+the processor): it tells a fast hour of the host from a slow one. --by writes lines of crate, kind
+and seconds, with a tab between, to a file too.
 """
 import argparse
 import os
@@ -32,6 +33,7 @@ from checks.lib.measure import loop
 PROOF, TESTS, EDITS, BUILDS, RUNS, ITSELF = KINDS = (
     "proof", "tests", "edits", "builds", "runs", "rt itself")
 ANY = "(any)"           # the crate of what works on none, or on all
+LOWEST = "edf_time", "edf_field", "edf_header", "edf_tal", "edf_fragment"
 TICK = os.sysconf("SC_CLK_TCK")
 
 
@@ -126,21 +128,27 @@ def table(found: dict) -> str:
     return "\n".join(lines)
 
 
+def by_lowest(found: dict) -> str:
+    """How often the proof seconds of the five lowest crates are in all seconds."""
+    lowest = sum(found.get(Work(crate, PROOF), 0) for crate in LOWEST)
+    if not lowest:
+        return "none of the lowest crates was proved"
+    times = sum(found.values()) / lowest
+    return f"all is {times:.1f} times the proof of {', '.join(LOWEST)} ({lowest:.0f} seconds)"
+
+
 def numbers(word: str) -> set:
     return {int(number) for number in word.split(",")}
 
 
 def read() -> argparse.Namespace:
     parser = arguments.Parser(__doc__, programs=())
-    parser.add_argument("--anew", action="store_true", help="begin from nothing")
     parser.add_argument("--processors", type=numbers, metavar="N,N", help="run on these alone")
     parser.add_argument("--every", type=float, default=1.0, metavar="SECONDS")
     parser.add_argument("--by", type=arguments.path, metavar="FILE")
     parser.add_argument("--pid", type=int)
     parser.add_argument("command", nargs="...", metavar="COMMAND")
     given = parser.read()
-    if given.anew and (given.pid or given.command):
-        parser.error("--anew is for .ci/run alone")
     if given.pid and (given.processors or given.command):
         parser.error("--pid starts no command")
     return given
@@ -152,8 +160,7 @@ def started(given: argparse.Namespace) -> subprocess.Popen:
         if given.processors:
             os.sched_setaffinity(0, given.processors)
 
-    own = [arguments.TOP / ".ci/run", *(["--anew"] if given.anew else [])]
-    return subprocess.Popen(given.command or own, preexec_fn=settle)
+    return subprocess.Popen(given.command or ["rt", "ci"], preexec_fn=settle)
 
 
 def main() -> int:
@@ -167,7 +174,8 @@ def main() -> int:
         time.sleep(given.every)
     clock, found = time.perf_counter() - begun, sampler.by_work()
     print(table(found))
-    print(f"\n{clock / 60:.0f} minutes of clock on {processors} processors; sampled "
+    print(f"\n{by_lowest(found)}")
+    print(f"{clock / 60:.0f} minutes of clock on {processors} processors; sampled "
           f"{sum(found.values()) / 60:.0f} processor minutes")
     if child:
         spent = resource.getrusage(resource.RUSAGE_CHILDREN)
