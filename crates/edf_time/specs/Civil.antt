@@ -1,4 +1,4 @@
--- Civil days and clock readings, and the texts that name them.
+-- Texts name civil days and clock readings.
 use Rattle.std.specs.Prelude.{◌≡◌, ◌⊎◌, ℕ, ◌+◌, ◌-◌, ◌*◌, ◌/◌, ◌%◌, ◌^◌, ◌≤◌, List, [], ◌∷◌, ◌++◌}
 use Rattle.std.specs.Prelude.{ℤ, pos, ◌+ℤ◌, ◌≤ℤ◌, ◌<ℤ◌, take, drop, codes, Option, Some, None}
 use Rattle.jiff_core.specs.Calendar.{IsCivilDate, days_from_civil}
@@ -6,55 +6,55 @@ use Rattle.edf_time.specs.Decimal.{fraction_text}
 use Rattle.edf_time.specs.declared.civil.StartFault.{StartFault}
 use Rattle.edf_time.specs.declared.civil.StartFault.TheVariants.{Date, Time, Differs}
 
--- the length of the window, from 1985-01-01 00:00:00 to the end of the year 2184: in days, and in
--- nanoseconds
+-- The window reaches from 1985-01-01 00:00:00 to the end of the year 2184, this many days.
 abbrev pub window_days : ℕ
 window_days = 73_049
 
+-- The window has this many nanoseconds.
 abbrev pub window : ℕ
 window = window_days * 86_400 * 10 ^ 9
 
--- the part of it whose years a startdate can name by two digits: 1985 to 2084
+-- A startdate can name the years 1985 to 2084 by two digits: these are the window's first days.
 abbrev pub two_digit_days : ℕ
 two_digit_days = 36_525
 
 abbrev pub two_digit_window : ℕ
 two_digit_window = two_digit_days * 86_400 * 10 ^ 9
 
--- a moment, counted in nanoseconds from 1985-01-01 00:00:00, lies in the window
+-- A moment, counted in nanoseconds from 1985-01-01 00:00:00, lies in the window.
 pub record IsInWindow (moment : ℤ) : Type 0 where
   pub from : pos 0 ≤ℤ moment
   pub to : moment <ℤ pos window
 
--- the day of an instant, counted from 1985-01-01
+-- An instant lies on this day, counted from 1985-01-01.
 abbrev pub day_of : ℕ → ℕ
 day_of instant = instant / (86_400 * 10 ^ 9)
 
--- the second of its day
+-- An instant lies in this second of its day.
 abbrev pub second_of_day : ℕ → ℕ
 second_of_day instant = instant / 10 ^ 9 % 86_400
 
--- the calendar has the day, and this many days lie between 1985-01-01 and it
+-- The calendar has the day, and it comes this many days after 1985-01-01.
 pub record IsDay (year month day : ℕ) (days : ℤ) : Type 0 where
   pub exists : IsCivilDate (pos year) month day
   pub count : days_from_civil (pos year) month day ≡ pos 5_479 +ℤ days
 
--- the clock reading is the second of a day that has 86,400 seconds
+-- The clock reading is the second of a day that has 86,400 seconds.
 pub record IsClock (hour minute second seconds : ℕ) : Type 0 where
   pub in_day : hour ≤ 23
   pub in_hour : minute ≤ 59
   pub in_minute : second ≤ 59
   pub count : seconds ≡ hour * 3_600 + minute * 60 + second
 
--- a number below 100 in two digits
+-- A number below 100 has these two digits.
 abbrev pub two_digits : ℕ → List ℕ
 two_digits n = (48 + n / 10) ∷ (48 + n % 10) ∷ []
 
--- a number below 10,000 in four digits
+-- A number below 10,000 has these four digits.
 abbrev pub four_digits : ℕ → List ℕ
 four_digits n = two_digits (n / 100) ++ two_digits (n % 100)
 
--- dd.mm.yy, of the years 1985 to 2084
+-- The text is the day as dd.mm.yy, with two digits of the years 1985 to 2084.
 pub record IsDateText (text : List ℕ) (days : ℕ) : Type 0 where
   pub year : ℕ
   pub month : ℕ
@@ -64,7 +64,7 @@ pub record IsDateText (text : List ℕ) (days : ℕ) : Type 0 where
   pub to : year ≤ 2084
   pub is_day : IsDay year month day (pos days)
 
--- dd.mm.yy with the letters yy, of a day and a month that some year has
+-- The text is dd.mm and the letters .yy, of a day and a month that some year has.
 pub record IsYearlessText (text : List ℕ) : Type 0 where
   pub year : ℕ
   pub month : ℕ
@@ -73,7 +73,7 @@ pub record IsYearlessText (text : List ℕ) : Type 0 where
   pub is_text : text ≡ two_digits day ++ 46 ∷ two_digits month ++ codes ".yy"
   pub is_day : IsDay year month day days
 
--- dd.mm.yy with the letters yy, of a day of the years 2085 to 2184
+-- The text is dd.mm and the letters .yy, of a day of the years 2085 to 2184.
 pub record IsLateDateText (text : List ℕ) (days : ℕ) : Type 0 where
   pub year : ℕ
   pub month : ℕ
@@ -83,23 +83,22 @@ pub record IsLateDateText (text : List ℕ) (days : ℕ) : Type 0 where
   pub to : year ≤ 2184
   pub is_day : IsDay year month day (pos days)
 
--- the startdate of a day: up to 2084 two digits name its year; after that it has the letters yy
+-- The text is the startdate of a day: up to 2084 with two digits of the year, then with letters.
 abbrev pub IsDateField : List ℕ → ℕ → Type 0
 IsDateField text days = IsDateText text days ⊎ IsLateDateText text days
 
--- the startdate and the Startdate subfield name this day. The subfield is a date, or none for X;
--- only a date has the year of a startdate with the letters yy
+-- The startdate and the Startdate subfield name this day. The subfield is a date, or none for X;
+-- only a date has the year of a startdate with the letters yy.
 abbrev pub AreStartdates : List ℕ → Option ℤ → ℕ → Type 0
 AreStartdates date None days = IsDateText date days
 AreStartdates date (Some day) days = (day ≡ pos days) × IsDateField date days
 
--- the startdate has one of its forms: the letters yy only beside a Startdate subfield that is a
--- date
+-- The startdate has one of its forms, the letters yy only where the Startdate subfield is a date.
 abbrev pub HasDateForm : List ℕ → Option ℤ → Type 0
 HasDateForm date None = (days : ℕ) × IsDateText date days
 HasDateForm date (Some day) = ((days : ℕ) × IsDateText date days) ⊎ IsYearlessText date
 
--- hh.mm.ss
+-- The text is the second of a day as hh.mm.ss.
 pub record IsTimeText (text : List ℕ) (seconds : ℕ) : Type 0 where
   pub hour : ℕ
   pub minute : ℕ
@@ -107,14 +106,14 @@ pub record IsTimeText (text : List ℕ) (seconds : ℕ) : Type 0 where
   pub is_text : text ≡ two_digits hour ++ 46 ∷ two_digits minute ++ 46 ∷ two_digits second
   pub is_clock : IsClock hour minute second seconds
 
--- a startdate, a starttime and a Startdate subfield name this instant
+-- A startdate, a starttime and a Startdate subfield name this instant.
 abbrev pub IsCivil : List ℕ → List ℕ → Option ℤ → ℕ → Type 0
 IsCivil date time id nanos =
     (days : ℕ) × (seconds : ℕ) × AreStartdates date id days × IsTimeText time seconds
     × (nanos ≡ (days * 86_400 + seconds) * 10 ^ 9)
 
--- why they name no instant: the startdate has none of its forms, else the starttime is no time,
--- else the Startdate subfield is not the startdate's day
+-- They name no instant: the startdate has none of its forms, else the starttime is no time, else
+-- the Startdate subfield is not the startdate's day.
 abbrev pub IsStartFault : List ℕ → List ℕ → Option ℤ → StartFault → Type 0
 IsStartFault date time id Date = ¬ HasDateForm date id
 IsStartFault date time id Time = HasDateForm date id × ((seconds : ℕ) → ¬ IsTimeText time seconds)
@@ -122,11 +121,11 @@ IsStartFault date time id Differs =
     HasDateForm date id × ((seconds : ℕ) × IsTimeText time seconds)
     × ((days : ℕ) → ¬ AreStartdates date id days)
 
--- the months of dd-MMM-yyyy
+-- A month has these three letters in dd-MMM-yyyy.
 abbrev pub month_name : ℕ → List ℕ
 month_name m = take 3 (drop (3 * (m - 1)) (codes "JANFEBMARAPRMAYJUNJULAUGSEPOCTNOVDEC"))
 
--- dd-MMM-yyyy, of the years 0000 to 9999
+-- The text is the day as dd-MMM-yyyy, of the years 0000 to 9999.
 pub record IsIdDate (text : List ℕ) (days : ℤ) : Type 0 where
   pub year : ℕ
   pub month : ℕ
@@ -135,7 +134,7 @@ pub record IsIdDate (text : List ℕ) (days : ℤ) : Type 0 where
   pub to : year ≤ 9999
   pub is_day : IsDay year month day days
 
--- yyyy-mm-ddThh:mm:ss, then a dot and the decimals of the second where it has some
+-- The text is the instant as yyyy-mm-ddThh:mm:ss, then the decimals of its second, if any.
 pub record IsInstantText (text : List ℕ) (instant : ℕ) : Type 0 where
   pub year : ℕ
   pub month : ℕ
@@ -150,6 +149,6 @@ pub record IsInstantText (text : List ℕ) (instant : ℕ) : Type 0 where
   pub is_day : IsDay year month day (pos (day_of instant))
   pub is_clock : IsClock hour minute second (second_of_day instant)
 
--- a printable byte that is no space
+-- The byte is printable and no space.
 abbrev pub IsVisible : ℕ → Type 0
 IsVisible b = (33 ≤ b) × (b ≤ 126)

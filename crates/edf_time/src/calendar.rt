@@ -1,15 +1,14 @@
-//! Days of the calendar by their number from 1985-01-01.
+//! Days of the calendar have numbers that count from 1985-01-01.
 ghost use Rattle.std.specs.Prelude.{◌≡◌, ℕ, ◌+◌, ◌≤◌, ◌<◌, ℤ, pos, MatchOption};
 ghost use Rattle.edf_time.specs.Civil.{two_digit_days, window_days, IsDay};
 
 use jiff::civil::Date;
 use jiff_core::civil;
 
-/// The days from the first date of the calendar to 1985-01-01.
+/// 1985-01-01 comes this many days after the calendar's first date.
 const FIRST_DAY: u32 = 4_371_587 + 5_479;
 
-/// The days from 1985-01-01 to this day, negative for one before it, where the calendar has the
-/// day.
+/// Returns the days from 1985-01-01 to this day, negative before it; `None` where no such day is.
 pub(crate) fn day_number(year: u16, month: u8, day: u8) -> Option<i32>
     requires year { year ≤ 9999 }
     requires month { month < 100 }
@@ -24,8 +23,7 @@ pub(crate) fn day_number(year: u16, month: u8, day: u8) -> Option<i32>
     Some(date.to_plain().days_since_min() as i32 - FIRST_DAY as i32)
 }
 
-/// The days from 1985-01-01 to this day of a year that two digits of a startdate name: none is
-/// before it.
+/// Returns the days from 1985-01-01 to this day of a year that two digits of a startdate name.
 pub(crate) fn two_digit_day(year: u16, month: u8, day: u8) -> Option<u32>
     requires from { 1985 ≤ year }
     requires to { year ≤ 2084 }
@@ -39,7 +37,6 @@ pub(crate) fn two_digit_day(year: u16, month: u8, day: u8) -> Option<u32>
     Some(days as u32)
 }
 
-/// A day of the calendar by its parts.
 #[derive(Clone, Copy)]
 pub(crate) struct CivilDate {
     pub(crate) year: u16,
@@ -47,7 +44,7 @@ pub(crate) struct CivilDate {
     pub(crate) day: u8,
 }
 
-/// The parts of a day of the window.
+/// Returns the date of a day of the window.
 pub(crate) fn date_of(days: u32) -> CivilDate
     requires { days < window_days }
     ensures is_day { IsDay result.year result.month result.day (pos days) }

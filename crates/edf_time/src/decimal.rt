@@ -6,7 +6,7 @@ ghost use Rattle.edf_time.specs.Decimal.{fraction_value};
 
 use thiserror::Error;
 
-/// Why a text is not read as a decimal of seconds.
+/// A text is not read as a decimal of seconds, for one of these reasons.
 #[derive(Clone, Copy, Debug, Drop, PartialEq, Eq, Error)]
 pub enum DecimalFault {
     /// It is neither digits alone nor digits, a dot and digits.
@@ -20,7 +20,7 @@ pub enum DecimalFault {
     TooLarge,
 }
 
-/// Whether the text is one digit or more, and nothing else.
+/// Is true where the text is one digit or more, and nothing else.
 fn are_digits(text: &[u8]) -> bool
     ensures { IsTrue result ↔ IsNumeral 10 text.now }
 {
@@ -32,10 +32,10 @@ fn are_digits(text: &[u8]) -> bool
     !text.is_empty()
 }
 
-/// A whole number past every one that is read.
+/// No number of whole seconds that is read is as great as this one.
 const MANY: u64 = 1_000_000_000_000_000_000;
 
-/// The number that the digits write, or MANY where it is more.
+/// Returns the number that the digits write, or MANY where it is more.
 fn capped_number(text: &[u8]) -> u64
     requires { IsNumeral 10 text.now }
     ensures { result ≡ min (digits_value 10 text.now) MANY }
@@ -47,10 +47,10 @@ fn capped_number(text: &[u8]) -> u64
     number
 }
 
-/// How many digits after the dot count a nanosecond or more.
+/// This many digits after the dot count a nanosecond or more.
 const DECIMALS: usize = 9;
 
-/// The nanoseconds of the digits after a dot.
+/// Returns the nanoseconds that the digits after a dot are worth.
 fn fraction_nanos(digits: &[u8]) -> Result<u64, DecimalFault>
     requires { AllDigits 10 digits.now }
     ensures { MatchResult result
@@ -69,7 +69,7 @@ fn fraction_nanos(digits: &[u8]) -> Result<u64, DecimalFault>
     Ok(nanos)
 }
 
-/// The index of the first dot, or the length.
+/// Returns the index of the first dot, or the length.
 fn first_dot(text: &[u8]) -> usize
     ensures within { result ≤ length text.now }
     ensures before { (k : ℕ) → k < result → slice_index text.now k ≢ 46 }
@@ -83,7 +83,7 @@ fn first_dot(text: &[u8]) -> usize
     text.len()
 }
 
-/// The digits before the dot and those after it, of a decimal.
+/// Returns the digits of a decimal before the dot and after it.
 fn parts(text: &[u8]) -> Option<(&[u8], &[u8])>
     ensures { MatchOption result
         ((whole fraction : List ℕ) → ¬ IsDecimal text.now whole fraction)
@@ -104,16 +104,16 @@ fn parts(text: &[u8]) -> Option<(&[u8], &[u8])>
     }
 }
 
-/// The nanoseconds that a decimal of seconds is worth, as the duration of a data record is written
-/// (EDF, header record), and the onsets and durations of annotations (EDF+, time-stamped
+/// Returns the nanoseconds that a decimal of seconds is worth. So the duration of a data record is
+/// written (EDF, header record), and the onsets and durations of annotations (EDF+, time-stamped
 /// annotations lists).
 ///
 /// A decimal is one or more digits, or such digits, a dot and one or more digits. Zeros may lead,
 /// and zeros may follow the ninth digit after the dot.
 ///
 /// # Errors
-/// `Syntax` where the text is no decimal, else `TooFine` where a digit past the ninth after the dot
-/// is not 0, else `TooLarge` where it is worth more than 9,223,372,036,854,775,807 nanoseconds.
+/// It fails with `Syntax` where the text is no decimal, else `TooFine` where a digit past the ninth
+/// after the dot is not 0, else `TooLarge` above 9,223,372,036,854,775,807 nanoseconds.
 pub fn read_seconds(text: &[u8]) -> Result<u64, DecimalFault>
     ensures { MatchResult result
         (λ nanos. IsSeconds text.now nanos × (nanos < 2 ^ 63))

@@ -10,7 +10,6 @@ use crate::pieces::{letters_of, month_of, pair, tens, units};
 use crate::shortest::push_fraction;
 use std::alloc::{AllocError, Global};
 
-/// A reading of a clock.
 #[derive(Clone, Copy)]
 struct Clock {
     hour: u8,
@@ -18,7 +17,7 @@ struct Clock {
     second: u8,
 }
 
-/// The clock's reading at a second of the day.
+/// Returns the clock's reading at a second of the day.
 fn clock_at(seconds: u32) -> Clock
     requires { seconds < 86_400 }
     ensures { IsClock result.hour result.minute result.second seconds }
@@ -30,7 +29,7 @@ fn clock_at(seconds: u32) -> Clock
     }
 }
 
-/// Two numbers of two digits and two more characters, with dots between the three.
+/// Returns two numbers of two digits and two more characters, with dots between the three.
 fn dotted(first: u8, second: u8, third: [u8; 2]) -> [u8; 8]
     requires first { first < 100 }
     requires second { second < 100 }
@@ -48,7 +47,7 @@ fn dotted(first: u8, second: u8, third: [u8; 2]) -> [u8; 8]
     ]
 }
 
-/// The startdate of a header, `dd.mm.yy`: 8 bytes, at 168 to 175 of the file (EDF, header record).
+/// Returns the startdate `dd.mm.yy` of a header, bytes 168 to 175 of the file (EDF, header record).
 /// The last two digits of the year mean 1985 to 2084 (EDF+, the clipping date); after 2084 the
 /// letters `yy` are in their place (EDF+, additional specifications).
 pub fn date_field(instant: Instant) -> [u8; 8]
@@ -63,7 +62,7 @@ pub fn date_field(instant: Instant) -> [u8; 8]
     }
 }
 
-/// The starttime of a header, `hh.mm.ss`: 8 bytes, at 176 to 183 of the file (EDF, header record).
+/// Returns the starttime `hh.mm.ss` of a header, bytes 176 to 183 of the file (EDF, header record).
 /// A fraction of a second is left out.
 pub fn time_field(instant: Instant) -> [u8; 8]
     ensures { IsTimeText result (second_of_day instant) }
@@ -76,9 +75,9 @@ pub fn time_field(instant: Instant) -> [u8; 8]
     )
 }
 
-/// The day of the instant as the identification fields write one, `dd-MMM-yyyy`: 11 bytes, the
-/// months JAN to DEC in capitals (EDF+, additional specifications). After `Startdate ` it is bytes
-/// 98 to 108 of the file.
+/// Returns the day of the instant as the identification fields write one, `dd-MMM-yyyy`, the months
+/// JAN to DEC in capitals (EDF+, additional specifications). After `Startdate ` it is bytes 98 to
+/// 108 of the file.
 pub fn id_date_text(instant: Instant) -> [u8; 11]
     ensures { IsIdDate result (pos (day_of instant)) }
 {
@@ -101,8 +100,8 @@ pub fn id_date_text(instant: Instant) -> [u8; 11]
     ]
 }
 
-/// The day that a text `dd-MMM-yyyy` of 11 bytes names, as the identification fields write one
-/// (EDF+, additional specifications).
+/// Returns the day that a text `dd-MMM-yyyy` names, as the identification fields write one (EDF+,
+/// additional specifications).
 ///
 /// The months are JAN to DEC, in capitals; the years 0000 to 9999 are those of the Gregorian
 /// calendar, carried backwards. `None` where the text has another length or form, or names no day
@@ -121,12 +120,11 @@ pub fn id_date(text: &[u8]) -> Option<Day>
     Some(Day::from_days(days))
 }
 
-/// An instant as `yyyy-mm-ddThh:mm:ss`, 19 bytes; then, where its second has a fraction, a dot and
-/// the decimals without trailing zeros, at most nine. For a reader's eyes: no field of EDF has this
-/// form.
+/// Returns an instant as `yyyy-mm-ddThh:mm:ss`; then, where its second has a fraction, a dot and
+/// the decimals without trailing zeros, at most nine. No field of EDF has this form.
 ///
 /// # Errors
-/// Where memory runs out.
+/// It fails where memory runs out.
 pub fn instant_text(alloc: Global, instant: Instant) -> Result<Vec<u8>, AllocError>
     ensures { IfOk result (λ v. IsInstantText v.items instant) }
 {
@@ -135,7 +133,7 @@ pub fn instant_text(alloc: Global, instant: Instant) -> Result<Vec<u8>, AllocErr
     Ok(text)
 }
 
-/// An instant to the second, as `yyyy-mm-ddThh:mm:ss`: 19 bytes.
+/// Returns an instant to the second, as `yyyy-mm-ddThh:mm:ss`.
 fn second_text(instant: Instant) -> [u8; 19]
     ensures { IsInstantText (result ++ fraction_text (instant % 10 ^ 9)) instant }
 {

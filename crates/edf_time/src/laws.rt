@@ -1,4 +1,4 @@
-//! Laws of the texts: each function has a law for a contract, and does nothing.
+//! Each function states a law of the texts in its contract, and does nothing.
 ghost use Rattle.std.specs.Prelude.{◌≡◌, ◌⊎◌, ℕ, ℤ, pos, ◌+◌, ◌-◌, ◌*◌, ◌/◌, ◌%◌, ◌^◌, ◌≤◌, ◌<◌};
 ghost use Rattle.std.specs.Prelude.{List, Option, Some, None, length, All};
 ghost use Rattle.std.specs.Char.{digit_value};
@@ -42,7 +42,7 @@ pub fn one_shortest()
     ensures { (n : ℕ) (text : List ℕ) → n < 10 ^ 73 → IsShortest text n → text ≡ short n }
 {}
 
-/// What `write_seconds` writes is that text; it has at most 21 bytes, and at most 20 in the window.
+/// `write_seconds` writes that text; it has at most 21 bytes, and at most 20 in the window.
 pub fn is_shortest()
     ensures shortest { (n : ℕ) → n < 10 ^ 73 → IsShortest (short n) n }
     ensures some { (n : ℕ) → n < 10 ^ 73 → 1 ≤ length (short n) }
@@ -199,7 +199,7 @@ pub fn one_start()
         ⊎ ((fault : StartFault) × IsStartFault date time id fault) }
 {}
 
-/// How long the texts are.
+/// A date and a time have 8 bytes, `dd-MMM-yyyy` has 11, an instant has 19 and its decimals.
 pub fn text_lengths()
     ensures date { (text : List ℕ) (days : ℕ) → IsDateField text days → length text ≡ 8 }
     ensures time { (text : List ℕ) (seconds : ℕ) → IsTimeText text seconds → length text ≡ 8 }

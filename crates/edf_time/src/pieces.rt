@@ -1,10 +1,9 @@
-//! The pieces of dates and times as texts: numbers below 100 in two digits, and the months'
-//! letters.
+//! Texts of dates and times are made of numbers in two digits and the months' letters.
 ghost use Rattle.std.specs.Prelude.{◌≡◌, ◌≢◌, ℕ, ◌+◌, ◌-◌, ◌*◌, ◌/◌, ◌%◌, ◌≤◌, ◌<◌, [], ◌∷◌};
 ghost use Rattle.std.specs.Prelude.{MatchOption};
 ghost use Rattle.edf_time.specs.Civil.{two_digits, month_name};
 
-/// The number that two digits write.
+/// Returns the number that two digits write.
 pub(crate) fn pair(tens: u8, units: u8) -> Option<u8>
     ensures { MatchOption result
         ((n : ℕ) → n < 100 → tens ∷ units ∷ [] ≢ two_digits n)
@@ -17,7 +16,7 @@ pub(crate) fn pair(tens: u8, units: u8) -> Option<u8>
     }
 }
 
-/// The first of a number's two digits.
+/// Returns the first of a number's two digits.
 pub(crate) fn tens(number: u8) -> u8
     requires { number < 100 }
     ensures { result ≡ 48 + number / 10 }
@@ -25,14 +24,14 @@ pub(crate) fn tens(number: u8) -> u8
     b'0' + number / 10
 }
 
-/// The second of a number's two digits.
+/// Returns the second of a number's two digits.
 pub(crate) fn units(number: u8) -> u8
     ensures { result ≡ 48 + number % 10 }
 {
     b'0' + number % 10
 }
 
-/// The three letters of a month, from 1 for January.
+/// Returns the three letters of a month, from 1 for January.
 pub(crate) fn letters_of(month: u8) -> [u8; 3]
     requires from { 1 ≤ month }
     requires to { month ≤ 12 }
@@ -45,7 +44,7 @@ pub(crate) fn letters_of(month: u8) -> [u8; 3]
     LETTERS[month as usize - 1]
 }
 
-/// The month that the three letters name, from 1 for January.
+/// Returns the month that the three letters name, from 1 for January.
 pub(crate) fn month_of(letters: [u8; 3]) -> Option<u8>
     ensures { MatchOption result
         ((m : ℕ) → 1 ≤ m → m ≤ 12 → letters ≢ month_name m)

@@ -5,13 +5,13 @@ ghost use Rattle.edf_time.specs.Decimal.{IsShortest, short, fraction_text};
 
 use std::alloc::{AllocError, Global};
 
-/// The shortest decimal of `nanos` nanoseconds, in seconds: no zero leads but one before the dot,
-/// none trails, and no dot is without a fraction. It has at most 21 bytes.
+/// Returns the shortest decimal of seconds that is worth `nanos` nanoseconds: no zero leads but one
+/// before the dot, none trails, and no dot is without a fraction. It has at most 21 bytes.
 ///
 /// So the onsets and durations of annotations are written (EDF+, time-stamped annotations lists).
 ///
 /// # Errors
-/// Where memory runs out.
+/// It fails where memory runs out.
 pub fn write_seconds(alloc: Global, nanos: u64) -> Result<Vec<u8>, AllocError>
     ensures text { IfOk result (λ v. v.items ≡ short nanos) }
     ensures shortest { IfOk result (λ v. IsShortest v.items nanos) }
@@ -24,7 +24,7 @@ pub fn write_seconds(alloc: Global, nanos: u64) -> Result<Vec<u8>, AllocError>
 /// Appends a dot and the decimals of a part of a second, in nanoseconds, where it is not 0.
 ///
 /// # Errors
-/// Where memory runs out.
+/// It fails where memory runs out.
 pub(crate) fn push_fraction(text: &mut Vec<u8>, mut part: u64) -> Result<(), AllocError>
     requires { part < 10 ^ 9 }
     ensures { OnOk result (text.new.items ≡ text.old.items ++ fraction_text part) }
@@ -42,15 +42,14 @@ pub(crate) fn push_fraction(text: &mut Vec<u8>, mut part: u64) -> Result<(), All
     Ok(())
 }
 
-/// The length in bytes of the shortest decimal of `nanos` nanoseconds, as `write_seconds` writes
-/// it: 1 to 21.
+/// Returns the length in bytes of what `write_seconds` writes, 1 to 21.
 pub fn seconds_len(nanos: u64) -> usize
     ensures { result ≡ length (short nanos) }
 {
     whole_len(nanos / 1_000_000_000) + fraction_len(nanos % 1_000_000_000)
 }
 
-/// How many digits a whole number has.
+/// Returns the number of digits of a whole number.
 fn whole_len(mut number: u64) -> usize
     ensures value { result ≡ length (decimal number) }
     ensures bound { result ≤ 20 }
@@ -63,7 +62,7 @@ fn whole_len(mut number: u64) -> usize
     digits
 }
 
-/// The length in bytes of what `push_fraction` appends.
+/// Returns the length in bytes of what `push_fraction` appends.
 fn fraction_len(mut part: u64) -> usize
     requires { part < 10 ^ 9 }
     ensures value { result ≡ length (fraction_text part) }
