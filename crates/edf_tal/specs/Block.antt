@@ -1,4 +1,4 @@
--- What the blocks of a data record say of it, and when they are refused.
+-- The start and the annotations that the blocks of a data record parse to, and their faults.
 use Rattle.std.specs.Prelude.{◌≡◌, ℕ, ◌+◌, ◌^◌, ◌≤◌, ◌<◌, List, [], ◌∷◌, length, take, drop}
 use Rattle.std.specs.Prelude.{sum_by, pos, ◌≤ℤ◌, ◌<ℤ◌, Option, Some, None, codes}
 use Rattle.std.specs.List.{AllByRecursion}
@@ -13,7 +13,7 @@ use Rattle.edf_tal.specs.declared.place.TalFault.TheVariants.{Tal as NotTals, Te
 use Rattle.edf_tal.specs.declared.place.TalFault.TheVariants.{FirstOnset, Window, Order, TooMany}
 use Rattle.edf_tal.specs.declared.place.TalFault.TheVariants.{Memory}
 
--- the first record starts in the second that the header names; a later one at least a duration
+-- the first data record starts in the second that the header names; a later one at least a duration
 -- after the one before
 abbrev pub StartFitsPlace : Place → ℕ → List Tal → Type 0
 StartFitsPlace First file_start (t ∷ ts) = (pos 0 ≤ℤ t.onset) × (t.onset <ℤ pos (10 ^ 9))
@@ -26,8 +26,8 @@ pub record IsWithinLimits (list : List Annotation) : Type 0 where
   pub count : length list ≤ MOST_ANNOTATIONS
   pub bytes : sum_by (λ a. length a.text) list ≤ MOST_TEXT_BYTES
 
--- the blocks give their data record this start and this list: the first block keeps time, and the
--- lists of all are joined
+-- the blocks of a data record parse to this start and this list: the first block has the
+-- time-keeping TAL, and the annotations of all blocks are joined
 pub record BlocksParseTo (blocks : List (List ℕ)) (file_start : ℕ) (place : Place) (start : ℕ)
     (list : List Annotation) : Type 0 where
   pub tals : List (List Tal)
@@ -40,12 +40,12 @@ pub record BlocksParseTo (blocks : List (List ℕ)) (file_start : ℕ) (place : 
   pub start_is : start ≡ record_start file_start (first_tals tals)
   pub list_is : list ≡ annotations file_start (all_tals tals)
 
--- the same of a data record with one block
+-- a data record with one block parses to these
 abbrev pub BlockParsesTo : List ℕ → ℕ → Place → ℕ → List Annotation → Type 0
 BlockParsesTo block file_start place start list =
     BlocksParseTo (block ∷ []) file_start place start list
 
--- the numbers of the faults, by which they are ordered, their names, and the offsets that they name
+-- faults are ordered by their numbers
 abbrev pub tal_fault_number : TalFault → ℕ
 tal_fault_number (NotTals offset) = 22
 tal_fault_number (Text offset) = 23
@@ -66,13 +66,13 @@ tal_fault_name Order = codes "Order"
 tal_fault_name TooMany = codes "TooMany"
 tal_fault_name Memory = codes "Memory"
 
--- the offset, which counts from 0 over the blocks joined
+-- offsets count from 0 over the blocks joined
 abbrev pub tal_fault_offset : TalFault → Option ℕ
 tal_fault_offset (NotTals offset) = Some offset
 tal_fault_offset (Text offset) = Some offset
 tal_fault_offset fault = None
 
--- the fault is true of the blocks of a data record that is at this place
+-- the fault is true of the blocks of a data record at this place
 abbrev pub BlocksHaveFault : List (List ℕ) → ℕ → Place → TalFault → Type 0
 BlocksHaveFault bs s place (NotTals offset) = IsMalformedAt bs offset
 BlocksHaveFault bs s place (Text offset) = ((tss : List (List Tal)) × AreBlocks bs tss)
@@ -90,7 +90,7 @@ BlocksHaveFault bs s place TooMany = (tss : List (List Tal)) × AreBlocks bs tss
     × ¬ IsWithinLimits (annotations s (all_tals tss))
 BlocksHaveFault bs s place fault = ⊥
 
--- the fault is true, and none of a lower number
+-- the fault is true, and no fault of a lower number is
 pub record IsFirstBlocksFault (bs : List (List ℕ)) (s : ℕ) (place : Place)
     (fault : TalFault) : Type 0
   where
@@ -98,22 +98,21 @@ pub record IsFirstBlocksFault (bs : List (List ℕ)) (s : ℕ) (place : Place)
     pub first : (other : TalFault) → tal_fault_number other < tal_fault_number fault →
         ¬ BlocksHaveFault bs s place other
 
--- the same of a data record with one block
+-- it is the first fault of a data record with one block
 abbrev pub IsFirstBlockFault : List ℕ → ℕ → Place → TalFault → Type 0
 IsFirstBlockFault block s place fault = IsFirstBlocksFault (block ∷ []) s place fault
 
--- why blocks are not read: their first fault; out of memory only where they have none, and so a
--- start and a list
+-- blocks are refused for their first fault, or for want of memory where they have none
 abbrev pub IsBlocksRefusal : List (List ℕ) → ℕ → Place → TalFault → Type 0
 IsBlocksRefusal bs s place Memory = (start : ℕ) × (list : List Annotation)
     × BlocksParseTo bs s place start list
 IsBlocksRefusal bs s place fault = IsFirstBlocksFault bs s place fault
 
--- the same of a data record with one block
+-- a data record with one block is refused so
 abbrev pub IsBlockRefusal : List ℕ → ℕ → Place → TalFault → Type 0
 IsBlockRefusal block s place fault = IsBlocksRefusal (block ∷ []) s place fault
 
--- the bytes as blocks of these sizes
+-- the bytes are cut into blocks of these sizes
 abbrev pub split_by_sizes : List ℕ → List ℕ → List (List ℕ)
 split_by_sizes [] bytes = []
 split_by_sizes (size ∷ sizes) bytes = take size bytes ∷ split_by_sizes sizes (drop size bytes)

@@ -1,12 +1,11 @@
--- The one block of a data record in a canonical file: each TAL has one annotation, and every number
--- is the shortest of its spellings.
+-- The one block of a data record in a canonical file, with the shortest decimals.
 use Rattle.std.specs.Prelude.{ℕ, List, [], ◌∷◌, ◌++◌, pos, ◌-ℤ◌, unsigned_abs, nat_le, Option, Some}
 use Rattle.std.specs.Prelude.{None, if◌then◌else◌}
 use Rattle.std.specs.List.{flat_map}
 use Rattle.edf_time.specs.Decimal.{short}
 use Rattle.edf_tal.specs.Tal.{Annotation}
 
--- how far an instant lies from a base, with `+` where it does not lie before it
+-- an onset counts from a base, with `+` where it does not lie before it
 abbrev pub onset_text : ℕ → ℕ → List ℕ
 onset_text base onset = (if nat_le base onset then 43 else 45) ∷ short
     (unsigned_abs (pos onset -ℤ pos base))

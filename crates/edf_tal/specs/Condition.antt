@@ -1,4 +1,4 @@
--- When blocks are no lists of TALs, and when a text is no UTF-8.
+-- Blocks that are not TALs and zeros, and texts that are not UTF-8.
 use Rattle.std.specs.Prelude.{◌≡◌, ℕ, ◌+◌, ◌≤◌, List, ◌∷◌, ◌++◌, length, take, sum_by, ℤ, Option}
 use Rattle.std.specs.Prelude.{IsUtf8}
 use Rattle.std.specs.List.{AllByRecursion}
@@ -13,8 +13,7 @@ pub record IsLongestTalPrefix (bytes : List ℕ) (n : ℕ) : Type 0 where
   pub longest : (m : ℕ) (others : List Tal) → m ≤ length bytes → AreTals (take m bytes) others →
       m ≤ n
 
--- the first text that is not UTF-8 begins at `at`: after whole TALs and texts of its own TAL, all
--- of which are UTF-8
+-- the first text that is not UTF-8 begins at `at`, after whole TALs and texts that are UTF-8
 pub record IsInvalidUtf8At (bytes : List ℕ) (at : ℕ) : Type 0 where
   pub prefix : List ℕ
   pub tals : List Tal

@@ -1,3 +1,3 @@
--- Words of private contracts: no promise cites one.
+-- Definitions of private contracts: no public one cites them.
 pub mod Scan
 pub mod Blocks

@@ -37,7 +37,7 @@ IsText text = AllByRecursion (λ b. (b ≢ 0) × (b ≢ 20)) text
 abbrev pub terminated : List (List ℕ) → List ℕ
 terminated texts = flat_map (λ text. text ++ 20 ∷ []) texts
 
--- the bytes spell the TAL, whether or not its texts are UTF-8
+-- the bytes are the TAL; its texts may be not UTF-8
 pub record IsTal (bytes : List ℕ) (t : Tal) : Type 0 where
   pub onset : List ℕ
   pub duration : List ℕ
@@ -76,7 +76,7 @@ all_tals tss = flat_map (λ ts. ts) tss
 abbrev pub HaveUtf8Texts : List Tal → Type 0
 HaveUtf8Texts ts = AllByRecursion (λ t. AllByRecursion IsUtf8 t.texts) ts
 
--- the instant of an onset, which counts from the file's start; it means something only inside the
+-- the instant of an onset, which counts from the file's start; it has a meaning only inside the
 -- window
 abbrev pub instant : ℕ → ℤ → ℕ
 instant file_start onset = unsigned_abs (pos file_start +ℤ onset)
@@ -87,7 +87,7 @@ tal_annotations file_start t =
     map (λ text. record { onset = instant file_start t.onset; duration = t.duration; text = text })
     t.texts
 
--- the first TAL of the first block keeps time: its first text is empty
+-- the first TAL is a time-keeping one: its first text is empty
 abbrev pub HasTimeKeepingTal : List Tal → Type 0
 HasTimeKeepingTal [] = ⊥
 HasTimeKeepingTal (t ∷ ts) = (texts : List (List ℕ)) × (t.texts ≡ [] ∷ texts)

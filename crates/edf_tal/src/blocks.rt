@@ -15,18 +15,18 @@ use crate::survey::survey;
 use edf_time::Instant;
 use std::alloc::{AllocError, Global};
 
-/// What the TALs of some blocks come to, where all their texts are UTF-8.
+/// The totals of some blocks' TALs, whose texts are all UTF-8.
 #[derive(Clone, Copy)]
 pub(crate) struct Sums {
-    /// Whether each onset and duration keeps the window.
+    /// Is true where each onset and duration fits the window.
     pub(crate) in_window: bool,
-    /// How many annotations there are, the time-keeping one among them.
+    /// The number of annotations, with the time-keeping one.
     pub(crate) count: usize,
-    /// How many bytes their texts have.
+    /// The number of bytes of their texts.
     pub(crate) text_bytes: usize,
 }
 
-/// What is found in blocks that are TALs and zeros.
+/// The form of blocks that are TALs and zeros.
 #[derive(Clone, Copy)]
 pub(crate) enum Form {
     /// All their texts are UTF-8.
@@ -41,8 +41,8 @@ pub(crate) fn are_zeros(bytes: &[u8]) -> bool
     bytes.iter().all(|b| *b == 0)
 }
 
-/// What is found in a block that is TALs and zeros. For any other the answer is where its longest
-/// prefix of whole TALs ends.
+/// Returns the form of a block that is TALs and zeros. The error of any other block is where its
+/// longest prefix of whole TALs ends.
 fn form_of(block: &[u8], file_start: Instant) -> Result<Form, usize>
     ensures { MatchResult result (HasForm (block.now ∷ []) file_start)
         (IsMalformedAt (block.now ∷ [])) }
@@ -67,7 +67,7 @@ fn form_of(block: &[u8], file_start: Instant) -> Result<Form, usize>
     }
 }
 
-/// What is found in blocks and in others after them, which begin at `start`.
+/// Joins the form of some blocks with that of the blocks after them, which begin at `start`.
 fn with_next(form: Form, start: usize, next: Form) -> Form
     requires { (s : ℕ) × (before after : List (List ℕ)) ×
         HasForm before s form × (start ≡ sum_by length before) × HasForm after s next
@@ -89,8 +89,8 @@ fn with_next(form: Form, start: usize, next: Form) -> Form
     }
 }
 
-/// Goes over the blocks of a data record, each by itself. A text that is not UTF-8 does not end it,
-/// since a later block that is not TALs and zeros is the first fault.
+/// Surveys each block of a data record by itself. It goes on after a text that is not UTF-8, since
+/// a later block that is not TALs and zeros is the first fault.
 pub(crate) fn survey_blocks(
     block: &[u8],
     sizes: &[usize],

@@ -12,16 +12,15 @@ use crate::scan::{TAL_END, TEXT_END, capped_seconds, first_tal, split_first};
 use crate::survey::onset_instant;
 use edf_time::Instant;
 
-/// What a data record has whose blocks have no fault.
+/// The start and the size of the list that blocks without a fault parse to.
 #[derive(Clone, Copy)]
 pub(crate) struct Checked {
-    /// Its start.
     pub(crate) start: Instant,
-    /// How many annotations there are, without the time-keeping one.
+    /// The number of annotations, without the time-keeping one.
     pub(crate) count: usize,
 }
 
-/// Whether the first text is empty.
+/// Is true where the first text is empty.
 fn is_time_keeping(texts: &[u8]) -> bool
     ensures { IsTrue result ↔ ((rest : List ℕ) × (texts.now ≡ 20 ∷ rest)) }
 {
@@ -31,7 +30,7 @@ fn is_time_keeping(texts: &[u8]) -> bool
     }
 }
 
-/// Whether the onset keeps the rule of a first data record.
+/// Is false where a first data record's onset is outside the second that the header names.
 fn keeps_second(place: &Place, ahead: bool, onset: u64) -> bool
     ensures { (z : ℤ) → IsCappedOnset ahead onset z → (IsTrue result ↔ KeepsSecond place.now z) }
 {
@@ -42,7 +41,7 @@ fn keeps_second(place: &Place, ahead: bool, onset: u64) -> bool
     }
 }
 
-/// Whether the start keeps the rule of a later data record.
+/// Is false where a later data record starts before the one before it ends.
 fn keeps_order(place: &Place, start: Instant) -> bool
     ensures { IsTrue result ↔ KeepsOrder place.now start }
 {
@@ -56,7 +55,7 @@ fn keeps_order(place: &Place, start: Instant) -> bool
     }
 }
 
-/// Whether annotations, the time-keeping one among them, keep the limits.
+/// Is true where annotations, with the time-keeping one, are within the limits.
 fn is_within_limits(count: usize, text_bytes: usize) -> bool
     ensures { IsTrue result
         ↔ ((count ≤ MOST_ANNOTATIONS + 1) × (text_bytes ≤ MOST_TEXT_BYTES)) }
@@ -65,8 +64,7 @@ fn is_within_limits(count: usize, text_bytes: usize) -> bool
 }
 
 /// Checks the TALs of a data record: the time-keeping annotation, the first onset, the window, the
-/// order and the limits, one after another. `first` is its first block, and `sums` what all its
-/// blocks come to.
+/// order and the limits. `first` is its first block, and `sums` has the totals of all its blocks.
 fn check_tals(
     first: &[u8],
     sums: Sums,
@@ -106,7 +104,7 @@ fn check_tals(
     })
 }
 
-/// Checks the blocks of a data record without taking memory.
+/// Checks the blocks of a data record, and allocates nothing.
 pub(crate) fn check_blocks(
     block: &[u8],
     sizes: &[usize],
@@ -122,8 +120,8 @@ pub(crate) fn check_blocks(
     check_tals(&block[..sizes[0]], sums, file_start, place)
 }
 
-/// The nanoseconds of the onset, capped, of a block that is the time-keeping annotation alone: `+`,
-/// a decimal, two bytes 20, and zeros.
+/// Returns the onset's capped nanoseconds of a block that is the time-keeping TAL alone: `+`, a
+/// decimal, two bytes 20, and zeros.
 fn bare_onset(block: &[u8]) -> Option<u64>
     ensures { IfSome result
         (λ onset. (n : ℕ) × (onset ≡ capped n) × IsTimeKeepingBlock block.now n) }
@@ -135,8 +133,8 @@ fn bare_onset(block: &[u8]) -> Option<u64>
     }
 }
 
-/// The start of a data record whose one block is the time-keeping annotation alone, where it keeps
-/// the rules of its place. `None` says nothing: the blocks may still be read.
+/// Returns the start of a data record whose one block is the time-keeping TAL alone, where the
+/// start fits its place. `None` says nothing: the blocks may still have no fault.
 pub(crate) fn bare_start(
     block: &[u8],
     sizes: &[usize],

@@ -1,4 +1,4 @@
-//! Laws of blocks: each function has a law for a contract, and does nothing.
+//! Laws of blocks. The contract of each function is a law, and its body does nothing.
 ghost use Rattle.std.specs.Prelude.{◌≡◌, ◌⊎◌, ℕ, ◌+◌, ◌^◌, ◌≤◌, ◌<◌};
 ghost use Rattle.std.specs.Prelude.{List, ◌++◌, length, map, replicate};
 ghost use Rattle.std.specs.List.{AllByRecursion, flat_map};
@@ -14,18 +14,18 @@ ghost use Rattle.edf_tal.specs.declared.place.Place.TheVariants.{First, After, A
 
 use crate::limits::MOST_CANONICAL_BLOCK_BYTES;
 
-/// Bytes are one TAL at most.
+/// Bytes parse to at most one TAL.
 pub fn one_tal()
     ensures { (b : List ℕ) (t u : Tal) → IsTal b t → IsTal b u → t ≡ u }
 {}
 
-/// Blocks are each TALs and zeros in one way.
+/// Blocks parse to at most one list of TALs each.
 pub fn one_block()
     ensures { (bs : List (List ℕ)) (ts us : List (List Tal)) →
         AreBlocks bs ts → AreBlocks bs us → ts ≡ us }
 {}
 
-/// The blocks of a data record have one answer at a place: a start and a list, or a fault.
+/// The blocks of a data record have at most one answer at a place: a start and a list, or a fault.
 pub fn one_answer()
     ensures one_read { (bs : List (List ℕ)) (s : ℕ) (p : Place) (m n : ℕ)
         (k l : List Annotation) →
@@ -46,12 +46,12 @@ pub fn some_answer()
         ¬ IsFirstBlocksFault bs s p Memory }
 {}
 
-/// Blocks that are joined, and cut by their lengths, are the same blocks again.
+/// Blocks that are joined and then split by their lengths are the same blocks.
 pub fn cut_again()
     ensures { (bs : List (List ℕ)) → split_by_sizes (map length bs) (flat_map (λ b. b) bs) ≡ bs }
 {}
 
-/// A canonical block, alone or with any fill of zeros, is read again as what was written.
+/// A canonical block, alone or filled with zeros, parses to what was written.
 pub fn read_again()
     ensures alone { (base start : ℕ) (list : List Annotation) →
         base < window → start < window → AllByRecursion IsAnnotation list → IsWithinLimits list →
@@ -71,7 +71,7 @@ pub fn read_again()
         list }
 {}
 
-/// What blocks give is an instant of the window and annotations within the limits.
+/// Blocks parse to a start in the window and to annotations within the limits.
 pub fn read_annotations()
     ensures start { (bs : List (List ℕ)) (s : ℕ) (p : Place) (start : ℕ)
         (list : List Annotation) → BlocksParseTo bs s p start list → start < window }
@@ -82,13 +82,13 @@ pub fn read_annotations()
         (list : List Annotation) → BlocksParseTo bs s p start list → IsWithinLimits list }
 {}
 
-/// What is read at some place is read at any place.
+/// Blocks that parse at some place parse to the same at `Any`.
 pub fn any_place()
     ensures { (bs : List (List ℕ)) (s : ℕ) (p : Place) (start : ℕ) (list : List Annotation) →
         BlocksParseTo bs s p start list → BlocksParseTo bs s Any start list }
 {}
 
-/// A canonical block has one start and one list.
+/// A canonical block is that of one start and one list.
 pub fn one_writing()
     ensures { (base m n : ℕ) (k l : List Annotation) →
         base < window → m < window → n < window →
@@ -97,7 +97,7 @@ pub fn one_writing()
         block_text base m k ≡ block_text base n l → (m ≡ n) × (k ≡ l) }
 {}
 
-/// How many bytes a canonical block within the limits has at most.
+/// A canonical block within the limits has at most `MOST_CANONICAL_BLOCK_BYTES`.
 pub fn most_bytes()
     ensures { (base start : ℕ) (list : List Annotation) →
         base < window → start < window → IsWithinLimits list → AllByRecursion IsAnnotation list →

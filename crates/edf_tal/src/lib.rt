@@ -1,17 +1,24 @@
-//! Annotations of a data record: the blocks of time-stamped annotations lists, TALs for short, that
-//! EDF+ keeps in the annotations signals.
+//! The annotations of a data record, in blocks of time-stamped annotations lists, TALs for short
+//! (EDF+). A block is what an annotations signal has in the data record.
 //!
-//! - [`read_blocks`]: the start and the annotations of a data record, or the first rule that its
-//!   blocks break. [`read_block`]: the same of a data record with one block.
-//! - [`Note`]: an annotation. [`Place`]: where the data record is. [`TalFault`]: why its blocks
-//!   are refused.
-//! - [`write_block`], [`block_len`]: the one block that a data record of a canonical file has, and
-//!   its length.
-//! - [`same_notes`]: whether two lists have the same annotations.
-//! - [`MOST_ANNOTATIONS`], [`MOST_TEXT_BYTES`]: the limits of a data record's annotations;
-//!   [`MOST_CANONICAL_BLOCK_BYTES`], [`MOST_CANONICAL_BLOCK_SAMPLES`]: those of their block.
-//! - [`laws`]: the blocks of a data record have one answer at each place, and a written block is
-//!   read again; functions that do nothing, each with a law for a contract.
+//! ```rust
+//! /// Writes the canonical form of a data record's one annotations block.
+//! fn rewrite(alloc: Global, block: &[u8], file_start: Instant) -> Result<Vec<u8>, TalFault> {
+//!     let (start, notes) = read_block(alloc, block, file_start, Place::Any)?;
+//!     match write_block(alloc, start, notes.as_slice(), file_start) {
+//!         Ok(text) => Ok(text),
+//!         Err(_) => Err(TalFault::Memory),
+//!     }
+//! }
+//! ```
+//!
+//! - [`read_blocks`], [`read_block`] read a start and a list of [`Note`]s, or a [`TalFault`].
+//! - [`Place`] says where the data record is in its fragment.
+//! - [`write_block`] writes a canonical block, and [`block_len`] returns its length.
+//! - [`same_notes`] compares two lists.
+//! - [`MOST_ANNOTATIONS`], [`MOST_TEXT_BYTES`] limit the annotations of a data record,
+//!   [`MOST_CANONICAL_BLOCK_BYTES`] and [`MOST_CANONICAL_BLOCK_SAMPLES`] its canonical block.
+//! - [`laws`] says that blocks have one answer, and that a written block parses to what was written.
 #![tactic(auto)]
 
 mod blocks;

@@ -33,14 +33,14 @@ impl Model for Note {
         (record { onset = n.onset; duration = n.duration; text = string_bytes n.text }) };
 }
 
-/// Whether no byte is 0 or 20.
+/// Is true where no byte is 0 or 20.
 fn is_text(text: &[u8]) -> bool
     ensures { IsTrue result ↔ IsText text.now }
 {
     text.iter().all(|b| *b != TAL_END && *b != TEXT_END)
 }
 
-/// Whether the duration is shorter than the window, or none.
+/// Is true where the duration is none, or shorter than the window.
 pub(crate) fn is_duration(duration: Option<u64>) -> bool
     ensures { IsTrue result ↔ IfSome duration (λ d. d < window) }
 {
@@ -52,7 +52,7 @@ pub(crate) fn is_duration(duration: Option<u64>) -> bool
 }
 
 impl Note {
-    /// The annotation, or `None` where no TAL can hold it.
+    /// Returns the annotation, or `None` where no TAL can hold it.
     ///
     /// `duration` counts nanoseconds. A TAL can hold it where it is shorter than the window of
     /// instants, the years 1985 to 2184, and the text where it has no byte 0 or 20.
@@ -69,7 +69,7 @@ impl Note {
         }
     }
 
-    /// The annotation of parts that a TAL can hold.
+    /// Returns the annotation of parts that a TAL can hold.
     pub(crate) fn of_parts(onset: Instant, duration: Option<u64>, text: String) -> Note
         requires duration { IfSome duration (λ d. d < window) }
         requires text { IsText (string_bytes text) }
@@ -83,7 +83,7 @@ impl Note {
         }
     }
 
-    /// Its onset as an instant.
+    /// Returns the onset as an instant.
     pub fn onset(&self) -> Instant
         ensures value { result ≡ self.now.onset }
         ensures note { IsAnnotation self.now }
@@ -91,7 +91,7 @@ impl Note {
         self.onset
     }
 
-    /// Its duration in nanoseconds, shorter than the window of instants, or none.
+    /// Returns the duration in nanoseconds, shorter than the window of instants, or none.
     pub fn duration(&self) -> Option<u64>
         ensures value { result ≡ self.now.duration }
         ensures note { IsAnnotation self.now }
@@ -99,7 +99,7 @@ impl Note {
         self.duration
     }
 
-    /// Its text, without the bytes 0 and 20.
+    /// Returns the text, which has no byte 0 or 20.
     pub fn text(&self) -> &str
         ensures value { result.now ≡ self.now.text }
         ensures note { IsAnnotation self.now }

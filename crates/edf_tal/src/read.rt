@@ -20,7 +20,7 @@ use edf_time::Instant;
 use std::alloc::{AllocError, Global};
 use std::str::from_utf8_unchecked;
 
-/// The annotation with this text.
+/// Makes an annotation with a copy of the text.
 fn make_note(
     alloc: Global,
     onset: Instant,
@@ -101,7 +101,7 @@ pub(crate) fn push_tals(
     Ok(())
 }
 
-/// What follows an empty first text.
+/// Returns the texts after an empty first one.
 fn after_empty(texts: &[u8]) -> &[u8]
     requires { (rest : List ℕ) × (texts.now ≡ 20 ∷ rest) }
     ensures { (rest : List ℕ) → texts.now ≡ 20 ∷ rest → result.now ≡ rest }
@@ -131,7 +131,7 @@ fn push_first(
     push_tals(alloc, list, first.rest, file_start)
 }
 
-/// The annotations of blocks without a fault.
+/// Returns the annotations of blocks without a fault.
 fn list_notes(
     alloc: Global,
     block: &[u8],
@@ -153,23 +153,22 @@ fn list_notes(
     Ok(list)
 }
 
-/// The start and the annotations of a data record, from its annotations blocks (EDF+, time-stamped
-/// annotations lists).
+/// Reads the start and the annotations of a data record from its annotations blocks (EDF+,
+/// time-stamped annotations lists).
 ///
-/// `block` is what the annotations signals have in the data record, joined in file order, and
-/// `sizes` says how many bytes each of them has there: there is at least one, and their sum is the
-/// length of `block`. Each block by itself is TALs one after the other, then bytes 0 to its end. A
-/// TAL is an onset in seconds, maybe byte 21 and a duration in seconds, byte 20, each text with a
-/// byte 20 after it, and byte 0. Onsets count from `file_start`, the instant of the header's
-/// startdate and starttime. The first annotation of the first block's first TAL is empty: it keeps
-/// time, its TAL's onset is the data record's start, and it is not in the list. The list has all
-/// other annotations, block after block. All annotations of a TAL share its onset and duration.
+/// `block` has the bytes of the annotations signals in the data record, joined in file order, and
+/// `sizes` the number of bytes of each: there is at least one, and their sum is the length of
+/// `block`. Each block by itself is TALs one after the other, then bytes 0 to its end. A TAL is an
+/// onset in seconds, maybe byte 21 and a duration in seconds, byte 20, each text with a byte 20
+/// after it, and byte 0. Onsets count from `file_start`, the instant of the header's startdate and
+/// starttime. The first annotation of the first block's first TAL is the time-keeping one: it is
+/// empty, its onset is the data record's start, and it is not in the list. The list has all other
+/// annotations, block after block. All annotations of a TAL share its onset and duration.
 ///
 /// # Errors
-/// The first fault that is true, as `TalFault` describes them: `FirstOnset` only at
-/// `Place::First`, `Order` only at `Place::After`. Offsets count from 0 over `block`, so over the
-/// blocks joined; E22 names the first block that is no list of TALs. `Memory` where an allocation
-/// was refused; the blocks then have no fault.
+/// The first `TalFault` that is true, with offsets over `block`: `FirstOnset` only at
+/// `Place::First`, `Order` only at `Place::After`. `Memory` where an allocation was refused; the
+/// blocks then have no fault.
 pub fn read_blocks(
     alloc: Global,
     block: &[u8],
@@ -196,8 +195,8 @@ pub fn read_blocks(
     }
 }
 
-/// The start and the annotations of a data record that has one annotations block, as `read_blocks`
-/// reads them.
+/// Reads the start and the annotations of a data record with one annotations block, as
+/// `read_blocks` does.
 ///
 /// # Errors
 /// Those of `read_blocks`.

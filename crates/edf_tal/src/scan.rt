@@ -14,10 +14,10 @@ pub(crate) const TEXT_END: u8 = 20;
 /// The byte between an onset and a duration.
 pub(crate) const DURATION_MARK: u8 = 21;
 
-/// The byte after a TAL, with which a block is filled too.
+/// The byte after a TAL, which also fills the rest of a block.
 pub(crate) const TAL_END: u8 = 0;
 
-/// The onset and the duration of a TAL, in nanoseconds; what does not fit 63 bits counts as 2 ^ 63.
+/// The onset and the duration of a TAL in nanoseconds, each capped at 2 ^ 63.
 #[derive(Clone, Copy)]
 pub(crate) struct Times {
     pub(crate) ahead: bool,
@@ -25,17 +25,17 @@ pub(crate) struct Times {
     pub(crate) duration: Option<u64>,
 }
 
-/// The TAL at the front of some bytes.
+/// The TAL that some bytes begin with.
 #[derive(Clone, Copy)]
 pub(crate) struct LeadingTal<'a> {
     pub(crate) times: Times,
-    /// Its texts, each with the byte that ends it.
+    /// The texts, each with the byte that ends it.
     pub(crate) texts: &'a [u8],
-    /// What follows it.
+    /// The bytes after the TAL.
     pub(crate) rest: &'a [u8],
 }
 
-/// What comes before the first such byte, and what follows it.
+/// Returns the bytes before the first such byte, and those after it.
 pub(crate) fn split_first(bytes: &[u8], byte: u8) -> Option<(&[u8], &[u8])>
     ensures { MatchOption result (Lacks byte bytes.now)
         (λ sides. Lacks byte sides.0.now × (bytes.now ≡ sides.0.now ++ byte ∷ sides.1.now)) }
@@ -48,7 +48,7 @@ pub(crate) fn split_first(bytes: &[u8], byte: u8) -> Option<(&[u8], &[u8])>
     None
 }
 
-/// The nanoseconds of a decimal, capped.
+/// Returns the nanoseconds of a decimal, capped at 2 ^ 63.
 pub(crate) fn capped_seconds(text: &[u8]) -> Option<u64>
     ensures { MatchOption result ((n : ℕ) → ¬ IsSeconds text.now n)
         (λ nanos. (n : ℕ) × IsSeconds text.now n × (nanos ≡ capped n)) }
@@ -61,7 +61,7 @@ pub(crate) fn capped_seconds(text: &[u8]) -> Option<u64>
     }
 }
 
-/// A decimal, and a duration or none.
+/// Reads an onset without its sign, and a duration or none.
 fn spans(bytes: &[u8]) -> Option<(u64, Option<u64>)>
     ensures { MatchOption result ((n : ℕ) (d : Option ℕ) → ¬ IsTimes bytes.now n d)
         (λ r. (n : ℕ) × (d : Option ℕ) × IsTimes bytes.now n d
@@ -80,7 +80,7 @@ fn spans(bytes: &[u8]) -> Option<(u64, Option<u64>)>
     }
 }
 
-/// The times after a sign.
+/// Reads the times after a sign.
 fn signed_times(sign: u8, unsigned: &[u8]) -> Option<Times>
     ensures { MatchOption result ((z : ℤ) (d : Option ℕ) → ¬ IsHead (sign ∷ unsigned.now) z d)
         (λ t. (z : ℤ) × (d : Option ℕ) × IsHead (sign ∷ unsigned.now) z d
@@ -99,7 +99,7 @@ fn signed_times(sign: u8, unsigned: &[u8]) -> Option<Times>
     })
 }
 
-/// The times before a TAL's first byte 20.
+/// Reads the times before a TAL's first byte 20.
 fn head_times(head: &[u8]) -> Option<Times>
     ensures { MatchOption result ((z : ℤ) (d : Option ℕ) → ¬ IsHead head.now z d)
         (λ t. (z : ℤ) × (d : Option ℕ) × IsHead head.now z d
@@ -111,14 +111,14 @@ fn head_times(head: &[u8]) -> Option<Times>
     }
 }
 
-/// Whether the last byte, if there is one, ends a text.
+/// Is true where there is no byte, or the last one ends a text.
 fn is_ended(bytes: &[u8]) -> bool
     ensures { IsTrue result ↔ EndsWith20 bytes.now }
 {
     bytes.is_empty() || bytes[bytes.len() - 1] == TEXT_END
 }
 
-/// The TAL at the front.
+/// Reads the TAL that the bytes begin with.
 pub(crate) fn first_tal(bytes: &[u8]) -> Option<LeadingTal<'_>>
     ensures { MatchOption result (NoTal bytes.now)
         (λ f. (t : Tal) × IsLeadingTal bytes.now f.texts.now f.rest.now t
@@ -140,7 +140,7 @@ fn is_utf8(text: &[u8]) -> bool
     simdutf8::basic::from_utf8(text).is_ok()
 }
 
-/// How many texts there are, or where the first begins that is not UTF-8.
+/// Counts the texts. The error is where the first one begins that is not UTF-8.
 pub(crate) fn check_texts(texts: &[u8]) -> Result<usize, usize>
     ensures { MatchResult result (AreGoodTexts texts.now) (IsBadAmong texts.now) }
 {

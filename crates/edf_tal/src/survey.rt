@@ -10,16 +10,16 @@ use crate::note::is_duration;
 use crate::scan::{Times, check_texts, first_tal};
 use edf_time::Instant;
 
-/// What the TALs of a block come to, where all their texts are UTF-8.
+/// The totals of a block's TALs, whose texts are all UTF-8.
 #[derive(Clone, Copy)]
 pub(crate) struct Totals<'a> {
-    /// What follows the last TAL.
+    /// The bytes after the last TAL.
     pub(crate) rest: &'a [u8],
-    /// Whether each onset and duration keeps the window.
+    /// Is true where each onset and duration fits the window.
     pub(crate) in_window: bool,
-    /// How many annotations there are, the time-keeping one among them.
+    /// The number of annotations, with the time-keeping one.
     pub(crate) count: usize,
-    /// How many bytes their texts have.
+    /// The number of bytes of their texts.
     pub(crate) text_bytes: usize,
 }
 
@@ -27,11 +27,11 @@ pub(crate) struct Totals<'a> {
 #[derive(Clone, Copy)]
 pub(crate) struct BadText<'a> {
     pub(crate) offset: usize,
-    /// What follows the last TAL.
+    /// The bytes after the last TAL.
     pub(crate) rest: &'a [u8],
 }
 
-/// The instant of an onset.
+/// Returns the instant of an onset, or `None` where it is outside the window.
 pub(crate) fn onset_instant(ahead: bool, onset: u64, file_start: Instant) -> Option<Instant>
     ensures { (z : ℤ) → IsCappedOnset ahead onset z →
         MatchOption result (¬ IsInWindow (pos file_start +ℤ z))
@@ -47,7 +47,7 @@ pub(crate) fn onset_instant(ahead: bool, onset: u64, file_start: Instant) -> Opt
     }
 }
 
-/// Whether an onset and a duration keep the window.
+/// Is true where an onset and a duration fit the window.
 pub(crate) fn is_in_window(times: Times, file_start: Instant) -> bool
     ensures { (t : Tal) →
         IsCappedOnset times.ahead times.onset t.onset → IsCappedDuration times.duration t.duration →
@@ -59,7 +59,7 @@ pub(crate) fn is_in_window(times: Times, file_start: Instant) -> bool
     }
 }
 
-/// What follows the TALs at the front.
+/// Returns the bytes after all leading TALs.
 pub(crate) fn after_tals(bytes: &[u8]) -> &[u8]
     ensures whole { FollowsTals bytes.now result.now }
     ensures last { NoTal result.now }
@@ -71,7 +71,7 @@ pub(crate) fn after_tals(bytes: &[u8]) -> &[u8]
     rest
 }
 
-/// What the TALs at the front come to, or the first of their texts that is not UTF-8.
+/// Returns the totals of all leading TALs, or the first of their texts that is not UTF-8.
 pub(crate) fn survey(block: &[u8], file_start: Instant) -> Result<Totals<'_>, BadText<'_>>
     ensures { MatchResult result
         (λ s. IsSurvey block.now file_start s.rest.now s.in_window s.count s.text_bytes

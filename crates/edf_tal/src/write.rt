@@ -13,7 +13,7 @@ use crate::scan::{DURATION_MARK, TAL_END, TEXT_END};
 use edf_time::{Instant, seconds_len, write_seconds};
 use std::alloc::{AllocError, Global};
 
-/// How far the instants lie apart, in nanoseconds.
+/// Returns the nanoseconds between two instants.
 fn distance(base: Instant, onset: Instant) -> u64
     ensures value { result ≡ unsigned_abs (pos onset -ℤ pos base) }
     ensures bound { result < window }
@@ -83,7 +83,7 @@ fn push_annotation(
     block.extend_from_slice(&[TEXT_END, TAL_END])
 }
 
-/// The length of a decimal of the window.
+/// Returns the length of the shortest decimal.
 fn short_len(nanos: u64) -> usize
     requires { nanos < window }
     ensures value { result ≡ length (short nanos) }
@@ -92,7 +92,7 @@ fn short_len(nanos: u64) -> usize
     seconds_len(nanos)
 }
 
-/// The length of what `push_duration` appends.
+/// Returns the length of what `push_duration` appends.
 fn duration_len(duration: Option<u64>) -> usize
     requires { IfSome duration (λ d. d < window) }
     ensures value { result ≡ length (duration_text duration) }
@@ -104,7 +104,7 @@ fn duration_len(duration: Option<u64>) -> usize
     }
 }
 
-/// The length of the TAL of one annotation.
+/// Returns the length of the TAL of one annotation.
 fn annotation_len(base: Instant, onset: Instant, duration: Option<u64>, text: &[u8]) -> usize
     requires duration { IfSome duration (λ d. d < window) }
     requires text { length text.now ≤ MOST_TEXT_BYTES }
@@ -115,9 +115,10 @@ fn annotation_len(base: Instant, onset: Instant, duration: Option<u64>, text: &[
     1 + short_len(distance(base, onset)) + duration_len(duration) + 3 + text.len()
 }
 
-/// The length in bytes of the block that `write_block` writes (EDF+, time-stamped annotations
-/// lists), at most `MOST_CANONICAL_BLOCK_BYTES`. There are at most `MOST_ANNOTATIONS` annotations,
-/// with texts of `MOST_TEXT_BYTES` in all. The contract also says what holds of each of them.
+/// Returns the number of bytes that `write_block` writes, at most `MOST_CANONICAL_BLOCK_BYTES`.
+///
+/// There are at most `MOST_ANNOTATIONS` annotations, with texts of `MOST_TEXT_BYTES` in all. The
+/// contract also says what holds of each of them.
 pub fn block_len(start: Instant, notes: &[Note], base: Instant) -> usize
     requires { IsWithinLimits notes.now }
     ensures value { result ≡ length (block_text base start notes.now) }
@@ -131,16 +132,16 @@ pub fn block_len(start: Instant, notes: &[Note], base: Instant) -> usize
     len
 }
 
-/// The canonical annotations block of a data record, without the bytes 0 that fill its signal
-/// (EDF+, time-stamped annotations lists).
+/// Writes the canonical annotations block of a data record, without the bytes 0 that fill its
+/// signal (EDF+, time-stamped annotations lists).
 ///
-/// The time-keeping annotation is alone in the first TAL, then each annotation in a TAL of its own,
-/// in order. Onsets count from `base`, with `+` where they do not lie before it; every decimal is
-/// the shortest. There are at most `MOST_ANNOTATIONS` annotations, with texts of `MOST_TEXT_BYTES`
-/// in all, so the block has at most `MOST_CANONICAL_BLOCK_BYTES`.
+/// The time-keeping annotation is alone in the first TAL, and each other annotation has a TAL of
+/// its own, in order. Onsets count from `base`, with `+` where they do not lie before it; every
+/// decimal is the shortest. There are at most `MOST_ANNOTATIONS` annotations, with texts of
+/// `MOST_TEXT_BYTES` in all.
 ///
 /// # Errors
-/// Where memory runs out.
+/// `AllocError` where memory runs out.
 pub fn write_block(
     alloc: Global,
     start: Instant,
@@ -165,15 +166,15 @@ pub fn write_block(
     Ok(block)
 }
 
-/// Whether two annotations have the same onset, duration and text.
+/// Is true where two annotations have the same onset, duration and text.
 fn is_same(a: &Note, b: &Note) -> bool
     ensures { IsTrue result ↔ (a.now ≡ b.now) }
 {
     a.onset() == b.onset() && a.duration() == b.duration() && a.text() == b.text()
 }
 
-/// Whether two lists have the same annotations in the same order. A duration of 0 is not the same
-/// as none.
+/// Is true where two lists have the same annotations in the same order. A duration of 0 is not the
+/// same as none.
 pub fn same_notes(a: &[Note], b: &[Note]) -> bool
     ensures { IsTrue result ↔ (a.now ≡ b.now) }
 {

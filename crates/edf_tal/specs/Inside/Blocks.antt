@@ -1,4 +1,4 @@
--- Words of what is known of blocks on the way.
+-- Results of the steps by which blocks are read.
 use Rattle.std.specs.Prelude.{◌≡◌, ℕ, ◌≤◌, List, [], ◌∷◌, length, sum, sum_by, IsTrue, ◌↔◌, pos}
 use Rattle.std.specs.Prelude.{None}
 use Rattle.std.specs.List.{AllByRecursion, flat_map}
@@ -11,12 +11,12 @@ use Rattle.edf_tal.specs.declared.blocks.Sums.{Sums}
 use Rattle.edf_tal.specs.declared.blocks.Form.{Form}
 use Rattle.edf_tal.specs.declared.blocks.Form.TheVariants.{Good, BadText}
 
--- the sizes of blocks, of one at least, that are the bytes together
+-- sizes of one block or more, whose sum is the number of bytes
 pub record AreSizes (sizes block : List ℕ) : Type 0 where
   pub some : 1 ≤ length sizes
   pub sum_is : sum sizes ≡ length block
 
--- blocks of TALs with UTF-8 texts, and what these come to
+-- blocks of TALs with UTF-8 texts have these totals
 pub record AreSurveyed (blocks : List (List ℕ)) (file_start : ℕ) (sums : Sums) : Type 0 where
   pub tals : List (List Tal)
   pub lists : AreBlocks blocks tals
@@ -26,13 +26,13 @@ pub record AreSurveyed (blocks : List (List ℕ)) (file_start : ℕ) (sums : Sum
   pub bytes_is : sums.text_bytes ≡ sum_by (λ a. length a.text)
       (flat_map (tal_annotations file_start) (all_tals tals))
 
--- what blocks that are TALs and zeros are
+-- blocks that are TALs and zeros have this form
 abbrev pub HasForm : List (List ℕ) → ℕ → Form → Type 0
 HasForm blocks file_start (Good sums) = AreSurveyed blocks file_start sums
 HasForm blocks file_start (BadText offset) = ((tss : List (List Tal)) × AreBlocks blocks tss)
     × HaveInvalidUtf8At blocks offset
 
--- the blocks have no fault at this place: they give this start, and a list of this length
+-- the blocks have no fault at this place: they parse to this start, and to a list of this length
 pub record IsChecked (blocks : List (List ℕ)) (file_start : ℕ) (place : Place)
     (start count : ℕ) : Type 0 where
   pub list : List Annotation
@@ -47,13 +47,13 @@ bare_tal n = record { onset = pos n; duration = None; texts = [] ∷ [] }
 abbrev pub IsTimeKeepingBlock : List ℕ → ℕ → Type 0
 IsTimeKeepingBlock block n = AreTalsAndZeros block (bare_tal n ∷ [])
 
--- the TALs of a block without a fault, but for the first one's rules
+-- the TALs of a block without a fault, where the rules of the first TAL are not checked
 pub record AreSoundTals (bytes : List ℕ) (file_start : ℕ) (tals : List Tal) : Type 0 where
   pub whole : AreTalsAndZeros bytes tals
   pub good : HaveUtf8Texts tals
   pub window : AllByRecursion (IsTalInWindow file_start) tals
 
--- the same of each block
+-- each block has such TALs
 abbrev pub AreSoundLists : List (List ℕ) → ℕ → List (List Tal) → Type 0
 AreSoundLists [] file_start [] = Unit {0}
 AreSoundLists (block ∷ blocks) file_start (ts ∷ tss) = AreSoundTals block file_start ts

@@ -1,4 +1,4 @@
--- Words of the scan's helpers.
+-- Definitions of the scan's helpers.
 use Rattle.std.specs.Prelude.{◌≡◌, ◌≢◌, ℕ, ◌+◌, ◌^◌, ◌≤◌, min, List, [], ◌∷◌, ◌++◌, length, sum_by}
 use Rattle.std.specs.Prelude.{ℤ, pos, neg_ℤ, ◌≤ℤ◌, ◌<ℤ◌, Bool, Option, Some, None, IsTrue, IsUtf8}
 use Rattle.std.specs.Prelude.{◌↔◌, if◌then◌else◌}
@@ -21,7 +21,7 @@ AreZeros bytes = AllByRecursion (λ b. b ≡ 0) bytes
 abbrev pub NoTal : List ℕ → Type 0
 NoTal bytes = (prefix rest : List ℕ) (t : Tal) → bytes ≡ prefix ++ rest → ¬ IsTal prefix t
 
--- a number that is counted as 2 ^ 63 from there on
+-- greater numbers count as 2 ^ 63
 abbrev pub capped : ℕ → ℕ
 capped n = min n (2 ^ 63)
 
@@ -58,7 +58,7 @@ EndsWith20 [] = Unit {0}
 EndsWith20 (b ∷ []) = b ≡ 20
 EndsWith20 (b ∷ c ∷ bytes) = EndsWith20 (c ∷ bytes)
 
--- the TAL at the front, its texts and what is after it
+-- the bytes begin with the TAL of these texts, and the rest follows
 pub record IsLeadingTal (bytes texts rest : List ℕ) (t : Tal) : Type 0 where
   pub prefix : List ℕ
   pub parts : bytes ≡ prefix ++ rest
@@ -85,15 +85,15 @@ pub record AreGoodTexts (texts : List ℕ) (count : ℕ) : Type 0 where
   pub is_rest : Lacks 20 rest
   pub count_is : count ≡ length list
 
--- TALs, and then this rest
+-- the bytes are TALs, and then this rest
 pub record FollowsTals (bytes rest : List ℕ) : Type 0 where
   pub prefix : List ℕ
   pub tals : List Tal
   pub parts : bytes ≡ prefix ++ rest
   pub whole : AreTals prefix tals
 
--- TALs with UTF-8 texts, and then this rest; whether they keep the window, and how many annotations
--- and bytes of texts they have
+-- the bytes are TALs with UTF-8 texts, and then this rest; the TALs have so many annotations and
+-- bytes of texts, and are in the window or not
 pub record IsSurvey (bytes : List ℕ) (file_start : ℕ) (rest : List ℕ) (in_window : Bool)
     (count text_bytes : ℕ) : Type 0 where
   pub prefix : List ℕ
