@@ -1,5 +1,5 @@
--- What a list of submissions answers, and what it leaves: first call by call; then what all of it
--- comes to, where each answer tells a reply, and in every case, with what a crash may leave.
+-- Lists of submissions: their answers, and the store after them. First call by call; then all calls
+-- as one list, where each has a reply, and in every case, with the rows after a crash.
 use Rattle.std.specs.Prelude.{◌≡◌, ◌⊎◌, ℕ, List, [], ◌∷◌, ◌++◌, map, Option, Some, None, Ok, Err}
 use Rattle.std.specs.List.{AllByRecursion, AllZip}
 use Rattle.sqlite_trees.specs.declared.store.Store.{Ghosts}
@@ -16,16 +16,15 @@ use Rattle.edf_intake.specs.Submitted.{IsRefusal, IsSubmitted, IsEnded, found_bu
 use Rattle.edf_fragment.specs.Call.{InputState}
 use Rattle.edf_intake.specs.Input.{ReadsAs, FailsToRead, ReadsPrefix}
 
--- one call of `submit`: its answer, what it leaves, and that no input is read where the store was
--- found in a transaction
+-- one call of `submit` gave this answer; if a transaction was open before it, it read no input
 pub record SubmitsOne {S : Type 0} (g : Ghosts S) (old new : StoreModel S) (from to : InputState)
     (answer : Answer) : Type 0 where
   pub submitted : IsSubmitted g old new from to answer
   pub ended : IsEnded g new answer
   pub busy : IsBusy g old → (to ≡ from) × (answer ≡ found_busy)
 
--- The inputs were submitted one after another, each to the store that the one before left. So as
--- each accepted one was answered, the store was open and held it, also where it is shut later.
+-- The inputs were submitted one after another, each to the store as it was after the one before. So
+-- when an accepted one was answered, the store was open and held it, even if it is closed later.
 abbrev pub AreSubmitted : {S : Type 0} → Ghosts S → StoreModel S → StoreModel S →
     List InputState → List InputState → List Answer → Type 0
 AreSubmitted g old new [] [] [] = new ≡ old
@@ -33,14 +32,14 @@ AreSubmitted {S} g old new (from ∷ froms) (to ∷ tos) (answer ∷ answers) = 
     × SubmitsOne g old mid from to answer × AreSubmitted g mid new froms tos answers
 AreSubmitted g old new froms tos answers = ⊥
 
--- the input's bytes are known, and tell this
+-- the input's bytes are known, and parse to this
 abbrev pub WillParseTo : InputState → Parsed → Type 0
 WillParseTo from submission = (bytes : List ℕ) × (from.remaining ≡ Some bytes)
     × ParsesTo bytes submission
 
 module _ {S : Type 0} (g : Ghosts S) (old new : StoreModel S) where
-  -- the plain case: where the inputs tell these and each answer tells a reply, the answers are the
-  -- replies to the list, and what is held then is what the list leaves
+  -- The plain case: the inputs parse to these submissions, and each answer stands for a reply. Then
+  -- these are the replies to the list, and the store holds what is held after the list.
   abbrev pub AnswersAll : List InputState → List Answer → Type 0
   AnswersAll froms answers = (submissions : List Parsed) (given : List Reply) →
       AllZip WillParseTo froms submissions →
@@ -48,28 +47,28 @@ module _ {S : Type 0} (g : Ghosts S) (old new : StoreModel S) where
       (HasCleanDisk (at g new) → given ≡ replies old.cap h submissions)
       × Holds g new (after old.cap h submissions)
 
--- one input's turn: how it was found and left, its answer, and what it tells: nothing, where the
--- answer is E40 to E42 or E45
+-- one input's turn: the input before and after it, the answer, and the submission that was parsed,
+-- which is `None` where the answer is E40 to E42 or E45
 pub record Turn : Type 0 where
   pub from : InputState
   pub to : InputState
   pub answer : Answer
   pub submission : Option Parsed
 
--- the members that are there
+-- the values of those that are `Some`
 abbrev pub some_values : {A : Type 0} → List (Option A) → List A
 some_values [] = []
 some_values (None ∷ os) = some_values os
 some_values (Some x ∷ os) = x ∷ some_values os
 
--- what the inputs tell, and the replies that their answers tell, in their order
+-- the submissions that were parsed, and the replies that the answers stand for, in their order
 abbrev pub submissions_in : List Turn → List Parsed
 submissions_in turns = some_values (map (λ (t : Turn). t.submission) turns)
 
 abbrev pub replies_in : List Turn → List Reply
 replies_in turns = some_values (map (λ (t : Turn). reply_of t.answer) turns)
 
--- the answer to a faulty file is `Form`, and that to a good one never is; `Accepted` has the file's
+-- the reply to a faulty file is `Form`, and that to a good one never is; `Accepted` has the file's
 -- own key
 abbrev pub IsPossibleReply : Parsed → Reply → Type 0
 IsPossibleReply (Fault fault) answer = answer ≡ Form fault
@@ -77,8 +76,8 @@ IsPossibleReply (Fragment key records) (Form fault) = ⊥
 IsPossibleReply (Fragment key records) (Accepted k new known) = k ≡ key
 IsPossibleReply (Fragment key records) answer = Unit {0}
 
--- the input was read as its answer says: it tells this, and the answer tells a reply; or neither
--- tells anything
+-- the input was read as its answer says: it parses to this submission, and this reply to it is
+-- possible; or there is neither
 abbrev pub AgreesWith : Turn → Option Parsed → Option Reply → Type 0
 AgreesWith t (Some submission) (Some answer) = ReadsAs t.from t.to submission
     × IsPossibleReply submission answer
@@ -88,7 +87,7 @@ AgreesWith t submission answer = ⊥
 abbrev pub IsTurn : Turn → Type 0
 IsTurn t = AgreesWith t t.submission (reply_of t.answer)
 
--- where the store refused, the refusal is one that a submission may be answered
+-- where the store refused, its fault is one that `submit` may answer
 abbrev pub IsOwnCause : {S : Type 0} → Ghosts S → StoreModel S → Cause → Type 0
 IsOwnCause g new (OfStore fault) = IsRefusal g (Unit {0}) new fault
 IsOwnCause g new other = Unit {0}
@@ -97,16 +96,14 @@ abbrev pub IsOwnRefusal : {S : Type 0} → Ghosts S → StoreModel S → Answer 
 IsOwnRefusal g new (Ok receipt) = Unit {0}
 IsOwnRefusal g new (Err refused) = IsOwnCause g new (cause refused)
 
--- the next input's answer is E41 or E42, and the rows stand for what is held and what that input
--- tells, submitted to it
+-- the next input was answered E41 or E42, and the rows represent what is held after its submission
 abbrev pub MayHaveCommittedNext : ℕ → Holdings → List Turn → Trees → Type 0
 MayHaveCommittedNext cap h [] rows = ⊥
 MayHaveCommittedNext cap h (t ∷ ts) rows = IsInDoubt t.answer
     × ((submission : Parsed) × ReadsAs t.from t.to submission
     × RepresentCommitted cap rows (after_one cap h submission))
 
--- what a crash may leave: rows that stand for what some first inputs leave, or for that and the
--- next
+-- the rows after a crash represent what is held after some first turns, perhaps with the next one
 pub record MayRemainAfterCrash (cap : ℕ) (h : Holdings) (turns : List Turn)
     (rows : Trees) : Type 0 where
   pub first : List Turn
@@ -116,9 +113,9 @@ pub record MayRemainAfterCrash (cap : ℕ) (h : Holdings) (turns : List Turn)
       ⊎ MayHaveCommittedNext cap (after cap h (submissions_in first)) rest rows
 
 module _ {S : Type 0} (g : Ghosts S) (old new : StoreModel S) where
-  -- every case: the inputs together are one list. Those answered E40 to E42 or E45 add nothing;
-  -- the others are answered and leave what they would without those; a crash leaves what it could
-  -- leave before, or what some first inputs leave
+  -- In every case the inputs together are one list. Those answered E40 to E42 or E45 add nothing;
+  -- the answers to the others, and what is held then, are as if only the others were submitted. The
+  -- rows after a crash are what they could be before, or those after some first turns.
   pub record AreSubmittedAsList (froms tos : List InputState) (answers : List Answer) : Type 0
     where
       pub turns : List Turn
@@ -135,13 +132,13 @@ module _ {S : Type 0} (g : Ghosts S) (old new : StoreModel S) where
       pub crash : Survives (at g old) (at g new) (λ rows. (h : Holdings) → Holds g old h →
           MayRemainAfterCrash old.cap h turns rows)
 
--- what was submitted one after another is one list
+-- submissions one after another are one list
 abbrev pub InTurnIsAsList : {S : Type 0} → Ghosts S → Type 0
 InTurnIsAsList {S} g = (old new : StoreModel S) (froms tos : List InputState)
     (answers : List Answer) → AreSubmitted g old new froms tos answers →
     AreSubmittedAsList g old new froms tos answers
 
--- after the last input no transaction is open, as its answer says; without inputs the store is as
+-- after the last answer no transaction is open, as `IsEnded` says; without inputs the store is as
 -- it was
 abbrev pub AreEnded : {S : Type 0} → Ghosts S → StoreModel S → StoreModel S → List Answer → Type 0
 AreEnded g old new [] = new ≡ old

@@ -1,4 +1,4 @@
--- What a submission reads of its input.
+-- The input of a submission: how much of it was read, and what it parses to.
 use Rattle.std.specs.Prelude.{◌≡◌, ◌⊎◌, ℕ, List, Option, IfSome}
 use Rattle.std.specs.Io.KnownBytes.{Consumes, IsAtEnd}
 use Rattle.edf_header.specs.Key.{Key}
@@ -12,7 +12,7 @@ use Rattle.edf_fragment.specs.declared.advance.Progress.{Progress}
 use Rattle.edf_fragment.specs.declared.fault.FragmentFault.{FragmentFault}
 use Rattle.edf_fragment.specs.declared.fault.FragmentFault.TheVariants.{Read, Memory, Failed}
 
--- of form
+-- the fault is one of the bytes: no failed read, want of memory or fault of an earlier call
 abbrev pub IsFormFault : FragmentFault → Type 0
 IsFormFault Read = ⊥
 IsFormFault Memory = ⊥
@@ -27,7 +27,7 @@ module _ (from to : InputState) where
   abbrev pub NoReadFailed : Type 0
   NoReadFailed = to.failed ≡ from.failed
 
-  -- the whole input, up to its end, spells this fragment, and no read failed
+  -- the whole input, up to its end, is the file of this fragment, and no read failed
   pub record ReadsWhole (key : Key) (records : List DataRecord) : Type 0 where
     pub bytes : List ℕ
     pub read : Consumes from.remaining to.remaining bytes
@@ -35,19 +35,19 @@ module _ (from to : InputState) where
     pub spells : IsFragmentFile bytes key records
     pub counted : NoReadFailed
 
-  -- this is why the input is no fragment; just what shows that was read, and no read failed
+  -- the input has this fault and is no fragment; no more was read than shows it, and no read failed
   pub record ReadsFault (fault : FragmentFault) : Type 0 where
     pub of_form : IsFormFault fault
     pub is_fault : IsFragmentFault from.remaining to.remaining fault
     pub none : IfSome from.remaining IsNoFragmentFile
     pub counted : NoReadFailed
 
-  -- what the input tells
+  -- the input was read, and parses to this
   abbrev pub ReadsAs : Parsed → Type 0
   ReadsAs (Fragment key records) = ReadsWhole key records
   ReadsAs (Fault fault) = ReadsFault fault
 
-  -- one read failed, and the input is there
+  -- a read failed, and was counted
   pub record FailsToRead : Type 0 where
     pub is_fault : IsFragmentFault from.remaining to.remaining Read
     pub counted : CountsFault from.failed to.failed Read
@@ -67,9 +67,9 @@ module _ (from to : InputState) where
     pub is_fault : IsFragmentFault from.remaining to.remaining Memory
     pub counted : NoReadFailed
 
-  -- how far the input was read where memory ran out or the store refused: not at all; a header and
-  -- some data records; up to where memory ran out; to where a read failed; or as far as a reply
-  -- needs, which the store's refusal then stands in place of
+  -- Where memory ran out or the store refused, the input was read so far: not at all; a header and
+  -- some data records; until memory ran out; until a read failed; or as far as the reply needed
+  -- that the store's refusal replaces.
   abbrev pub ReadsPrefix : Type 0
   ReadsPrefix = (to ≡ from)
       ⊎ (ReadsSome ⊎ (RunsOutOfMemory

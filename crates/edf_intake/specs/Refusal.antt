@@ -1,4 +1,4 @@
--- The numbers and names of refusals, what each comes of, and the reply that an answer tells.
+-- The numbers, names and causes of refusals, and the reply that an answer stands for.
 use Rattle.std.specs.Prelude.{ℕ, List, codes, Option, Some, None, Result, Ok, Err}
 use Rattle.edf_fragment.specs.Fault.{fragment_fault_number, fragment_fault_name}
 use Rattle.edf_fragment.specs.declared.fault.FragmentFault.{FragmentFault}
@@ -19,7 +19,7 @@ refusal_number refusal.Read = 40
 refusal_number refusal.Memory = 41
 refusal_number (refusal.Store fault) = number fault
 
--- the name of a refusal, which is that of the fault where it is for one
+-- the name of a refusal; one that has a fault bears the fault's name
 abbrev pub refusal_name : Refusal → List ℕ
 refusal_name (refusal.Form fault) = fragment_fault_name fault
 refusal_name (refusal.Overlap start stored) = codes "Overlap"
@@ -29,7 +29,7 @@ refusal_name refusal.Read = codes "Read"
 refusal_name refusal.Memory = codes "Memory"
 refusal_name (refusal.Store fault) = store_fault_name fault
 
--- what a refusal comes of: a fault of form, a conflict with what is held, a failed read, want of
+-- the cause of a refusal: a fault of form, a conflict with what is held, a failed read, want of
 -- memory, or a fault of the store
 pub data Cause : Type 0 where
   OfForm : FragmentFault → Cause
@@ -51,7 +51,7 @@ cause (refusal.Store fault) = OfStore fault
 abbrev pub Answer : Type 0
 Answer = Result Receipt Refusal
 
--- the reply that a refusal tells; one for a failed read, want of memory or the store tells none
+-- the reply for a cause; a failed read, want of memory and a fault of the store have none
 abbrev pub reply_of_cause : Cause → Option Reply
 reply_of_cause (OfForm fault) = Some (Form fault)
 reply_of_cause (OfConflict conflict) = Some (Conflicts conflict)
@@ -59,7 +59,7 @@ reply_of_cause OfRead = None
 reply_of_cause OfMemory = None
 reply_of_cause (OfStore fault) = None
 
--- the reply that an answer tells
+-- the reply that an answer stands for
 abbrev pub reply_of : Answer → Option Reply
 reply_of (Ok receipt) = Some (Accepted receipt.identity receipt.new receipt.known)
 reply_of (Err refused) = reply_of_cause (cause refused)
@@ -70,7 +70,7 @@ IsStopped (Err refusal.Memory) = Unit {0}
 IsStopped (Err (refusal.Store fault)) = Unit {0}
 IsStopped answer = ⊥
 
--- E41 or E42: a crash may leave that the input was submitted
+-- E41 or E42: after a crash the submission may be committed
 abbrev pub IsInDoubt : Answer → Type 0
 IsInDoubt (Err refusal.Memory) = Unit {0}
 IsInDoubt (Err (refusal.Store fault)) = IsStoreRefusal fault

@@ -1,5 +1,5 @@
--- What a submission answers, and what it leaves. Each case says what the input tells and what the
--- answer is, then what is held after the call, and last what a crash in it may leave.
+-- One submission: its answer, and the store after it. Each case says what the input parses to and
+-- what the answer is, then what is held after the call, and last the rows after a crash in it.
 use Rattle.std.specs.Prelude.{◌≡◌, ◌⊎◌, false, List, None, Ok, Err, IsTrue}
 use Rattle.sqlite_trees.specs.declared.store.Store.{Ghosts}
 use Rattle.sqlite_trees.specs.Tree.{Trees}
@@ -22,28 +22,27 @@ use Rattle.edf_intake.specs.Input.{ReadsAs, ReadsWhole, FailsToRead, ReadsPrefix
 use Rattle.edf_intake.specs.declared.answer.Receipt.{Receipt}
 use Rattle.edf_intake.specs.declared.answer.Refusal.TheVariants as refusal
 
--- Why the store refused, with E42 or E45: `sqlite` refused with an error; or the connection was
--- found in a transaction, only where the condition says so; or rows are foreign, only where the
--- disk did not return what was written. Where memory ran out, the refusal is E41 and not this one.
+-- The store refused, with E42 or E45: `sqlite` gave an error; or the connection was in a
+-- transaction, only where `IfBusy` holds; or rows are foreign, only where the disk did not return
+-- what was written. Where memory ran out, the refusal is E41 and not this one.
 abbrev pub IsRefusal : {S : Type 0} → Ghosts S → (IfBusy : Type 0) → StoreModel S → StoreFault →
     Type 0
 IsRefusal g IfBusy new store.Memory = ⊥
 IsRefusal g IfBusy new fault = MayRefuse IfBusy (IsUnclean g new) ⊥ fault
 
 module _ {S : Type 0} (g : Ghosts S) (old new : StoreModel S) where
-  -- whatever was held, this is the reply to what the input tells
+  -- whatever was held, this is the reply to the submission
   abbrev pub RepliesWith : Parsed → Reply → Type 0
   RepliesWith submission answer = HasCleanDisk (at g new) → (h : Holdings) → Holds g old h →
       reply old.cap h submission ≡ answer
 
-  -- what a crash may leave: rows that stand for what was held, after what the input tells was
-  -- submitted
+  -- the rows after a crash represent what is held after the submission
   abbrev pub RemainAfterCrash : Parsed → Trees → Type 0
   RemainAfterCrash submission rows = (h : Holdings) → Holds g old h →
       RepresentCommitted old.cap rows (after_one old.cap h submission)
 
-  -- what the input tells was submitted: the store holds what that leaves, with what was beside it,
-  -- and is open; a crash leaves what it could leave before, or that
+  -- the submission is committed: the store is open and holds what is held after it, and the other
+  -- tables are unchanged; the rows after a crash are what they could be before, or those after it
   pub record CommitsSubmission (submission : Parsed) : Type 0 where
     pub cap : new.cap ≡ old.cap
     pub holdings : (h : Holdings) → Holds g old h → Holds g new (after_one old.cap h submission)
@@ -51,8 +50,8 @@ module _ {S : Type 0} (g : Ghosts S) (old new : StoreModel S) where
     pub is_open : HasCleanDisk (at g new) → IsTrue (at g new).is_open
     pub crash : Survives (at g old) (at g new) (RemainAfterCrash submission)
 
-  -- what is held stays, and what is beside it; yet after a crash the store may hold what the input
-  -- tells too
+  -- what is held is unchanged, and so are the other tables; yet after a crash the store may hold
+  -- the submission too
   pub record MayHaveCommitted (submission : Parsed) : Type 0 where
     pub cap : new.cap ≡ old.cap
     pub holdings : (h : Holdings) → Holds g old h → Holds g new h
@@ -60,7 +59,7 @@ module _ {S : Type 0} (g : Ghosts S) (old new : StoreModel S) where
     pub crash : Survives (at g old) (at g new) (RemainAfterCrash submission)
 
   module _ (from to : InputState) where
-    -- the whole input tells a fragment, and this is how it is accepted
+    -- the whole input is a fragment, and is accepted with this receipt
     pub record Accepts (receipt : Receipt) : Type 0 where
       pub records : List DataRecord
       pub read : ReadsWhole from to receipt.identity records
@@ -68,8 +67,8 @@ module _ {S : Type 0} (g : Ghosts S) (old new : StoreModel S) where
           (Accepted receipt.identity receipt.new receipt.known)
       pub leaves : CommitsSubmission (Fragment receipt.identity records)
 
-    -- the input tells this, and this is how it is refused; what is held stays, and a crash leaves
-    -- what it could leave before
+    -- the input parses to this, and is refused with this reply; what is held is unchanged, and the
+    -- rows after a crash are what they could be before
     pub record Refuses (submission : Parsed) (answer : Reply) : Type 0 where
       pub read : ReadsAs from to submission
       pub reply_is : RepliesWith submission answer
@@ -79,19 +78,19 @@ module _ {S : Type 0} (g : Ghosts S) (old new : StoreModel S) where
     RefusesFragment answer = (key : Key) × (records : List DataRecord)
         × Refuses (Fragment key records) answer
 
-    -- a read failed; what is held stays, and a crash leaves what it could leave before
+    -- a read failed; what is held is unchanged, and so are the rows after a crash
     pub record IsReadFailure : Type 0 where
       pub read : FailsToRead from to
       pub stays : KeepsHoldings g old new
 
-    -- memory ran out or the store refused; what is held stays. Only after E41 and E42, and where
-    -- the whole input was read and tells a fragment, may a crash leave that it was submitted
+    -- memory ran out or the store refused; what is held is unchanged. Only after E41 or E42, and if
+    -- the whole input was read and is a fragment, may it be committed after a crash
     abbrev pub IsInterrupted : Answer → Type 0
     IsInterrupted answer = (KeepsHoldings g old new × ReadsPrefix from to)
         ⊎ (IsInDoubt answer × ((key : Key) × (records : List DataRecord)
         × ReadsWhole from to key records × MayHaveCommitted (Fragment key records)))
 
-    -- each cause of a refusal, what it says of the input and what is left
+    -- each cause of a refusal says how the input was read, and what the store holds then
     abbrev pub IsRefusedFor : Cause → Type 0
     IsRefusedFor (OfForm fault) = Refuses (Fault fault) (Form fault)  -- of form
     IsRefusedFor (OfConflict conflict) = RefusesFragment (Conflicts conflict)  -- from E30 on
@@ -101,7 +100,7 @@ module _ {S : Type 0} (g : Ghosts S) (old new : StoreModel S) where
     IsRefusedFor (OfStore fault) = IsInterrupted (Err (refusal.Store fault))
         × IsRefusal g (IsBusy g old) new fault
 
-    -- each answer, what it says of the input and what it leaves
+    -- each answer says how the input was read, and what the store holds then
     abbrev pub IsSubmitted : Answer → Type 0
     IsSubmitted (Ok receipt) = Accepts receipt
     IsSubmitted (Err refused) = IsRefusedFor (cause refused)
@@ -111,6 +110,6 @@ abbrev pub IsEnded : {S : Type 0} → Ghosts S → StoreModel S → Answer → T
 IsEnded g new answer = HasCleanDisk (at g new) → IsStopped answer
     ⊎ ((at g new).in_transaction ≡ false)
 
--- the answer where the store's connection was found in a transaction: E42 without a cause
+-- the answer if the connection was in a transaction before the call: E42 without a cause
 abbrev pub found_busy : Answer
 found_busy = Err (refusal.Store (store.Store None))

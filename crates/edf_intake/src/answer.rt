@@ -1,4 +1,4 @@
-//! How a submission is answered.
+//! Answers to submissions.
 
 ghost use Rattle.std.specs.Prelude.{◌≡◌, ◌≢◌, List, Some, None, Err, length, IfSome};
 ghost use Rattle.edf_header.specs.Key.{Key};
@@ -18,19 +18,17 @@ use edf_store::StoreFault;
 use edf_time::Instant;
 use thiserror::Error;
 
-/// The answer to an accepted fragment: of which recording it is, how many of its data records were
-/// added, and how many were held already.
+/// The answer to an accepted fragment: its recording, and the counts of its data records.
 #[derive(Drop)]
 pub struct Receipt {
-    /// The identity of the recording.
     pub identity: Identity,
-    /// How many data records were added.
+    /// The number of data records that were added.
     pub new: u32,
-    /// How many were held before, as they are in the fragment.
+    /// The number that were held already.
     pub known: u32,
 }
 
-/// Why a fragment is not accepted. What was held before the submission is held after it.
+/// A fragment is not accepted. What was held before the submission is held after it.
 #[derive(Clone, Copy, Debug, PartialEq, Eq, Drop, Error)]
 pub enum Refusal {
     /// The input is no fragment. The fault is neither a failed read nor want of memory.
@@ -60,7 +58,7 @@ pub enum Refusal {
 }
 
 impl Refusal {
-    /// The number of the refusal.
+    /// Returns the number after the `E`.
     pub fn number(&self) -> u8
         ensures { result ≡ refusal_number self.now }
     {
@@ -75,7 +73,7 @@ impl Refusal {
         }
     }
 
-    /// The name of the refusal, which is that of the fault where it is for one.
+    /// Returns the name of the variant, or of its fault.
     pub fn name(&self) -> &'static str
         ensures { result.now ≡ refusal_name self.now }
     {
@@ -91,7 +89,7 @@ impl Refusal {
     }
 }
 
-/// Where memory ran out, the refusal is `Memory`, and not `Store`.
+/// If memory ran out, the refusal is `Memory`, and not `Store`.
 impl From<StoreFault> for Refusal {
     ghost use Rattle.edf_intake.specs.Inside.Halt.{store_refusal};
 
@@ -105,10 +103,10 @@ impl From<StoreFault> for Refusal {
     }
 }
 
-/// Why a submission is not accepted, before its transaction is given up.
+/// The reason why a submission's transaction is rolled back.
 #[derive(Clone, Copy)]
 pub(crate) enum Stop {
-    /// Its fragment is refused so, or could not be read.
+    /// The fragment is refused, or could not be read.
     Input(Refusal),
     /// A call of the store was refused.
     Store(StoreFault),
@@ -135,8 +133,7 @@ impl From<FragmentFault> for Stop {
     }
 }
 
-/// The refusal for a fault of the fragment. A failed read and want of memory have refusals of their
-/// own.
+/// Returns the refusal for a fault. A failed read and want of memory have their own.
 pub(crate) fn fragment_refusal(fault: FragmentFault) -> Refusal
     ensures { result ≡ fragment_refusal fault }
 {
@@ -147,7 +144,7 @@ pub(crate) fn fragment_refusal(fault: FragmentFault) -> Refusal
     }
 }
 
-/// The refusal for a clash.
+/// Returns the refusal for a clash.
 fn clash_refusal(starts: Starts) -> Refusal
     ensures differs { starts.start ≡ starts.stored → result ≡ Refusal.Differs starts.start }
     ensures overlaps { starts.start ≢ starts.stored →
@@ -162,7 +159,7 @@ fn clash_refusal(starts: Starts) -> Refusal
     }
 }
 
-/// Why a whole fragment is not accepted: its first clash, or no room. `None` where it is accepted.
+/// Returns the conflict of a whole fragment: its first clash, or `Full`. `None` accepts it.
 pub(crate) fn conflict(destination: Destination, cap: u32, findings: Findings) -> Option<Refusal>
     ensures accepted { result ≡ None → MayBeAccepted destination.spare findings }
     ensures refused { IfSome result IsConflict }

@@ -19,7 +19,7 @@ use edf_store::{RecordingId, StoreFault, StoreTx};
 use edf_time::Instant;
 use sqlite::Alter;
 
-/// What the stored data records near a data record say of it.
+/// The verdict on a data record by the stored ones near it.
 #[derive(Clone, Copy)]
 pub(crate) enum Verdict {
     /// It clashes with the one that starts there, and with none before that.
@@ -30,7 +30,7 @@ pub(crate) enum Verdict {
     New,
 }
 
-/// What the stored data records near one say of it.
+/// Returns the verdict that the stored data records near one give.
 pub(crate) fn verdict_of(data_record: &Record, near: &[Record]) -> Verdict
     ensures { IsVerdict data_record.now near.now result }
 {
@@ -55,8 +55,7 @@ pub(crate) struct Starts {
     pub(crate) stored: Instant,
 }
 
-/// What was found of the data records of a fragment so far: how many are new and how many are
-/// known, up to the first that clashes.
+/// The counts of a fragment's new and known data records so far, up to the first that clashes.
 #[derive(Clone, Copy)]
 pub(crate) struct Findings {
     pub(crate) new: u32,
@@ -64,32 +63,29 @@ pub(crate) struct Findings {
     pub(crate) clash: Option<Starts>,
 }
 
-/// Where the data records of a fragment go: a recording of the transaction, which has room for
-/// `spare` more.
+/// The recording that a fragment's data records are added to. It may get `spare` more.
 #[derive(Clone, Copy)]
 pub(crate) struct Destination {
     pub(crate) id: RecordingId,
     pub(crate) spare: u32,
 }
 
-/// What was found of one data record: the verdict on it, and the gap that begins where it starts,
-/// if one is known.
+/// The verdict on a data record, and the gap that begins where it starts, if one is known.
 #[derive(Clone, Copy)]
 struct Found {
     verdict: Verdict,
     gap: Option<Gap>,
 }
 
-/// How far the data records of a fragment were taken: what was found of them so far, and the gap
-/// after the last of them, if one is known.
+/// The findings so far, and the gap after the last data record, if one is known.
 #[derive(Clone, Copy)]
 struct Course {
     findings: Findings,
     gap: Option<Gap>,
 }
 
-/// The verdict on a data record. The store is asked only where the data record does not lie in the
-/// gap: for the stored ones near it, and, where there are none, for the next start.
+/// Returns the verdict on a data record. The store is read only if that is not in the gap: for the
+/// stored ones near it, and, if there are none, for the next start.
 fn find_verdict<S: Alter>(
     transaction: &mut StoreTx<'_, S>,
     id: RecordingId,
@@ -99,7 +95,7 @@ fn find_verdict<S: Alter>(
 ) -> Result<Found, StoreFault>
     requires running { IsRunningFor S.Store transaction.old id.row identity.now }
     requires gap { IsGapInside S.Store transaction.old identity.now gap }
-    // Nothing is added, so the verdict is on what the transaction sees then, too.
+    // Nothing is added, so the verdict still holds of what the transaction sees after it.
     ensures leaves { ReadsInTransaction S.Store transaction.old transaction.new result
         (HasCauseOrIsUnclean S.Store transaction.new) }
     ensures found { IfOk result
@@ -126,7 +122,7 @@ fn find_verdict<S: Alter>(
     }
 }
 
-/// Takes one data record more: it is added where nothing is near it and there is room.
+/// Takes the next data record. It is added if nothing is near it and fewer than `spare` are new.
 fn take_record<S: Alter>(
     transaction: &mut StoreTx<'_, S>,
     destination: Destination,
@@ -135,10 +131,10 @@ fn take_record<S: Alter>(
     data_record: &Record,
 ) -> Result<Course, StoreFault>
     requires running { IsRunningFor S.Store transaction.old destination.id.row identity.now }
-    // The store demands this of a data record that it adds.
+    // The store requires this of a data record that it adds.
     requires next { MayBeNext S.Store transaction.old identity.now data_record.now
         destination.spare course }
-    // After a refusal the transaction can only be given up.
+    // After a refusal the transaction can only be rolled back.
     ensures leaves { KeepsRunning S.Store transaction.old transaction.new result }
     ensures taken { IfOk result (IsRecordTaken S.Store transaction.old transaction.new
         identity.now data_record.now destination.id.row destination.spare course) }
@@ -191,7 +187,7 @@ pub(crate) fn take_records<S: Alter, R: Input>(
 ) -> Result<Findings, Stop>
     requires running { IsRunningFor S.Store transaction.old destination.id.row
         fragment.old.header.key }
-    // As many are added as there is room for, so the room must not reach past the cap.
+    // As many as `spare` may be added, so the cap must allow them.
     requires spare { IsSpareInside S.Store transaction.old fragment.old.header.key
         (most_records fragment.old.header.count) destination.spare }
     requires header { HasReadHeader (R.remaining input.old) fragment.old.header

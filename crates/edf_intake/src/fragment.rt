@@ -18,8 +18,7 @@ use edf_store::{RecordingId, StoreFault, StoreTx};
 use sqlite::Alter;
 use std::alloc::Global;
 
-/// The room for the data records of a fragment, where their number is known and the recording has
-/// that room.
+/// Returns the number of data records, if it is known and the recording may get so many more.
 fn known_spare<S: Alter>(
     transaction: &mut StoreTx<'_, S>,
     id: RecordingId,
@@ -38,8 +37,8 @@ fn known_spare<S: Alter>(
     if fits { Ok(Some(count)) } else { Ok(None) }
 }
 
-/// The recording of an identity, which is made where it is missing, with room for `count` data
-/// records if it has that; where their number is unknown, with all the room that it has.
+/// Finds or adds the recording of an identity. Its spare is `count` if it may get so many more, and
+/// else all that the cap allows.
 fn find_destination<S: Alter>(
     transaction: &mut StoreTx<'_, S>,
     cap: u32,
@@ -48,7 +47,7 @@ fn find_destination<S: Alter>(
 ) -> Result<Destination, StoreFault>
     requires running { IsRunning S.Store transaction.old }
     requires cap { cap ≡ transaction.old.store.now.cap }
-    // A recording that is made holds nothing yet, so what the transaction sees stays.
+    // A recording that is added holds nothing yet, so the transaction sees the same holdings.
     ensures leaves { KeepsTransaction S.Store transaction.old transaction.new result }
     ensures found { IfOk result (IsDestination S.Store transaction.old transaction.new
         identity.now (most_records count)) }
@@ -62,8 +61,7 @@ fn find_destination<S: Alter>(
     Ok(Destination { id, spare })
 }
 
-/// Reads a fragment to its end and adds what is new of it, as long as nothing clashes and there is
-/// room.
+/// Reads a fragment to its end, and adds its new data records until one clashes or is too many.
 pub(crate) fn take_fragment<S: Alter, R: Input>(
     alloc: Global,
     transaction: &mut StoreTx<'_, S>,
@@ -71,9 +69,9 @@ pub(crate) fn take_fragment<S: Alter, R: Input>(
     input: &mut R,
 ) -> Result<Receipt, Stop>
     requires running { IsRunning S.Store transaction.old }
-    // A commit demands this, so what is accepted must keep it.
+    // A commit requires this, so it must also be true after a fragment is accepted.
     requires whole { EachHasRecord S.Store transaction.old.store.now }
-    // The caller asks the store for its cap before the transaction has the store.
+    // The caller reads the cap before the transaction borrows the store.
     requires cap { cap ≡ transaction.old.store.now.cap }
     ensures leaves { KeepsRunning S.Store transaction.old transaction.new result }
     ensures accepted { IfOk result (IsAcceptedInside S.Store transaction.old transaction.new

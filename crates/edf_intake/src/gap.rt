@@ -1,4 +1,4 @@
-//! What is known of where a recording's stored data records start.
+//! Times in which no stored data record of a recording starts.
 
 ghost use Rattle.std.specs.Prelude.{◌≡◌, ◌+◌, ◌≤◌, ◌↔◌, List, [], IsTrue, IfSome, OnSome};
 ghost use Rattle.edf_fragment.specs.Fragment.{DataRecord};
@@ -8,16 +8,16 @@ ghost use Rattle.edf_intake.specs.Inside.Gap.{IsGap};
 use edf_field::MOST_DURATION;
 use edf_time::Instant;
 
-/// A time in which no stored data record of a recording starts: after `from` and before `until`.
-/// Where there is no `until`, none starts after `from`.
+/// No stored data record of a recording starts after `from` and before `until`; without an `until`,
+/// none starts after `from`.
 #[derive(Clone, Copy)]
 pub(crate) struct Gap {
     pub(crate) from: Instant,
     pub(crate) until: Option<Instant>,
 }
 
-/// What is left of a gap after a data record that starts at `start` and lies in it. Nothing is near
-/// such a data record. `None` where it does not lie in the gap, or where no gap is known.
+/// Returns the rest of a gap after a data record that starts at `start` and lies in it: nothing is
+/// near that. Returns `None` if it does not lie in the gap, or if no gap is known.
 pub(crate) fn gap_after(gap: Option<Gap>, start: Instant, duration: u64) -> Option<Gap>
     requires duration { duration ≤ MOST_DURATION }
     ensures from { IfSome result (λ rest. rest.from ≡ start) }
@@ -35,8 +35,7 @@ pub(crate) fn gap_after(gap: Option<Gap>, start: Instant, duration: u64) -> Opti
     }
 }
 
-/// Whether a data record that starts at `start` ends at `until` or before.
-/// Where there is no `until`, it does.
+/// Is true if a data record that starts at `start` ends by `until`, or there is no `until`.
 fn ends_by(start: Instant, duration: u64, until: Option<Instant>) -> bool
     requires duration { duration ≤ MOST_DURATION }
     ensures { IsTrue result ↔ IfSome until (λ until. start + duration ≤ until) }

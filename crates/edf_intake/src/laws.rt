@@ -1,4 +1,4 @@
-//! Laws of lists of submissions: each function has laws for a contract, and does nothing.
+//! Laws about lists of submissions. Each function has laws as its contract, and does nothing.
 
 ghost use Rattle.edf_holdings.specs.Laws.{HeldIsKnown, AcceptedAgain, RefusedAgain};
 ghost use Rattle.edf_holdings.specs.Laws.{RepeatsChangeNothing, ResentFromStart, AnyOrder};
@@ -9,10 +9,9 @@ ghost use Rattle.edf_intake.specs.Batch.{InTurnIsAsList};
 
 use sqlite::Alter;
 
-/// A list acts once: a fragment that is held is accepted with nothing new; a later repeat of a
-/// member that was accepted is accepted with nothing new, and one of a refused member is refused
-/// again; without the repeat all else is the same; and a list broken off and sent again from its
-/// start ends alike.
+/// Repeats add nothing. A fragment that is held, or repeats an accepted one, is accepted with none
+/// new; a repeat of a refused one is refused again; without a repeat all else is the same. A list
+/// that is broken off and sent again from its start gives the same holdings as the list sent once.
 pub fn once()
     ensures held { HeldIsKnown }
     ensures accepted { AcceptedAgain }
@@ -23,8 +22,8 @@ pub fn once()
     edf_holdings::laws::once();
 }
 
-/// A list that is free of conflicts is accepted whole; reordered, or with repeats, it is as free
-/// and ends alike.
+/// A conflict-free list is accepted whole. Reordered, or with repeats, it is still conflict-free
+/// and gives the same holdings.
 pub fn any_order()
     ensures accepted { AnyOrder }
     ensures reordered { Reordered }
@@ -33,9 +32,9 @@ pub fn any_order()
     edf_holdings::laws::any_order();
 }
 
-/// Lists that are free of conflicts and hold the same records end alike, however they are cut; and
-/// if one is free, so is the other. A recording's own list of data records is accepted with nothing
-/// new where it is held, and where nothing is held it leaves just that recording.
+/// Conflict-free lists with the same records give the same holdings, however they are cut; and if
+/// one is conflict-free, so is the other. A recording's own data records are accepted with nothing
+/// new where they are held; where nothing is held, just that recording is held after them.
 pub fn recut()
     ensures same { Recut }
     ensures free { SameRecordsStayConflictFree }
@@ -45,10 +44,9 @@ pub fn recut()
     edf_holdings::meaning::intake();
 }
 
-/// What is submitted one after another is one list. What is held then is what the list leaves, and
-/// the answers are the replies to it, but for members for which memory ran out, or a read or the
-/// store failed: these add nothing. A crash leaves what some first members leave, perhaps with the
-/// next.
+/// Submissions one after another are one list: what is held then is what is held after the list,
+/// and the answers are the replies to it. Members for which memory ran out, or a read or the store
+/// failed, add nothing. After a crash some first members are held, perhaps with the next.
 pub fn as_one_list<S: Alter>()
     ensures { InTurnIsAsList S.Store }
 {}

@@ -15,23 +15,20 @@ use std::alloc::{AllocError, Global};
 
 /// Submits one fragment, which is accepted whole or refused whole.
 ///
-/// The input is read once, up to its end or up to its first fault of form, with one data record in
-/// memory at a time. The fragment is accepted where none of its data records clashes with a stored
-/// one of its identity, and where it adds none or the recording then has no more than the store's
-/// cap. The input is read to its end also where a data record clashes or there is no more room. So
-/// a fault of form is always answered in place of these.
+/// The input is read once, up to its end or its first fault of form, with one data record in memory
+/// at a time. The fragment is accepted if none of its data records clashes with a stored one of its
+/// identity, and if it adds none or the recording then has no more than the store's cap. The input
+/// is read on after a conflict, so a fault of form is always answered in its place.
 ///
 /// # Errors
-/// `Form`: the first fault of the input. Else a conflict with what is held, from
-/// `Overlap` (E30) on: a data record that clashes, else that there is no room. `Read` (E40) where a
-/// read failed, in place of what would have been found after it, and of a conflict. `Memory` (E41)
-/// where memory ran out and `Store` (E42, E45) where the store refused a call, in place of any
-/// other. Where it refused more than one call, the first refusal is the answer; the call that
-/// undoes what was added counts among them.
+/// - `Form`: the first fault of the input.
+/// - `Overlap`, `Differs`, `Full` (E30 to E32): a conflict with what is held.
+/// - `Read` (E40): a read failed. It replaces a conflict, and any fault after it.
+/// - `Memory` (E41): memory ran out. `Store` (E42, E45): the store refused a call. They replace any
+///   other. The answer is the first call that was refused, the rollback among them.
 ///
-/// What was held before is held after each refusal. E45 comes only from a disk that does not give
-/// back what was written. E42 has no cause where the connection was left in a transaction, and then
-/// nothing was read.
+/// What was held before is held after each refusal. E45 comes only from a disk that does not return
+/// what was written. E42 without a cause comes if a transaction was open; then nothing was read.
 pub fn submit<S: Alter, R: Input>(
     alloc: Global,
     store: &mut Store<S>,
@@ -61,12 +58,11 @@ pub fn submit<S: Alter, R: Input>(
     }
 }
 
-/// Submits each input in turn, also after refused ones, and gives one answer for each, in
-/// their order. Each is as one call of [`submit`], so an accepted one was held as it was answered,
-/// whatever came after it.
+/// Submits each input in turn, also after refused ones, and returns one answer for each, in their
+/// order. Each is one call of [`submit`], so an accepted one was held when it was answered.
 ///
 /// # Errors
-/// `AllocError` where there is no memory for the answers; then nothing was read or submitted.
+/// `AllocError`: there is no memory for the answers. Then nothing was read or submitted.
 pub fn submit_all<S: Alter, R: Input>(
     alloc: Global,
     store: &mut Store<S>,

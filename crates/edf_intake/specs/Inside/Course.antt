@@ -1,4 +1,4 @@
--- What a data record of a fragment must be to come next, and what taking it leaves.
+-- The next data record of a fragment: when it may come, and the findings after it.
 use Rattle.std.specs.Prelude.{◌≡◌, ℕ, ◌+◌, ◌-◌, ◌^◌, ◌<◌, ◌≤◌, ℤ, [], length, None, IfSome}
 use Rattle.sqlite_trees.specs.declared.store.Store.{Ghosts}
 use Rattle.sqlite.specs.State.{HasCleanDisk}
@@ -14,7 +14,7 @@ use Rattle.edf_intake.specs.Inside.Verdict.{IsVerdictIn, CountsNext}
 use Rattle.edf_intake.specs.declared.data_records.Course.{Course}
 use Rattle.edf_intake.specs.declared.data_records.Found.{Found}
 
--- no clash was met so far, and there is room
+-- no clash was met so far, and fewer than `spare` are new
 abbrev pub MayAdd : ℕ → Course → Type 0
 MayAdd spare course = (course.findings.clash ≡ None) × (course.findings.new < spare)
 
@@ -33,15 +33,15 @@ module _ {S : Type 0} (g : Ghosts S) where
     pub gap : IsGapInside g tx key course.gap
 
   module _ (old new : StoreTx S) (key : Key) (r : DataRecord) where
-    -- what the stored records near it say of it, and a gap that begins where it starts
+    -- the stored records near it give this verdict, and the gap begins where it starts
     pub record IsFoundFor (found : Found) : Type 0 where
       pub verdict : HasCleanDisk (at g new.store.now) →
           IsVerdictIn g old.store.now key r found.verdict
       pub gap : HasCleanDisk (at g new.store.now) → IsGapIn g old.store.now key found.gap
       pub from : IfSome found.gap (λ gap. gap.from ≡ r.start)
 
-    -- it was taken: the transaction sees what that makes of what it saw; the recording is there
-    -- under its id, and none was made; it is counted, and the gap is one
+    -- it was taken: the transaction sees the holdings after it; the recording is there under its
+    -- id, and none was added; it is counted, and the gap is one
     pub record IsRecordTaken (id : ℤ) (spare : ℕ) (from to : Course) : Type 0 where
       pub recording : IsOf g new.store.now id key
       pub only : AddsNoRecording g old.store.now new.store.now

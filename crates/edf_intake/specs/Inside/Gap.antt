@@ -24,6 +24,6 @@ module _ {S : Type 0} (g : Ghosts S) where
   abbrev pub IsGapIn : StoreModel S → Key → Option Gap → Type 0
   IsGapIn store key gap = (h : Holdings) → Sees g store h → IfSome gap (IsGap (h key))
 
-  -- the same of those that the transaction sees, on a disk that returns what was written
+  -- on a disk that returns what was written, none of those that the transaction sees does
   abbrev pub IsGapInside : StoreTx S → Key → Option Gap → Type 0
   IsGapInside tx key gap = HasCleanDisk (at g tx.store.now) → IsGapIn tx.store.now key gap

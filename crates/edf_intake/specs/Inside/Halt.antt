@@ -1,4 +1,4 @@
--- Why a submission ends before its end, and what was read of the input then.
+-- Submissions that stop before the end of the input, and how far that was read.
 use Rattle.std.specs.Prelude.{◌≡◌, ℕ, List, Option}
 use Rattle.sqlite_trees.specs.declared.store.Store.{Ghosts}
 use Rattle.edf_header.specs.Header.{Layout}
@@ -38,7 +38,7 @@ HaltsReading g tx from to (Input refusal) = (fault : FragmentFault)
     × IsFragmentFault from.remaining to.remaining fault × CountsFault from.failed to.failed fault
 HaltsReading g tx from to (Store fault) = ReadsSome from to × HasCauseOrIsUnclean g tx fault
 
--- the same, said of what was read of the input from its header on
+-- reading halts so, if `from` is taken as it was before the header was read
 abbrev pub HaltsAfterHeader : {S : Type 0} → Ghosts S → StoreTx S → Layout → InputState →
     InputState → Stop → Type 0
 HaltsAfterHeader g tx layout from to stop = (before : Option (List ℕ)) →

@@ -1,4 +1,4 @@
--- What a fragment met inside a transaction, before that ends.
+-- A fragment that was read inside a transaction which is still open.
 use Rattle.std.specs.Prelude.{◌≡◌, ℕ, ◌≤◌, List, Option, None}
 use Rattle.sqlite_trees.specs.declared.store.Store.{Ghosts}
 use Rattle.sqlite.specs.State.{HasCleanDisk}
@@ -27,7 +27,7 @@ use Rattle.edf_intake.specs.declared.answer.Stop.TheVariants.{Input, Store}
 use Rattle.edf_intake.specs.declared.data_records.Destination.{Destination}
 use Rattle.edf_intake.specs.declared.data_records.Findings.{Findings}
 
--- the refusal comes of a conflict
+-- the cause is a conflict
 abbrev pub IsOfConflict : Cause → Type 0
 IsOfConflict (OfConflict conflict) = Unit {0}
 IsOfConflict other = ⊥
@@ -35,7 +35,7 @@ IsOfConflict other = ⊥
 abbrev pub IsConflict : Refusal → Type 0
 IsConflict refused = IsOfConflict (cause refused)
 
--- nothing clashes, and there is room for what is new
+-- nothing clashes, and no more than `spare` are new
 abbrev pub MayBeAccepted : ℕ → Findings → Type 0
 MayBeAccepted spare findings = (findings.clash ≡ None) × (findings.new ≤ spare)
 
@@ -47,16 +47,16 @@ pub record HasReadHeader (left : Option (List ℕ)) (layout : Layout) (progress 
     pub none_read : progress ≡ initial_progress
 
 module _ {S : Type 0} (g : Ghosts S) (old new : StoreTx S) where
-  -- the key's recording, which was there or was made, and no other was; with room for what is asked
-  -- for, or all that the cap leaves
+  -- the key's recording was there or was added, and no other was added; what is seen is unchanged,
+  -- and the recording may get `asked` more, or all that the cap allows
   pub record IsDestination (key : Key) (asked : ℕ) (destination : Destination) : Type 0 where
     pub recording : IsOf g new.store.now destination.id.row key
     pub same : (h : Holdings) → Sees g old.store.now h → Sees g new.store.now h
     pub only : AddsOnlyRecording g key old.store.now new.store.now
     pub spare : IsSpareInside g new key asked destination.spare
 
-  -- all data records up to the end of the input were read, no read failed, and this was found of
-  -- them; what is new was added, where the fragment may be accepted
+  -- all data records up to the end of the input were read, no read failed, and these are the
+  -- findings; the new ones were added, if the fragment may be accepted
   pub record AreTaken (layout : Layout) (spare : ℕ) (from to : InputState)
       (findings : Findings) : Type 0 where
     pub only : AddsNoRecording g old.store.now new.store.now
@@ -69,7 +69,7 @@ module _ {S : Type 0} (g : Ghosts S) (old new : StoreTx S) where
         × (MayBeAccepted spare findings → Sees g new.store.now (with_records layout.key records h))
 
   module _ (from to : InputState) where
-    -- the fragment is accepted so; the transaction sees what it leaves, and may be committed
+    -- the fragment is accepted; the transaction sees what is held after it, and may be committed
     pub record IsAcceptedInside (receipt : Receipt) : Type 0 where
       pub records : List DataRecord
       pub read : ReadsWhole from to receipt.identity records
@@ -81,7 +81,7 @@ module _ {S : Type 0} (g : Ghosts S) (old new : StoreTx S) where
           (after_one old.store.now.cap h (Fragment receipt.identity records))
       pub whole : EachHasRecord g new.store.now
 
-    -- the fragment is refused so
+    -- the fragment is refused with this reply
     pub record IsConflictInside (answer : Reply) : Type 0 where
       pub key : Key
       pub records : List DataRecord
@@ -89,7 +89,7 @@ module _ {S : Type 0} (g : Ghosts S) (old new : StoreTx S) where
       pub reply_is : HasCleanDisk (at g new.store.now) → (h : Holdings) → Sees g old.store.now h →
           reply old.store.now.cap h (Fragment key records) ≡ answer
 
-    -- why the input is refused
+    -- the input is refused for this cause
     abbrev pub StopsFor : Cause → Type 0
     StopsFor (OfForm fault) = ReadsFault from to fault
     StopsFor (OfConflict conflict) = IsConflictInside (Conflicts conflict)
@@ -97,7 +97,7 @@ module _ {S : Type 0} (g : Ghosts S) (old new : StoreTx S) where
     StopsFor OfMemory = RunsOutOfMemory from to
     StopsFor (OfStore fault) = ⊥
 
-    -- why nothing is to be committed
+    -- nothing is to be committed, for this reason
     abbrev pub IsStop : Stop → Type 0
     IsStop (Input refused) = StopsFor (cause refused)
     IsStop (Store fault) = ReadsSome from to × HasCauseOrIsUnclean g new fault

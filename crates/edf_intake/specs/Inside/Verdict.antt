@@ -1,5 +1,5 @@
--- What the stored data records say of one of a fragment, and what was found of all of its data
--- records that were read so far.
+-- The verdict on a data record by the stored ones near it, and the findings on all data records of
+-- a fragment that were read so far.
 use Rattle.std.specs.Prelude.{◌≡◌, ◌⊎◌, ℕ, ◌+◌, ◌<◌, ◌≤◌, true, List, [], ◌∷◌, length, Some, None}
 use Rattle.std.specs.Prelude.{MatchOption}
 use Rattle.sqlite_trees.specs.declared.store.Store.{Ghosts}
@@ -19,32 +19,32 @@ use Rattle.edf_intake.specs.declared.data_records.Verdict.TheVariants.{Clashes, 
 use Rattle.edf_intake.specs.declared.data_records.Starts.{Starts}
 use Rattle.edf_intake.specs.declared.data_records.Findings.{Findings}
 
--- room in a recording that holds `held`, never past the cap: all that the cap leaves, or at least
--- what is asked for
+-- a recording that holds `held` may get `spare` more, never past the cap: all that the cap allows,
+-- or at least `asked`
 pub record IsSpare (cap held asked spare : ℕ) : Type 0 where
   pub fits : held + spare ≤ cap
   pub enough : (held + spare ≡ cap) ⊎ (asked ≤ spare)
 
--- the key's recording has this room, as the transaction sees it on a disk that returns what was
--- written
+-- the key's recording may get so many more, as the transaction sees it on a disk that returns what
+-- was written
 abbrev pub IsSpareInside : {S : Type 0} → Ghosts S → StoreTx S → Key → ℕ → ℕ → Type 0
 IsSpareInside g tx key asked spare = HasCleanDisk (at g tx.store.now) → (h : Holdings) →
     Sees g tx.store.now h → IsSpare tx.store.now.cap (length (h key)) asked spare
 
--- what the stored records near one say of it
+-- the stored records near it give this verdict on the record
 abbrev pub IsVerdict : DataRecord → List DataRecord → Verdict → Type 0
 IsVerdict r near (Clashes stored) = (s : DataRecord) × (first_other r near ≡ Some s)
     × (stored ≡ s.start)
 IsVerdict r near Known = (first_other r near ≡ None) × (contains_record near r ≡ true)
 IsVerdict r near New = near ≡ []
 
--- the same of those of the key's records that the transaction sees
+-- the key's records that are seen give this verdict on the record
 abbrev pub IsVerdictIn : {S : Type 0} → Ghosts S → StoreModel S → Key → DataRecord → Verdict →
     Type 0
 IsVerdictIn g store key r verdict = (h : Holdings) → Sees g store h →
     IsVerdict r (near_of (duration_of key.duration) r.start (h key)) verdict
 
--- what one record makes of the findings and of the holdings, given the stored ones near it
+-- a record with this verdict changes the findings and the holdings so
 abbrev pub CountsVerdict : ℕ → Key → DataRecord → List DataRecord → Holdings → Findings → Holdings →
     Findings → Verdict → Type 0
 CountsVerdict spare key r near h from t to (Clashes stored) = (t ≡ h)
@@ -71,7 +71,7 @@ pub record CountsAll (key : Key) (h : Holdings) (records : List DataRecord)
     pub new_is : findings.new ≡ count_new (h key) records
     pub all : findings.known + findings.new ≡ length records
 
--- the first that clashes starts here, and the earliest that it clashes with there
+-- these are the starts of the first record that clashes and of the earliest that it clashes with
 pub record NamesClash (key : Key) (h : Holdings) (records : List DataRecord)
     (starts : Starts) : Type 0 where
   pub pair : DataRecord × DataRecord
