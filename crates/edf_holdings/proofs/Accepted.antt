@@ -98,8 +98,7 @@ in_after cap h (t ∷ ts) k r w g m =
     ]
 
 after_has : (cap : ℕ) (h : Holdings) (ts : List Parsed) (k : Key) (r : DataRecord) →
-    AreWellFormed ts →
-    IsGood cap h → FromAccepted cap h ts k r → In r (after cap h ts k)
+    AreWellFormed ts → IsGood cap h → FromAccepted cap h ts k r → In r (after cap h ts k)
 after_has cap h ts k r w g a =
     subst (λ (l : List Parsed). In r (after cap h l k)) (sym a.splits)
     (subst (λ (z : Holdings). In r (z k)) (sym (after-append cap h a.before (a.member ∷ a.later)))

@@ -43,8 +43,7 @@ inserted_short r (x ∷ xs) =
     cond_both (same_record x r) (x ∷ xs)
     (cond (nat_lt r.start x.start) (r ∷ x ∷ xs) (x ∷ insert r xs)) (λ (l : List DataRecord).
     length l ≤ length (x ∷ xs) + 1)
-    (λ _. omega arith)
-    (λ _. cond_both (nat_lt r.start x.start) (r ∷ x ∷ xs) (x ∷ insert r xs)
+    (λ _. omega arith) (λ _. cond_both (nat_lt r.start x.start) (r ∷ x ∷ xs) (x ∷ insert r xs)
     (λ (l : List DataRecord). length l ≤ length (x ∷ xs) + 1)
     (λ _. omega arith) (λ _. omega (arith, inserted_short r xs)))
 

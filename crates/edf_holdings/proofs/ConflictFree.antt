@@ -33,8 +33,7 @@ inserted_longer r (x ∷ xs) =
     cond_both (same_record x r) (x ∷ xs)
     (cond (nat_lt r.start x.start) (r ∷ x ∷ xs) (x ∷ insert r xs)) (λ (l : List DataRecord).
     length (x ∷ xs) ≤ length l)
-    (λ _. omega arith)
-    (λ _. cond_both (nat_lt r.start x.start) (r ∷ x ∷ xs) (x ∷ insert r xs)
+    (λ _. omega arith) (λ _. cond_both (nat_lt r.start x.start) (r ∷ x ∷ xs) (x ∷ insert r xs)
     (λ (l : List DataRecord). length (x ∷ xs) ≤ length l)
     (λ _. omega arith) (λ _. omega (arith, inserted_longer r xs)))
 
@@ -61,8 +60,7 @@ IsAmong k r [] = ⊥
 IsAmong k r (t ∷ ts) = Has k r t ⊎ IsAmong k r ts
 
 in_one : (h : Holdings) (t : Parsed) (k : Key) (y : DataRecord) → In y (union_with h t k) →
-    In y (h k)
-    ⊎ Has k y t
+    In y (h k) ⊎ Has k y t
 in_one h (Fault fault) k y m = inl m
 in_one h (Fragment key records) k y m =
     put_cases key records h (λ q l. In y l → In y (h q) ⊎ Has q y (Fragment key records))
@@ -94,8 +92,7 @@ all_grows h [] k y m = m
 all_grows h (t ∷ ts) k y m = all_grows (union_with h t) ts k y (with_one_grows h t k y m)
 
 pub in_all : (h : Holdings) (ts : List Parsed) (k : Key) (y : DataRecord) →
-    In y (union_with_all h ts k) →
-    In y (h k) ⊎ IsAmong k y ts
+    In y (union_with_all h ts k) → In y (h k) ⊎ IsAmong k y ts
 in_all h [] k y m = inl m
 in_all h (t ∷ ts) k y m =
     elim (in_all (union_with h t) ts k y m) [

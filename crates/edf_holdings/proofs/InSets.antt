@@ -68,31 +68,25 @@ holdings_are_sets cap h other s t m =
 pub joined_has_both : JoinedHasBoth
 joined_has_both xs rs r = (
   (λ m. elim (in_joined r xs rs (In-from_Contains (union xs rs) r m)) [
-    | inl n ↦
-        inl (Contains-from_In xs r n)
+    | inl n ↦ inl (Contains-from_In xs r n)
     | inr n ↦ inr (Contains-from_In rs r n)
   ]),
-  (λ m. Contains-from_In (union xs rs) r
-      (elim m [
-        | inl n ↦ joined_keeps xs rs r (In-from_Contains xs r n)
-        | inr n ↦
-            joined_has xs rs r (In-from_Contains rs r n)
-      ])),
+  (λ m. Contains-from_In (union xs rs) r (elim m [
+    | inl n ↦ joined_keeps xs rs r (In-from_Contains xs r n)
+    | inr n ↦ joined_has xs rs r (In-from_Contains rs r n)
+  ])),
 )
 
 pub all_has_both : AllHasBoth
 all_has_both h ts k r = (
   (λ m. elim (in_all h ts k r (In-from_Contains (union_with_all h ts k) r m)) [
-    | inl n ↦
-        inl (Contains-from_In (h k) r n)
+    | inl n ↦ inl (Contains-from_In (h k) r n)
     | inr n ↦ inr (Any-from_IsAmong k r ts n)
   ]),
-  (λ m. Contains-from_In (union_with_all h ts k) r
-      (elim m [
-        | inl n ↦ all_grows h ts k r (In-from_Contains (h k) r n)
-        | inr n ↦
-            all_has h ts k r (IsAmong-from_Any k r ts n)
-      ])),
+  (λ m. Contains-from_In (union_with_all h ts k) r (elim m [
+    | inl n ↦ all_grows h ts k r (In-from_Contains (h k) r n)
+    | inr n ↦ all_has h ts k r (IsAmong-from_Any k r ts n)
+  ])),
 )
 
 -- what fits
@@ -142,8 +136,7 @@ accepted_where_fits cap h key records s w =
 
 -- of those that clash, the first in a rising list is the earliest
 find_earliest : (d low : ℕ) (r s : DataRecord) (xs : List DataRecord) → StartsAreSpaced 1 low xs →
-    In s xs →
-    clashes d r s ≡ true
+    In s xs → clashes d r s ≡ true
     → ((x : DataRecord) → In x xs → clashes d r x ≡ true → s.start ≤ x.start) →
     find (clashes d r) xs ≡ Some s
 find_earliest d low r s [] a m t w = absurd m
@@ -196,8 +189,7 @@ none_held : (cap : ℕ) → IsGood cap nothing_held
 none_held cap = record { rising = λ k. tt; apart = λ k. tt; few = λ k. omega arith }
 
 pub from_nothing : (d low : ℕ) (rs : List DataRecord) → 0 < d → StartsAreSpaced d low rs →
-    StartsAreSpaced d 0 rs →
-    union [] rs ≡ rs
+    StartsAreSpaced d 0 rs → union [] rs ≡ rs
 from_nothing d low rs z a b =
     same_lists d 0 0 (union [] rs) rs z (apart_joined d low [] rs tt a (λ r x m n. absurd n)) b
     (λ y m. elim (in_joined y [] rs m) [ inl n ↦ absurd n | inr n ↦ n ])
@@ -210,8 +202,7 @@ new_from_nothing (r ∷ rs) = omega (arith, new_from_nothing rs)
 -- records that lie apart and are each sound are sound together
 pub are-sound-from : (k : Key) (low : ℕ) (rs : List DataRecord) →
     StartsAreSpaced (duration_of k.duration) low rs →
-    ((r : DataRecord) → In r rs → IsSoundRecord k r) →
-    AreSound k low rs
+    ((r : DataRecord) → In r rs → IsSoundRecord k r) → AreSound k low rs
 are-sound-from k low [] a e = tt
 are-sound-from k low (r ∷ rs) a e = (
   e r (inl refl),

@@ -84,8 +84,7 @@ far_free d r s l = false_from_ne_true _ (λ e. let c = clashes-true d r s e in
     absurd (omega (arith, c.2)))
 
 pub free_from_apart : (d low : ℕ) (xs : List DataRecord) → StartsAreSpaced d low xs →
-    (r s : DataRecord) →
-    In r xs → In s xs → clashes d r s ≡ false
+    (r s : DataRecord) → In r xs → In s xs → clashes d r s ≡ false
 free_from_apart d low [] a r s m k = absurd m
 free_from_apart d low (x ∷ xs) a r s (inl p) (inl q) =
     subst (λ (t : DataRecord). clashes d t s ≡ false) (sym q ∙ p) (clashes-self d s)
@@ -190,8 +189,7 @@ MayJoin-from_fits cap key records h e =
 pub fits_from_MayJoin : (cap : ℕ) (key : Key) (records : List DataRecord) (h : Holdings) →
     MayJoin cap key records h → fits cap key records h ≡ true
 fits_from_MayJoin cap key records h m =
-    and_from _ _ (test_from_AreFree _ _ _ m.free)
-    (elim m.within_cap [
+    and_from _ _ (test_from_AreFree _ _ _ m.free) (elim m.within_cap [
       | inl w ↦ or_left _ _ (eq-eqb _ _ (none_new _ _ w))
       | inr l ↦
           or_right _ _ (le-leb _ _ l)
@@ -218,8 +216,7 @@ MayJoin-from_held cap key records h g i =
 -- what joins keeps the holdings good
 pub IsGood-put : (cap : ℕ) (key : Key) (records : List DataRecord) (h : Holdings) → IsKey key →
     StartsAreSpaced (duration_of key.duration) 0 records → IsGood cap h →
-    MayJoin cap key records h →
-    IsGood cap (with_records key records h)
+    MayJoin cap key records h → IsGood cap (with_records key records h)
 IsGood-put cap key records h w a g m = record {
   rising = put_cases key records h (λ k l. IsRising l)
       (rising_from_apart (duration_of key.duration) 0 (union (h key) records) (lasting key w)
@@ -227,13 +224,12 @@ IsGood-put cap key records h w a g m = record {
       g.rising;
   apart = put_cases key records h (λ k l. StartsAreSpaced (duration_of k.duration) 0 l)
       (apart_joined (duration_of key.duration) 0 (h key) records (g.apart key) a m.free) g.apart;
-  few = put_cases key records h (λ k l. length l ≤ cap)
-      (elim m.within_cap [
-        | inl i ↦ subst (λ (l : List DataRecord). length l ≤ cap)
-            (sym (joined_held (duration_of key.duration) 0 (h key) records (lasting key w)
-            (g.apart key) i)) (g.few key)
-        | inr l ↦ l
-      ])
+  few = put_cases key records h (λ k l. length l ≤ cap) (elim m.within_cap [
+    | inl i ↦ subst (λ (l : List DataRecord). length l ≤ cap)
+        (sym (joined_held (duration_of key.duration) 0 (h key) records (lasting key w)
+        (g.apart key) i)) (g.few key)
+    | inr l ↦ l
+  ])
       g.few;
 }
 
@@ -249,8 +245,7 @@ put_grows key records h = put_cases key records h (λ k l. Within (h k) l)
 -- what may join the larger holdings may join the smaller ones
 pub MayJoin-smaller : (cap : ℕ) (key : Key) (records : List DataRecord) (h h' : Holdings) →
     IsKey key → StartsAreSpaced (duration_of key.duration) 0 records → IsGood cap h →
-    IsGood cap h' →
-    Grows h h' → MayJoin cap key records h' → MayJoin cap key records h
+    IsGood cap h' → Grows h h' → MayJoin cap key records h' → MayJoin cap key records h
 MayJoin-smaller cap key records h h' w a g g' up m =
     record { free = free; within_cap = inr (elim m.within_cap [ inl i ↦ held i | inr l ↦ room l ]) }
   where

@@ -36,15 +36,13 @@ holds_from_In (x ∷ xs) r (inr h) = or_right _ _ (holds_from_In xs r h)
 
 -- one record put in
 
-pub in_inserted : (r y : DataRecord) (xs : List DataRecord) → In y (insert r xs) → (r ≡ y)
-    ⊎ In y xs
+pub in_inserted : (r y : DataRecord) (xs : List DataRecord) → In y (insert r xs) → (r ≡ y) ⊎ In y xs
 in_inserted r y [] h = h
 in_inserted r y (x ∷ xs) h =
     cond_both (same_record x r) (x ∷ xs)
     (cond (nat_lt r.start x.start) (r ∷ x ∷ xs) (x ∷ insert r xs))
     (λ (l : List DataRecord). In y l → (r ≡ y) ⊎ In y (x ∷ xs))
-    (λ e k. inr k)
-    (λ e. cond_both (nat_lt r.start x.start) (r ∷ x ∷ xs) (x ∷ insert r xs)
+    (λ e k. inr k) (λ e. cond_both (nat_lt r.start x.start) (r ∷ x ∷ xs) (x ∷ insert r xs)
     (λ (l : List DataRecord). In y l → (r ≡ y) ⊎ In y (x ∷ xs))
     (λ _ k. k)
     (λ _ k. elim k [
@@ -58,22 +56,17 @@ pub inserted_has : (r : DataRecord) (xs : List DataRecord) → In r (insert r xs
 inserted_has r [] = inl refl
 inserted_has r (x ∷ xs) =
     cond_both (same_record x r) (x ∷ xs)
-    (cond (nat_lt r.start x.start) (r ∷ x ∷ xs) (x ∷ insert r xs))
-    (In r)
+    (cond (nat_lt r.start x.start) (r ∷ x ∷ xs) (x ∷ insert r xs)) (In r)
     (λ e. inl (same_record-true x r e))
-    (λ e. cond_both (nat_lt r.start x.start) (r ∷ x ∷ xs) (x ∷ insert r xs) (In r)
-    (λ _. inl refl)
+    (λ e. cond_both (nat_lt r.start x.start) (r ∷ x ∷ xs) (x ∷ insert r xs) (In r) (λ _. inl refl)
     (λ _. inr (inserted_has r xs)))
 
 pub inserted_keeps : (r : DataRecord) (xs : List DataRecord) → Within xs (insert r xs)
 inserted_keeps r [] y h = absurd h
 inserted_keeps r (x ∷ xs) y h =
     cond_both (same_record x r) (x ∷ xs)
-    (cond (nat_lt r.start x.start) (r ∷ x ∷ xs) (x ∷ insert r xs))
-    (In y)
-    (λ e. h)
-    (λ e. cond_both (nat_lt r.start x.start) (r ∷ x ∷ xs) (x ∷ insert r xs) (In y)
-    (λ _. inr h)
+    (cond (nat_lt r.start x.start) (r ∷ x ∷ xs) (x ∷ insert r xs)) (In y) (λ e. h)
+    (λ e. cond_both (nat_lt r.start x.start) (r ∷ x ∷ xs) (x ∷ insert r xs) (In y) (λ _. inr h)
     (λ _. elim h [ inl p ↦ inl p | inr m ↦ inr (inserted_keeps r xs y m) ]))
 
 pub length_inserted_new : (r : DataRecord) (xs : List DataRecord) → contains_record xs r ≡ false →
@@ -98,16 +91,14 @@ apart_weaker d low low' [] l h = tt
 apart_weaker d low low' (x ∷ xs) l h = (omega (arith, h.0), h.1)
 
 pub in_apart : (d low : ℕ) (y : DataRecord) (xs : List DataRecord) → StartsAreSpaced d low xs →
-    In y xs →
-    low ≤ y.start
+    In y xs → low ≤ y.start
 in_apart d low y [] a h = absurd h
 in_apart d low y (x ∷ xs) a (inl p) = subst (λ (t : DataRecord). low ≤ t.start) p a.0
 in_apart d low y (x ∷ xs) a (inr h) = omega (arith, a.0, in_apart d (x.start + d) y xs a.1 h)
 
 -- what is in the rest of the list starts later than its first
 pub in_rest : (d low : ℕ) (x y : DataRecord) (xs : List DataRecord) →
-    StartsAreSpaced d low (x ∷ xs) →
-    In y xs → x.start + d ≤ y.start
+    StartsAreSpaced d low (x ∷ xs) → In y xs → x.start + d ≤ y.start
 in_rest d low x y xs a h = in_apart d (x.start + d) y xs a.1 h
 
 pub apart_inserted : (d low : ℕ) (r : DataRecord) (xs : List DataRecord) →
@@ -117,9 +108,7 @@ pub apart_inserted : (d low : ℕ) (r : DataRecord) (xs : List DataRecord) →
 apart_inserted d low r [] a l n = (l, tt)
 apart_inserted d low r (x ∷ xs) a l n =
     cond_both (same_record x r) (x ∷ xs)
-    (cond (nat_lt r.start x.start) (r ∷ x ∷ xs) (x ∷ insert r xs))
-    (StartsAreSpaced d low)
-    (λ e. a)
+    (cond (nat_lt r.start x.start) (r ∷ x ∷ xs) (x ∷ insert r xs)) (StartsAreSpaced d low) (λ e. a)
     (λ e. cond_both (nat_lt r.start x.start) (r ∷ x ∷ xs) (x ∷ insert r xs) (StartsAreSpaced d low)
     (λ t. (l, (before e (ltb-true _ _ t), a.1)))
     (λ t. (
@@ -146,8 +135,7 @@ apart_inserted d low r (x ∷ xs) a l n =
 
 -- a record that is there changes nothing
 pub inserted_held : (d low : ℕ) (r : DataRecord) (xs : List DataRecord) → 0 < d →
-    StartsAreSpaced d low xs →
-    In r xs → insert r xs ≡ xs
+    StartsAreSpaced d low xs → In r xs → insert r xs ≡ xs
 inserted_held d low r [] z a h = absurd h
 inserted_held d low r (x ∷ xs) z a (inl p) =
     cond-true _ _ _ (subst (λ (t : DataRecord). same_record x t ≡ true) p (same_record-refl x))
@@ -252,8 +240,7 @@ joined_has xs (r ∷ rs) y (inl p) =
 joined_has xs (r ∷ rs) y (inr h) = joined_has (insert r xs) rs y h
 
 pub joined_held : (d low : ℕ) (xs rs : List DataRecord) → 0 < d → StartsAreSpaced d low xs →
-    Within rs xs →
-    union xs rs ≡ xs
+    Within rs xs → union xs rs ≡ xs
 joined_held d low xs [] z a w = refl
 joined_held d low xs (r ∷ rs) z a w =
     ap (λ l. union l rs) (inserted_held d low r xs z a (w r (inl refl)))
@@ -265,8 +252,7 @@ AreFree d xs rs = (r x : DataRecord) → In r rs → In x xs → clashes d r x �
 
 -- records that lie apart don't clash
 pub apart_first : (d low : ℕ) (r s : DataRecord) (rs : List DataRecord) →
-    StartsAreSpaced d low (r ∷ rs) →
-    In s rs → clashes d s r ≡ false
+    StartsAreSpaced d low (r ∷ rs) → In s rs → clashes d s r ≡ false
 apart_first d low r s rs a h = elim (cases_Bool (clashes d s r)) [
   | inr e ↦ e
   | inl e ↦
@@ -277,8 +263,7 @@ apart_first d low r s rs a h = elim (cases_Bool (clashes d s r)) [
     close c = omega (arith, in_rest d low r s rs a h, c.1)
 
 pub free_tail : (d low : ℕ) (r : DataRecord) (xs rs : List DataRecord) →
-    StartsAreSpaced d low (r ∷ rs) →
-    AreFree d xs (r ∷ rs) → AreFree d (insert r xs) rs
+    StartsAreSpaced d low (r ∷ rs) → AreFree d xs (r ∷ rs) → AreFree d (insert r xs) rs
 free_tail d low r xs rs a f s y m n =
     elim (in_inserted r y xs n) [
       | inr k ↦ f s y (inr m) k
@@ -286,8 +271,7 @@ free_tail d low r xs rs a f s y m n =
     ]
 
 pub apart_joined : (d low : ℕ) (xs rs : List DataRecord) → StartsAreSpaced d 0 xs →
-    StartsAreSpaced d low rs →
-    AreFree d xs rs → StartsAreSpaced d 0 (union xs rs)
+    StartsAreSpaced d low rs → AreFree d xs rs → StartsAreSpaced d 0 (union xs rs)
 apart_joined d low xs [] a b f = a
 apart_joined d low xs (r ∷ rs) a b f =
     apart_joined d (r.start + d) (insert r xs) rs

@@ -80,12 +80,10 @@ held_near d r (x ∷ xs) z =
     elim (cases_Bool (intervals_overlap d r.start x)) [
       | inl e ↦ ap (λ (l : List DataRecord). contains_record l r)
           (cond-true (intervals_overlap d r.start x) (x ∷ near_of d r.start xs)
-          (near_of d r.start xs) e)
-          ∙ ap (λ b. same_record x r || b) (held_near d r xs z)
+          (near_of d r.start xs) e) ∙ ap (λ b. same_record x r || b) (held_near d r xs z)
       | inr e ↦ ap (λ (l : List DataRecord). contains_record l r)
           (cond-false (intervals_overlap d r.start x) (x ∷ near_of d r.start xs)
-          (near_of d r.start xs) e)
-          ∙ (held_near d r xs z ∙ ap (λ b. b || contains_record xs r)
+          (near_of d r.start xs) e) ∙ (held_near d r xs z ∙ ap (λ b. b || contains_record xs r)
           (sym (same_record_no x r (apart e))))
     ]
   where
@@ -114,8 +112,7 @@ earliest_inserted d r q (x ∷ xs) e =
     cond_both (same_record x q) (x ∷ xs)
     (cond (nat_lt q.start x.start) (q ∷ x ∷ xs) (x ∷ insert q xs))
     (λ (l : List DataRecord). find (clashes d r) l ≡ find (clashes d r) (x ∷ xs))
-    (λ _. refl)
-    (λ _. cond_both (nat_lt q.start x.start) (q ∷ x ∷ xs) (x ∷ insert q xs)
+    (λ _. refl) (λ _. cond_both (nat_lt q.start x.start) (q ∷ x ∷ xs) (x ∷ insert q xs)
     (λ (l : List DataRecord). find (clashes d r) l ≡ find (clashes d r) (x ∷ xs))
     (λ _. cond-false (clashes d r q) (Some q) (find (clashes d r) (x ∷ xs)) e)
     (λ _. ap (λ (o : Option DataRecord). cond (clashes d r x) (Some x) o)
@@ -134,8 +131,7 @@ held_joined r xs qs n = same_Bool (contains_record (union xs qs) r) (contains_re
     (λ e. elim (in_joined r xs qs (In-from_holds (union xs qs) r e)) [
       | inl m ↦ holds_from_In xs r m
       | inr m ↦ absurd (n m)
-    ])
-    (λ e. holds_from_In (union xs qs) r (joined_keeps xs qs r (In-from_holds xs r e)))
+    ]) (λ e. holds_from_In (union xs qs) r (joined_keeps xs qs r (In-from_holds xs r e)))
 
 -- one more record of the file
 

@@ -28,8 +28,7 @@ use Rattle.edf_holdings.proofs.Near.{joined-append, new_of-append, first_clash-a
 -- one record more, after those of a list
 
 apart_last : (d low : ℕ) (rs : List DataRecord) (r : DataRecord) →
-    StartsAreSpaced d low (rs ++ r ∷ []) →
-    low ≤ r.start
+    StartsAreSpaced d low (rs ++ r ∷ []) → low ≤ r.start
 apart_last d low [] r a = a.0
 apart_last d low (q ∷ qs) r a = omega (arith, a.0, apart_last d (q.start + d) qs r a.1)
 
@@ -72,8 +71,7 @@ put-append key ps r h = fun_ext (λ k. step k (same_key key k) refl)
         ∙ sym (cond-true (same_key key k) (union (h k) (ps ++ r ∷ [])) (h k) e)))
     step k false e =
         cond-false (same_key key k) (union (with_records key ps h k) (r ∷ []))
-        (with_records key ps h k) e
-        ∙ (cond-false (same_key key k) (union (h k) ps) (h k) e
+        (with_records key ps h k) e ∙ (cond-false (same_key key k) (union (h k) ps) (h k) e
         ∙ sym (cond-false (same_key key k) (union (h k) (ps ++ r ∷ [])) (h k) e))
 
 put_same : (key : Key) (ps qs : List DataRecord) (h : Holdings) →

@@ -33,8 +33,7 @@ AreInOrder h = (k : Key) → IsRising (h k) × StartsAreSpaced (duration_of k.du
 -- they do so with one fragment more, where in the end nothing clashes
 order-one : (h : Holdings) (t : Parsed) (ts : List Parsed) → IsWellFormed t →
     ((k : Key) → NoClash (duration_of k.duration) (union_with_all (union_with h t) ts k)) →
-    AreInOrder h →
-    AreInOrder (union_with h t)
+    AreInOrder h → AreInOrder (union_with h t)
 order-one h (Fault fault) ts w n o = o
 order-one h (Fragment key records) ts w n o =
     put_cases key records h (λ k l. IsRising l × StartsAreSpaced (duration_of k.duration) 0 l) (
@@ -79,8 +78,7 @@ module _ (cap : ℕ) (h : Holdings) (ts us : List Parsed) (s : IsSound cap h) (w
 
   no_clash : (k : Key) → NoClash (duration_of k.duration) (union_with_all h us k)
   no_clash k r x m n =
-      i.no_clash k r x
-      (Contains-from_In (union_with_all h ts k) r
+      i.no_clash k r x (Contains-from_In (union_with_all h ts k) r
       (there k r (In-from_Contains (union_with_all h us k) r m)))
       (Contains-from_In (union_with_all h ts k) x
       (there k x (In-from_Contains (union_with_all h us k) x n)))
@@ -114,8 +112,7 @@ tail-in : (u : Parsed) (us : List Parsed) (t : Parsed) → Contains us t → Con
 tail-in u us t c = (suc c.0, omega (arith, c.1), c.2)
 
 at-member : (P : Parsed → Type 0) (ts : List Parsed) (t : Parsed) → AllByRecursion P ts →
-    Contains ts t →
-    P t
+    Contains ts t → P t
 at-member P ts t a c = go ts a c.0 c.1 c.2
   where
     go : (ys : List Parsed) → AllByRecursion P ys → (k : ℕ) → k < length ys →
@@ -133,8 +130,7 @@ each-moved P ts (u ∷ us) a f = (
 )
 
 any-moved : (P : Parsed → Type 0) (ts us : List Parsed) →
-    ((t : Parsed) → Contains ts t → Contains us t) →
-    Any P ts → Any P us
+    ((t : Parsed) → Contains ts t → Contains us t) → Any P ts → Any P us
 any-moved P ts us f a = let c = f a.1 (a.0, a.2, a.3) in (c.0, a.1, c.1, c.2, a.4)
 
 pub reordered : Reordered
@@ -156,8 +152,7 @@ alone_is_free cap key records w few = record {
   fragments = (tt, tt);
   no_clash = put_cases key records nothing_held (λ k l. NoClash (duration_of k.duration) l)
       (λ r s m n c. both_ways _ (free_from_apart (duration_of key.duration) 0 (union [] records)
-      apart r s (In-from_Contains (union [] records) r m)
-      (In-from_Contains (union [] records) s n))
+      apart r s (In-from_Contains (union [] records) r m) (In-from_Contains (union [] records) s n))
       (test_from_Clash (duration_of key.duration) r s c))
       (λ k r s m n c. absurd (In-from_Contains [] r m));
   few = put_cases key records nothing_held (λ k l. length l ≤ cap)

@@ -84,23 +84,19 @@ pub full-by-counts : (cap : ℕ) (key : Key) (held new all : ℕ) → 0 < new �
     reply_to_counts cap key held new all ≡ Conflicts (Full held new cap)
 full-by-counts cap key held new all some past =
     cond-true (exceeds_cap cap held new) (Conflicts (Full held new cap))
-    (Accepted key new (all - new))
-    (and_from _ _ (lt-ltb 0 new some) (lt-ltb cap (held + new) past))
+    (Accepted key new (all - new)) (and_from _ _ (lt-ltb 0 new some) (lt-ltb cap (held + new) past))
 
-pub accepted-by-counts : (cap : ℕ) (key : Key) (held new all : ℕ) →
-    (new ≡ 0) ⊎ (held + new ≤ cap) →
+pub accepted-by-counts : (cap : ℕ) (key : Key) (held new all : ℕ) → (new ≡ 0) ⊎ (held + new ≤ cap) →
     reply_to_counts cap key held new all ≡ Accepted key new (all - new)
 accepted-by-counts cap key held new all fits =
     cond-false (exceeds_cap cap held new) (Conflicts (Full held new cap))
-    (Accepted key new (all - new))
-    (elim fits [
+    (Accepted key new (all - new)) (elim fits [
       | inl z ↦ and_left _ _ (le-ltb 0 new (omega (arith, z)))
       | inr l ↦ and_right _ _ (le-ltb cap (held + new) l)
     ])
 
 pub counts-named : (cap : ℕ) (h : Holdings) (key : Key) (records : List DataRecord) →
-    first_clash (duration_of key.duration) (h key) records ≡ None →
-    AreCountsNamed cap h key records
+    first_clash (duration_of key.duration) (h key) records ≡ None → AreCountsNamed cap h key records
 counts-named cap h key records none = (
   (λ some past. by-counts cap h key records none
       ∙ full-by-counts cap key (length (h key)) (count_new (h key) records) (length records) some

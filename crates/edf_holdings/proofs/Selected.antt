@@ -12,8 +12,7 @@ use Rattle.edf_holdings.proofs.Members.{In, apart_weaker, same_lists}
 use Rattle.edf_holdings.proofs.Joining.{In-from_Contains, Contains-from_In}
 
 apart_filter : (p : DataRecord → Bool) (d low : ℕ) (xs : List DataRecord) →
-    StartsAreSpaced d low xs →
-    StartsAreSpaced d low (filter p xs)
+    StartsAreSpaced d low xs → StartsAreSpaced d low (filter p xs)
 apart_filter p d low [] a = tt
 apart_filter p d low (x ∷ xs) a =
     cond_both (p x) (x ∷ filter p xs) (filter p xs) (StartsAreSpaced d low)
@@ -56,8 +55,7 @@ near_is_selected cap h k start ys s a m =
     (λ y n. let t = (m y).0 (Contains-from_In ys y n) in
     filter_has (intervals_overlap d start) y (h k) (In-from_Contains (h k) y t.0)
     (and_from (nat_lt start (y.start + d)) (nat_lt y.start (start + d)) (lt-ltb _ _ t.2)
-    (lt-ltb _ _ t.1)))
-    (λ y n. let t = in_filter (intervals_overlap d start) y (h k) n in let u =
+    (lt-ltb _ _ t.1))) (λ y n. let t = in_filter (intervals_overlap d start) y (h k) n in let u =
     and_parts (nat_lt start (y.start + d)) (nat_lt y.start (start + d)) t.1 in
     In-from_Contains ys y ((m y).1 (
       Contains-from_In (h k) y t.0,

@@ -98,8 +98,7 @@ repeat_settled cap h ts t us w g =
 
 -- larger holdings than those after a list are changed by none of its members
 pub list_settled : (cap : ℕ) (h h' : Holdings) (ts : List Parsed) → AreWellFormed ts →
-    IsGood cap h →
-    IsGood cap h' → Grows (after cap h ts) h' → after cap h' ts ≡ h'
+    IsGood cap h → IsGood cap h' → Grows (after cap h ts) h' → after cap h' ts ≡ h'
 list_settled cap h h' [] w g g' up = refl
 list_settled cap h h' (t ∷ ts) w g g' up =
     ap (λ (z : Holdings). after cap z ts)

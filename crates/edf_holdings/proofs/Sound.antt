@@ -43,10 +43,8 @@ pub inserted-some : (r : DataRecord) (xs : List DataRecord) → insert r xs ≢ 
 inserted-some r [] = λ e. cc
 inserted-some r (x ∷ xs) =
     cond_both (same_record x r) (x ∷ xs)
-    (cond (nat_lt r.start x.start) (r ∷ x ∷ xs) (x ∷ insert r xs)) (λ (l : List DataRecord).
-    l ≢ [])
-    (λ _ e. cc)
-    (λ _. cond_both (nat_lt r.start x.start) (r ∷ x ∷ xs) (x ∷ insert r xs)
+    (cond (nat_lt r.start x.start) (r ∷ x ∷ xs) (x ∷ insert r xs)) (λ (l : List DataRecord). l ≢ [])
+    (λ _ e. cc) (λ _. cond_both (nat_lt r.start x.start) (r ∷ x ∷ xs) (x ∷ insert r xs)
     (λ (l : List DataRecord). l ≢ []) (λ _ e. cc) (λ _ e. cc))
 
 inserted-begins : (k : Key) (r : DataRecord) (xs : List DataRecord) → MayBegin k xs →
@@ -54,8 +52,7 @@ inserted-begins : (k : Key) (r : DataRecord) (xs : List DataRecord) → MayBegin
 inserted-begins k r [] old first = first refl
 inserted-begins k r (x ∷ xs) old first =
     cond_both (same_record x r) (x ∷ xs)
-    (cond (nat_lt r.start x.start) (r ∷ x ∷ xs) (x ∷ insert r xs)) (MayBegin k)
-    (λ _. old)
+    (cond (nat_lt r.start x.start) (r ∷ x ∷ xs) (x ∷ insert r xs)) (MayBegin k) (λ _. old)
     (λ _. cond_both (nat_lt r.start x.start) (r ∷ x ∷ xs) (x ∷ insert r xs) (MayBegin k)
     (λ e undated. omega (arith, ltb-true _ _ e, old undated)) (λ _. old))
 

@@ -1,10 +1,10 @@
--- When two data records of one key clash, and which records lie near an instant.
+-- Two data records of one key clash where their intervals overlap and they are not the same.
 use Rattle.std.specs.Prelude.{◌≡◌, ℕ, ◌+◌, ◌<◌, ◌≤◌, Bool, not, ◌&&◌, nat_lt, List, Option}
 use Rattle.std.specs.Prelude.{Contains, filter, find}
 use Rattle.edf_fragment.specs.Fragment.{DataRecord}
 use Rattle.edf_holdings.specs.Same.{same_record}
 
--- the instant lies in the record's interval, which begins with its start and lasts d
+-- the record's interval begins with its start, lasts d, and contains the instant
 pub record IntervalContains (d : ℕ) (r : DataRecord) (instant : ℕ) : Type 0 where
   pub begun : r.start ≤ instant
   pub not_over : instant < r.start + d
@@ -18,18 +18,18 @@ Clash d r s = ((instant : ℕ) × IntervalContains d r instant × IntervalContai
 abbrev pub NoClash : ℕ → List DataRecord → Type 0
 NoClash d xs = (r s : DataRecord) → Contains xs r → Contains xs s → ¬ Clash d r s
 
--- the record's interval meets the one that begins at this start
+-- tests that the record's interval overlaps the one that begins at this start
 abbrev pub intervals_overlap : ℕ → ℕ → DataRecord → Bool
 intervals_overlap d start s = nat_lt start (s.start + d) && nat_lt s.start (start + d)
 
--- a test; a law says that it is `Clash`
+-- tests for a clash; a law says that it is `Clash`
 unfoldable pub clashes : ℕ → DataRecord → DataRecord → Bool
 clashes d r s = not (same_record r s) && intervals_overlap d r.start s
 
--- the records whose intervals meet the one that begins at this start, in their order
+-- selects the records whose intervals overlap the one that begins at this start, in their order
 abbrev pub near_of : ℕ → ℕ → List DataRecord → List DataRecord
 near_of d start xs = filter (intervals_overlap d start) xs
 
--- the first of them that is not the record itself
+-- finds the first of them that is not the record itself
 abbrev pub first_other : DataRecord → List DataRecord → Option DataRecord
 first_other r xs = find (λ s. not (same_record r s)) xs

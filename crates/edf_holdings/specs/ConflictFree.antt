@@ -1,4 +1,4 @@
--- Lists of submissions that are free of conflicts, and lists that hold the same records.
+-- Lists of submissions may have no conflicts, and two lists may have the same records.
 use Rattle.std.specs.Prelude.{◌≡◌, ℕ, ◌≤◌, ◌↔◌, List, [], ◌∷◌, length, Contains, Any}
 use Rattle.std.specs.List.{AllByRecursion}
 use Rattle.edf_field.specs.Number.{duration_of}
@@ -12,7 +12,7 @@ abbrev pub IsFragment : Parsed → Type 0
 IsFragment (Fragment key records) = Unit {0}
 IsFragment (Fault fault) = ⊥
 
--- the holdings with all records of a submission, whether or not they clash
+-- adds all records of a submission to the holdings, whether or not they clash
 abbrev pub union_with : Holdings → Parsed → Holdings
 union_with h (Fragment key records) = with_records key records h
 union_with h (Fault fault) = h
@@ -21,8 +21,8 @@ abbrev pub union_with_all : Holdings → List Parsed → Holdings
 union_with_all h [] = h
 union_with_all h (submission ∷ submissions) = union_with_all (union_with h submission) submissions
 
--- each is a fragment, and in the holdings with all their records no two of a key clash and none has
--- more than the cap
+-- each is a fragment; once the holdings have all their records, no two of a key clash, and no key
+-- has more than the cap
 pub record IsConflictFree (cap : ℕ) (h : Holdings) (submissions : List Parsed) : Type 0 where
   pub fragments : AllByRecursion IsFragment submissions
   pub no_clash : (k : Key) → NoClash (duration_of k.duration) (union_with_all h submissions k)
@@ -33,7 +33,7 @@ abbrev pub Has : Key → DataRecord → Parsed → Type 0
 Has k r (Fragment key records) = (key ≡ k) × Contains records r
 Has k r (Fault fault) = ⊥
 
--- the same records occur under the same keys in both lists, however cut, ordered or repeated
+-- both lists have the same records under the same keys, however cut, ordered or repeated
 abbrev pub SameRecords : List Parsed → List Parsed → Type 0
 SameRecords submissions others = (k : Key) (r : DataRecord) →
     Any (Has k r) submissions ↔ Any (Has k r) others

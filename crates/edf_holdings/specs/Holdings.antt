@@ -1,4 +1,4 @@
--- The holdings: the data records that are kept, key by key.
+-- Holdings are the data records that are held, key by key.
 use Rattle.std.specs.Prelude.{◌≢◌, ℕ, ◌≤◌, cond, List, [], length, All, Contains}
 use Rattle.edf_field.specs.Number.{duration_of}
 use Rattle.edf_header.specs.Key.{Key, IsKey}
@@ -8,15 +8,15 @@ use Rattle.edf_holdings.specs.Clash.{NoClash}
 use Rattle.edf_holdings.specs.Rising.{IsRising, union}
 use Rattle.edf_fragment.specs.Sound.{IsSoundRecord, MayBegin}
 
--- each key's data records by rising starts, none where nothing is held
+-- each key has a list of data records, which is empty where none are held
 abbrev pub Holdings : Type 0
 Holdings = Key → List DataRecord
 
 abbrev pub nothing_held : Holdings
 nothing_held = λ k. []
 
--- the keys hold data records of theirs, of which no two clash, and at most `cap` each; each
--- recording may begin with its earliest; and only finitely many keys hold any
+-- a key's records rise, don't clash, fit the key and are at most `cap`; a recording may begin with
+-- the first of them; finitely many keys have any, and headers can name them
 pub record IsSound (cap : ℕ) (h : Holdings) : Type 0 where
   pub rising : (k : Key) → IsRising (h k)
   pub no_clash : (k : Key) → NoClash (duration_of k.duration) (h k)
@@ -26,6 +26,6 @@ pub record IsSound (cap : ℕ) (h : Holdings) : Type 0 where
   pub keys : (k : Key) → h k ≢ [] → IsKey k
   pub finite : (keys : List Key) × ((k : Key) → h k ≢ [] → Contains keys k)
 
--- the holdings with these records under the key beside those that it holds
+-- adds these records to those that the key has
 abbrev pub with_records : Key → List DataRecord → Holdings → Holdings
 with_records key records h = λ k. cond (same_key key k) (union (h k) records) (h k)

@@ -1,11 +1,11 @@
--- How two data records clash.
+-- A clash is of one of two kinds, by the starts of its data records.
 use Rattle.std.specs.Prelude.{◌≡◌, ◌≢◌, ℕ}
 use Rattle.edf_fragment.specs.Fragment.{DataRecord}
 use Rattle.edf_holdings.specs.Clash.{Clash}
 use Rattle.edf_holdings.specs.declared.kind.Clash.{Clash as ClashKind}
 use Rattle.edf_holdings.specs.declared.kind.Clash.TheVariants.{Overlap, Differs}
 
--- they clash, from different starts or from the same
+-- the records clash, and their starts differ or are the same
 abbrev pub IsKind : ℕ → DataRecord → DataRecord → ClashKind → Type 0
 IsKind d r s Overlap = Clash d r s × (r.start ≢ s.start)
 IsKind d r s Differs = Clash d r s × (r.start ≡ s.start)

@@ -1,5 +1,4 @@
--- What is true of lists of submissions: repeats add nothing, and where nothing conflicts the order
--- and the cuts don't count.
+-- Repeats in a list of submissions add nothing; without conflicts order and cuts don't matter.
 use Rattle.std.specs.Prelude.{◌≡◌, ℕ, ◌+◌, ◌<◌, ◌≤◌, ◌↔◌, List, [], ◌∷◌, ◌++◌, length, All}
 use Rattle.std.specs.Prelude.{Contains, remove}
 use Rattle.std.specs.List.{AllByRecursion}
@@ -18,28 +17,26 @@ use Rattle.edf_holdings.specs.ConflictFree.{IsFragment, union_with_all, IsConfli
 abbrev pub AreWellFormed : List Parsed → Type 0
 AreWellFormed submissions = AllByRecursion IsWellFormed submissions
 
--- after any list the holdings are sound
+-- sound holdings are sound after any list
 abbrev pub StaysSound : Type 0
 StaysSound = (cap : ℕ) (h : Holdings) (submissions : List Parsed) → IsSound cap h →
-    AreWellFormed submissions →
-    IsSound cap (after cap h submissions)
+    AreWellFormed submissions → IsSound cap (after cap h submissions)
 
--- what bytes amount to is sound
+-- what bytes parse to is well-formed
 abbrev pub ParsedIsWellFormed : Type 0
-ParsedIsWellFormed = (bytes : List ℕ) (submission : Parsed) → ParsesTo bytes submission →
-    IsWellFormed submission
+ParsedIsWellFormed = (bytes : List ℕ) (submission : Parsed) →
+    ParsesTo bytes submission → IsWellFormed submission
 
--- nothing at all is sound
+-- holdings of nothing are sound
 abbrev pub NothingIsSound : Type 0
 NothingIsSound = (cap : ℕ) → IsSound cap nothing_held
 
--- one record more, near which nothing is held, where there is room; the first of a recording is one
--- with which it may start
+-- holdings below the cap stay sound with one record more that overlaps none; if it is the key's
+-- first, a recording may start with it
 abbrev pub AddStaysSound : Type 0
 AddStaysSound = (cap : ℕ) (h : Holdings) (key : Key) (r : DataRecord) → IsSound cap h → IsKey key →
-    IsSoundRecord key r →
-    near_of (duration_of key.duration) r.start (h key) ≡ [] → length (h key) < cap →
-    (h key ≡ [] → MayStart key r.start) →
+    IsSoundRecord key r → near_of (duration_of key.duration) r.start (h key) ≡ [] →
+    length (h key) < cap → (h key ≡ [] → MayStart key r.start) →
     IsSound cap (with_records key (r ∷ []) h)
 
 -- a fragment whose records are all held is accepted with nothing new, and changes nothing
@@ -49,7 +46,7 @@ HeldIsKnown = (cap : ℕ) (h : Holdings) (key : Key) (records : List DataRecord)
     (reply cap h (Fragment key records) ≡ Accepted key 0 (length records))
     × (after_one cap h (Fragment key records) ≡ h)
 
--- a list with one member named: those earlier, the member, and those that follow
+-- the list has the earlier members, this member, and those between it and its repeat
 abbrev pub with_member : List Parsed → Parsed → List Parsed → List Parsed
 with_member earlier submission between = earlier ++ (submission ∷ between)
 
@@ -63,7 +60,7 @@ AcceptedAgain = (cap : ℕ) (h : Holdings) (earlier : List Parsed) (submission :
     reply cap (after cap h (with_member earlier submission between)) submission
     ≡ Accepted key 0 (new + known)
 
--- a later repeat of a refused member is refused again, with the same fault of form where it had one
+-- a later repeat of a refused member is refused again, for the same fault of form if it had one
 abbrev pub RefusedAgain : Type 0
 RefusedAgain = (cap : ℕ) (h : Holdings) (earlier : List Parsed) (submission : Parsed)
     (between : List Parsed) →
@@ -73,60 +70,53 @@ RefusedAgain = (cap : ℕ) (h : Holdings) (earlier : List Parsed) (submission : 
     ((fault : FragmentFault) → reply cap (after cap h earlier) submission ≡ Form fault →
     reply cap (after cap h (with_member earlier submission between)) submission ≡ Form fault)
 
--- without the repeat the holdings at the end and all other replies are the same
+-- without the repeat the holdings after the list and all other replies are the same
 abbrev pub RepeatsChangeNothing : Type 0
 RepeatsChangeNothing = (cap : ℕ) (h : Holdings) (earlier : List Parsed) (submission : Parsed)
     (between later : List Parsed) →
     IsSound cap h → AreWellFormed (with_member earlier submission between) →
-    (after cap h (with_member earlier submission between
-    ++ (submission ∷ later)) ≡ after cap h (with_member earlier submission between ++ later)) ×
+    (after cap h (with_member earlier submission between ++ (submission ∷ later))
+    ≡ after cap h (with_member earlier submission between ++ later)) ×
     (remove (replies cap h (with_member earlier submission between ++ (submission ∷ later)))
     (length (with_member earlier submission between))
     ≡ replies cap h (with_member earlier submission between ++ later))
 
--- a list broken off after `prefix` and sent again from its start ends as the list sent once
+-- a list broken off after `prefix` and sent again whole gives the same holdings as the list once
 abbrev pub ResentFromStart : Type 0
 ResentFromStart = (cap : ℕ) (h : Holdings) (prefix rest : List Parsed) → IsSound cap h →
     AreWellFormed prefix →
     after cap (after cap h prefix) (prefix ++ rest) ≡ after cap h (prefix ++ rest)
 
--- in a free list each member is accepted, and the holdings at the end have all its records beside
--- those at the start
+-- each member of a list without conflicts is accepted, and the holdings get all its records
 abbrev pub AnyOrder : Type 0
 AnyOrder = (cap : ℕ) (h : Holdings) (submissions : List Parsed) → IsSound cap h →
-    AreWellFormed submissions →
-    IsConflictFree cap h submissions →
+    AreWellFormed submissions → IsConflictFree cap h submissions →
     All IsAccepted (replies cap h submissions)
     × (after cap h submissions ≡ union_with_all h submissions)
 
--- the same submissions in another order, or more often or less, are free too and end alike
+-- the same submissions, in any order and however often, have no conflicts and the same holdings
 abbrev pub Reordered : Type 0
 Reordered = (cap : ℕ) (h : Holdings) (submissions others : List Parsed) → IsSound cap h →
     AreWellFormed submissions → IsConflictFree cap h submissions →
     ((submission : Parsed) → Contains submissions submission ↔ Contains others submission) →
-    IsConflictFree cap h others
-    × (after cap h others ≡ after cap h submissions)
+    IsConflictFree cap h others × (after cap h others ≡ after cap h submissions)
 
--- whether fragments are free is said by their records alone, so a free list may be cut anew
+-- fragments with the records of a list without conflicts have none either, however cut
 abbrev pub SameRecordsStayConflictFree : Type 0
 SameRecordsStayConflictFree = (cap : ℕ) (h : Holdings) (submissions others : List Parsed) →
-    IsSound cap h →
-    AreWellFormed submissions → AreWellFormed others →
+    IsSound cap h → AreWellFormed submissions → AreWellFormed others →
     IsConflictFree cap h submissions → AllByRecursion IsFragment others →
-    SameRecords submissions others →
-    IsConflictFree cap h others
+    SameRecords submissions others → IsConflictFree cap h others
 
--- a fragment alone is free where nothing is held and there is room for it
+-- one fragment of at most `cap` records has no conflicts where nothing is held
 abbrev pub OneIsConflictFree : Type 0
 OneIsConflictFree = (cap : ℕ) (key : Key) (records : List DataRecord) →
     IsWellFormed (Fragment key records) → length records ≤ cap →
     IsConflictFree cap nothing_held (Fragment key records ∷ [])
 
--- two free lists with the same records end alike
+-- two lists without conflicts that have the same records give the same holdings
 abbrev pub Recut : Type 0
 Recut = (cap : ℕ) (h : Holdings) (submissions others : List Parsed) → IsSound cap h →
-    AreWellFormed submissions →
-    AreWellFormed others →
+    AreWellFormed submissions → AreWellFormed others →
     IsConflictFree cap h submissions → IsConflictFree cap h others →
-    SameRecords submissions others →
-    after cap h submissions ≡ after cap h others
+    SameRecords submissions others → after cap h submissions ≡ after cap h others

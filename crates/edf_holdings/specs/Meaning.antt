@@ -1,4 +1,4 @@
--- What the definitions say in the words of sets, for readers who don't follow their recursions.
+-- The definitions that recur over lists are said once more in the words of sets.
 use Rattle.std.specs.Prelude.{◌≡◌, ◌≢◌, ℕ, ◌+◌, ◌-◌, ◌<◌, ◌≤◌, ◌↔◌, ◌⊎◌, List, [], ◌∷◌, ◌++◌}
 use Rattle.std.specs.Prelude.{length, Contains, Any, IsTrue, cond}
 use Rattle.edf_field.specs.Number.{duration_of}
@@ -28,7 +28,7 @@ abbrev pub TestIsContains : Type 0
 TestIsContains = (xs : List DataRecord) (r : DataRecord) →
     IsTrue (contains_record xs r) ↔ Contains xs r
 
--- the same records, in whatever order
+-- the lists have the same records, in whatever order
 abbrev pub SameMembers : List DataRecord → List DataRecord → Type 0
 SameMembers xs ys = (r : DataRecord) → Contains xs r ↔ Contains ys r
 
@@ -36,17 +36,17 @@ SameMembers xs ys = (r : DataRecord) → Contains xs r ↔ Contains ys r
 abbrev pub ListIsSet : Type 0
 ListIsSet = (xs ys : List DataRecord) → IsRising xs → IsRising ys → SameMembers xs ys → xs ≡ ys
 
--- and so are sound holdings
+-- sound holdings are determined by the members of their lists
 abbrev pub HoldingsAreSets : Type 0
 HoldingsAreSets = (cap : ℕ) (h other : Holdings) → IsSound cap h → IsSound cap other →
     ((k : Key) → SameMembers (h k) (other k)) → h ≡ other
 
--- a joined list has the records of both, and no others
+-- a union has the records of both lists, and no others
 abbrev pub JoinedHasBoth : Type 0
 JoinedHasBoth = (xs records : List DataRecord) (r : DataRecord) →
     Contains (union xs records) r ↔ (Contains xs r ⊎ Contains records r)
 
--- holdings with all that the submissions have: what was held and what they have, and nothing else
+-- the union with all submissions has what was held and what they have, and nothing else
 abbrev pub AllHasBoth : Type 0
 AllHasBoth = (h : Holdings) (submissions : List Parsed) (k : Key) (r : DataRecord) →
     Contains (union_with_all h submissions k) r ↔ (Contains (h k) r ⊎ Any (Has k r) submissions)
@@ -56,7 +56,7 @@ abbrev pub IsClear : Holdings → Key → List DataRecord → Type 0
 IsClear h key records = (r s : DataRecord) → Contains records r → Contains (h key) s →
     ¬ Clash (duration_of key.duration) r s
 
--- so, and joined with them the key has what it had, or at most the cap
+-- none clashes, and with them the key has what it had, or at most the cap
 pub record Fits (cap : ℕ) (key : Key) (records : List DataRecord) (h : Holdings) : Type 0 where
   pub clear : IsClear h key records
   pub within_cap : (union (h key) records ≡ h key) ⊎ (length (union (h key) records) ≤ cap)
@@ -66,14 +66,13 @@ TestIsFits = (cap : ℕ) (h : Holdings) (key : Key) (records : List DataRecord) 
     IsWellFormed (Fragment key records) →
     IsTrue (fits cap key records h) ↔ Fits cap key records h
 
--- exactly what fits is accepted
+-- a fragment is accepted exactly where it fits
 abbrev pub AcceptedWhereFits : Type 0
 AcceptedWhereFits = (cap : ℕ) (h : Holdings) (key : Key) (records : List DataRecord) →
     IsSound cap h → IsWellFormed (Fragment key records) →
     IsAccepted (reply cap h (Fragment key records)) ↔ IsTrue (fits cap key records h)
 
--- r is the first record of the second list that clashes with one of the first, and s the earliest
--- that it clashes with
+-- r is the first of `records` that clashes with one of xs, and s the earliest that it clashes with
 pub record IsFirstClash (d : ℕ) (xs records : List DataRecord) (r s : DataRecord) : Type 0 where
   pub before : List DataRecord
   pub later : List DataRecord
@@ -83,26 +82,22 @@ pub record IsFirstClash (d : ℕ) (xs records : List DataRecord) (r s : DataReco
   pub clash : Clash d r s
   pub earliest : (x : DataRecord) → Contains xs x → Clash d r x → s.start ≤ x.start
 
--- the answer names that clash
+-- the reply names that clash
 abbrev pub RepliesNameTheClash : Type 0
 RepliesNameTheClash = (cap : ℕ) (h : Holdings) (key : Key) (records : List DataRecord)
-    (r s : DataRecord) →
-    IsSound cap h →
+    (r s : DataRecord) → IsSound cap h →
     IsFirstClash (duration_of key.duration) (h key) records r s →
     (r.start ≡ s.start → reply cap h (Fragment key records) ≡ Conflicts (Differs r.start)) ×
-    (r.start ≢ s.start → reply cap h (Fragment key records)
-    ≡ Conflicts (Overlap r.start s.start))
+    (r.start ≢ s.start → reply cap h (Fragment key records) ≡ Conflicts (Overlap r.start s.start))
 
--- and there is a first one wherever records clash
+-- where any records clash there is a first clash
 abbrev pub FirstClashExists : Type 0
 FirstClashExists = (cap : ℕ) (h : Holdings) (key : Key) (records : List DataRecord)
-    (r s : DataRecord) →
-    IsSound cap h →
-    Contains records r → Contains (h key) s → Clash (duration_of key.duration) r s →
-    (q : DataRecord) × (x : DataRecord)
-    × IsFirstClash (duration_of key.duration) (h key) records q x
+    (r s : DataRecord) → IsSound cap h → Contains records r → Contains (h key) s →
+    Clash (duration_of key.duration) r s → (q : DataRecord) × (x : DataRecord) ×
+    IsFirstClash (duration_of key.duration) (h key) records q x
 
--- the answer is `Full` exactly where some are new and are too many, else that it is accepted
+-- the reply is `Full` if some records are new and are too many, else `Accepted`
 abbrev pub AreCountsNamed : ℕ → Holdings → Key → List DataRecord → Type 0
 AreCountsNamed cap h key records =
     (0 < count_new (h key) records → cap < length (h key) + count_new (h key) records →
@@ -112,18 +107,16 @@ AreCountsNamed cap h key records =
     reply cap h (Fragment key records) ≡ Accepted key (count_new (h key) records)
     (length records - count_new (h key) records))
 
--- where nothing clashes
+-- the reply goes by the counts where nothing clashes
 abbrev pub CountsAreNamed : Type 0
 CountsAreNamed = (cap : ℕ) (h : Holdings) (key : Key) (records : List DataRecord) →
     IsClear h key records → AreCountsNamed cap h key records
 
--- and the new ones are those by which the recording grows
+-- the count of new records is that by which the recording grows
 abbrev pub NewRecordsAreCounted : Type 0
 NewRecordsAreCounted = (cap : ℕ) (h : Holdings) (key : Key) (records : List DataRecord) →
-    IsSound cap h →
-    IsWellFormed (Fragment key records) →
-    IsClear h key records → length (union (h key) records) ≡ length (h key) + count_new (h key)
-    records
+    IsSound cap h → IsWellFormed (Fragment key records) → IsClear h key records →
+    length (union (h key) records) ≡ length (h key) + count_new (h key) records
 
 -- a member of the list that was accepted when it came has the record under the key
 pub record FromAccepted (cap : ℕ) (h : Holdings) (submissions : List Parsed) (k : Key)
@@ -135,8 +128,7 @@ pub record FromAccepted (cap : ℕ) (h : Holdings) (submissions : List Parsed) (
   pub accepted : IsAccepted (reply cap (after cap h before) member)
   pub has : Has k r member
 
--- what is held after a list is what was held, and every record of an accepted member, and nothing
--- else
+-- a list adds every record of its accepted members to what was held, and nothing else
 abbrev pub AfterHasAccepted : Type 0
 AfterHasAccepted = (cap : ℕ) (h : Holdings) (submissions : List Parsed) (k : Key) (r : DataRecord) →
     IsSound cap h → AreWellFormed submissions →
@@ -144,24 +136,22 @@ AfterHasAccepted = (cap : ℕ) (h : Holdings) (submissions : List Parsed) (k : K
 
 abbrev pub RefusedChangesNothing : Type 0
 RefusedChangesNothing = (cap : ℕ) (h : Holdings) (submission : Parsed) → IsSound cap h →
-    IsWellFormed submission →
-    ¬ IsAccepted (reply cap h submission) → after_one cap h submission ≡ h
+    IsWellFormed submission → ¬ IsAccepted (reply cap h submission) → after_one cap h submission ≡ h
 
--- A recording's own records are accepted by its holdings with nothing new.
--- Where nothing is held they are all new, and leave exactly that recording.
+-- a recording's own records are accepted with nothing new; where nothing is held they are all new,
+-- and exactly that recording is held after them
 abbrev pub OwnRecordsAreKnown : Type 0
 OwnRecordsAreKnown = (cap : ℕ) (h : Holdings) (k : Key) → IsSound cap h → h k ≢ [] →
     (reply cap h (Fragment k (h k)) ≡ Accepted k 0 (length (h k))) ×
     (reply cap nothing_held (Fragment k (h k)) ≡ Accepted k (length (h k)) 0) ×
     (after_one cap nothing_held (Fragment k (h k)) ≡ (λ q. cond (same_key k q) (h k) []))
 
--- never more than two records lie near a start
+-- at most two held records overlap one that begins at this start
 abbrev pub NearTwo : Type 0
 NearTwo = (cap : ℕ) (h : Holdings) (k : Key) (start : ℕ) → IsSound cap h →
     length (near_of (duration_of k.duration) start (h k)) ≤ 2
 
--- a rising list that has exactly the held records whose intervals meet that of the start is
--- `near_of`
+-- a rising list of exactly the held records that overlap one with this start is `near_of`
 abbrev pub NearIsSelected : Type 0
 NearIsSelected = (cap : ℕ) (h : Holdings) (k : Key) (start : ℕ) (ys : List DataRecord) →
     IsSound cap h → IsRising ys →

@@ -1,5 +1,4 @@
--- Whether two keys, or two data records, are the same: as tests, part by part. A law says that each
--- test is equality.
+-- Keys, and data records, are compared part by part; a law says that each test is equality.
 use Rattle.std.specs.Prelude.{Bool, ◌==◌, ◌&&◌, bytes_eq}
 use Rattle.std.specs.Option.{option_eq}
 use Rattle.std.specs.Bool.{beq}

@@ -5,10 +5,9 @@ ghost use Rattle.edf_holdings.specs.Kind.{IsKind};
 use crate::kind::Clash;
 use edf_fragment::Record;
 
-/// How two data records clash that last `duration` nanoseconds each.
+/// Returns how two data records clash that last `duration` nanoseconds each.
 ///
-/// The answer is `None` where they don't: they are the same, or one starts no earlier than the
-/// other ends.
+/// They don't where they are the same, or one starts no earlier than the other ends.
 pub fn clash(a: &Record, b: &Record, duration: u64) -> Option<Clash>
     requires { 0 < duration }
     ensures { MatchOption result (¬ DoClash duration a.now b.now) (IsKind duration a.now b.now) }

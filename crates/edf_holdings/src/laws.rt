@@ -1,13 +1,12 @@
-//! Laws of lists of submissions: each function has laws for a contract, and does nothing.
+//! Lists of submissions have these laws: each function's contract is laws, and its body is empty.
 
-ghost use Rattle.edf_holdings.specs.Laws.{ParsedIsWellFormed, NothingIsSound, StaysSound};
-ghost use Rattle.edf_holdings.specs.Laws.{AddStaysSound, HeldIsKnown, AcceptedAgain, RefusedAgain};
-ghost use Rattle.edf_holdings.specs.Laws.{RepeatsChangeNothing, ResentFromStart, AnyOrder};
-ghost use Rattle.edf_holdings.specs.Laws.{Reordered, OneIsConflictFree, Recut};
-ghost use Rattle.edf_holdings.specs.Laws.{SameRecordsStayConflictFree};
+ghost use Rattle.edf_holdings.specs.Laws.{ParsedIsWellFormed, ResentFromStart, OneIsConflictFree};
+ghost use Rattle.edf_holdings.specs.Laws.{NothingIsSound, StaysSound, AddStaysSound, AcceptedAgain};
+ghost use Rattle.edf_holdings.specs.Laws.{HeldIsKnown, RefusedAgain, AnyOrder, Reordered};
+ghost use Rattle.edf_holdings.specs.Laws.{RepeatsChangeNothing, Recut, SameRecordsStayConflictFree};
 
-/// What bytes amount to is sound, and so are holdings of nothing. Sound holdings stay so after any
-/// list of submissions, and with one data record more that no other is near.
+/// Bytes parse to what is well-formed, and holdings of nothing are sound. Sound holdings stay so
+/// after any list of submissions, and with one data record more that overlaps none.
 pub fn stays_sound()
     ensures well_formed { ParsedIsWellFormed }
     ensures none { NothingIsSound }
@@ -15,7 +14,7 @@ pub fn stays_sound()
     ensures add { AddStaysSound }
 {}
 
-/// A list acts once: repeats add nothing, and a list broken off and sent again ends alike.
+/// Repeats add nothing, and a list broken off and sent again gives the same holdings.
 pub fn once()
     ensures held { HeldIsKnown }
     ensures accepted { AcceptedAgain }
@@ -24,16 +23,14 @@ pub fn once()
     ensures front { ResentFromStart }
 {}
 
-/// A list that is free of conflicts is accepted whole; reordered, or with repeats, it is as free
-/// and ends alike.
+/// A list without conflicts is accepted whole; reordered or repeated it gives the same holdings.
 pub fn any_order()
     ensures accepted { AnyOrder }
     ensures reordered { Reordered }
     ensures alone { OneIsConflictFree }
 {}
 
-/// Lists that are free of conflicts and hold the same records end alike; and if one is free, so is
-/// the other.
+/// Lists with the same records have no conflicts if one has none, and give the same holdings.
 pub fn recut()
     ensures same { Recut }
     ensures free { SameRecordsStayConflictFree }

@@ -1,19 +1,27 @@
-//! What is held of recordings, and what a submission adds to it: definitions, laws about them, and
-//! the test for a clash.
+//! Recordings hold data records, key by key; a submission adds the data records of a file, or is
+//! refused. Here are the definitions, their laws, and the test for a clash of two data records.
 //!
-//! Holdings are the data records of each key, by rising starts. A submission is a fragment, or has
-//! a fault; `reply` says what is answered to it, and `after` what a list of submissions leaves.
-//! Nothing here knows of rows, tables or transactions.
+//! ```rust
+//! use edf_fragment::Record;
+//! use edf_holdings::{Clash, clash};
 //!
-//! - [`clash`]: whether two data records of one recording clash, and how.
-//! - [`laws`]: repeats add nothing, and lists without conflicts end alike, however ordered or cut.
-//! - [`meaning`]: what the definitions say in the words of sets.
+//! /// Says why a recording that has `stored` refuses `record`, if it does. Both last a second.
+//! pub fn reason(record: &Record, stored: &Record) -> Option<&'static str> {
+//!     match clash(record, stored, 1_000_000_000) {
+//!         Some(Clash::Overlap) => Some("it overlaps a stored data record"),
+//!         Some(Clash::Differs) => Some("another data record begins then"),
+//!         None => None,
+//!     }
+//! }
+//! ```
 //!
-//! The functions of [`laws`] and [`meaning`] do nothing: each has laws for a contract.
+//! - [`clash`]: returns how two data records of one recording clash, if they do.
+//! - [`laws`]: repeats add nothing, and lists without conflicts may be reordered and cut anew.
+//! - [`meaning`]: the definitions in the words of sets.
 #![tactic(auto)]
 
 mod intervals;
-mod kind;
+mod kind; // apart, since one module can't have both `Clash` and `clash`
 pub mod laws;
 pub mod meaning;
 

@@ -1,17 +1,14 @@
-//! What the definitions say in the words of sets: each function has laws for a contract, and does
-//! nothing.
+//! The definitions say this in the words of sets: each function's contract is laws.
 
-ghost use Rattle.edf_holdings.specs.Meaning.{SameKeyIsEqual, SameRecordIsEqual, TestIsClash};
-ghost use Rattle.edf_holdings.specs.Meaning.{TestIsContains, ListIsSet, HoldingsAreSets};
-ghost use Rattle.edf_holdings.specs.Meaning.{JoinedHasBoth, AllHasBoth, TestIsFits};
-ghost use Rattle.edf_holdings.specs.Meaning.{AcceptedWhereFits, RepliesNameTheClash};
-ghost use Rattle.edf_holdings.specs.Meaning.{FirstClashExists, CountsAreNamed};
-ghost use Rattle.edf_holdings.specs.Meaning.{NewRecordsAreCounted, AfterHasAccepted};
-ghost use Rattle.edf_holdings.specs.Meaning.{RefusedChangesNothing, OwnRecordsAreKnown, NearTwo};
-ghost use Rattle.edf_holdings.specs.Meaning.{NearIsSelected};
+ghost use Rattle.edf_holdings.specs.Meaning.{SameKeyIsEqual, FirstClashExists, AfterHasAccepted};
+ghost use Rattle.edf_holdings.specs.Meaning.{SameRecordIsEqual, HoldingsAreSets, AcceptedWhereFits};
+ghost use Rattle.edf_holdings.specs.Meaning.{TestIsClash, RepliesNameTheClash, OwnRecordsAreKnown};
+ghost use Rattle.edf_holdings.specs.Meaning.{TestIsContains, CountsAreNamed, NearIsSelected};
+ghost use Rattle.edf_holdings.specs.Meaning.{ListIsSet, JoinedHasBoth, AllHasBoth, TestIsFits};
+ghost use Rattle.edf_holdings.specs.Meaning.{NewRecordsAreCounted, RefusedChangesNothing, NearTwo};
 ghost use Rattle.edf_holdings.specs.Keys.{KeysAreOne};
 
-/// The tests are what they are named for.
+/// Each test is true exactly where the definition that it is named for is.
 pub fn tests()
     ensures key { SameKeyIsEqual }
     ensures record { SameRecordIsEqual }
@@ -19,8 +16,7 @@ pub fn tests()
     ensures holds { TestIsContains }
 {}
 
-/// Rising lists and sound holdings are sets of data records, and the lists of keys that hold any
-/// are one.
+/// Rising lists and sound holdings are sets of data records; their keys are listed in one way.
 pub fn sets()
     ensures list { ListIsSet }
     ensures holdings { HoldingsAreSets }
@@ -29,7 +25,7 @@ pub fn sets()
     ensures keys { KeysAreOne }
 {}
 
-/// What is accepted, what a refusal names, and what is held after either.
+/// A fragment is accepted where it fits; a refusal names why, and changes nothing.
 pub fn intake()
     ensures fits { TestIsFits }
     ensures accepted { AcceptedWhereFits }
@@ -42,7 +38,7 @@ pub fn intake()
     ensures own { OwnRecordsAreKnown }
 {}
 
-/// The records near a start are two at most, and what is selected by their starts.
+/// At most two records overlap one with a given start, and their starts select them.
 pub fn near()
     ensures two { NearTwo }
     ensures selected { NearIsSelected }
