@@ -1,9 +1,6 @@
-//! Why a text is no identification of EDF+, in a sentence on its file.
-
 use thiserror::Error;
 
-/// Why a text is no patient identification, by its subfields from the first on (EDF+, additional
-/// specifications).
+/// A text is no patient identification, for one of these reasons.
 #[derive(Clone, Copy, Debug, PartialEq, Eq, Drop, Error)]
 pub enum PatientFault {
     /// The second subfield is no sex.
@@ -13,12 +10,12 @@ pub enum PatientFault {
     #[error("the third subfield of its patient field is no birthdate (dd-MMM-yyyy, in capitals, or \
         X)")]
     NoBirthdate,
-    /// There are fewer than four subfields, and sex and birthdate are right where they are there.
+    /// There are fewer than four subfields, and none of those is wrong.
     #[error("its patient field has fewer than the four subfields code, sex, birthdate and name")]
     Few,
 }
 
-/// Why a text is no recording identification (EDF+, additional specifications).
+/// A text is no recording identification, for one of these reasons.
 #[derive(Clone, Copy, Debug, PartialEq, Eq, Drop, Error)]
 pub enum RecordingFault {
     /// It does not begin with `Startdate` and a space.

@@ -1,6 +1,4 @@
-//! The patient and the recording identification, and their subfields: the parts between runs of
-//! spaces.
-
+//! The patient and the recording identification have subfields: the parts between runs of spaces.
 ghost use Rattle.std.specs.Prelude.{◌≡◌, ◌∷◌, ◌==◌, [], not, MatchOption, ◌↔◌, IsTrue, ◌≤◌, length};
 ghost use Rattle.std.specs.Prelude.{MatchResult};
 ghost use Rattle.std.specs.List.{prefix_len};
@@ -12,7 +10,7 @@ ghost use Rattle.edf_field.specs.Fault.{IsPatientFault, IsRecordingFault, IsStar
 use crate::fault::{PatientFault, RecordingFault};
 use edf_time::{Day, id_date};
 
-/// How many spaces are at the front.
+/// Returns the number of leading spaces.
 fn spaces_len(text: &[u8]) -> usize
     ensures { result ≡ prefix_len (λ b. b == 32) text.now }
 {
@@ -24,7 +22,7 @@ fn spaces_len(text: &[u8]) -> usize
     text.len()
 }
 
-/// How many bytes come before the first space.
+/// Returns the number of bytes before the first space.
 pub(crate) fn unpadded_len(text: &[u8]) -> usize
     ensures { result ≡ unpadded_len text.now }
 {
@@ -36,11 +34,8 @@ pub(crate) fn unpadded_len(text: &[u8]) -> usize
     text.len()
 }
 
-/// The first subfield of a text, and what follows it; `None` where the text has only spaces, or
-/// nothing.
-///
-/// Subfields are the parts between runs of spaces, in the patient and the recording identification
-/// (EDF+, additional specifications).
+/// Returns the first subfield of a text (EDF+, additional specifications), and what follows it;
+/// `None` where the text has only spaces, or nothing.
 pub fn next_subfield(text: &[u8]) -> Option<(&[u8], &[u8])>
     ensures { MatchOption result
         (subfields text.now ≡ [])
@@ -53,24 +48,24 @@ pub fn next_subfield(text: &[u8]) -> Option<(&[u8], &[u8])>
     Some(text.split_at(unpadded_len(text)))
 }
 
-/// Whether a subfield is a sex: `F`, `M` or `X`.
+/// Is true where a subfield is a sex: `F`, `M` or `X`.
 fn is_sex(text: &[u8]) -> bool
     ensures { IsTrue result ↔ IsSex text.now }
 {
     matches!(text, [b'F' | b'M' | b'X'])
 }
 
-/// Whether a subfield is a birthdate: a date `dd-MMM-yyyy`, or `X`.
+/// Is true where a subfield is a birthdate: a date `dd-MMM-yyyy`, or `X`.
 fn is_birthdate(text: &[u8]) -> bool
     ensures { IsTrue result ↔ IsBirthdate text.now }
 {
     text == b"X".as_slice() || id_date(text).is_some()
 }
 
-/// Why a text is no patient identification, or `None` where it is one: code, sex `F`, `M` or `X`,
-/// birthdate `dd-MMM-yyyy` or `X`, and name, and maybe more subfields.
+/// Returns the fault of a patient identification, or `None` where it is one: code, sex `F`, `M` or
+/// `X`, birthdate `dd-MMM-yyyy` or `X`, and name, and maybe more subfields.
 ///
-/// In a header it has 80 bytes, 8 to 87, filled with spaces (EDF, header record; EDF+, additional
+/// A header has it in bytes 8 to 87, filled with spaces (EDF, header record; EDF+, additional
 /// specifications).
 pub fn patient_fault(text: &[u8]) -> Option<PatientFault>
     ensures { MatchOption result (IsPatient text.now) (IsPatientFault text.now) }
@@ -96,14 +91,14 @@ pub fn patient_fault(text: &[u8]) -> Option<PatientFault>
     }
 }
 
-/// Whether a text is a patient identification.
+/// Is true where a text is a patient identification.
 pub fn is_patient(text: &[u8]) -> bool
     ensures { IsTrue result ↔ IsPatient text.now }
 {
     patient_fault(text).is_none()
 }
 
-/// Whether a text has three subfields or more.
+/// Is true where a text has three subfields or more.
 fn has_three(text: &[u8]) -> bool
     ensures { IsTrue result ↔ (3 ≤ length (subfields text.now)) }
 {
@@ -116,10 +111,9 @@ fn has_three(text: &[u8]) -> bool
     next_subfield(rest).is_some()
 }
 
-/// Whether what follows a Startdate subfield begins with a space and has an investigation code, a
-/// technician and an equipment code, and maybe more subfields (EDF+, additional specifications).
-///
-/// In a recording field it is the 59 bytes after a date, or the 69 after `X`.
+/// Is true where what follows a Startdate subfield, 59 bytes after a date or 69 after `X`, begins
+/// with a space and has an investigation code, a technician and an equipment code, and maybe more
+/// subfields (EDF+, additional specifications).
 pub fn follows_startdate(after: &[u8]) -> bool
     ensures { IsTrue result ↔ FollowsStartdate after.now }
 {
@@ -129,8 +123,8 @@ pub fn follows_startdate(after: &[u8]) -> bool
     }
 }
 
-/// The Startdate subfield after `Startdate` and a space: its day, or none where it is `X`; and what
-/// follows it.
+/// Reads `Startdate`, a space and the Startdate subfield. Returns its day, or none where it is `X`,
+/// and what follows it.
 fn read_startdate(text: &[u8]) -> Result<(Option<Day>, &[u8]), RecordingFault>
     requires { length text.now ≡ 80 }
     ensures { MatchResult result
@@ -148,13 +142,12 @@ fn read_startdate(text: &[u8]) -> Result<(Option<Day>, &[u8]), RecordingFault>
     Ok((Some(day), &text[21..]))
 }
 
-/// Reads a recording field, 80 bytes, 88 to 167 of a header: the day of its Startdate subfield, or
-/// none where that is `X`; and what follows it, 59 or 69 bytes (EDF, header record; EDF+,
-/// additional specifications).
+/// Reads a recording field, bytes 88 to 167 of a header: the day of its Startdate subfield, or none
+/// where that is `X`; and what follows it (EDF, header record; EDF+, additional specifications).
 ///
 /// # Errors
-/// `NoStartdate` where the field does not begin with `Startdate` and one space, `NoDate` where
-/// neither a date `dd-MMM-yyyy` nor `X` follows, `Few` where the rest is none by
+/// It fails with `NoStartdate` where the field does not begin with `Startdate` and one space,
+/// `NoDate` where neither a date `dd-MMM-yyyy` nor `X` follows, `Few` where the rest is none by
 /// `follows_startdate`.
 pub fn read_recording(text: &[u8]) -> Result<(Option<Day>, &[u8]), RecordingFault>
     requires { length text.now ≡ 80 }

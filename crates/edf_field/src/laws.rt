@@ -1,4 +1,4 @@
-//! Laws of the texts of fields: each function has a law for a contract, and does nothing.
+//! Each function states a law of the texts of fields in its contract, and does nothing.
 ghost use Rattle.std.specs.Prelude.{◌≡◌, ℕ, Bool, List, [], ◌∷◌, Option, ◌≤◌, ◌<◌, ◌⊎◌, length, ℤ};
 ghost use Rattle.std.specs.Option.{unwrap_or};
 ghost use Rattle.edf_field.specs.Number.{IsDuration, IsDurationInRange, duration_of};
@@ -10,21 +10,20 @@ ghost use Rattle.edf_field.specs.declared.fault.RecordingFault.{RecordingFault};
 
 use crate::number::MOST_DURATION;
 
-/// A physical value spelled out is read as its digits.
+/// A physical value is read as its digits.
 pub fn physical_read()
     ensures { (sign : Option Bool) (d : ℕ) (ds : List ℕ) (point : Option (List ℕ)) (n : ℕ) →
         AreDigits (d ∷ ds) → AreDigits (unwrap_or point []) →
         IsSpelledAs (spelled sign (d ∷ ds) point n) (d ∷ ds) (unwrap_or point []) }
 {}
 
-/// What is in the range of a duration is more than none, and each number is in it or is not.
+/// Each number is in the range of a duration or is not, and each in the range is above 0.
 pub fn duration_range()
     ensures some { (nanos : ℕ) → IsDurationInRange nanos → 0 < nanos }
     ensures decided { (nanos : ℕ) → IsDurationInRange nanos ⊎ (¬ IsDurationInRange nanos) }
 {}
 
-/// A duration field has one value, that of its digits. One of eight bytes is at most
-/// [`MOST_DURATION`].
+/// A duration field has one value, that of its digits; eight bytes have at most [`MOST_DURATION`].
 pub fn duration_value()
     ensures value { (field : List ℕ) (nanos : ℕ) → IsDuration field nanos →
         nanos ≡ duration_of field }

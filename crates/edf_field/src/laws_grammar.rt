@@ -1,5 +1,4 @@
-//! Laws of the number texts: they are read exactly where the grammar has them. Each function has a
-//! law for a contract, and does nothing.
+//! Number texts are read exactly where the grammar has them. Each function states a law of it.
 ghost use Rattle.std.specs.Prelude.{◌≡◌, ◌≢◌, ℕ, ◌-◌, ◌^◌, ◌≤◌, ◌<◌, ◌++◌, ◌↔◌, List, ℤ};
 ghost use Rattle.std.specs.Fmt.{decimal};
 ghost use Rattle.edf_time.specs.Decimal.{short};
@@ -45,8 +44,8 @@ pub fn duration_texts()
     ensures { (text : List ℕ) (nanos : ℕ) → IsDuration text nanos ↔ IsDurationText text nanos }
 {}
 
-/// Decimals write one number exactly where they have the same digits, but for zeros at the front
-/// and at the end.
+/// Decimals write one number exactly where they have the same digits but for leading and trailing
+/// zeros.
 pub fn decimal_digits()
     ensures { (whole part other rest : List ℕ) (wide at : ℕ) → AreDecimalDigits whole part wide at →
         AreDecimalDigits other rest wide at →
@@ -54,8 +53,7 @@ pub fn decimal_digits()
         ↔ (widened whole part wide at ≡ widened other rest wide at)) }
 {}
 
-/// What is written without needless zeros, and filled up with spaces, is read as the number that
-/// was written.
+/// A number that is written without needless zeros, and filled up with spaces, is read as itself.
 pub fn written_texts()
     ensures whole { (n blanks : ℕ) → n < 2 ^ 64 → IsWholeText (decimal n ++ spaces blanks) n }
     ensures duration { (nanos blanks : ℕ) → IsDurationInRange nanos → nanos < 10 ^ 73 →

@@ -1,14 +1,22 @@
-//! The texts of header fields: numbers, durations, and the identifications of EDF+.
+//! Header fields have texts: numbers, durations, and the identifications of EDF+.
 //!
-//! - [`read_whole`], [`read_signed`], [`physical_values_differ`], [`are_spaces`]: number texts,
-//!   which only spaces follow. [`split_digits`]: the digits at the front of one.
-//! - [`read_duration`], [`MOST_DURATION`]: the duration of a data record.
+//! ```rust
+//! use edf_field::{read_duration, read_whole};
+//!
+//! /// Returns the nanoseconds of all data records, from two fields of a header.
+//! fn length(data_records: &[u8; 8], duration: &[u8; 8]) -> Option<u64> {
+//!     let data_records = read_whole(data_records)?;
+//!     read_duration(duration)?.checked_mul(u64::from(data_records))
+//! }
+//! ```
+//!
+//! - [`read_whole`], [`read_signed`], [`read_duration`], [`MOST_DURATION`]: numbers and durations.
+//! - [`physical_values_differ`]: a physical minimum and maximum.
+//! - [`split_digits`], [`are_spaces`]: the digits that a text begins with; the spaces after a text.
 //! - [`next_subfield`]: the subfields of an identification, one after the other.
-//! - [`is_patient`], [`read_recording`], [`follows_startdate`]: the patient and the recording
-//!   identification; [`patient_fault`], [`PatientFault`], [`RecordingFault`]: why a text is none.
-//! - [`laws_grammar`]: number texts are read exactly where the grammar has them.
-//! - [`laws`]: what the definitions of these texts come to; functions that do nothing, each with a
-//!   law for a contract.
+//! - [`is_patient`], [`patient_fault`], [`PatientFault`]: the patient identification.
+//! - [`read_recording`], [`follows_startdate`], [`RecordingFault`]: the recording identification.
+//! - [`laws`], [`laws_grammar`]: each function states a law of these texts and does nothing.
 #![tactic(auto)]
 
 mod fault;

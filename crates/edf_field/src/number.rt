@@ -9,11 +9,10 @@ ghost use Rattle.edf_field.specs.Number.{IsDurationInRange};
 use crate::identification::unpadded_len;
 use edf_time::read_seconds;
 
-/// The longest duration of a data record, in nanoseconds: eight bytes write less than 100,000,000
-/// seconds.
+/// No duration of a data record has more nanoseconds: eight bytes write less than 100,000,000 s.
 pub const MOST_DURATION: u64 = 100_000_000_000_000_000;
 
-/// The index of the first byte that is no digit, or the length.
+/// Returns the index of the first byte that is no digit, or the length.
 fn digits_end(text: &[u8]) -> usize
     ensures { result ≡ digits_len text.now }
 {
@@ -25,7 +24,7 @@ fn digits_end(text: &[u8]) -> usize
     text.len()
 }
 
-/// The number that at most eight digits write.
+/// Returns the number that at most eight digits write.
 pub(crate) fn read_digits(text: &[u8]) -> u32
     requires digits { (k : ℕ) → k < length text.now →
         IsTrue (is_ascii_digit (slice_index text.now k)) }
@@ -41,14 +40,14 @@ pub(crate) fn read_digits(text: &[u8]) -> u32
     number
 }
 
-/// Whether there are only spaces, which fill a field after its text (EDF, header record).
+/// Is true where there are only spaces, which fill a field after its text (EDF, header record).
 pub fn are_spaces(text: &[u8]) -> bool
     ensures { IsTrue result ↔ AreSpaces text.now }
 {
     text.iter().all(|b| *b == b' ')
 }
 
-/// The text without the sign at its front, or all of it where it has none.
+/// Returns the text without its leading sign, or all of it where it has none.
 pub(crate) fn without_sign(text: &[u8]) -> &[u8]
     ensures value { result.now ≡ unsigned text.now }
     ensures len { length result.now ≤ length text.now }
@@ -59,7 +58,7 @@ pub(crate) fn without_sign(text: &[u8]) -> &[u8]
     }
 }
 
-/// The digits at the front, and what follows them.
+/// Returns the leading digits, and what follows them.
 pub fn split_digits(text: &[u8]) -> (&[u8], &[u8])
     ensures digits { result.0.now ≡ digits text.now }
     ensures rest { result.1.now ≡ after_digits text.now }
@@ -71,10 +70,10 @@ pub fn split_digits(text: &[u8]) -> (&[u8], &[u8])
 }
 
 /// Reads a field of at most eight bytes as a whole number, at most 99,999,999: one digit or more,
-/// leading zeros allowed, and then only spaces. `None` for any other text.
+/// leading zeros allowed, and then only spaces. Any other text gives `None`.
 ///
-/// In a header: the bytes in it, 184 to 191; the data records, 236 to 243; the signals, 252 to 255;
-/// and each signal's samples per data record, 8 bytes at 216 of its row of 256 (EDF, header
+/// So a header has its own length, bytes 184 to 191; the data records, 236 to 243; the signals, 252
+/// to 255; and each signal's samples per data record, 8 bytes at 216 of its row of 256 (EDF, header
 /// record).
 pub fn read_whole(field: &[u8]) -> Option<u32>
     requires { length field.now ≤ 8 }
@@ -89,10 +88,10 @@ pub fn read_whole(field: &[u8]) -> Option<u32>
 }
 
 /// Reads a field of at most eight bytes as a whole number after a sign or none, and then only
-/// spaces. `None` for any other text.
+/// spaces. Any other text gives `None`.
 ///
-/// In a header: each signal's digital minimum and maximum, 8 bytes at 120 and 8 at 128 of its row
-/// of 256 (EDF, header record).
+/// So a header has each signal's digital minimum and maximum, 8 bytes at 120 and 8 at 128 of its
+/// row of 256 (EDF, header record).
 pub fn read_signed(field: &[u8]) -> Option<i32>
     requires { length field.now ≤ 8 }
     ensures { MatchOption result (¬ IsSigned field.now)
@@ -105,7 +104,7 @@ pub fn read_signed(field: &[u8]) -> Option<i32>
     Some(size)
 }
 
-/// Whether so many nanoseconds are in the range of a duration: above 0.
+/// Is true where so many nanoseconds are in the range of a duration: above 0.
 fn is_duration_in_range(nanos: u64) -> bool
     ensures { IsTrue result ↔ IsDurationInRange nanos }
 {
@@ -113,9 +112,9 @@ fn is_duration_in_range(nanos: u64) -> bool
 }
 
 /// Reads a field of at most eight bytes as the duration of a data record, in nanoseconds: a decimal
-/// of seconds above 0, and then only spaces. `None` for any other text, and for 0.
+/// of seconds above 0, and then only spaces. Any other text gives `None`, and so does 0.
 ///
-/// In a header it is bytes 244 to 251 (EDF, header record).
+/// A header has it in bytes 244 to 251 (EDF, header record).
 pub fn read_duration(field: &[u8]) -> Option<u64>
     requires { length field.now ≤ 8 }
     ensures { MatchOption result ((n : ℕ) → ¬ IsDuration field.now n) (IsDuration field.now) }

@@ -6,7 +6,7 @@ ghost use Rattle.edf_field.specs.Number.{unscaled, signed, DifferAsNumbers};
 
 use crate::number::{are_spaces, read_digits, split_digits, without_sign};
 
-/// A physical value: its sign, the number that all its digits write, and how many of them are after
+/// A physical value has a sign, the number that all its digits write, and a number of digits after
 /// the dot.
 #[derive(Clone, Copy)]
 struct Physical {
@@ -17,7 +17,7 @@ struct Physical {
     ghost few: { fraction_len < 8 },
 }
 
-/// The digits after a dot at the front, or none where no dot is there, and what follows.
+/// Returns the digits after a leading dot, or none where no dot is there, and what follows.
 fn split_fraction(text: &[u8]) -> (&[u8], &[u8])
     ensures digits { result.0.now ≡ fraction text.now }
     ensures rest { result.1.now ≡ after_fraction text.now }
@@ -52,7 +52,7 @@ fn read_physical(field: &[u8]) -> Option<Physical>
     })
 }
 
-/// Whether two values differ: a zero has no sign.
+/// Is true where two values differ: a zero has no sign.
 fn differ(a: Physical, b: Physical) -> bool
     ensures { IsTrue result ↔ (signed a.negative (a.unscaled * 10 ^ b.fraction_len)
         ≢ signed b.negative (b.unscaled * 10 ^ a.fraction_len)) }
@@ -62,12 +62,11 @@ fn differ(a: Physical, b: Physical) -> bool
     a_unscaled != b_unscaled || (a.negative != b.negative && a_unscaled != 0)
 }
 
-/// Whether two texts of at most eight bytes are physical values that differ as numbers: a sign or
-/// none, one digit or more, maybe a dot and zero or more digits, and then only spaces. Also false
-/// where one of them is no such text.
+/// Is true where two texts of at most eight bytes are physical values that differ as numbers. Each
+/// is a sign or none, one digit or more, maybe a dot and zero or more digits, and then only spaces.
 ///
-/// In a header: each signal's physical minimum and maximum, 8 bytes at 104 and 8 at 112 of its row
-/// of 256 (EDF, header record).
+/// So a header has each signal's physical minimum and maximum, 8 bytes at 104 and 8 at 112 of its
+/// row of 256 (EDF, header record).
 pub fn physical_values_differ(minimum: &[u8], maximum: &[u8]) -> bool
     requires minimum { length minimum.now ≤ 8 }
     requires maximum { length maximum.now ≤ 8 }
