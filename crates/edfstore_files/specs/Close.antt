@@ -1,4 +1,4 @@
--- What a run comes to, what its files hold once it has let them go, and what that is after others.
+-- The result of a run: what its files hold once they are closed or released, also after others.
 use Rattle.std.specs.Prelude.{◌≡◌, ◌⊎◌, ◌↔◌, ℕ, Bool, true, false, List, [], Option, Some, None}
 use Rattle.std.specs.Prelude.{IsTrue, IfSome}
 use Rattle.sqlite_disk.specs.declared.Disk.{Ghosts}
@@ -39,9 +39,9 @@ use Rattle.edfstore_files.specs.Turns.{Follow, ended, idle, HeadlineAfterRuns}
 use Rattle.edfstore_files.specs.ProgramRun.{ProgramRun, Refuses, was_opened}
 use Rattle.edfstore_files.specs.declared.session.EndedRun.{EndedRun}
 
--- The files are those of the connection's store, closed or not: a crash leaves nothing that it
--- could not leave before. A failure that is told has its cause, on a disk that gave back what was
--- written: a call failed in the close, or had shut the store; for want of memory none is said.
+-- The files are those of the connection's store, closed or not: a crash results in nothing that it
+-- could not before. On a disk that returned what was written a failure has its cause: a call failed
+-- in the close, or had closed the store; of memory that ran out no cause is said.
 pub record AreReleased {D : Type 0} {g : Ghosts D} (last : Held (FileStore D g))
     (failure : Option Error) (files : Files D) : Type 0 where
   pub store : FileStore D g
@@ -49,14 +49,14 @@ pub record AreReleased {D : Type 0} {g : Ghosts D} (last : Held (FileStore D g))
   pub quiet : IsClosed last store
   pub cause : IfSome failure (λ e. IsClean (view store) → FailsToClose last store e)
 
--- what is said of it: nothing, and it went as it had gone; or a line, and it is trouble
+-- a close prints nothing, and the status stays; or a line, and the status is trouble
 abbrev pub IsClosePrinted : OutputChange → Option Error → Status → Status → Type 0
 IsClosePrinted err None before status = Gets err [] × (status ≡ before)
 IsClosePrinted err (Some error) before status = (fault : StoreFault) × IsRefusalOf error fault
     × IsWritten err (store_not_closed_line fault) Trouble status
 
 module _ {D : Type 0} {g : Ghosts D} (r : ProgramRun g) (s : EndedRun D) where
-  -- the disk gave back what was written
+  -- the disk returned what was written
   abbrev pub IsDiskClean : Type 0
   IsDiskClean = AreClean g s.files.log s.files.db
 
@@ -64,16 +64,16 @@ module _ {D : Type 0} {g : Ghosts D} (r : ProgramRun g) (s : EndedRun D) where
   abbrev pub AreClosed : Type 0
   AreClosed = IsDiskClean × (s.failure ≡ None)
 
-  -- and they were let go as they are, since a failure had shut the store
+  -- and they were released as they are, since a failure had closed the store
   abbrev pub AreReleasedUnclosed : Type 0
   AreReleasedUnclosed = IsDiskClean × (s.failure ≡ Some (SqliteFailure Closed))
 
-  -- the files may be so after a crash, or as they are read now
+  -- the files may hold this after a crash, or as they are read now
   abbrev pub MayHold : Image → Type 0
   MayHold image = outcomes g s.files.log s.files.db image
 
-  -- what this run began with is one thing; whatever runs and sessions led to it, it is what all
-  -- that they submitted leaves, of which the headline speaks; and this is so of it
+  -- What this run began with is one thing. Whatever runs and sessions came before, it is the result
+  -- of all that they submitted, of which the headline is true; and so is this.
   abbrev pub Across : (Holdings → Type 0) → Type 0
   Across IsSo = IsDiskClean → ((h other : Holdings) → FilesHold r.cap r.start h →
       FilesHold r.cap r.start other → h ≡ other)
@@ -81,11 +81,11 @@ module _ {D : Type 0} {g : Ghosts D} (r : ProgramRun g) (s : EndedRun D) where
       FilesHold r.cap first h → Follow r.cap runs first r.start →
       ∥ ((it : HeadlineAfterRuns r.cap runs h r.start) × IsSo (after r.cap h it.submissions)) ∥₁)
 
-  -- The store was opened, and the work was done over it: it held what the files held, rows that
-  -- some submissions leave, or none. Where they were closed, they, and the database file alone,
-  -- hold what the store then held, which is what all turns leave, and beside our two tables what
-  -- they held; where they were let go, what some first of the turns leave. Whatever became of the
-  -- close, an opening after a crash finds no rows but such as some first of the turns leave.
+  -- The store was opened, and the work was done over it: it held what the files held, the result
+  -- of some submissions, or nothing. Closed files, and the database file alone, hold what the store
+  -- then held, which is the result of all turns, and beside our two tables what they held; released
+  -- ones the result of a prefix of the turns. However the close went, an opening after a crash
+  -- reads only rows that are the result of such a prefix.
   pub record IsRunDone : Type 0 where
     pub db : Database
     pub old : StoreModel (FileStore D g)
@@ -116,13 +116,12 @@ module _ {D : Type 0} {g : Ghosts D} (r : ProgramRun g) (s : EndedRun D) where
     pub leads : AreReleasedUnclosed → (image : Image) → MayHold image →
         LeadsTo r.cap (λ h. IsSubmittedPrefix turns) r.start image
     pub crash : IsDiskClean → (h : Holdings) → FilesHold r.cap r.start h → (rows : Trees) →
-        recovers let_go.store rows →
-        (submissions : List Parsed) × IsSubmittedPrefix turns submissions
-        × TreesHold r.cap rows (after r.cap h submissions)
+        recovers let_go.store rows → (submissions : List Parsed)
+        × IsSubmittedPrefix turns submissions × TreesHold r.cap rows (after r.cap h submissions)
 
   -- Or the store was refused. The fault has a cause; or it is E45, and the files held a database
-  -- that no submissions leave. No failure to close is told. The files hold what they held, and
-  -- their rows are as they were, where tables of ours that were missing may have been made.
+  -- that is the result of no submissions. There is no failure to close. The files hold what they
+  -- held, and their rows are as they were; missing tables of ours may have been made.
   pub record IsRefused : Type 0 where
     pub db : Database
     pub fault : StoreFault

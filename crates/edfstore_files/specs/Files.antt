@@ -10,8 +10,8 @@ use Rattle.edf_tables.specs.Schema.{no_schema, one_schema, HasBoth}
 use Rattle.edf_holdings.specs.Holdings.{Holdings, nothing_held}
 use Rattle.edf_rows.specs.Rows.{RepresentCommitted}
 
--- a database keeps these: it has no table at all, or only our first, without a row, and nothing is
--- held; or it has both, whose rows stand for them
+-- the database holds these: it has no table at all, or only our first, without a row, and nothing
+-- is held; or it has both, whose rows represent them
 pub data DatabaseHolds (cap : ℕ) (db : Database) (h : Holdings) : Type 0 where
   no_table : db.schema ≡ no_schema → h ≡ nothing_held → DatabaseHolds cap db h
   one_table : db.schema ≡ one_schema → stored_recordings db.trees ≡ [] → h ≡ nothing_held →
@@ -24,8 +24,8 @@ pub record TreesHold (cap : ℕ) (trees : Trees) (h : Holdings) : Type 0 where
   pub is_database : IsDatabase (record { schema = schema; trees = trees })
   pub holds : DatabaseHolds cap (record { schema = schema; trees = trees }) h
 
--- the files, as bytes, keep these: there is no database yet and nothing is held; or they have such
--- a database
+-- the files, as bytes, hold these: there is no database yet and nothing is held; or there is one
+-- that holds them
 abbrev pub FilesHold : ℕ → Image → Holdings → Type 0
 FilesHold cap image h = (IsNothing image × (h ≡ nothing_held))
     ⊎ ((db : Trees) × ∥ HoldsDatabase image db ∥₁ × TreesHold cap db h)

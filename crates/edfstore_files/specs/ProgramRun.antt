@@ -1,5 +1,5 @@
 -- A run of `edfstore` or a session of `edfserve` over the two files of a store: how these are
--- opened for it, what it is given, what it tells, and what it does while the store is open.
+-- opened for it, what it is given, what it prints, and what it does while the store is open.
 use Rattle.std.specs.Prelude.{◌≡◌, ◌⊎◌, ◌∷◌, ◌++◌, ℕ, true, false, Bool, List, [], length, map}
 use Rattle.std.specs.Prelude.{Option, None, option_map, Result, Ok, Err, IfSome}
 use Rattle.sqlite_disk.specs.declared.Disk.{Ghosts}
@@ -37,37 +37,35 @@ IsOfNoFiles error = (error ≡ SqliteFailure code.CannotOpen)
     ⊎ ((error ≡ SqliteFailure code.OutOfMemory) ⊎ (error ≡ SqliteFailure code.DatabaseBusy))
 
 module _ {D : Type 0} {g : Ghosts D} (start : Image) where
-  -- This is left, for this error, of files that held these bytes as they were opened, of which a
-  -- crash then left just them. On a disk that gave back what was written, files that were only read
-  -- hold them still; where no database was held, a crash leaves none or an empty one; where one
-  -- was, what stands for what it stood for.
+  -- This remains, for this error, of files that held `start` as they were opened. On a disk that
+  -- returned what was written, files that were only read hold it still; after a crash, no database
+  -- is still none or an empty one, and a database represents the same.
   pub record IsLeftover (error : Error) (rest : Leftover D g) : Type 0 where
     pub files : Files D
     pub held : image_of g files ≡ start
     pub settled : (image : Image) → outcomes g files.log files.db image → image ≡ start
     pub leaves : IsCleanLeft rest → FailsToOpenFiles files rest error × LeavesFiles files rest
 
-  -- A connection is open, as new, over files that were read as `start`; or this is left of them, or
-  -- nothing, and what was done to the files before is not said.
+  -- A connection is open, as new, over files that were read as `start`; or this remains of them, or
+  -- nothing, and no clause says what was done to the files before.
   abbrev pub IsOpening : Result (Held (FileStore D g)) (Error × Option (Leftover D g)) → Type 0
   IsOpening (Ok c) = ((file_state c).in_transaction ≡ false)
       × (HasCleanDisk (file_state c) → IsOpened c × FindsIn start (file_state c))
   IsOpening (Err e) = IfSome e.1 (IsLeftover e.0) × (e.1 ≡ None → IsOfNoFiles e.0)
 
--- What is told of an opening: the store is open, and the output has this, where that is known; or
--- the store was refused, for this fault, and whether its file has our tables.
+-- What a watch is notified of: the store is open, and the output has this, where that is known; or
+-- the store was refused, for this fault, and its file has our tables or not.
 pub data Notice : Type 0 where
   was_opened : Option (List ℕ) → Notice
   was_refused : StoreFault → Bool → Notice
 
--- this was told, once, and nothing else, where what was told is known
+-- it got this notice, once, and no other, where its notices are known
 abbrev pub IsNoticed : Option (List Notice) → Option (List Notice) → Notice → Type 0
-IsNoticed old new notice = new ≡ option_map (λ (told : List Notice). told ++ (notice ∷ [])) old
+IsNoticed old new notice = new ≡ option_map (λ (all : List Notice). all ++ (notice ∷ [])) old
 
--- A run or a session: how many data records a recording may have; what the files hold as they are
--- opened; what its output has as the store is opened; what standard error gets; that this was told
--- of the opening; that nothing was read or put out; and what was done over the open store, in which
--- turns, with what on standard error, and how it went.
+-- A run or a session: its cap; what the files hold as they are opened; what its output has then;
+-- what standard error gets; the notice of the opening; that nothing was read or printed; and what
+-- was done over the open store, in which turns, with what on standard error and which status.
 pub record ProgramRun {D : Type 0} (g : Ghosts D) : Type 1 where
   pub cap : ℕ
   pub start : Image
@@ -85,34 +83,32 @@ pub record Refuses {D : Type 0} {g : Ghosts D} (r : ProgramRun g) (fault : Store
   pub noticed : r.Noticed (was_refused fault ours)
   pub untouched : r.Untouched
 
--- so it was for this error, since its files were not opened
+-- the store was refused for this error, since its files were not opened
 abbrev pub NotOpened : {D : Type 0} {g : Ghosts D} → ProgramRun g → Error → Status → Type 0
 NotOpened r error status = (fault : StoreFault) × IsRefusalOf error fault
     × Refuses r fault false status
 
--- ---- a run of a command
-
--- what is asked, what names stand for, which were opened before and after, and standard output
+-- a command: the request, the bytes of each name, which names were opened before and after, and
+-- standard output
 abbrev pub Command : Type 0
 Command = Request × (List ℕ → Option (List ℕ)) × List (List ℕ) × List (List ℕ) × OutputChange
 
--- a `take` prints of each file how it was answered
+-- a `take` prints the answer to each file
 abbrev pub Prints : OutputChange → Request → List Turn → Status → Type 0
-Prints out (take store files) turns status = (spell : ℕ → List ℕ) → IsInstantFormat spell →
+Prints out (take store files) turns status = (text : ℕ → List ℕ) → IsInstantFormat text →
     let answers = map (λ (t : Turn). t.answer) turns in
-    AreLinesPrinted out (first_take_lines spell files answers) (length answers)
-    (take_status answers)
-    status
+    AreLinesPrinted out (first_take_lines text files answers) (length answers)
+    (take_status answers) status
 Prints out other turns status = Unit {0}
 
 -- the command was done, and these were the turns of all files that it names; or there was no memory
 -- for them, and it had none
 abbrev pub DoesCommand : {D : Type 0} {g : Ghosts D} → Command → StoreModel (FileStore D g) →
     StoreModel (FileStore D g) → List Turn → OutputChange → Status → Type 0
-DoesCommand (asked, bytes, before, after, out) old new turns err status =
-    IsDone over_files old new out err bytes asked status
-    × HasOpened before after (files_of asked) status
-    × (((given_in turns ≡ map bytes (files_of asked)) × Prints out asked turns status)
+DoesCommand (request, bytes, before, after, out) old new turns err status =
+    IsDone over_files old new out err bytes request status
+    × HasOpened before after (files_of request) status
+    × (((given_in turns ≡ map bytes (files_of request)) × Prints out request turns status)
     ⊎ ((turns ≡ []) × Gets out [] × (status ≡ Trouble)))
 
 abbrev pub run_of : {D : Type 0} (g : Ghosts D) → ℕ → Image → Command → OutputChange →

@@ -1,5 +1,5 @@
--- What turns do to an open store, what they make of what files hold, and many runs, one after
--- another. A turn is that of one file: what it gave, what it tells, and how it was answered.
+-- What turns do to an open store and to what its files hold, and many runs, one after another. A
+-- turn is that of one file: the bytes that it gave, what they parse to, and its answer.
 use Rattle.std.specs.Prelude.{◌≡◌, ◌⊎◌, ℕ, List, [], ◌∷◌, ◌++◌, map, Option}
 use Rattle.std.specs.List.{AllByRecursion}
 use Rattle.sqlite_trees.specs.declared.store.Store.{Ghosts}
@@ -16,9 +16,9 @@ use Rattle.edf_intake.specs.Batch.{Turn, IsTurn, submissions_in, replies_in, May
 use Rattle.edf_export.specs.Headline.{Headline}
 use Rattle.edfstore_files.specs.Files.{FilesHold}
 
--- The store was handed these files in turn, and all else that was done left what it holds: each
--- that told something got the reply to it, and what is held then is what they leave. A crash leaves
--- what it could leave before, or what some first of them leave.
+-- The store was handed these files in turn, and nothing else changed what it holds: each that
+-- was parsed got the reply to it, and what is held then is the result of them all. After a crash
+-- there is what there could be before, or the result of a prefix of them.
 pub record TakesTurns {S : Type 0} (g : Ghosts S) (old new : StoreModel S) (turns : List Turn) :
     Type 0 where
   pub cap : new.cap ≡ old.cap
@@ -31,43 +31,40 @@ pub record TakesTurns {S : Type 0} (g : Ghosts S) (old new : StoreModel S) (turn
   pub crash : Survives (at g old) (at g new) (λ rows. (h : Holdings) → Holds g old h →
       MayRemainAfterCrash old.cap h turns rows)
 
--- what some first of these turns submitted, and perhaps the next, whose answer is E41 or E42
+-- what a prefix of these turns submitted, and perhaps the next, whose answer is E41 or E42
 pub record IsSubmittedPrefix (turns : List Turn) (submissions : List Parsed) : Type 0 where
   pub first : List Turn
   pub rest : List Turn
   pub splits : turns ≡ first ++ rest
-  pub are : (submissions ≡ submissions_in first)
-      ⊎ ((t : Turn) × (later : List Turn) × (submission : Parsed)
-      × (rest ≡ t ∷ later) × IsInDoubt t.answer × ReadsAs t.from t.to submission
-      × (submissions ≡ submissions_in first ++ (submission ∷ [])))
+  pub are : (submissions ≡ submissions_in first) ⊎ ((t : Turn) × (later : List Turn)
+      × (submission : Parsed) × (rest ≡ t ∷ later) × IsInDoubt t.answer
+      × ReadsAs t.from t.to submission × (submissions ≡ submissions_in first ++ (submission ∷ [])))
 
--- what the files gave, where that is known
+-- the bytes that the files gave, where these are known
 abbrev pub given_in : List Turn → List (Option (List ℕ))
 given_in turns = map (λ (t : Turn). t.from.remaining) turns
 
 -- ---- many runs
 
--- What became of a run, or of a session over one opening of the store: it was closed, and these
--- were its turns; it changed nothing, as where its store was refused; or it was broken off, by a
--- crash, or since its files were let go unclosed, and took some first of files that gave this.
+-- The end of a run, or of a session over one opening of the store: it was closed, and these were
+-- its turns; it changed nothing, as where its store was refused; or it was interrupted, by a crash
+-- or since its files were released unclosed, and took a prefix of files that gave these bytes.
 pub data PastRun : Type 0 where
   ended : List Turn → PastRun
   idle : PastRun
   interrupted : List (Option (List ℕ)) → PastRun
 
--- What it submitted, over files that hold h: all that its files told, and its replies are those to
--- this list; nothing; or what the first of them told, but for those that it answered from E40 on.
+-- What it submitted, over files that hold h: all that its files parse to, and its replies are those
+-- to this list; nothing; or what a prefix of them parses to, without those answered from E40 on.
 abbrev pub MaySubmit : ℕ → PastRun → Holdings → List Parsed → Type 0
 MaySubmit cap (ended turns) h submissions = AllByRecursion IsTurn turns
-    × (submissions ≡ submissions_in turns)
-    × (replies_in turns ≡ replies cap h submissions)
+    × (submissions ≡ submissions_in turns) × (replies_in turns ≡ replies cap h submissions)
 MaySubmit cap idle h submissions = submissions ≡ []
 MaySubmit cap (interrupted given) h submissions = (turns : List Turn)
-    × (rest : List (Option (List ℕ)))
-    × (given ≡ given_in turns ++ rest) × AllByRecursion IsTurn turns
-    × (submissions ≡ submissions_in turns)
+    × (rest : List (Option (List ℕ))) × (given ≡ given_in turns ++ rest)
+    × AllByRecursion IsTurn turns × (submissions ≡ submissions_in turns)
 
--- the files then hold what such submissions leave of what they held
+-- the files then hold the result of such submissions to what they held
 abbrev pub LeadsTo : ℕ → (Holdings → List Parsed → Type 0) → Image → Image → Type 0
 LeadsTo cap Submits start end = (h : Holdings) → FilesHold cap start h →
     ∥ ((submissions : List Parsed) × Submits h submissions
@@ -76,7 +73,7 @@ LeadsTo cap Submits start end = (h : Holdings) → FilesHold cap start h →
 abbrev pub StepsBy : ℕ → PastRun → Image → Image → Type 0
 StepsBy cap run = LeadsTo cap (MaySubmit cap run)
 
--- each begins with files that the one before left, as it ended or crashed
+-- each begins with the files of the one before, as that ended or crashed
 abbrev pub Follow : ℕ → List PastRun → Image → Image → Type 0
 Follow cap [] start end = start ≡ end
 Follow cap (run ∷ later) start end = (mid : Image) × StepsBy cap run start mid
@@ -89,7 +86,7 @@ AreSubmittedBy cap h (run ∷ later) submissions = (first : List Parsed) × (mor
     × MaySubmit cap run h first × (submissions ≡ first ++ more)
     × AreSubmittedBy cap (after cap h first) later more
 
--- after all of them the files hold what those submissions leave, and the headline holds of them
+-- after all of them the files hold the result of those submissions, and the headline is true of it
 pub record HeadlineAfterRuns (cap : ℕ) (runs : List PastRun) (h : Holdings) (end : Image) : Type 0
   where
     pub submissions : List Parsed

@@ -1,4 +1,4 @@
-//! How many data records a recording may have.
+//! The greatest number of data records that a recording may have.
 
 ghost use Rattle.std.specs.Prelude.{◌≡◌, ◌≤◌, MatchOption};
 ghost use Rattle.edf_header.specs.declared.limits.TheConstants.{MOST_RECORDS};
@@ -6,8 +6,8 @@ ghost use Rattle.edf_header.specs.declared.limits.TheConstants.{MOST_RECORDS};
 use edf_header::MOST_RECORDS;
 use std::marker::Model;
 
-/// How many data records a recording may have: at least one, and at most as many as a file may
-/// have. Contracts see the number.
+/// The cap of a recording: from one data record to as many as a file may have. Contracts see it as
+/// a number.
 #[derive(Clone, Copy, Debug, PartialEq, Eq)]
 pub struct Cap {
     records: u32,
@@ -27,7 +27,7 @@ impl Model for Cap {
 }
 
 impl Cap {
-    /// As many as a file may have.
+    /// Returns the greatest cap: as many data records as a file may have.
     pub fn most() -> Cap
         ensures { result ≡ MOST_RECORDS }
     {
@@ -36,7 +36,7 @@ impl Cap {
         }
     }
 
-    /// This many, where that may be.
+    /// Returns this cap, or `None` where it is 0 or more than a file may have.
     pub fn of(records: u32) -> Option<Cap>
         ensures { MatchOption result (¬ ((1 ≤ records) × (records ≤ MOST_RECORDS)))
             (λ cap. cap ≡ records) }
@@ -48,7 +48,6 @@ impl Cap {
         }
     }
 
-    /// The number.
     pub fn records(self) -> u32
         ensures value { result ≡ self }
         ensures bound { (1 ≤ result) × (result ≤ MOST_RECORDS) }

@@ -1,4 +1,4 @@
-//! What many runs and sessions leave: each function has laws for a contract, and does nothing.
+//! The laws of many runs and sessions: each function has some for a contract, and does nothing.
 
 ghost use Rattle.std.specs.Prelude.{ℕ, ◌≡◌, ◌≤◌, ◌∷◌, ◌++◌, List, Option, Some, Ok, IsTrue};
 ghost use Rattle.std.specs.Prelude.{Contains};
@@ -25,14 +25,15 @@ ghost use Rattle.edfstore_files.specs.Turns.{HeadlineAfterRuns};
 
 use sqlite_disk::Disk;
 
-/// The headline across runs and sessions. Where they follow one another, each over files that the
-/// one before left as it ended or crashed, the files hold in the end what one list of submissions
-/// leaves: in their order, those of all files of one that was closed, whose answers are the replies
-/// to them, and those of the first files of one that was broken off. The headline holds of that
-/// list. Of a run that was closed each file that was told as accepted has all its data records in
-/// the files that it leaves (`accepted`). Where there is no database at the start nothing is held;
-/// one that let its files go unclosed was broken off; and what files keep under one cap they keep
-/// under a greater one.
+/// States the headline across runs and sessions (`law`). They follow one another: each opens the
+/// files as the one before closed them, or as a crash of it made them. Then the files hold the
+/// result of one list of submissions, of which the headline is true. A run that was closed adds all
+/// its files, in order, and answered the replies to them; an interrupted one adds a prefix.
+///
+/// After a run that was closed the files hold all data records of each file that it answered as
+/// accepted (`accepted`). Without a database nothing is held (`first`). A run that released its
+/// files unclosed was interrupted (`unclosed`). What files hold under one cap they hold under a
+/// greater one (`wider`).
 pub fn across_runs()
     ensures law { (cap : ℕ) (runs : List PastRun) (h : Holdings) (start end : Image) →
         IsSound cap h → FilesHold cap start h → Follow cap runs start end →
@@ -53,8 +54,8 @@ pub fn across_runs()
         FilesHold cap image h → FilesHold more image h }
 {}
 
-/// An opening that failed keeps what the files kept, also after a crash: where they were only read;
-/// and where there was no database, and one was begun. So such a run, or session, changed nothing.
+/// States that an opening that failed changed nothing of what the files hold, also after a crash:
+/// where they were only read (`read`), or had no database and one was begun (`begun`).
 pub fn an_opening_that_failed<D: Disk>()
     ensures read { (cap : ℕ) (start : Image) (error : Error) (files : Files D) →
         IsLeftover {g = D.Disk} start error (left.Files files) →

@@ -1,13 +1,20 @@
-//! One run of the program over the two files of a store, and many runs and sessions, one after
-//! another.
+//! A run of a command over the two files of a store, and the laws of many runs.
 //!
-//! - [`run_opened`]: a run over files that were opened for it: a command is run, and they are
-//!   closed. [`open_path`] opens those at a path.
-//! - [`close`], [`leave`], [`refuse`]: how the files of a store are let go, and how it is told that
-//!   it was refused, for a session.
-//! - [`EndedRun`], [`Watch`], [`Cap`]: what a run answered, who is told how its opening went, and
-//!   how many data records a recording may have.
-//! - [`laws`]: what many runs and sessions leave.
+//! ```rust
+//! let opened = open_path(rt, path, None, Unknown);
+//! let alloc = rt.alloc();
+//! match run_opened(alloc, opened, Cap::most(), &command, &mut inputs, out, err, watch) {
+//!     Ok(run) => run.status,
+//!     Err((status, _rest)) => status,
+//! }
+//! ```
+//!
+//! - [`open_path`] opens the files at a path, [`run_opened`] runs a command over them and closes
+//!   them; its result is an [`EndedRun`].
+//! - [`close`] and [`leave`] close or release the files of a session; [`refuse`] prints that one
+//!   is refused.
+//! - [`Cap`] is the most data records of a recording; a [`Watch`] is notified of the opening.
+//! - [`laws`] states what the files hold after many runs and sessions.
 #![tactic(auto)]
 
 mod cap;

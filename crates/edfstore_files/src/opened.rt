@@ -1,4 +1,4 @@
-//! One run over the files of a store, once they were opened.
+//! A run over the files of a store that were opened for it.
 
 ghost use Rattle.std.specs.Prelude.{◌≡◌, ◌≢◌, ◌⊎◌, Err, None, IfOk, IfErr};
 ghost use Rattle.sqlite_wal.specs.Files.{outcomes, image_at};
@@ -21,29 +21,28 @@ use sqlite::{Connection, Error, FileFrom, FileStore, Leftover, Start};
 use sqlite_disk::Disk;
 use std::alloc::Global;
 
-/// One run of a command over the files of a store, which were opened for it, or were not: the
-/// command is run over their store, and they are closed. It has no other way to the files.
+/// Runs a command over the store of files that were opened for it, and closes them. It has no other
+/// way to the files. `S` stands for the bytes that they hold at the start, whatever those are.
 ///
-/// `start` stands for what the files hold at the start, whatever that is. Where the disk gives
-/// back what was written (`ran`):
-/// - the files held no database, or one that some submissions leave, the store held just that, and
-///   the command was run over it; or the store was refused for a cause, or with E45, where no
-///   submissions leave what the files held;
-/// - after any runs and sessions, of which each began with what the one before left as it ended or
-///   crashed, it held what all of them submitted, in their order, of which the headline speaks;
-/// - where the files were closed they then hold, also after a crash and without the log, what the
-///   store held in the end: all named files were submitted in turn, answered as is printed, and it
-///   is what they leave. Where the store was refused, they have the rows that they had;
-/// - where they could not be closed, an opening after a crash finds no rows but such as some first
-///   of the named files leave. That it finds a store at all is not said there.
+/// Where the disk returns what was written (`ran`):
+/// - The files held no database, or the result of some submissions. Then the store held just that,
+///   and the command was run over it. Or the store was refused, for a cause, or with E45 where the
+///   files held the result of no submissions.
+/// - After any runs and sessions that follow one another it held the result of all that they
+///   submitted, in order, of which the headline is true.
+/// - Once closed, the files hold what the store held in the end, also after a crash and without the
+///   log: all named files were submitted in turn, answered as is printed, and it is their result.
+///   Files of a refused store have the rows that they had.
+/// - Where they could not be closed, an opening after a crash reads only rows that are the result
+///   of a prefix of the named files. No clause says that it finds a store at all.
 ///
-/// Files that could not be closed are trouble, and a line says so: under every other status what is
-/// held is in the database file (`closed`). What they are read as in the end is among what a crash
-/// may leave, so that the above speaks of it (`now`).
+/// Files that could not be closed are trouble, and a line says so: under every other status the
+/// database file has what is held (`closed`). How they are read in the end is one of the outcomes
+/// of a crash, of which the above speaks (`now`).
 ///
 /// # Errors
-/// The status, where the files were not opened: a line says why, and `watch` is told. What is left
-/// of them is given back as it came (`unopened`).
+/// The status, where the files were not opened. A line says why, and `watch` is notified. What
+/// remains of them is returned as it came (`unopened`).
 pub fn run_opened<S: Start, I: Inputs, O: Output, F: Output, W: Watch>(
     alloc: Global,
     opened: Result<Connection<FileStore<FileFrom<S>>>, (Error, Option<Leftover<FileFrom<S>>>)>,

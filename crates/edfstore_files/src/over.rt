@@ -1,4 +1,4 @@
-//! One run over an open connection.
+//! A run over an open connection.
 
 ghost use Rattle.std.specs.Prelude.{◌≡◌, ◌≢◌, ◌⊎◌, None, Ok, false};
 ghost use Rattle.sqlite_wal.specs.Recovery.{Image};
@@ -20,8 +20,8 @@ use sqlite::{Connection, FileStore};
 use sqlite_disk::Disk;
 use std::alloc::Global;
 
-/// Opens the store of a connection, runs a command over it, and closes its files. Those of a store
-/// that is refused are let go as they are: another program's file is not written.
+/// Opens the store of a connection, runs a command over it, and closes its files. Those of a
+/// refused store are released as they are: another program's file is not written.
 pub(crate) fn run_over<D: Disk + Drop, I: Inputs, O: Output, F: Output, W: Watch>(
     alloc: Global,
     conn: Connection<FileStore<D>>,

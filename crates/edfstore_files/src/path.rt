@@ -1,4 +1,4 @@
-//! The files of a store at a path, opened.
+//! The opening of the files of a store at a path.
 
 ghost use Rattle.std.specs.Prelude.{true, false, IsTrue, IfOk, IfErr};
 ghost use Rattle.sqlite_std_file.specs.File.{file_is_usable, IsFresh};
@@ -16,7 +16,7 @@ const NO_MEMORY: Error = Error::SqliteFailure(ErrorCode::OutOfMemory);
 
 const BUSY: Error = Error::SqliteFailure(ErrorCode::DatabaseBusy);
 
-/// Why the files at a path are not open, as `sqlite` tells it.
+/// Returns the error of `sqlite` for files at a path that could not be opened.
 fn error_of(error: OpenError) -> Error
     ensures { IsOfNoFiles result }
 {
@@ -28,7 +28,7 @@ fn error_of(error: OpenError) -> Error
     }
 }
 
-/// The two files at a path. One that SQLite reads as more than a file's name stands for none.
+/// Opens the two files at a path. One that SQLite reads as more than a file's name is refused.
 fn open_pair<S: Start>(rt: &HostRuntime, path: &str, start: S) -> Result<Files<FileFrom<S>>, Error>
     ensures usable { IfOk result (λ files. IsTrue (file_is_usable S.Start files.log)
         × IsTrue (file_is_usable S.Start files.db)) }
@@ -44,8 +44,7 @@ fn open_pair<S: Start>(rt: &HostRuntime, path: &str, start: S) -> Result<Files<F
     }
 }
 
-/// How files are opened: by a seed of the system's, and with so many pages of memory for what is
-/// read of them, or with the port's own number.
+/// Returns options with a seed of the system and a cache of `pages`, or of the port's own number.
 fn options(rt: &HostRuntime, pages: Option<usize>) -> Result<Options, Error>
     ensures { IfErr result IsOfNoFiles }
 {
@@ -59,16 +58,15 @@ fn options(rt: &HostRuntime, pages: Option<usize>) -> Result<Options, Error>
     Ok(options)
 }
 
-/// The files of the store at a path, which are made where there are none, for
-/// [`run_opened`](crate::run_opened). New files are asked for with page sums. As many of their
-/// pages as `pages` says are kept in memory once they were read, or as many as the port of SQLite
-/// keeps by itself.
+/// Opens the files of the store at a path, for [`run_opened`](crate::run_opened). Where there are
+/// none it makes them, with page sums. The cache has `pages` pages, or the port of SQLite's own
+/// number.
 ///
-/// `start` stands for what the files hold, whatever that is. Of the path that is opened, of what is
-/// done to it before and after, of page sums, and of what is kept in memory no clause speaks.
+/// `start` stands for the bytes that the files hold, whatever those are. No clause speaks of the
+/// path that is opened, of what is done to it before and after, of page sums, or of the cache.
 ///
 /// # Errors
-/// Why they can't be opened, and what is left of them. Nothing is left only where a file can't be
+/// Why they can't be opened, and what remains of them. Nothing remains only where a file can't be
 /// opened, memory ran out, or another program has it.
 pub fn open_path<S: Start>(
     rt: &HostRuntime,

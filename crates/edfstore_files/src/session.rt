@@ -1,4 +1,4 @@
-//! What a run answered, and how its files are let go.
+//! The result of a run, and how its files are closed or released.
 
 ghost use Rattle.std.specs.Prelude.{◌≡◌, None, Some};
 ghost use Rattle.sqlite_wal.specs.Files.{outcomes};
@@ -21,19 +21,19 @@ use sqlite_disk::Disk;
 use sqlite_trees::error::StoreError;
 use sqlite_trees::store::Store;
 
-/// What a run answered, and the files that it had.
+/// The result of a run, with its files.
 #[derive(Drop)]
 pub struct EndedRun<D: Disk> {
-    /// Trouble where the files could not be closed.
+    /// It is trouble where the files could not be closed.
     pub status: Status,
-    /// Why what is held could not be copied into the database file as the run ended, if it could
-    /// not: a call of the disk failed, or memory ran out. A line says so. Where the store was
-    /// refused nothing is copied, and none is told.
+    /// The error where the end of the run could not copy what is held into the database file: a
+    /// call of the disk failed, or memory ran out. A line says so. A refused store copies nothing,
+    /// and has none.
     pub failure: Option<Error>,
     pub files: Files<D>,
 }
 
-/// The error of a store, as `sqlite` tells it.
+/// Returns the error of `sqlite` for that of a store.
 fn error_of(error: StoreError) -> Error
     ensures { result ≡ store_error error }
 {
@@ -47,7 +47,7 @@ fn error_of(error: StoreError) -> Error
     })
 }
 
-/// Lets the files of a store go that could not be copied, and tells why, which is trouble.
+/// Releases the files of a store that could not be copied, and prints why, which is trouble.
 fn give_up<D: Disk + Drop, F: Output>(
     store: FileStore<D>,
     error: StoreError,
@@ -66,9 +66,9 @@ fn give_up<D: Disk + Drop, F: Output>(
     }
 }
 
-/// Copies what is held into the database file, and closes both files; or tells why it could not be
-/// copied, which is trouble. Where a failure of the disk had shut the store, nothing is copied, and
-/// the files are let go as they are.
+/// Copies what is held into the database file, and closes both files; or prints why it could not be
+/// copied, which is trouble. Where a failure of the disk had closed the store, nothing is copied,
+/// and the files are released as they are.
 pub fn close<D: Disk + Drop, F: Output>(
     conn: Connection<FileStore<D>>,
     status: Status,
@@ -101,7 +101,7 @@ pub fn close<D: Disk + Drop, F: Output>(
     }
 }
 
-/// Lets the files of a connection go as they are. What is committed stays in the log.
+/// Releases the files of a connection as they are. What is committed stays in the log.
 pub fn leave<D: Disk + Drop>(conn: Connection<FileStore<D>>, status: Status) -> EndedRun<D>
     ensures each { AreClean D.Disk result.files.log result.files.db →
         HasCleanDisk (file_state conn) × ((image : Image) →

@@ -1,4 +1,4 @@
-//! Who is told how an opening went.
+//! Notices of how an opening went.
 
 ghost use Rattle.std.specs.Prelude.{List, Option};
 ghost use Rattle.edf_cli.specs.Output.{output_change, IsWritten};
@@ -10,27 +10,27 @@ use edf_command::{Status, refuse_store};
 use edf_fragment::Output;
 use edf_store::StoreFault;
 
-/// Who is told how the opening of a store went, as for a person at a terminal.
+/// A watch is notified of how the opening of a store went, as for a person at a terminal.
 ///
-/// A run tells it once: before its command writes to standard output, or after the line that says
-/// why it is not run. Contracts speak of what it was told, where that is known.
+/// A run does so once: before its command writes to standard output, or after the line that says
+/// why it is not run. Contracts speak of its notices, where these are known.
 pub trait Watch {
-    // What it was told, in turn, where that is known.
+    // Its notices, in order, where they are known.
     ghost noticed: { Self → Option (List Notice) };
 
-    /// The store is open. The command, which writes to `out`, has written nothing.
+    /// Notes that the store is open. The command, which writes to `out`, has written nothing.
     fn opened<O: Output>(&mut self, out: &O)
         ensures { IsNoticed (noticed self.old) (noticed self.new)
             (was_opened (O.contents out.now)) };
 
-    /// The store was refused, and a line says so. It has our tables where its file was opened and
-    /// has no table, the first of a store's two alone, or both and perhaps others after them.
+    /// Notes that the store was refused; a line says so. It has our tables where its file was
+    /// opened and has no table, the first of a store's two, or both and perhaps others after them.
     fn refused(&mut self, fault: &StoreFault, has_our_tables: bool)
         ensures { IsNoticed (noticed self.old) (noticed self.new)
             (was_refused fault.now has_our_tables) };
 }
 
-/// Prints that a store is refused, and tells it.
+/// Prints that a store is refused, and notifies the watch.
 pub fn refuse<F: Output, W: Watch>(
     fault: &StoreFault,
     has_our_tables: bool,
