@@ -1,4 +1,4 @@
--- What an export does: the canonical file of what is held under a key goes out, or a prefix of it.
+-- An export: the canonical file of what is held under a key is written, or a prefix of it.
 use Rattle.std.specs.Prelude.{◌≡◌, ◌≢◌, ℕ, false, List, [], ◌∷◌, length, codes, Option, None}
 use Rattle.std.specs.Prelude.{Result, Err, MatchResult}
 use Rattle.std.specs.Io.KnownBytes.{Appends, Keeps}
@@ -19,7 +19,7 @@ use Rattle.edf_export.specs.declared.fault.ExportFault.TheVariants.{Write}
 
 -- ---- the answer, on a disk that returns what was written
 
--- the canonical file of the records went out, the only one that they have, and this is its length
+-- the canonical file of the records was written, the only one that they have, with this length
 pub record IsExported (before after : Option (List ℕ)) (k : Key) (records : List DataRecord)
     (len : ℕ) : Type 0 where
   pub file : List ℕ
@@ -28,24 +28,21 @@ pub record IsExported (before after : Option (List ℕ)) (k : Key) (records : Li
   pub wrote : Appends before after file
   pub len_is : len ≡ length file
 
--- the records have a canonical file, of which a prefix went out
+-- the records have a canonical file, of which a prefix was written
 pub record WritesPrefixOfFile (before after : Option (List ℕ)) (k : Key)
-    (records : List DataRecord) : Type
-    0 where
+    (records : List DataRecord) : Type 0 where
   pub file : List ℕ
   pub canonical : IsCanonicalFile file k records
   pub wrote : WritesPrefix before after file
 
--- of each canonical file that the records have, and they have one at most, a prefix went out;
--- nothing where there is no record
+-- a prefix of the records' canonical file was written, and nothing where there is no record
 abbrev pub WritesAtMostFile : Option (List ℕ) → Option (List ℕ) → Key → List DataRecord → Type 0
 WritesAtMostFile before after k [] = Keeps before after
 WritesAtMostFile before after k (r ∷ rs) = (file : List ℕ) → IsCanonicalFile file k (r ∷ rs) →
     WritesPrefix before after file
 
--- what went out before each refusal, and of what records: there are none at `NoRecording`, and some
--- where a write failed. The store refuses since memory ran out or `sqlite` refused, and never since
--- its rows are foreign
+-- Each fault says what was written, and of which records: there are none at `NoRecording`, and some
+-- where a write failed. The store refuses with E41 or E42, and never with E45.
 abbrev pub IsNotExported : Option (List ℕ) → Option (List ℕ) → Key → List DataRecord → ExportFault →
     Type 0
 IsNotExported before after k records NoRecording = (records ≡ []) × Keeps before after
@@ -56,7 +53,7 @@ IsNotExported before after k records Write = WritesPrefixOfFile before after k r
 
 -- ---- the answer, on any disk
 
--- a write failed, or took none of some bytes, where the fault is `Write`; none did before another
+-- one write failed, or took none of some bytes, where the fault is `Write`, and else none did
 abbrev pub CountsExportFault : ℕ → ℕ → ExportFault → Type 0
 CountsExportFault old new NoRecording = new ≡ old
 CountsExportFault old new (Store fault) = new ≡ old
@@ -66,8 +63,8 @@ CountsExportFault old new Write = new ≡ saturating_increment old
 abbrev pub CountsExport : ℕ → ℕ → Result ℕ ExportFault → Type 0
 CountsExport old new result = MatchResult result (λ len. new ≡ old) (CountsExportFault old new)
 
--- a write failed just where that is the answer, nothing went out where nothing is held, and no
--- refusal is for the fault of an earlier call
+-- a write failed exactly where that is the answer, `NoRecording` wrote nothing, and no refusal is
+-- for the fault of an earlier call
 pub record ReportsWriteFailures (before after : Option (List ℕ)) (failed_before failed_after : ℕ)
     (result : Result ℕ ExportFault) : Type 0 where
   pub counted : CountsExport failed_before failed_after result
@@ -76,7 +73,7 @@ pub record ReportsWriteFailures (before after : Option (List ℕ)) (failed_befor
 
 -- ---- the store
 
--- after a file no transaction is open, nor after a refusal that is not the store's
+-- no transaction is open after a file, nor after a fault that is not the store's
 abbrev pub IsOutsideTransactionAfterFault : State → ExportFault → Type 0
 IsOutsideTransactionAfterFault s NoRecording = s.in_transaction ≡ false
 IsOutsideTransactionAfterFault s (Store fault) = Unit {0}
@@ -89,28 +86,27 @@ IsOutsideTransactionAfterExport s result =
 
 module _ {S A : Type 0} (g : Ghosts S) (old new : StoreModel S) (result : Result A ExportFault)
   where
-    -- what is held stays; where the disk returned what was written, no transaction is open, but for
-    -- a refusal of the store
+    -- what is held is unchanged; where the disk returned what was written, no transaction is open,
+    -- except after a refusal of the store
     pub record KeepsStore : Type 0 where
       pub stays : KeepsHoldings g old new
       pub idle : HasCleanDisk (at g new) → IsOutsideTransactionAfterExport (at g new) result
 
-    -- where the connection is found in a transaction, that is the answer, on any disk; and where
-    -- the disk returned what was written, it is the answer there alone
+    -- the answer is E42 without a cause where the connection was in a transaction, on any disk; and
+    -- only there, where the disk returned what was written
     pub record ExportsUnlessBusy : Type 0 where
       pub busy : IsBusy g old → result ≡ Err (Store (store.Store None))
       pub caused : HasCleanDisk (at g new) → result ≡ Err (Store (store.Store None)) → IsBusy g old
 
 -- ---- faults
 
--- the number of a fault, by which the program names it
 abbrev pub export_fault_number : ExportFault → ℕ
 export_fault_number NoRecording = 44
 export_fault_number (Store fault) = number fault
 export_fault_number Memory = 41
 export_fault_number Write = 43
 
--- its name; a refusal of the store has a name of its own
+-- a fault of the store has its own name
 abbrev pub export_fault_name : ExportFault → List ℕ
 export_fault_name NoRecording = codes "NoRecording"
 export_fault_name (Store fault) = store_fault_name fault

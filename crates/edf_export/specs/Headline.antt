@@ -1,4 +1,4 @@
--- The headline: what any list of submissions leaves, and which lists leave the same files.
+-- The headline: what is held after any list of submissions, and which lists give the same files.
 use Rattle.std.specs.Prelude.{◌≡◌, ◌≢◌, ◌⊎◌, ◌↔◌, ℕ, ◌≤◌, List, [], ◌∷◌, ◌++◌, All, Contains}
 use Rattle.std.specs.List.{AllByRecursion, AllZip}
 use Rattle.edf_header.specs.declared.limits.TheConstants.{MOST_RECORDS}
@@ -35,7 +35,7 @@ module _ (cap : ℕ) (h : Holdings) where
         IsCanonicalFile file k (after cap h submissions k)
         ↔ IsCanonicalFile file k (after cap h others k)
 
-  -- of sound holdings h, and of a list of what byte strings tell:
+  -- of sound holdings h, and of a list of submissions that byte strings parse to:
   pub record Headline (submissions : List Parsed) : Type 0 where
     -- each key that holds something after the list has exactly one canonical file, under every cap
     -- that a store may have
@@ -43,18 +43,18 @@ module _ (cap : ℕ) (h : Holdings) where
         (file : List ℕ) × IsOnlyFile file k (after cap h submissions k)
     -- its records are those that h held and those of the accepted members, each once, rising
     pub its_records : (k : Key) → AreHeldOrAccepted submissions k (after cap h submissions k)
-    -- a member that is refused leaves the holdings that it met
+    -- after a member that is refused the holdings are those before it
     pub refused : (before : List Parsed) (member : Parsed) (later : List Parsed) →
         submissions ≡ before ++ (member ∷ later) →
         ¬ IsAccepted (reply cap (after cap h before) member) →
         after_one cap (after cap h before) member ≡ after cap h before
-    -- where the list is free of conflicts, it and each list of fragments with the same records,
-    -- however cut, ordered or repeated, are accepted whole, and leave the same files
+    -- where the list is conflict-free, it and each list of fragments with the same records,
+    -- however cut, ordered or repeated, are accepted whole, and give the same files
     pub alike : (others : List Parsed) → AreWellFormed others → IsConflictFree cap h submissions →
         AllByRecursion IsFragment others → SameRecords submissions others →
         ExportSameFiles submissions others
 
--- a list of byte strings, as files are, tells just one list, and of that list the headline speaks
+-- byte strings, as files are, parse to exactly one list, and of that list the headline speaks
 pub record ParseToOneList (files : List (List ℕ)) : Type 0 where
   pub submissions : List Parsed
   pub parsed : AllZip ParsesTo files submissions

@@ -1,10 +1,10 @@
-//! Why a call of this crate is refused.
+//! The faults of an export.
 
 use edf_canonical::{OutputFault, SendFault};
 use edf_store::StoreFault;
 use thiserror::Error;
 
-/// Why a recording is not exported, or not to its end.
+/// A recording is not exported, or not to its end.
 #[derive(Clone, Copy, Debug, PartialEq, Eq, Drop, Error)]
 pub enum ExportFault {
     /// E44: nothing is held under the identity. Nothing was written.
@@ -25,7 +25,7 @@ impl ExportFault {
     ghost use Rattle.std.specs.Prelude.{◌≡◌};
     ghost use Rattle.edf_export.specs.Export.{export_fault_number, export_fault_name};
 
-    /// The refusal's number.
+    /// Returns the number after the `E`.
     pub fn number(&self) -> u8
         ensures { result ≡ export_fault_number self.now }
     {
@@ -37,7 +37,7 @@ impl ExportFault {
         }
     }
 
-    /// Its name: that of the variant, or of the store's fault.
+    /// Returns the name of the variant, or of the store's fault.
     pub fn name(&self) -> &'static str
         ensures { result.now ≡ export_fault_name self.now }
     {

@@ -1,4 +1,4 @@
-//! Laws of exports: each function has a law for a contract, and does nothing.
+//! Laws about exports. Each function has a law as its contract, and does nothing.
 
 ghost use Rattle.std.specs.Prelude.{ℕ, List, Option};
 ghost use Rattle.edf_header.specs.Key.{Key};
@@ -18,25 +18,23 @@ pub fn an_export_is_a_fragment()
         IsFragmentFile export.file key records }
 {}
 
-/// What is exported of sound holdings is accepted again: by themselves with nothing new, and where
-/// nothing is held with every data record new; then it is exported as it was.
+/// The file of a recording in sound holdings is accepted again: with nothing new where it is held,
+/// and with every data record new where nothing is held; then the same file is exported.
 pub fn an_export_is_accepted_again()
     ensures { (cap : ℕ) (h : Holdings) (key : Key) (file : List ℕ) →
         IsSound cap h → IsCanonicalFile file key (h key) → IsAcceptedAgain cap h key file }
 {}
 
-/// Lists of submissions that are free of conflicts and hold the same data records, however cut,
-/// ordered or repeated, export the same bytes: what each leaves has one canonical file, and it is
-/// that of the other.
+/// Conflict-free lists of submissions with the same data records, however cut, ordered or repeated,
+/// export the same bytes.
 pub fn the_same_records_export_alike()
     ensures { SameRecordsGiveSameFile }
 {}
 
-/// The headline. What every list of submissions leaves of sound holdings has one canonical file for
-/// each key that holds something then, of the records that were held and those of the accepted
-/// members, each once, rising; a refused member leaves the holdings that it met; and lists free of
-/// conflicts with the same records are accepted whole and leave the same files. Each list of byte
-/// strings tells just one list of submissions.
+/// The headline. After every list of submissions to sound holdings, each key that holds something
+/// has one canonical file, of the records that were held and those of the accepted members, each
+/// once, rising; a refused member changes nothing; and conflict-free lists with the same records
+/// are accepted whole and give the same files. Byte strings parse to exactly one such list.
 pub fn headline()
     ensures law { (cap : ℕ) (h : Holdings) (submissions : List Parsed) →
         IsSound cap h → AreWellFormed submissions → Headline cap h submissions }

@@ -1,4 +1,4 @@
-//! What a first walk over a recording tells of its file.
+//! The first walk over a recording, which measures its file.
 
 ghost use Rattle.std.specs.Prelude.{◌≡◌, ◌≤◌, None, Err, false, IfOk, OnOk, IfErr};
 ghost use Rattle.std.specs.Prelude.{IfSome, MatchResult, ⊤};
@@ -18,10 +18,10 @@ use edf_header::{Identity, MOST_RECORDS};
 use edf_store::{Records, Store, StoreFault};
 use sqlite::Alter;
 
-/// How many steps a walk over a recording has at most: one for each data record, and its end.
+/// A walk over a recording has at most one step for each data record, and one for its end.
 const MOST_STEPS: u32 = MOST_RECORDS + 1;
 
-/// What the data records of a walk tell from its begin on; `None` where there is none.
+/// Measures the data records of a walk. Returns `None` if there is none.
 fn plan_walk<S: Alter>(walk: &mut Records<'_, S>) -> Result<Option<Measure>, StoreFault>
     requires ready { (walk.old.failed ≡ false) × IsWalking S.Store walk.old }
     requires cap { walk.old.store.now.cap ≤ MOST_RECORDS }
@@ -42,7 +42,7 @@ fn plan_walk<S: Alter>(walk: &mut Records<'_, S>) -> Result<Option<Measure>, Sto
     Err(StoreFault::Foreign)
 }
 
-/// The same of the data records that an identity holds.
+/// Measures the data records that are held under an identity.
 fn plan_held<S: Alter>(
     store: &mut Store<S>,
     identity: &Identity,
@@ -63,8 +63,7 @@ fn plan_held<S: Alter>(
     plan_walk(&mut walk)
 }
 
-/// What a first walk over the data records of an identity tells of its file; `None` where it holds
-/// nothing.
+/// Returns the measure of an identity's file, or `None` if nothing is held under it.
 pub(crate) fn plan_file<S: Alter>(
     store: &mut Store<S>,
     identity: &Identity,

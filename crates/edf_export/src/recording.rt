@@ -1,4 +1,4 @@
-//! One recording out of the store, as its canonical file.
+//! The export of one recording.
 
 ghost use Rattle.std.specs.Prelude.{MatchResult};
 ghost use Rattle.sqlite.specs.State.{HasCleanDisk};
@@ -16,19 +16,19 @@ use edf_store::Store;
 use sqlite::Alter;
 use std::alloc::Global;
 
-/// Writes the canonical EDF+D file of what is held under an identity, and answers its length in
-/// bytes.
+/// Writes the canonical EDF+D file of what is held under an identity, and returns its length.
 ///
-/// The data records are in it by rising starts, with onsets that count from the second in which the
-/// first begins. One of them is in memory at a time, beside a buffer of 64 KiB. The store stays as
-/// it is. The writer is not flushed.
+/// Its data records rise by start, and onsets count from the second in which the first begins. One
+/// is in memory at a time, beside a buffer of 64 KiB. The store is only read. The writer is not
+/// flushed.
 ///
 /// # Errors
-/// `NoRecording` (E44) where nothing is held under the identity; then nothing was written. `Store`
-/// where the store refuses a read: E41, E42, without a cause where the connection was left in a
-/// transaction, or E45 where the disk returned what was not written. `Memory` (E41) where memory
-/// runs out here, `Write` (E43) where a write fails or takes none of some bytes. Then a prefix of
-/// the file may have been written.
+/// - `NoRecording` (E44): nothing is held under the identity, and nothing was written.
+/// - `Store`: the store refused with E41, E42 (without a cause if a transaction was open), or E45
+///   (if the disk returned what was not written).
+/// - `Memory` (E41): memory ran out. `Write` (E43): a write failed, or took none of some bytes.
+///
+/// After the last three a prefix of the file may have been written.
 pub fn export<S: Alter, W: Output>(
     alloc: Global,
     store: &mut Store<S>,
@@ -36,13 +36,13 @@ pub fn export<S: Alter, W: Output>(
     out: &mut W,
 ) -> Result<u64, ExportFault>
     ensures leaves { KeepsStore S.Store store.old store.new result }
-    // what is in the file, or a prefix of it: known where the disk returned what was written
+    // The file is written, or a prefix of it, where the disk returned what was written.
     ensures answered { HasCleanDisk (at S.Store store.new) → (h : Holdings) →
         Holds S.Store store.old h →
         MatchResult result
         (IsExported (W.contents out.old) (W.contents out.new) identity.now (h identity.now))
         (IsNotExported (W.contents out.old) (W.contents out.new) identity.now (h identity.now)) }
-    // what an answer says on any disk
+    // This is true on any disk.
     ensures truly { ReportsWriteFailures (W.contents out.old) (W.contents out.new)
         (W.failures out.old) (W.failures out.new) result }
     ensures busy { ExportsUnlessBusy S.Store store.old store.new result }

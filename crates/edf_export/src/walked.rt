@@ -1,4 +1,4 @@
-//! The data records of a recording in the store, as a source.
+//! The data records of a recording in the store, as a source for the writer.
 
 ghost use Rattle.std.specs.Prelude.{◌≡◌, false};
 
@@ -7,7 +7,7 @@ use edf_fragment::Record;
 use edf_store::{Records, StoreFault};
 use sqlite::Alter;
 
-/// Gives what a walk over them gives.
+/// The source that gives the data records of a walk.
 #[derive(Drop)]
 pub(crate) struct Walked;
 

@@ -1,4 +1,4 @@
-//! A file written data record by data record, in a second walk.
+//! The second walk over a recording, which writes its file data record by data record.
 
 ghost use Rattle.std.specs.Prelude.{◌≡◌, false, MatchResult};
 ghost use Rattle.sqlite.specs.State.{HasCleanDisk};
@@ -75,7 +75,7 @@ fn send_recording<S: Alter, W: Output>(
     send_walk(alloc, &mut walk, out, header, plan)
 }
 
-/// Writes the file that is planned, and tells its length.
+/// Writes the planned file, and returns its length.
 pub(crate) fn write_planned<S: Alter, W: Output>(
     alloc: Global,
     store: &mut Store<S>,

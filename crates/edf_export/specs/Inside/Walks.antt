@@ -1,4 +1,4 @@
--- What the two walks over the records of a recording find, and what the second puts out.
+-- The two walks over a recording: the plan by the first, and the bytes that the second writes.
 use Rattle.std.specs.Prelude.{◌≡◌, ℕ, ◌≤◌, List, [], length, Option, Some, None, Result}
 use Rattle.std.specs.Prelude.{MatchResult}
 use Rattle.std.specs.Io.KnownBytes.{Appends}
@@ -32,19 +32,19 @@ pub record IsPlanOf (k : Key) (records : List DataRecord) (plan : Measure) : Typ
   pub recording : IsSoundRecording MOST_RECORDS k records
   pub measured : IsMeasured records plan
 
--- there is a plan where there are records
+-- there is a plan exactly where there are records
 abbrev pub IsPlanned : Key → List DataRecord → Option Measure → Type 0
 IsPlanned k records None = records ≡ []
 IsPlanned k records (Some plan) = IsPlanOf k records plan
 
--- the fault of an export where the data records did not go out
+-- the fault of an export whose data records were not all written
 abbrev pub export_fault_of : SendFault StoreFault → ExportFault
 export_fault_of (Source fault) = Store fault
 export_fault_of Unlike = Store Foreign
 export_fault_of (Output Failed) = Write
 export_fault_of (Output NoRoom) = Memory
 
--- why a file of this plan is not written to its end
+-- a file that has a plan may fail so
 abbrev pub IsWritingFault : ExportFault → Type 0
 IsWritingFault NoRecording = ⊥
 IsWritingFault (Store fault) = IsStoreRefusal fault
