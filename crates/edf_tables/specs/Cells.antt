@@ -1,4 +1,4 @@
--- Rows of SQL values, and the typed values that stand for them.
+-- A typed row of `record` has three cells: its start, its samples and its block.
 use Rattle.std.specs.Prelude.{[], ◌∷◌}
 use Rattle.sqlite.specs.declared.types.Value.TheVariants.{Int, Blob}
 use Rattle.sqlite.specs.Order.{Row}

@@ -1,5 +1,4 @@
--- The rows of the two tables, and their columns by name: as the tables store them, and as queries
--- show them.
+-- The columns of the two tables have names, both as the tables store them and as queries show them.
 use Rattle.std.specs.Prelude.{ℕ, ℤ, Bool, List}
 use Rattle.std.specs.declared.cmp.Ordering.{Ordering}
 use Rattle.std.specs.Ordering.{is_eq}
@@ -7,21 +6,21 @@ use Rattle.sqlite_value.specs.declared.value.Value.{Value}
 use Rattle.sqlite_value.specs.declared.value.Value.TheVariants.{Int}
 use Rattle.sqlite_value.specs.Order.{Row, column, value_cmp}
 
--- the rows of the table `recording`, and those of the table `record`
+-- the first tree has the rows of the table `recording`, the third those of `record`
 abbrev pub stored_recordings : (ℕ → List Row) → List Row
 stored_recordings trees = trees 0
 
 abbrev pub stored_records : (ℕ → List Row) → List Row
 stored_records trees = trees 2
 
--- a stored recording: its id, which is the rowid, and its identity
+-- a stored recording has an id, which is the rowid, and an identity
 abbrev pub stored_id : Row → Value
 stored_id row = column row 0
 
 abbrev pub stored_identity : Row → Value
 stored_identity row = column row 2
 
--- a stored record, after its rowid: the id of its recording, its start, its samples and its block
+-- a stored record has, after its rowid, the id of its recording, a start, samples and a block
 abbrev pub stored_recording : Row → Value
 stored_recording row = column row 1
 
@@ -34,14 +33,14 @@ stored_samples row = column row 3
 abbrev pub stored_block : Row → Value
 stored_block row = column row 4
 
--- a recording as it is shown: its id and its identity
+-- a query shows a recording's id and identity
 abbrev pub the_id : Row → Value
 the_id row = column row 0
 
 abbrev pub the_identity : Row → Value
 the_identity row = column row 1
 
--- a record as it is shown: its start, its samples and its block
+-- a query shows a record's start, samples and block
 abbrev pub the_start : Row → Value
 the_start row = column row 0
 
@@ -51,11 +50,11 @@ the_samples row = column row 1
 abbrev pub the_block : Row → Value
 the_block row = column row 2
 
--- two rows by one column
+-- rows are compared by one column
 abbrev pub by_column : ℕ → Row → Row → Ordering
 by_column at a b = value_cmp (column a at) (column b at)
 
--- stored recordings by identity, shown ones by id, and stored records by start
+-- stored recordings are ordered by identity, shown ones by id, and stored records by start
 abbrev pub identity_order : Row → Row → Ordering
 identity_order a b = value_cmp (stored_identity a) (stored_identity b)
 

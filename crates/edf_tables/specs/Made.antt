@@ -1,4 +1,4 @@
--- What CREATE TABLE IF NOT EXISTS does to the two tables.
+-- CREATE TABLE IF NOT EXISTS makes those of the two tables that are missing.
 use Rattle.std.specs.Prelude.{◌≡◌, ◌⊎◌, [], false, IsTrue}
 use Rattle.sqlite.specs.Tree.{Trees}
 use Rattle.sqlite.specs.Schema.{Schema}
@@ -7,7 +7,7 @@ use Rattle.edf_tables.specs.Columns.{stored_recordings, stored_records}
 use Rattle.sqlite.specs.State.{State}
 use Rattle.edf_tables.specs.Schema.{no_schema, one_schema, both_schema, HasBoth, AreOurs}
 
--- a file with neither table and nothing else, with the first alone, or with both
+-- the database is empty, has the first table alone, or has both and perhaps others after them
 abbrev pub IsOurs : Database → Type 0
 IsOurs db = AreOurs db.schema
 
@@ -26,15 +26,13 @@ pub data HasTables (old new : Database) : Type 0 where
       HasTables old new
   from_both : HasBoth old.schema → new ≡ old → HasTables old new
 
--- the file is as it was, or missing tables are made, the first or both, and its rows are those that
--- it had
+-- the file is as it was, or missing tables are made, the first or both; its rows are the same
 abbrev pub KeepsTables : Database → Database → Type 0
 KeepsTables old new = (new ≡ old) ⊎ (HasFirst old new ⊎ HasTables old new)
 
--- What stays while the connection is open, whatever was answered. What is committed is as it was,
--- or outside a transaction missing tables are made in it. What is shown is as it was, missing
--- tables made, or, as where a transaction was undone, it is what is committed, and none is open. No
--- transaction has begun.
+-- This holds while the connection is open, whatever was returned. What is committed is as it was,
+-- or outside a transaction has missing tables made. What is shown is so too, or is what is
+-- committed and the transaction is over. No transaction has begun.
 pub record KeepsFile (old new : State) : Type 0 where
   pub was_open : IsTrue new.is_open → IsTrue old.is_open
   pub committed : IsTrue new.is_open → (new.committed ≡ old.committed)
@@ -43,12 +41,11 @@ pub record KeepsFile (old new : State) : Type 0 where
       ⊎ ((new.now ≡ new.committed) × (new.in_transaction ≡ false))
   pub mode : IsTrue new.in_transaction → IsTrue old.in_transaction
 
--- the trees are those of a file with these tables
+-- a database of this schema can have these trees
 abbrev pub AreOf : Schema → Trees → Type 0
 AreOf schema db = IsDatabase (record { schema = schema; trees = db })
 
--- what else a crash may leave: the first missing table is made, or both are, and the rows are the
--- same
+-- a crash may come after the first missing table is made, or after both are; the rows are the same
 pub data IsMadeOf (old : Database) (db : Trees) : Type 0 where
   left_first : old.schema ≡ no_schema → AreOf one_schema db → stored_recordings db ≡ [] →
       IsMadeOf old db

@@ -1,4 +1,4 @@
--- What is in a database beside our two tables.
+-- A database may have more than our two tables.
 use Rattle.std.specs.Prelude.{◌≡◌, ◌≢◌, ℕ, List, map, drop}
 use Rattle.sqlite.specs.Order.{Row}
 use Rattle.sqlite.specs.Tree.{Trees}
@@ -7,12 +7,12 @@ use Rattle.sqlite.specs.Effect.{Database}
 use Rattle.sqlite_rules.specs.Edit.{IsNoIndex}
 use Rattle.edf_tables.specs.Schema.{recording, records}
 
--- the rows of each table that comes after our two
+-- lists the rows of each table that comes after our two
 abbrev pub other_rows : Database → List (List Row)
 other_rows db = map (λ t. db.trees t.tree) (drop 2 db.schema.tables)
 
 -- each tree is as it was but for those of our two tables and of indexes: so are the rows of every
--- other table, also of one that SQLite's port keeps unread, and the list of tables, indexes, views
+-- other table, also of one that SQLite's port doesn't parse, and the list of tables, indexes, views
 -- and triggers with their texts
 abbrev pub KeepsTrees : Schema → Trees → Trees → Type 0
 KeepsTrees schema old new = (tree : ℕ) → tree ≢ recording.tree → tree ≢ records.tree →

@@ -1,4 +1,4 @@
--- The rows of the table `record`, by recording and start.
+-- The table `record` has a row for each data record of a recording.
 use Rattle.std.specs.Prelude.{◌≡◌, ◌&&◌, ℤ, Bool, List, [], ◌∷◌, filter}
 use Rattle.std.specs.declared.cmp.Ordering.TheVariants.{Less}
 use Rattle.std.specs.Ordering.{is_lt, is_gt, is_ge}
@@ -12,7 +12,7 @@ use Rattle.edf_tables.specs.Columns.{stored_records, stored_start, stored_sample
 use Rattle.edf_tables.specs.Columns.{start_order, is_of}
 use Rattle.edf_tables.specs.Schema.{HasBoth}
 
--- the rows of a recording, by their starts
+-- sorts the rows of a recording by their starts
 abbrev pub records_of : ℤ → List Row → List Row
 records_of n rows = sort_by start_order (filter (is_of n) rows)
 
@@ -30,7 +30,7 @@ abbrev pub starts_between : ℤ → ℤ → Row → Bool
 starts_between after before row =
     starts_after after row && is_lt (value_cmp (stored_start row) (Int before))
 
--- start, samples and block
+-- a query shows the start, the samples and the block
 abbrev pub shown_record : Row → Row
 shown_record row = stored_start row ∷ stored_samples row ∷ stored_block row ∷ []
 

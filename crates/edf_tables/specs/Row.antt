@@ -1,4 +1,4 @@
--- What a statement that adds a row makes of the tables.
+-- A statement adds a row to one of the two tables.
 use Rattle.std.specs.Prelude.{◌≡◌, ℕ, ℤ, false, true, List, [], ◌∷◌, IsTrue}
 use Rattle.sqlite.specs.declared.types.Value.TheVariants.{Null, Int, Blob}
 use Rattle.sqlite.specs.Order.{Row}
@@ -9,18 +9,18 @@ use Rattle.edf_tables.specs.Columns.{stored_recordings, stored_records}
 use Rattle.edf_tables.specs.Schema.{HasBoth}
 use Rattle.edf_tables.specs.Others.{KeepsOthers}
 
--- the cells with the rowid that is taken for a new row
+-- a new row has the next rowid and these cells
 abbrev pub new_row : List Row → Row → Row
 new_row rows cells = Int (next_rowid rows) ∷ cells
 
 abbrev pub added : List Row → Row → List Row
 added rows cells = put_row (new_row rows cells) rows
 
--- what is bound for a record, in the order of the columns
+-- a record's cells are bound in the order of the columns
 abbrev pub cells : ℤ → ℤ → List ℕ → List ℕ → Row
 cells recording start samples block = Int recording ∷ Int start ∷ Blob samples ∷ Blob block ∷ []
 
--- and for a recording, whose id is the rowid
+-- a recording's cells are bound so, since its id is the rowid
 abbrev pub named_cells : List ℕ → Row
 named_cells identity = Null ∷ Blob identity ∷ []
 

@@ -1,5 +1,5 @@
--- What a statement does to the connection that it runs on. But for the crash, it is said of disks
--- that return what was written.
+-- A statement changes the connection that it runs on. All but `IsCrashSafe` is said of disks that
+-- return what was written.
 use Rattle.std.specs.Prelude.{Result, IfOk, OnOk, OnErr}
 use Rattle.sqlite_trees.specs.declared.store.Store.{Ghosts}
 use Rattle.sqlite_trees.specs.Tree.{Trees}
@@ -12,7 +12,7 @@ abbrev pub HasBothTables : State → Type 0
 HasBothTables s = HasBoth s.now.schema
 
 module _ {S : Type 0} (g : Ghosts S) where
-  -- the rows of each table, as the connection shows them
+  -- the connection shows these rows in each table
   abbrev pub tables : Held S → Trees
   tables conn = (state g conn).now.trees
 
@@ -20,24 +20,23 @@ module _ {S : Type 0} (g : Ghosts S) where
   abbrev pub IfClean : Held S → (State → Type 0) → Type 0
   IfClean conn P = HasCleanDisk (state g conn) → P (state g conn)
 
-  -- a call that is done gives this
+  -- a call that succeeds returns this
   abbrev pub Gives : {X E : Type 0} → Held S → Result X E → (X → Type 0) → Type 0
   Gives new result P = HasCleanDisk (state g new) → IfOk result P
 
-  -- a call that is done leaves this of what the connection showed
+  -- a call that succeeds changes what the connection shows so
   abbrev pub ChangesOnOk : {X E : Type 0} → Held S → Held S → Result X E →
-      (State → State → Type 0) →
-      Type 0
+      (State → State → Type 0) → Type 0
   ChangesOnOk old new result P = HasCleanDisk (state g new) →
       OnOk result (P (state g old) (state g new))
 
-  -- a call that fails leaves this of what the connection showed
+  -- a call that fails changes what the connection shows so
   abbrev pub ChangesOnErr : {X E : Type 0} → Held S → Held S → Result X E →
       (State → State → Type 0) → Type 0
   ChangesOnErr old new result P = HasCleanDisk (state g new) →
       OnErr result (P (state g old) (state g new))
 
-  -- a call that is done changed nothing
+  -- a call that succeeds changes nothing
   abbrev pub OnlyReads : {X E : Type 0} → Held S → Held S → Result X E → Type 0
   OnlyReads old new result = ChangesOnOk old new result IsUnchanged
 
@@ -49,6 +48,6 @@ module _ {S : Type 0} (g : Ghosts S) where
   abbrev pub KeepsCommittedOnErr : {X E : Type 0} → Held S → Held S → Result X E → Type 0
   KeepsCommittedOnErr old new result = ChangesOnErr old new result KeepsCommit
 
-  -- a crash in the call leaves nothing but what a crash before it could leave
+  -- a crash in the call does nothing that a crash before it could not do
   abbrev pub IsCrashSafe : Held S → Held S → Type 0
   IsCrashSafe old new = Survives (state g old) (state g new) (λ _. ⊥)

@@ -1,4 +1,4 @@
-//! The texts that make the two tables.
+//! CREATE texts make the two tables.
 
 ghost use Rattle.std.specs.Prelude.{◌≡◌, ◌⊎◌, [], Ok};
 ghost use Rattle.sqlite.specs.Held.{state};
@@ -11,11 +11,11 @@ ghost use Rattle.edf_tables.specs.Statement.{IfClean, ChangesOnOk, KeepsCommitte
 use crate::schema::has_both;
 use sqlite::{Alter, Connection, Error};
 
-/// Makes the table `recording` in a file that has nothing, and does nothing where the table is
-/// there alone. The number is `sqlite`'s count of changed rows, and nothing is promised of it.
+/// Makes the table `recording` in an empty file, and does nothing where it is there alone. Nothing
+/// is promised of the number, `sqlite`'s count of changed rows.
 ///
 /// # Errors
-/// `sqlite`'s; nothing is committed then. A crash leaves the file as it was, or with the table.
+/// `sqlite`'s; nothing is committed then. After a crash the file is as it was, or has the table.
 fn create_recording<S: Alter>(conn: &mut Connection<S>) -> Result<usize, Error>
     requires { IfClean S.Store conn.old (λ s.
         (s.now.schema ≡ no_schema) ⊎ (s.now.schema ≡ one_schema)) }
@@ -39,7 +39,7 @@ fn create_recording<S: Alter>(conn: &mut Connection<S>) -> Result<usize, Error>
 /// Makes the table `record` where `recording` is there alone. Nothing is promised of the number.
 ///
 /// # Errors
-/// `sqlite`'s; nothing is committed then. A crash leaves the file as it was, or with the table.
+/// `sqlite`'s; nothing is committed then. After a crash the file is as it was, or has the table.
 fn create_records<S: Alter>(conn: &mut Connection<S>) -> Result<usize, Error>
     requires { IfClean S.Store conn.old (λ s. s.now.schema ≡ one_schema) }
     ensures made { ChangesOnOk S.Store conn.old conn.new result
@@ -61,12 +61,11 @@ fn create_records<S: Alter>(conn: &mut Connection<S>) -> Result<usize, Error>
     )
 }
 
-/// Makes those of the two tables that are missing. Where both are there, nothing is done, whatever
-/// comes after them.
+/// Makes those of the two tables that are missing. Does nothing where both are there.
 ///
 /// # Errors
-/// `sqlite`'s; the committed rows stay, an open transaction may be undone, and the first table may
-/// have been made. A crash leaves the file as it was, with the first table, or with both.
+/// `sqlite`'s; committed rows stay, a transaction may be rolled back, and the first table may have
+/// been made. After a crash the file is as it was, has the first table, or has both.
 pub fn create_tables<S: Alter>(conn: &mut Connection<S>) -> Result<(), Error>
     requires { IfClean S.Store conn.old (λ s. IsOurs s.now) }
     ensures there { HasBoth (state S.Store conn.old).now.schema →

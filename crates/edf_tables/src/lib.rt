@@ -1,24 +1,35 @@
-//! The statements of a store of recordings, over rows of SQL values.
+//! A store of recordings has two tables: `recording` with an id and the bytes of an identity, and
+//! `record` with the id of its recording, a start, samples and a block. Each function here runs one
+//! SQL text over any store that `sqlite` takes, or compares a schema with that of the two tables.
 //!
-//! Each function runs one SQL text, over any store that `sqlite` takes; the crates above know what
-//! the cells mean. There are two tables: `recording` has an id and the bytes of an identity,
-//! `record` the id of its recording, a start, samples and a block.
+//! ```rust
+//! use edf_tables::{count_rows, has_both, select_recording};
+//! use sqlite::{Alter, Connection, Error};
 //!
-//! `sqlite` refuses a statement where memory runs out, the disk fails, or the connection is shut;
-//! some statements also at a limit of steps, inside or outside of a transaction, by a rule of the
-//! tables, or for the size of a row. No clause says for which.
+//! /// Counts the data records of the recording with this identity.
+//! pub fn count_of<S: Alter>(conn: &mut Connection<S>, identity: &[u8]) -> Result<u64, Error> {
+//!     if !has_both(conn.schema()) {
+//!         return Ok(0);
+//!     }
+//!     match select_recording(conn, identity)? {
+//!         Some(recording) => count_rows(conn, recording),
+//!         None => Ok(0),
+//!     }
+//! }
+//! ```
 //!
-//! - [`create_tables`]: the tables, made where they are missing.
-//! - [`begin`], [`commit`], [`roll_back`]: a transaction.
-//! - [`insert_recording`], [`insert_record`]: one row more.
-//! - [`near_rows`], [`page_rows`]: records of one recording, each a [`RecordRow`]; [`count_rows`],
-//!   [`first_start`], [`next_start`], [`last_start`]: their number and their starts.
-//! - [`select_recording`]: the recording with an identity; [`identities`], [`recordings`]: all of
-//!   them; [`count_all_rows`]: the number of all records.
-//! - [`obey`]: a law, that the rows obey the rules of their schema.
-//! - [`is_ours`]: whether a database is empty, has the first table alone, or has both, with or
-//!   without other tables after them.
-//! - [`has_both`]: whether it has both.
+//! - [`is_ours`], [`has_both`]: test that a store may have this schema, or that it has both tables.
+//! - [`create_tables`]: makes the tables that are missing.
+//! - [`begin`], [`commit`], [`roll_back`]: begin and end a transaction.
+//! - [`insert_recording`], [`insert_record`]: add a row.
+//! - [`near_rows`], [`page_rows`]: read records of one recording, each a [`RecordRow`].
+//! - [`count_rows`], [`first_start`], [`next_start`], [`last_start`]: read their number and starts.
+//! - [`select_recording`], [`identities`], [`recordings`]: find one recording, or list all.
+//! - [`count_all_rows`]: counts all records. No count is above [`MOST_COUNTED`].
+//! - [`obey`]: says, as a law, that the rows obey the rules of their schema.
+//!
+//! `sqlite` refuses a statement where memory runs out, the disk fails, or the connection is closed;
+//! some also at a limit of steps, by a rule of the tables, or for the size of a row.
 #![tactic(auto)]
 
 mod create;

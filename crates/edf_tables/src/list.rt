@@ -1,4 +1,4 @@
-//! Recordings by their identities, and the number of all rows of `record`.
+//! The table `recording` is read by id and by identity, and the rows of `record` are counted.
 
 ghost use Rattle.std.specs.Prelude.{◌≡◌, IsPermutation, IsSorted, length, map, min};
 ghost use Rattle.sqlite.specs.declared.types.Value.TheVariants.{Blob};
@@ -13,11 +13,10 @@ ghost use Rattle.edf_tables.specs.Statement.{KeepsCommitted, IsCrashSafe, Change
 use crate::row::{MOST_COUNTED, first_count, first_number, identities_in, rows_shown};
 use sqlite::{Alter, Connection, Error, Row, params};
 
-/// The id of the recording with this identity, if there is one.
+/// Returns the id of the recording with this identity, if there is one.
 ///
 /// # Errors
-/// `sqlite`'s, and the one for a cell of another type. What is committed stays; an open transaction
-/// may be undone.
+/// `sqlite`'s, or a cell has another type. Committed rows stay; a transaction may be rolled back.
 pub fn select_recording<S: Alter>(
     conn: &mut Connection<S>,
     identity: &[u8],
@@ -37,11 +36,10 @@ pub fn select_recording<S: Alter>(
     first_number(rows)
 }
 
-/// The identities of all recordings, by their bytes.
+/// Returns the identities of all recordings, in the order of their bytes.
 ///
 /// # Errors
-/// `sqlite`'s, and the one for a cell of another type. What is committed stays; an open transaction
-/// may be undone.
+/// `sqlite`'s, or a cell has another type. Committed rows stay; a transaction may be rolled back.
 pub fn identities<S: Alter>(conn: &mut Connection<S>) -> Result<Vec<Vec<u8>>, Error>
     requires apart { IfClean S.Store conn.old AreNamedApart }
     ensures identities { Gives S.Store conn.new result (λ all.
@@ -60,13 +58,11 @@ pub fn identities<S: Alter>(conn: &mut Connection<S>) -> Result<Vec<Vec<u8>>, Er
     identities_in(rows)
 }
 
-/// The id and the identity of each recording, by their ids, as the cells are, also where one has
-/// another type than ours.
-///
-/// Without ORDER BY they would come in the order of the index of identities.
+/// Returns the id and the identity of each recording, in the order of ids, whatever types the cells
+/// have. Without ORDER BY they would come in the order of the index of identities.
 ///
 /// # Errors
-/// `sqlite`'s. What is committed stays; an open transaction may be undone.
+/// `sqlite`'s. Committed rows stay; a transaction may be rolled back.
 pub fn recordings<S: Alter>(conn: &mut Connection<S>) -> Result<Vec<Row>, Error>
     requires schema { IfClean S.Store conn.old HasBothTables }
     ensures listed { Gives S.Store conn.new result (λ rows.
@@ -81,12 +77,10 @@ pub fn recordings<S: Alter>(conn: &mut Connection<S>) -> Result<Vec<Row>, Error>
     rows_shown(conn, "SELECT id, identity FROM recording ORDER BY id", &[])
 }
 
-/// The number of all rows of `record`, those without a recording too, or [`MOST_COUNTED`] where
-/// there are more.
+/// Counts all rows of `record`, also those without a recording, up to [`MOST_COUNTED`].
 ///
 /// # Errors
-/// `sqlite`'s, and the one for a cell of another type. What is committed stays; an open transaction
-/// may be undone.
+/// `sqlite`'s, or a cell has another type. Committed rows stay; a transaction may be rolled back.
 pub fn count_all_rows<S: Alter>(conn: &mut Connection<S>) -> Result<u64, Error>
     requires schema { IfClean S.Store conn.old HasBothTables }
     ensures count { Gives S.Store conn.new result (λ count.

@@ -1,4 +1,4 @@
-//! The records of one recording.
+//! The records of one recording are read and counted.
 
 ghost use Rattle.std.specs.Prelude.{◌≡◌, filter, length, map, min, reverse, slice_get, take};
 ghost use Rattle.std.specs.Option.{option_map};
@@ -14,11 +14,10 @@ use crate::row::{MOST_COUNTED, RecordRow, first_count, first_number, records_sho
 use sqlite::{Alter, Connection, Error, params};
 use std::alloc::Global;
 
-/// The records of a recording that start after one instant and before another, by their starts.
+/// Returns the records of a recording that start between two instants, in the order of starts.
 ///
 /// # Errors
-/// `sqlite`'s, and the one for a cell of another type. What is committed stays; an open transaction
-/// may be undone.
+/// `sqlite`'s, or a cell has another type. Committed rows stay; a transaction may be rolled back.
 pub fn near_rows<S: Alter>(
     alloc: Global,
     conn: &mut Connection<S>,
@@ -44,11 +43,10 @@ pub fn near_rows<S: Alter>(
     )
 }
 
-/// The first `limit` records of a recording that start after an instant, by their starts.
+/// Returns the first `limit` records of a recording that start after an instant, in that order.
 ///
 /// # Errors
-/// `sqlite`'s, and the one for a cell of another type. What is committed stays; an open transaction
-/// may be undone.
+/// `sqlite`'s, or a cell has another type. Committed rows stay; a transaction may be rolled back.
 pub fn page_rows<S: Alter>(
     alloc: Global,
     conn: &mut Connection<S>,
@@ -74,11 +72,10 @@ pub fn page_rows<S: Alter>(
     )
 }
 
-/// The number of records of a recording, or [`MOST_COUNTED`] where there are more.
+/// Counts the records of a recording, up to [`MOST_COUNTED`].
 ///
 /// # Errors
-/// `sqlite`'s, and the one for a cell of another type. What is committed stays; an open transaction
-/// may be undone.
+/// `sqlite`'s, or a cell has another type. Committed rows stay; a transaction may be rolled back.
 pub fn count_rows<S: Alter>(conn: &mut Connection<S>, recording: i64) -> Result<u64, Error>
     requires schema { IfClean S.Store conn.old HasBothTables }
     ensures count { Gives S.Store conn.new result (λ count.
@@ -96,11 +93,10 @@ pub fn count_rows<S: Alter>(conn: &mut Connection<S>, recording: i64) -> Result<
     first_count(rows)
 }
 
-/// The first start of a recording's records.
+/// Returns the first start of a recording's records.
 ///
 /// # Errors
-/// `sqlite`'s, and the one for a cell of another type. What is committed stays; an open transaction
-/// may be undone.
+/// `sqlite`'s, or a cell has another type. Committed rows stay; a transaction may be rolled back.
 pub fn first_start<S: Alter>(conn: &mut Connection<S>, recording: i64) -> Result<Option<i64>, Error>
     requires ready { IfClean S.Store conn.old (IsReady recording) }
     ensures first { Gives S.Store conn.new result (λ start.
@@ -118,11 +114,10 @@ pub fn first_start<S: Alter>(conn: &mut Connection<S>, recording: i64) -> Result
     first_number(rows)
 }
 
-/// The first start of a recording's records that is `from` or later.
+/// Returns the first start of a recording's records that is `from` or later.
 ///
 /// # Errors
-/// `sqlite`'s, and the one for a cell of another type. What is committed stays; an open transaction
-/// may be undone.
+/// `sqlite`'s, or a cell has another type. Committed rows stay; a transaction may be rolled back.
 pub fn next_start<S: Alter>(
     conn: &mut Connection<S>,
     recording: i64,
@@ -145,11 +140,10 @@ pub fn next_start<S: Alter>(
     first_number(rows)
 }
 
-/// The last start of a recording's records.
+/// Returns the last start of a recording's records.
 ///
 /// # Errors
-/// `sqlite`'s, and the one for a cell of another type. What is committed stays; an open transaction
-/// may be undone.
+/// `sqlite`'s, or a cell has another type. Committed rows stay; a transaction may be rolled back.
 pub fn last_start<S: Alter>(conn: &mut Connection<S>, recording: i64) -> Result<Option<i64>, Error>
     requires ready { IfClean S.Store conn.old (IsReady recording) }
     ensures last { Gives S.Store conn.new result (λ start.

@@ -1,4 +1,4 @@
-//! Rows of SQL values as typed values.
+//! Rows of SQL values are read as typed values.
 
 ghost use Rattle.std.specs.Prelude.{◌≡◌, ◌⊎◌, [], pos, Some, IfOk, IfErr, map, slice_get};
 ghost use Rattle.std.specs.Option.{option_map};
@@ -18,7 +18,7 @@ use sqlite::types::ValueRef;
 use sqlite::{Alter, Connection, Error, Row};
 use std::alloc::Global;
 
-/// A row of the table `record` as typed values, without its recording.
+/// A row of the table `record` has these typed values, beside its recording.
 #[derive(Debug, PartialEq, Eq, Drop)]
 pub struct RecordRow {
     /// Nanoseconds from 1985-01-01 00:00:00, by which the rows of a recording are in order.
@@ -29,10 +29,10 @@ pub struct RecordRow {
     pub block: Vec<u8>,
 }
 
-/// The most rows that a count tells of: SQLite's integers have a sign and 63 more bits.
+/// A count of rows is at most this: SQLite's integers have a sign and 63 more bits.
 pub const MOST_COUNTED: u64 = 9_223_372_036_854_775_807;
 
-/// The typed row of a row whose first three columns are a start, samples and a block.
+/// Reads a row whose first three columns are a start, samples and a block.
 fn record_row(row: &Row) -> Result<RecordRow, Error>
     ensures value { IfOk result (λ r. cells_of r ≡ first_three row.now) }
 {
@@ -43,7 +43,7 @@ fn record_row(row: &Row) -> Result<RecordRow, Error>
     })
 }
 
-/// The bytes in the first column of each row.
+/// Reads the bytes in the first column of each row.
 pub(crate) fn identities_in(rows: Vec<Row>) -> Result<Vec<Vec<u8>>, Error>
     ensures value { IfOk result (λ found.
         map (λ b. Blob b.items) found.items ≡ map (λ row. column row 0) rows.items) }
@@ -55,7 +55,7 @@ pub(crate) fn identities_in(rows: Vec<Row>) -> Result<Vec<Vec<u8>>, Error>
     Ok(found)
 }
 
-/// The number in the first column of the first row, if there is a row.
+/// Reads the number in the first column of the first row, if there is a row.
 pub(crate) fn first_number(rows: Vec<Row>) -> Result<Option<i64>, Error>
     ensures value { IfOk result (λ found.
         option_map Int found ≡ option_map (λ row. column row 0) (slice_get rows.items 0)) }
@@ -66,7 +66,7 @@ pub(crate) fn first_number(rows: Vec<Row>) -> Result<Option<i64>, Error>
     }
 }
 
-/// The count in the first column of the first row.
+/// Reads the count in the first column of the first row.
 pub(crate) fn first_count(rows: Vec<Row>) -> Result<u64, Error>
     ensures value { IfOk result (λ found.
         option_map (λ row. column row 0) (slice_get rows.items 0) ≡ Some (Int (pos found))) }
@@ -77,15 +77,15 @@ pub(crate) fn first_count(rows: Vec<Row>) -> Result<u64, Error>
     }
 }
 
-/// A law of a connection, as a call that does nothing: what an open one shows is a database, whose
-/// rows obey the rules of its schema.
+/// Does nothing: its contract is a law. What an open connection shows is a database, whose rows
+/// obey the rules of its schema.
 pub fn obey<S: Alter>(conn: &Connection<S>)
     ensures { IsLive (state S.Store conn.now) }
 {
     let _ = conn.schema();
 }
 
-/// The rows that a query shows, which changes nothing.
+/// Runs a query that changes nothing, and returns its rows.
 pub(crate) fn rows_shown<S: Alter>(
     conn: &mut Connection<S>,
     sql: &str,
@@ -103,8 +103,8 @@ pub(crate) fn rows_shown<S: Alter>(
     conn.query_all(sql, params)
 }
 
-/// The typed rows of those that a query shows, which changes nothing. Each is read while the
-/// connection lends it, so that its bytes are copied once.
+/// Runs a query that changes nothing, and reads each row while the connection lends it, so that its
+/// bytes are copied once.
 pub(crate) fn records_shown<S: Alter>(
     alloc: Global,
     conn: &mut Connection<S>,

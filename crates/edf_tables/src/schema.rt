@@ -1,4 +1,4 @@
-//! The two tables, their indexes, and the schemas that a store's file may have.
+//! A file's schema is compared with the two tables and their indexes.
 
 ghost use Rattle.std.specs.Prelude.{◌≡◌, ◌↔◌, ◌⊎◌, [], ◌∷◌, Some, None, IfSome, All, drop, IsTrue};
 ghost use Rattle.std.specs.Prelude.{false};
@@ -86,7 +86,7 @@ fn is_start_index(index: &Index) -> bool
     is_index(index, b"sqlite_autoindex_record_1", 3, 2, &[1, 2])
 }
 
-/// Whether the tree is none of the four of our tables and their indexes.
+/// Is true where the tree is none of the four of our tables and their indexes.
 fn is_other_tree(tree: u32) -> bool
     ensures { IsTrue result ↔ IsOtherTree tree }
 {
@@ -99,7 +99,7 @@ fn is_other_index(index: &Index) -> bool
     is_other_tree(index.tree) && is_other_tree(index.table)
 }
 
-/// Whether what SQLite's port keeps unread is of another table than ours.
+/// Is true where an entry that SQLite's port doesn't parse has another table than ours.
 fn is_of_others(owner: &Option<Bytes>) -> bool
     ensures { IsTrue result ↔ IfSome owner.now (λ owner.
         (same_name owner recording.name ≡ false) × (same_name owner records.name ≡ false)) }
@@ -180,8 +180,8 @@ fn begin_with_ours(indexes: &[Index]) -> bool
     are_other_indexes(others)
 }
 
-/// Whether the schema begins with both tables and their indexes, as the texts of CREATE make them.
-/// What comes after them may be any tables, with indexes and triggers of theirs, and any views.
+/// Is true where the schema begins with both tables and their indexes, as the CREATE texts make
+/// them. Any tables, with indexes and triggers of theirs, and any views may come after them.
 pub fn has_both(schema: &Schema) -> bool
     ensures { IsTrue result ↔ HasBoth schema.now }
 {
@@ -190,8 +190,7 @@ pub fn has_both(schema: &Schema) -> bool
         && are_other_views(schema.views.as_slice())
 }
 
-/// Whether the schema has nothing at all, the first table alone, or both and perhaps others after
-/// them.
+/// Is true where the schema is empty, has the first table alone, or begins with both.
 pub fn is_ours(schema: &Schema) -> bool
     ensures { IsTrue result ↔ AreOurs schema.now }
 {

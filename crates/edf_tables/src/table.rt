@@ -1,4 +1,4 @@
-//! The parts of a table, each compared with what our CREATE texts make of it.
+//! The parts of a table are compared with what our CREATE texts make.
 
 ghost use Rattle.std.specs.Prelude.{◌≡◌, ◌↔◌, [], ◌∷◌, IsTrue};
 ghost use Rattle.sqlite_value.specs.declared.value.Value.TheVariants.{Null};
@@ -18,7 +18,7 @@ pub(crate) fn is_text(bytes: &Bytes, text: &[u8]) -> bool
     bytes.as_slice() == text
 }
 
-/// Whether these are the numbers of the columns, the rowid being column 0.
+/// Is true where these are the numbers of the columns; the rowid is column 0.
 pub(crate) fn are_columns(columns: &Items<usize>, these: &[usize]) -> bool
     ensures { IsTrue result ↔ (columns.now ≡ these.now) }
 {

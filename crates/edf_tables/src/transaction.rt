@@ -1,4 +1,4 @@
-//! The texts that begin and end a transaction.
+//! Transactions begin and end by these texts.
 
 ghost use Rattle.std.specs.Prelude.{◌≡◌, false, true};
 ghost use Rattle.sqlite.specs.Held.{state};
@@ -26,7 +26,7 @@ pub fn begin<S: Alter>(conn: &mut Connection<S>) -> Result<(), Error>
 ///
 /// # Errors
 /// `sqlite`'s, also where no transaction is open. What was committed before stays, and the
-/// transaction is over. A crash leaves that, or all of the transaction.
+/// transaction is over. After a crash either that is committed, or all of the transaction.
 pub fn commit<S: Alter>(conn: &mut Connection<S>) -> Result<(), Error>
     ensures committed { ChangesOnOk S.Store conn.old conn.new result (λ old new.
         Shows old new old.now old.now false) }
@@ -39,7 +39,7 @@ pub fn commit<S: Alter>(conn: &mut Connection<S>) -> Result<(), Error>
     Ok(())
 }
 
-/// Undoes the transaction: what is shown is again what is committed.
+/// Rolls the transaction back: what is shown is again what is committed.
 ///
 /// # Errors
 /// `sqlite`'s, also where no transaction is open; what is committed stays.

@@ -1,4 +1,4 @@
-//! The texts that add a row.
+//! Rows are added by these texts.
 
 ghost use Rattle.std.specs.Prelude.{◌≡◌};
 ghost use Rattle.sqlite.specs.Held.{state};
@@ -10,11 +10,11 @@ ghost use Rattle.edf_tables.specs.Statement.{KeepsCommittedOnErr, IsCrashSafe};
 
 use sqlite::{Alter, Connection, Error, params};
 
-/// Adds a row to `recording`, and answers its id.
+/// Adds a row to `recording`, and returns its id.
 ///
 /// # Errors
-/// `sqlite`'s: `TooBig` above 10^9 bytes, and a rule's where a recording has the identity. What is
-/// committed stays; the transaction may be undone.
+/// `sqlite`'s: `TooBig` above 10^9 bytes, and a rule's where a recording has the identity.
+/// Committed rows stay; the transaction may be rolled back.
 pub fn insert_recording<S: Alter>(conn: &mut Connection<S>, identity: &[u8]) -> Result<i64, Error>
     requires { IfClean S.Store conn.old IsInside }
     ensures added { Gives S.Store conn.new result (λ id.
@@ -30,12 +30,11 @@ pub fn insert_recording<S: Alter>(conn: &mut Connection<S>, identity: &[u8]) -> 
     Ok(conn.last_insert_rowid())
 }
 
-/// Adds a row to `record`. The number is `sqlite`'s count of changed rows, and nothing is promised
-/// of it.
+/// Adds a row to `record`. Nothing is promised of the number, `sqlite`'s count of changed rows.
 ///
 /// # Errors
 /// `sqlite`'s: `TooBig` above 10^9 bytes, and a rule's where the recording has a record of this
-/// start. What is committed stays; the transaction may be undone.
+/// start. Committed rows stay; the transaction may be rolled back.
 pub fn insert_record<S: Alter>(
     conn: &mut Connection<S>,
     recording: i64,

@@ -1,4 +1,4 @@
--- Parts of the two tables.
+-- The two tables and their indexes have parts of these forms.
 use Rattle.std.specs.Prelude.{◌≡◌, ℕ, true, false, List, [], ◌∷◌}
 use Rattle.sqlite_value.specs.Keys.{plain}
 use Rattle.sqlite_schema.specs.declared.schema.Index.{Index}
@@ -14,8 +14,8 @@ index_of name tree table columns = record {
   is_unique = true;
 }
 
--- the table has one index by the order of bytes, no test, no reference, no default that is
--- computed, and counts no rowids
+-- the table has one index, in the order of bytes; no CHECK, no foreign key and no computed default;
+-- and no AUTOINCREMENT
 pub record IsPlainTable (t : Table) : Type 0 where
   pub orders : t.orders ≡ plain ∷ []
   pub checks : t.checks ≡ []
