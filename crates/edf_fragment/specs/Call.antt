@@ -1,4 +1,4 @@
--- What a call that reads an input leaves.
+-- Calls that read an input: the answer, and the input after it.
 use Rattle.std.specs.Prelude.{◌≡◌, ℕ, List, Option, Result, MatchResult, IfOk, IfSome}
 use Rattle.edf_fragment.specs.Fragment.{DataRecord}
 use Rattle.edf_fragment.specs.Sound.{IsSoundRecord}
@@ -7,7 +7,7 @@ use Rattle.edf_fragment.specs.declared.fault.FragmentFault.{FragmentFault}
 use Rattle.edf_fragment.specs.declared.open_fragment.OpenFragment.{OpenFragment}
 use Rattle.edf_fragment.specs.declared.streams.Input.{Ghosts}
 
--- an input: the bytes that remain, where these are known, and how many of its reads failed so far
+-- the bytes that remain, where these are known, and how many reads failed so far
 pub record InputState : Type 0 where
   pub remaining : Option (List ℕ)
   pub failed : ℕ
@@ -15,23 +15,23 @@ pub record InputState : Type 0 where
 abbrev pub input_state : {R : Type 0} → Ghosts R → R → InputState
 input_state g input = record { remaining = g.remaining input; failed = g.failures input }
 
--- the answer says this of the bytes that were read for it; and one more read failed where a failed
--- read is the answer, and else none
+-- the answer says this of the bytes that were read for it, and one more read failed only where that
+-- is the answer
 pub record ReadsInput {X : Type 0}
     (Says : Option (List ℕ) → Option (List ℕ) → Result X FragmentFault → Type 0)
     (before after : InputState) (result : Result X FragmentFault) : Type 0 where
   pub step : Says before.remaining after.remaining result
   pub counted : CountsAnswer before.failed after.failed result
 
--- an answer is a value, of which the one is said, or a fault, of which the other is
+-- `Value` holds of an answer that is a value, and `Fault` of one that is a fault
 abbrev pub ValueOrFault : {X : Type 0} → (Option (List ℕ) → Option (List ℕ) → X → Type 0) →
     (Option (List ℕ) → Option (List ℕ) → FragmentFault → Type 0) →
     Option (List ℕ) → Option (List ℕ) → Result X FragmentFault → Type 0
 ValueOrFault Value Fault input rest result =
     MatchResult result (Value input rest) (Fault input rest)
 
--- the answer to a call for the next data record, and how far the reader is then; the header stays,
--- and a data record that is given is one of the header's recording
+-- a call for the next data record has this answer; the header is unchanged, and a data record that
+-- is returned is one of the header's recording
 pub record ReadsNext (old new : OpenFragment) (before after : InputState)
     (result : Result (Option DataRecord) FragmentFault) : Type 0 where
   pub header : new.header ≡ old.header

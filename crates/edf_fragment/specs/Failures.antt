@@ -17,7 +17,7 @@ CountsWriteZero old new len zero = (len ≡ 0 → new ≡ old)
     × (0 < len → new ≡ saturating_increment old)
 CountsWriteZero old new len (suc n) = new ≡ old
 
--- and one that answers an error
+-- a write that answers an error counts, too
 abbrev pub CountsWrite : {E : Type 0} → ℕ → ℕ → List ℕ → Result ℕ E → Type 0
 CountsWrite old new bytes result =
     MatchResult result (CountsWriteZero old new (length bytes))

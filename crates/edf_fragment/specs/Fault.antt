@@ -1,4 +1,4 @@
--- When a fragment is refused: the first fault, in the order of header, data records, end.
+-- The first fault of a file, in the order of header, data records, end.
 use Rattle.std.specs.Prelude.{◌≡◌, ℕ, ◌+◌, ◌≤◌, ◌<◌, ◌⊎◌, List, length, Option, Some, None, codes}
 use Rattle.edf_header.specs.Header.{HeaderRecord, IsHeader, Layout, layout_of, least_records}
 use Rattle.edf_header.specs.Header.{most_records}
@@ -26,7 +26,6 @@ pub record ParsedUpToFault (bytes : List ℕ) : Type 0 where
   pub is_header : IsHeader bytes header rest
   pub are_records : AreDataRecords (layout_of header) First rest records last remaining
 
--- its layout
 abbrev pub layout : {bytes : List ℕ} → ParsedUpToFault bytes → Layout
 layout u = layout_of u.header
 
@@ -34,7 +33,7 @@ layout u = layout_of u.header
 abbrev pub next_nth : {bytes : List ℕ} → ParsedUpToFault bytes → ℕ
 next_nth u = length u.records + 1
 
--- the input ends inside a record, or before one that must come: each that the header counts, or,
+-- the bytes end inside a record, or before one that must come: each that the header counts, or,
 -- where its count is -1, the first; any byte after it begins another
 pub record IsCutRecord (bytes : List ℕ) (nth : ℕ) : Type 0 where
   pub up_to : ParsedUpToFault bytes
@@ -50,8 +49,7 @@ pub record IsRefusedBlock (bytes : List ℕ) (nth : ℕ) (fault : TalFault) : Ty
   pub may_come : nth ≤ most_records (layout up_to).count
   pub whole : (layout up_to).record_bytes ≤ length up_to.remaining
   pub refused : IsFirstBlocksFault (blocks (layout up_to) up_to.remaining)
-      (layout up_to).start up_to.last
-      fault
+      (layout up_to).start up_to.last fault
 
 -- bytes follow the last record that may come
 pub record IsTrailing (bytes : List ℕ) : Type 0 where
@@ -59,8 +57,7 @@ pub record IsTrailing (bytes : List ℕ) : Type 0 where
   pub all : length up_to.records ≡ most_records (layout up_to).count
   pub more : 0 < length up_to.remaining
 
--- the one fault of bytes that spell no fragment: a record's fault comes after all records before
--- it, which have none
+-- the first fault of bytes that are no fragment's file; no record before a record's fault has one
 abbrev pub IsFirstFault : List ℕ → FragmentFault → Type 0
 IsFirstFault bytes (BadHeader fault) = IsHeaderFault bytes fault
 IsFirstFault bytes (CutRecord nth) = IsCutRecord bytes nth
@@ -86,7 +83,7 @@ fragment_fault_name Read = codes "Read"
 fragment_fault_name Memory = codes "Memory"
 fragment_fault_name Failed = codes "Failed"
 
--- the data record of a fault of its blocks; want of memory is none of them
+-- the data record whose blocks have the fault; want of memory is no fault of them
 abbrev pub record_of_blocks : ℕ → TalFault → Option ℕ
 record_of_blocks nth tal.Memory = None
 record_of_blocks nth fault = Some nth

@@ -27,7 +27,7 @@ pub record IsWithinSize (r : DataRecord) : Type 0 where
 abbrev pub blocks : Layout → List ℕ → List (List ℕ)
 blocks l bytes = map (λ b. field bytes b.at b.bytes) l.blocks
 
--- from one place on, the bytes outside of blocks that lie apart
+-- from `from` on, the bytes outside of the blocks, which lie apart in file order
 abbrev pub bytes_outside : ℕ → List Block → List ℕ → List ℕ
 bytes_outside from [] bytes = drop from bytes
 bytes_outside from (b ∷ bs) bytes = field bytes from (b.at - from)
@@ -48,17 +48,16 @@ pub record IsDataRecord (l : Layout) (place : Place) (bytes : List ℕ) (r : Dat
 abbrev pub place_after : Layout → ℕ → Place
 place_after l start = After start (duration_of l.key.duration)
 
--- the bytes begin with these data records, the first at `place`; one that followed would be at
--- `last`, and the rest is left
+-- the bytes begin with these data records, the first at `place`; the next one would be at `last`,
+-- and `rest` follows
 abbrev pub AreDataRecords : Layout → Place → List ℕ → List DataRecord → Place → List ℕ → Type 0
 AreDataRecords l place bytes [] last rest = (last ≡ place) × (rest ≡ bytes)
 AreDataRecords l place bytes (r ∷ rs) last rest =
     (prefix : List ℕ) × (suffix : List ℕ) × (bytes ≡ prefix ++ suffix)
-    × IsDataRecord l place prefix r
-    × AreDataRecords l (place_after l r.start) suffix rs last rest
+    × IsDataRecord l place prefix r × AreDataRecords l (place_after l r.start) suffix rs last rest
 
--- the bytes spell a key and a list of data records, as many as the header says, or, where its count
--- is -1, 1 to the most that a file has; and nothing follows them
+-- the bytes are the file of a key and of data records: as many as the header says, or, where its
+-- count is -1, 1 to the most that a file has; and nothing follows them
 pub record IsFragmentFile (bytes : List ℕ) (k : Key) (records : List DataRecord) : Type 0 where
   pub header : HeaderRecord
   pub rest : List ℕ

@@ -1,6 +1,5 @@
--- What a reader of fragments reads and answers, call by call. `input` is what an input has before a
--- call and `rest` what remains of it after the call, where these are known; so each call says which
--- bytes it read, and pieces don't matter.
+-- The calls of a reader of fragments. `input` has the bytes before a call and `rest` those that
+-- remain after it, where these are known; so each call says which bytes it read.
 use Rattle.std.specs.Prelude.{◌≡◌, ℕ, ◌+◌, ◌≤◌, ◌<◌, ◌⊎◌, List, [], Option, Some, None}
 use Rattle.std.specs.Prelude.{Result, Ok, Err, MatchResult}
 use Rattle.std.specs.Io.KnownBytes.{Consumes, IsAtEnd}
@@ -22,7 +21,7 @@ use Rattle.edf_fragment.specs.declared.fault.FragmentFault.TheVariants.{Read, Me
 
 -- A good input: a header, then one record after another, then the end.
 
--- the bytes that were read are a header, and this is what it says
+-- the bytes that were read are a header of this layout
 pub record ReadsHeader (input rest : Option (List ℕ)) (layout : Layout) : Type 0 where
   pub bytes : List ℕ
   pub header : HeaderRecord
@@ -30,11 +29,11 @@ pub record ReadsHeader (input rest : Option (List ℕ)) (layout : Layout) : Type
   pub is_header : IsHeader bytes header []
   pub layout_is : layout ≡ layout_of header
 
--- how far a reader is that gave no record yet
+-- the progress before the first record
 abbrev pub initial_progress : Progress
 initial_progress = record { given = 0; place = First; state = Reading }
 
--- one more record: one may come, and the bytes that were read spell it at the place where it is
+-- one more record was read: one may come, and the bytes are the record at its place
 pub record ReadsRecord (l : Layout) (from : Progress) (input rest : Option (List ℕ))
     (r : DataRecord) : Type 0 where
   pub bytes : List ℕ
@@ -42,7 +41,7 @@ pub record ReadsRecord (l : Layout) (from : Progress) (input rest : Option (List
   pub read : Consumes input rest bytes
   pub is_record : IsDataRecord l from.place bytes r
 
--- the end: no byte remains, and no more record must come
+-- the records end: no byte remains, and no more record must come
 pub record IsEndOfRecords (l : Layout) (from : Progress)
     (input rest : Option (List ℕ)) : Type 0 where
   pub least : least_records l.count ≤ from.given
@@ -50,7 +49,7 @@ pub record IsEndOfRecords (l : Layout) (from : Progress)
   pub read : Consumes input rest []
   pub end : IsAtEnd rest
 
--- how far it is after an answer: after one more record, after the end, after a fault
+-- the progress after one more record, after the end, or after a fault
 abbrev pub progress_after : Layout → Progress → Result (Option DataRecord) FragmentFault → Progress
 progress_after l from (Ok (Some r)) =
     record { given = from.given + 1; place = place_after l r.start; state = Reading }
@@ -65,7 +64,7 @@ pub record RunsOutOfMemoryAtRecord (l : Layout) (from : Progress)
     pub may_come : from.given < most_records l.count
     pub read : Consumes input rest [] ⊎ ((r : DataRecord) × ReadsRecord l from input rest r)
 
--- the count of failed reads: one more where a failed read is the answer, and else the same
+-- the count of failed reads is one more where the fault is `Read`, and else the same
 abbrev pub CountsFault : ℕ → ℕ → FragmentFault → Type 0
 CountsFault old new Read = new ≡ saturating_increment old
 CountsFault old new fault = new ≡ old
@@ -75,16 +74,14 @@ CountsAnswer old new result = MatchResult result (λ x. new ≡ old) (CountsFaul
 
 -- The answers of both calls: opening, and the next record.
 
--- why there is no header, and what of the input was read: a fault of the bytes, a failed read, or
--- that memory ran out
+-- there is no header, for a fault of the bytes, a failed read, or want of memory
 abbrev pub IsOpenFault : Option (List ℕ) → Option (List ℕ) → FragmentFault → Type 0
 IsOpenFault input rest (BadHeader fault) = ReadsHeaderFault input rest fault
 IsOpenFault input rest Read = ReadsFewerBytes 256 input rest ⊎ StopsInSignalHeaders input rest
 IsOpenFault input rest Memory = RunsOutOfMemoryInHeader input rest
 IsOpenFault input rest fault = ⊥
 
--- why there is no next record, and what of the input was read: a fault of the bytes, a failed read,
--- or that memory ran out
+-- there is no next record, for a fault of the bytes, a failed read, or want of memory
 abbrev pub IsNextFault : Layout → Progress → Option (List ℕ) → Option (List ℕ) → FragmentFault →
     Type 0
 IsNextFault l from input rest (CutRecord nth) = EndsInRecord l from input rest nth
@@ -94,7 +91,7 @@ IsNextFault l from input rest Read = ReadFailsAtRecord l from input rest
 IsNextFault l from input rest Memory = RunsOutOfMemoryAtRecord l from input rest
 IsNextFault l from input rest fault = ⊥
 
--- what comes next while it reads: a record, the end or a fault
+-- a reader that may go on answers with a record, the end or a fault
 abbrev pub IsNext : Layout → Progress → Option (List ℕ) → Option (List ℕ) →
     Result (Option DataRecord) FragmentFault → Type 0
 IsNext l from input rest (Ok (Some r)) = ReadsRecord l from input rest r
@@ -105,11 +102,9 @@ IsNext l from input rest (Err fault) = IsNextFault l from input rest fault
 abbrev pub ReadsNothing : Progress → Progress → Option (List ℕ) → Option (List ℕ) → Type 0
 ReadsNothing from to input rest = (to ≡ from) × (rest ≡ input)
 
--- what is answered in this state: while it reads, what comes next; after the end, no record; after
--- a fault, that it failed
+-- a reader in this state answers so: after the end with no record, and after a fault with `Failed`
 abbrev pub IsAnswerInState : ReaderState → Layout → Progress → Progress → Option (List ℕ) →
-    Option (List ℕ) →
-    Result (Option DataRecord) FragmentFault → Type 0
+    Option (List ℕ) → Result (Option DataRecord) FragmentFault → Type 0
 IsAnswerInState Reading l from to input rest result = (to ≡ progress_after l from result)
     × IsNext l from input rest result
 IsAnswerInState Ended l from to input rest result = (result ≡ Ok None)
@@ -117,7 +112,7 @@ IsAnswerInState Ended l from to input rest result = (result ≡ Ok None)
 IsAnswerInState Stopped l from to input rest result = (result ≡ Err Failed)
     × ReadsNothing from to input rest
 
--- the answer of a reader that is at `from`, and that it is at `to` then
+-- a reader at `from` answers so, and is at `to` then
 abbrev pub IsAnswer : Layout → Progress → Progress → Option (List ℕ) → Option (List ℕ) →
     Result (Option DataRecord) FragmentFault → Type 0
 IsAnswer l from to input rest result = IsAnswerInState from.state l from to input rest result

@@ -1,4 +1,4 @@
--- A data record as the standard has it: the samples of each signal in turn.
+-- A data record as the standard describes it: the samples of each signal in turn.
 use Rattle.std.specs.Prelude.{ℕ, ◌*◌, not, List, [], ◌∷◌, take, drop, map, filter}
 use Rattle.std.specs.List.{flat_map}
 use Rattle.edf_header.specs.Signal.{has_label, samples}

@@ -1,4 +1,4 @@
--- What holds of a data record in memory, of one of a recording, and of all those of a fragment.
+-- Data records that are valid: one in memory, one of a recording, and all those of a fragment.
 use Rattle.std.specs.Prelude.{◌≡◌, ℕ, ◌+◌, ◌*◌, ◌≤◌, ◌<◌, List, [], ◌∷◌, length}
 use Rattle.std.specs.List.{AllByRecursion}
 use Rattle.edf_time.specs.Civil.{window}
@@ -16,7 +16,7 @@ pub record IsValidRecord (r : DataRecord) : Type 0 where
   pub start : r.start < window
   pub notes : AllByRecursion IsAnnotation r.annotations
 
--- a data record of a recording: such a one, with the samples that the recording's key says
+-- a data record of a recording is valid, and has as many samples as the recording's key says
 pub record IsSoundRecord (k : Key) (r : DataRecord) : Type 0 where
   pub samples_len : length r.samples ≡ 2 * samples_in_all k.signals
   pub start : r.start < window
@@ -29,7 +29,7 @@ AreSound k low [] = Unit {0}
 AreSound k low (r ∷ rs) = IsSoundRecord k r × (low ≤ r.start)
     × AreSound k (r.start + duration_of k.duration) rs
 
--- of the records, which rise in time, the earliest is one with which the key's recording may start
+-- the key's recording may start with the first of the records, which rise in time
 abbrev pub MayBegin : Key → List DataRecord → Type 0
 MayBegin k [] = Unit {0}
 MayBegin k (r ∷ rs) = MayStart k r.start

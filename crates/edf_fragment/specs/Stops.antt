@@ -1,5 +1,5 @@
--- What a reader of fragments has read where it stops at a fault: of the bytes, of a read, or of
--- memory. `input` is what an input has before a call and `rest` what remains of it after the call.
+-- The faults at which a reader of fragments stops: of the bytes, of a read, or of memory. `input`
+-- has the bytes before a call and `rest` those that remain after it.
 use Rattle.std.specs.Prelude.{◌≡◌, ℕ, ◌+◌, ◌*◌, ◌≤◌, ◌<◌, ◌⊎◌, List, [], ◌∷◌, ◌++◌, length, Option}
 use Rattle.std.specs.Io.KnownBytes.{Consumes, IsAtEnd}
 use Rattle.edf_header.specs.Header.{FixedPart, IsFixedHeader, Layout, least_records, most_records}
@@ -12,7 +12,7 @@ use Rattle.edf_tal.specs.declared.place.TalFault.{TalFault}
 use Rattle.edf_fragment.specs.Fragment.{blocks}
 use Rattle.edf_fragment.specs.declared.advance.Progress.{Progress}
 
--- The faults of the bytes: in the header, in a record, after the last record.
+-- Faults of the bytes: in the header, in a record, after the last record.
 
 -- the bytes that were read have this fault of a header; where they are too few, the input ends
 -- there; and no more were read than the fixed part, and where that has no fault the signals
@@ -52,7 +52,7 @@ pub record HasTrailingByte (l : Layout) (from : Progress)
   pub all : from.given ≡ most_records l.count
   pub read : Consumes input rest (byte ∷ [])
 
--- What is no fault of the bytes: a read fails, or memory runs out.
+-- Other faults: a read fails, or memory runs out.
 
 -- fewer than n bytes were read
 pub record ReadsFewerBytes (n : ℕ) (input rest : Option (List ℕ)) : Type 0 where

@@ -1,4 +1,4 @@
--- What was read of a whole fragment; of one so far; and where reading stopped at a fault.
+-- A whole fragment was read, or some of its data records, or reading stopped at a fault.
 use Rattle.std.specs.Prelude.{◌≡◌, ℕ, ◌≤◌, ◌⊎◌, List, [], length, Option, IfSome}
 use Rattle.std.specs.Io.KnownBytes.{Consumes, IsAtEnd}
 use Rattle.edf_header.specs.Header.{Layout, layout_of, most_records}
@@ -10,7 +10,7 @@ use Rattle.edf_fragment.specs.declared.advance.Progress.{Progress}
 use Rattle.edf_fragment.specs.declared.fault.FragmentFault.{FragmentFault}
 use Rattle.edf_fragment.specs.declared.fault.FragmentFault.TheVariants.{Read, Memory, Failed}
 
--- the whole input was read, and spells these records under a header that says this
+-- the whole input was read: it is the file of these records, with a header of this layout
 pub record ReadsFragment (input rest : Option (List ℕ)) (layout : Layout)
     (records : List DataRecord) : Type 0 where
   pub bytes : List ℕ
@@ -19,7 +19,7 @@ pub record ReadsFragment (input rest : Option (List ℕ)) (layout : Layout)
   pub spells : IsFragmentFile bytes layout.key records
   pub layout_is : layout ≡ layout_of spells.header
 
--- these data records were read, and the next one's place is that of this progress
+-- these data records were read, and this progress has their number and the next one's place
 pub record HasReadRecords (l : Layout) (input rest : Option (List ℕ)) (records : List DataRecord)
     (p : Progress) : Type 0 where
   pub bytes : List ℕ
@@ -44,16 +44,14 @@ pub record FailsAfterHeader (input rest : Option (List ℕ)) (fault : FragmentFa
   pub header : ReadsHeader input mid layout
   pub records : FailsAfterRecords layout mid rest fault
 
--- where the bytes are known, a fault of theirs is the first of all of them; a failed read says
--- nothing of them, nor does want of memory
+-- where the bytes are known, this is their first fault, unless it is a failed read or want of memory
 abbrev pub IsFirstFaultIfKnown : Option (List ℕ) → FragmentFault → Type 0
 IsFirstFaultIfKnown input Read = Unit {0}
 IsFirstFaultIfKnown input Memory = Unit {0}
 IsFirstFaultIfKnown input Failed = ⊥
 IsFirstFaultIfKnown input fault = IfSome input (λ all. IsFirstFault all fault)
 
--- why an input gives no fragment: the fault came in the header, or after it and some data records;
--- no more was read than the bytes of these and those of the fault
+-- an input is no fragment's: the fault is in the header, or after it and some data records
 pub record IsFragmentFault (input rest : Option (List ℕ)) (fault : FragmentFault) : Type 0 where
   pub met : IsOpenFault input rest fault ⊎ FailsAfterHeader input rest fault
   pub first : IsFirstFaultIfKnown input fault

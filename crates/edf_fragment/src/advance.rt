@@ -1,4 +1,4 @@
-//! How far a reader is, and its next data record.
+//! The progress of a reader, and its next data record.
 
 ghost use Rattle.std.specs.Prelude.{◌≡◌, ◌≢◌, ◌+◌, ◌-◌, ◌^◌, ◌<◌, ◌≤◌, length, IfOk, IfSome};
 ghost use Rattle.std.specs.Bool.{MatchBool};
@@ -17,25 +17,24 @@ use edf_header::{Header, MOST_BLOCK_BYTES, MOST_RECORDS};
 use edf_tal::{Place, TalFault, read_blocks};
 use std::alloc::Global;
 
-/// Whether a reader of data records may go on.
+/// The state of a reader of data records.
 #[derive(Clone, Copy, Debug, PartialEq, Eq)]
 pub enum ReaderState {
     /// It met neither the end nor a fault.
     Reading,
-    /// It gave the last data record, and nothing follows.
+    /// It returned the last data record, and no byte follows.
     Ended,
     /// It met a fault.
     Stopped,
 }
 
-/// How far a reader of data records is.
+/// The progress of a reader of data records.
 #[derive(Clone, Copy, Debug, PartialEq, Eq)]
 pub struct Progress {
-    /// How many data records it gave.
+    /// The number of data records that it returned.
     pub given: u32,
-    /// Where the next one must be.
+    /// The place of the next one.
     pub place: Place,
-    /// Whether it may go on.
     pub state: ReaderState,
 }
 
@@ -43,7 +42,7 @@ impl Progress {
     ghost use Rattle.std.specs.Prelude.{◌≡◌};
     ghost use Rattle.edf_fragment.specs.Reading.{initial_progress};
 
-    /// How far a reader is that gave no record yet.
+    /// Returns the progress of a reader before the first data record.
     pub(crate) fn initial_progress() -> Progress
         ensures { result ≡ initial_progress }
     {
@@ -55,7 +54,7 @@ impl Progress {
     }
 }
 
-/// The refusal for a fault of the nth data record's blocks. Want of memory is one of its own.
+/// Returns the refusal for a fault of the nth data record's blocks, or for want of memory.
 fn block_refusal(nth: u32, fault: TalFault) -> FragmentFault
     ensures memory { fault ≡ TalFault.Memory → result ≡ FragmentFault.Memory }
     ensures other { fault ≢ TalFault.Memory → result ≡ FragmentFault.Tal nth fault }
@@ -66,7 +65,7 @@ fn block_refusal(nth: u32, fault: TalFault) -> FragmentFault
     }
 }
 
-/// How many sample bytes a data record has.
+/// Returns the number of sample bytes in a data record.
 fn sample_bytes(header: &Header) -> usize
     ensures total { result + block_bytes header.now ≡ header.now.record_bytes }
     ensures limit { result ≤ MOST_BLOCK_BYTES }
@@ -75,7 +74,7 @@ fn sample_bytes(header: &Header) -> usize
     header.record_bytes() - header.block_bytes()
 }
 
-/// How many data records a fragment has at least.
+/// Returns the least number of data records that a fragment has.
 fn least_given(header: &Header) -> u32
     ensures { result ≡ least_records header.now.count }
 {
@@ -85,7 +84,7 @@ fn least_given(header: &Header) -> u32
     }
 }
 
-/// How many data records a fragment has at most.
+/// Returns the greatest number of data records that a fragment has.
 fn most_given(header: &Header) -> u32
     ensures { result ≡ most_records header.now.count }
 {
@@ -95,8 +94,8 @@ fn most_given(header: &Header) -> u32
     }
 }
 
-/// Fills a buffer with the next data record. The answer is `false` where none must come, and the
-/// input ended before its first byte.
+/// Fills a buffer with the next data record. Returns `false` where none must come, and the input
+/// ended before its first byte.
 fn fill_record<R: Input>(
     input: &mut R,
     header: &Header,
@@ -107,8 +106,8 @@ fn fill_record<R: Input>(
     requires countable { progress.given < 2 ^ 32 - 1 }
     requires room { length whole.old ≡ header.now.record_bytes }
     ensures { ReadsInput
-        (ValueOrFault (λ left rest there. MatchBool there
-        (Consumes left rest whole.new) (IsEndOfRecords header.now progress left rest))
+        (ValueOrFault (λ before rest there. MatchBool there
+        (Consumes before rest whole.new) (IsEndOfRecords header.now progress before rest))
         (IsNextFault header.now progress))
         (input_state R.Input input.old) (input_state R.Input input.new) result }
 {
@@ -126,8 +125,8 @@ fn fill_record<R: Input>(
     }
 }
 
-/// Reads the next data record, through buffers with room for it. The answer is `None` where none
-/// must come, and the input ended.
+/// Reads the next data record through buffers that fit it. Returns `None` where none must come, and
+/// the input ended.
 fn read_record<R: Input>(
     alloc: Global,
     input: &mut R,
@@ -167,9 +166,9 @@ fn read_record<R: Input>(
     }
 }
 
-/// Finds that nothing follows the last data record.
+/// Checks that no byte follows the last data record.
 fn find_end<R: Input>(input: &mut R) -> Result<(), FragmentFault>
-    ensures { ReadsInput (ValueOrFault (λ left rest _. ReadsEnd left rest) IsEndFault)
+    ensures { ReadsInput (ValueOrFault (λ before rest _. ReadsEnd before rest) IsEndFault)
         (input_state R.Input input.old) (input_state R.Input input.new) result }
 {
     let mut byte = [0u8; 1];
@@ -202,7 +201,7 @@ pub(crate) fn record_or_end<R: Input>(
     }
 }
 
-/// How far a reader is after this answer.
+/// Returns the progress of a reader after this answer.
 pub(crate) fn progress_after(
     header: &Header,
     progress: Progress,

@@ -9,20 +9,19 @@ ghost use Rattle.edf_fragment.specs.Inside.Buffers.{FitOneRecord};
 use edf_header::Header;
 use std::alloc::{AllocError, Global};
 
-/// The buffers that each data record of a fragment is read through. The header says how much room
-/// they have.
+/// The buffers that each data record of a fragment is read through. The header gives their sizes.
 #[derive(Drop)]
 pub(crate) struct Buffers {
     /// A whole data record.
     pub(crate) whole: Vec<u8>,
     /// Its annotations blocks, joined in file order.
     pub(crate) joined: Vec<u8>,
-    /// How many bytes each block has.
+    /// The number of bytes of each block.
     pub(crate) sizes: Vec<usize>,
 }
 
 impl Buffers {
-    /// Buffers for the data records of this header.
+    /// Allocates buffers for the data records of this header.
     pub(crate) fn of(alloc: Global, header: &Header) -> Result<Buffers, AllocError>
         ensures { IfOk result (FitOneRecord header.now) }
     {

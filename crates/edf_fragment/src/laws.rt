@@ -1,4 +1,4 @@
-//! Laws of fragments: each function has a law for a contract, and does nothing.
+//! Laws of fragments. The contract of each function is a law, and its body does nothing.
 ghost use Rattle.std.specs.Prelude.{◌≡◌, ℕ, ◌++◌, ◌∷◌, [], ◌⊎◌, ◌≤◌, ◌<◌, List, length, Option};
 ghost use Rattle.std.specs.Prelude.{Some, None, Ok, Err};
 ghost use Rattle.edf_field.specs.Number.{duration_of};
@@ -29,36 +29,35 @@ pub fn signals_in_turn()
         ordinary_bytes (layout_of header) bytes ≡ ordinary_samples header.signals bytes }
 {}
 
-/// Bytes spell one fragment at most.
+/// Bytes are the file of at most one fragment.
 pub fn one_fragment()
     ensures { (bytes : List ℕ) (key other : Key) (records others : List DataRecord) →
         IsFragmentFile bytes key records → IsFragmentFile bytes other others →
         (key ≡ other) × (records ≡ others) }
 {}
 
-/// Bytes that spell a fragment have no fault.
+/// The file of a fragment has no fault.
 pub fn no_fault_where_spelled()
     ensures { (bytes : List ℕ) (key : Key) (records : List DataRecord) (fault : FragmentFault) →
         IsFragmentFile bytes key records → ¬ IsFirstFault bytes fault }
 {}
 
-/// Bytes have one first fault at most.
+/// Bytes have at most one first fault.
 pub fn one_fault()
     ensures { (bytes : List ℕ) (fault other : FragmentFault) →
         IsFirstFault bytes fault → IsFirstFault bytes other → fault ≡ other }
 {}
 
-/// Each list of bytes spells a key with its data records or has a first fault: just one of the two.
+/// Each list of bytes parses to exactly one value: a key with its data records, or a first fault.
 pub fn each_parses_to_one()
     ensures some { (bytes : List ℕ) → (parsed : Parsed) × ParsesTo bytes parsed }
     ensures one { (bytes : List ℕ) (parsed other : Parsed) → ParsesTo bytes parsed →
         ParsesTo bytes other → parsed ≡ other }
 {}
 
-/// What bytes that spell a fragment give it: a key that headers name, with a duration above 0; and
-/// 1 to `MOST_RECORDS` data records, where the header's count is unknown too, that lie in the
-/// window, at least a duration apart, and keep the limits; the first before 2085 where the key has
-/// no date.
+/// A fragment has a key that headers name, with a duration above 0, and 1 to `MOST_RECORDS` data
+/// records, also where the header's count is unknown. These lie in the window, at least a duration
+/// apart, and within the limits, and the first before 2085 where the key has no date.
 pub fn records_are_sound()
     ensures key { (bytes : List ℕ) (key : Key) (records : List DataRecord) →
         IsFragmentFile bytes key records → IsKey key }
@@ -75,16 +74,16 @@ pub fn records_are_sound()
 {}
 
 /// The data records that were read so far are sound under a key that headers name, whose recording
-/// may begin with the first; and they are the first of those that all the bytes spell, where these
-/// are known and spell a fragment.
+/// may begin with the first. Where the bytes are known to be a fragment's file, they are the first
+/// of its data records.
 pub fn records_so_far()
-    ensures key { (left rest : Option (List ℕ)) (l : Layout) →
-        ReadsHeader left rest l → IsKey l.key }
-    ensures sound { (left one two : Option (List ℕ)) (l : Layout) (records : List DataRecord)
-        (p : Progress) → ReadsHeader left one l → HasReadRecords l one two records p →
+    ensures key { (input rest : Option (List ℕ)) (l : Layout) →
+        ReadsHeader input rest l → IsKey l.key }
+    ensures sound { (input one two : Option (List ℕ)) (l : Layout) (records : List DataRecord)
+        (p : Progress) → ReadsHeader input one l → HasReadRecords l one two records p →
         AreSound l.key 0 records }
-    ensures begins { (left one two : Option (List ℕ)) (l : Layout) (records : List DataRecord)
-        (p : Progress) → ReadsHeader left one l → HasReadRecords l one two records p →
+    ensures begins { (input one two : Option (List ℕ)) (l : Layout) (records : List DataRecord)
+        (p : Progress) → ReadsHeader input one l → HasReadRecords l one two records p →
         MayBegin l.key records }
     ensures front { (bytes : List ℕ) (one two : Option (List ℕ)) (l : Layout)
         (records : List DataRecord) (p : Progress)
@@ -94,30 +93,28 @@ pub fn records_so_far()
         (key ≡ l.key) × ((later : List DataRecord) × (spelled ≡ records ++ later)) }
 {}
 
-/// The answers of a reader, one after another, are those of the whole: data records that were read
-/// one by one are in their order what the bytes begin with, and `None` and each fault mean after
-/// them what they mean for the whole input.
+/// The answers of a reader join to that of the whole: the bytes begin with the data records that
+/// were read one by one, and after them `None` and each fault mean what they mean for all the input.
 pub fn answers_join()
-    ensures none { (l : Layout) (left : Option (List ℕ)) →
-        HasReadRecords l left left [] initial_progress }
-    ensures more { (l : Layout) (left mid rest : Option (List ℕ)) (records : List DataRecord)
-        (p q : Progress) (r : DataRecord) → HasReadRecords l left mid records p →
-        p.state ≡ Reading →
-        IsAnswer l p q mid rest (Ok (Some r)) →
-        HasReadRecords l left rest (records ++ r ∷ []) q × (q.state ≡ Reading) }
-    ensures end { (l : Layout) (left one two rest : Option (List ℕ)) (records : List DataRecord)
-        (p q : Progress) → ReadsHeader left one l → HasReadRecords l one two records p →
-        p.state ≡ Reading → IsAnswer l p q two rest (Ok None) → ReadsFragment left rest l records }
-    ensures fault { (l : Layout) (left one two rest : Option (List ℕ)) (records : List DataRecord)
-        (p q : Progress) (fault : FragmentFault) → ReadsHeader left one l →
+    ensures none { (l : Layout) (input : Option (List ℕ)) →
+        HasReadRecords l input input [] initial_progress }
+    ensures more { (l : Layout) (input mid rest : Option (List ℕ)) (records : List DataRecord)
+        (p q : Progress) (r : DataRecord) → HasReadRecords l input mid records p →
+        p.state ≡ Reading → IsAnswer l p q mid rest (Ok (Some r)) →
+        HasReadRecords l input rest (records ++ r ∷ []) q × (q.state ≡ Reading) }
+    ensures end { (l : Layout) (input one two rest : Option (List ℕ)) (records : List DataRecord)
+        (p q : Progress) → ReadsHeader input one l → HasReadRecords l one two records p →
+        p.state ≡ Reading → IsAnswer l p q two rest (Ok None) → ReadsFragment input rest l records }
+    ensures fault { (l : Layout) (input one two rest : Option (List ℕ)) (records : List DataRecord)
+        (p q : Progress) (fault : FragmentFault) → ReadsHeader input one l →
         HasReadRecords l one two records p → p.state ≡ Reading →
-        IsAnswer l p q two rest (Err fault) →
-        IsFragmentFault left rest fault }
-    ensures refused { (left rest : Option (List ℕ)) (fault : FragmentFault) →
-        IsOpenFault left rest fault → IsFragmentFault left rest fault }
+        IsAnswer l p q two rest (Err fault) → IsFragmentFault input rest fault }
+    ensures refused { (input rest : Option (List ℕ)) (fault : FragmentFault) →
+        IsOpenFault input rest fault → IsFragmentFault input rest fault }
 {}
 
-/// What was read is what all the bytes spell, or have for their first fault, where these are known.
+/// Where all the bytes are known, they are the file of the fragment that was read, or have the fault
+/// that was met as their first, unless a read failed or memory ran out.
 pub fn known_bytes()
     ensures fragment { (bytes : List ℕ) (rest : Option (List ℕ)) (l : Layout)
         (records : List DataRecord) → ReadsFragment (Some bytes) rest l records →

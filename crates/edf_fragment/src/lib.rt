@@ -1,33 +1,29 @@
-//! Fragments: EDF+ files, read data record by data record from any reader, in whatever pieces it
-//! gives them.
+//! Fragments: EDF+ files, read data record by data record from any reader, in whatever pieces the
+//! bytes come. No byte is read early, and a fault says where it is.
 //!
-//! No byte is read before it is asked for. The first fault of the bytes is given with its number,
-//! and with the data record, the signal or the offset where it is.
+//! ```rust
+//! /// Reads the start of the first data record of a file in memory.
+//! fn first_start(alloc: Global, file: &[u8]) -> Result<Option<Instant>, FragmentFault> {
+//!     let mut input = Counted::new(file);
+//!     let mut reader = FragmentReader::open(alloc, &mut input)?;
+//!     match reader.next()? {
+//!         Some(record) => Ok(Some(record.start())),
+//!         None => Ok(None),
+//!     }
+//! }
+//! ```
 //!
-//! A header counts the data records, or says by -1 that their number is unknown. Then there are
-//! as many as follow, at least one and at most `MOST_RECORDS`, and the fragment ends where the
-//! input ends after a whole data record. A data record has a block for each annotations signal: the
-//! first keeps time, and the annotations of all of them are joined in file order.
-//!
-//! - [`FragmentReader`]: a header, and then one data record at a time. [`OpenFragment`]: the same,
-//!   where the input stays with the caller. [`Progress`], [`ReaderState`]: how far a reader is.
-//! - [`read_fragment`]: the header and all data records, read into memory.
-//! - [`Record`]: a data record. [`FragmentFault`]: why a fragment is refused, or can't
-//!   be read, E40 and E41.
-//! - [`Input`], [`Output`]: readers and writers whose contracts also count the calls that failed,
-//!   so that a failed read or write is a refusal only where one failed. [`Counted`]: one of any
-//! reader or writer of std. [`saturating_increment`]: such a count after one more. [`Remark`]: what
-//! a line of
-//!   an output tells, for a person.
-//! - [`fill`], [`Filled`]: a buffer filled from an input, in whatever pieces it comes. [`send`]:
-//!   all of some bytes, to an output.
-//! - [`each_parses_to_one`], [`one_fragment`], [`one_fault`], [`no_fault_where_spelled`]: each list
-//!   of
-//!   bytes spells one fragment or has one first fault, and never both. [`records_are_sound`],
-//!   [`records_so_far`]: what holds of the data records of a fragment, and of those that were read
-//!   so far. [`answers_join`], [`known_bytes`]: what is read record by record is what they say of
-//!   the whole. [`signals_in_turn`]: a data record's bytes, signal by signal. These functions do
-//!   nothing, each with a law for a contract.
+//! - [`FragmentReader`] reads a [`Record`] at a time, or returns a [`FragmentFault`].
+//! - [`OpenFragment`] does the same, and the caller holds the input; [`Progress`] and
+//!   [`ReaderState`] are how far it is.
+//! - [`read_fragment`] reads a whole fragment into memory.
+//! - [`Input`], [`Output`] are readers and writers that count the calls that failed, and
+//!   [`Counted`] is one of any reader or writer of std. [`saturating_increment`] counts one more.
+//! - [`Remark`] is the cause of a line of an output.
+//! - [`fill`] fills a buffer, with a [`Filled`] as the answer, and [`send`] writes all of some bytes.
+//! - [`each_parses_to_one`], [`one_fragment`], [`one_fault`], [`no_fault_where_spelled`],
+//!   [`records_are_sound`], [`records_so_far`], [`answers_join`], [`known_bytes`] and
+//!   [`signals_in_turn`] are laws: functions that do nothing, each with a law for a contract.
 #![tactic(auto)]
 
 mod advance;

@@ -15,7 +15,7 @@ use edf_header::Header;
 use edf_header::laws::header_is_layout;
 use std::alloc::Global;
 
-/// A fragment whose header was read, and how far its data records were read.
+/// A fragment whose header was read, with the progress of its data records.
 ///
 /// It doesn't hold the input: each call takes the one that the header was read from. Use it where
 /// the input is read on after the last record or after a fault, or where a proof follows it there;
@@ -40,9 +40,8 @@ impl OpenFragment {
     /// out. The input then is where reading stopped.
     pub fn read<R: Input>(alloc: Global, input: &mut R) -> Result<OpenFragment, FragmentFault>
         ensures { ReadsInput
-            (ValueOrFault (λ left rest o. ReadsHeader left rest o.header
-            × (o.progress ≡ initial_progress))
-            IsOpenFault)
+            (ValueOrFault (λ before rest o. ReadsHeader before rest o.header
+            × (o.progress ≡ initial_progress)) IsOpenFault)
             (input_state R.Input input.old) (input_state R.Input input.new) result }
     {
         let header = read_header(alloc, input)?;
@@ -57,14 +56,14 @@ impl OpenFragment {
         })
     }
 
-    /// The header.
+    /// Returns the header.
     pub fn header(&self) -> &Header
         ensures { result.now ≡ self.now.header }
     {
         &self.header
     }
 
-    /// Gives up the reader, and keeps its header.
+    /// Returns the header, and drops the reader.
     pub fn into_header(self) -> Header
         ensures { result ≡ self.header }
     {
@@ -77,7 +76,7 @@ impl OpenFragment {
         header
     }
 
-    /// Reads the next data record; `None` where the last was given and nothing follows, and at
+    /// Reads the next data record. Returns `None` after the last, where no byte follows it, and at
     /// every later call. Where the header's count is unknown, the last is the one after which the
     /// input ends.
     ///

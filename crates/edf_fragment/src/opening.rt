@@ -8,7 +8,7 @@ use crate::streams::{Filled, Input, fill};
 use edf_header::{Fixed, Header, HeaderFault, read_fixed, read_signals};
 use std::alloc::Global;
 
-/// The refusal for a header's fault. Want of memory is one of its own.
+/// Returns the refusal for a header's fault, or for want of memory.
 fn header_refusal(fault: HeaderFault) -> FragmentFault
     ensures memory { fault ≡ HeaderFault.Memory → result ≡ FragmentFault.Memory }
     ensures other { fault ≢ HeaderFault.Memory → result ≡ FragmentFault.Header fault }
@@ -43,8 +43,8 @@ fn read_signal_headers<R: Input>(
     fixed: Fixed,
 ) -> Result<Header, FragmentFault>
     ensures { ReadsInput
-        (ValueOrFault (λ left rest. ReadsSignals left rest fixed)
-        (λ left rest. IsSignalsFault left rest fixed.signal_count))
+        (ValueOrFault (λ before rest. ReadsSignals before rest fixed)
+        (λ before rest. IsSignalsFault before rest fixed.signal_count))
         (input_state R.Input input.old) (input_state R.Input input.new) result }
 {
     let Ok(mut bytes) = vec![in alloc; 0u8; 256 * fixed.signals()] else {

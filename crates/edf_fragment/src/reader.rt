@@ -11,12 +11,12 @@ use std::alloc::Global;
 
 /// The data records of a fragment, one at a time, from a reader that is at its first byte.
 ///
-/// It reads no byte before it is asked for what the byte belongs to: `open` the header's, `next`
-/// those of one data record, and after the last it asks for more, to find that nothing follows. It
-/// holds one data record at a time: its bytes as they are in the file, and what they say.
+/// It reads no byte early: `open` reads those of the header, and `next` those of one data record.
+/// After the last one `next` reads on, to check that no byte follows. It holds one data record at a
+/// time.
 ///
 /// Use it where a fragment is read and nothing else. Where the input is read on after a fault or
-/// the end, or a proof is to follow it there, use `OpenFragment`, which leaves it with the caller.
+/// the end, or a proof is to follow it there, use `OpenFragment`, which doesn't hold the input.
 pub struct FragmentReader<'a, R> {
     input: &'a mut R,
     fragment: OpenFragment,
@@ -32,7 +32,7 @@ impl<R> Drop for FragmentReader<'_, R> {
 }
 
 impl<'a, R: Input> FragmentReader<'a, R> {
-    /// The data records that a fragment has left, from the reader that it was read from so far.
+    /// Joins a fragment with the input that it was read from so far.
     pub fn of(input: &'a mut R, fragment: OpenFragment) -> FragmentReader<'a, R>
         ensures same_reference { result.input.ghost_name ≡ input.entry.ghost_name }
         ensures left { R.remaining result.input.now ≡ R.remaining input.old }
@@ -61,14 +61,14 @@ impl<'a, R: Input> FragmentReader<'a, R> {
         Ok(FragmentReader::of(input, fragment))
     }
 
-    /// The header.
+    /// Returns the header.
     pub fn header(&self) -> &Header
         ensures { result.now ≡ self.now.fragment.header }
     {
         self.fragment.header()
     }
 
-    /// Gives up the reader, and keeps its header.
+    /// Returns the header, and drops the reader.
     pub fn into_header(self) -> Header
         ensures { result ≡ self.entry.fragment.header }
     {
@@ -76,14 +76,10 @@ impl<'a, R: Input> FragmentReader<'a, R> {
         fragment.into_header()
     }
 
-    /// Reads the next data record; `None` where the last was given and nothing follows, and at
-    /// every later call. Where the header's count is unknown, the last is the one after which the
-    /// input ends.
+    /// Reads the next data record, as `OpenFragment::next` does.
     ///
     /// # Errors
-    /// `CutRecord` where the input ends inside the data record, or before one that must come;
-    /// `Tal` where its annotations are refused, `Trailing` where bytes follow the last, `Read`
-    /// where a read failed, `Memory` where memory ran out. After any of these, `Failed`.
+    /// Those of `OpenFragment::next`.
     pub fn next(&mut self) -> Result<Option<Record>, FragmentFault>
         ensures same_reference { self.new.input.ghost_name ≡ self.old.input.ghost_name }
         ensures next { ReadsNext self.old.fragment self.new.fragment

@@ -15,8 +15,8 @@ use std::marker::Model;
 /// order.
 ///
 /// A sample is 16 bits, two's complement, the lower byte first (EDF, data records). The
-/// time-keeping annotation is no member of the list; its onset is the start. A data record has at
-/// most `MOST_BLOCK_BYTES` of samples, and `MOST_ANNOTATIONS` annotations with `MOST_TEXT_BYTES` of
+/// time-keeping annotation is not in the list; its onset is the start. A data record has at most
+/// `MOST_BLOCK_BYTES` of samples, and `MOST_ANNOTATIONS` annotations with `MOST_TEXT_BYTES` of
 /// texts.
 #[derive(Drop)]
 pub struct Record {
@@ -38,7 +38,7 @@ impl Model for Record {
         (record { start = r.start; samples = r.samples.items; annotations = r.notes.items }) };
 }
 
-/// Whether there are at most `MOST_ANNOTATIONS`, with at most `MOST_TEXT_BYTES` of texts.
+/// Is true where there are at most `MOST_ANNOTATIONS`, with at most `MOST_TEXT_BYTES` of texts.
 fn are_within_limits(notes: &[Note]) -> bool
     ensures limits { IsTrue result ↔ IsWithinLimits notes.now }
     ensures notes { IsTrue result → AllByRecursion IsAnnotation notes.now }
@@ -58,7 +58,7 @@ fn are_within_limits(notes: &[Note]) -> bool
 }
 
 impl Record {
-    /// The data record of these parts, or `None` where they are past the limits of a data record.
+    /// Returns the data record of these parts, or `None` where they are past its limits.
     pub fn new(start: Instant, samples: Vec<u8>, notes: Vec<Note>) -> Option<Record>
         ensures { let parts : DataRecord =
             record { start = start; samples = samples.items; annotations = notes.items } in
@@ -72,7 +72,7 @@ impl Record {
         }
     }
 
-    /// The data record of parts that are known to keep its limits.
+    /// Returns the data record of parts that are known to be within its limits.
     pub(crate) fn within_limits(start: Instant, samples: Vec<u8>, notes: Vec<Note>) -> Record
         requires { IsValidRecord
             (record { start = start; samples = samples.items; annotations = notes.items }) }
@@ -86,7 +86,7 @@ impl Record {
         }
     }
 
-    /// Its start: the onset of its time-keeping annotation.
+    /// Returns the start: the onset of the time-keeping annotation.
     pub fn start(&self) -> Instant
         ensures value { result ≡ self.now.start }
         ensures kept { IsValidRecord self.now }
@@ -94,7 +94,7 @@ impl Record {
         self.start
     }
 
-    /// Its sample bytes: those of each ordinary signal in turn, two for a sample, the lower first.
+    /// Returns the bytes of each ordinary signal in turn, two for a sample, the lower first.
     pub fn samples(&self) -> &[u8]
         ensures value { result.now ≡ self.now.samples }
         ensures limit { length result.now ≤ MOST_BLOCK_BYTES }
@@ -103,7 +103,7 @@ impl Record {
         self.samples.as_slice()
     }
 
-    /// Its annotations in order, without the time-keeping one.
+    /// Returns the annotations in order, without the time-keeping one.
     pub fn notes(&self) -> &[Note]
         ensures value { result.now ≡ self.now.annotations }
         ensures limits { IsWithinLimits result.now }
@@ -112,7 +112,7 @@ impl Record {
         self.notes.as_slice()
     }
 
-    /// Whether the two have the same start, samples and annotations.
+    /// Is true where the two have the same start, samples and annotations.
     pub fn same(&self, other: &Record) -> bool
         ensures { IsTrue result ↔ (self.now ≡ other.now) }
     {

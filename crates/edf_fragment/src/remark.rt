@@ -1,13 +1,13 @@
 use crate::fault::FragmentFault;
 
-/// What a line tells, for a person who is told more below it.
+/// The cause of a line that was written, for a writer that explains it to a person.
 #[derive(Clone, Copy, Debug, PartialEq, Eq, Drop)]
 pub enum Remark {
     /// A file is refused for its form, or could not be read.
     Fault(FragmentFault),
-    /// Something is refused for another reason, by its number.
+    /// Something is refused for another reason, which has this number.
     Refused(u8),
-    /// There is something of the name that a new file was to get.
+    /// The name that a new file was to get is taken.
     Taken,
     /// Annotations lie outside of the run whose file was written.
     Outside,

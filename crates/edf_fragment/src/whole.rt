@@ -20,7 +20,7 @@ fn read_records<R: Input>(
     requires { fragment.old.progress ≡ initial_progress }
     ensures header { fragment.new.header ≡ fragment.old.header }
     ensures read { ReadsInput
-        (ValueOrFault (λ left rest records. ReadsRecords fragment.old.header left rest
+        (ValueOrFault (λ before rest records. ReadsRecords fragment.old.header before rest
         records.items)
         (FailsAfterRecords fragment.old.header))
         (input_state R.Input input.old) (input_state R.Input input.new) result }
@@ -42,14 +42,13 @@ fn read_records<R: Input>(
 ///
 /// # Errors
 /// The first fault of the bytes by the order of the header, the data records and the end; `Read`
-/// where a read failed, `Memory` where memory ran out, each in place of whatever would have been
-/// found later.
+/// where a read failed, `Memory` where memory ran out, each in place of any later fault.
 pub fn read_fragment<R: Input>(
     alloc: Global,
     input: &mut R,
 ) -> Result<(Header, Vec<Record>), FragmentFault>
     ensures { ReadsInput
-        (ValueOrFault (λ left rest r. ReadsFragment left rest r.0 r.1.items) IsFragmentFault)
+        (ValueOrFault (λ before rest r. ReadsFragment before rest r.0 r.1.items) IsFragmentFault)
         (input_state R.Input input.old) (input_state R.Input input.new) result }
 {
     let mut fragment = OpenFragment::read(alloc, input)?;

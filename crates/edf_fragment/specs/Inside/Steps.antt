@@ -1,4 +1,4 @@
--- What the steps of a reader read: the two parts of a header, all data records, the end.
+-- The steps of a reader: the two parts of a header, all data records, the end.
 use Rattle.std.specs.Prelude.{◌≡◌, ℕ, ◌*◌, ◌≤◌, ◌⊎◌, List, [], ◌∷◌, length, Option}
 use Rattle.std.specs.Io.KnownBytes.{Consumes, IsAtEnd}
 use Rattle.edf_header.specs.Header.{HeaderRecord, FixedPart, IsFixedHeader, AreSignals, Layout}
@@ -20,7 +20,7 @@ pub record ReadsFixed (input rest : Option (List ℕ)) (fixed : FixedPart) : Typ
   pub read : Consumes input rest bytes
   pub is_fixed : IsFixedHeader bytes fixed
 
--- the bytes that were read are the signals that go with a fixed part
+-- the bytes that were read are the signal headers after this fixed part
 pub record ReadsSignals (input rest : Option (List ℕ)) (fixed : FixedPart)
     (layout : Layout) : Type 0
   where
@@ -47,18 +47,18 @@ pub record LacksSignalsMemory (input rest : Option (List ℕ)) (n : ℕ) : Type 
   pub within : length bytes ≤ 256 * n
   pub clean : (bytes ≡ []) ⊎ IsClean (SignalsFail bytes n) 21
 
--- why there are no signals, and what of the input was read
+-- there are no signal headers, for a fault of the bytes, a failed read, or want of memory
 abbrev pub IsSignalsFault : Option (List ℕ) → Option (List ℕ) → ℕ → FragmentFault → Type 0
 IsSignalsFault input rest n (BadHeader fault) = ReadsSignalsFault input rest n fault
 IsSignalsFault input rest n Read = ReadsFewerBytes (256 * n) input rest
 IsSignalsFault input rest n Memory = LacksSignalsMemory input rest n
 IsSignalsFault input rest n fault = ⊥
 
--- nothing was read, and nothing is there
+-- nothing was read, and the input is at its end
 abbrev pub ReadsEnd : Option (List ℕ) → Option (List ℕ) → Type 0
 ReadsEnd input rest = Consumes input rest [] × IsAtEnd rest
 
--- why the input does not end
+-- the input was not found to end: a byte was read, or a read failed
 abbrev pub IsEndFault : Option (List ℕ) → Option (List ℕ) → FragmentFault → Type 0
 IsEndFault input rest Trailing = (byte : ℕ) × Consumes input rest (byte ∷ [])
 IsEndFault input rest Read = Consumes input rest []
