@@ -1,7 +1,7 @@
--- How many pages of a store are kept in memory while it is open.
+-- The size of the page cache of an open store.
 use Rattle.std.specs.Prelude.{◌<◌, ◌≤◌, ◌*◌, ℕ}
 
--- so many pages are more than the port of SQLite keeps by itself, 512 MiB at most, and a quarter of
--- the room at most
+-- so many pages are more than the port of SQLite has by itself, 512 MiB at most, and a quarter of
+-- the free memory at most
 abbrev pub IsCacheSize : ℕ → ℕ → Type 0
 IsCacheSize pages memory = (2000 < pages) × (pages ≤ 131072) × (pages * 16384 ≤ memory)

@@ -1,4 +1,4 @@
--- How a command went, by what it came to.
+-- The status of a command, by how it ended.
 use Rattle.sqlite_disk.specs.declared.Disk.{Ghosts}
 use Rattle.edf_cli.specs.declared.status.Status.{Status}
 use Rattle.edfstore_open.specs.declared.ended.Ended.{Ended}

@@ -1,4 +1,4 @@
--- What a command does that names no path: its store is in memory, and empty.
+-- A command that names no path: its store is in memory, and empty.
 use Rattle.std.specs.Prelude.{◌≡◌, ◌⊎◌, [], false, IsTrue}
 use Rattle.sqlite_trees.specs.declared.memory.MemStore.{MemStore}
 use Rattle.sqlite.specs.State.{HasCleanDisk}
@@ -24,7 +24,7 @@ pub record IsEmptyStore (store : StoreModel MemStore) : Type 0 where
   pub is_open : IsTrue (at over_memory store).is_open
   pub idle : (at over_memory store).in_transaction ≡ false
 
--- the command was done over such a store, whose disk gave back what was written
+-- the command was done over such a store, whose disk returned what was written
 pub record IsDoneInMemory (c : Command) (err : OutputChange) (status : Status) : Type 0 where
   pub old : StoreModel MemStore
   pub new : StoreModel MemStore

@@ -1,4 +1,4 @@
--- What a command does whose store is that of a path.
+-- A command whose store is that of a path.
 use Rattle.std.specs.Prelude.{◌≡◌, ◌≢◌, ◌⊎◌, [], Option, Some, None, Result, Err, MatchOption}
 use Rattle.sqlite_disk.specs.declared.Disk.{Ghosts}
 use Rattle.sqlite_wal.specs.Files.{outcomes}
@@ -26,7 +26,7 @@ OnlyReads (list store) = Unit {0}
 OnlyReads (export store place) = Unit {0}
 OnlyReads (convert file) = ⊥
 
--- what such a command says where there is none: an empty list, or no recording at its place
+-- where there is none, such a command prints an empty list, or that its place has no recording
 abbrev pub FindsNothing : Request → OutputChange → Status → Type 0
 FindsNothing (take store files) err status = ⊥
 FindsNothing (list store) err status = Gets err [] × (status ≡ Done)
@@ -34,14 +34,14 @@ FindsNothing (export store place) err status =
     IsWritten err (no_recording_line place) Refused status
 FindsNothing (convert file) err status = ⊥
 
--- the files of a store, as they were opened, or why they were not and what is left of them
+-- the files of a store, as they were opened, or why they were not and what remains of them
 abbrev pub Opening : (D : Type 0) → Ghosts D → Type 0
 Opening D g = Result (Held (FileStore D g)) (Error × Option (Leftover D g))
 
 module _ {D : Type 0} {g : Ghosts D} (r : run.ProgramRun g) (asked : Request) where
   -- It was run over the files that were opened. They are closed under every status but trouble,
-  -- and what they are read as then is among what a crash may leave. Or they were not opened, for
-  -- this error, and what is left of them is what was. Or none were looked for, and it only reads.
+  -- and how they are read then is one of the outcomes of a crash. Or they were not opened, for this
+  -- error, and what remains of them is what did. Or none were looked for, and it only reads.
   abbrev pub IsRunOn : Option (Opening D g) → Ended D g → Type 0
   IsRunOn found (Run s) = (found ≢ None) × (IsRunDone r s ⊎ IsRefused r s)
       × (s.status ≢ Trouble → s.failure ≡ None)
@@ -56,6 +56,6 @@ module _ {D : Type 0} {g : Ghosts D} (r : run.ProgramRun g) (asked : Request) wh
   abbrev pub IsFound : Option (Opening D g) → Type 0
   IsFound found = MatchOption found (OnlyReads asked) (IsOpening r.start)
 
-  -- so it is run, whatever was found
+  -- the command is run, whatever was found
   abbrev pub IsRunAtPath : Ended D g → Type 0
   IsRunAtPath ended = (found : Option (Opening D g)) × IsFound found × IsRunOn found ended

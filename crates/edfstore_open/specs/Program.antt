@@ -1,4 +1,4 @@
--- What a command does, over the store that it names.
+-- A command, over the store that it names.
 use Rattle.std.specs.Prelude.{◌≡◌, None, MatchOption}
 use Rattle.sqlite_disk.specs.declared.Disk.{Ghosts}
 use Rattle.sqlite_wal.specs.Recovery.{Image}
@@ -13,7 +13,7 @@ use Rattle.edfstore_open.specs.declared.ended.Ended.{Ended}
 use Rattle.edfstore_open.specs.declared.ended.Ended.TheVariants.{WithoutFiles}
 
 -- a run of the program over files that hold this: a recording may have as many data records as a
--- file may, and what is told of the opening is not known
+-- file may, and no notice of the opening is known
 abbrev pub program_run : {D : Type 0} (g : Ghosts D) → Image → Command → OutputChange →
     (Unread : Type 0) → ProgramRun g
 program_run g start c err Unread =

@@ -1,22 +1,22 @@
-//! How many pages of a store are kept in memory while it is open, and what the system says of that.
+//! The page cache of an open store: its size, by the text that the system has of free memory.
 
 ghost use Rattle.std.specs.Prelude.{◌≡◌, ◌/◌, MatchOption};
 ghost use Rattle.edfstore_open.specs.Cache.{IsCacheSize};
 
-/// How many bytes a page has of the stores that are made here.
+/// The bytes of a page, in the stores that are made here.
 const PAGE: u64 = 4_096;
 
-/// How many pages the port of SQLite keeps by itself.
+/// The pages of the cache that the port of SQLite has by itself.
 const OWN: u64 = 2_000;
 
-/// How many pages are kept at most: 512 MiB of them.
+/// The most pages of a cache: 512 MiB of them.
 const MOST: u64 = 131_072;
 
-/// What takes up no more than one part in so many of the room may be kept.
+/// A cache takes up at most one part in so many of the free memory.
 const SHARE: u64 = 4;
 
-/// How many pages a file of so many bytes has, where all of them may be kept in so many bytes of
-/// room; else the port's own number does, since to keep a part of them spares no reading.
+/// Returns the pages of a file of so many bytes, where a cache may have all of them; `None` stands
+/// for the port's own number, since a cache of a part of them spares no reading.
 pub(crate) fn pages_kept(bytes: u64, room: u64) -> Option<usize>
     ensures { MatchOption result (¬ IsCacheSize (bytes / 4096) room)
         (λ pages. (pages ≡ bytes / 4096) × IsCacheSize pages room) }
@@ -29,19 +29,19 @@ pub(crate) fn pages_kept(bytes: u64, room: u64) -> Option<usize>
     }
 }
 
-/// Whether a file that begins so has pages as stores have that are made here: SQLite writes their
-/// size behind its name.
+/// Is true where a file that begins so has pages of the size that is made here: SQLite writes it
+/// after its name.
 pub(crate) fn has_own_pages(head: &[u8; 18]) -> bool {
     head[16] == 0x10 && head[17] == 0
 }
 
-/// The bytes of a number of kilobytes, as `  16141056 kB`.
+/// Returns the bytes of a number of kilobytes, as `  16141056 kB`.
 fn bytes_of(text: &str) -> Option<u64> {
     let number = text.trim().strip_suffix(" kB")?;
     number.trim().parse::<u64>().ok()?.checked_mul(1_024)
 }
 
-/// How many bytes are free, or may be made so, by the text of `/proc/meminfo`.
+/// Returns how many bytes are free, or may be made so, by the text of `/proc/meminfo`.
 pub(crate) fn free_bytes(text: &str) -> Option<u64> {
     for line in text.lines() {
         if let Some(number) = line.strip_prefix("MemAvailable:") {
@@ -62,7 +62,7 @@ pub(crate) struct Group<'t> {
 }
 
 impl<'t> Group<'t> {
-    /// The one of version 1.
+    /// Returns the group of version 1.
     fn first(path: &'t str) -> Group<'t> {
         Group {
             folder: "/sys/fs/cgroup/memory",
@@ -72,7 +72,7 @@ impl<'t> Group<'t> {
         }
     }
 
-    /// The one of version 2.
+    /// Returns the group of version 2.
     fn second(path: &'t str) -> Group<'t> {
         Group {
             folder: "/sys/fs/cgroup",
@@ -83,7 +83,7 @@ impl<'t> Group<'t> {
     }
 }
 
-/// The path of a line of `/proc/self/cgroup` that has the memory of version 1, as `4:memory:/a`.
+/// Returns the path in a line of `/proc/self/cgroup` for memory of version 1, as `4:memory:/a`.
 fn first_path(line: &str) -> Option<&str> {
     let (_, rest) = line.split_once(':')?;
     let (kinds, path) = rest.split_once(':')?;
@@ -94,8 +94,8 @@ fn first_path(line: &str) -> Option<&str> {
     }
 }
 
-/// The group whose limit holds, by the text of `/proc/self/cgroup`: that of version 1 where memory
-/// has one, else that of version 2, as `0::/user.slice`.
+/// Returns the group whose limit holds, by the text of `/proc/self/cgroup`: that of version 1 where
+/// memory has one, else that of version 2, as `0::/user.slice`.
 pub(crate) fn group_of(text: &str) -> Option<Group<'_>> {
     let mut found = None;
     for line in text.lines() {

@@ -1,14 +1,14 @@
-//! How much memory the system says may be taken, for a store that is about to be opened.
+//! The size of the page cache for a store that is about to be opened.
 
 use crate::cache::{Group, free_bytes, group_of, has_own_pages, pages_kept};
 use std::fs;
 use std::io::{ErrorKind, Read};
 
-/// What separates the parts of a path.
+/// The byte between the parts of a path.
 const SLASH: u8 = b'/';
 
-/// The number in a file of the system, and the greatest where it has the word for no limit, or is
-/// not there.
+/// Returns the number in a file of the system, or the greatest where it has the word for no limit,
+/// or is not there.
 fn number_in(rt: &HostRuntime, path: &str) -> Option<u64> {
     match fs::read_to_string(rt, path) {
         Ok(text) => match text.trim() {
@@ -20,7 +20,7 @@ fn number_in(rt: &HostRuntime, path: &str) -> Option<u64> {
     }
 }
 
-/// How many bytes one group leaves of its limit: that of a prefix of the path.
+/// Returns how many bytes one group, that of a prefix of the path, may still take.
 fn left_at(rt: &HostRuntime, group: Group<'_>, front: &str) -> Option<u64> {
     let folder = group.folder;
     let limit = format!(in rt.alloc(); "{folder}{front}/{}", group.limit).ok()?;
@@ -32,7 +32,7 @@ fn left_at(rt: &HostRuntime, group: Group<'_>, front: &str) -> Option<u64> {
     Some(most.saturating_sub(number_in(rt, used.as_str())?))
 }
 
-/// How many bytes a group and all those that it is in leave of their limits.
+/// Returns how many bytes a group, and each one that it is in, may still take.
 fn left_in(rt: &HostRuntime, group: Group<'_>) -> Option<u64> {
     let mut least = left_at(rt, group, group.path)?;
     for (at, byte) in group.path.as_bytes().iter().enumerate() {
@@ -45,7 +45,7 @@ fn left_in(rt: &HostRuntime, group: Group<'_>) -> Option<u64> {
     Some(least)
 }
 
-/// How many bytes the limits of this process leave.
+/// Returns how many bytes this process may still take by its limits.
 fn left_of_limits(rt: &HostRuntime) -> Option<u64> {
     match fs::read_to_string(rt, "/proc/self/cgroup") {
         Ok(text) => match group_of(text.as_str()) {
@@ -57,14 +57,14 @@ fn left_of_limits(rt: &HostRuntime) -> Option<u64> {
     }
 }
 
-/// How many bytes the system says may be taken; nothing where it does not say.
+/// Returns how many bytes the system says may be taken; `None` where it does not say.
 fn room(rt: &HostRuntime) -> Option<u64> {
     let text = fs::read_to_string(rt, "/proc/meminfo").ok()?;
     let free = free_bytes(text.as_str())?;
     Some(free.min(left_of_limits(rt)?))
 }
 
-/// Whether the file at a path has pages as stores have that are made here.
+/// Is true where the file at a path has pages of the size that is made here.
 fn begins_as_ours(rt: &HostRuntime, path: &str) -> bool {
     let Ok(mut file) = fs::open(rt, path) else {
         return false;
@@ -73,10 +73,10 @@ fn begins_as_ours(rt: &HostRuntime, path: &str) -> bool {
     file.read_exact(&mut head).is_ok() && has_own_pages(&head)
 }
 
-/// How many pages of the store at a path are kept in memory while it is open, where that is not the
-/// port's own number: as many as its file has now, by its size, where there is room for them.
+/// Returns the cache size for the store at a path: as many pages as its file has now, where there
+/// is memory for them; `None` stands for the port's own number.
 ///
-/// The file is read before it is opened, and closed: this process has no lock on it yet.
+/// The file is read and closed before its store is opened: this process has no lock on it yet.
 pub(crate) fn pages_at(rt: &HostRuntime, path: &str) -> Option<usize> {
     let found = fs::metadata(rt, path).ok()?;
     let bytes = found.len();

@@ -1,4 +1,4 @@
-//! How a store was opened, or why it was refused, in plain words for a person.
+//! Plain words for a person: that a new store was made, or why one was refused.
 
 ghost use Rattle.std.specs.Prelude.{None};
 
@@ -25,22 +25,22 @@ const DAMAGED: &str = "the file is damaged, or it was copied without its -wal, s
     has page sums and sqlite3 wrote or copied it (ANALYZE, VACUUM, .backup): take all its files \
     into a new store; 'man edfstore' has more";
 
-/// What is said where the path of a store does not stand for the files that are open.
+/// It is printed where the path of a store does not stand for the files that are open.
 const LOST: &str = "its file or its log was removed, replaced or cut while it was open: \
     what was taken may be lost, so send it again";
 
 const IN_MEMORY: &str = "a session keeps its store in a file; './:memory:' is a file of that name";
 
-/// Why a store was not opened.
+/// The fault for which a store was not opened.
 #[derive(Clone, Copy, Drop)]
 pub struct Refused {
     pub fault: StoreFault,
-    /// Whether the file was opened and has no table, the first of a store's two alone, or both and
-    /// perhaps others after them.
+    /// It is true where the file was opened and has no table, the first of a store's two alone, or
+    /// both and perhaps others after them.
     pub has_our_tables: bool,
 }
 
-/// Prints why the store could not be opened. SQLite's port gives no cause, so where the path tells
+/// Prints why the store could not be opened. SQLite's port gives no cause, so where the path shows
 /// none, it is opened again to get one.
 fn print_unopened(rt: &HostRuntime, terminal: &Terminal<'_>, path: &str) {
     if is_address(path) {
@@ -116,7 +116,7 @@ pub fn print_lost(terminal: &Terminal<'_>, path: &str) {
     terminal.say(path, LOST);
 }
 
-/// What the disk refused, by the count of what its failed calls met.
+/// Returns what the disk refused, by the counts of its failed calls.
 fn disk_failure(tally: Tally) -> Option<Error> {
     if tally.caught > 0 {
         Some(Error::SqliteFailure(ErrorCode::DatabaseCorrupt))
@@ -142,12 +142,12 @@ pub fn print_failure_of<D: Disk>(
     }
 }
 
-/// Tells a person that a new store was made, and keeps why a store was refused.
+/// A watch that prints for a person that a new store was made, and notes why one was refused.
 #[derive(Drop)]
 pub(crate) struct Teller<'t> {
     terminal: &'t Terminal<'t>,
     path: &'t str,
-    /// Whether there was no file.
+    /// It is true where there was no file.
     is_new: bool,
     refused: Option<Refused>,
 }

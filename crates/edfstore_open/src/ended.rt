@@ -1,4 +1,4 @@
-//! What a command came to.
+//! The end of a command.
 
 ghost use Rattle.std.specs.Prelude.{◌≡◌};
 ghost use Rattle.edfstore_open.specs.Ended.{status_of};
@@ -8,18 +8,17 @@ use edfstore_files::EndedRun;
 use sqlite::Leftover;
 use sqlite_disk::Disk;
 
-/// What a command came to, with the files of its store, where these came back.
+/// The end of a command, with the files of its store, where these were returned.
 pub(crate) enum Ended<D: Disk> {
     /// It was run over the files of its store.
     Run(EndedRun<D>),
-    /// These were not opened; with the status comes what is left of them.
+    /// They were not opened; with the status comes what remains of them.
     NotOpened(Status, Option<Leftover<D>>),
     /// It has no files: there are none at its path, and it only reads, or it names no path.
     WithoutFiles(Status),
 }
 
 impl<D: Disk> Ended<D> {
-    /// How it went.
     pub(crate) fn status(&self) -> Status
         ensures { result ≡ status_of self.now }
     {

@@ -1,27 +1,26 @@
-//! How memory that was freed goes back to the system.
+//! The return of freed memory to the system.
 //!
-//! The C library gives the end of its heap back once nothing there is in use (`M_TRIM_THRESHOLD` of
-//! `mallopt`). What it keeps of freed blocks for the next that are asked for counts as in use: of
-//! each size up to 1,032 bytes seven, by its tunables. One of them above the many megabytes that
-//! the check of a store took holds all of these. No contract speaks of it, and nothing but memory
-//! depends on it; `checks.room` looks whether it is so.
+//! The C library returns the end of its heap once nothing there is in use (`M_TRIM_THRESHOLD` of
+//! `mallopt`). Freed blocks that it caches for later requests count as in use: seven of each size
+//! up to 1,032 bytes. One of them above the many megabytes that the check of a store took holds all
+//! of these. No contract speaks of it; `checks.room` measures it.
 
 use std::alloc::{AllocError, Global};
 
-/// How many sizes there are of which blocks are kept: from `LEAST` bytes on, in steps of `STEP`.
+/// The number of sizes of which blocks are cached: from `LEAST` bytes on, in steps of `STEP`.
 const SIZES: usize = 64;
 
 const LEAST: usize = 24;
 
 const STEP: usize = 16;
 
-/// How many blocks of a size are kept, or more than that.
+/// More blocks than are cached of a size.
 const KEPT: usize = 16;
 
-/// A block whose end looks through what is freed, once it goes.
+/// The size of a block whose release has the C library go through its freed blocks.
 const LARGE: usize = 100_000;
 
-/// As many blocks of a size as are kept.
+/// Allocates all cached blocks of a size.
 fn blocks(alloc: Global, size: usize) -> Result<Vec<Vec<u8>>, AllocError> {
     let mut blocks = Vec::new(alloc);
     for _ in 0..KEPT {
@@ -30,7 +29,7 @@ fn blocks(alloc: Global, size: usize) -> Result<Vec<Vec<u8>>, AllocError> {
     Ok(blocks)
 }
 
-/// Takes what is kept of each size, and has others kept in its place.
+/// Takes the cached blocks of each size, and has others cached in their place.
 fn exchange(alloc: Global) -> Result<(), AllocError> {
     for step in 0..SIZES {
         let size = LEAST + STEP * step;
@@ -43,8 +42,8 @@ fn exchange(alloc: Global) -> Result<(), AllocError> {
     Ok(())
 }
 
-/// Gives the end of the heap back, as far as nothing there is in use. Where no memory is left for
-/// that, it stays.
+/// Returns the end of the heap to the system, as far as nothing there is in use. It stays where
+/// memory runs out for that.
 pub(crate) fn give_back(alloc: Global) {
     let _ = exchange(alloc);
 }

@@ -1,14 +1,22 @@
-//! The program `edfstore` over the system: its stores, beside the words, files and streams of
-//! `edf_os`.
+//! Stores by their paths: opened, waited for, and explained to a person; and the program
+//! `edfstore`, which reads and answers by `edf_command`.
 //!
-//! - [`run_program`]: what the program does. What is read, written and answered is `edf_command`'s;
-//!   here the system is handed to it.
-//! - [`run_words`]: the same by words that the caller has.
-//! - [`open_standing`], [`open_when_free`]: the files of a store, opened for a program that keeps
-//!   them open, or not; [`Standing`]: whether its path still stands for them.
-//! - [`Refused`], [`print_cause`], [`print_failure_of`], [`print_lost`]: why a store was not opened
-//!   or
-//!   closed, for a person.
+//! ```rust
+//! /// Copies the log of a store into its database file.
+//! fn settle<F: Output>(rt: &HostRuntime, path: &str, err: &mut F) -> bool {
+//!     let standing = Standing::new(rt, path);
+//!     match open_standing(&standing, Unknown) {
+//!         Ok(conn) => close(conn, Status::Done, err).failure.is_none() && standing.has_stood(),
+//!         Err((_error, _rest)) => false,
+//!     }
+//! }
+//! ```
+//!
+//! - [`run_program`] is the program; [`run_words`] runs it by words that the caller has.
+//! - [`open_when_free`] opens the files of a store; [`open_standing`] opens those that stay open,
+//!   for which a path has a [`Standing`].
+//! - [`print_cause`], [`print_failure_of`] and [`print_lost`] print for a person why a store was
+//!   [`Refused`], what of its disk failed, and that its files were lost.
 #![tactic(auto)]
 
 mod cache;
@@ -34,7 +42,7 @@ pub use same_files::Standing;
 use sqlite::Unknown;
 use std::process::ExitCode;
 
-/// The terminal of a command, which shows a person how far `take` is.
+/// Returns the terminal of a command, which shows a person how far `take` is.
 fn terminal_of<'rt>(rt: &'rt HostRuntime, command: &Order) -> Terminal<'rt> {
     match command {
         Order::Take { store: _, files } => Terminal::new(rt, "file", files.len()),
@@ -44,7 +52,7 @@ fn terminal_of<'rt>(rt: &'rt HostRuntime, command: &Order) -> Terminal<'rt> {
     }
 }
 
-/// What the command asks for, done over the system's files and streams.
+/// Does what the command asks for, over the system's files and streams.
 fn run_command(rt: &HostRuntime, command: &Order) -> Status {
     let terminal = terminal_of(rt, command);
     let Streams { mut out, mut err } = Streams::new(rt, &terminal);
@@ -55,8 +63,7 @@ fn run_command(rt: &HostRuntime, command: &Order) -> Status {
     ended.status()
 }
 
-/// Does what the words after the program's name ask for, and answers the status that the program
-/// ends with: 0 to 3.
+/// Does what the words after the program's name ask for, and returns the exit status, 0 to 3.
 pub fn run_words(rt: &HostRuntime, words: &[String]) -> Status {
     let mut out = Counted::new(rt.stdout());
     let mut err = Counted::new(rt.stderr());
@@ -66,7 +73,7 @@ pub fn run_words(rt: &HostRuntime, words: &[String]) -> Status {
     }
 }
 
-/// Does what the program's words ask for, and answers the status that it ends with: 0 to 3.
+/// Does what the program's words ask for, and returns the exit status, 0 to 3.
 pub fn run_program(rt: &HostRuntime) -> ExitCode {
     let status = match words(rt) {
         Ok(words) => run_words(rt, words.as_slice()),

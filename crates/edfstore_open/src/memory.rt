@@ -15,7 +15,7 @@ use sqlite::Connection;
 use sqlite_trees::memory::MemStore;
 use std::alloc::Global;
 
-/// An empty store.
+/// Opens an empty store in memory.
 ///
 /// # Errors
 /// `Memory` (E41), or `Store` (E42) with its cause.
@@ -29,7 +29,7 @@ pub(crate) fn open_memory(alloc: Global) -> Result<Store<MemStore>, StoreFault>
     }
 }
 
-/// Runs a command that names no path over an empty store in memory; or tells why there is none.
+/// Runs a command that names no path over an empty store in memory; or prints why there is none.
 pub(crate) fn run_in_memory<I: Inputs, O: Output, F: Output>(
     alloc: Global,
     command: &Order,

@@ -1,4 +1,4 @@
-//! How the files of a store are opened: they are waited for where another program has them.
+//! The opening of the files of a store, which waits where another program has them.
 
 ghost use Rattle.std.specs.Prelude.{◌≡◌, true, Ok, IfOk, IfErr, MatchOption};
 ghost use Rattle.sqlite_wal.specs.Recovery.{Image};
@@ -18,9 +18,9 @@ use sqlite::{Connection, Error, ErrorCode, FileFrom, FileStore, Leftover, Start,
 use sqlite_disk::Disk;
 use std::alloc::Global;
 
-/// What stands for what files hold, and can do so again at the next try.
+/// A value that stands for what files hold, and does so again at the next try.
 pub trait Again {
-    /// One that stands for the same.
+    /// Returns one that stands for the same.
     fn again(&self) -> Self;
 }
 
@@ -30,16 +30,15 @@ impl Again for Unknown {
     }
 }
 
-/// Whether memory ran out.
+/// Is true where memory ran out.
 fn lacks_memory(error: &Error) -> bool {
     matches!(error, Error::SqliteFailure(ErrorCode::OutOfMemory))
 }
 
-/// Opens the files of the store at a path with all of their pages in memory, where there is room
-/// and they do not stay open; and once more, as SQLite's port does by itself, where memory ran out
-/// then. What an opening that failed leaves of files keeps what they kept
-/// (`edfstore_files::laws`), and
-/// is let go before.
+/// Opens the files of the store at a path with all of their pages in the cache, where there is
+/// memory for it and they do not stay open; and once more, as SQLite's port does by itself, where
+/// memory ran out then. What remains of the opening that failed is dropped before, and files hold
+/// what they held (`edfstore_files::laws`).
 fn open_with_room<S: Start + Again>(
     rt: &HostRuntime,
     path: &str,
@@ -61,17 +60,16 @@ fn open_with_room<S: Start + Again>(
     }
 }
 
-/// Opens the files of the store at a path, which are made where there are none. Each page of a new
+/// Opens the files of the store at a path, or makes them where there are none. Each page of a new
 /// one ends in SQLite's page sum, and where a file has sums each is compared as it is read. Where
-/// another program has them, this is tried again for two seconds; every other refusal comes at
-/// once, but where memory ran out for all pages of the file: these are kept in memory where there
-/// is room, and the files do not stay open.
+/// another program has them, it tries again for two seconds. Where they do not stay open, the cache
+/// has all of their pages as long as there is memory. Every other refusal comes at once.
 ///
-/// `start` stands for what the files hold, whatever that is. Of the path that is opened, and of
-/// what is done to it before and after, no clause speaks.
+/// `start` stands for what the files hold, whatever that is. No clause speaks of the path that is
+/// opened, or of what is done to it before and after.
 ///
 /// # Errors
-/// As those of [`open_path`].
+/// Those of [`open_path`].
 pub fn open_when_free<S: Start + Again>(
     rt: &HostRuntime,
     path: &str,
@@ -89,7 +87,7 @@ pub fn open_when_free<S: Start + Again>(
     open_with_room(rt, path, stay_open, &start)
 }
 
-/// A connection whose files stay open, without the memory that only their check took.
+/// Returns the connection of files that stay open, without the memory that only their check took.
 fn settled<D: Disk + Drop>(
     alloc: Global,
     conn: Connection<FileStore<D>>,
@@ -103,12 +101,12 @@ fn settled<D: Disk + Drop>(
     kept
 }
 
-/// The same for a program that keeps them open: what the path stands for is kept then, and no
-/// memory that only the check of the files took.
+/// Opens the files of a store that stay open. `standing` notes what its path then stands for, and
+/// the memory that only the check of the files took is released.
 ///
 /// # Errors
-/// As those of `open_when_free`. Nothing is left where the path does not stand for the files that
-/// were opened, or memory ran out once they were: they are let go as they are.
+/// Those of `open_when_free`. Nothing remains where the path does not stand for the files that were
+/// opened, or memory ran out once they were: they are released as they are.
 pub fn open_standing<S: Start + Again>(
     standing: &Standing<'_>,
     start: S,
@@ -131,7 +129,7 @@ pub fn open_standing<S: Start + Again>(
     }
 }
 
-/// Whether the command makes no store where its path names no file.
+/// Is true where the command makes no store, if its path names no file.
 fn only_reads(command: &Order) -> bool
     ensures { result ≡ true → OnlyReads (meaning command.now) }
 {

@@ -1,12 +1,12 @@
-//! What there is at the path of a store, before it is opened.
+//! The path of a store, before it is opened.
 
 use std::fs;
 use std::io::{self, ErrorKind};
 
-/// What there is at a path.
+/// A kind of what there is at a path.
 #[derive(Clone, Copy, PartialEq, Eq)]
 pub(crate) enum AtPath {
-    /// Something, or the system does not say: its opening tells.
+    /// Something, or the system does not say: its opening shows it.
     Something,
     /// Nothing, in a folder that is there: a new store may be made.
     Nothing,
@@ -18,12 +18,12 @@ pub(crate) enum AtPath {
     NoFolder,
 }
 
-/// Whether SQLite reads the path as more than a file's name, and refuses it.
+/// Is true where SQLite reads the path as more than a file's name, and refuses it.
 pub(crate) fn is_address(path: &str) -> bool {
     path.starts_with("file:")
 }
 
-/// Whether the system says that there is nothing.
+/// Is true where the system says that there is nothing.
 fn is_nothing<T: Drop>(found: io::Result<T>) -> bool {
     match found {
         Ok(_) => false,
@@ -31,7 +31,7 @@ fn is_nothing<T: Drop>(found: io::Result<T>) -> bool {
     }
 }
 
-/// The folder of a path that does not end with a slash.
+/// Returns the folder of a path that does not end with a slash.
 fn folder_of(path: &str) -> &str {
     match path.rsplit_once('/') {
         Some(("", _)) => "/",
@@ -40,7 +40,7 @@ fn folder_of(path: &str) -> &str {
     }
 }
 
-/// What there is at a path.
+/// Returns what there is at a path.
 pub(crate) fn look_at(rt: &HostRuntime, path: &str) -> AtPath {
     if is_address(path) || !is_nothing(fs::metadata(rt, path)) {
         AtPath::Something
@@ -55,8 +55,8 @@ pub(crate) fn look_at(rt: &HostRuntime, path: &str) -> AtPath {
     }
 }
 
-/// Why no store is found or made at a path, and what to do, for a person; `None` where its opening
-/// tells.
+/// Returns why there is no store at a path and none is made, and what to do, for a person; `None`
+/// where its opening shows it.
 pub(crate) fn why_none(found: AtPath) -> Option<&'static str> {
     match found {
         AtPath::Something | AtPath::Nothing => None,

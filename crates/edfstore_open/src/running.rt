@@ -23,7 +23,7 @@ use sqlite::{Connection, Error, FileFrom, FileStore, Leftover, Start};
 use sqlite_disk::Disk;
 use std::alloc::Global;
 
-/// What a command that makes no store answers where there is none: what an empty one has.
+/// Answers a command that makes no store, where there is none, as over an empty one.
 fn find_nothing<F: Output>(command: &Order, err: &mut F) -> Status
     requires reads { OnlyReads (meaning command.now) }
     ensures { FindsNothing (meaning command.now) (output_change F.Output err.old err.new) result }
@@ -71,12 +71,12 @@ fn run_on_file<S: Start, I: Inputs, O: Output, F: Output, W: Watch>(
 }
 
 /// Runs a command over the file of the store that it names. Where there is no such file, `take`
-/// makes it, and the others find nothing and leave none; for a person it prints which of these it
-/// was, and why a store is refused. A store that another program has is waited for, two seconds at
-/// most.
+/// makes it, and the others find nothing and make none; for a person it prints which of these it
+/// was, and why a store is refused. It waits two seconds at most for a store that another program
+/// has.
 ///
-/// `start` stands for what the files hold, whatever that is. Of the path that is opened, and of
-/// what the system does with it, no clause speaks: these lines are to be read.
+/// `start` stands for what the files hold, whatever that is. No clause speaks of the path that is
+/// opened, or of what the system does with it: these lines are to be read.
 fn run_at_path<'x, S: Start + Again, I: Inputs, O: Output, F: Output>(
     rt: &HostRuntime,
     terminal: &'x Terminal<'x>,

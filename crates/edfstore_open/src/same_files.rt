@@ -1,4 +1,4 @@
-//! Whether the path of a store still stands for the files that a session has of it.
+//! The path of a store, and the files that a session has open of it.
 
 ghost use Rattle.std.specs.Prelude.{◌≡◌, ◌⊎◌, IfErr};
 
@@ -12,14 +12,14 @@ const CANNOT_OPEN: Error = Error::SqliteFailure(ErrorCode::CannotOpen);
 
 const NO_MEMORY: Error = Error::SqliteFailure(ErrorCode::OutOfMemory);
 
-/// A file or a folder, by which the system tells it from every other.
+/// The numbers by which the system distinguishes a file or a folder from every other.
 #[derive(Clone, Copy, PartialEq, Eq)]
 pub(crate) struct Node {
     device: u64,
     number: u64,
 }
 
-/// What the system tells a file or a folder by.
+/// Returns the numbers of a file or a folder.
 fn node_of(found: &Metadata) -> Node {
     Node {
         device: found.dev(),
@@ -34,7 +34,7 @@ struct Found {
     bytes: u64,
 }
 
-/// A regular file that has bytes and a name, where the system says that it is there.
+/// Returns a regular file that has bytes and a name, where the system says that it is there.
 fn regular(found: io::Result<Metadata>) -> Option<Found> {
     let found = found.ok()?;
     if !found.is_file() || found.nlink() == 0 || found.len() == 0 {
@@ -46,7 +46,7 @@ fn regular(found: io::Result<Metadata>) -> Option<Found> {
     })
 }
 
-/// Where a path leads: itself, where it is no link.
+/// Returns the path that a path leads to: itself, where it is no link.
 fn end_of(rt: &HostRuntime, path: &str) -> io::Result<String> {
     if fs::symlink_metadata(rt, path)?.is_symlink() {
         let end = fs::canonicalize(rt, path)?;
@@ -62,13 +62,13 @@ struct Held {
     log_path: String,
     db: Node,
     log: Node,
-    /// How many bytes the log had at most. It gets no shorter while the store is open: it is cut as
-    /// the store is opened and as it is closed, and else written from its front on.
+    /// The most bytes that the log had. It gets no shorter while the store is open: it is cut as
+    /// the store is opened and as it is closed, and else written from its start on.
     log_bytes: u64,
 }
 
 impl Held {
-    /// Those of the store at a path, where they are there.
+    /// Returns the files of the store at a path, where they are there.
     ///
     /// # Errors
     /// Where its path leads nowhere, or there is no memory for it.
@@ -89,7 +89,7 @@ impl Held {
         }))
     }
 
-    /// Whether a path still stands for them, and nothing is cut off the log.
+    /// Is true where a path still stands for them, and nothing is cut off the log.
     fn stand(&mut self, rt: &HostRuntime, path: &str) -> bool {
         let Some(db) = regular(fs::metadata(rt, path)) else {
             return false;
@@ -106,10 +106,11 @@ impl Held {
     }
 }
 
-/// Whether the path of a store stands for the files that are open.
+/// The path of a store, with the files that are open of it.
 ///
-/// It is asked before and after each file that is taken: what was cut off the log before a file
-/// came is seen, although the log grows again by that file. What was once found lost stays so.
+/// A session asks before and after each file that it takes whether the path stands for them: so it
+/// sees what was cut off the log before a file came, although the log grows again by that file.
+/// Files that were once lost stay so.
 #[derive(Drop)]
 pub struct Standing<'p> {
     rt: &'p HostRuntime,
@@ -119,7 +120,7 @@ pub struct Standing<'p> {
 }
 
 impl<'p> Standing<'p> {
-    /// That of the store at a path, which is not open yet.
+    /// Returns the standing of the store at a path, which is not open yet.
     pub fn new(rt: &'p HostRuntime, path: &'p str) -> Standing<'p> {
         Standing {
             rt,
@@ -129,27 +130,25 @@ impl<'p> Standing<'p> {
         }
     }
 
-    /// The path.
     pub fn path(&self) -> &'p str {
         self.path
     }
 
-    /// What the system is asked by.
     pub(crate) fn rt(&self) -> &'p HostRuntime {
         self.rt
     }
 
-    /// The database file of the path, if it has one.
+    /// Returns the database file of the path, if it has one.
     pub(crate) fn db(&self) -> Option<Node> {
         let found = regular(fs::metadata(self.rt, self.path))?;
         Some(found.node)
     }
 
-    /// Keeps what the path stands for now, when the store is open; this was its database file
-    /// before, if it had one.
+    /// Notes what the path stands for once the store is open; `before` was its database file, if it
+    /// had one.
     ///
     /// # Errors
-    /// `CannotOpen` where it is another now or not there, `OutOfMemory` where its path has no room.
+    /// `CannotOpen` where it is another now or not there, `OutOfMemory` where memory ran out.
     pub(crate) fn keep(&self, before: Option<Node>) -> Result<(), Error>
         ensures { IfErr result (λ e. (e ≡ Error.SqliteFailure ErrorCode.CannotOpen)
             ⊎ (e ≡ Error.SqliteFailure ErrorCode.OutOfMemory)) }
@@ -176,7 +175,7 @@ impl<'p> Standing<'p> {
         }
     }
 
-    /// Whether the path stands for the files that are open, and did so whenever this was asked.
+    /// Is true where the path stands for the files that are open, and did so at every call before.
     pub fn stands(&self) -> bool {
         let stands = match self.held.try_borrow_mut() {
             Ok(mut held) => match held.as_mut() {
@@ -191,8 +190,8 @@ impl<'p> Standing<'p> {
         !self.is_lost.get()
     }
 
-    /// Whether the path stands for the database file that was open, and nothing was ever found
-    /// lost: for after the files were closed, which cuts their log.
+    /// Is true where the path stands for the database file that was open, and the files were never
+    /// lost. It is for after they were closed, which cuts their log.
     pub fn has_stood(&self) -> bool {
         let db = self.db();
         let is_same = match self.held.try_borrow() {
@@ -208,7 +207,7 @@ impl<'p> Standing<'p> {
         !self.is_lost.get()
     }
 
-    /// Whether it was ever found that the path does not stand for the files.
+    /// Is true where a call before noticed that the path does not stand for the files.
     pub fn is_lost(&self) -> bool {
         self.is_lost.get()
     }

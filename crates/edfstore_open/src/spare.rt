@@ -1,4 +1,4 @@
-//! What a connection keeps for its next statement.
+//! The rows that a connection has for its next statement.
 
 ghost use Rattle.std.specs.Prelude.{◌≡◌, true, Ok, IfOk, IfErr};
 ghost use Rattle.sqlite_wal.specs.Recovery.{Image};
@@ -11,14 +11,14 @@ const CANNOT_OPEN: Error = Error::SqliteFailure(ErrorCode::CannotOpen);
 
 const NO_MEMORY: Error = Error::SqliteFailure(ErrorCode::OutOfMemory);
 
-/// Whether a statement was interrupted.
+/// Is true where a statement was interrupted.
 fn is_interrupted(error: &Error) -> bool
     ensures { result ≡ true → error.now ≡ Error.SqliteFailure ErrorCode.OperationInterrupted }
 {
     matches!(error, Error::SqliteFailure(ErrorCode::OperationInterrupted))
 }
 
-/// Why files are not opened over which a statement fails so.
+/// Returns why files are not opened, if a statement over them fails so.
 fn reason(error: Error) -> Error
     ensures { IsOfNoFiles result }
 {
@@ -28,12 +28,12 @@ fn reason(error: Error) -> Error
     }
 }
 
-/// A connection as it was opened, without the rows that the check of its file left it for the next
-/// statement. One of them may have grown while the check held all rows of a table: it lies above
-/// these, and the C library gives none of them back while it is there.
+/// Returns a connection as it was opened, without the rows of its file's check, which are for the
+/// next statement. One of them may have grown while the check had all rows of a table: it lies
+/// above these, and the C library returns none of them to the system while it is there.
 ///
-/// A statement that is interrupted at its first row takes them with it, and changes nothing. One
-/// over a file without tables meets no row, and there the check left none.
+/// A statement that is interrupted at its first row drops them, and changes nothing. One over a
+/// file without tables meets no row, and there the check made none.
 ///
 /// # Errors
 /// Where the statement did not end so: memory ran out, or it says nothing of the files.
