@@ -350,8 +350,7 @@ module _ (cap : ℕ) (trees : Trees) where
 
 -- rows are kept, or foreign
 pub committed_or_foreign : (cap : ℕ) (trees : Trees) →
-    ((h : Holdings) × RepresentCommitted cap trees h)
-    ⊎ IsForeign cap trees
+    ((h : Holdings) × RepresentCommitted cap trees h) ⊎ IsForeign cap trees
 committed_or_foreign cap trees =
     let rows = recordings_in trees in
     elim (has_or cap trees rows (λ r c. c)) [

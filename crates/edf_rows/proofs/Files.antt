@@ -49,8 +49,7 @@ were_foreign cap old new (from_both both same) foreign =
 
 -- a recording that is kept has a record
 recorded : (cap : ℕ) (trees : Trees) (h : Holdings) → RepresentCommitted cap trees h →
-    trees 2 ≡ [] →
-    trees 0 ≡ []
+    trees 2 ≡ [] → trees 0 ≡ []
 recorded cap trees h kept none = go (trees 0) refl
   where
     go : (rows : List Row) → trees 0 ≡ rows → rows ≡ []

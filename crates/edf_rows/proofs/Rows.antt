@@ -253,8 +253,7 @@ not-late k (x ∷ xs) begins (start, is, late) =
 
 pub not-bad-records : (cap : ℕ) (k : Key) (xs : List DataRecord) →
     AllByRecursion (IsSoundRecord k) xs → StartsAreSpaced (duration_of k.duration) 0 xs →
-    MayBegin k xs →
-    length xs ≤ cap → map record_cells xs ≢ []
+    MayBegin k xs → length xs ≤ cap → map record_cells xs ≢ []
     → ¬ AreBadRecords cap k (map record_cells xs)
 not-bad-records cap k xs sound apart begins few some (bad_row row c bad) =
     let it = mapped record_cells (IsSoundRecord k) xs row sound c in

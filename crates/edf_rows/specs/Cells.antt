@@ -1,4 +1,4 @@
--- The cells of a data record and of a recording, and where they are in the rows of the two tables.
+-- Data records and recordings have these cells in the rows of the two tables.
 use Rattle.std.specs.Prelude.{ℤ, pos, List, [], ◌∷◌, map, filter}
 use Rattle.sqlite_value.specs.declared.value.Value.TheVariants.{Int, Blob}
 use Rattle.sqlite_value.specs.Order.{Row}
@@ -10,21 +10,20 @@ use Rattle.edf_header.specs.Key.{Key, key_bytes}
 use Rattle.edf_tal.specs.Canonical.{block_text}
 use Rattle.edf_fragment.specs.Fragment.{DataRecord}
 
--- a data record: its start, its samples, and its block without fill, whose onsets count from
--- 1985-01-01 00:00:00
+-- a data record has a start, samples and a block without fill, with onsets from 1985-01-01 00:00:00
 abbrev pub record_cells : DataRecord → Row
 record_cells r = Int (pos r.start) ∷ Blob r.samples ∷ Blob (block_text 0 r.start r.annotations) ∷ []
 
--- a recording: its id and the bytes of its key
+-- a recording has an id and the bytes of its key
 abbrev pub recording_cells : ℤ → Key → Row
 recording_cells id k = Int id ∷ Blob (key_bytes k) ∷ []
 
--- the ids and identities of all recordings
+-- lists the ids and identities of all recordings
 abbrev pub recordings_in : Trees → List Row
 recordings_in trees = map (λ row. stored_id row ∷ stored_identity row ∷ [])
     (stored_recordings trees)
 
--- starts, samples and blocks of the recording with this id, by rising starts
+-- lists starts, samples and blocks of the recording with this id, by rising starts
 abbrev pub records_in : Trees → ℤ → List Row
 records_in trees id =
     map (λ row. stored_start row ∷ stored_samples row ∷ stored_block row ∷ [])

@@ -1,4 +1,4 @@
--- The rows that no submissions leave.
+-- Rows are foreign where submissions can't make them.
 use Rattle.std.specs.Prelude.{◌≡◌, ℕ, ◌+◌, ◌*◌, ◌≤◌, ◌<◌, ℤ, pos, ◌⊎◌, List, [], ◌∷◌, length}
 use Rattle.std.specs.Prelude.{Contains, IsTrue}
 use Rattle.sqlite_value.specs.declared.value.Value.TheVariants.{Int, Blob}
@@ -21,13 +21,12 @@ use Rattle.edf_rows.specs.Rows.{HasRecordingRow, IsRecordingRow, AreTwoOf}
 abbrev pub IsStart : Row → ℕ → Type 0
 IsStart row start = (the_start row ≡ Int (pos start)) × (start < window)
 
--- the cell is the number of sample bytes that the key says
+-- the cell has as many sample bytes as the key says
 abbrev pub AreSamples : Key → Row → Type 0
 AreSamples k row = (samples : List ℕ) × (the_samples row ≡ Blob samples)
     × (length samples ≡ 2 * samples_in_all k.signals)
 
--- the cell is the block that is written for what is read of it, and the start that is read is the
--- row's
+-- the cell is the block that is written for what it parses to, with the start of the row
 pub record IsCanonicalBlock (row : Row) : Type 0 where
   pub block : List ℕ
   pub start : ℕ
@@ -37,7 +36,7 @@ pub record IsCanonicalBlock (row : Row) : Type 0 where
   pub written : block ≡ block_text 0 start list
   pub starts : the_start row ≡ Int (pos start)
 
--- why a row is no data record of the key: its start, its samples or its block
+-- the row's start, samples or block are not those of a data record of the key
 pub data IsBadRow (k : Key) (row : Row) : Type 0 where
   bad_start : ((start : ℕ) → ¬ IsStart row start) → IsBadRow k row
   bad_samples : ¬ AreSamples k row → IsBadRow k row
@@ -55,14 +54,14 @@ pub record AreTooNear (rows : List Row) (duration : ℕ) : Type 0 where
   pub order : first ≤ second
   pub near : second < first + duration
 
--- of the rows, which come by rising starts, the first starts where the key's recording may not:
+-- the first of the rows, which come by rising starts, starts when the key's recording may not:
 -- after 2084 without a date
 abbrev pub BeginsTooLate : Key → List Row → Type 0
 BeginsTooLate k [] = ⊥
 BeginsTooLate k (row ∷ rows) = (start : ℕ) × (the_start row ≡ Int (pos start)) × ¬ MayStart k start
 
--- a recording's records: one is bad, two are too near, they begin too late, there is none, or there
--- are more than the cap
+-- of a recording's records one is bad, two are too near, the first is too late, there is none, or
+-- there are more than the cap
 pub data AreBadRecords (cap : ℕ) (k : Key) (rows : List Row) : Type 0 where
   bad_row : (row : Row) → Contains rows row → IsBadRow k row → AreBadRecords cap k rows
   too_near : AreTooNear rows (duration_of k.duration) → AreBadRecords cap k rows
@@ -70,9 +69,9 @@ pub data AreBadRecords (cap : ℕ) (k : Key) (rows : List Row) : Type 0 where
   too_few : rows ≡ [] → AreBadRecords cap k rows
   too_many : cap < length rows → AreBadRecords cap k rows
 
--- why the rows are not those that submissions leave under the cap: a row is no recording; a
--- recording's records are bad; a record's recording is not there; or, which the tables themselves
--- exclude, an id or an identity occurs twice
+-- submissions under the cap can't make the rows: a row is no recording; a recording's records are
+-- bad; a record's recording is missing; or, which the tables themselves exclude, an id or an
+-- identity occurs twice
 pub data IsForeign (cap : ℕ) (trees : Trees) : Type 0 where
   bad_recording : (row : Row) → Contains (recordings_in trees) row → ¬ IsRecordingRow row →
       IsForeign cap trees

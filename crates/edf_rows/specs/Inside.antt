@@ -1,4 +1,4 @@
--- Words of private contracts, which no public contract cites.
+-- Private contracts alone cite these definitions.
 pub mod Shape
 pub mod All
 pub mod Records

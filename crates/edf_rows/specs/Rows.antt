@@ -1,4 +1,4 @@
--- Which holdings the rows of the two tables stand for.
+-- The rows of the two tables represent holdings.
 use Rattle.std.specs.Prelude.{◌≡◌, ◌≢◌, ℕ, ℤ, List, [], ◌∷◌, map, All, Contains, IsTrue}
 use Rattle.std.specs.Prelude.{IsPermutation}
 use Rattle.sqlite_value.specs.Order.{Row}
@@ -12,7 +12,7 @@ use Rattle.edf_tables.specs.Columns.{the_id, the_identity, stored_records, is_of
 use Rattle.edf_fragment.specs.Fragment.{DataRecord, IsWithinSize}
 use Rattle.edf_fragment.specs.Sound.{IsSoundRecord}
 
--- the key's recording is there, under this id
+-- the key's recording has a row with this id
 pub record HasRecordingRow (trees : Trees) (id : ℤ) (k : Key) : Type 0 where
   pub row : Contains (recordings_in trees) (recording_cells id k)
   pub key : IsKey k
@@ -35,15 +35,14 @@ pub record BelongsToRecording (trees : Trees) (row : Row) : Type 0 where
 abbrev pub AreTwoOf : List Row → Row → Row → Type 0
 AreTwoOf rows a b = (rest : List Row) × IsPermutation rows (a ∷ b ∷ rest)
 
--- they have neither one id nor one identity
+-- the rows have different ids and different identities
 pub record DifferInIdAndKey (a b : Row) : Type 0 where
   pub id : the_id a ≢ the_id b
   pub identity : the_identity a ≢ the_identity b
 
--- the rows stand for these holdings: each row of a recording is an id and the bytes of a key, no id
--- and no key occurs twice, each record belongs to a recording, and a recording's records by rising
--- starts are what its key holds. A key without a recording holds nothing; a recording without a
--- record is possible inside a transaction
+-- each row of a recording is an id and the bytes of a key, and no id and no key occurs twice; each
+-- record belongs to a recording, and a recording's records by rising starts are what its key has; a
+-- key without a recording has none, and a recording may have none inside a transaction
 pub record Represent (trees : Trees) (h : Holdings) : Type 0 where
   pub recordings : All IsRecordingRow (recordings_in trees)
   pub apart : (a b : Row) → AreTwoOf (recordings_in trees) a b → DifferInIdAndKey a b
@@ -52,25 +51,24 @@ pub record Represent (trees : Trees) (h : Holdings) : Type 0 where
       records_in trees id ≡ map record_cells (h k)
   pub others : (k : Key) → ((id : ℤ) → ¬ HasRecordingRow trees id k) → h k ≡ []
 
--- the rows that are kept: they stand for sound holdings, and each recording has a record
+-- committed rows represent sound holdings, and each recording has a record
 pub record RepresentCommitted (cap : ℕ) (trees : Trees) (h : Holdings) : Type 0 where
   pub stand : Represent trees h
   pub sound : IsSound cap h
   pub each : (id : ℤ) (k : Key) → HasRecordingRow trees id k → records_in trees id ≢ []
 
--- the row is this data record's, which is a sound one of the key
+-- the row has the cells of this data record, which is a sound one of the key
 pub record IsRowOf (k : Key) (r : DataRecord) (row : Row) : Type 0 where
   pub cells : row ≡ record_cells r
   pub sound : IsSoundRecord k r
 
--- the data record that samples and a block give: it has these samples, the start and the
--- annotations that are read of the block, and the size of a data record. Another spelling of the
--- block that is written for it gives the same
+-- the data record has these samples, the start and the annotations that the block parses to, and a
+-- data record's size; the block needn't be the one that is written for it
 pub record IsRecordFrom (samples block : List ℕ) (r : DataRecord) : Type 0 where
   pub samples_are : r.samples ≡ samples
   pub read : BlockParsesTo block 0 Any r.start r.annotations
   pub size : IsWithinSize r
 
--- samples and a block give no data record
+-- no data record has these samples and this block
 abbrev pub IsNoRecord : List ℕ → List ℕ → Type 0
 IsNoRecord samples block = (r : DataRecord) → ¬ IsRecordFrom samples block r

@@ -1,4 +1,4 @@
-//! All rows of both tables.
+//! All rows of both tables are checked.
 
 ghost use Rattle.std.specs.Prelude.{◌<◌, IfOk, IfSome, MatchOption, IsPermutation, IsSorted};
 ghost use Rattle.std.specs.Prelude.{IsTrue};
@@ -16,7 +16,7 @@ use sqlite::types::ValueRef;
 use sqlite::{Alter, Connection, Error, ErrorCode, Row};
 use std::alloc::Global;
 
-/// The id of a row, if it comes after the last one.
+/// Returns the id of a row, if it comes after the last one.
 fn next_id(row: &Row, last: Option<i64>) -> Option<i64>
     ensures { MatchOption result (IsNotAfter last row.now) (IsAfter last row.now) }
 {
@@ -33,12 +33,12 @@ fn next_id(row: &Row, last: Option<i64>) -> Option<i64>
     }
 }
 
-/// How many records the recordings have, or `None` where the rows are foreign, as where an id
-/// occurs twice.
+/// Counts the records of the recordings; `None` where the rows are foreign, as where an id occurs
+/// twice.
 ///
 /// # Errors
 /// `sqlite`'s; `OutOfMemory` where memory runs out; `IntegerOverflow` where the recordings have
-/// [`MOST_COUNTED`] records or more, since a count of all rows does not tell these numbers apart.
+/// [`MOST_COUNTED`] records or more, since no count of all rows is above it.
 fn count_owned<S: Alter>(
     alloc: Global,
     conn: &mut Connection<S>,
@@ -72,11 +72,10 @@ fn count_owned<S: Alter>(
     Ok(Some(sum))
 }
 
-/// Whether the rows are those of submissions under the cap.
+/// Is true where submissions under the cap can make the rows.
 ///
 /// # Errors
-/// `sqlite`'s; `OutOfMemory` where memory runs out; `IntegerOverflow` where the recordings have
-/// [`MOST_COUNTED`] records or more.
+/// Those of `count_owned`.
 pub(crate) fn check_all<S: Alter>(
     alloc: Global,
     conn: &mut Connection<S>,

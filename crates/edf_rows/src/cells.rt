@@ -1,4 +1,4 @@
-//! The cells of one row.
+//! The cells of one row are read and written.
 
 ghost use Rattle.std.specs.Prelude.{◌≡◌, ◌↔◌, ◌∷◌, [], ℤ, Some, None, List, pos, IfOk, MatchOption};
 ghost use Rattle.sqlite_value.specs.declared.value.Value.TheVariants.{Int, Blob};
@@ -18,7 +18,7 @@ use edf_tal::{Note, Place, TalFault, read_block, write_block};
 use edf_time::Instant;
 use std::alloc::{AllocError, Global};
 
-/// 1985-01-01 00:00:00, from which the onsets of a stored block count.
+/// Returns 1985-01-01 00:00:00, from which the onsets of a stored block count.
 fn base() -> Instant
     ensures { result ≡ 0 }
 {
@@ -28,7 +28,7 @@ fn base() -> Instant
     }
 }
 
-/// The start and the annotations of a stored block; `None` where it is no block.
+/// Reads the start and the annotations of a stored block; `None` where it is no block.
 fn read_cell(alloc: Global, block: &[u8]) -> Result<Option<(Instant, Vec<Note>)>, AllocError>
     ensures { IfOk result (λ o. MatchOption o
         (IsNoBlock block.now)
@@ -46,7 +46,7 @@ fn read_cell(alloc: Global, block: &[u8]) -> Result<Option<(Instant, Vec<Note>)>
     }
 }
 
-/// The start of a block, if the block is the one that is written for what is read of it.
+/// Returns the start of a block, if it is the one that is written for what it parses to.
 fn own_start(alloc: Global, block: &[u8]) -> Result<Option<Instant>, AllocError>
     ensures { IfOk result (λ o. MatchOption o
         (NoOwnBlock block.now)
@@ -63,16 +63,16 @@ fn own_start(alloc: Global, block: &[u8]) -> Result<Option<Instant>, AllocError>
     }
 }
 
-/// The cell of a start: nanoseconds from 1985-01-01 00:00:00.
+/// Returns the cell of a start: nanoseconds from 1985-01-01 00:00:00.
 pub fn start_of(start: Instant) -> i64
     ensures { result ≡ pos start }
 {
     start.nanos() as i64
 }
 
-/// The start of a row, if its cells are those of a data record of the identity; `None` where the
-/// start is outside the window, the samples are more or fewer than the identity says, or the block
-/// is not the one that is written for this start and the annotations that are read of it.
+/// Returns the start of a row, if its cells are those of a data record of the identity; `None` if
+/// the start is outside the window, the samples are more or fewer than the identity says, or the
+/// block is not the one that is written for this start and the annotations that it parses to.
 ///
 /// # Errors
 /// `AllocError` where memory runs out, which says nothing of the row.
@@ -101,11 +101,9 @@ pub fn check_row(
     }
 }
 
-/// The data record that the samples and the block of a row give; `None` where they give none: the
-/// block is refused, or there are more sample bytes than a data record may have.
-///
-/// Of a row that `check_row` accepts it is the row's data record. The block is not written again
-/// and compared, so another spelling of it gives the same data record.
+/// Returns the data record of a row's samples and block; `None` if the block is refused, or there
+/// are more sample bytes than a data record may have. For a row that `check_row` accepts it is the
+/// row's. The block is not written again and compared, so it needn't be canonical.
 ///
 /// # Errors
 /// `AllocError` where memory runs out, which says nothing of the row.
@@ -126,8 +124,7 @@ pub fn record_from(
     Ok(Record::new(start, samples, notes))
 }
 
-/// The cell of a data record's annotations: the block that is written for them with 1985-01-01
-/// 00:00:00 for a base.
+/// Writes the cell of a data record's annotations: a block with onsets from 1985-01-01 00:00:00.
 ///
 /// # Errors
 /// `AllocError` where memory runs out.

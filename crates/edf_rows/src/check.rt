@@ -1,4 +1,4 @@
-//! One row of the table of recordings, and its records.
+//! One row of the table of recordings is checked, with its records.
 
 ghost use Rattle.std.specs.Prelude.{◌≡◌, IfErr};
 ghost use Rattle.edf_rows.specs.Inside.Checked.{OnlyChecks, ChecksRow, first_two};
@@ -11,8 +11,7 @@ use sqlite::types::ValueRef;
 use sqlite::{Alter, Connection, Error, ErrorCode, Row};
 use std::alloc::Global;
 
-/// How many records a row's recording has, or `None` where the row is no recording, or its records
-/// are bad.
+/// Counts the records of a row's recording; `None` where it is none, or they are bad.
 ///
 /// # Errors
 /// `sqlite`'s; `OutOfMemory` where memory runs out, and no other where the row is no recording.

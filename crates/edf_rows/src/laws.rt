@@ -1,6 +1,6 @@
-//! Laws of the rows: the contract of each function is a law, and the function does nothing.
+//! Rows have these laws: the contract of each function is a law, and its body is empty.
 
-ghost use Rattle.std.specs.Prelude.{◌≡◌, ℕ};
+ghost use Rattle.std.specs.Prelude.{◌≡◌, ◌⊎◌, ℕ};
 ghost use Rattle.sqlite_trees.specs.Tree.{Trees};
 ghost use Rattle.edf_header.specs.Key.{Key};
 ghost use Rattle.edf_fragment.specs.Fragment.{DataRecord};
@@ -9,9 +9,8 @@ ghost use Rattle.edf_holdings.specs.Holdings.{Holdings, IsSound};
 ghost use Rattle.edf_rows.specs.Cells.{record_cells};
 ghost use Rattle.edf_rows.specs.Rows.{Represent, RepresentCommitted};
 ghost use Rattle.edf_rows.specs.Foreign.{IsBadRow, IsForeign};
-ghost use Rattle.std.specs.Prelude.{◌⊎◌};
 
-/// Two sound holdings that the same rows stand for are equal.
+/// Sound holdings that the same rows represent are equal.
 pub fn one_holdings()
     ensures { (trees : Trees) (h i : Holdings) (c d : ℕ) → Represent trees h → IsSound c h →
         Represent trees i → IsSound d i → h ≡ i }
@@ -24,14 +23,14 @@ pub fn one_record()
     ensures good { (k : Key) (r : DataRecord) → IsSoundRecord k r → ¬ IsBadRow k (record_cells r) }
 {}
 
-/// Rows that stand for sound holdings, each recording with a record, are not foreign.
+/// Rows that represent sound holdings, each recording with a record, are not foreign.
 pub fn committed_is_not_foreign()
     ensures { (cap : ℕ) (trees : Trees) (h : Holdings) → RepresentCommitted cap trees h →
         ¬ IsForeign cap trees }
 {}
 
-/// Any rows stand for sound holdings under the cap, each recording with a record, or they are
-/// foreign. That they are never both is the law `committed_is_not_foreign` of `edf_rows`.
+/// Any rows represent sound holdings under the cap, each recording with a record, or are foreign;
+/// by the law `committed_is_not_foreign` they are never both.
 pub fn committed_or_foreign()
     ensures { (cap : ℕ) (trees : Trees) →
         ((h : Holdings) × RepresentCommitted cap trees h) ⊎ IsForeign cap trees }

@@ -1,4 +1,4 @@
-//! The check of a file as a store is opened.
+//! A file is checked as a store is opened.
 
 ghost use Rattle.std.specs.Prelude.{◌≡◌, Ok, false, IsTrue};
 ghost use Rattle.sqlite.specs.Held.{state};
@@ -13,8 +13,8 @@ use edf_tables::{create_tables, is_ours};
 use sqlite::{Alter, Connection, Error, ErrorCode};
 use std::alloc::Global;
 
-/// Makes those of our tables that are missing, and tells whether their rows are those of
-/// submissions under the cap. What another tool put after both tables stays.
+/// Makes those of our tables that are missing; returns true where submissions under the cap can
+/// make their rows. What another tool put after both tables stays.
 ///
 /// # Errors
 /// Those of [`audit`].
@@ -39,21 +39,18 @@ fn audit_tables<S: Alter>(alloc: Global, conn: &mut Connection<S>, cap: u32) -> 
     check_all(alloc, conn, cap)
 }
 
-/// Whether a file is one that submissions under the cap leave. Where its tables are ours, those of
-/// the two that are missing are made.
+/// Returns true where submissions under the cap can make the file. Where its tables are ours, those
+/// of the two that are missing are made.
 ///
-/// The tables are ours in a file that has nothing, the first table alone, or both tables first and
-/// in their order. After both there may be anything that is not on them: it stays as it is, and the
-/// trees of its rows are its own. An index or a trigger on one of the two makes a file another's.
-/// The answer is `false` for a file of other tables, which stays as it is, and for rows that no
-/// submissions leave. Whatever is answered, the committed rows stay, and what is shown stays or an
-/// open transaction is undone: clause `stays`.
+/// The tables are ours in an empty file, and in one with the first table alone or with both first
+/// and in their order. After both there may be anything that is not on them: it stays as it is. An
+/// index or a trigger on one of the two makes a file another's, which stays as it is. Whatever is
+/// returned, committed rows stay, and what is shown stays or a transaction is rolled back.
 ///
 /// # Errors
-/// `sqlite`'s; the committed rows stay, an open transaction may be undone, and tables may have been
-/// made. Of its own, in `sqlite`'s words: `OutOfMemory` where memory runs out; `TransactionState`
-/// where a transaction is open; `IntegerOverflow` where the recordings have `MOST_COUNTED` of
-/// `edf_tables` records or more. A crash leaves no table, the first, or both.
+/// `sqlite`'s; `OutOfMemory` where memory runs out; `TransactionState` where a transaction is open;
+/// `IntegerOverflow` where the recordings have `MOST_COUNTED` of `edf_tables` records or more.
+/// Tables may have been made. After a crash no table, the first, or both are made.
 pub fn audit<S: Alter>(alloc: Global, conn: &mut Connection<S>, cap: u32) -> Result<bool, Error>
     ensures other { ¬ IsOurs (state S.Store conn.old).now →
         (result ≡ Ok false) × (conn.new ≡ conn.old) }

@@ -1,4 +1,4 @@
-//! The records of one recording, each row read once.
+//! The records of one recording are checked; each row is read once.
 
 ghost use Rattle.std.specs.Prelude.{◌<◌, IfOk, IfErr, MatchOption};
 ghost use Rattle.edf_field.specs.Number.{duration_of};
@@ -16,10 +16,7 @@ use sqlite::types::ValueRef;
 use sqlite::{Alter, Connection, Error, ErrorCode, Row, params};
 use std::alloc::{AllocError, Global};
 
-/// The start of a row, if it is a data record of the identity.
-///
-/// # Errors
-/// `AllocError` where memory runs out.
+/// Returns the start of a row, if it is a data record of the identity.
 fn start_in(alloc: Global, identity: &Identity, row: &Row) -> Result<Option<Instant>, AllocError>
     ensures { IfOk result (λ o.
         MatchOption o (IsBadRow identity.now row.now) (IsStartOf identity.now row.now)) }
@@ -36,11 +33,11 @@ fn start_in(alloc: Global, identity: &Identity, row: &Row) -> Result<Option<Inst
     check_row(alloc, identity, start, samples, block)
 }
 
-/// The start of a row, if it may come after the last one, or as the first.
+/// Returns the start of a row, if it may come after the last one, or as the first.
 ///
 /// # Errors
 /// `OutOfMemory` where memory runs out; `DatabaseCorrupt` where the row starts before the last one,
-/// since the query asks for the rows by their starts.
+/// since the query orders the rows by their starts.
 fn next_start(
     alloc: Global,
     identity: &Identity,
@@ -73,9 +70,9 @@ fn next_start(
     }
 }
 
-/// How many records a recording has, or `None` where they are not those of submissions: a row is no
-/// record of the identity, two start less than a duration apart, the first starts after 2084 and
-/// the identity has no date, there is none, or there are more than `cap`.
+/// Counts the records of a recording; `None` where submissions can't make them: a row is no record
+/// of the identity, two start less than a duration apart, the first starts after 2084 and the
+/// identity has no date, there is none, or there are more than `cap`.
 ///
 /// # Errors
 /// `sqlite`'s; `OutOfMemory` where memory runs out.

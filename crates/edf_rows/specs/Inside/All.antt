@@ -1,4 +1,4 @@
--- What the check of all rows counts and answers.
+-- The check of all rows counts records, and returns true or false.
 use Rattle.std.specs.Prelude.{◌≡◌, ℕ, ℤ, Bool, true, false, List, filter, length, Option, Some}
 use Rattle.std.specs.Prelude.{None}
 use Rattle.std.specs.declared.cmp.Ordering.TheVariants.{Less}
@@ -15,7 +15,7 @@ use Rattle.edf_rows.specs.Rows.{RepresentCommitted}
 use Rattle.edf_rows.specs.Foreign.{IsForeign}
 use Rattle.edf_rows.specs.Inside.Shape.{HasRecords}
 
--- the row's id, which comes after the last one
+-- this is the row's id, and it comes after the last one
 abbrev pub IsAfter : Option ℤ → Row → ℤ → Type 0
 IsAfter None row id = the_id row ≡ Int id
 IsAfter (Some last) row id = (the_id row ≡ Int id) × (int_cmp last id ≡ Less)
@@ -27,7 +27,7 @@ IsNotAfter last row = (id : ℤ) → ¬ IsAfter last row id
 abbrev pub owns : Row → Row → Bool
 owns recording row = is_eq (value_cmp (stored_recording row) (the_id recording))
 
--- how many records belong to one of the recordings
+-- counts the records that belong to one of the recordings
 abbrev pub owned_by : Trees → List Row → ℕ
 owned_by trees rows = length (filter (λ r. list_any (λ g. owns g r) rows) (stored_records trees))
 
@@ -42,7 +42,7 @@ abbrev pub Counts : ℕ → Trees → List Row → Option ℕ → Type 0
 Counts cap trees rows None = IsForeign cap trees
 Counts cap trees rows (Some sum) = AreCounted cap trees rows sum
 
--- the rows are kept for some holdings, or foreign
+-- `true`: the rows represent holdings as committed; `false`: they are foreign
 abbrev pub Answers : ℕ → Trees → Bool → Type 0
 Answers cap trees true = (h : Holdings) × RepresentCommitted cap trees h
 Answers cap trees false = IsForeign cap trees

@@ -1,4 +1,4 @@
--- What the check does to its connection, and what it answers of a row of the table of recordings.
+-- The check of a row of `recording` changes no row, and counts the recording's records.
 use Rattle.std.specs.Prelude.{◌≡◌, ◌⊎◌, [], ◌∷◌, ℕ, false, Option, Some, None, Contains, length}
 use Rattle.std.specs.Prelude.{Result, IsTrue}
 use Rattle.sqlite.specs.declared.error.Error.{Error}
@@ -21,22 +21,22 @@ pub record KeepsRows (old new : State) : Type 0 where
   pub stays : IsTrue old.is_open → IsTrue new.is_open
 
 -- nothing was committed and no transaction began; while the connection is open, what is shown is as
--- it was, or, as where a transaction was undone, it is what is committed, and none is open
+-- it was, or is what is committed and no transaction is open
 pub record KeepsShown (old new : State) : Type 0 where
   pub commit : KeepsCommit old new
   pub shown : IsTrue new.is_open → (new.now ≡ old.now)
       ⊎ ((new.now ≡ new.committed) × (new.in_transaction ≡ false))
   pub mode : IsTrue new.in_transaction → IsTrue old.in_transaction
 
--- a part of the check reads and changes no row: where it answers, the rows are as they were; where
--- it fails, what is committed stays; a crash in it adds nothing
+-- a part of the check reads and changes no row: on success the rows are as they were; on failure
+-- what is committed stays; a crash in it commits nothing
 pub record OnlyChecks {S X : Type 0} (g : Ghosts S) (old new : Held S) (result : Result X Error) :
     Type 0 where
   pub same : ChangesOnOk g old new result KeepsRows
   pub refused : ChangesOnErr g old new result KeepsShown
   pub survives : IsCrashSafe g old new
 
--- what the check reads of a row
+-- the check reads these two cells of a row
 abbrev pub first_two : Row → Row
 first_two row = the_id row ∷ the_identity row ∷ []
 

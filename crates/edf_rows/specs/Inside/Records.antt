@@ -1,4 +1,4 @@
--- What is found in a recording's rows, one after another.
+-- A recording's rows are checked one after another.
 use Rattle.std.specs.Prelude.{◌≡◌, ◌≢◌, ℕ, ◌+◌, ◌≤◌, ◌<◌, ◌⊎◌, pos, List, [], map, length, Option}
 use Rattle.std.specs.Prelude.{Some, None}
 use Rattle.sqlite.specs.declared.types.Value.TheVariants.{Int}
@@ -16,13 +16,13 @@ use Rattle.edf_rows.specs.Cells.{record_cells}
 use Rattle.edf_rows.specs.Foreign.{IsBadRow, AreBadRecords}
 use Rattle.edf_rows.specs.Rows.{IsRowOf}
 
--- the row is a data record's of the key, and starts there
+-- the row is a data record's of the key, and this is its start
 pub record IsStartOf (k : Key) (row : Row) (start : ℕ) : Type 0 where
   pub data_record : DataRecord
   pub start_is : start ≡ data_record.start
   pub row_of : IsRowOf k data_record (first_three row)
 
--- at least a duration after the last start; or, where there is none, where the recording may start
+-- the start is a duration or more after the last, or is a first one that the recording may have
 abbrev pub MayComeNext : Key → Option ℕ → ℕ → Type 0
 MayComeNext k None start = MayStart k start
 MayComeNext k (Some last) start = last + duration_of k.duration ≤ start
@@ -56,7 +56,7 @@ pub record IsOutOfOrder (last : Option ℕ) (row : Row) : Type 0 where
   pub start_is : the_start row ≡ Int (pos start)
   pub before : start < first
 
--- a row has no answer: memory ran out, or the row starts before the last
+-- the check fails where memory ran out, or the row starts before the last
 pub data IsRowRefused (last : Option ℕ) (row : Row) (e : Error) : Type 0 where
   no_memory : e ≡ SqliteFailure OutOfMemory → IsRowRefused last row e
   unordered : e ≡ SqliteFailure DatabaseCorrupt → IsOutOfOrder last row → IsRowRefused last row e
@@ -65,8 +65,7 @@ pub data IsRowRefused (last : Option ℕ) (row : Row) (e : Error) : Type 0 where
 abbrev pub IsWrong : Key → Option ℕ → Row → Type 0
 IsWrong k last row = IsBadRow k row ⊎ (IsNear k last row ⊎ IsLateFirst k last row)
 
--- sound records, a duration apart, with which the recording may begin, at least one and at most the
--- cap
+-- the rows are one to `cap` sound records, a duration apart, and the recording may begin so
 pub record HasSound (cap : ℕ) (k : Key) (rows : List Row) (count : ℕ) : Type 0 where
   pub records : List DataRecord
   pub shown : rows ≡ map record_cells records

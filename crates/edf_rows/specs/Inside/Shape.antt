@@ -1,4 +1,4 @@
--- Words of the check of one row, and of one recording.
+-- A row has a canonical block or not, and a recording has sound records.
 use Rattle.std.specs.Prelude.{◌≡◌, ◌≢◌, ℕ, ◌≤◌, ℤ, List, [], map, length}
 use Rattle.sqlite_trees.specs.Tree.{Trees}
 use Rattle.sqlite_value.specs.Order.{Row}
@@ -11,21 +11,21 @@ use Rattle.edf_fragment.specs.Fragment.{DataRecord}
 use Rattle.edf_fragment.specs.Sound.{AreSound, MayBegin}
 use Rattle.edf_rows.specs.Cells.{record_cells, recording_cells, records_in}
 
--- nothing is read of the block, whichever place it has in a file
+-- the block parses to nothing, whichever place it has in a file
 abbrev pub IsNoBlock : List ℕ → Type 0
 IsNoBlock block = (start : ℕ) (list : List Annotation) → ¬ BlockParsesTo block 0 Any start list
 
--- this start and list are read of the block, and it is the one that is written for them
+-- the block parses to this start and list, and is the one that is written for them
 pub record OwnBlock (block : List ℕ) (start : ℕ) (list : List Annotation) : Type 0 where
   pub read : BlockParsesTo block 0 Any start list
   pub written : block ≡ block_text 0 start list
 
--- the block is not the one that is written for what is read of it
+-- the block is not the one that is written for what it parses to
 abbrev pub NoOwnBlock : List ℕ → Type 0
 NoOwnBlock block = (start : ℕ) (list : List Annotation) → ¬ OwnBlock block start list
 
--- the row is a recording's, and its records are sound ones that lie a duration apart and with which
--- it may begin, at least one and at most the cap
+-- the row is a recording's, which has one to `cap` sound records, a duration apart, and may begin
+-- with the first
 pub record HasRecords (cap : ℕ) (trees : Trees) (row : Row) : Type 0 where
   pub id : ℤ
   pub key : Key
