@@ -15,7 +15,7 @@ second_of instant = instant / 10 ^ 9 * 10 ^ 9
 abbrev pub block_of : ℕ → DataRecord → List ℕ
 block_of file_start r = block_text file_start r.start r.annotations
 
--- how many samples, two bytes each, hold a record's block: half of its bytes, rounded up
+-- so many samples, two bytes each, hold a record's block: half of its bytes, rounded up
 abbrev pub samples_of : ℕ → DataRecord → ℕ
 samples_of file_start r = (length (block_of file_start r) + 1) / 2
 
@@ -44,7 +44,7 @@ pub record IsLaidOut (bytes : List ℕ) (k : Key) (first : DataRecord)
   pub least : (fewer : ℕ) → BlocksFit (second_of first.start) fewer records → samples ≤ fewer
   pub parts : bytes ≡ header ++ flat_map (record_text (second_of first.start) (2 * samples)) records
 
--- the canonical file of one record or more: it spells them, and it is laid out so
+-- the canonical file of one record or more is their fragment file, and it is laid out so
 abbrev pub IsCanonicalFile : List ℕ → Key → List DataRecord → Type 0
 IsCanonicalFile bytes k [] = ⊥
 IsCanonicalFile bytes k (r ∷ rs) = IsFragmentFile bytes k (r ∷ rs) × IsLaidOut bytes k r (r ∷ rs)

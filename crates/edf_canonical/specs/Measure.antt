@@ -1,5 +1,5 @@
--- What is known of data records before the first byte of their file: when the first of them starts,
--- how many there are, and how long their longest block is.
+-- The measure of data records, which is needed before the first byte of their file: when the first
+-- of them starts, how many there are, and how long their longest block is.
 use Rattle.std.specs.Prelude.{◌≡◌, ℕ, ◌*◌, ◌≤◌, List, [], ◌∷◌, ◌++◌, length, Option, Some, None}
 use Rattle.std.specs.List.{flat_map}
 use Rattle.edf_fragment.specs.Fragment.{DataRecord}
@@ -30,7 +30,7 @@ pub record MayBePrefix (records : List DataRecord) (m : Measure) : Type 0 where
   pub within : length records ≤ m.records
   pub holds : BlocksFit (second_of m.first) m.block_samples records
 
--- the data records as they are in a file that was measured so, and after a header
+-- the data records as they are in a file of this measure, and with its header
 abbrev pub records_text : Measure → List DataRecord → List ℕ
 records_text m records = flat_map (record_text (second_of m.first) (2 * m.block_samples)) records
 
@@ -39,7 +39,7 @@ planned_text header m records = header ++ records_text m records
 
 -- ---- one after another
 
--- nothing where there is no data record yet
+-- the measure is none where there is no data record yet
 abbrev pub IsMeasuredSoFar : List DataRecord → Option Measure → Type 0
 IsMeasuredSoFar records None = records ≡ []
 IsMeasuredSoFar records (Some measure) = IsMeasured records measure

@@ -1,5 +1,5 @@
--- What putting bytes out through a buffer does: at each answer, the writer's bytes grew by a prefix
--- of what was to be put.
+-- Writing bytes through a buffer: at each answer, the writer's bytes grew by a prefix of those that
+-- were put.
 use Rattle.std.specs.Prelude.{◌≡◌, ℕ, List, [], ◌++◌, Option, Result, MatchResult}
 use Rattle.std.specs.Io.KnownBytes.{Appends}
 use Rattle.edf_fragment.specs.Failures.{saturating_increment}
@@ -7,8 +7,7 @@ use Rattle.edf_fragment.specs.declared.streams.Output.{Ghosts}
 use Rattle.edf_canonical.specs.declared.fault.OutputFault.{OutputFault}
 use Rattle.edf_canonical.specs.declared.fault.OutputFault.TheVariants.{Write, Memory}
 
--- a writer and the buffer before it: what it holds, how many of its writes failed, what is held
--- back
+-- a writer with its buffer: its bytes, how many of its writes failed, and the bytes held back
 pub record Buffered : Type 0 where
   pub contents : Option (List ℕ)
   pub failures : ℕ
@@ -17,7 +16,7 @@ pub record Buffered : Type 0 where
 abbrev pub buffered : {W : Type 0} → Ghosts W → W → List ℕ → Buffered
 buffered g out held = record { contents = g.contents out; failures = g.failures out; held = held }
 
--- of what was held back and the bytes after it, a prefix was written, and the rest is left
+-- of the held bytes and the bytes after them, a prefix was written, and `left` remain
 pub record Writes (before after : Buffered) (bytes left : List ℕ) : Type 0 where
   pub prefix : List ℕ
   pub wrote : Appends before.contents after.contents prefix

@@ -1,4 +1,4 @@
--- What the writer does with the data records of a source.
+-- A writer gets the data records of a source.
 use Rattle.std.specs.Prelude.{◌≡◌, ℕ, ◌*◌, ◌⊎◌, List, [], ◌∷◌, ◌++◌, length, slice_get, Option, Some}
 use Rattle.std.specs.Prelude.{None, Result, Ok, Err, MatchResult}
 use Rattle.std.specs.List.{AllByRecursion}
@@ -23,27 +23,27 @@ use Rattle.edf_canonical.specs.declared.measure.Measure.{Measure}
 module _ {S F R E : Type 0}
     (answers : S → F → R → S → F → R → Result (Option DataRecord) E → Type 0) (from to : At S F R)
     (whole : Measure) (kept : List DataRecord) where
-  -- the source gave all, which with what was kept of them are measured so; this holds of them
+  -- the source returned all, which as planned have this measure; this holds of them
   pub record SendsAll (Text : List DataRecord → Type 0) : Type 0 where
     pub records : List DataRecord
     pub mid : At S F R
     pub gave : Gives answers from mid records
     pub end : Answers answers mid to (Ok None)
     pub measured : IsMeasured (annotated kept records) whole
-    -- what was kept keeps the limits of each key of the source's
+    -- as planned they are sound under each key under which the source's are
     pub sound : (k : Key) → AllByRecursion (IsSoundRecord k) records →
         AllByRecursion (IsSoundRecord k) (annotated kept records)
     pub wrote : Text (annotated kept records)
 
-  -- it gave one that can't be among the first of those that were measured, or no more too early
+  -- it returned one that can't be among the first of those measured, or ended too early
   abbrev pub IsUnlike : At S F R → List DataRecord → Type 0
   IsUnlike mid records =
       ((r : DataRecord) × Answers answers mid to (Ok (Some r))
       × ¬ MayBePrefix (annotated kept (records ++ r ∷ [])) whole)
       ⊎ (Answers answers mid to (Ok None) × ¬ IsMeasured (annotated kept records) whole)
 
-  -- why it went no further, after these data records: where the source had ended, they were all,
-  -- and what was held back could not be written
+  -- the fault after these data records: of the source, of one that is unlike, or of the output; where
+  -- the source had ended, they were all, and what was held back could not be written
   abbrev pub StopsFor : At S F R → List DataRecord → SendFault E → Type 0
   StopsFor mid records (Source fault) = Answers answers mid to (Err fault)
   StopsFor mid records Unlike = IsUnlike mid records
@@ -51,7 +51,7 @@ module _ {S F R E : Type 0}
       ⊎ (Answers answers mid to (Ok None) × IsMeasured (annotated kept records) whole
       × (fault ≡ Write))
 
-  -- the source gave some, which may be the first of those that were measured; this holds of them
+  -- the source returned some, which may be the first of those measured; this holds of them
   pub record StopsAfter (Prefix : List DataRecord → Type 0) (fault : SendFault E) : Type 0 where
     pub records : List DataRecord
     pub mid : At S F R
@@ -60,7 +60,7 @@ module _ {S F R E : Type 0}
     pub why : StopsFor mid records fault
     pub prefix : Prefix (annotated kept records)
 
--- a write failed, or took none of some bytes, where that is the fault
+-- one more write failed where a failed write is the fault
 abbrev pub CountsSendFault : {E : Type 0} → ℕ → ℕ → SendFault E → Type 0
 CountsSendFault old new (Source fault) = new ≡ old
 CountsSendFault old new Unlike = new ≡ old
@@ -80,8 +80,8 @@ module _ {S F R E : Type 0}
       (λ rs. (left : List ℕ) × Writes before after (records_text whole rs) left) fault
       × CountsSendFault before.failures after.failures fault)
 
-  -- a header and all of them were written, or a prefix of the header and of the first of them; and
-  -- so many writes failed before and after
+  -- a header and all of them were written, or a prefix of these; and so many writes failed before
+  -- and after
   abbrev pub Sends : Option (List ℕ) → Option (List ℕ) → ℕ → ℕ → List ℕ →
       Result Unit (SendFault E) → Type 0
   Sends before after failed_before failed_after header result =
@@ -105,7 +105,7 @@ pub record IsPutNext (before after : Buffered) (whole : Measure) (kept records :
     (r : DataRecord) (m : Measure) : Type 0 where
   pub measured : IsMeasured (annotated kept (records ++ r ∷ [])) m
   pub no_more : IsWithinMeasure m whole
-  -- what was kept keeps the limits of each key of the source's
+  -- as planned it is sound under each key under which the source's is
   pub sound : (k : Key) → IsSoundRecord k r →
       IsSoundRecord k (annotated_one (slice_get kept (length records)) r)
   pub wrote : Writes before after (next_text whole kept records r) after.held

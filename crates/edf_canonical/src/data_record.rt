@@ -12,8 +12,8 @@ use edf_tal::{MOST_CANONICAL_BLOCK_SAMPLES, block_len, write_block};
 use edf_time::Instant;
 use std::alloc::Global;
 
-/// How many samples, two bytes each, hold the block of a data record, with onsets counted from
-/// `file_start`: half of its bytes, rounded up.
+/// Returns how many samples, two bytes each, hold the block of a data record, with onsets counted
+/// from `file_start`: half of its bytes, rounded up.
 pub fn samples_of(data_record: &Record, file_start: Instant) -> u32
     ensures value { result ≡ samples_of file_start data_record.now }
     ensures some { 1 ≤ result }

@@ -1,6 +1,6 @@
 use thiserror::Error;
 
-/// Why bytes could not be put out.
+/// A reason why bytes could not be written.
 #[derive(Clone, Copy, Debug, PartialEq, Eq, Drop, Error)]
 pub enum OutputFault {
     /// A write failed, or took none of some bytes.
@@ -11,14 +11,14 @@ pub enum OutputFault {
     Memory,
 }
 
-/// Why the data records of a source did not go out, or not to their end.
+/// A reason why the data records of a source were not all written.
 #[derive(Debug, Drop)]
 pub enum SendFault<E> {
-    /// The source stopped.
+    /// The source had a fault.
     Source(E),
     /// They are not those that were measured.
     Unlike,
-    /// They could not be put out.
+    /// They could not be written.
     Output(OutputFault),
 }
 

@@ -1,4 +1,4 @@
-//! A data record put with what was kept of it.
+//! A data record written with the start and the annotations that were planned for it.
 
 ghost use Rattle.std.specs.Prelude.{◌≡◌, ◌≤◌, [], length, IfSome, unwrap_or, slice_get};
 ghost use Rattle.edf_canonical.specs.File.{block_of, record_text};
@@ -12,7 +12,7 @@ use edf_fragment::{Output, Record};
 use edf_time::Instant;
 use std::alloc::Global;
 
-/// The data record whose start and annotations go out: what was kept of the nth, or itself.
+/// Returns the data record whose start and annotations are written: the nth planned, or itself.
 pub fn kept_or<'a>(kept: &'a [Record], nth: usize, data_record: &'a Record) -> &'a Record
     ensures { result.now ≡ unwrap_or (slice_get kept.now nth) data_record.now }
 {
@@ -22,7 +22,7 @@ pub fn kept_or<'a>(kept: &'a [Record], nth: usize, data_record: &'a Record) -> &
     }
 }
 
-/// Puts a data record as it was kept.
+/// Puts the samples of a data record with the start and annotations of another.
 fn put_with<W: Output>(
     alloc: Global,
     out: &mut W,
@@ -42,7 +42,7 @@ fn put_with<W: Output>(
     put_record(alloc, out, held, kept, base, size)
 }
 
-/// Puts the nth data record, as it was kept where it was.
+/// Puts the nth data record, with its planned start and annotations where it has such.
 ///
 /// # Errors
 /// As [`put_record`].

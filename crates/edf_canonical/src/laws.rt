@@ -1,4 +1,4 @@
-//! Laws of canonical files: each function has a law for a contract, and does nothing.
+//! Laws of canonical files. The contract of each function is a law, and its body does nothing.
 
 ghost use Rattle.std.specs.Prelude.{◌≡◌, ℕ, ◌≤◌, List, length};
 ghost use Rattle.edf_header.specs.Key.{Key, IsKey};
@@ -8,14 +8,14 @@ ghost use Rattle.edf_canonical.specs.File.{IsCanonicalFile};
 
 use edf_header::MOST_RECORDS;
 
-/// Records have one canonical file at most.
+/// Data records have at most one canonical file.
 pub fn one_canonical_file()
     ensures { (file other : List ℕ) (key : Key) (records : List DataRecord) →
         IsCanonicalFile file key records → IsCanonicalFile other key records → file ≡ other }
 {}
 
-/// Sound records of a key with which its recording may begin have a canonical file, where they are
-/// 1 to `MOST_RECORDS`; and so have those of each fragment.
+/// 1 to `MOST_RECORDS` sound data records, with which the key's recording may begin, have a
+/// canonical file, and so have those of each fragment.
 pub fn some_canonical_file()
     ensures sound { (key : Key) (records : List DataRecord) →
         IsKey key → AreSound key 0 records → MayBegin key records → 1 ≤ length records →
@@ -24,7 +24,7 @@ pub fn some_canonical_file()
         IsFragmentFile bytes key records → (file : List ℕ) × IsCanonicalFile file key records }
 {}
 
-/// A canonical file is a fragment of just its key and records; so it is its own canonical file.
+/// A canonical file is the fragment file of its key and records, so it is its own canonical file.
 pub fn a_canonical_file_is_read_again()
     ensures { (file : List ℕ) (key : Key) (records : List DataRecord) →
         IsCanonicalFile file key records → IsFragmentFile file key records }

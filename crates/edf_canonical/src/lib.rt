@@ -1,15 +1,22 @@
-//! The canonical EDF+D file of data records: what it is, and its data records written through a
-//! buffer.
+//! The canonical EDF+D file of data records: its definition, and a writer through a buffer.
 //!
-//! - [`put_record`]: a data record as it is in a canonical file.
-//! - [`samples_of`]: how many samples the block of a data record takes there.
-//! - [`Buffer`], [`put`], [`flush`]: bytes put through 64 KiB, which the caller keeps beside its
-//!   writer; [`OutputFault`]: why they could not be.
-//! - [`send`]: writes the data records that a [`Source`] gives, which must be those of a
-//!   [`Measure`]; [`SendFault`]: why they did not go out. [`put_annotated`], [`kept_or`]: a data
-//!   record with what was kept of it.
-//! - [`laws`]: sound data records have one canonical file, which is read again. Functions that do
-//!   nothing, each with a law for a contract.
+//! ```rust
+//! /// Writes some bytes through a buffer.
+//! fn write_parts<W: Output>(alloc: Global, out: &mut W) -> Result<(), OutputFault> {
+//!     let mut held = Buffer::new(alloc);
+//!     put(out, &mut held, b"header")?;
+//!     put(out, &mut held, b"records")?;
+//!     flush(out, &mut held)
+//! }
+//! ```
+//!
+//! - [`send`] writes the data records that a [`Source`] returns, which must be those of a
+//!   [`Measure`]; a [`SendFault`] says why they were not written.
+//! - [`samples_of`] returns how many samples the block of a data record takes there.
+//! - [`Buffer`] holds up to 64 KiB beside a writer; [`put`] and [`flush`] write through it, and an
+//!   [`OutputFault`] says why they could not. [`put_record`] puts a data record.
+//! - [`put_annotated`], [`kept_or`] take the start and annotations that were planned for it.
+//! - [`laws`] says that sound data records have one canonical file, which parses to them.
 #![tactic(auto)]
 
 mod data_record;

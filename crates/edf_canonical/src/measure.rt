@@ -1,4 +1,4 @@
-//! What is known of data records before the first byte of their file.
+//! The measure of data records, which is needed before the first byte of their file.
 
 ghost use Rattle.std.specs.Prelude.{◌≡◌, ◌≤◌, ◌<◌, ◌↔◌, ◌++◌, ◌∷◌, [], List, IsTrue, length};
 ghost use Rattle.edf_header.specs.declared.limits.TheConstants.{MOST_RECORDS};
@@ -9,8 +9,8 @@ use edf_fragment::Record;
 use edf_header::MOST_RECORDS;
 use edf_time::Instant;
 
-/// When the first data record of a file starts, how many there are, and how many samples, two bytes
-/// each, hold the longest block.
+/// The start of the first data record of a file, the number of data records, and the number of
+/// samples, two bytes each, that hold the longest block.
 #[derive(Clone, Copy, Debug, PartialEq, Eq, Drop)]
 pub struct Measure {
     pub first: Instant,
@@ -28,7 +28,7 @@ impl Measure {
     ghost use Rattle.edf_canonical.specs.Measure.{IsMeasured, IsMeasuredSoFar, HoldsBlock};
     ghost use Rattle.edf_canonical.specs.Measure.{IsWithinMeasure};
 
-    /// That of one data record.
+    /// Returns the measure of one data record.
     fn of(data_record: &Record) -> Measure
         ensures measured { IsMeasured (data_record.now ∷ []) result }
         ensures holds { HoldsBlock result data_record.now }
@@ -42,7 +42,7 @@ impl Measure {
         }
     }
 
-    /// That of one data record more.
+    /// Returns the measure of one data record more.
     fn with(&self, data_record: &Record) -> Measure
         ensures measured { (records : List DataRecord) → IsMeasured records self.now →
             length records < MOST_RECORDS →
@@ -58,8 +58,8 @@ impl Measure {
         }
     }
 
-    /// That of the data records before, where there were some, and of this one. It counts at most
-    /// [`MOST_RECORDS`].
+    /// Returns the measure of the data records before, where there were some, and of this one. It
+    /// counts at most [`MOST_RECORDS`].
     pub fn after(before: Option<Measure>, data_record: &Record) -> Measure
         ensures measured { (records : List DataRecord) → IsMeasuredSoFar records before →
             length records < MOST_RECORDS →
@@ -73,7 +73,7 @@ impl Measure {
         }
     }
 
-    /// Whether data records of this measure may be the first of those of another.
+    /// Is true where data records of this measure may be the first of those of another.
     pub(crate) fn is_within_measure(&self, whole: &Measure) -> bool
         ensures { IsTrue result ↔ IsWithinMeasure self.now whole.now }
     {
@@ -82,7 +82,7 @@ impl Measure {
             && self.block_samples <= whole.block_samples
     }
 
-    /// Of how many data records it is.
+    /// Returns the number of data records that were measured.
     pub(crate) fn count(so_far: &Option<Measure>) -> usize
         ensures { (records : List DataRecord) → IsMeasuredSoFar records so_far.now →
             result ≡ length records }
@@ -93,7 +93,7 @@ impl Measure {
         }
     }
 
-    /// Whether data records that may be the first ones of another measure are all of them.
+    /// Is true where data records that may be the first ones of another measure are all of them.
     pub(crate) fn is_whole(&self, whole: &Measure) -> bool
         ensures { IsTrue result ↔ ((self.now.records ≡ whole.now.records)
             × (self.now.block_samples ≡ whole.now.block_samples)) }

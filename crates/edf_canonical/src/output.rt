@@ -1,4 +1,4 @@
-//! Writing through a buffer of 64 KiB, which the caller keeps beside its writer.
+//! Writing through a buffer of 64 KiB, which the caller holds beside its writer.
 
 ghost use Rattle.std.specs.Prelude.{◌≡◌, ◌+◌, ◌-◌, ◌≤◌, [], length, vec_len, replicate};
 ghost use Rattle.edf_canonical.specs.Output.{buffered, IsWrittenOrBuffered, IsFlushed};
@@ -19,7 +19,7 @@ pub struct Buffer {
 }
 
 impl Buffer {
-    /// Nothing held back.
+    /// Returns an empty buffer.
     pub fn new(alloc: Global) -> Buffer
         ensures { result.bytes.items ≡ [] }
     {
@@ -69,8 +69,8 @@ fn hold<W: Output>(out: &mut W, held: &mut Vec<u8>, bytes: &[u8]) -> Result<(), 
     }
 }
 
-/// Holds these bytes back after those already held where there is room for them, and else writes
-/// what is held first.
+/// Holds these bytes back after those already held where they fit, and else writes those that are
+/// held first.
 ///
 /// # Errors
 /// `Write` where a write failed, or took none of some bytes; `Memory` where memory ran out. A

@@ -1,4 +1,4 @@
-//! The writer of what a source gives: a header, and then its data records.
+//! The writer of a header and of the data records of a source.
 
 ghost use Rattle.std.specs.Prelude.{◌≡◌, List, [], All};
 ghost use Rattle.edf_fragment.specs.Fragment.{DataRecord};
@@ -16,8 +16,8 @@ use crate::source::Source;
 use edf_fragment::{Output, Record};
 use std::alloc::Global;
 
-/// Puts one data record more, with what was kept of it where something was, and tells what is
-/// measured with it. `None` where it can't be among the first of those that were measured; then it
+/// Puts one data record more, with its planned start and annotations where it has such. Returns the
+/// measure with it, or `None` where it can't be among the first of those that were measured; then it
 /// is not put.
 fn put_next<W: Output>(
     alloc: Global,
@@ -50,8 +50,8 @@ fn put_next<W: Output>(
     Ok(Some(measure))
 }
 
-/// Puts all data records of a source, with what was kept of them where something was. What goes
-/// out must be what was measured.
+/// Puts all data records of a source, with their planned starts and annotations. They must be those
+/// that were measured.
 fn put_all<F, R, S: Source<F, R>, W: Output>(
     alloc: Global,
     source: &mut S,
@@ -93,16 +93,17 @@ fn put_all<F, R, S: Source<F, R>, W: Output>(
     }
 }
 
-/// Writes a header, and then all data records of a source, through a buffer of 64 KiB. Where
-/// something was kept of the nth, the start and the annotations that were kept go out, with its
-/// samples: just these are the source's, and that it is the same data record is for the source to
-/// see. What is kept has no samples, and what is kept of more data records than come is left out.
-/// What goes out must be what was measured. One data record is in memory at a time. The writer is
-/// not flushed.
+/// Writes a header, and then all data records of a source, through a buffer of 64 KiB. The writer is
+/// not flushed. One data record is in memory at a time.
+///
+/// `kept` has planned data records without samples. Where it has an nth, its start and annotations
+/// are written with the samples of the source's nth; that both are the same data record is for the
+/// source to see. Planned ones after the source's last are left out. What is written must be what
+/// was measured.
 ///
 /// # Errors
-/// `Source` where the source has a fault; `Unlike` where what would go out can't be among the first
-/// of what was measured, or the source ends before the last; `Output` where a write failed or
+/// `Source` where the source has a fault; `Unlike` where a data record can't be among the first of
+/// those that were measured, or the source ends before the last; `Output` where a write failed or
 /// memory ran out. A prefix of the header and of the data records may have been written then.
 pub fn send<F, R, S: Source<F, R>, W: Output>(
     alloc: Global,

@@ -1,27 +1,27 @@
-//! Where the data records of a file come from.
+//! Sources of the data records of a file.
 
 ghost use Rattle.std.specs.Prelude.{Option, Result};
 ghost use Rattle.edf_fragment.specs.Fragment.{DataRecord};
 
 use edf_fragment::Record;
 
-/// Gives data records one after another. What it reads is lent to each call: a file that was opened
-/// and its input, or two other things.
+/// An iterator over data records. What it reads is lent to each call: a file that was opened and its
+/// input, or two other things.
 pub trait Source<F, R> {
-    /// Why it gives no more.
+    /// The reason why it stops early.
     type Fault;
 
     // What must hold of the source, the file and the input at a call. It holds after each call,
     // whatever this answered: after the last data record and after a fault, too.
     ghost ready: { Self → F → R → Type 0 };
 
-    // What a call answers, and how it leaves the source, the file and the input.
+    // The answer of a call, with the source, the file and the input before and after it.
     ghost answers: { Self → F → R → Self → F → R → Result (Option DataRecord) Self.Fault → Type 0 };
 
-    /// The next data record; `None` where all were given.
+    /// Returns the next data record, or `None` after the last.
     ///
     /// # Errors
-    /// Why there is none.
+    /// A fault of the source.
     fn next(&mut self, file: &mut F, input: &mut R) -> Result<Option<Record>, Self::Fault>
         requires { ready self.old file.old input.old }
         ensures answers { answers self.old file.old input.old self.new file.new input.new result }
