@@ -1,13 +1,12 @@
--- Files that were begun, and what is left of them.
-use Rattle.std.specs.Prelude.{◌≡◌, ◌≢◌, ◌⊎◌, ℕ, zero, suc, ◌+◌, ◌-◌, ◌^◌, min, List, [], ◌∷◌, ◌++◌, map}
-use Rattle.std.specs.Prelude.{Bool, true, false, Option, Some, None, Result, Ok, Err}
+-- Files that were begun, and what became of them.
+use Rattle.std.specs.Prelude.{◌≡◌, ◌≢◌, ◌⊎◌, ℕ, zero, suc, ◌+◌, ◌-◌, ◌^◌, min, List, [], ◌∷◌, ◌++◌}
+use Rattle.std.specs.Prelude.{map, Bool, true, false, Option, Some, None, Result, Ok, Err}
 use Rattle.edf_cli.specs.declared.new_files.FileStage.{FileStage}
 use Rattle.edf_cli.specs.declared.new_files.FileStage.TheVariants.{Begun, Left, Finished, Removed}
 use Rattle.edf_cli.specs.declared.new_files.FileStage.TheVariants.{Kept}
 use Rattle.edf_cli.specs.declared.new_files.Unfinished.{Unfinished}
 
--- a file that was begun: under which name, how far it is, whether it was finished, what its writer
--- held when it was given back, where that is known, and why it did not get its name, if it was to
+-- a file that was begun; `bytes` are what its writer held when it was given back, where known
 pub record MadeFile : Type 0 where
   pub name : List ℕ
   pub stage : FileStage
@@ -19,7 +18,7 @@ abbrev pub made_file : List ℕ → FileStage → Bool → Option (List ℕ) →
 made_file name stage whole bytes why =
     record { name = name; stage = stage; whole = whole; bytes = bytes; why = why }
 
--- it is written
+-- it is being written
 abbrev pub begun : List ℕ → MadeFile
 begun name = made_file name Begun false None None
 
@@ -39,16 +38,16 @@ removed file = made_file file.name Removed file.whole file.bytes file.why
 abbrev pub kept : MadeFile → MadeFile
 kept file = made_file file.name Kept file.whole file.bytes file.why
 
--- how far one is that was to be removed
+-- the stage of one that was to be removed
 abbrev pub stage_after : Bool → FileStage
 stage_after true = Removed
 stage_after false = Kept
 
--- it did not get its name for this, and is gone, or is not
+-- it did not get its name for this reason, and is gone or not
 abbrev pub unnamed : List ℕ → Unfinished → Option (List ℕ) → Bool → MadeFile
 unnamed name why bytes is_gone = made_file name (stage_after is_gone) false bytes (Some why)
 
--- behind these files one is finished, whose writer held this; or it did not get its name, and its
+-- after these files one is finished, whose writer held this; or it did not get its name, and its
 -- removal was tried
 abbrev pub IsEnded : List MadeFile → List ℕ → Option (List ℕ) → List MadeFile →
     Result ℕ Unfinished → Type 0
@@ -56,14 +55,14 @@ IsEnded files name held now (Ok bytes) = now ≡ files ++ (finished name held �
 IsEnded files name held now (Err why) =
     (is_gone : Bool) × (now ≡ files ++ (unnamed name why held is_gone ∷ []))
 
--- behind these files there is one of this name that is not whole, whatever became of it
+-- after these files there is one of this name that is not whole, whatever became of it
 pub record HasPart (files : List MadeFile) (name : List ℕ) (now : List MadeFile) : Type 0 where
   pub part : MadeFile
   pub behind : now ≡ files ++ (part ∷ [])
   pub named : part.name ≡ name
   pub is_half : part.whole ≡ false
 
--- none of them is written: there is none, or the last is one that is not
+-- none is being written: there is none, or the last one is at another stage
 abbrev pub WritesNone : List MadeFile → Type 0
 WritesNone made = (made ≡ []) ⊎ ((files : List MadeFile) × (file : MadeFile)
     × (made ≡ files ++ (file ∷ [])) × (file.stage ≢ Begun))
@@ -71,7 +70,7 @@ WritesNone made = (made ≡ []) ⊎ ((files : List MadeFile) × (file : MadeFile
 abbrev pub names_of : List MadeFile → List (List ℕ)
 names_of files = map (λ (file : MadeFile). file.name) files
 
--- the files that were begun, in turn; how many were, also before; and how many calls failed
+-- the files that were begun, in turn; how many were, also before these; and how many calls failed
 pub record Made : Type 0 where
   pub files : List MadeFile
   pub begun_count : ℕ

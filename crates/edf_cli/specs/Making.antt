@@ -1,10 +1,9 @@
--- What makes files, before and after.
+-- A maker of files, before and after a call.
 use Rattle.std.specs.Prelude.{◌≡◌, ℕ, List, Bool}
 use Rattle.edf_cli.specs.Made.{MadeFile}
 use Rattle.edf_cli.specs.There.{There}
 use Rattle.edf_cli.specs.declared.new_files.NewFiles.{Ghosts}
 
--- by what it tells before and after
 pub record Making : Type 0 where
   pub known : Bool
   pub there : There

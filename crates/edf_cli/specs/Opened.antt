@@ -1,7 +1,7 @@
--- How often a name was opened.
+-- Names that were opened.
 use Rattle.std.specs.Prelude.{◌≡◌, ℕ, ◌≤◌, List, ◌++◌, replicate}
 
--- again and again, at most so often
+-- one name was opened again and again, at most `most` times
 pub record OpensUpTo (before after : List (List ℕ)) (name : List ℕ) (most : ℕ) : Type 0 where
   pub times : ℕ
   pub few : times ≤ most

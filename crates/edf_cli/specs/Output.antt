@@ -1,4 +1,4 @@
--- What writers got, and what an answer says of it.
+-- The bytes that writers get, and what an answer says of them.
 use Rattle.std.specs.Prelude.{◌≡◌, ◌⊎◌, ℕ, ◌<◌, Bool, List, [], Option}
 use Rattle.std.specs.Bool.{MatchBool}
 use Rattle.std.specs.Io.KnownBytes.{Appends}
@@ -8,8 +8,7 @@ use Rattle.edf_canonical.specs.Output.{WritesPrefix}
 use Rattle.edf_cli.specs.declared.status.Status.{Status}
 use Rattle.edf_cli.specs.declared.status.Status.TheVariants.{Trouble}
 
--- what a writer holds before and after, where that is known, and how many of its writes failed or
--- took nothing
+-- a writer's bytes before and after, where known, and how many of its writes failed or took none
 pub record OutputChange : Type 0 where
   pub before : Option (List ℕ)
   pub failed_before : ℕ
@@ -56,13 +55,13 @@ AreLinesWritten w lines count written =
     MatchBool written (Gets w (lines count)) (GetsPrefix w (lines count)
     ⊎ RunsOutOfMemoryForLine w lines count)
 
--- ---- what is answered by a status: the one that was asked for, or trouble
+-- ---- what is answered by a status: the intended one, or trouble
 
 abbrev pub IsWritten : OutputChange → List ℕ → Status → Status → Type 0
 IsWritten w bytes intended status = (Gets w bytes × (status ≡ intended))
     ⊎ (GetsPrefix w bytes × (status ≡ Trouble))
 
--- or memory for the text was refused
+-- a line was written; or a write failed, or memory for its text was refused
 abbrev pub IsLinePrinted : OutputChange → List ℕ → Status → Status → Type 0
 IsLinePrinted w text intended status = IsWritten w text intended status
     ⊎ (Gets w [] × (status ≡ Trouble))
@@ -71,6 +70,6 @@ abbrev pub AreLinesPrinted : OutputChange → (ℕ → List ℕ) → ℕ → Sta
 AreLinesPrinted w lines count intended status = IsWritten w (lines count) intended status
     ⊎ (RunsOutOfMemoryForLine w lines count × (status ≡ Trouble))
 
--- nothing went to `out`, and a line to `err`
+-- nothing was written to `out`, and a line to `err`
 abbrev pub Explains : OutputChange → OutputChange → List ℕ → Status → Status → Type 0
 Explains out err text intended status = Gets out [] × IsWritten err text intended status

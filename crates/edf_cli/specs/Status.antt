@@ -1,9 +1,8 @@
--- How a command ends: the number that its program ends with, and what a refusal's number says.
+-- Exit statuses: their numbers, and the status for a refusal's number.
 use Rattle.std.specs.Prelude.{ℕ, ◌==◌, ◌&&◌, ◌||◌, Bool, nat_le, nat_lt, if◌then◌else◌}
 use Rattle.edf_cli.specs.declared.status.Status.{Status}
 use Rattle.edf_cli.specs.declared.status.Status.TheVariants.{Done, Refused, Usage, Trouble}
 
--- the number that the program ends with
 abbrev pub exit_code : Status → ℕ
 exit_code Done = 0
 exit_code Refused = 1

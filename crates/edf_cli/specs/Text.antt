@@ -8,15 +8,15 @@ use Rattle.edf_fragment.specs.Fault.{fragment_fault_signal}
 use Rattle.edf_fragment.specs.declared.fault.FragmentFault.{FragmentFault}
 use Rattle.edf_fragment.specs.declared.fault.FragmentFault.TheVariants as fragment
 
--- how instants are written: each of the window by its text, of which it has one by a law
+-- each instant of the window is written by its text, of which it has one by a law
 abbrev pub IsInstantFormat : (ℕ → List ℕ) → Type 0
 IsInstantFormat spell = (instant : ℕ) → instant < window → IsInstantText (spell instant) instant
 
--- by a fault's number and name, and what comes after them
+-- the text of a fault: its number, its name, and what comes after them
 abbrev pub fault_text : ℕ → List ℕ → List ℕ → List ℕ
 fault_text number name rest = codes "E" ++ (decimal number ++ (codes " " ++ (name ++ rest)))
 
--- what a fault names, after its label, where it names one
+-- the value that a fault names, if it names one, after its label
 abbrev pub detail : List ℕ → Option ℕ → List ℕ
 detail label None = []
 detail label (Some value) = label ++ decimal value
@@ -28,7 +28,7 @@ fragment_details fault = detail (codes " record=") (fragment_fault_record fault)
     ++ (detail (codes " offset=") (fragment_fault_offset fault)
     ++ detail (codes " signal=") (fragment_fault_signal fault))
 
--- why a file was not read as a fragment
+-- the text of a fault with its details
 abbrev pub fragment_fault_text : FragmentFault → List ℕ
 fragment_fault_text fault = fault_text (fragment_fault_number fault) (fragment_fault_name fault)
     (fragment_details fault)
@@ -44,6 +44,6 @@ memory_line name = refused_line name (fragment_fault_number fragment.Memory)
 
 -- ---- of a file that was to be made
 
--- there is something of its name
+-- something has its name
 abbrev pub there_line : List ℕ → List ℕ
 there_line name = name ++ codes " is there already; nothing was written\n"

@@ -1,4 +1,4 @@
--- What is there under a name, where that is known.
+-- The entries of a directory, where they are known.
 use Rattle.std.specs.Prelude.{◌≡◌, ◌≢◌, ◌⊎◌, ℕ, List, Bool, true, false, Option, Some, None, IfSome}
 use Rattle.std.specs.Prelude.{Result, Ok, Err}
 use Rattle.edf_cli.specs.declared.new_files.FileStage.TheVariants.{Removed}
@@ -6,48 +6,48 @@ use Rattle.edf_cli.specs.declared.new_files.Unfinished.{Unfinished}
 use Rattle.edf_cli.specs.declared.new_files.Unfinished.TheVariants.{IsThere, Failed}
 use Rattle.edf_cli.specs.Made.{MadeFile}
 
--- what has a name: nothing, or something with these bytes, where they are known
+-- the entry of a name: nothing, or something with these bytes, where they are known
 abbrev pub Entry : Type 0
 Entry = Option (Option (List ℕ))
 
 abbrev pub There : Type 0
 There = List ℕ → Option Entry
 
--- nothing of this name is known to be there
+-- as far as is known, nothing has this name
 abbrev pub IsVacant : There → List ℕ → Type 0
 IsVacant there name = IfSome (there name) (λ found. found ≡ None)
 
--- nothing of this name is known not to be there
+-- as far as is known, something has this name
 abbrev pub MayBeThere : There → List ℕ → Type 0
 MayBeThere there name = IfSome (there name) (λ found. found ≢ None)
 
--- what is known of a name becomes this; of what was not known it may stay so
+-- the entry becomes this one; an entry that was not known may stay so
 abbrev pub Becomes : Option Entry → Option Entry → Entry → Type 0
 Becomes None new now = (new ≡ None) ⊎ (new ≡ Some now)
 Becomes (Some found) new now = new ≡ Some now
 
--- of all names it is as it was
+-- the entries of all names are unchanged
 abbrev pub IsSame : There → There → Type 0
 IsSame old new = (other : List ℕ) → new other ≡ old other
 
--- of all names but this
+-- the entries of all other names are unchanged
 abbrev pub IsSameBut : There → There → List ℕ → Type 0
 IsSameBut old new name = (other : List ℕ) → other ≢ name → new other ≡ old other
 
--- a file whose writer held this got its name, of which nothing was there; or it did not, and
--- nothing changed: something was there of it, or it failed
+-- a file whose writer held this got its name, which nothing had; or it did not, and nothing
+-- changed: something may have the name, or it failed
 abbrev pub IsNamed : There → There → List ℕ → Option (List ℕ) → Result ℕ Unfinished → Type 0
 IsNamed old new name held (Ok bytes) = IsVacant old name
     × Becomes (old name) (new name) (Some held) × IsSameBut old new name
 IsNamed old new name held (Err IsThere) = MayBeThere old name × IsSame old new
 IsNamed old new name held (Err Failed) = IsSame old new
 
--- a file has its name
+-- the file has its name
 abbrev pub HasName : MadeFile → Type 0
 HasName file = (file.whole ≡ true) × (file.stage ≢ Removed)
 
--- a file was removed, or not: of its name nothing is there then, if it had it, and else nothing
--- changed
+-- a file was removed or not: if it had its name and is gone, nothing has that name then, and else
+-- nothing changed
 pub record IsTakenAway (old new : There) (file : MadeFile) (is_gone : Bool) : Type 0 where
   pub others : IsSameBut old new file.name
   pub gone : HasName file → is_gone ≡ true → Becomes (old file.name) (new file.name) None

@@ -1,4 +1,4 @@
--- Why words ask for nothing, and what is written then.
+-- Faults of command lines, and what is printed for them.
 use Rattle.std.specs.Prelude.{ℕ, List, [], Bool, true, false, codes, string_bytes}
 use Rattle.clap.specs.declared.error.kind.ErrorKind.{ErrorKind}
 use Rattle.clap.specs.declared.error.kind.ErrorKind.TheVariants.{DisplayHelp, DisplayVersion}
@@ -9,29 +9,27 @@ use Rattle.edf_cli.specs.declared.status.Status.TheVariants.{Done, Usage, Troubl
 use Rattle.edf_cli.specs.declared.words.CommandFault.{CommandFault}
 use Rattle.edf_cli.specs.declared.words.CommandFault.TheVariants as fault
 
--- no text for standard output
+-- the fault has no text for standard output
 abbrev pub IsNoHelp : CommandFault → Type 0
 IsNoHelp (fault.Help _) = ⊥
 IsNoHelp _ = Unit {0}
 
--- no text for standard error
+-- the fault has no text for standard error
 abbrev pub IsNoUsage : CommandFault → Type 0
 IsNoUsage (fault.Usage _) = ⊥
 IsNoUsage _ = Unit {0}
 
--- what `clap` refuses where the words were wrong, or memory ran out: neither help nor the version
--- was asked for
+-- the words were wrong or memory ran out: neither help nor the version was asked for
 abbrev pub is_mistake : ErrorKind → Bool
 is_mistake DisplayHelp = false
 is_mistake DisplayVersion = false
 is_mistake _ = true
 
--- no memory for the words
+-- there is no memory for the words
 abbrev pub command_memory_line : List ℕ
 command_memory_line = memory_line (codes "command")
 
--- help goes to `out`, and else to `err` why the words ask for nothing, or that there is no memory
--- for them
+-- help goes to `out`; else to `err` goes why the words ask for nothing, or that memory ran out
 abbrev pub IsCommandFaultPrinted : OutputChange → OutputChange → CommandFault → Status → Type 0
 IsCommandFaultPrinted out err (fault.Help text) status =
     IsWritten out (string_bytes text) Done status

@@ -1,26 +1,32 @@
-//! What the programs share that needs no operating system: how a command ends, the readers and the
-//! new files that it is given, its lines, the texts of instants and of refusals, and why words ask
-//! for nothing. It has no store and opens no file.
+//! What the programs share that needs no operating system: exit statuses, readers and new files by
+//! name, printed lines, and faults of command lines. It has no store and opens no file.
 //!
-//! - [`Status`]: how a command ends, and the number that the program ends with;
-//!   [`status_of_number`]: by a refusal's number; [`worse`]: the worse of two.
-//! - [`Inputs`]: what gives each name its reader.
-//! - [`put_line`], [`put_parts`]: writes a line, and answers whether it was written whole;
-//! [`print_text`], [`print_bytes`], [`print_parts`]: the same, answered by a status;
-//! [`print_line`]: with
-//!   a remark for a person.
-//! - [`concat`]: a text of its parts; [`spelled`]: that of an instant.
-//! - [`fragment_fault_text`], [`fragment_details`]: why a file was not read as a fragment, as a
-//!   line has it; [`print_refused`], [`print_memory`]: a line why something is refused;
-//!   [`print_name_taken`]: that a file's name is taken.
-//! - [`CommandFault`]: why words ask for nothing; [`fault_by`], [`refuse_value`]: by what `clap`
-//!   says, or where it takes any text for a value; [`print_fault`]: what is written then.
-//! - [`VERSION`]: of all the programs.
-//! - [`NewFiles`]: what makes them. What was there is never touched: a file is begun only where
-//!   nothing has its name, and only files that were begun here are removed. [`Unfinished`]: why one
-//!   did not get its name.
-//! - [`MadeFiles`]: the list of them that what makes them keeps, with the count of failed calls.
-//!   [`FileStage`]: how far each is.
+//! ```rust
+//! use edf_cli::{Inputs, Status, print_memory, print_parts};
+//! use edf_fragment::Output;
+//! use std::alloc::Global;
+//!
+//! // Opens a file by its name, and prints that it did.
+//! pub fn try_open<I: Inputs, O: Output>(alloc: Global, inputs: &mut I, out: &mut O) -> Status {
+//!     let Ok(_reader) = inputs.open(alloc, "night.edf") else {
+//!         return print_memory(out, "night.edf");
+//!     };
+//!     print_parts(out, &[b"night.edf".as_slice(), b" is open\n"], Status::Done)
+//! }
+//! ```
+//!
+//! - [`Status`]: the exit status of a command. [`status_of_number`]: by a refusal's number.
+//!   [`worse`]: the worse of two.
+//! - [`Inputs`]: opens a reader for each name.
+//! - [`NewFiles`]: makes new files, and never touches what was there. [`FileStage`]: the stage of a
+//!   file. [`Unfinished`]: it did not get its name. [`MadeFiles`]: a list of such files.
+//! - [`put_line`], [`put_parts`]: write a line, and are true if it was written whole.
+//!   [`print_text`], [`print_bytes`], [`print_parts`], [`print_line`]: return a status instead.
+//! - [`print_refused`], [`print_memory`], [`print_name_taken`]: print the line of a refusal.
+//! - [`concat`], [`spelled`], [`fragment_fault_text`], [`fragment_details`]: return the text of
+//!   parts, of an instant, of a fragment's fault and of its details.
+//! - [`CommandFault`]: a command line asks for nothing. [`fault_by`], [`refuse_value`]: make one.
+//!   [`print_fault`]: prints it. [`VERSION`]: the version of all programs.
 #![tactic(auto)]
 
 mod inputs;

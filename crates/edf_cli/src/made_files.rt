@@ -1,4 +1,4 @@
-//! The list of the files that were begun, for what makes them.
+//! The list of the files that a maker of files began.
 
 ghost use Rattle.std.specs.Prelude.{◌≡◌, ◌≤◌, ◌++◌, ◌∷◌, [], ℕ, true, false, List, MatchResult};
 ghost use Rattle.std.specs.Prelude.{length, option_map, slice_get};
@@ -12,8 +12,7 @@ use edf_fragment::saturating_increment;
 use std::alloc::{AllocError, Global};
 use std::marker::Model;
 
-/// A file that was begun, whether it was finished, what its writer held when it was given back,
-/// where that is known, and why it did not get its name.
+/// A file that was begun. `bytes` are what its writer held when it was given back, where known.
 #[derive(Drop)]
 struct MadeEntry {
     name: String,
@@ -26,7 +25,7 @@ struct MadeEntry {
 impl MadeEntry {
     ghost use Rattle.std.specs.Prelude.{◌≡◌};
 
-    /// Its writer was given back.
+    /// Sets all but the name, as its writer is given back.
     fn give_back(
         &mut self,
         stage: FileStage,
@@ -47,7 +46,7 @@ impl MadeEntry {
     }
 }
 
-/// How far a file is that was to be removed.
+/// Returns the stage of a file that was to be removed.
 fn stage_after(is_gone: bool) -> FileStage
     ensures { result ≡ stage_after is_gone }
 {
@@ -58,9 +57,9 @@ fn stage_after(is_gone: bool) -> FileStage
     }
 }
 
-/// The files that were begun so far, in turn; how many were, with those that were forgotten; and
-/// how many could not be begun or finished, with how many writes of abandoned ones failed. Counts
-/// go up to `u64::MAX`.
+/// The files that were begun, in turn, without forgotten ones; the count of all; and the count of
+/// those that could not be begun or finished and of failed writes of abandoned ones. Counts go up
+/// to `u64::MAX`.
 #[derive(Drop)]
 pub struct MadeFiles {
     entries: Vec<MadeEntry>,
@@ -83,7 +82,6 @@ impl Model for MadeFiles {
 }
 
 impl MadeFiles {
-    /// No file yet.
     pub fn new(alloc: Global) -> MadeFiles
         ensures files { result.files ≡ [] }
         ensures begun_count { result.begun_count ≡ 0 }
@@ -96,14 +94,14 @@ impl MadeFiles {
         }
     }
 
-    /// How many files were begun.
+    /// Returns how many files are listed.
     pub fn count(&self) -> usize
         ensures { result ≡ length self.now.files }
     {
         self.entries.len()
     }
 
-    /// Whether a file is written: the last of them.
+    /// Is true if a file is being written: the last one.
     pub fn is_writing(&self) -> bool
         ensures some { result ≡ true → ¬ WritesNone self.now.files }
         ensures none { result ≡ false → WritesNone self.now.files }
@@ -112,7 +110,7 @@ impl MadeFiles {
         count > 0 && self.entries[count - 1].stage == FileStage::Begun
     }
 
-    /// Adds a file of that name that is begun.
+    /// Adds a file of that name, as begun.
     fn push(&mut self, alloc: Global, name: &str) -> Result<(), AllocError>
         ensures files { MatchResult result
             (λ _. self.new.files ≡ self.old.files ++ (begun name.now ∷ []))
@@ -131,10 +129,10 @@ impl MadeFiles {
         Ok(())
     }
 
-    /// Notes that a file of that name is to be begun, which `confirm` or `cancel` tells then.
+    /// Notes that a file of that name is to be begun. Then `confirm` or `cancel` says if it was.
     ///
     /// # Errors
-    /// Where memory ran out. Then no file is noted, but that it could not be begun.
+    /// Memory ran out. Then no file is noted, but one more failed.
     pub fn begin(&mut self, alloc: Global, name: &str) -> Result<(), AllocError>
         ensures files { MatchResult result
             (λ _. self.new.files ≡ self.old.files ++ (begun name.now ∷ []))
@@ -153,7 +151,7 @@ impl MadeFiles {
         }
     }
 
-    /// Counts the file that was noted last: it was begun.
+    /// Counts the file that was noted last as begun.
     pub fn confirm(&mut self)
         ensures files { self.new.files ≡ self.old.files }
         ensures failed { self.new.failed ≡ self.old.failed }
@@ -162,7 +160,7 @@ impl MadeFiles {
         self.begun_count = saturating_increment(self.begun_count);
     }
 
-    /// Strikes out the file that was noted last: it could not be begun.
+    /// Removes the file that was noted last, which could not be begun.
     pub fn cancel(&mut self)
         ensures files { (files : List MadeFile) (file : MadeFile) →
             self.old.files ≡ files ++ (file ∷ []) → self.new.files ≡ files }
@@ -174,7 +172,7 @@ impl MadeFiles {
         self.failed = saturating_increment(self.failed);
     }
 
-    /// Notes how far the file is that is written, whose writer was given back.
+    /// Notes how the file that is being written ended, as its writer is given back.
     fn give_back(
         &mut self,
         stage: FileStage,
@@ -195,7 +193,7 @@ impl MadeFiles {
         }
     }
 
-    /// Notes that the file that is written has all these bytes, and its name.
+    /// Notes that the file that is being written is whole, with these bytes, and has its name.
     pub fn finish(&mut self, bytes: Option<Vec<u8>>)
         ensures files { (files : List MadeFile) (name : List ℕ) →
             self.old.files ≡ files ++ (begun name ∷ []) → self.new.files
@@ -207,8 +205,7 @@ impl MadeFiles {
         self.give_back(FileStage::Finished, true, bytes, None);
     }
 
-    /// Notes why the file that is written, with these bytes, did not get its name, and whether it
-    /// is gone.
+    /// Notes why the file that is being written did not get its name, and whether it is gone.
     pub fn fail(&mut self, why: Unfinished, bytes: Option<Vec<u8>>, is_gone: bool)
         ensures files { (files : List MadeFile) (name : List ℕ) →
             self.old.files ≡ files ++ (begun name ∷ []) → self.new.files ≡ files
@@ -221,7 +218,7 @@ impl MadeFiles {
         self.failed = saturating_increment(self.failed);
     }
 
-    /// Notes that the file that is written is left with these bytes, after so many failures.
+    /// Notes that the file that is being written was abandoned, after so many failures.
     pub fn leave(&mut self, bytes: Option<Vec<u8>>, failures: u64)
         ensures files { (files : List MadeFile) (name : List ℕ) →
             self.old.files ≡ files ++ (begun name ∷ []) → self.new.files
@@ -234,7 +231,7 @@ impl MadeFiles {
         self.failed = self.failed.saturating_add(failures);
     }
 
-    /// The name of the file at a place, from 0, if there is one.
+    /// Returns the name of the file at a place, from 0, if there is one.
     pub fn name(&self, place: usize) -> Option<&str>
         ensures { option_map (λ name. name.now) result
             ≡ option_map (λ (file : MadeFile). file.name) (slice_get self.now.files place) }
@@ -245,7 +242,7 @@ impl MadeFiles {
         }
     }
 
-    /// How far the file at a place is, if there is one.
+    /// Returns the stage of the file at a place, from 0, if there is one.
     pub fn stage(&self, place: usize) -> Option<FileStage>
         ensures { result
             ≡ option_map (λ (file : MadeFile). file.stage) (slice_get self.now.files place) }

@@ -1,4 +1,4 @@
-//! What makes new files.
+//! Makers of new files.
 
 ghost use Rattle.std.specs.Prelude.{◌≡◌, ◌≤◌, ◌++◌, ◌∷◌, [], ℕ, Bool, true, false, List, Some};
 ghost use Rattle.std.specs.Prelude.{IfOk, IfSome, MatchResult, length};
@@ -12,12 +12,12 @@ use edf_fragment::Output;
 use std::alloc::Global;
 use std::io;
 
-/// How far a file is that was begun.
+/// The stage of a file that was begun.
 #[derive(Clone, Copy, Debug, PartialEq, Eq, Drop)]
 pub enum FileStage {
-    /// It is written, and has not its name.
+    /// It is being written, and does not have its name.
     Begun,
-    /// It was left half written.
+    /// It was abandoned, half written.
     Left,
     /// It is there under its name with all that was written.
     Finished,
@@ -27,44 +27,43 @@ pub enum FileStage {
     Kept,
 }
 
-/// Why a file that was written did not get its name.
+/// A file that was written did not get its name.
 #[derive(Clone, Copy, Debug, PartialEq, Eq, Drop)]
 pub enum Unfinished {
-    /// Something of that name came in between, and is as it was.
+    /// Something got that name in between, and is unchanged.
     IsThere,
     /// It could not be made whole or named.
     Failed,
 }
 
-/// What makes new files.
+/// Makes new files, one at a time: a writer is given back before the next file is begun.
 ///
-/// Contracts speak of the files that were begun, in turn, of their bytes where these are known, as
-/// those of a disk are not, and of what is there where that is known. What was there is never
-/// touched: a file is begun only where nothing has its name, and only files that were begun here
-/// are removed. A file is written under another name, and gets its own, where nothing has it, once
-/// it is whole and on the disk: so what has the name is whole. One is written at a time, and its
-/// writer is given back before the next is begun.
+/// What was there is never touched: a file is begun only where nothing has its name, and only files
+/// that were begun here are removed. A file is written under another name. It gets its own, if
+/// nothing has that, once it is whole and on the disk. So a file that has its name is whole.
+///
+/// Contracts speak of the files that were begun, in turn, and, where known, of their bytes and of
+/// what has each name. The bytes of files on a disk are not known.
 pub trait NewFiles {
-    /// The writers.
     type Writer: Output + Drop;
 
-    // Whether the bytes of the files that are made here are known.
+    // It is true if the bytes of the files that are made here are known.
     ghost known: { Self → Bool };
 
-    // What is there under a name, where that is known. A file has its name once it is finished.
+    // The entry of each name, where that is known. A file has its name once it is finished.
     ghost there: { Self → There };
 
-    // The files that were begun here, in turn, but for those that were forgotten.
+    // The files that were begun here, in turn, without those that were forgotten.
     ghost made: { Self → List MadeFile };
 
-    // How many files were begun here, with those that were forgotten.
+    // The number of files that were begun here, with those that were forgotten.
     ghost begun_count: { Self → ℕ };
 
-    // How many files could not be begun or finished, and how many writes of abandoned ones failed.
+    // The files that could not be begun or finished, and the failed writes of abandoned, counted.
     ghost failed: { Self → ℕ };
 
-    /// Whether there is something of that name. Where that can't be found out, `create` or `finish`
-    /// finds it out.
+    /// Is true if something has that name. If that can't be known here, `create` or `finish` learns
+    /// it.
     fn is_there(&mut self, name: &str) -> bool
         ensures answer { MatchBool result
             (MayBeThere (there self.old) name.now)
@@ -75,10 +74,10 @@ pub trait NewFiles {
         ensures failed { failed self.new ≡ failed self.old }
         ensures known { known self.new ≡ known self.old };
 
-    /// Begins a new, empty file of that name, and answers its writer.
+    /// Begins a new, empty file of that name, and returns its writer.
     ///
     /// # Errors
-    /// Where no file of that name could be made, or there was one. What was there is as it was.
+    /// No file of that name could be made, or something had the name and is unchanged.
     fn create(&mut self, alloc: Global, name: &str) -> io::Result<Self::Writer>
         ensures made { MatchResult result
             (λ _. made self.new ≡ made self.old ++ (begun name.now ∷ []))
@@ -96,12 +95,12 @@ pub trait NewFiles {
         ensures there { IsSame (there self.old) (there self.new) }
         ensures known { known self.new ≡ known self.old };
 
-    /// Ends the file that was begun last, all of which was written by this writer of it, and
-    /// answers how many bytes it has. It has its name then, and has all that was written.
+    /// Finishes the file that was begun last with all that this writer of it wrote, gives it its
+    /// name, and returns how many bytes it has.
     ///
     /// # Errors
-    /// Where it has not its name. What was written is removed then, if it could be. Where none is
-    /// written here, as after `forget`, nothing gets a name.
+    /// It did not get its name, and was removed if that could be done. If none is being written, as
+    /// after `forget`, nothing gets a name.
     fn finish(&mut self, writer: Self::Writer) -> Result<u64, Unfinished>
         ensures made { (files : List MadeFile) (name : List ℕ) →
             made self.old ≡ files ++ (begun name ∷ []) →
@@ -119,7 +118,7 @@ pub trait NewFiles {
             IsNamed (there self.old) (there self.new) name (Self.Writer.contents writer) result }
         ensures known { known self.new ≡ known self.old };
 
-    /// Takes back the writer of the file that was begun last, which is left half written.
+    /// Takes back the writer of the file that was begun last, which stays half written.
     fn abandon(&mut self, writer: Self::Writer)
         ensures made { (files : List MadeFile) (name : List ℕ) →
             made self.old ≡ files ++ (begun name ∷ []) →
@@ -131,12 +130,12 @@ pub trait NewFiles {
         ensures there { IsSame (there self.old) (there self.new) }
         ensures known { known self.new ≡ known self.old };
 
-    /// How many files were begun here so far, with those that were removed again.
+    /// Returns how many files `made` has, with those that were removed again.
     fn count(&self) -> usize
         ensures { result ≡ length (made self.now) };
 
-    /// Removes the file at this place, from 0, of those that were begun here. Whether there was one
-    /// and it is gone.
+    /// Removes the file at this place, from 0, of those that were begun here. Is true if there was
+    /// one and it is gone.
     fn remove(&mut self, place: usize) -> bool
         ensures made { (front later : List MadeFile) (file : MadeFile) →
             made self.old ≡ front ++ (file ∷ later) → length front ≡ place →
@@ -152,8 +151,7 @@ pub trait NewFiles {
             IsTakenAway (there self.old) (there self.new) file result }
         ensures known { known self.new ≡ known self.old };
 
-    /// Forgets the files that were begun here so far. They stay as they are, and can no more be
-    /// removed here.
+    /// Forgets the files that were begun here. They are unchanged, and can't be removed here now.
     fn forget(&mut self)
         ensures made { made self.new ≡ [] }
         ensures begun_count { begun_count self.new ≡ begun_count self.old }

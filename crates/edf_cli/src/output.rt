@@ -9,8 +9,8 @@ use crate::status::Status;
 use edf_fragment::{Output, Remark, send};
 use std::alloc::AllocError;
 
-/// Writes a line, which brings its own line feed, and answers whether it was written whole. One for
-/// whose text memory was refused is not written.
+/// Writes a line, which has its own line feed. Is true if it was written whole; a line for whose
+/// text there was no memory is not written.
 pub fn put_line<W: Output>(out: &mut W, line: Result<Vec<u8>, AllocError>) -> bool
     ensures line { let w = output_change W.Output out.old out.new in
         MatchResult line (λ l. IsPut w l.items result) (λ _. Gets w [] × (result ≡ false)) }
@@ -23,7 +23,7 @@ pub fn put_line<W: Output>(out: &mut W, line: Result<Vec<u8>, AllocError>) -> bo
     }
 }
 
-/// Writes bytes and answers a status; trouble where they are not written whole.
+/// Writes bytes. Returns the status, or trouble if they were not written whole.
 pub fn print_bytes<W: Output>(out: &mut W, bytes: &[u8], status: Status) -> Status
     ensures { IsWritten (output_change W.Output out.old out.new) bytes.now status result }
 {
@@ -34,8 +34,7 @@ pub fn print_bytes<W: Output>(out: &mut W, bytes: &[u8], status: Status) -> Stat
     }
 }
 
-/// Writes a line, which brings its own line feed, and answers a status; trouble where it is not
-/// written whole.
+/// Writes a line, which has its own line feed. Returns the status, or trouble if it is not written.
 pub fn print_text<W: Output>(
     out: &mut W,
     line: Result<Vec<u8>, AllocError>,
@@ -53,8 +52,7 @@ pub fn print_text<W: Output>(
     }
 }
 
-/// Writes the parts of a text one after another, and answers whether they were written whole. It
-/// takes no memory.
+/// Writes the parts of a text in turn. Is true if all were written. It takes no memory.
 pub fn put_parts<W: Output>(out: &mut W, parts: &[&[u8]]) -> bool
     ensures { IsPut (output_change W.Output out.old out.new) (flat_map (λ part. part.now) parts.now)
         result }
@@ -67,7 +65,7 @@ pub fn put_parts<W: Output>(out: &mut W, parts: &[&[u8]]) -> bool
     true
 }
 
-/// The same, answered by a status; trouble where they are not written whole.
+/// Writes the parts of a text in turn. Returns the status, or trouble if not all were written.
 pub fn print_parts<W: Output>(out: &mut W, parts: &[&[u8]], status: Status) -> Status
     ensures { IsWritten (output_change W.Output out.old out.new)
         (flat_map (λ part. part.now) parts.now)
@@ -80,8 +78,8 @@ pub fn print_parts<W: Output>(out: &mut W, parts: &[&[u8]], status: Status) -> S
     }
 }
 
-/// Writes the parts of a line, tells what it says, for a person, and answers a status; trouble
-/// where it is not written whole. It takes no memory.
+/// Writes the parts of a line, and gives a remark on it for a person. Returns the status, or
+/// trouble if the line was not written whole. It takes no memory.
 pub fn print_line<W: Output>(
     out: &mut W,
     parts: &[&[u8]],

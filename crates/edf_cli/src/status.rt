@@ -1,9 +1,9 @@
-//! How a command ends.
+//! Exit statuses.
 
 ghost use Rattle.std.specs.Prelude.{◌≡◌};
 ghost use Rattle.edf_cli.specs.Status.{exit_code, status_of_number, worse};
 
-/// How a command ends.
+/// The exit status of a command.
 #[derive(Clone, Copy, Debug, PartialEq, Eq, Drop)]
 pub enum Status {
     /// All was done.
@@ -18,7 +18,7 @@ pub enum Status {
 }
 
 impl Status {
-    /// The number that the program ends with: 0 to 3.
+    /// Returns the program's exit status: 0 to 3.
     pub fn code(self) -> u8
         ensures { result ≡ exit_code self }
     {
@@ -31,7 +31,7 @@ impl Status {
     }
 }
 
-/// The worse of two statuses: that with the higher number.
+/// Returns the worse of two statuses: that with the higher number.
 pub fn worse(status: Status, other: Status) -> Status
     ensures { result ≡ worse status other }
 {
@@ -42,8 +42,7 @@ pub fn worse(status: Status, other: Status) -> Status
     }
 }
 
-/// The status where a refusal of this number was met: `Trouble` for 40 to 43 and 45, `Refused` for
-/// every other number.
+/// Returns the status for a refusal by its number: `Trouble` for 40 to 43 and 45, else `Refused`.
 pub fn status_of_number(number: u8) -> Status
     ensures { result ≡ status_of_number number }
 {

@@ -1,5 +1,4 @@
-//! Texts of parts and of instants, and those of refusals: `E`, the number, the name, and what the
-//! fault names.
+//! Texts of instants, and of refusals: `E`, the number, the name, and the details.
 
 ghost use Rattle.std.specs.Prelude.{◌≡◌, ◌++◌, ℕ, List, IfOk, OnOk, string_bytes};
 ghost use Rattle.std.specs.List.{flat_map};
@@ -15,10 +14,7 @@ use edf_time::{Instant, instant_text};
 use itoa::Buffer;
 use std::alloc::{AllocError, Global};
 
-/// The parts of a text, one after another.
-///
-/// # Errors
-/// Where memory runs out.
+/// Joins the parts of a text.
 pub fn concat(alloc: Global, parts: &[&[u8]]) -> Result<Vec<u8>, AllocError>
     ensures { IfOk result (λ r. r.items ≡ flat_map (λ part. part.now) parts.now) }
 {
@@ -29,21 +25,18 @@ pub fn concat(alloc: Global, parts: &[&[u8]]) -> Result<Vec<u8>, AllocError>
     Ok(text)
 }
 
-/// The text of an instant.
-///
-/// # Errors
-/// Where memory runs out.
+/// Returns the text of an instant.
 pub fn spelled(alloc: Global, instant: Instant) -> Result<Vec<u8>, AllocError>
     ensures { IfOk result (λ r. (spell : ℕ → List ℕ) → IsInstantFormat spell →
         r.items ≡ spell instant) }
 {
-    // An instant of the window has one spelling.
+    // An instant of the window has one text.
     instant_is_in_window(instant);
     let text = instant_text(alloc, instant)?;
     Ok(text)
 }
 
-/// A number that a fault names, where it names one.
+/// Widens a number that a fault names, if it names one.
 fn widened(number: Option<u32>) -> Option<usize>
     ensures { result ≡ number }
 {
@@ -53,7 +46,7 @@ fn widened(number: Option<u32>) -> Option<usize>
     }
 }
 
-/// Appends what a fault names, after its label, where it names one.
+/// Appends the value that a fault names, if it names one, after its label.
 fn push_detail(text: &mut String, label: &str, value: Option<usize>) -> Result<(), AllocError>
     ensures { OnOk result
         (string_bytes text.new ≡ string_bytes text.old ++ detail label.now value) }
@@ -64,13 +57,10 @@ fn push_detail(text: &mut String, label: &str, value: Option<usize>) -> Result<(
     }
 }
 
-/// The data record, the offset and the signal that a fragment's fault names, each after its label.
+/// Returns the data record, the offset and the signal that a fault names, each after its label.
 ///
 /// Data records and signals count from 1. An offset counts from 0: in the file for a header's fault
 /// (E2, E15), in the data record's blocks for a fault of these (E22, E23).
-///
-/// # Errors
-/// Where memory runs out.
 pub fn fragment_details(alloc: Global, fault: &FragmentFault) -> Result<String, AllocError>
     ensures { IfOk result (λ r. string_bytes r ≡ fragment_details fault.now) }
 {
@@ -81,10 +71,7 @@ pub fn fragment_details(alloc: Global, fault: &FragmentFault) -> Result<String, 
     Ok(text)
 }
 
-/// The text of a fragment's fault: a refusal of a file for its form has it.
-///
-/// # Errors
-/// Where memory runs out.
+/// Returns the text of a fragment's fault, which the line of a file that is refused for it has.
 pub fn fragment_fault_text(alloc: Global, fault: &FragmentFault) -> Result<String, AllocError>
     ensures { IfOk result (λ r. string_bytes r ≡ fragment_fault_text fault.now) }
 {
@@ -128,7 +115,7 @@ pub fn print_memory<F: Output>(err: &mut F, name: &str) -> Status
     print_refused(err, name, fault.number(), fault.name(), Status::Trouble)
 }
 
-/// Prints that there is something of the name that a file was to get. Printing takes no memory.
+/// Prints that something has the name that a file was to get. Printing takes no memory.
 pub fn print_name_taken<F: Output>(err: &mut F, name: &str) -> Status
     ensures { IsWritten (output_change F.Output err.old err.new)
         (there_line name.now) Status.Refused

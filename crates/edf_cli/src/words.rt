@@ -1,4 +1,4 @@
-//! What the programs share of their words: the version, and why words ask for nothing.
+//! The version of the programs, and the faults of their command lines.
 
 ghost use Rattle.std.specs.Prelude.{◌≡◌, false, true, IfOk};
 ghost use Rattle.clap.specs.Words.{kind_of};
@@ -13,10 +13,10 @@ use clap::{Command, Error};
 use edf_fragment::Output;
 use std::alloc::{AllocError, Global};
 
-/// What `--version` prints after a program's name. No other place of the repository has it.
+/// The version, as `--version` prints it. No other place of the repository has it.
 pub const VERSION: &str = "2.0.0-dev";
 
-/// Why a command line asks for nothing.
+/// A command line asks for nothing.
 #[derive(Debug, Drop, thiserror::Error)]
 pub enum CommandFault {
     /// Help or the version was asked for: its text, for standard output.
@@ -41,7 +41,7 @@ impl From<AllocError> for CommandFault {
     }
 }
 
-/// What `clap` refused, by its kind and with its text.
+/// Returns the fault for what `clap` refused, by its kind and with its text.
 pub fn fault_by(alloc: Global, error: &Error) -> CommandFault
     ensures memory { kind_of error.now ≡ ErrorKind.OutOfMemory → result ≡ CommandFault.Memory }
     ensures usage { is_mistake (kind_of error.now) ≡ true → IsNoHelp result }
@@ -57,11 +57,8 @@ pub fn fault_by(alloc: Global, error: &Error) -> CommandFault
     }
 }
 
-/// Why a value is refused that `clap` takes for any text, with the usage of its command, which is
-/// called by `name` there.
-///
-/// # Errors
-/// Where memory runs out.
+/// Returns the fault for a value that `clap` takes as any text, with the usage of its command,
+/// which is called by `name` there.
 pub fn refuse_value(
     alloc: Global,
     command: Command<'_>,
@@ -75,8 +72,8 @@ pub fn refuse_value(
     Ok(fault_by(alloc, &error))
 }
 
-/// Writes why there is no command to run: help to `out`, else to `err` why the words ask for
-/// nothing, or that there is no memory for them.
+/// Prints why no command is run: help to `out`; else to `err` why the words ask for nothing, or
+/// that memory ran out.
 pub fn print_fault<O: Output, F: Output>(fault: &CommandFault, out: &mut O, err: &mut F) -> Status
     ensures { IsCommandFaultPrinted (output_change O.Output out.old out.new)
         (output_change F.Output err.old err.new)
