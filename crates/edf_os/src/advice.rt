@@ -1,24 +1,23 @@
-//! What is said of faults of form: one table. What is wrong with a file is the sentence of its
-//! fault; here is what to do.
+//! One table of what to do about faults of form. What is wrong is the sentence of the fault.
 
 use crate::advice::Row::{Behind, Field, Instead, Never, Own};
 use edf_fragment::FragmentFault;
 use edf_header::{Format, HeaderFault};
 use edf_tal::TalFault;
 
-/// What is said of a fault of form: behind its sentence by the programs that mend nothing, and by
-/// `edfmend` where none of all rules mended it.
+/// The words for a fault of form. Programs that mend nothing print the first ones after its
+/// sentence; each variant says what `edfmend` prints, where none of all rules mended it.
 #[derive(Clone, Copy, Drop)]
 pub(crate) enum Row {
-    /// The same, since no rule is for it.
+    /// It prints the same, since no rule is for it.
     Never(&'static str),
-    /// The same, and of each file, since what is wrong is more than the number says.
+    /// It prints the same, for each file, since what is wrong is more than the number says.
     Own(&'static str),
-    /// The second, behind its sentence, and of each file.
+    /// It prints the second ones after the sentence, for each file.
     Field(&'static str, &'static str),
-    /// The second, behind its sentence.
+    /// It prints the second ones after the sentence.
     Behind(&'static str, &'static str),
-    /// The second, in place of its sentence.
+    /// It prints the second ones in place of the sentence.
     Instead(&'static str, &'static str),
 }
 
@@ -131,7 +130,7 @@ fn on_blocks(fault: &TalFault) -> Row {
     }
 }
 
-/// What is said of a fault of form.
+/// Returns the words for a fault of form.
 pub(crate) fn row_of(fault: &FragmentFault) -> Row {
     match fault {
         FragmentFault::Header(fault) => on_header(fault),

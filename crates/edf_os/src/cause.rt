@@ -1,22 +1,22 @@
-//! Why a file could not be read or written, in plain words for a person.
+//! Plain words for a person: why a file could not be read or written.
 
 use crate::terminal::{Mending, Terminal};
 use std::fs;
 use std::io::{self, ErrorKind};
 
-/// What is said where a disk is full.
+/// It is printed where a disk is full.
 pub const FULL: &str = "the disk is full";
 
-/// What E40 means where no read failed.
+/// It explains E40, where no read failed.
 pub(crate) const CHANGED: &str = "it changed between the two readings: run this again once no \
     program writes it";
 
-/// What to do where the name of a new file is taken.
+/// It says what to do where the name of a new file is taken.
 pub(crate) const RENAME: &str = "no file is written over another: give another name, or move that \
     file away";
 
-/// What to do after a failed write to what has this name: a new file, that of a program that mends
-/// or one of a split, or else a stream.
+/// Returns what to do after a failed write to what has this name: a new file, of a program that
+/// mends or of a split, or else a stream.
 pub(crate) fn on_unwritten(terminal: &Terminal<'_>, name: &str) -> &'static str {
     if terminal.mending() != Mending::Nothing || name.ends_with(".edf") {
         "remove the cause and run it again: no part of it is left, unless a line says so"
@@ -25,7 +25,7 @@ pub(crate) fn on_unwritten(terminal: &Terminal<'_>, name: &str) -> &'static str 
     }
 }
 
-/// Plain words for a system error; `None` means print the error itself.
+/// Returns plain words for a system error; `None` means print the error itself.
 fn system_words(error: &io::Error) -> Option<&'static str> {
     match error.kind() {
         ErrorKind::NotFound => Some("no such file or directory"),
@@ -54,7 +54,7 @@ pub fn print_system_error(terminal: &Terminal<'_>, path: &str, error: &io::Error
     }
 }
 
-/// Plain words for a system error of a file that is only read; `None` means print the error itself.
+/// Returns the same for a file that is only read.
 fn reading_words(error: &io::Error) -> Option<&'static str> {
     match error.kind() {
         ErrorKind::PermissionDenied => Some("no permission to read it"),

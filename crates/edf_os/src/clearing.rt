@@ -6,14 +6,14 @@ use crate::terminal::Terminal;
 use edf_fragment::{Output, Remark};
 use std::io;
 
-/// A standard stream that erases the line of progress before it writes, and below whose lines a
-/// person is told more.
+/// A standard stream that erases the line of progress before it writes, and explains its lines to
+/// a person.
 #[derive(Drop)]
 pub struct Clearing<'t, W> {
     pub(crate) rt: &'t HostRuntime,
     pub(crate) terminal: &'t Terminal<'t>,
     pub(crate) stream: W,
-    /// Whether it is standard output.
+    /// It is true of standard output.
     pub(crate) is_output: bool,
 }
 

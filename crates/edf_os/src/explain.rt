@@ -1,4 +1,4 @@
-//! What a person is told below a line, on a terminal.
+//! Explanations below the lines, on a terminal.
 
 use crate::advice::{Row, row_of};
 use crate::cause::{CHANGED, RENAME, on_unwritten};
@@ -50,8 +50,8 @@ fn explain_number(terminal: &Terminal<'_>, name: &str, number: u8) {
     terminal.say_once(number, name, words);
 }
 
-/// Prints what a person is told below a line about what has this name. What its number says alone
-/// is told once.
+/// Explains to a person a line about what has this name, below it. An explanation that is the same
+/// for each file is printed once.
 pub(crate) fn explain(terminal: &Terminal<'_>, name: &str, remark: Remark) {
     match remark {
         Remark::Fault(fault) if fault.number() < 40 => explain_form(terminal, name, &fault),

@@ -14,10 +14,10 @@ use std::io::{self, BufReader, ErrorKind, Read, Stdin};
 use std::os::unix::fs::FileTypeExt;
 use std::rc::Rc;
 
-/// How many bytes of a file are asked for at once.
+/// The most bytes that are read of a file at once.
 const PIECE: usize = 16_384;
 
-/// How many bytes of standard input are asked for at once.
+/// The most bytes that are read of standard input at once.
 const STREAM_PIECE: usize = 65_536;
 
 /// Opens FILE arguments; repeated `-` continues standard input, unless only
@@ -26,7 +26,7 @@ const STREAM_PIECE: usize = 65_536;
 pub struct Files<'rt> {
     rt: &'rt HostRuntime,
     terminal: &'rt Terminal<'rt>,
-    /// Whether regular files alone are opened, and `-` is the name of one.
+    /// It is true where regular files alone are opened, and `-` is the name of one.
     is_regular: bool,
     /// Standard input, once a `-` was opened.
     stream: Option<Rc<RefCell<BufReader<Stdin>>>>,
@@ -57,8 +57,7 @@ impl<'rt> Files<'rt> {
         }
     }
 
-    /// Whether the file of that name is the first that was opened, which a program that reads one
-    /// twice opens again.
+    /// Is true of the first file that was opened, which a program that reads one twice opens again.
     fn is_again(&self, name: &str) -> bool {
         match self.names.first() {
             Some(first) => first.as_str() == name,
@@ -66,7 +65,7 @@ impl<'rt> Files<'rt> {
         }
     }
 
-    /// Standard input, whose buffer is made for the first `-`.
+    /// Returns standard input, whose buffer is made for the first `-`.
     ///
     /// # Errors
     /// Where memory ran out.
@@ -85,7 +84,7 @@ impl<'rt> Files<'rt> {
     }
 }
 
-/// How far a reader is. A file is opened at its first read, and closed at its end.
+/// The progress of a reader. A file is opened at its first read, and closed at its end.
 #[derive(Drop)]
 enum FileState {
     /// The file is not open yet.
@@ -105,15 +104,15 @@ pub struct FileReader<'rt> {
     terminal: &'rt Terminal<'rt>,
     name: String,
     is_begun: bool,
-    /// Whether a file of that name was opened before.
+    /// It is true where a file of that name was opened before.
     is_again: bool,
-    /// Whether only a regular file is read.
+    /// It is true where only a regular file is read.
     is_regular: bool,
     state: FileState,
 }
 
-/// Answers an error where there is something of that name that is no regular file. What the system
-/// does not tell, its opening tells.
+/// Refuses something of that name that is no regular file. Where the system does not say what it
+/// is, its opening shows it.
 fn require_regular(rt: &HostRuntime, name: &str) -> io::Result<()> {
     match fs::metadata(rt, name) {
         Ok(found) if found.is_dir() => Err(io::Error::from(ErrorKind::IsADirectory)),
@@ -123,8 +122,7 @@ fn require_regular(rt: &HostRuntime, name: &str) -> io::Result<()> {
 }
 
 impl FileReader<'_> {
-    /// How many bytes the file has, where that is known. For a person it prints that a pipe is read
-    /// again.
+    /// Returns the size of the file, if known. For a person it prints that a pipe is read again.
     fn size(&self) -> Option<u64> {
         let FileState::Closed = self.state else {
             return None;

@@ -1,14 +1,25 @@
-//! What the programs share of the system: words, files that are read or made, standard streams, and
-//! what a person sees.
+//! The system for all programs: words, files that are read or made, streams, and the terminal.
 //!
-//! - [`Program`]: what a program does with its words; [`run_program`], [`run_words`]: does it.
-//!   [`words`], [`refuse_words`]: the words after a program's name.
-//! - [`Files`]: what opens files and standard input; [`FileReader`]: its readers.
-//! - [`PartFiles`]: what makes files, of which none is written over; [`NewFile`]: its writers.
-//! - [`Streams`]: standard output and standard error.
-//! - [`Terminal`]: progress and messages, where standard error is a terminal; [`Clearing`]: a
-//!   stream beside it, below whose lines it explains what they tell. [`Mending`]: what its program
-//!   mends. [`print_system_error`], [`FULL`]: causes in plain words.
+//! ```rust
+//! /// Writes the first bytes of a file to standard output.
+//! fn show(rt: &HostRuntime, name: &str) -> Result<Status, AllocError> {
+//!     let terminal = Terminal::new(rt, "file", 1);
+//!     let mut streams = Streams::new(rt, &terminal);
+//!     let mut reader = Files::new(rt, &terminal).open(rt.alloc(), name)?;
+//!     let mut head = [0; 256];
+//!     Ok(match reader.read(&mut head) {
+//!         Ok(count) => print_bytes(&mut streams.out, &head[..count], Status::Done),
+//!         Err(_) => Status::Trouble,
+//!     })
+//! }
+//! ```
+//!
+//! - [`run_program`] and [`run_words`] run a [`Program`] by the words after its name; [`words`] and
+//!   [`refuse_words`] are for another.
+//! - [`Files`] opens files and standard input for a [`FileReader`]; [`PartFiles`] makes a
+//!   [`NewFile`], and writes over none. [`Streams`] are standard output and standard error.
+//! - [`Terminal`] shows a person progress and messages, [`Clearing`] is a stream beside it, and
+//!   [`Mending`] what its program mends. [`print_system_error`] and [`FULL`] are causes.
 #![tactic(auto)]
 
 mod advice;

@@ -1,4 +1,4 @@
-//! What makes new files of the system.
+//! New files of the system.
 
 ghost use Rattle.std.specs.Prelude.{◌≡◌, None, false, IfOk};
 
@@ -14,12 +14,12 @@ use std::io::{self, ErrorKind};
 pub struct PartFiles<'rt> {
     system: Parts<'rt>,
     made: MadeFiles,
-    /// The other name of each of the files, while it has that.
+    /// The name `NAME.part` of each of the files, while it has that.
     parts: Vec<Option<String>>,
 }
 
 impl<'rt> PartFiles<'rt> {
-    /// No file yet.
+    /// Returns one that has made no file.
     pub fn new(rt: &'rt HostRuntime, terminal: &'rt Terminal<'rt>) -> PartFiles<'rt> {
         PartFiles {
             system: Parts::new(rt, terminal),
@@ -28,7 +28,7 @@ impl<'rt> PartFiles<'rt> {
         }
     }
 
-    /// Begins a file. Its names are kept first: what fails after it is made would leave it.
+    /// Begins a file. Its names are noted first, since nothing may fail once it is made.
     fn begin(&mut self, alloc: Global, name: &str) -> io::Result<NewFile<'rt>>
         ensures unfailed { IfOk result (λ file. file.failures ≡ 0) }
         ensures made { self.new.made ≡ self.old.made }
@@ -52,7 +52,7 @@ impl<'rt> PartFiles<'rt> {
         }
     }
 
-    /// Whether the file at a place is gone, which is removed under the name that it has.
+    /// Removes the file at a place, under the name that it has, and is true where it is gone.
     fn is_removed(&self, place: usize) -> bool {
         if let Some(Some(part)) = self.parts.get(place) {
             return self.system.is_removed(part.as_str());

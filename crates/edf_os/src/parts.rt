@@ -16,8 +16,8 @@ use std::path::Path;
 /// sees a file of that name that is not whole. Then its folder is synced.
 ///
 /// Where the file system has no links, an empty file of that name is made first, and the whole one
-/// is renamed over it: nobody's file is written over there either, but a crash between the two
-/// leaves the empty file.
+/// is renamed over it: nobody's file is written over there either, but after a crash between the
+/// two there is the empty file.
 #[derive(Drop)]
 pub(crate) struct Parts<'rt> {
     rt: &'rt HostRuntime,
@@ -31,19 +31,17 @@ pub struct NewFile<'rt> {
     name: String,
     part: String,
     file: File,
-    /// How many bytes were written.
+    /// The bytes that were written.
     bytes: u64,
-    /// How many writes failed, up to `u64::MAX`.
+    /// The writes that failed, up to `u64::MAX`.
     failures: u64,
 }
 
 impl NewFile<'_> {
-    /// How many bytes were written.
     pub(crate) fn bytes(&self) -> u64 {
         self.bytes
     }
 
-    /// How many writes failed, up to `u64::MAX`.
     pub(crate) fn failures(&self) -> u64
         ensures { result ≡ self.now.failures }
     {
@@ -74,7 +72,7 @@ impl Output for NewFile<'_> {
     }
 }
 
-/// Removes a file. One that is not there is removed.
+/// Removes a file, if it is there.
 fn remove(rt: &HostRuntime, name: &str) -> io::Result<()> {
     match fs::remove_file(rt, name) {
         Err(error) if error.kind() == ErrorKind::NotFound => Ok(()),
@@ -82,8 +80,8 @@ fn remove(rt: &HostRuntime, name: &str) -> io::Result<()> {
     }
 }
 
-/// Whether a folder that can't be synced is let pass: it may not be read, or its file system has no
-/// call for that.
+/// Is true where it is no failure that a folder can't be synced: it may not be read, or its file
+/// system has no call for that.
 fn is_let_pass(error: &io::Error) -> bool {
     matches!(
         error.kind(),
@@ -112,8 +110,8 @@ impl<'rt> Parts<'rt> {
         Parts { rt, terminal }
     }
 
-    /// Whether there is something of that name, if only a link that leads nowhere. Where that is
-    /// not known, `create` or `finish` finds it out.
+    /// Is true where there is something of that name, if only a link that leads nowhere. Where that
+    /// is not known, `create` or `finish` finds it out.
     pub(crate) fn is_there(&self, name: &str) -> bool {
         fs::symlink_metadata(self.rt, name).is_ok()
     }
@@ -198,7 +196,7 @@ impl<'rt> Parts<'rt> {
     ///
     /// # Errors
     /// `AlreadyExists` where there is something of that name, which is as it was; another where it
-    /// could not be synced or named, or not all was written. What is left of it has its other name.
+    /// could not be synced or named, or not all was written. What remains of it is its part.
     pub(crate) fn finish(&self, file: NewFile<'rt>) -> io::Result<()>
         ensures { IfOk result (λ _. file.entry.failures ≡ 0) }
     {
@@ -225,7 +223,7 @@ impl<'rt> Parts<'rt> {
         ended
     }
 
-    /// Whether a file is gone, which is removed if it is there. Prints why it could not be.
+    /// Removes a file, if it is there, and is true where it is gone. Prints why it is not.
     pub(crate) fn is_removed(&self, name: &str) -> bool {
         match remove(self.rt, name) {
             Ok(()) => true,

@@ -1,4 +1,4 @@
-//! What a program does with its words.
+//! A program, by the words after its name.
 
 use crate::streams::{refuse_words, words};
 use edf_cli::Status;
@@ -6,12 +6,11 @@ use edf_fragment::{Counted, Output};
 use std::alloc::Global;
 use std::process::ExitCode;
 
-/// A program: what its words ask for, and what does that over the system.
+/// A program reads its words as a command, and runs that over the system.
 pub trait Program {
-    /// What words ask for.
     type Command: Drop;
 
-    /// The command that the words after the program's name ask for.
+    /// Returns the command that the words after the program's name ask for.
     ///
     /// # Errors
     /// The status that the program ends with, where there is no command to run. Why was written.
@@ -26,7 +25,7 @@ pub trait Program {
     fn run(rt: &HostRuntime, command: &Self::Command) -> Status;
 }
 
-/// Does what the words after the program's name ask for, and answers how it went.
+/// Does what the words after the program's name ask for, and returns the status.
 pub fn run_words<P: Program>(rt: &HostRuntime, words: &[String]) -> Status {
     let mut out = Counted::new(rt.stdout());
     let mut err = Counted::new(rt.stderr());
@@ -36,7 +35,7 @@ pub fn run_words<P: Program>(rt: &HostRuntime, words: &[String]) -> Status {
     }
 }
 
-/// Does what the program's words ask for, and answers the status that it ends with: 0 to 3.
+/// Does what the program's words ask for, and returns the exit status, 0 to 3.
 pub fn run_program<P: Program>(rt: &HostRuntime) -> ExitCode {
     let status = match words(rt) {
         Ok(words) => run_words::<P>(rt, words.as_slice()),

@@ -7,7 +7,7 @@ use edf_fragment::Counted;
 use std::io::{ErrorKind, Stderr, Stdout};
 use std::{env, io};
 
-/// The words after the program's name.
+/// Returns the words after the program's name.
 ///
 /// # Errors
 /// `InvalidData` where one is not UTF-8, another where memory ran out.
@@ -34,7 +34,7 @@ pub struct Streams<'t> {
 }
 
 impl<'t> Streams<'t> {
-    /// The streams of a program whose progress a terminal shows.
+    /// Returns the streams of a program whose progress a terminal shows.
     pub fn new(rt: &'t HostRuntime, terminal: &'t Terminal<'t>) -> Streams<'t> {
         Streams {
             out: Clearing {

@@ -1,4 +1,4 @@
-//! What is printed for a person: on standard error, and only where that is a terminal.
+//! Lines for a person: on standard error, and only where that is a terminal.
 //!
 //! Messages are lines; progress is one overwritten line, erased before other output.
 
@@ -10,10 +10,10 @@ use std::io::IsTerminal;
 /// Progress is written again each time this number of bytes was read.
 const MEGABYTE: u64 = 1_000_000;
 
-/// What is written over the line of progress, which is never longer.
+/// It is written over the line of progress, which is never longer.
 const WIPED: &str = "\r                                                            \r";
 
-/// What a program mends of the files that it refuses.
+/// A program mends the files that it refuses, by these rules.
 #[derive(Clone, Copy, Debug, PartialEq, Eq, Drop)]
 pub enum Mending {
     /// It mends none.
@@ -29,28 +29,25 @@ pub enum Mending {
 pub struct Terminal<'rt> {
     rt: &'rt HostRuntime,
     is_there: bool,
-    /// What the line of progress counts, as `file`, and how many of them there are; 0 where no
-    /// progress is shown.
+    /// The line of progress counts these, as `file`, up to their number; 0 where none is shown.
     unit: &'static str,
     units: usize,
-    /// What the program mends of the files that it refuses.
     mending: Mending,
     begun: Cell<usize>,
-    /// How many bytes of the file were read that was begun last, and how many it has, where that is
-    /// known.
+    /// The bytes that were read of the file that was begun last, and its size, where that is known.
     bytes: Cell<u64>,
     size: Cell<Option<u64>>,
     is_progress_shown: Cell<bool>,
-    /// Whether it was printed why a file could not be read.
+    /// It is true once it was printed why a file could not be read.
     is_unread_printed: Cell<bool>,
-    /// Whether something was written to standard output.
+    /// It is true once something was written to standard output.
     is_output_begun: Cell<bool>,
     /// The numbers of the refusals that were explained, a bit each.
     explained: Cell<u64>,
 }
 
 impl<'rt> Terminal<'rt> {
-    /// One that shows the progress of reading so many units, if a person is there.
+    /// Returns one that shows the progress of reading so many units, if a person is there.
     fn of(
         rt: &'rt HostRuntime,
         is_there: bool,
@@ -74,13 +71,13 @@ impl<'rt> Terminal<'rt> {
         }
     }
 
-    /// A terminal that shows the progress of reading `units` files or whatever else `unit` names,
-    /// if there are any.
+    /// Returns a terminal that shows the progress of reading `units` files, or whatever else `unit`
+    /// names, if there are any.
     pub fn new(rt: &'rt HostRuntime, unit: &'static str, units: usize) -> Terminal<'rt> {
         Terminal::of_mender(rt, unit, units, Mending::Nothing)
     }
 
-    /// The same, of a program that mends files.
+    /// Returns the same for a program that mends files.
     pub fn of_mender(
         rt: &'rt HostRuntime,
         unit: &'static str,
@@ -90,19 +87,18 @@ impl<'rt> Terminal<'rt> {
         Terminal::of(rt, rt.stderr().is_terminal(), unit, units, mending)
     }
 
-    /// Standard error as a journal keeps it, whether it is a terminal or not: it gets messages, and
-    /// no progress.
+    /// Returns standard error for a service's journal, terminal or not: it gets messages, and no
+    /// progress.
     pub fn journal(rt: &'rt HostRuntime) -> Terminal<'rt> {
         Terminal::of(rt, true, "file", 0, Mending::Nothing)
     }
 
-    /// Whether a person reads what is printed.
+    /// Is true where a person reads what is printed.
     pub fn is_there(&self) -> bool {
         self.is_there
     }
 
-    /// A line about the file or the store of this name. Where it can't be written, that does not
-    /// matter.
+    /// Prints a line about the file or the store of this name, if it can be written.
     pub fn say(&self, name: &str, words: impl Display + Drop) {
         if self.is_there {
             self.wipe_progress();
@@ -110,7 +106,7 @@ impl<'rt> Terminal<'rt> {
         }
     }
 
-    /// The sentence of a fault of the file of this name, and these words behind it.
+    /// Prints the sentence of a fault of the file of this name, and these words after it.
     pub(crate) fn say_of(&self, name: &str, fault: &FragmentFault, words: &str) {
         if self.is_there {
             self.wipe_progress();
@@ -118,7 +114,7 @@ impl<'rt> Terminal<'rt> {
         }
     }
 
-    /// The same, where the words say what to do by themselves.
+    /// Prints the same, where the words say what to do by themselves.
     pub(crate) fn say_both(&self, name: &str, fault: &FragmentFault, words: &str) {
         if self.is_there {
             self.wipe_progress();
@@ -126,41 +122,40 @@ impl<'rt> Terminal<'rt> {
         }
     }
 
-    /// A line that is told once, under the number of a refusal.
+    /// Prints a line once, by the number of a refusal.
     pub(crate) fn say_once(&self, number: u8, name: &str, words: &str) {
         if self.is_first(number) {
             self.say(name, words);
         }
     }
 
-    /// What the program mends of the files that it refuses.
     pub(crate) fn mending(&self) -> Mending {
         self.mending
     }
 
-    /// Keeps whether something was written to standard output.
+    /// Notes whether something was written to standard output.
     pub(crate) fn note_output(&self, count: usize) {
         if count != 0 {
             self.is_output_begun.set(true);
         }
     }
 
-    /// Whether something was written to standard output.
+    /// Is true once something was written to standard output.
     pub fn is_output_begun(&self) -> bool {
         self.is_output_begun.get()
     }
 
-    /// Keeps that it was printed why a file could not be read.
+    /// Notes that it was printed why a file could not be read.
     pub(crate) fn note_unread(&self) {
         self.is_unread_printed.set(true);
     }
 
-    /// Whether it was printed why a file could not be read.
+    /// Is true once it was printed why a file could not be read.
     pub(crate) fn is_unread_printed(&self) -> bool {
         self.is_unread_printed.get()
     }
 
-    /// Whether a refusal of that number is the first that is explained, which it is from then on.
+    /// Is true where no refusal of that number was explained before, and notes that one is now.
     pub(crate) fn is_first(&self, number: u8) -> bool {
         let bit = 1u64.checked_shl(u32::from(number)).unwrap_or(0);
         let explained = self.explained.get();
