@@ -1,5 +1,4 @@
-//! The program `edfstore`: takes, lists, exports and converts sleep recordings. What it does is
-//! `edfstore_open`'s.
+//! The program `edfstore` takes, lists, exports and converts sleep recordings, by `edfstore_open`.
 #![tactic(auto)]
 
 use edfstore_open::run_program;
