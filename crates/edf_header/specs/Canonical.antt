@@ -1,4 +1,4 @@
--- The one header that a canonical file has.
+-- A canonical file has this one header.
 use Rattle.std.specs.Prelude.{◌≡◌, ℕ, ◌+◌, ◌*◌, List, [], ◌∷◌, ◌++◌, length, codes, if◌then◌else◌}
 use Rattle.std.specs.Prelude.{pos}
 use Rattle.std.specs.Fmt.{decimal}
@@ -7,7 +7,7 @@ use Rattle.edf_field.specs.Text.{spaces, padded_to}
 use Rattle.edf_header.specs.Signal.{columns}
 use Rattle.edf_header.specs.Key.{Key}
 
--- the annotations signal of a canonical file
+-- A canonical file has this annotations signal.
 abbrev pub annotations_signal : ℕ → List ℕ
 annotations_signal samples =
     codes "EDF Annotations " ++ (spaces 80
@@ -15,12 +15,12 @@ annotations_signal samples =
     ++ (padded_to 8 (codes "-32768") ++ (padded_to 8 (codes "32767")
     ++ (spaces 80 ++ (padded_to 8 (decimal samples) ++ spaces 32))))))))
 
--- its signals: the ordinary ones in order, then the annotations signal
+-- Its signals are the ordinary ones in order, then the annotations signal.
 abbrev pub canonical_signals : Key → ℕ → List (List ℕ)
 canonical_signals k samples = k.signals ++ annotations_signal samples ∷ []
 
--- the header of a canonical file of `count` records, the first of which starts at `start`; the
--- start is named to the second, and numbers have no leading zeros
+-- The bytes are the header of a canonical file of `count` records, the first of which starts at
+-- `start`. The start is named to the second, and numbers have no leading zeros.
 pub record IsCanonicalHeader (bytes : List ℕ) (k : Key) (start count samples : ℕ) : Type 0 where
   pub date : List ℕ
   pub time : List ℕ

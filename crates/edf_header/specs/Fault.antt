@@ -1,5 +1,5 @@
--- When a header is refused: each fault with its condition, its number, its name, and the offset or
--- the signal that it names; and the first fault in the order of the numbers.
+-- A header is refused for its first fault in the order of the numbers. Each fault has a condition,
+-- a number, a name, and the offset or the signal that it names.
 use Rattle.std.specs.Prelude.{◌≡◌, ◌≢◌, ℕ, ◌*◌, ◌<◌, ◌⊎◌, List, length, codes, take, Option, Some}
 use Rattle.std.specs.Prelude.{None}
 use Rattle.edf_field.specs.Number.{field}
@@ -23,10 +23,10 @@ use Rattle.edf_header.specs.declared.fault.HeaderFault.TheVariants.{HeaderBytes,
 use Rattle.edf_header.specs.declared.fault.HeaderFault.TheVariants.{UnprintableSignals, Annotations}
 use Rattle.edf_header.specs.declared.fault.HeaderFault.TheVariants.{Physical, Digital, Samples}
 use Rattle.edf_header.specs.declared.fault.HeaderFault.TheVariants.{Size, Memory}
--- it is cited beside the faults
+-- It is cited beside the faults.
 pub use Rattle.edf_header.specs.Condition.{HasSignals}
 
--- E1 to E13: the fault is true of b, the fixed part's bytes
+-- The fault, E1 to E13, is true of b, the fixed part's bytes.
 abbrev pub FixedPartFails : List ℕ → HeaderFault → Type 0
 FixedPartFails b Cut = length b < 256  -- E1
 FixedPartFails b (Unprintable offset format) = IsFirstBad IsPrintable b offset  -- E2
@@ -44,7 +44,7 @@ FixedPartFails b Signals = HasNoSignals b  -- E12
 FixedPartFails b HeaderBytes = HasOtherHeaderBytes b  -- E13
 FixedPartFails b _ = ⊥
 
--- E14 to E20: the fault is true of s, the signal part's bytes, of n signals
+-- The fault, E14 to E20, is true of s, the signal part's bytes, of n signals.
 abbrev pub SignalsFail : List ℕ → ℕ → HeaderFault → Type 0
 SignalsFail s n CutSignals = length s < 256 * n  -- E14
 SignalsFail s n (UnprintableSignals offset) = HasBadByteAt s offset  -- E15
@@ -55,7 +55,7 @@ SignalsFail s n (Samples signal) = IsBadSignal checks.Samples (signals_of s n) s
 SignalsFail s n Size = IsTooLarge (signals_of s n)  -- E20
 SignalsFail s n _ = ⊥
 
--- the numbers, by which the faults are ordered
+-- The faults are ordered by these numbers.
 abbrev pub header_fault_number : HeaderFault → ℕ
 header_fault_number Cut = 1
 header_fault_number (Unprintable offset format) = 2
@@ -79,7 +79,7 @@ header_fault_number (Samples signal) = 19
 header_fault_number Size = 20
 header_fault_number Memory = 41
 
--- the names: those of the variants
+-- The faults have the names of their variants.
 abbrev pub header_fault_name : HeaderFault → List ℕ
 header_fault_name Cut = codes "Cut"
 header_fault_name (Unprintable offset format) = codes "Unprintable"
@@ -103,36 +103,36 @@ header_fault_name (Samples signal) = codes "Samples"
 header_fault_name Size = codes "Size"
 header_fault_name Memory = codes "Memory"
 
--- the offset in the file of a byte that is not printable
+-- The fault names the offset in the file of a byte that is not printable.
 abbrev pub header_fault_offset : HeaderFault → Option ℕ
 header_fault_offset (Unprintable offset format) = Some offset
 header_fault_offset (UnprintableSignals offset) = Some offset
 header_fault_offset _ = None
 
--- the signal that is refused
+-- The fault names the signal that is refused.
 abbrev pub header_fault_signal : HeaderFault → Option ℕ
 header_fault_signal (Physical signal) = Some signal
 header_fault_signal (Digital signal) = Some signal
 header_fault_signal (Samples signal) = Some signal
 header_fault_signal _ = None
 
--- no fault of a lower number is true
+-- No fault of a lower number than n is true.
 abbrev pub IsClean : (HeaderFault → Type 0) → ℕ → Type 0
 IsClean Holds n = (other : HeaderFault) → header_fault_number other < n → ¬ Holds other
 
--- the fault is true, and none of a lower number
+-- The fault is true, and none of a lower number.
 abbrev pub IsFirst : (HeaderFault → Type 0) → HeaderFault → Type 0
 IsFirst Holds fault = Holds fault × IsClean Holds (header_fault_number fault)
 
--- why bytes begin with no header: a fault of the fixed part, or, where it has none, of the signal
--- part after it
+-- Bytes begin with no header, by a fault of the fixed part, or, where it has none, of the signal
+-- part after it.
 abbrev pub IsHeaderFault : List ℕ → HeaderFault → Type 0
 IsHeaderFault bytes fault =
     IsFirst (FixedPartFails (take 256 bytes)) fault
     ⊎ ((n : ℕ) × IsClean (FixedPartFails (take 256 bytes)) 14 × HasSignals bytes n
     × IsFirst (SignalsFail (field bytes 256 (256 * n)) n) fault)
 
--- why the signal part is not read: memory ran out, where it has no fault, or the first fault
+-- The signal part is not read, by its first fault, or where it has none since memory ran out.
 abbrev pub IsSignalsRefusal : List ℕ → ℕ → HeaderFault → Type 0
 IsSignalsRefusal s n fault = ((fault ≡ Memory) × IsClean (SignalsFail s n) 21)
     ⊎ IsFirst (SignalsFail s n) fault

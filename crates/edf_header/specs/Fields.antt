@@ -1,8 +1,8 @@
--- Where the fields of a header are: at which byte each begins, and how many bytes it has.
+-- Each field of a header begins at its byte and has its number of bytes.
 use Rattle.std.specs.Prelude.{ℕ, ◌-◌, ◌/◌, List, [], ◌∷◌, length, drop, slice_index}
 use Rattle.edf_field.specs.Number.{field}
 
--- in the fixed part, its first 256 bytes
+-- The fixed part, a header's first 256 bytes, has these fields.
 abbrev pub version_field : List ℕ → List ℕ
 version_field bytes = field bytes 0 8
 
@@ -33,8 +33,8 @@ duration_field bytes = field bytes 244 8
 abbrev pub signals_field : List ℕ → List ℕ
 signals_field bytes = field bytes 252 4
 
--- in a signal's row: label, transducer type, physical dimension, physical minimum and maximum,
--- digital minimum and maximum, prefiltering, samples per data record, reserved
+-- A signal's row has label, transducer type, physical dimension, physical minimum and maximum,
+-- digital minimum and maximum, prefiltering, samples per data record, reserved.
 abbrev pub fields : List (ℕ × ℕ)
 fields = (0, 16) ∷ (16, 80) ∷ (96, 8) ∷ (104, 8) ∷ (112, 8) ∷ (120, 8) ∷ (128, 8) ∷ (
   136,
@@ -59,9 +59,9 @@ digital_maximum_field row = field row 128 8
 abbrev pub samples_field : List ℕ → List ℕ
 samples_field row = field row 216 8
 
--- in the bytes of an identity: the patient field; D where the Startdate subfield is a date, X where
--- it is X; what follows that subfield; the spaces that follow where it is a date; the duration
--- field; the rows of the signals
+-- The bytes of an identity have the patient field; D where the Startdate subfield is a date, X
+-- where it is X; what follows that subfield; the spaces that follow where it is a date; the
+-- duration field; the rows of the signals.
 abbrev pub key_patient_field : List ℕ → List ℕ
 key_patient_field bytes = field bytes 0 80
 

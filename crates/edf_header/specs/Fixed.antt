@@ -1,4 +1,4 @@
--- What the fixed part of a header says, and when 256 bytes spell it.
+-- The fixed part of a header is 256 bytes, which say this.
 use Rattle.std.specs.Prelude.{◌≡◌, ℕ, ◌+◌, ◌*◌, ◌%◌, ◌^◌, ◌≤◌, ◌<◌, ◌⊎◌, Bool, true, false, List}
 use Rattle.std.specs.Prelude.{length, take, All, codes, ℤ, Option, Some, None, if◌then◌else◌}
 use Rattle.edf_time.specs.Civil.{IsCivil, window}
@@ -11,9 +11,9 @@ use Rattle.edf_header.specs.Fields.{count_field, duration_field, signals_field}
 use Rattle.edf_header.specs.Key.{MayStartBy}
 use Rattle.edf_header.specs.declared.limits.TheConstants.{MOST_RECORDS, MOST_SIGNALS}
 
--- what the fixed part says: the patient field; the Startdate subfield's day, or none for X, and
--- what follows it; the start in nanoseconds; how many data records, or none where the count is -1;
--- the duration field; how many signals
+-- The fixed part has the patient field; the Startdate subfield's day, or none for X, and what
+-- follows it; the start in nanoseconds; the number of data records, or none where the count is -1;
+-- the duration field; the number of signals.
 pub record FixedPart : Type 0 where
   pub patient : List ℕ
   pub startdate : Option ℤ
@@ -27,7 +27,7 @@ abbrev pub is_dated : Option ℤ → Bool
 is_dated None = false
 is_dated (Some day) = true
 
--- what a fixed part says, by the patient field, the recording field and the rest
+-- The fixed part has this patient field, recording field and the rest.
 abbrev pub fixed_from : List ℕ → List ℕ → Option ℤ → ℕ → Option ℕ → List ℕ → ℕ → FixedPart
 fixed_from patient recording startdate start count duration signals = record {
   patient = patient;
@@ -39,19 +39,19 @@ fixed_from patient recording startdate start count duration signals = record {
   signal_count = signals;
 }
 
--- the same, of the fields in these 256 bytes
+-- The fixed part has the fields in these 256 bytes.
 abbrev pub fixed_at : List ℕ → Option ℤ → ℕ → Option ℕ → ℕ → FixedPart
 fixed_at bytes startdate start count signals =
     fixed_from (patient_field bytes) (recording_field bytes) startdate start count
     (duration_field bytes) signals
 
--- the field of the count: a whole number from 1 on; or -1 and six spaces, and then as many data
--- records as the file holds
+-- The field of the count is a whole number from 1 on; or it is -1 and six spaces, and then the file
+-- has as many data records as follow.
 abbrev pub IsCount : List ℕ → Option ℕ → Type 0
 IsCount field None = field ≡ codes "-1      "
 IsCount field (Some n) = IsNumber field n × (1 ≤ n)
 
--- how many data records such a file has at least, and at most
+-- A file of that count has at least so many data records, and at most `most_records`.
 abbrev pub least_records : Option ℕ → ℕ
 least_records None = 1
 least_records (Some n) = n
@@ -60,11 +60,11 @@ abbrev pub most_records : Option ℕ → ℕ
 most_records None = MOST_RECORDS
 most_records (Some n) = n
 
--- a count of 1 to 99,999,999, or none
+-- The count is 1 to 99,999,999, or none.
 abbrev pub IsCountInRange : Option ℕ → Type 0
 IsCountInRange count = (1 ≤ least_records count) × (most_records count ≤ MOST_RECORDS)
 
--- the fixed parts that headers have
+-- The fixed part is one that a header can have.
 pub record IsFixed (f : FixedPart) : Type 0 where
   pub patient_len : length f.patient ≡ 80
   pub patient_printable : All IsPrintable f.patient
@@ -85,7 +85,7 @@ pub record IsFixed (f : FixedPart) : Type 0 where
 abbrev pub IsPlus : List ℕ → Type 0
 IsPlus reserved = (take 5 reserved ≡ codes "EDF+C") ⊎ (take 5 reserved ≡ codes "EDF+D")
 
--- 256 bytes spell the fixed part, each field at its offset
+-- The 256 bytes are the fixed part, each field at its offset.
 pub record IsFixedHeader (bytes : List ℕ) (h : FixedPart) : Type 0 where
   pub len : length bytes ≡ 256
   pub printable : All IsPrintable bytes

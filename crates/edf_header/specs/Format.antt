@@ -1,4 +1,4 @@
--- What a file is, by its first bytes.
+-- A file has a format by its first bytes.
 use Rattle.std.specs.Prelude.{◌≡◌, ◌≢◌, ℕ, List, [], ◌∷◌, ◌++◌, take, codes}
 use Rattle.edf_header.specs.declared.format.Format.{Format}
 use Rattle.edf_header.specs.declared.format.Format.TheVariants.{Edf, Bdf, Zip, Sqlite, Other}

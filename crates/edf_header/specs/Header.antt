@@ -1,4 +1,4 @@
--- What a header says of its data records, and when bytes spell it.
+-- A file begins with a header, which says this of the data records.
 use Rattle.std.specs.Prelude.{◌≡◌, ℕ, ◌+◌, ◌*◌, ◌%◌, ◌^◌, ◌≤◌, List, [], ◌∷◌, ◌++◌, length, sum_by}
 use Rattle.std.specs.Prelude.{All, Option, if◌then◌else◌}
 use Rattle.edf_field.specs.Text.{IsPrintable}
@@ -8,17 +8,17 @@ use Rattle.edf_header.specs.Key.{Key, IsKey, MayStart}
 use Rattle.edf_header.specs.declared.header.Block.{Block}
 use Rattle.edf_header.specs.declared.limits.TheConstants.{MOST_BLOCK_BYTES, MOST_RECORD_BYTES}
 use Rattle.edf_header.specs.Fixed.{is_dated, IsCountInRange}
--- words of the fixed part that other crates cite beside those of a header
+-- Other crates cite these of the fixed part beside those of a header.
 pub use Rattle.edf_header.specs.Fixed.{FixedPart, IsFixedHeader, IsCount, least_records}
 pub use Rattle.edf_header.specs.Fixed.{most_records}
 
--- a header: its fixed part, and its signals in file order, each a row
+-- A header has a fixed part, and signals in file order, each a row.
 pub record HeaderRecord : Type 0 where
   pub fixed : FixedPart
   pub signals : List (List ℕ)
 
--- 256 bytes a signal spell the header's signals, each field in its column; both kinds of signals
--- are there
+-- The bytes, 256 a signal, are the header's signals, each field in its column; both kinds of
+-- signals are there.
 pub record AreSignals (bytes : List ℕ) (h : HeaderRecord) : Type 0 where
   pub len : length bytes ≡ 256 * h.fixed.signal_count
   pub printable : All IsPrintable bytes
@@ -31,7 +31,7 @@ pub record AreSignals (bytes : List ℕ) (h : HeaderRecord) : Type 0 where
   pub ordinary_size : 2 * samples_in_all (ordinary h.signals) ≤ MOST_BLOCK_BYTES
   pub block_size : 2 * samples_in_all (labelled h.signals) ≤ MOST_BLOCK_BYTES
 
--- the bytes begin with a header
+-- The bytes begin with the header, and `rest` follows it.
 pub record IsHeader (bytes : List ℕ) (h : HeaderRecord) (rest : List ℕ) : Type 0 where
   pub first : List ℕ
   pub second : List ℕ
@@ -39,7 +39,7 @@ pub record IsHeader (bytes : List ℕ) (h : HeaderRecord) (rest : List ℕ) : Ty
   pub fixed : IsFixedHeader first h.fixed
   pub signals : AreSignals second h
 
--- the recording that a header names
+-- The header names the recording of this key.
 abbrev pub key_of : HeaderRecord → Key
 key_of h = record {
   patient = h.fixed.patient;
@@ -49,8 +49,8 @@ key_of h = record {
   signals = ordinary h.signals;
 }
 
--- the annotations blocks that signals have in a data record whose next byte is this one, in file
--- order
+-- Signals have these annotations blocks, in file order, in a data record whose next byte is at
+-- this offset.
 abbrev pub blocks_from : ℕ → List (List ℕ) → List Block
 blocks_from at [] = []
 blocks_from at (row ∷ rows) =
@@ -61,9 +61,9 @@ blocks_from at (row ∷ rows) =
     } ∷ blocks_from (at + 2 * samples row) rows
     else blocks_from (at + 2 * samples row) rows
 
--- what a header says of its data records: whose they are, from where their onsets count in
--- nanoseconds, how many there are, or none where the count is -1; and in bytes where the
--- annotations blocks are in each, and how long the whole record is
+-- A header says of its data records whose they are, from where their onsets count in nanoseconds,
+-- how many there are, or none where the count is -1; and in bytes where the annotations blocks are
+-- in each, and how long the whole record is.
 pub record Layout : Type 0 where
   pub key : Key
   pub start : ℕ
@@ -71,7 +71,7 @@ pub record Layout : Type 0 where
   pub blocks : List Block
   pub record_bytes : ℕ
 
--- how many bytes the annotations blocks have together
+-- The annotations blocks have this many bytes together.
 abbrev pub block_bytes : Layout → ℕ
 block_bytes l = sum_by (λ b. b.bytes) l.blocks
 
@@ -84,14 +84,14 @@ layout_of h = record {
   record_bytes = 2 * samples_in_all h.signals;
 }
 
--- blocks that lie one after another between two offsets
+-- The blocks lie one after another between two offsets.
 abbrev pub AreApart : ℕ → List Block → ℕ → Type 0
 AreApart from [] to = from ≤ to
 AreApart from (b ∷ bs) to = (from ≤ b.at) × AreApart (b.at + b.bytes) bs to
 
--- what each header's layout keeps: its start is one that the key's recording may have; there is a
--- block, each has a sample at least and lies in the record apart from the others, and the rest of
--- the record are the ordinary samples
+-- The layout is one that a header has. Its start is one that the key's recording may have; there is
+-- a block, each has a sample at least and lies in the record apart from the others, and the rest of
+-- the record are the ordinary samples.
 pub record IsLayout (l : Layout) : Type 0 where
   pub key : IsKey l.key
   pub may_start : MayStart l.key l.start

@@ -1,4 +1,4 @@
--- When bytes are no identity: the condition of each fault, and the first in their order.
+-- Bytes are no identity by their first fault. Each fault has a condition and a place in the order.
 use Rattle.std.specs.Prelude.{◌≡◌, ℕ, ◌+◌, ◌*◌, ◌≤◌, ◌<◌, ◌⊎◌, List, length}
 use Rattle.edf_field.specs.Number.{IsDuration, AreSpaces}
 use Rattle.edf_field.specs.Text.{IsPrintable, IsPatient, FollowsStartdate, spaces}
@@ -16,26 +16,26 @@ use Rattle.edf_header.specs.declared.identity.IdentityFault.TheVariants.{Duratio
 use Rattle.edf_header.specs.declared.identity.IdentityFault.TheVariants.{Digital, Samples, Size}
 use Rattle.edf_header.specs.declared.identity.IdentityFault.TheVariants.{Memory}
 
--- 158 bytes, and 256 for each of 1 to 639 signals
+-- There are 158 bytes, and 256 for each of 1 to 639 signals.
 abbrev pub HasLength : List ℕ → Type 0
 HasLength b = (n : ℕ) × (1 ≤ n) × (n ≤ MOST_ORDINARY_SIGNALS)
     × (length b ≡ key_size_before_signals + 256 * n)
 
--- D, with 10 spaces at the end of its part, or X
+-- The mark is D, with 10 spaces at the end of its part, or X.
 abbrev pub HasMark : List ℕ → Type 0
 HasMark b = ((key_mark b ≡ 68) × AreSpaces (key_fill_field b)) ⊎ (key_mark b ≡ 88)
 
--- byte 80 is D, with 10 spaces at the end of its part, or X
+-- Byte 80 is D, with 10 spaces at the end of its part, or X.
 pub record IsShaped (bytes : List ℕ) : Type 0 where
   pub signals : ℕ
   pub len : length bytes ≡ key_size_before_signals + 256 * signals
   pub dated : ((key_mark bytes ≡ 68) × (key_fill_field bytes ≡ spaces 10)) ⊎ (key_mark bytes ≡ 88)
 
--- the signals in an identity's bytes
+-- An identity's bytes have these signals.
 abbrev pub signals_at : List ℕ → List (List ℕ)
 signals_at b = rows (key_signals_count b) (key_signals_part b)
 
--- the fault is true of the bytes
+-- The fault is true of the bytes.
 abbrev pub KeyFails : List ℕ → IdentityFault → Type 0
 KeyFails b Length = ¬ HasLength b
 KeyFails b (Unprintable offset) = IsFirstBad IsPrintable b offset
@@ -49,7 +49,7 @@ KeyFails b (Samples signal) = IsBadSignal checks.Samples (signals_at b) signal
 KeyFails b Size = MOST_BLOCK_BYTES < 2 * samples_in_all (signals_at b)
 KeyFails b Memory = Unit {0}
 
--- the order of the faults; `Memory` comes last, so it says that no other is true
+-- The faults have this order; `Memory` comes last, so it says that no other is true.
 abbrev pub identity_fault_order : IdentityFault → ℕ
 identity_fault_order Length = 1
 identity_fault_order (Unprintable offset) = 2
@@ -63,10 +63,10 @@ identity_fault_order (Samples signal) = 9
 identity_fault_order Size = 10
 identity_fault_order Memory = 11
 
--- no fault that comes before is true
+-- No fault that comes before n is true.
 abbrev pub IsCleanKey : List ℕ → ℕ → Type 0
 IsCleanKey b n = (other : IdentityFault) → identity_fault_order other < n → ¬ KeyFails b other
 
--- the fault is true, and none before it
+-- The fault is true, and none before it.
 abbrev pub IsFirstKeyFault : List ℕ → IdentityFault → Type 0
 IsFirstKeyFault b fault = KeyFails b fault × IsCleanKey b (identity_fault_order fault)

@@ -1,3 +1,3 @@
--- Words of private contracts, which no public contract cites.
+-- Private contracts cite these, and no public contract does.
 pub mod Rows
 pub mod Shape

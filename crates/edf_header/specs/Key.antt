@@ -1,4 +1,4 @@
--- To which recording a fragment belongs: the key, which fields have it, and its bytes.
+-- A fragment belongs to a recording by its key: fields of its header, which have bytes.
 use Rattle.std.specs.Prelude.{◌≡◌, ℕ, ◌*◌, ◌≤◌, ◌<◌, ◌==◌, Bool, false, List, ◌∷◌, ◌++◌, length}
 use Rattle.std.specs.Prelude.{All, if◌then◌else◌, [], slice_index_or}
 use Rattle.std.specs.List.{flat_map}
@@ -10,8 +10,8 @@ use Rattle.edf_header.specs.Fields.{key_duration_field, key_signals_count, key_s
 use Rattle.edf_header.specs.Signal.{rows, IsOrdinary, HasSamples, samples_in_all}
 use Rattle.edf_header.specs.declared.limits.TheConstants.{MOST_BLOCK_BYTES, MOST_ORDINARY_SIGNALS}
 
--- the patient field; whether the Startdate subfield is a date; what follows it, 59 bytes after a
--- date and 69 after X; the duration field; the ordinary signals' headers
+-- A key has the patient field; that the Startdate subfield is a date, or not; what follows it, 59
+-- bytes after a date and 69 after X; the duration field; the ordinary signals' headers.
 pub record Key : Type 0 where
   pub patient : List ℕ
   pub dated : Bool
@@ -19,23 +19,23 @@ pub record Key : Type 0 where
   pub duration : List ℕ
   pub signals : List (List ℕ)
 
--- the parts have the sizes that they have in the bytes
+-- The parts have the sizes that they have in the bytes.
 pub record IsSized (k : Key) : Type 0 where
   pub patient : length k.patient ≡ 80
   pub after : length k.after ≡ (if k.dated then 59 else 69)
   pub duration : length k.duration ≡ 8
   pub signals : All (λ s. length s ≡ 256) k.signals
 
--- D, what follows and 10 more spaces; or X and what follows
+-- The bytes are D, what follows and 10 more spaces; or X and what follows.
 abbrev pub dated_bytes : Bool → List ℕ → List ℕ
 dated_bytes dated after = if dated then 68 ∷ (after ++ spaces 10) else 88 ∷ after
 
--- the identity's bytes: 158, and 256 for each signal
+-- The identity has these bytes: 158, and 256 for each signal.
 abbrev pub key_bytes : Key → List ℕ
 key_bytes k = k.patient ++ (dated_bytes k.dated k.after
     ++ (k.duration ++ flat_map (λ s. s) k.signals))
 
--- the key that such bytes stand for
+-- Such bytes have this key.
 abbrev pub key_at : List ℕ → Key
 key_at bytes = record {
   patient = key_patient_field bytes;
@@ -45,7 +45,7 @@ key_at bytes = record {
   signals = rows (key_signals_count bytes) (key_signals_part bytes);
 }
 
--- the keys that headers name
+-- The key is one that a header can have.
 pub record IsKey (k : Key) : Type 0 where
   pub sized : IsSized k
   pub printable : All IsPrintable (key_bytes k)
@@ -58,15 +58,15 @@ pub record IsKey (k : Key) : Type 0 where
   pub each_samples : All HasSamples k.signals
   pub size : 2 * samples_in_all k.signals ≤ MOST_BLOCK_BYTES
 
--- a file of the recording may start at this instant: only before 2085 where the Startdate subfield
--- is X, since two digits alone name the year then
+-- A file of the recording may start at this instant: only before 2085 where the Startdate subfield
+-- is X, since two digits alone name the year then.
 abbrev pub MayStartBy : Bool → ℕ → Type 0
 MayStartBy dated start = dated ≡ false → start < two_digit_window
 
 abbrev pub MayStart : Key → ℕ → Type 0
 MayStart k start = MayStartBy k.dated start
 
--- the code of the patient, and that of the investigation: the first subfield of their fields
+-- The code of the patient, and that of the investigation, is the first subfield of its field.
 abbrev pub patient_code : Key → List ℕ
 patient_code k = slice_index_or (subfields k.patient) 0 []
 

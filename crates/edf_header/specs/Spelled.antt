@@ -1,4 +1,4 @@
--- A header spelled field by field, its annotations signal last.
+-- A header is written field by field, its annotations signal last.
 use Rattle.std.specs.Prelude.{◌≡◌, ℕ, ◌+◌, ◌*◌, ◌≤◌, Bool, List, ℤ, Option, Some, None, [], ◌∷◌}
 use Rattle.std.specs.Prelude.{◌++◌, length, All, codes, if◌then◌else◌, pos}
 use Rattle.edf_time.specs.Civil.{AreStartdates, IsTimeText, IsIdDate}
@@ -11,20 +11,20 @@ use Rattle.edf_header.specs.Header.{HeaderRecord, Layout, IsHeader, layout_of}
 use Rattle.edf_header.specs.Fixed.{IsPlus}
 use Rattle.edf_header.specs.declared.limits.TheConstants.{MOST_BLOCK_BYTES}
 
--- a printable text of a field's width
+-- The text is printable and has a field's width.
 pub record IsPrinted (width : ℕ) (text : List ℕ) : Type 0 where
   pub len : length text ≡ width
   pub printable : All IsPrintable text
 
--- the Startdate subfield
+-- The Startdate subfield has this text.
 abbrev pub startdate_text : Bool → List ℕ → List ℕ
 startdate_text dated id_date = if dated then id_date else codes "X"
 
--- the day that it is read as, or none for X
+-- It is read as this day, or none for X.
 abbrev pub startdate_day : Bool → ℕ → Option ℤ
 startdate_day dated days = if dated then Some (pos days) else None
 
--- the texts that no key has: the start's three, and those of numbers and of the reserved field
+-- No key has these texts: the start's three, and those of numbers and of the reserved field.
 pub record Texts : Type 0 where
   pub date : List ℕ
   pub time : List ℕ
@@ -34,7 +34,7 @@ pub record Texts : Type 0 where
   pub count : List ℕ
   pub signal_count : List ℕ
 
--- the header's bytes, field by field
+-- The header has these bytes, field by field.
 abbrev pub spelled_bytes : Key → Texts → List ℕ → List ℕ
 spelled_bytes k t row =
     codes "0       " ++ (k.patient ++ (codes "Startdate "
@@ -42,7 +42,7 @@ spelled_bytes k t row =
     ++ (t.header_bytes ++ (t.reserved
     ++ (t.count ++ (k.duration ++ (t.signal_count ++ columns (k.signals ++ row ∷ []))))))))))))
 
--- what the texts say, and the annotations signal
+-- The texts say this, and the row is an annotations signal.
 pub record IsSpelledBy (k : Key) (days seconds records : ℕ) (t : Texts) (row : List ℕ) : Type 0
   where
     pub date : AreStartdates t.date (startdate_day k.dated days) days
@@ -62,21 +62,21 @@ pub record IsSpelledBy (k : Key) (days seconds records : ℕ) (t : Texts) (row :
     pub row_samples : HasSamples row
     pub block_size : 2 * samples row ≤ MOST_BLOCK_BYTES
 
--- the bytes spell such a header
+-- The bytes are such a header, with these texts.
 pub record IsSpelledHeader (bytes : List ℕ) (k : Key) (days seconds records : ℕ)
     (row : List ℕ) : Type 0 where
   pub texts : Texts
   pub says : IsSpelledBy k days seconds records texts row
   pub parts : bytes ≡ spelled_bytes k texts row
 
--- bytes are read as a header that says this, whatever follows them
+-- The bytes are read as a header of this layout, whatever follows them.
 pub record IsReadAs (bytes : List ℕ) (layout : Layout) : Type 0 where
   pub header : HeaderRecord
   pub reads : (rest : List ℕ) → IsHeader (bytes ++ rest) header rest
   pub says : layout_of header ≡ layout
   pub len : length bytes ≡ 512 + 256 * length layout.key.signals
 
--- what it says: the annotations block of `block` samples is last in each data record
+-- In this layout the annotations block of `block` samples is last in each data record.
 abbrev pub spelled_layout : Key → ℕ → ℕ → ℕ → Layout
 spelled_layout k start count block = record {
   key = k;

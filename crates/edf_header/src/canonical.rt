@@ -45,8 +45,7 @@ fn push_number(
     Ok(())
 }
 
-/// The header of a canonical file's annotations signal of `samples` samples per data record, in a
-/// row.
+/// Returns the header of a canonical file's annotations signal, in a row.
 fn annotations_row(alloc: Global, samples: u32) -> Result<Vec<u8>, AllocError>
     ensures { IfOk result (λ v. v.items ≡ annotations_signal samples) }
 {
@@ -64,8 +63,7 @@ fn annotations_row(alloc: Global, samples: u32) -> Result<Vec<u8>, AllocError>
     Ok(row)
 }
 
-/// Writes the version and the two identifications, `id_date` being the start's day as the Startdate
-/// subfield has it.
+/// Writes the version and the two identifications; the Startdate subfield is `id_date` or `X`.
 fn push_identifications(
     out: &mut Vec<u8>,
     identity: &Identity,
@@ -126,9 +124,9 @@ fn push_signals(
     Ok(())
 }
 
-/// The canonical header of `count` data records of a recording, the first of which starts in the
-/// second of `start` (EDF, header record; EDF+, additional specifications and the annotations
-/// signal).
+/// Returns the canonical header of `count` data records of a recording, the first of which starts
+/// in the second of `start` (EDF, header record; EDF+, additional specifications and the
+/// annotations signal).
 ///
 /// It is EDF+D: 256 bytes, then 256 for each ordinary signal and for the annotations signal, which
 /// is last and has `block_samples` samples per data record, two bytes each. `count` is 1 to
@@ -137,7 +135,7 @@ fn push_signals(
 /// leading zeros.
 ///
 /// # Errors
-/// Where memory runs out.
+/// It fails where memory runs out.
 pub fn write_header(
     alloc: Global,
     identity: &Identity,

@@ -1,5 +1,5 @@
-//! The signal part of a header, whose fields are in columns: each field of all signals in turn
-//! (EDF, header record). In an identity the fields of one signal are in a row.
+//! The signal part of a header has its fields in columns: each field of all signals in turn (EDF,
+//! header record). In an identity the fields of one signal are in a row.
 ghost use Rattle.std.specs.Prelude.{◌≡◌, ℕ, ◌+◌, ◌*◌, ◌/◌, ◌≤◌, ◌<◌, List, [], ◌∷◌, ◌++◌};
 ghost use Rattle.std.specs.Prelude.{length, slice_index_or, OnOk};
 ghost use Rattle.edf_field.specs.Number.{field};
@@ -10,9 +10,8 @@ use crate::limits::MOST_SIGNALS;
 use std::alloc::AllocError;
 use std::marker::Model;
 
-/// The signals of a header, their fields in columns.
-///
-/// Contracts see the signals in file order, each in a row of 256 bytes.
+/// The signals of a header have their fields in columns. Contracts see the signals in file order,
+/// each in a row of 256 bytes.
 #[derive(Drop)]
 pub(crate) struct Columns<'a> {
     bytes: &'a [u8],
@@ -32,7 +31,7 @@ impl<'a> Model for Columns<'a> {
 }
 
 impl<'a> Columns<'a> {
-    /// The columns of `count` signals.
+    /// Returns the columns of `count` signals.
     pub(crate) fn new(bytes: &'a [u8], count: usize) -> Columns<'a>
         requires size { length bytes.now ≡ 256 * count }
         requires few { count ≤ MOST_SIGNALS }
@@ -41,7 +40,7 @@ impl<'a> Columns<'a> {
         Columns { bytes, count }
     }
 
-    /// How many signals there are.
+    /// Returns the number of signals.
     pub(crate) fn count(&self) -> usize
         ensures value { result ≡ length self.now }
         ensures bound { result ≤ MOST_SIGNALS }
@@ -49,7 +48,7 @@ impl<'a> Columns<'a> {
         self.count
     }
 
-    /// One of the signals in a row, which is on the stack: so the checks take no memory.
+    /// Returns one of the signals in a row, which is on the stack: so the checks take no memory.
     pub(crate) fn row(&self, i: usize) -> [u8; 256]
         requires { i < length self.now }
         ensures { result ≡ slice_index_or self.now i [] }
@@ -58,7 +57,7 @@ impl<'a> Columns<'a> {
     }
 }
 
-/// A field of one of `n` signals, in its column.
+/// Returns a field of one of `n` signals from its column.
 fn column(bytes: &[u8], n: usize, i: usize, at: usize, width: usize) -> &[u8]
     requires size { length bytes.now ≡ 256 * n }
     requires few { n ≤ MOST_SIGNALS }
@@ -70,7 +69,7 @@ fn column(bytes: &[u8], n: usize, i: usize, at: usize, width: usize) -> &[u8]
     &bytes[from..from + width]
 }
 
-/// One of `n` signals in a row, its fields read from their columns.
+/// Returns one of `n` signals in a row, its fields read from their columns.
 fn row_from(bytes: &[u8], n: usize, i: usize) -> [u8; 256]
     requires size { length bytes.now ≡ 256 * n }
     requires few { n ≤ MOST_SIGNALS }
@@ -84,7 +83,7 @@ fn row_from(bytes: &[u8], n: usize, i: usize) -> [u8; 256]
     row
 }
 
-/// One of the rows that lie one after another.
+/// Returns one of the rows that lie one after another.
 pub(crate) fn row_in(rows: &[u8], i: usize) -> &[u8; 256]
     requires { i < length rows.now / 256 }
     ensures { result.now ≡ slice_index_or (rows_of rows.now) i [] }

@@ -6,7 +6,7 @@ use crate::format::Format;
 use edf_field::{PatientFault, RecordingFault};
 use thiserror::Error;
 
-/// What is wrong with a file of this format by which a byte is not printable, or that is not EDF.
+/// Says what is wrong with a file of this format, which has an unprintable byte or no EDF version.
 fn format_words(format: &Format) -> &'static str {
     match format {
         Format::Edf => "a byte of its header is no printable ASCII",
@@ -17,10 +17,9 @@ fn format_words(format: &Format) -> &'static str {
     }
 }
 
-/// Why a header is refused, the first condition by number (EDF, header record; EDF+, additional
+/// A header is refused for the first of these that is true (EDF, header record; EDF+, additional
 /// specifications and the annotations signal). Signals count from 1, offsets in bytes from the
-/// file's first, which is 0. The sentence of each is for a person who has its line, which names
-/// these.
+/// file's first, which is 0. Each sentence is for a person who has its line, which names these.
 #[derive(Clone, Copy, Debug, PartialEq, Eq, Drop, Error)]
 pub enum HeaderFault {
     /// E1: the file has fewer than 256 bytes.
@@ -95,7 +94,7 @@ pub enum HeaderFault {
 }
 
 impl HeaderFault {
-    /// Its number: 1 to 20, or 41 where memory ran out.
+    /// Returns its number: 1 to 20, or 41 where memory ran out.
     pub fn number(&self) -> u8
         ensures { result ≡ header_fault_number self.now }
     {
@@ -124,7 +123,7 @@ impl HeaderFault {
         }
     }
 
-    /// Its name, as the variant has it.
+    /// Returns the name of the variant.
     pub fn name(&self) -> &'static str
         ensures { result.now ≡ header_fault_name self.now }
     {
@@ -153,7 +152,7 @@ impl HeaderFault {
         }
     }
 
-    /// The offset in the file of the byte that is not printable, for E2 and E15.
+    /// Returns the offset in the file of the byte that is not printable, for E2 and E15.
     pub fn offset(&self) -> Option<usize>
         ensures { result ≡ header_fault_offset self.now }
     {
@@ -164,7 +163,7 @@ impl HeaderFault {
         }
     }
 
-    /// The signal that is refused, for E17 to E19.
+    /// Returns the signal that is refused, for E17 to E19.
     pub fn signal(&self) -> Option<u32>
         ensures { result ≡ header_fault_signal self.now }
     {

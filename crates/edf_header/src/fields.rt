@@ -1,7 +1,7 @@
-//! Where the fields of a header begin, in bytes (EDF, header record). Each ends where the next
-//! begins.
+//! Each field of a header begins at its byte here, and ends where the next one begins (EDF, header
+//! record).
 
-// In the fixed part.
+// The fixed part has these.
 pub(crate) const VERSION: usize = 0;
 
 pub(crate) const PATIENT: usize = 8;
@@ -24,7 +24,7 @@ pub(crate) const SIGNALS: usize = 252;
 
 pub(crate) const FIXED_END: usize = 256;
 
-// In the row of a signal.
+// The row of a signal has these.
 pub(crate) const LABEL: usize = 0;
 
 pub(crate) const TRANSDUCER: usize = 16;
@@ -47,7 +47,7 @@ pub(crate) const SIGNAL_RESERVED: usize = 224;
 
 pub(crate) const ROW_END: usize = 256;
 
-// In the bytes of an identity: the patient field, the mark of the Startdate subfield, what follows
+// The bytes of an identity have the patient field, the mark of the Startdate subfield, what follows
 // that subfield, the spaces that follow where it is a date, the duration field, the rows of the
 // signals.
 pub(crate) const KEY_PATIENT: usize = 0;
@@ -62,7 +62,7 @@ pub(crate) const KEY_DURATION: usize = 150;
 
 pub(crate) const KEY_SIGNALS: usize = 158;
 
-/// All fields of a row: where each begins, and its bytes.
+/// Each field of a row begins at its first number and has as many bytes as its second.
 pub(crate) const ROW: [(usize, usize); 10] = [
     (LABEL, TRANSDUCER - LABEL),
     (TRANSDUCER, DIMENSION - TRANSDUCER),

@@ -14,11 +14,11 @@ use crate::limits::MOST_SIGNALS;
 use edf_time::{Day, Instant};
 use std::marker::Model;
 
-/// What the fixed part of a header says, its first 256 bytes (EDF, header record): whose recording
-/// the file belongs to, when it starts, how many data records and signals it has.
+/// The fixed part of a header, its first 256 bytes, says to which recording the file belongs, when
+/// it starts, and how many data records and signals it has (EDF, header record).
 ///
-/// Of the startdate, the starttime and the recording field only their meaning is kept: the instant
-/// at which the file starts, the day of the Startdate subfield or none where that is `X`, and what
+/// Of the startdate, the starttime and the recording field it has the meaning alone: the instant at
+/// which the file starts, the day of the Startdate subfield or none where that is `X`, and what
 /// follows that subfield.
 #[derive(Drop)]
 pub struct Fixed {
@@ -48,8 +48,8 @@ impl Model for Fixed {
 }
 
 impl Fixed {
-    /// The number of signals, 2 to [`MOST_SIGNALS`], bytes 252 to 255 of the header, with the
-    /// annotations signals. For each a header of 256 bytes follows the fixed part.
+    /// Returns the number of signals, 2 to [`MOST_SIGNALS`], bytes 252 to 255 of the header, with
+    /// the annotations signals. For each a header of 256 bytes follows the fixed part.
     pub fn signals(&self) -> usize
         ensures value { result ≡ self.now.signal_count }
         ensures from { 2 ≤ result }
@@ -59,22 +59,21 @@ impl Fixed {
         self.signals
     }
 
-    /// The patient field, 80 bytes.
+    /// Returns the patient field, 80 bytes.
     pub(crate) fn patient(&self) -> &[u8]
         ensures { result.now ≡ self.now.patient }
     {
         self.patient.as_slice()
     }
 
-    /// Whether the Startdate subfield is a date, and not `X`.
+    /// Is true where the Startdate subfield is a date, and not `X`.
     pub(crate) fn dated(&self) -> bool
         ensures { result ≡ is_dated self.now.startdate }
     {
         self.startdate.is_some()
     }
 
-    /// What follows the Startdate subfield in the recording field: 59 bytes after a date, 69 after
-    /// `X`.
+    /// Returns what follows the Startdate subfield: 59 bytes after a date, 69 after `X`.
     pub(crate) fn after(&self) -> &[u8]
         ensures { result.now ≡ self.now.after }
     {
@@ -84,28 +83,27 @@ impl Fixed {
         }
     }
 
-    /// The start.
     pub(crate) fn start(&self) -> Instant
         ensures { result ≡ self.now.start }
     {
         self.start
     }
 
-    /// The number of data records, or none where the field is `-1`.
+    /// Returns the number of data records, or none where the field is `-1`.
     pub(crate) fn count(&self) -> Option<u32>
         ensures { result ≡ self.now.count }
     {
         self.count
     }
 
-    /// The field of the duration of a data record, 8 bytes.
+    /// Returns the field of the duration of a data record, 8 bytes.
     pub(crate) fn duration(&self) -> &[u8]
         ensures { result.now ≡ self.now.duration }
     {
         self.duration.as_slice()
     }
 
-    /// The duration of a data record in nanoseconds.
+    /// Returns the duration of a data record in nanoseconds.
     pub(crate) fn nanos(&self) -> u64
         ensures { result ≡ duration_of self.now.duration }
     {
@@ -113,7 +111,7 @@ impl Fixed {
     }
 }
 
-/// The fixed part of bytes that spell one, with what was read of them.
+/// Returns the fixed part that the bytes are, with what was read of them.
 fn fixed_of(
     bytes: &[u8; 256],
     startdate: Option<Day>,
@@ -151,10 +149,10 @@ fn fixed_of(
 /// 251; number of signals, 252 to 255.
 ///
 /// # Errors
-/// The first fault of E2 to E13 in the order of their numbers: `Unprintable` with the offset of the
-/// first such byte, `Version`, `Patient`, `Recording`, `Startdate`, `Starttime`, `DatesDiffer`
-/// where the Startdate subfield is a date and not the startdate, `NotPlus`, `Count`, `Duration`,
-/// `Signals`, `HeaderBytes`.
+/// It fails with the first fault of E2 to E13 in the order of their numbers: `Unprintable` with the
+/// offset of the first such byte, `Version`, `Patient`, `Recording`, `Startdate`, `Starttime`,
+/// `DatesDiffer` where the Startdate subfield is a date and not the startdate, `NotPlus`, `Count`,
+/// `Duration`, `Signals`, `HeaderBytes`.
 pub fn read_fixed(bytes: &[u8; 256]) -> Result<Fixed, HeaderFault>
     ensures { MatchResult result (IsFixedHeader bytes.now) (IsFirst (FixedPartFails bytes.now)) }
 {

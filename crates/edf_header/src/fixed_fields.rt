@@ -1,5 +1,5 @@
-//! The fields of a header's fixed part, in the order of their faults: each reader relies on what
-//! those before it found, and answers with its own fault alone.
+//! The fields of a header's fixed part are read in the order of their faults: each reader relies on
+//! those before it, and answers with its own fault alone.
 ghost use Rattle.std.specs.Prelude.{◌≡◌, ℕ, ◌+◌, ◌*◌, ◌≤◌, ◌↔◌, All, IsTrue, codes, length};
 ghost use Rattle.std.specs.Prelude.{MatchResult};
 ghost use Rattle.edf_time.specs.Civil.{IsCivil};
@@ -23,7 +23,7 @@ use crate::signal_checks::first_unprintable;
 use edf_field::{patient_fault, read_duration, read_recording, read_whole};
 use edf_time::{Day, Instant, StartFault, start_of};
 
-/// The field of N bytes at this offset.
+/// Returns the field of N bytes at this offset.
 pub(crate) fn field_at<const N: usize>(bytes: &[u8; 256], at: usize) -> [u8; N]
     requires { at + N ≤ 256 }
     ensures { result ≡ field bytes.now at N }
@@ -74,8 +74,8 @@ pub(crate) fn check_patient(bytes: &[u8; 256]) -> Result<(), HeaderFault>
     }
 }
 
-/// The day of the Startdate subfield in the recording field, bytes 88 to 167, or none where that
-/// subfield is `X`; or E5 is the first fault.
+/// Returns the day of the Startdate subfield in the recording field, bytes 88 to 167, or none where
+/// that subfield is `X`; or E5 is the first fault.
 pub(crate) fn read_startdate(bytes: &[u8; 256]) -> Result<Option<Day>, HeaderFault>
     requires { IsClean (FixedPartFails bytes.now) 5 }
     ensures { MatchResult result
@@ -90,8 +90,8 @@ pub(crate) fn read_startdate(bytes: &[u8; 256]) -> Result<Option<Day>, HeaderFau
     }
 }
 
-/// The start, by the startdate, bytes 168 to 175, the starttime, bytes 176 to 183, and the day of
-/// the Startdate subfield; or E6, E7 or E8 is the first fault.
+/// Returns the start, by the startdate, bytes 168 to 175, the starttime, bytes 176 to 183, and the
+/// day of the Startdate subfield; or E6, E7 or E8 is the first fault.
 pub(crate) fn read_start(bytes: &[u8; 256], startdate: &Option<Day>) -> Result<Instant, HeaderFault>
     requires recording { IsRecording (recording_field bytes.now) startdate.now
         (after_startdate_of startdate.now (recording_field bytes.now)) }
@@ -112,7 +112,7 @@ pub(crate) fn read_start(bytes: &[u8; 256], startdate: &Option<Day>) -> Result<I
     }
 }
 
-/// Whether a reserved field names a file of EDF+.
+/// Is true where a reserved field names a file of EDF+.
 fn is_plus(reserved: &[u8]) -> bool
     requires { 5 ≤ length reserved.now }
     ensures { IsTrue result ↔ IsPlus reserved.now }
@@ -134,8 +134,8 @@ pub(crate) fn check_plus(bytes: &[u8; 256]) -> Result<(), HeaderFault>
     Ok(())
 }
 
-/// The number of data records, bytes 236 to 243, or none where that is `-1`; or E10 is the first
-/// fault.
+/// Returns the number of data records, bytes 236 to 243, or none where that is `-1`; or E10 is the
+/// first fault.
 pub(crate) fn read_count(bytes: &[u8; 256]) -> Result<Option<u32>, HeaderFault>
     requires { IsClean (FixedPartFails bytes.now) 10 }
     ensures { MatchResult result
@@ -152,7 +152,7 @@ pub(crate) fn read_count(bytes: &[u8; 256]) -> Result<Option<u32>, HeaderFault>
     }
 }
 
-/// The duration of a data record in nanoseconds, bytes 244 to 251; or E11 is the first fault.
+/// Returns the nanoseconds of a data record, bytes 244 to 251; or E11 is the first fault.
 pub(crate) fn read_nanos(bytes: &[u8; 256]) -> Result<u64, HeaderFault>
     requires { IsClean (FixedPartFails bytes.now) 11 }
     ensures { MatchResult result
@@ -167,7 +167,7 @@ pub(crate) fn read_nanos(bytes: &[u8; 256]) -> Result<u64, HeaderFault>
     }
 }
 
-/// The number of signals, bytes 252 to 255; or E12 is the first fault.
+/// Returns the number of signals, bytes 252 to 255; or E12 is the first fault.
 pub(crate) fn read_signal_count(bytes: &[u8; 256]) -> Result<u32, HeaderFault>
     requires { IsClean (FixedPartFails bytes.now) 12 }
     ensures { MatchResult result

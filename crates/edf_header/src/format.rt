@@ -1,23 +1,21 @@
-//! What a file is, by its first bytes.
-
 ghost use Rattle.edf_header.specs.Format.{IsFormat};
 
-/// What a file is, by its first bytes.
+/// A file has a format by its first bytes.
 #[derive(Clone, Copy, Debug, PartialEq, Eq, Drop)]
 pub enum Format {
-    /// EDF: `0` and seven spaces.
+    /// EDF begins with `0` and seven spaces.
     Edf,
-    /// BDF, whose samples have 24 bits: byte 255 and `BIOSEMI`.
+    /// BDF, whose samples have 24 bits, begins with byte 255 and `BIOSEMI`.
     Bdf,
-    /// ZIP: `PK`, byte 3 and byte 4.
+    /// ZIP begins with `PK`, byte 3 and byte 4.
     Zip,
-    /// A database of SQLite: `SQLite format 3`.
+    /// A database of SQLite begins with `SQLite format 3`.
     Sqlite,
-    /// None of these.
+    /// The file begins with none of these.
     Other,
 }
 
-/// What a file is that begins with these bytes.
+/// Returns the format of a file that begins with these bytes.
 pub fn format_of(bytes: &[u8; 256]) -> Format
     ensures { IsFormat bytes.now result }
 {

@@ -5,20 +5,19 @@ use crate::identity::Identity;
 use edf_time::Instant;
 use std::marker::Model;
 
-/// An annotations block: where the samples of one annotations signal are in each data record
-/// (EDF+, the annotations signal).
+/// An annotations block has the samples of one annotations signal in each data record (EDF+, the
+/// annotations signal).
 #[derive(Clone, Copy, Debug, PartialEq, Eq)]
 pub struct Block {
-    /// At which byte of the data record it begins, from 0: two for each sample of the signals
-    /// before it.
+    /// It begins at this byte of the data record: two for each sample of the signals before it.
     pub at: usize,
-    /// How many bytes it has, two for each sample.
+    /// It has this many bytes, two for each sample.
     pub bytes: usize,
 }
 
-/// What a header says of its data records: whose they are, from where their onsets count, how many
-/// there are, and where the annotations blocks are in each (EDF, header record and data records;
-/// EDF+, the annotations signals).
+/// A header says of its data records whose they are, from where their onsets count, how many there
+/// are, and where the annotations blocks are in each (EDF, header record and data records; EDF+,
+/// the annotations signals).
 #[derive(Drop)]
 pub struct Header {
     pub(crate) identity: Identity,
@@ -53,30 +52,30 @@ impl Model for Header {
 }
 
 impl Header {
-    /// The identity of the recording.
+    /// Returns the identity of the recording.
     pub fn identity(&self) -> &Identity
         ensures { result.now ≡ self.now.key }
     {
         &self.identity
     }
 
-    /// The identity of the recording, taken out of the header.
+    /// Returns the identity of the recording, taken out of the header.
     pub fn into_identity(self) -> Identity
         ensures { result ≡ self.key }
     {
         self.identity
     }
 
-    /// The startdate and starttime, bytes 168 to 183 of the header: a whole second, from where the
-    /// onsets of annotations count.
+    /// Returns the instant of the startdate and starttime, bytes 168 to 183 of the header: a whole
+    /// second, from where the onsets of annotations count.
     pub fn start(&self) -> Instant
         ensures { result ≡ self.now.start }
     {
         self.start
     }
 
-    /// How many data records there are, bytes 236 to 243 of the header: 1 to 99,999,999. None where
-    /// the field is `-1`, as it is while the recording goes on: then there are as many as follow.
+    /// Returns the number of data records, bytes 236 to 243 of the header: 1 to 99,999,999. It is
+    /// none where the field is `-1`, while the recording goes on: then there are as many as follow.
     pub fn count(&self) -> Option<u32>
         ensures value { result ≡ self.now.count }
         ensures layout { IsLayout self.now }
@@ -84,8 +83,8 @@ impl Header {
         self.count
     }
 
-    /// The annotations blocks of a data record, one for each annotations signal, in file order: one
-    /// or more. Each has 2 bytes or more, and begins where the one before it ends, or after that.
+    /// Returns the annotations blocks of a data record, one for each annotations signal, in file
+    /// order. Each has 2 bytes or more, and begins where the one before it ends, or after that.
     pub fn blocks(&self) -> &[Block]
         ensures value { result.now ≡ self.now.blocks }
         ensures layout { IsLayout self.now }
@@ -93,8 +92,8 @@ impl Header {
         self.blocks.as_slice()
     }
 
-    /// How many bytes the annotations blocks have together in each data record: 2 to 4,194,304, two
-    /// for each sample of the annotations signals.
+    /// Returns the bytes that the annotations blocks have together in each data record: 2 to
+    /// 4,194,304, two for each sample of the annotations signals.
     pub fn block_bytes(&self) -> usize
         ensures value { result ≡ block_bytes self.now }
         ensures layout { IsLayout self.now }
@@ -102,7 +101,7 @@ impl Header {
         self.annotations_bytes
     }
 
-    /// How many bytes a data record has, two for each sample of all signals: at most 8,388,608.
+    /// Returns the bytes of a data record, two for each sample of all signals: at most 8,388,608.
     pub fn record_bytes(&self) -> usize
         ensures value { result ≡ self.now.record_bytes }
         ensures layout { IsLayout self.now }

@@ -1,4 +1,4 @@
-//! Loops over the signals of a header.
+//! Each function here loops over the signals of a header.
 ghost use Rattle.std.specs.Prelude.{◌≡◌, ◌++◌, length, OnOk, IfOk, MatchOption, All};
 ghost use Rattle.std.specs.List.{flat_map};
 ghost use Rattle.edf_header.specs.Signal.{labelled, ordinary, HasSamples, Passes};
@@ -11,7 +11,7 @@ use crate::header::Block;
 use crate::signal_checks::{Check, is_labelled, passes, samples_of};
 use std::alloc::{AllocError, Global};
 
-/// The first signal that fails a check, counted from 1.
+/// Returns the first signal that fails a check, counted from 1.
 pub(crate) fn bad_signal(check: Check, signals: &Columns<'_>) -> Option<u32>
     ensures { MatchOption result
         (All (Passes check) signals.now) (IsBadSignal check signals.now) }
@@ -25,7 +25,7 @@ pub(crate) fn bad_signal(check: Check, signals: &Columns<'_>) -> Option<u32>
     None
 }
 
-/// How many annotations signals there are, by their label.
+/// Returns the number of annotations signals, by their label.
 pub(crate) fn count_labelled(signals: &Columns<'_>) -> usize
     ensures { result ≡ length (labelled signals.now) }
 {
@@ -39,14 +39,14 @@ pub(crate) fn count_labelled(signals: &Columns<'_>) -> usize
     count
 }
 
-/// How many bytes the ordinary signals have in a data record, and how many the annotations signals.
+/// A data record has so many bytes of ordinary signals, and so many of annotations signals.
 #[derive(Clone, Copy)]
 pub(crate) struct PartBytes {
     pub(crate) ordinary: usize,
     pub(crate) annotations: usize,
 }
 
-/// How many bytes the signals of either kind have in a data record.
+/// Returns the bytes that the signals of either kind have in a data record.
 pub(crate) fn part_bytes(signals: &Columns<'_>) -> PartBytes
     requires { All HasSamples signals.now }
     ensures { ArePartBytes signals.now result }
@@ -69,7 +69,7 @@ pub(crate) fn part_bytes(signals: &Columns<'_>) -> PartBytes
     }
 }
 
-/// The annotations blocks of a data record, in file order.
+/// Returns the annotations blocks of a data record, in file order.
 pub(crate) fn blocks_of(alloc: Global, signals: &Columns<'_>) -> Result<Vec<Block>, AllocError>
     requires { All HasSamples signals.now }
     ensures { IfOk result (λ v. v.items ≡ blocks_from 0 signals.now) }

@@ -19,11 +19,10 @@ use std::alloc::{AllocError, Global};
 use std::marker::Model;
 use thiserror::Error;
 
-/// Why bytes are no identity, the first condition in this order. Signals count from 1, offsets
-/// from 0.
+/// Bytes are no identity for the first of these that is true. Signals count from 1, offsets from 0.
 #[derive(Clone, Copy, Debug, PartialEq, Eq, Drop, Error)]
 pub enum IdentityFault {
-    /// Not 158 bytes and 256 for each of 1 to 639 signals.
+    /// There are not 158 bytes and 256 for each of 1 to 639 signals.
     #[error("the length is not that of an identity")]
     Length,
     /// A byte is not 32 to 126.
@@ -58,15 +57,15 @@ pub enum IdentityFault {
     Memory,
 }
 
-/// To which recording a fragment belongs: the patient identification, the recording identification
+/// A fragment belongs to a recording by the patient identification, the recording identification
 /// without its date, the duration of a data record, and the headers of the ordinary signals (EDF,
 /// header record; EDF+, additional specifications). Two fragments are of one recording where all
 /// these bytes are the same.
 ///
-/// Its bytes: 0 to 79 the patient field; 80 `D` where the Startdate subfield is a date, else `X`;
-/// 81 to 149 what follows that subfield, filled with spaces; 150 to 157 the duration field; then
-/// 256 for each of 1 to 639 ordinary signals, its ten fields one after the other, as `read_signals`
-/// has them.
+/// Bytes 0 to 79 are the patient field; 80 is `D` where the Startdate subfield is a date, else `X`;
+/// 81 to 149 are what follows that subfield, filled with spaces; 150 to 157 are the duration field.
+/// Then come 256 for each of 1 to 639 ordinary signals, its ten fields one after the other, as
+/// `read_signals` has them.
 #[derive(Drop)]
 pub struct Identity {
     pub(crate) bytes: Vec<u8>,
@@ -101,7 +100,7 @@ fn push_mark(out: &mut Vec<u8>, dated: bool, after: &[u8]) -> Result<(), AllocEr
     Ok(())
 }
 
-/// The bytes of an identity, from a header's fixed part and all its signals.
+/// Returns the bytes of an identity, from a header's fixed part and all its signals.
 fn bytes_from(alloc: Global, fixed: &Fixed, signals: &Columns<'_>) -> Result<Vec<u8>, AllocError>
     ensures { IfOk result
         (λ v. v.items ≡ key_bytes (key_from fixed.now (ordinary signals.now))) }
@@ -115,11 +114,11 @@ fn bytes_from(alloc: Global, fixed: &Fixed, signals: &Columns<'_>) -> Result<Vec
 }
 
 impl Identity {
-    /// The identity that the bytes stand for.
+    /// Returns the identity that has these bytes.
     ///
     /// # Errors
-    /// The first condition that is true of the bytes, in the order of `IdentityFault`; `Memory`
-    /// where memory runs out and none is true.
+    /// It fails with the first fault that is true of the bytes, in the order of `IdentityFault`;
+    /// with `Memory` where memory runs out and none is true.
     pub fn from_bytes(alloc: Global, bytes: &[u8]) -> Result<Identity, IdentityFault>
         ensures { MatchResult result
             (λ i. (key_bytes i ≡ bytes.now) × IsKey i) (IsFirstKeyFault bytes.now) }
@@ -138,8 +137,8 @@ impl Identity {
         })
     }
 
-    /// The identity of a header, from its fixed part, all its signals, and the bytes of a data
-    /// record's ordinary samples.
+    /// Returns the identity of a header, from its fixed part, all its signals, and the bytes of a
+    /// data record's ordinary samples.
     pub(crate) fn from_header(
         alloc: Global,
         fixed: &Fixed,
@@ -159,10 +158,10 @@ impl Identity {
         })
     }
 
-    /// The bytes of the identity: 158, and 256 for each ordinary signal.
+    /// Returns the bytes of the identity: 158, and 256 for each ordinary signal.
     ///
     /// # Errors
-    /// Where memory runs out.
+    /// It fails where memory runs out.
     pub fn to_bytes(&self, alloc: Global) -> Result<Vec<u8>, AllocError>
         ensures bytes { IfOk result (λ v. v.items ≡ key_bytes self.now) }
         ensures key { IsKey self.now }
@@ -170,8 +169,7 @@ impl Identity {
         Vec::from_slice(alloc, self.bytes.as_slice())
     }
 
-    /// Whether two identities are the same, byte for byte: two spellings of one value are two
-    /// identities.
+    /// Is true where two identities are the same, byte for byte: two texts of one value differ.
     pub fn same(&self, other: &Identity) -> bool
         ensures same { IsTrue result ↔ (self.now ≡ other.now) }
         ensures key { IsKey self.now × IsKey other.now }
@@ -179,23 +177,23 @@ impl Identity {
         self.bytes.as_slice() == other.bytes.as_slice()
     }
 
-    /// Whether the Startdate subfield of the recording identification is a date, and not `X`.
+    /// Is true where the Startdate subfield of the recording identification is a date, and not `X`.
     pub fn dated(&self) -> bool
         ensures { result ≡ self.now.dated }
     {
         self.bytes[KEY_MARK] == b'D'
     }
 
-    /// Whether a file of its recording may start at `start`. Where the identity has no date, it may
-    /// before 2085 alone, since only two digits of the startdate name the year (EDF+, the clipping
-    /// date).
+    /// Is true where a file of its recording may start at `start`. Where the identity has no date,
+    /// it may before 2085 alone, since only two digits of the startdate name the year (EDF+, the
+    /// clipping date).
     pub fn may_start(&self, start: Instant) -> bool
         ensures { IsTrue result ↔ MayStart self.now start }
     {
         self.dated() || start.has_two_digit_year()
     }
 
-    /// How many ordinary signals there are: 1 to 639.
+    /// Returns the number of ordinary signals: 1 to 639.
     pub fn signals(&self) -> usize
         ensures count { result ≡ length self.now.signals }
         ensures key { IsKey self.now }
@@ -203,7 +201,7 @@ impl Identity {
         (self.bytes.len() - KEY_SIGNALS) / 256
     }
 
-    /// How many bytes the ordinary samples of a data record have, two for each: at most 4,194,304.
+    /// Returns the bytes of a data record's ordinary samples, two for each: at most 4,194,304.
     pub fn ordinary_bytes(&self) -> usize
         ensures value { result ≡ 2 * samples_in_all self.now.signals }
         ensures bound { result ≤ MOST_BLOCK_BYTES }
@@ -212,7 +210,7 @@ impl Identity {
         self.ordinary_bytes
     }
 
-    /// The duration of a data record in nanoseconds: above 0, at most [`MOST_DURATION`].
+    /// Returns the duration of a data record in nanoseconds: above 0, at most [`MOST_DURATION`].
     pub fn duration(&self) -> u64
         ensures value { result ≡ duration_of self.now.duration }
         ensures positive { 0 < result }
@@ -222,7 +220,7 @@ impl Identity {
         self.duration
     }
 
-    /// The patient code: the first subfield of the patient identification.
+    /// Returns the patient code: the first subfield of the patient identification.
     pub fn patient_code(&self) -> &[u8]
         ensures { result.now ≡ patient_code self.now }
     {
@@ -232,7 +230,7 @@ impl Identity {
         }
     }
 
-    /// The investigation code: the recording field's first subfield after the Startdate subfield.
+    /// Returns the investigation code: the first subfield after the Startdate subfield.
     pub fn investigation_code(&self) -> &[u8]
         ensures { result.now ≡ investigation_code self.now }
     {
@@ -242,29 +240,28 @@ impl Identity {
         }
     }
 
-    /// The patient field, 80 bytes.
+    /// Returns the patient field, 80 bytes.
     pub(crate) fn patient_field(&self) -> &[u8]
         ensures { result.now ≡ self.now.patient }
     {
         &self.bytes[KEY_PATIENT..KEY_MARK]
     }
 
-    /// What follows the Startdate subfield in the recording field: 59 bytes where the subfield is a
-    /// date, else 69.
+    /// Returns what follows the Startdate subfield: 59 bytes where that is a date, else 69.
     pub(crate) fn after_startdate(&self) -> &[u8]
         ensures { result.now ≡ self.now.after }
     {
         after(&self.bytes)
     }
 
-    /// The field of the duration of a data record, 8 bytes.
+    /// Returns the field of the duration of a data record, 8 bytes.
     pub(crate) fn duration_field(&self) -> &[u8]
         ensures { result.now ≡ self.now.duration }
     {
         &self.bytes[KEY_DURATION..KEY_SIGNALS]
     }
 
-    /// The ordinary signals' headers, each in a row of 256 bytes.
+    /// Returns the ordinary signals' headers, each in a row of 256 bytes.
     pub(crate) fn signal_rows(&self) -> &[u8]
         ensures { rows_of result.now ≡ self.now.signals }
     {

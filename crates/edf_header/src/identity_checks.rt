@@ -1,5 +1,4 @@
-//! The checks of the bytes of an identity, in the order of their faults.
-
+//! The bytes of an identity are checked in the order of their faults.
 ghost use Rattle.std.specs.Prelude.{◌≡◌, ◌≢◌, ◌≤◌, ◌+◌, ◌*◌, ◌↔◌, IsTrue, MatchResult, All, length};
 ghost use Rattle.edf_field.specs.Number.{duration_of};
 ghost use Rattle.edf_field.specs.Text.{FollowsStartdate};
@@ -18,7 +17,7 @@ use crate::limits::{MOST_BLOCK_BYTES, MOST_ORDINARY_SIGNALS, MOST_SIGNALS};
 use crate::signal_checks::{Check, first_bad, first_unprintable, is_labelled};
 use edf_field::{are_spaces, follows_startdate, is_patient, read_duration, read_whole};
 
-/// Whether the length is that of an identity.
+/// Is true where the length is that of an identity.
 fn has_length(bytes: &[u8]) -> bool
     ensures { IsTrue result ↔ HasLength bytes.now }
 {
@@ -26,7 +25,7 @@ fn has_length(bytes: &[u8]) -> bool
     bytes.len() == KEY_SIGNALS + 256 * n && 1 <= n && n <= MOST_ORDINARY_SIGNALS
 }
 
-/// Whether the mark of the Startdate subfield is `D` with its spaces, or `X`.
+/// Is true where the mark of the Startdate subfield is `D` with its spaces, or `X`.
 fn has_mark(bytes: &[u8]) -> bool
     requires { 158 ≤ length bytes.now }
     ensures { IsTrue result ↔ HasMark bytes.now }
@@ -38,7 +37,7 @@ fn has_mark(bytes: &[u8]) -> bool
     }
 }
 
-/// What follows the Startdate subfield.
+/// Returns what follows the Startdate subfield.
 pub(crate) fn after(bytes: &[u8]) -> &[u8]
     requires { 158 ≤ length bytes.now }
     ensures { result.now ≡ (key_at bytes.now).after }
@@ -50,7 +49,7 @@ pub(crate) fn after(bytes: &[u8]) -> &[u8]
     }
 }
 
-/// Whether the bytes have a recording identification without its date.
+/// Is true where the bytes have a recording identification without its date.
 fn has_recording(bytes: &[u8]) -> bool
     requires { 158 ≤ length bytes.now }
     ensures { IsTrue result ↔ HasMark bytes.now × FollowsStartdate (key_at bytes.now).after }
@@ -58,8 +57,8 @@ fn has_recording(bytes: &[u8]) -> bool
     has_mark(bytes) && follows_startdate(after(bytes))
 }
 
-/// What is read of an identity's bytes: the duration of a data record in nanoseconds, and the bytes
-/// of its ordinary samples.
+/// An identity's bytes have these numbers: the duration of a data record in nanoseconds, and the
+/// bytes of its ordinary samples.
 #[derive(Clone, Copy)]
 pub(crate) struct KeyNumbers {
     pub(crate) duration: u64,
@@ -113,7 +112,7 @@ fn check_signals(check: Check, bytes: &[u8]) -> Result<(), IdentityFault>
     })
 }
 
-/// How many bytes a data record's ordinary samples have, unless they are too many.
+/// Returns the bytes of a data record's ordinary samples, unless they are too many.
 fn check_size(bytes: &[u8]) -> Result<usize, IdentityFault>
     requires length { HasLength bytes.now }
     requires label { All (Passes Check.Label) (signals_at bytes.now) }
@@ -131,7 +130,7 @@ fn check_size(bytes: &[u8]) -> Result<usize, IdentityFault>
     Ok(size)
 }
 
-/// Checks bytes that may be an identity's, and reads what is kept of them.
+/// Checks bytes that may be an identity's, and reads their numbers.
 pub(crate) fn check_key(bytes: &[u8]) -> Result<KeyNumbers, IdentityFault>
     ensures { MatchResult result
         (λ kept. IsIdentity bytes.now kept.duration kept.ordinary_bytes × IsCleanKey bytes.now 11)
@@ -149,7 +148,7 @@ pub(crate) fn check_key(bytes: &[u8]) -> Result<KeyNumbers, IdentityFault>
     })
 }
 
-/// How many samples the ordinary signals have in a data record.
+/// Returns the number of samples that the ordinary signals have in a data record.
 pub(crate) fn ordinary_samples(rows: &[u8]) -> usize
     requires few { length rows.now ≤ 256 * MOST_SIGNALS }
     requires each { All HasSamples (rows_of rows.now) }

@@ -1,5 +1,4 @@
-//! Laws of headers and identities: each function has a law for a contract, and does nothing.
-
+//! Each function states a law of headers and identities in its contract, and does nothing.
 ghost use Rattle.std.specs.Prelude.{◌≡◌, ◌<◌, ◌≤◌, ℕ, List, All, length};
 ghost use Rattle.edf_field.specs.Number.{duration_of};
 ghost use Rattle.edf_header.specs.Signal.{columns, signals_of};
@@ -16,7 +15,7 @@ use crate::header::Header;
 use crate::identity::Identity;
 use edf_field::MOST_DURATION;
 
-/// A law: each identity has a key, with the bounds of one.
+/// Each identity has a key within the bounds of one.
 pub fn identity_is_key(identity: &Identity)
     ensures { IsKey identity.now }
 {
@@ -24,7 +23,7 @@ pub fn identity_is_key(identity: &Identity)
     let _ = identity.signals();
 }
 
-/// A law: what each header says is a layout, with the bounds of one.
+/// Each header has a layout within the bounds of one.
 pub fn header_is_layout(header: &Header)
     ensures { IsLayout header.now }
 {
@@ -32,13 +31,13 @@ pub fn header_is_layout(header: &Header)
     let _ = header.count();
 }
 
-/// Bytes that spell a fixed part have none of the faults E1 to E13.
+/// Bytes that are a fixed part have none of the faults E1 to E13.
 pub fn fixed_has_no_fault()
     ensures { (bytes : List ℕ) (fixed : FixedPart) → IsFixedHeader bytes fixed →
         IsClean (FixedPartFails bytes) 14 }
 {}
 
-/// Bytes spell one fixed part at most.
+/// Bytes are one fixed part at most.
 pub fn one_fixed()
     ensures { (bytes : List ℕ) (fixed other : FixedPart) → IsFixedHeader bytes fixed →
         IsFixedHeader bytes other → fixed ≡ other }
@@ -50,62 +49,62 @@ pub fn one_fixed_fault()
         IsFirst (FixedPartFails bytes) other → fault ≡ other }
 {}
 
-/// What bytes spell is a fixed part within its bounds.
+/// Each fixed part that bytes are is within the bounds of one.
 pub fn spelled_is_fixed()
     ensures { (bytes : List ℕ) (fixed : FixedPart) → IsFixedHeader bytes fixed → IsFixed fixed }
 {}
 
-/// A law: signals written in columns read back.
+/// Signals that are written in columns are read again from them.
 pub fn columns_back()
     ensures { (ss : List (List ℕ)) → All (λ s. length s ≡ 256) ss →
         signals_of (columns ss) (length ss) ≡ ss }
 {}
 
-/// A law: a key reads back from its bytes.
+/// A key is read again from its bytes.
 pub fn key_back()
     ensures { (k : Key) → IsSized k → key_at (key_bytes k) ≡ k }
 {}
 
-/// A law: bytes that have the length and the mark of an identity's are those of the key at them.
+/// Bytes that have the length and the mark of an identity's are those of the key that they have.
 pub fn bytes_back()
     ensures { (bytes : List ℕ) → IsShaped bytes → key_bytes (key_at bytes) ≡ bytes }
 {}
 
-/// A law: keys that have the same bytes are the same.
+/// Keys that have the same bytes are the same.
 pub fn one_key()
     ensures { (k other : Key) → IsKey k → IsKey other → key_bytes k ≡ key_bytes other → k ≡ other }
 {}
 
-/// A law: a key's data records last more than 0 and at most [`MOST_DURATION`].
+/// A key's data records last more than 0 and at most [`MOST_DURATION`].
 pub fn key_duration()
     ensures some { (k : Key) → IsKey k → 0 < duration_of k.duration }
     ensures bound { (k : Key) → IsKey k → duration_of k.duration ≤ MOST_DURATION }
 {}
 
-/// A law: the bytes of a key have none of the faults of an identity.
+/// The bytes of a key have none of the faults of an identity.
 pub fn key_accepted()
     ensures { (k : Key) → IsKey k → IsCleanKey (key_bytes k) 11 }
 {}
 
-/// A law: bytes have one first fault of an identity at most.
+/// Bytes have one first fault of an identity at most.
 pub fn one_key_fault()
     ensures { (bytes : List ℕ) (fault other : IdentityFault) → IsFirstKeyFault bytes fault →
         IsFirstKeyFault bytes other → fault ≡ other }
 {}
 
-/// A law: after one fixed part, bytes spell the signals of one header at most.
+/// After one fixed part, bytes are the signals of one header at most.
 pub fn one_signals()
     ensures { (bytes : List ℕ) (header other : HeaderRecord) → AreSignals bytes header →
         AreSignals bytes other → header.fixed ≡ other.fixed → header ≡ other }
 {}
 
-/// A law: bytes that spell a header's signals have none of the faults E14 to E20.
+/// Bytes that are a header's signals have none of the faults E14 to E20.
 pub fn signals_have_no_fault()
     ensures { (bytes : List ℕ) (header : HeaderRecord) → AreSignals bytes header →
         IsClean (SignalsFail bytes header.fixed.signal_count) 21 }
 {}
 
-/// A law: what a header names is a key, and its layout keeps the bounds.
+/// The recording that a header names has a key, and its layout is within the bounds of one.
 pub fn header_key()
     ensures key { (bytes : List ℕ) (header : HeaderRecord) (rest : List ℕ) →
         IsHeader bytes header rest → IsKey (key_of header) }

@@ -9,17 +9,16 @@ ghost use Rattle.edf_header.specs.Signal.{samples};
 
 use crate::limits::{MOST_BLOCK_SAMPLES, MOST_RECORDS};
 
-/// A law: bytes that spell the fields of a header, whatever follows them, are read as what the
-/// fields say.
+/// Bytes that are the fields of a header, whatever follows them, are read as what the fields say.
 pub fn spelled_reads()
     ensures { (bytes row : List ℕ) (key : Key) (days seconds count : ℕ) → IsKey key →
         IsSpelledHeader bytes key days seconds count row → IsReadAs bytes
         (spelled_layout key ((days * 86_400 + seconds) * 10 ^ 9) count (samples row)) }
 {}
 
-/// A law: a canonical header is read as the identity, the second of the start, the number of data
-/// records and the samples of the annotations signal that it was made from, where the recording may
-/// start there.
+/// A canonical header is read as the identity, the second of the start, the number of data records
+/// and the samples of the annotations signal that it was made from, where the recording may start
+/// there.
 pub fn canonical_header_reads()
     ensures { (bytes : List ℕ) (key : Key) (start count block : ℕ) → IsKey key →
         MayStart key start → 1 ≤ count → count ≤ MOST_RECORDS →
@@ -27,33 +26,33 @@ pub fn canonical_header_reads()
         IsReadAs bytes (spelled_layout key (start / 10 ^ 9 * 10 ^ 9) count block) }
 {}
 
-/// A law: a canonical file has one header.
+/// A canonical file has one header.
 pub fn one_canonical_header()
     ensures { (bytes other : List ℕ) (key : Key) (start count block : ℕ) →
         IsCanonicalHeader bytes key start count block →
         IsCanonicalHeader other key start count block → bytes ≡ other }
 {}
 
-/// A law: bytes begin with one header at most, and end with one rest after it.
+/// Bytes begin with one header at most, and end with one rest after it.
 pub fn is_header_one()
     ensures { (bytes rest other_rest : List ℕ) (header other : HeaderRecord) →
         IsHeader bytes header rest → IsHeader bytes other other_rest →
         (header ≡ other) × (rest ≡ other_rest) }
 {}
 
-/// A law: bytes that begin with a header have no fault of a header.
+/// Bytes that begin with a header have no fault of a header.
 pub fn header_no_fault()
     ensures { (bytes rest : List ℕ) (header : HeaderRecord) (fault : HeaderFault) →
         IsHeader bytes header rest → ¬ IsHeaderFault bytes fault }
 {}
 
-/// A law: bytes have one fault of a header at most.
+/// Bytes have one fault of a header at most.
 pub fn one_header_fault()
     ensures { (bytes : List ℕ) (fault other : HeaderFault) → IsHeaderFault bytes fault →
         IsHeaderFault bytes other → fault ≡ other }
 {}
 
-/// A law: each list of bytes begins with a header, or has a first fault of a header.
+/// Each list of bytes begins with a header, or has a first fault of a header.
 pub fn header_or_fault()
     ensures { (bytes : List ℕ) →
         ((header : HeaderRecord) × (rest : List ℕ) × IsHeader bytes header rest)

@@ -1,16 +1,26 @@
-//! The headers of EDF+ files, and the identity of a recording.
+//! EDF+ files have a header, and their recording has an identity.
+//!
+//! ```rust
+//! use edf_header::{Header, HeaderFault, read_fixed, read_signals};
+//!
+//! /// Reads the header of a file in memory.
+//! fn header_of(alloc: Global, file: &[u8]) -> Result<Header, HeaderFault> {
+//!     let Some(bytes) = file.first_chunk::<256>() else {
+//!         return Err(HeaderFault::Cut);
+//!     };
+//!     let fixed = read_fixed(bytes)?;
+//!     let end = (256 + 256 * fixed.signals()).min(file.len());
+//!     read_signals(alloc, fixed, &file[256..end])
+//! }
+//! ```
 //!
 //! - [`read_fixed`], [`Fixed`]: the fixed part, 256 bytes, or the first of E2 to E13.
-//! - [`read_signals`], [`Header`]: the signal part, 256 bytes a signal, or the first of E14 to E20;
-//!   what a header says of its data records.
-//! - [`HeaderFault`]: why a header is refused, E1 to E20; [`Format`], [`format_of`]: what a file is
-//!   by its first bytes.
-//! - [`Identity`], [`IdentityFault`]: to which recording a file belongs, as bytes and back.
+//! - [`read_signals`], [`Header`], [`Block`]: the signal part, or the first of E14 to E20.
+//! - [`HeaderFault`]: the faults E1 to E20; [`format_of`], [`Format`]: ZIP, SQLite and their like.
+//! - [`Identity`], [`IdentityFault`]: to which recording a file belongs, to bytes and from bytes.
 //! - [`write_header`]: the one header that a canonical file has.
-//! - [`MOST_RECORDS`], [`MOST_BLOCK_BYTES`], [`MOST_SIGNALS`] and their like: the limits of what a
-//!   file may hold.
-//! - [`laws`], [`laws_canonical`]: a header says one thing, and what is written is read again;
-//!   functions that do nothing, each with a law for a contract.
+//! - [`MOST_RECORDS`], [`MOST_SIGNALS`], [`MOST_BLOCK_BYTES`] and their like: the limits of a file.
+//! - [`laws`], [`laws_canonical`]: a header says one thing, and what is written is read again.
 #![tactic(auto)]
 
 mod canonical;

@@ -11,22 +11,22 @@ use crate::fields::{
 };
 use edf_field::{physical_values_differ, read_signed, read_whole};
 
-/// What each signal of a header is checked for, in this order.
+/// Each signal of a header is checked for these, in this order.
 #[derive(Clone, Copy, Debug, PartialEq, Eq)]
 pub enum Check {
-    /// That it is an ordinary signal.
+    /// It is an ordinary signal.
     Label,
-    /// Its physical and digital values, where it is an annotations signal.
+    /// It has the physical and digital values of an annotations signal, where it is one.
     Annotations,
-    /// Its physical minimum and maximum, where it is an ordinary signal.
+    /// Its physical minimum and maximum are numbers that differ, where it is ordinary.
     Physical,
-    /// Its digital minimum and maximum, where it is an ordinary signal.
+    /// Its digital minimum and maximum are numbers of 16 bits that rise, where it is ordinary.
     Digital,
-    /// Its samples per data record.
+    /// It has samples in each data record.
     Samples,
 }
 
-/// Whether the physical minimum and maximum are numbers that differ.
+/// Is true where the physical minimum and maximum are numbers that differ.
 fn has_physical(row: &[u8; 256]) -> bool
     ensures { IsTrue result ↔ HasPhysical row.now }
 {
@@ -36,7 +36,7 @@ fn has_physical(row: &[u8; 256]) -> bool
     )
 }
 
-/// Whether the digital minimum and maximum are numbers of 16 bits, the maximum the greater.
+/// Is true where the digital minimum and maximum are numbers of 16 bits, the maximum the greater.
 fn has_digital(row: &[u8; 256]) -> bool
     ensures { IsTrue result ↔ HasDigital row.now }
 {
@@ -49,7 +49,7 @@ fn has_digital(row: &[u8; 256]) -> bool
     }
 }
 
-/// Whether the samples are a whole number from 1 on.
+/// Is true where the samples are a whole number from 1 on.
 fn has_samples(row: &[u8; 256]) -> bool
     ensures { IsTrue result ↔ HasSamples row.now }
 {
@@ -59,7 +59,7 @@ fn has_samples(row: &[u8; 256]) -> bool
     }
 }
 
-/// Whether a signal has the label of an annotations signal.
+/// Is true where a signal has the label of an annotations signal.
 pub(crate) fn is_labelled(row: &[u8; 256]) -> bool
     ensures value { result ≡ has_label row.now }
     ensures label { IsTrue result ↔ IsLabelled row.now }
@@ -67,8 +67,7 @@ pub(crate) fn is_labelled(row: &[u8; 256]) -> bool
     &row[LABEL..TRANSDUCER] == b"EDF Annotations ".as_slice()
 }
 
-/// Whether a signal is an annotations signal with the digital and physical values that such a
-/// signal must have.
+/// Is true where a signal is an annotations signal with the values that such a signal must have.
 fn is_annotations(row: &[u8; 256]) -> bool
     ensures { IsTrue result ↔ IsAnnotationsSignal row.now }
 {
@@ -84,7 +83,7 @@ fn is_annotations(row: &[u8; 256]) -> bool
     }
 }
 
-/// How many samples a signal has in a data record.
+/// Returns the number of samples that a signal has in a data record.
 pub(crate) fn samples_of(row: &[u8; 256]) -> u32
     requires { HasSamples row.now }
     ensures value { result ≡ samples row.now }
@@ -96,7 +95,7 @@ pub(crate) fn samples_of(row: &[u8; 256]) -> u32
     }
 }
 
-/// Whether a signal passes a check.
+/// Is true where a signal passes a check.
 pub(crate) fn passes(check: Check, row: &[u8; 256]) -> bool
     ensures { IsTrue result ↔ Passes check row.now }
 {
@@ -109,7 +108,7 @@ pub(crate) fn passes(check: Check, row: &[u8; 256]) -> bool
     }
 }
 
-/// The index, from 0, of the first of the rows that fails a check.
+/// Returns the index, from 0, of the first of the rows that fails a check.
 pub(crate) fn first_bad(check: Check, rows: &[u8]) -> Option<usize>
     ensures { MatchOption result
         (All (Passes check) (rows_of rows.now)) (IsFirstBad (Passes check) (rows_of rows.now)) }
@@ -122,7 +121,7 @@ pub(crate) fn first_bad(check: Check, rows: &[u8]) -> Option<usize>
     None
 }
 
-/// The index, from 0, of the first byte that is not printable.
+/// Returns the index, from 0, of the first byte that is not printable.
 pub(crate) fn first_unprintable(bytes: &[u8]) -> Option<usize>
     ensures { MatchOption result (All IsPrintable bytes.now) (IsFirstBad IsPrintable bytes.now) }
 {

@@ -15,8 +15,8 @@ use crate::limits::MOST_BLOCK_BYTES;
 use crate::signal_checks::{Check, first_unprintable};
 use std::alloc::{AllocError, Global};
 
-/// Whether some signals are annotations signals that have what these must have, and some are
-/// ordinary.
+/// Is true where some signals are ordinary, and some are annotations signals, all of which have
+/// what such signals must have.
 fn has_annotations(signals: &Columns<'_>) -> bool
     ensures { IsTrue result ↔ HasAnnotations signals.now }
 {
@@ -28,7 +28,7 @@ fn has_annotations(signals: &Columns<'_>) -> bool
     bad_signal(Check::Annotations, signals).is_none()
 }
 
-/// Checks all signals, and finds how many bytes those of either kind have in a data record.
+/// Checks all signals, and counts the bytes that those of either kind have in a data record.
 fn check_signals(signals: &Columns<'_>) -> Result<PartBytes, HeaderFault>
     ensures { MatchResult result
         (λ parts. AreSoundRows signals.now × ArePartBytes signals.now parts)
@@ -53,7 +53,7 @@ fn check_signals(signals: &Columns<'_>) -> Result<PartBytes, HeaderFault>
     Ok(parts)
 }
 
-/// The header of a fixed part and of signals that have no fault.
+/// Returns the header of a fixed part and of signals that have no fault.
 fn header_from(
     alloc: Global,
     fixed: &Fixed,
@@ -80,17 +80,17 @@ fn header_from(
 /// Reads the signal part of a header, which comes after the fixed part: 256 bytes a signal, field
 /// by field, each for all signals in turn (EDF, header record; EDF+, the annotations signals).
 ///
-/// The ten fields with their bytes, and where they are in a signal's row, which has them one after
-/// the other: label 16 at 0; transducer type 80 at 16; physical dimension 8 at 96; physical minimum
-/// 8 at 104; physical maximum 8 at 112; digital minimum 8 at 120; digital maximum 8 at 128;
-/// prefiltering 80 at 136; samples per data record 8 at 216; reserved 32 at 224. Of `n` signals the
-/// field of signal `i`, from 0, with `width` bytes at `at` is at `256 + n * at + i * width` of the
-/// file.
+/// A signal's row has ten fields one after the other, of so many bytes: label 16 at 0; transducer
+/// type 80 at 16; physical dimension 8 at 96; physical minimum 8 at 104; physical maximum 8 at 112;
+/// digital minimum 8 at 120; digital maximum 8 at 128; prefiltering 80 at 136; samples per data
+/// record 8 at 216; reserved 32 at 224. Of `n` signals the field of signal `i`, from 0, with
+/// `width` bytes at `at` is at `256 + n * at + i * width` of the file.
 ///
 /// # Errors
-/// The first of E14 to E20 that is true of the bytes: `CutSignals`, `UnprintableSignals` with the
-/// offset in the file of the first such byte, `Annotations`, `Physical`, `Digital`, `Samples`,
-/// `Size`, as `HeaderFault` has them; `Memory` where memory runs out and none of them is true.
+/// It fails with the first of E14 to E20 that is true of the bytes: `CutSignals`,
+/// `UnprintableSignals` with the offset in the file of the first such byte, `Annotations`,
+/// `Physical`, `Digital`, `Samples`, `Size`; with `Memory` where memory runs out and none of them
+/// is true.
 pub fn read_signals(alloc: Global, fixed: Fixed, bytes: &[u8]) -> Result<Header, HeaderFault>
     requires { length bytes.now ≤ 256 * fixed.signal_count }
     ensures { MatchResult result

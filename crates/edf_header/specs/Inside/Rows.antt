@@ -1,4 +1,4 @@
--- The rows of a header's signals: their faults, and what is kept of rows that have none.
+-- The rows of a header's signals have faults, or the bytes of either kind of signals.
 use Rattle.std.specs.Prelude.{◌≡◌, ℕ, ◌*◌, ◌≤◌, List, All}
 use Rattle.edf_header.specs.Signal.{Passes, labelled, ordinary, samples_in_all}
 use Rattle.edf_header.specs.Header.{HeaderRecord}
@@ -11,7 +11,7 @@ use Rattle.edf_header.specs.declared.fault.HeaderFault.{HeaderFault}
 use Rattle.edf_header.specs.declared.fault.HeaderFault.TheVariants.{Annotations, Physical, Digital}
 use Rattle.edf_header.specs.declared.fault.HeaderFault.TheVariants.{Samples, Size}
 
--- the faults E16 to E20, of the rows alone
+-- The fault, E16 to E20, is true of the rows.
 abbrev pub RowsFail : List (List ℕ) → HeaderFault → Type 0
 RowsFail ss Annotations = ¬ HasAnnotations ss
 RowsFail ss (Physical signal) = IsBadSignal checks.Physical ss signal
@@ -20,7 +20,7 @@ RowsFail ss (Samples signal) = IsBadSignal checks.Samples ss signal
 RowsFail ss Size = IsTooLarge ss
 RowsFail ss _ = ⊥
 
--- the rows have none of the faults
+-- The rows have none of the faults.
 pub record AreSoundRows (ss : List (List ℕ)) : Type 0 where
   pub annotations : HasAnnotations ss
   pub physical : All (Passes checks.Physical) ss
@@ -29,11 +29,11 @@ pub record AreSoundRows (ss : List (List ℕ)) : Type 0 where
   pub ordinary_size : 2 * samples_in_all (ordinary ss) ≤ MOST_BLOCK_BYTES
   pub block_size : 2 * samples_in_all (labelled ss) ≤ MOST_BLOCK_BYTES
 
--- how many bytes the signals of either kind have in a data record
+-- The parts are the bytes that the signals of either kind have in a data record.
 pub record ArePartBytes (ss : List (List ℕ)) (parts : PartBytes) : Type 0 where
   pub ordinary : parts.ordinary ≡ 2 * samples_in_all (ordinary ss)
   pub annotations : parts.annotations ≡ 2 * samples_in_all (labelled ss)
 
--- the header of a fixed part and rows
+-- The header has this fixed part and these rows.
 abbrev pub header_of : FixedPart → List (List ℕ) → HeaderRecord
 header_of fixed ss = record { fixed = fixed; signals = ss }
