@@ -198,7 +198,7 @@ module _ {D : Type 0} {g : Ghosts D} (stays : SeenMayStay g) (r : ProgramRun g) 
       does = it.does;
       takes = it.takes;
       let_go = let_go;
-      told = told;
+      printed = told;
       clean = late;
       read = read_first early;
       own = own;
