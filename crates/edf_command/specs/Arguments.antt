@@ -1,4 +1,4 @@
--- What the words after the program's name ask for.
+-- The words after the program's name, and the request that they parse to.
 use Rattle.std.specs.Prelude.{◌≡◌, ◌⊎◌, ◌&&◌, ◌||◌, ◌==◌, ◌++◌, ℕ, false, Bool, true, not, List, []}
 use Rattle.std.specs.Prelude.{◌∷◌, Option, Some, None, codes}
 use Rattle.std.specs.Global.{Global}
@@ -18,14 +18,14 @@ abbrev pub is_value : Text → Bool
 is_value [] = true
 is_value (x ∷ rest) = not (x == 45) || length rest == 0
 
--- what can be asked for, with the values: the store's text, the files' texts in order, the place
+-- a request, with its values: the store's text, the files' texts in order, the place
 pub data Request : Type 0 where
   take : Text → List Text → Request
   list : Text → Request
   export : Text → ℕ → Request
   convert : Text → Request
 
--- digits with a value from 1 to 4,294,967,295
+-- the text is digits with a value from 1 to 4,294,967,295
 abbrev pub is_place : Text → Bool
 is_place text = nat_lt 0 (length text) && (list_all (λ d. nat_lt (digit_value d) 10) text
     && (nat_lt 0 (digits_value 10 text) && nat_lt (digits_value 10 text) 4294967296))
@@ -34,7 +34,7 @@ is_place text = nat_lt 0 (length text) && (list_all (λ d. nat_lt (digit_value d
 abbrev pub place_of : Text → Option ℕ
 place_of text = if is_place text then Some (digits_value 10 text) else None
 
--- what is asked for by the values after each word that may come first
+-- the request of the values after each word that may come first
 abbrev pub request_of_take : List Text → Option Request
 request_of_take (store ∷ file ∷ files) = Some (take store (file ∷ files))
 request_of_take _ = None
@@ -51,7 +51,7 @@ abbrev pub request_of_convert : List Text → Option Request
 request_of_convert (file ∷ []) = Some (convert file)
 request_of_convert _ = None
 
--- what the words ask for; no word asks to convert standard input
+-- the request of the words; no word at all asks to convert standard input
 abbrev pub request : List Text → Option Request
 request [] = Some (convert (codes "-"))
 request (word ∷ values) = if bytes_eq word (codes "take") then request_of_take values
@@ -59,7 +59,7 @@ request (word ∷ values) = if bytes_eq word (codes "take") then request_of_take
     else (if bytes_eq word (codes "export") then request_of_export values
     else (if bytes_eq word (codes "convert") then request_of_convert values else None)))
 
--- what a command asks for
+-- the request of an order
 abbrev pub meaning : Order → Request
 meaning (parsed.Take store files) = take (string_bytes store) (map string_bytes files.items)
 meaning (parsed.List store) = list (string_bytes store)
@@ -96,7 +96,7 @@ BeginWithHelpOrVersion [] = ⊥
 BeginWithHelpOrVersion (word ∷ rest) = IsOneOf (help_flags ++ version_flags) word
     ⊎ (IsOneOf commands word × BeginWithHelpFlag rest)
 
--- ---- the same of Rust's words
+-- ---- Rust's words
 
 -- the bytes of the words
 abbrev pub texts : List (String Global) → List Text

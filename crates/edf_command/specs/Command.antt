@@ -1,4 +1,4 @@
--- What the program does with its words, before a command is run.
+-- The program's words, before a command is run.
 use Rattle.std.specs.Prelude.{◌≢◌, String, List, [], Option, Some, None, Result, Ok, Err, codes}
 use Rattle.std.specs.Prelude.{if◌then◌else◌}
 use Rattle.std.specs.Global.{Global}
@@ -16,8 +16,7 @@ use Rattle.edf_cli.specs.declared.words.CommandFault.TheVariants.{Memory}
 abbrev pub path_of : Text → Option Text
 path_of store = if bytes_eq store (codes ":memory:") then None else Some store
 
--- the path of the store that is asked for; `convert` has an empty store in memory, as `:memory:` is
--- one
+-- the path of a request's store; `convert` has an empty store in memory, as `:memory:` is one
 abbrev pub store_path : Request → Option Text
 store_path (take store files) = path_of store
 store_path (list store) = path_of store
@@ -25,15 +24,14 @@ store_path (export store place) = path_of store
 store_path (convert file) = None
 
 module _ (out err : OutputChange) where
-  -- why there is no command, as it is written: the words ask for nothing, or there is no memory for
-  -- them
+  -- there is no command, and why is printed: the words ask for nothing, or memory ran out
   pub record IsNoCommand (words : List (String Global)) (status : Status) : Type 0 where
     pub fault : CommandFault
     pub printed : IsCommandFaultPrinted out err fault status
     pub nothing : fault ≢ Memory → AreValues words → WordsParseToNothing words
 
-  -- the command that the words ask for, where no word begins with `-`, and nothing is written; or
-  -- there is none
+  -- the words parse to this command, where no word begins with `-`, and nothing is written; or
+  -- there is no command
   abbrev pub IsCommandRead : List (String Global) → Result Order Status → Type 0
   IsCommandRead words (Ok command) = (AreValues words → WordsParseTo words command) × Gets out []
       × Gets err []

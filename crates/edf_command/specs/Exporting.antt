@@ -1,4 +1,4 @@
--- What `export` does: what it writes, the status that it answers, and what it leaves in the store.
+-- The command `export`: what is written, the status, and the store afterwards.
 use Rattle.std.specs.Prelude.{◌≡◌, ◌≢◌, ◌⊎◌, ℕ, zero, suc, List, [], slice_get, Option, Some, None}
 use Rattle.sqlite_trees.specs.declared.store.Store.{Ghosts}
 use Rattle.sqlite.specs.State.{HasCleanDisk}
@@ -23,8 +23,8 @@ at_place keys zero = None
 at_place keys (suc n) = slice_get keys n
 
 module _ (out err : OutputChange) where
-  -- the recording's canonical file went out; or a prefix of it and a line why, or a line alone; E43
-  -- exactly where a write failed
+  -- the recording's canonical file was written; or a prefix of it and a line why, or a line alone;
+  -- E43 exactly where a write failed
   abbrev pub IsRecordingExported : Holdings → Key → Status → Type 0
   IsRecordingExported h k status =
       (((len : ℕ) × IsExported out.before out.after k (h k) len)
@@ -42,7 +42,7 @@ module _ (out err : OutputChange) where
       × CountsExportFault out.failed_before out.failed_after fault
       × IsWritten err (export_refused_line fault) (export_status fault) status)
 
-  -- the recording at this place of the list, from 1
+  -- the recording at this place of the list is exported; places count from 1
   pub record ExportsPlace (h : Holdings) (place : ℕ) (status : Status) : Type 0 where
     pub keys : List Key
     pub key : Key
@@ -50,7 +50,7 @@ module _ (out err : OutputChange) where
     pub is_at : at_place keys place ≡ Some key
     pub exported : IsRecordingExported h key status
 
-  -- there is none there
+  -- there is no recording at this place
   pub record HasNoPlace (h : Holdings) (place : ℕ) (status : Status) : Type 0 where
     pub keys : List Key
     pub are_keys : AreKeysOf h keys

@@ -38,7 +38,7 @@ take_line spell name (Err refusal) = refused_file_line spell name refusal
 abbrev pub take_lines : (ℕ → List ℕ) → List (List ℕ) → List Answer → List ℕ
 take_lines spell names answers = flat_map (λ p. take_line spell p.0 p.1) (zip names answers)
 
--- those of the first n answers
+-- the lines of the first n answers
 abbrev pub first_take_lines : (ℕ → List ℕ) → List (List ℕ) → List Answer → ℕ → List ℕ
 first_take_lines spell names answers n = take_lines spell names (take n answers)
 
@@ -46,11 +46,11 @@ abbrev pub answer_status : Answer → Status
 answer_status (Ok receipt) = Done
 answer_status (Err refusal) = status_of_number (refusal_number refusal)
 
--- the worst of all
+-- the worst status of the answers
 abbrev pub take_status : List Answer → Status
 take_status answers = fold (λ status answer. worse status (answer_status answer)) Done answers
 
--- no memory for the readers or the answers
+-- there is no memory for the readers or the answers
 abbrev pub take_memory_line : List ℕ
 take_memory_line = memory_line (codes "take")
 
@@ -73,7 +73,7 @@ list_lines spell h place [] = []
 list_lines spell h place (k ∷ ks) = list_line spell place k (h k)
     ++ list_lines spell h (place + 1) ks
 
--- those of the first n recordings
+-- the lines of the first n recordings
 abbrev pub first_list_lines : (ℕ → List ℕ) → Holdings → List Key → ℕ → List ℕ
 first_list_lines spell h keys n = list_lines spell h 1 (take n keys)
 
@@ -100,7 +100,7 @@ store_refused_line fault = refused_line (codes "store") (number fault) (store_fa
 
 -- ---- after it was run
 
--- what is held could not be copied into the database file
+-- the database file could not be given all that is held
 abbrev pub store_not_closed_line : StoreFault → List ℕ
 store_not_closed_line fault = codes "store not closed "
     ++ fault_text (number fault) (store_fault_name fault) (10 ∷ [])

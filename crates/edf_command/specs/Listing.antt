@@ -1,4 +1,4 @@
--- What `list` does: what it writes, the status that it answers, and what it leaves in the store.
+-- The command `list`: what is written, the status, and the store afterwards.
 use Rattle.std.specs.Prelude.{◌≡◌, ◌≢◌, ◌⊎◌, Contains, ℕ, List, [], ◌++◌, length}
 use Rattle.sqlite_trees.specs.declared.store.Store.{Ghosts}
 use Rattle.sqlite.specs.State.{HasCleanDisk}

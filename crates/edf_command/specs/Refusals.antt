@@ -6,7 +6,7 @@ use Rattle.edf_intake.specs.declared.answer.Refusal.{Refusal}
 use Rattle.edf_intake.specs.declared.answer.Refusal.TheVariants as refusal
 use Rattle.edf_cli.specs.Text.{fault_text, fragment_details}
 
--- what a refusal names; one for form what its fault does
+-- the values that a refusal names; one of form names those of its fault
 abbrev pub details : (ℕ → List ℕ) → Refusal → List ℕ
 details spell (refusal.Form fault) = fragment_details fault
 details spell (refusal.Overlap start stored) = codes " start="

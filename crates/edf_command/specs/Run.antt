@@ -1,4 +1,4 @@
--- What a command does: what it writes, the status that it answers, and what it leaves in the store.
+-- A command: what is written, the status, and the store afterwards.
 use Rattle.std.specs.Prelude.{◌≡◌, ◌⊎◌, ℕ, List, [], ◌∷◌, Option, Ok, Err}
 use Rattle.sqlite_trees.specs.declared.store.Store.{Ghosts}
 use Rattle.sqlite.specs.State.{HasCleanDisk}
@@ -43,7 +43,7 @@ module _ {S : Type 0} (g : Ghosts S) (old new : StoreModel S) (out err : OutputC
         Gets out [] × IsLinePrinted err (refused_file_line spell name refusal)
         (status_of_number (refusal_number refusal)) status
 
-  -- it was accepted, and what its recording then holds went out
+  -- the file was accepted, and the canonical file of its recording was exported
   pub record ConvertsFile (bytes : Option (List ℕ)) (status : Status) : Type 0 where
     pub from : InputState
     pub to : InputState
@@ -56,7 +56,7 @@ module _ {S : Type 0} (g : Ghosts S) (old new : StoreModel S) (out err : OutputC
     pub exported : HasCleanDisk (at g new) → (h : Holdings) → Holds g mid h →
         IsRecordingExported out err h receipt.identity status
 
-  -- or there was no memory for the reader
+  -- the file is converted or refused, or there was no memory for the reader
   abbrev pub IsConverted : Option (List ℕ) → List ℕ → Status → Type 0
   IsConverted bytes name status = ConvertsFile bytes status
       ⊎ (RefusesFile bytes name status

@@ -1,4 +1,4 @@
--- What `take` does: what it writes, the status that it answers, and what it leaves in the store.
+-- The command `take`: what is written, the status, and the store afterwards.
 use Rattle.std.specs.Prelude.{◌≡◌, ◌⊎◌, ℕ, List, [], ◌++◌, length, map, Option}
 use Rattle.sqlite_trees.specs.declared.store.Store.{Ghosts}
 use Rattle.edf_fragment.specs.Call.{InputState}
@@ -18,7 +18,7 @@ pub record OpensPrefix (before after names : List (List ℕ)) : Type 0 where
   pub parts : names ≡ prefix ++ remaining
   pub opened : after ≡ before ++ prefix
 
--- just these were, each once, in their order; or, where memory ran out, just the first of them
+-- all these names were opened, each once, in their order; or, where memory ran out, the first ones
 abbrev pub HasOpened : List (List ℕ) → List (List ℕ) → List (List ℕ) → Status → Type 0
 HasOpened before after names status = (after ≡ before ++ names)
     ⊎ (OpensPrefix before after names × (status ≡ Trouble))
@@ -39,7 +39,7 @@ module _ {S : Type 0} (g : Ghosts S) (old new : StoreModel S) (out err : OutputC
         status
     pub silent : Gets err []
 
-  -- or there was no memory for the readers or the answers, and nothing was submitted
+  -- the files are taken; or memory ran out for the readers or answers, and none was submitted
   abbrev pub IsTaken : (List ℕ → Option (List ℕ)) → List (List ℕ) → Status → Type 0
   IsTaken bytes names status = TakesFiles bytes names status
       ⊎ ((new ≡ old) × Explains out err take_memory_line Trouble status)

@@ -1,4 +1,4 @@
-//! The reading of a command line.
+//! The parsing of a command line.
 
 ghost use Rattle.std.specs.Prelude.{◌≢◌, ◌<◌, IfErr, IfOk, IsErrAnd, length};
 ghost use Rattle.edf_command.specs.Inside.Commands.{Reads, edfstore_app};
@@ -15,7 +15,7 @@ use clap::Command;
 use edf_cli::{CommandFault, fault_by, refuse_value};
 use std::alloc::{AllocError, Global};
 
-/// What the words ask for. `None` where all is well but a PLACE, which `clap` takes as text.
+/// Parses the words. Returns `None` if only a PLACE is wrong, which `clap` takes as any text.
 fn read<'a>(
     alloc: Global,
     command: &mut Command<'a>,
@@ -32,7 +32,7 @@ fn read<'a>(
     Ok(order_in(alloc, &matches)?)
 }
 
-/// What some words ask for. `None` where all is well but a PLACE.
+/// Parses the words of `edfstore`. Returns `None` if only a PLACE is wrong.
 fn read_words(alloc: Global, words: &[String]) -> Result<Option<Order>, CommandFault>
     requires some { 0 < length words.now }
     ensures { AreWordsRead words.now result }
@@ -41,14 +41,14 @@ fn read_words(alloc: Global, words: &[String]) -> Result<Option<Order>, CommandF
     read(alloc, &mut command, words)
 }
 
-/// Why a PLACE is refused, with the usage of `export`.
+/// Returns the fault for a PLACE, with the usage of `export`.
 fn place_fault(alloc: Global) -> Result<CommandFault, AllocError>
     ensures { IfOk result IsNoHelp }
 {
     refuse_value(alloc, export_command(alloc)?, "edfstore export", BAD_PLACE)
 }
 
-/// What the words after the program's name ask for.
+/// Parses the words after the program's name.
 ///
 /// The words are `take STORE FILE...`, `list STORE`, `export STORE PLACE` or `convert FILE`; no
 /// word at all is `convert -`. PLACE is digits, without a sign, with a value from 1 to

@@ -1,4 +1,4 @@
-//! The words of the program, as `clap` gets them.
+//! The command line of the program, as `clap` gets it.
 
 ghost use Rattle.std.specs.Prelude.{◌≡◌, false, IfOk};
 ghost use Rattle.clap.specs.Simple.{App, with_subcommand};
@@ -12,7 +12,7 @@ use clap::{Arg, ArgAction, Command};
 use edf_cli::VERSION;
 use std::alloc::{AllocError, Global};
 
-/// A value that must be given.
+/// Makes a value that must be given.
 fn required_value<'a>(alloc: Global, name: &'a str, text: &'a str) -> Arg<'a>
     ensures rule { rule_of result ≡ required_rule name.now }
     ensures local { result.global ≡ false }
@@ -20,7 +20,7 @@ fn required_value<'a>(alloc: Global, name: &'a str, text: &'a str) -> Arg<'a>
     Arg::new(alloc, name).help(text).required(true)
 }
 
-/// One file or more.
+/// Makes the value for one file or more.
 fn files<'a>(alloc: Global) -> Arg<'a>
     ensures rule { rule_of result ≡ files_rule }
     ensures local { result.global ≡ false }
@@ -72,8 +72,8 @@ fn convert_command<'a>(alloc: Global) -> Result<Command<'a>, AllocError>
         .arg(required_value(alloc, "FILE", help::FILE_VALUE))
 }
 
-/// The program before it has its words. Usage calls it `edfstore`, though that is none of the words
-/// that are parsed.
+/// Makes the program without its commands. Usage calls it `edfstore`, though that is none of the
+/// words that are parsed.
 fn program<'a>(alloc: Global) -> Result<Command<'a>, AllocError>
     ensures { IfOk result (λ c. Reads c edfstore_top) }
 {
@@ -88,7 +88,7 @@ fn program<'a>(alloc: Global) -> Result<Command<'a>, AllocError>
     )
 }
 
-/// The program with one word more.
+/// Adds a command to the program.
 fn with_word<'a>(
     program: Command<'a>,
     word: Result<Command<'a>, AllocError>,
@@ -99,7 +99,7 @@ fn with_word<'a>(
     program.subcommand(word?)
 }
 
-/// The program with its words `take`, `list`, `export` and `convert`.
+/// Makes the program with its commands `take`, `list`, `export` and `convert`.
 pub(crate) fn edfstore_command<'a>(alloc: Global) -> Result<Command<'a>, AllocError>
     ensures { IfOk result (λ c. Reads c edfstore_app) }
 {

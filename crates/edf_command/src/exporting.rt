@@ -63,7 +63,7 @@ pub(crate) fn export_recording<S: Alter, O: Output, F: Output>(
     }
 }
 
-/// The recording at a place, from 1.
+/// Returns the recording at a place, from 1.
 fn at_place(recordings: &[Identity], place: u32) -> Option<&Identity>
     ensures { option_map (λ k. k.now) result ≡ at_place recordings.now place }
 {

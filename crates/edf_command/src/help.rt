@@ -1,12 +1,10 @@
-//! What `edfstore --help` and the help of each word say. Lines are broken here, since nothing else
-//! breaks them.
+//! The texts of `edfstore --help` and of each command's help, first in a line, then at length.
+//! Lines are broken here, since nothing else breaks them.
 
-/// What `edfstore` is.
 pub(crate) const EDFSTORE: &str = "\
 Keeps sleep recordings: takes EDF+ files in any order and as often as they are
 sent, and gives each recording back as one EDF+D file.";
 
-/// How a night is kept, and what the statuses mean.
 pub(crate) const EDFSTORE_MORE: &str = "\
 Example, a night that came in pieces, and the memory card with all of it:
   edfstore take night.db part1.edf part2.edf part3.edf
@@ -23,10 +21,8 @@ Status:
   2  the words ask for nothing that can be done
   3  trouble with a file, standard output, memory or the store";
 
-/// `take` in a line.
 pub(crate) const TAKE: &str = "Takes EDF+ files into a store, each whole or not at all";
 
-/// What becomes of each file.
 pub(crate) const TAKE_MORE: &str = "\
 Takes EDF+ files into a store, in the order given, each whole or not at all.
 
@@ -45,10 +41,8 @@ Examples:
   edfstore take night.db part1.edf part2.edf
   zcat part3.edf.gz | edfstore take night.db -";
 
-/// `list` in a line.
 pub(crate) const LIST: &str = "Lists the recordings of a store";
 
-/// What a recording is, and what its line says.
 pub(crate) const LIST_MORE: &str = "\
 Lists the recordings of a store, a line each: its place, how many data records
 are held, the start of the first, patient code and investigation code.
@@ -63,10 +57,8 @@ Example:
   edfstore list night.db
   1 records=2880 first=2002-03-02T23:59:50 patient=P7 investigation=N1";
 
-/// `export` in a line.
 pub(crate) const EXPORT: &str = "Writes one recording to standard output, as an EDF+D file";
 
-/// What the file holds.
 pub(crate) const EXPORT_MORE: &str = "\
 Writes one recording of a store to standard output: an EDF+D file of all its
 data records in time order, with their annotations. The store stays as it is.
@@ -78,10 +70,8 @@ pub(crate) const EXPORT_EXAMPLE: &str = "\
 Example:
   edfstore export night.db 1 > night.edf";
 
-/// `convert` in a line.
 pub(crate) const CONVERT: &str = "Writes one EDF+ file to standard output, in canonical form";
 
-/// What the canonical form is.
 pub(crate) const CONVERT_MORE: &str = "\
 Writes one EDF+ file to standard output in canonical form, without a store:
 EDF+D, the annotations signal last and no larger than it must be, onsets and
@@ -102,6 +92,6 @@ pub(crate) const FILE_VALUE: &str = "A file in EDF+C or EDF+D, or - for standard
 
 pub(crate) const PLACE_VALUE: &str = "The recording's place in the list, from 1";
 
-/// Why a PLACE is refused.
+/// The reason why a PLACE is refused.
 pub(crate) const BAD_PLACE: &str =
     "PLACE is a recording's place in the list, in digits, from 1 to 4294967295";

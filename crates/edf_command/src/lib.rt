@@ -1,18 +1,32 @@
 //! The commands of `edfstore`, over any store, files and writers.
 //!
-//! - [`read_command`]: the words after the program's name, as a command; help and usage are
-//!   written.
-//! - [`store_path`], [`refuse_store`], [`print_store_not_closed`]: the store that a command names,
-//!   and the line where it can't be opened, or closed.
-//! - [`run`]: one command over its store and over what opens files ([`Inputs`]).
-//! - [`list`], [`export_place`]: the work of two commands, for a caller that has a store open;
-//!   [`refused_file_line`], [`print_no_recording`]: the line of a file that is not taken, and of a
-//!   place that no recording has.
-//! - [`Status`]: how it went, and the number that the program ends with.
-//! - [`refusal_text`]: a refusal, as a line has it.
-//! - [`parse`]: the words to an [`Order`], by `clap`, or the [`CommandFault`] that says why they ask
-//!   for nothing; no file is opened, and nothing is printed.
-//! - [`Order`]: `take`, `list`, `export` or `convert`, with its values.
+//! ```rust
+//! use edf_command::{Inputs, Status, read_command, run};
+//! use edf_fragment::Output;
+//! use edf_store::Store;
+//! use sqlite::Alter;
+//! use std::alloc::Global;
+//!
+//! // Runs a command line over a store that is open. Returns the exit status.
+//! pub fn edfstore<S: Alter, I: Inputs, O: Output, F: Output>(
+//!     alloc: Global, words: &[String], store: &mut Store<S>, inputs: &mut I,
+//!     out: &mut O, err: &mut F,
+//! ) -> Status {
+//!     match read_command(alloc, words, out, err) {
+//!         Ok(command) => run(alloc, &command, store, inputs, out, err),
+//!         Err(status) => status,
+//!     }
+//! }
+//! ```
+//!
+//! - [`read_command`]: parses the words after the program's name, and prints help or usage.
+//!   [`parse`]: does not print, and returns an [`Order`] or a [`CommandFault`].
+//! - [`run`]: runs a command over its store and what opens files ([`Inputs`]), to a [`Status`].
+//! - [`store_path`]: the path of the store that a command names. [`refuse_store`],
+//!   [`print_store_not_closed`]: print that it can't be opened, or closed.
+//! - [`list`], [`export_place`]: two commands, for a caller that has a store open.
+//! - [`refusal_text`], [`refused_file_line`]: the text of a refusal, and its line.
+//!   [`print_no_recording`]: prints that no recording has a place.
 #![tactic(auto)]
 
 mod command_line;

@@ -21,7 +21,7 @@ use edf_store::{Store, StoreFault, Summary};
 use sqlite::Alter;
 use std::alloc::{AllocError, Global};
 
-/// The line of a recording.
+/// Returns the line of a recording.
 fn list_line(
     alloc: Global,
     place: usize,
@@ -77,8 +77,7 @@ fn put_recording<S: Alter, O: Output>(
     }
 }
 
-/// One line for each recording, in their order. After one that is not written whole none is
-/// written.
+/// Writes one line for each recording, in their order, until one is not written whole.
 fn put_recordings<S: Alter, O: Output>(
     alloc: Global,
     store: &mut Store<S>,

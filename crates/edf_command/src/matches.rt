@@ -1,4 +1,4 @@
-//! What `clap` found in the words, as a command.
+//! The order in the matches of `clap`.
 
 ghost use Rattle.std.specs.Prelude.{◌≡◌, IfOk, codes, map, option_map, string_bytes};
 ghost use Rattle.clap.specs.Words.{all_of, first_of, found_of, rows_of, subcommand_rows_of};
@@ -9,7 +9,7 @@ use crate::order::{Order, read_place};
 use clap::ArgMatches;
 use std::alloc::{AllocError, Global};
 
-/// The texts as strings of their own.
+/// Copies the texts to strings.
 fn copied(alloc: Global, texts: &[&str]) -> Result<Vec<String>, AllocError>
     ensures { IfOk result (λ r. map string_bytes r.items ≡ map (λ s. s.now) texts.now) }
 {
@@ -20,14 +20,14 @@ fn copied(alloc: Global, texts: &[&str]) -> Result<Vec<String>, AllocError>
     Ok(copies)
 }
 
-/// The value of that name.
+/// Returns the value of that name.
 fn value_in<'a>(values: &ArgMatches<'a>, name: &str) -> Option<&'a str>
     ensures { option_map (λ s. s.now) result ≡ first_of name.now (rows_of (found_of values.now)) }
 {
     values.get_str(name)
 }
 
-/// All values of that name.
+/// Returns all values of that name.
 fn values_in<'m, 'a>(values: &'m ArgMatches<'a>, name: &str) -> Option<&'m [&'a str]>
     ensures { option_map (λ s. map (λ v. v.now) s.now) result
         ≡ all_of name.now (rows_of (found_of values.now)) }
@@ -35,7 +35,7 @@ fn values_in<'m, 'a>(values: &'m ArgMatches<'a>, name: &str) -> Option<&'m [&'a 
     values.get_strs(name)
 }
 
-/// The word that says what to do, and the values after it.
+/// Returns the command's word and the values after it.
 fn command_in<'m, 'a>(matches: &'m ArgMatches<'a>) -> Option<(&'a str, &'m ArgMatches<'a>)>
     ensures { option_map (λ p. (p.0.now, rows_of (found_of p.1.now))) result
         ≡ subcommand_rows_of matches.now }
@@ -97,7 +97,7 @@ fn convert_in(alloc: Global, values: &ArgMatches<'_>) -> Result<Option<Order>, A
     Ok(Some(Order::Convert { file }))
 }
 
-/// What was found as a command. `None` where a PLACE names no place.
+/// Returns the order in the matches, or `None` where a PLACE names no place.
 pub(crate) fn order_in(alloc: Global, matches: &ArgMatches<'_>) -> Result<Option<Order>, AllocError>
     ensures { IfOk result (λ r. option_map meaning r ≡ asked_in (subcommand_rows_of matches.now)) }
 {

@@ -1,5 +1,4 @@
-//! What the program does with its words, before a command is run and where it can't be; and what it
-//! says where a store can't be closed.
+//! The program around a command: its words, and lines for a store that can't be opened or closed.
 
 ghost use Rattle.std.specs.Prelude.{◌≡◌, option_map};
 ghost use Rattle.edf_command.specs.Arguments.{meaning};
@@ -15,11 +14,11 @@ use edf_store::StoreFault;
 use itoa::Buffer;
 use std::alloc::Global;
 
-/// The command that the words after the program's name ask for.
+/// Parses the words after the program's name to the command to run.
 ///
 /// # Errors
-/// The status that the program ends with, where there is no command to run: help went to `out`, or
-/// why the words ask for nothing to `err`, or that there is no memory for the words.
+/// The exit status, if there is no command to run. Then help was written to `out`; or to `err` why
+/// the words ask for nothing, or that memory ran out.
 pub fn read_command<O: Output, F: Output>(
     alloc: Global,
     words: &[String],
@@ -36,8 +35,8 @@ pub fn read_command<O: Output, F: Output>(
     }
 }
 
-/// The path of the store that a command names. There is none for `:memory:` and for `Convert`,
-/// which has an empty store in memory.
+/// Returns the path of the store that a command names. There is none for `:memory:` and for
+/// `Convert`, which has an empty store in memory.
 pub fn store_path(command: &Order) -> Option<&str>
     ensures { option_map (λ path. path.now) result ≡ store_path (meaning command.now) }
 {

@@ -10,7 +10,7 @@ use edf_intake::Refusal;
 use edf_time::Instant;
 use std::alloc::{AllocError, Global};
 
-/// Where the data records start that overlap.
+/// Returns the starts of two data records that overlap.
 fn overlap_details(alloc: Global, start: Instant, stored: Instant) -> Result<Vec<u8>, AllocError>
     ensures { IfOk result (λ r. (spell : ℕ → List ℕ) → IsInstantFormat spell →
         r.items ≡ codes " start=" ++ (spell start ++ (codes " stored=" ++ spell stored))) }
@@ -26,7 +26,7 @@ fn overlap_details(alloc: Global, start: Instant, stored: Instant) -> Result<Vec
     concat(alloc, &parts)
 }
 
-/// Where the data records start that differ.
+/// Returns the start of two data records that differ.
 fn differs_details(alloc: Global, start: Instant) -> Result<Vec<u8>, AllocError>
     ensures { IfOk result (λ r. (spell : ℕ → List ℕ) → IsInstantFormat spell →
         r.items ≡ codes " start=" ++ spell start) }
@@ -35,7 +35,7 @@ fn differs_details(alloc: Global, start: Instant) -> Result<Vec<u8>, AllocError>
     concat(alloc, &[b" start=".as_slice(), first.as_slice()])
 }
 
-/// What a refusal names, each after its label.
+/// Returns the values that a refusal names, each after its label.
 fn refusal_details(alloc: Global, refusal: &Refusal) -> Result<Vec<u8>, AllocError>
     ensures { IfOk result
         (λ r. (spell : ℕ → List ℕ) → IsInstantFormat spell → r.items ≡ details spell refusal.now) }
@@ -51,7 +51,7 @@ fn refusal_details(alloc: Global, refusal: &Refusal) -> Result<Vec<u8>, AllocErr
     }
 }
 
-/// What the line of a refusal tells.
+/// Returns the remark on a refusal, for a person.
 pub(crate) fn remark_of(refusal: &Refusal) -> Remark {
     match refusal {
         Refusal::Form(fault) => Remark::Fault(*fault),
@@ -59,12 +59,9 @@ pub(crate) fn remark_of(refusal: &Refusal) -> Remark {
     }
 }
 
-/// The text of a refusal: `E` and its number, its name, and the details.
+/// Returns the text of a refusal: `E` and its number, its name, and the details.
 ///
 /// Records and signals count from 1, offsets from 0; instants are written by [`spelled`].
-///
-/// # Errors
-/// Where memory runs out.
 pub fn refusal_text(alloc: Global, refusal: &Refusal) -> Result<Vec<u8>, AllocError>
     ensures { IfOk result
         (λ r. (spell : ℕ → List ℕ) → IsInstantFormat spell →

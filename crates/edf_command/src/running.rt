@@ -1,4 +1,4 @@
-//! A command, run.
+//! The run of a command.
 
 ghost use Rattle.std.specs.Prelude.{◌≡◌, ℕ, List};
 ghost use Rattle.edf_command.specs.Arguments.{meaning};

@@ -16,7 +16,7 @@ use edf_store::Store;
 use sqlite::Alter;
 use std::alloc::{AllocError, Global};
 
-/// A reader for each file.
+/// Opens a reader for each file.
 fn open_all<I: Inputs>(
     alloc: Global,
     inputs: &mut I,
@@ -38,7 +38,7 @@ fn open_all<I: Inputs>(
     Ok(readers)
 }
 
-/// The line of a refused file.
+/// Returns the line of a refused file.
 pub fn refused_file_line(
     alloc: Global,
     name: &str,
@@ -54,7 +54,7 @@ pub fn refused_file_line(
     )
 }
 
-/// The line of an accepted file.
+/// Returns the line of an accepted file.
 fn accepted_line(alloc: Global, name: &str, new: u32, known: u32) -> Result<Vec<u8>, AllocError>
     ensures { IfOk result (λ r. r.items ≡ accepted_line name.now new known) }
 {
@@ -62,7 +62,7 @@ fn accepted_line(alloc: Global, name: &str, new: u32, known: u32) -> Result<Vec<
     Ok(line.into_bytes())
 }
 
-/// What became of a file.
+/// Returns the line of a file, by its answer.
 fn take_line(
     alloc: Global,
     name: &str,
@@ -80,8 +80,8 @@ fn take_line(
     }
 }
 
-/// Writes what became of a file, and tells a person more of a refusal. Whether the line was written
-/// whole.
+/// Writes the line of a file, and gives a remark on a refusal for a person. Is true if the line was
+/// written whole.
 fn put_answer<O: Output>(
     alloc: Global,
     out: &mut O,
@@ -104,7 +104,7 @@ fn put_answer<O: Output>(
     }
 }
 
-/// One line for each file, in their order. After one that is not written whole none is written.
+/// Writes one line for each file, in their order, until one is not written whole.
 fn put_answers<O: Output>(
     alloc: Global,
     out: &mut O,
@@ -133,7 +133,7 @@ fn answer_status(answer: &Result<Receipt, Refusal>) -> Status
     }
 }
 
-/// The worst that became of a file.
+/// Returns the worst status of the answers.
 fn take_status(answers: &[Result<Receipt, Refusal>]) -> Status
     ensures { result ≡ take_status answers.now }
 {
@@ -144,8 +144,7 @@ fn take_status(answers: &[Result<Receipt, Refusal>]) -> Status
     status
 }
 
-/// Submits each file in the order of the words, also after refused ones, and writes one line for
-/// each.
+/// Submits each file in turn, also after refused ones, and writes one line for each.
 pub(crate) fn take<S: Alter, I: Inputs, O: Output, F: Output>(
     alloc: Global,
     files: &[String],

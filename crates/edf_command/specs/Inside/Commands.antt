@@ -1,4 +1,4 @@
--- The words of the program, as `clap` reads them: what the builders of `commands` make.
+-- The command line of the program, as `clap` reads it: what the builders of `commands` make.
 use Rattle.std.specs.Prelude.{◌≡◌, true, false, Some, codes}
 use Rattle.clap.specs.Lexer.{usize_max}
 use Rattle.clap.specs.Walk.{Rule, Text}
@@ -43,6 +43,6 @@ edfstore_app = with_subcommand (with_subcommand
     (with_subcommand (with_subcommand edfstore_top take_app.top) list_app.top) export_app.top)
     convert_app.top
 
--- parsing reads the command as that, and no argument of it is global
+-- `clap` reads the command as this, and no argument of it is global
 abbrev pub Reads : Command → App → Type 0
 Reads c a = (app_of c ≡ a) × ((out-Command c).has_globals ≡ false)

@@ -1,4 +1,4 @@
--- What is asked for, by the values that `clap` found.
+-- The request in the values that `clap` matched.
 use Rattle.std.specs.Prelude.{List, Option, Some, None, codes, if◌then◌else◌, option_and_then}
 use Rattle.std.specs.Prelude.{option_map}
 use Rattle.std.specs.Str.{bytes_eq}
@@ -14,7 +14,7 @@ abbrev pub export_found : Option Text → Option Text → Option Request
 export_found (Some store) (Some place) = option_map (export store) (place_of place)
 export_found _ _ = None
 
--- by the word that was met and the values after it
+-- the request of a first word and the values after it
 abbrev pub found_by : Text → List Row → Option Request
 found_by word rows = if bytes_eq word (codes "take") then take_found (first_of (codes "STORE") rows)
     (all_of (codes "FILE") rows)

@@ -1,4 +1,4 @@
--- What some words ask for, as `clap` reads them.
+-- The order that `clap` reads from words.
 use Rattle.std.specs.Prelude.{◌≡◌, ◌≢◌, String, List, Option, Result, IfOk, IfErr, IsErrAnd}
 use Rattle.std.specs.Prelude.{option_map}
 use Rattle.std.specs.Global.{Global}
@@ -9,7 +9,7 @@ use Rattle.edf_command.specs.Arguments.{AreValues, AskForHelp, AskForNoHelp, Wor
 use Rattle.edf_command.specs.Arguments.{request, meaning, texts}
 use Rattle.edf_command.specs.declared.order.Order.{Order}
 
--- no order where all is well but a PLACE
+-- the result is no order where only a PLACE is wrong
 pub record AreWordsRead (words : List (String Global)) (result : Result (Option Order) CommandFault)
     : Type 0 where
   pub reads : AreValues words →
