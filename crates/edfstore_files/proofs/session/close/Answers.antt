@@ -129,7 +129,7 @@ returns-in-Err-clause-let_go g c =
     (λ none. let clean : IsClean (view before) = omega (arith, q.clean, none) in
     excused c.args.conn before c.checkpoint.new.self first.counts q.counts (first.closes clean)
     (λ h. (c.rollback.ensures.undone.undone h).1) c.in-Err.error (c.in-Err.ensures.cause none))
-    c.in-Err.ensures.printed
+    c.in-Err.ensures.told
 
 pub returns-in-Err-clause-shut : goal.returns-in-Err-clause-shut
 returns-in-Err-clause-shut g c is honest =
