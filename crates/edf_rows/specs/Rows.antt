@@ -40,9 +40,9 @@ pub record DifferInIdAndKey (a b : Row) : Type 0 where
   pub id : the_id a ≢ the_id b
   pub identity : the_identity a ≢ the_identity b
 
--- each row of a recording is an id and the bytes of a key, and no id and no key occurs twice; each
--- record belongs to a recording, and a recording's records by rising starts are what its key has; a
--- key without a recording has none, and a recording may have none inside a transaction
+-- Each row of a recording is an id and the bytes of a key, and no id and no key occurs twice. Each
+-- record belongs to a recording, and a recording's records by rising starts are what its key has. A
+-- key without a recording has none, and a recording may have none inside a transaction.
 pub record Represent (trees : Trees) (h : Holdings) : Type 0 where
   pub recordings : All IsRecordingRow (recordings_in trees)
   pub apart : (a b : Row) → AreTwoOf (recordings_in trees) a b → DifferInIdAndKey a b

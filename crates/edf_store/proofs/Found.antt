@@ -125,20 +125,15 @@ pub member_along : (xs ys : List Row) → IsPermutation xs ys → (x : Row) → 
     Contains ys x
 member_along = along_permutation (λ xs ys. (x : Row) → Contains xs x → Contains ys x) (λ xs x c. c)
     (λ y xs ys more x c. elim (cases_first y x xs c) [
-      | inl p ↦
-          subst (λ z. Contains (z ∷ ys) x) (sym p) (here x ys)
+      | inl p ↦ subst (λ z. Contains (z ∷ ys) x) (sym p) (here x ys)
       | inr m ↦ there y x ys (more x m)
-    ])
-    (λ a b xs x c. elim (cases_first a x (b ∷ xs) c) [
+    ]) (λ a b xs x c. elim (cases_first a x (b ∷ xs) c) [
       | inl p ↦ there b x (a ∷ xs) (subst (λ z. Contains (z ∷ xs) x) (sym p) (here x xs))
       | inr m ↦ elim (cases_first b x xs m) [
-        | inl p ↦
-            subst (λ z. Contains (z ∷ a ∷ xs) x) (sym p) (here x (a ∷ xs))
-        | inr n ↦
-            there b x (a ∷ xs) (there a x xs n)
+        | inl p ↦ subst (λ z. Contains (z ∷ a ∷ xs) x) (sym p) (here x (a ∷ xs))
+        | inr n ↦ there b x (a ∷ xs) (there a x xs n)
       ]
-    ])
-    (λ xs ys zs f g x c. g x (f x c))
+    ]) (λ xs ys zs f g x c. g x (f x c))
 
 turned : (a b : Row) → DifferInIdAndKey a b → DifferInIdAndKey b a
 turned a b o = record { id = λ p. o.id (sym p); identity = λ p. o.identity (sym p) }
@@ -154,8 +149,7 @@ pairs_along = along_permutation PairsAlong (λ xs. ((λ x all. all), (λ all. al
     (λ a b xs. (
       (λ x all. (all.1.0, (all.0, all.1.1))),
       (λ all. ((turned a b all.0.0, all.1.0), (all.0.1, all.1.1))),
-    ))
-    (λ xs ys zs f g. ((λ x all. g.0 x (f.0 x all)), (λ all. g.1 (f.1 all))))
+    )) (λ xs ys zs f g. ((λ x all. g.0 x (f.0 x all)), (λ all. g.1 (f.1 all))))
 
 all_members : (P : Row → Type 0) (xs : List Row) → ((x : Row) → Contains xs x → P x) →
     AllByRecursion P xs
@@ -174,8 +168,7 @@ pairs_of (row ∷ rows) apart = (
 )
 
 from_pairs : (rows : List Row) → IsAscending DifferInIdAndKey rows → (a b : Row) →
-    AreTwoOf rows a b →
-    DifferInIdAndKey a b
+    AreTwoOf rows a b → DifferInIdAndKey a b
 from_pairs rows pairs a b two = ((pairs_along rows (a ∷ b ∷ two.0) two.1).1 pairs).0.0
 
 put_permutes : (new : Row) (rows : List Row) →
@@ -196,8 +189,7 @@ put_permutes new (r ∷ rows) fresh =
 -- ---- a recording more
 module _ (old new : State) (id : ℤ) (k : Key) (h : Holdings)
     (has : HasRecording old new (named_cells (key_bytes k)))
-    (is_id : id ≡ next_rowid (old.now.trees 0))
-    (stand : Represent old.now.trees h) (key : IsKey k)
+    (is_id : id ≡ next_rowid (old.now.trees 0)) (stand : Represent old.now.trees h) (key : IsKey k)
     (none : named (key_bytes k) (old.now.trees 0) ≡ []) where
   abbrev row : Row
   row = new_row (old.now.trees 0) (named_cells (key_bytes k))
@@ -296,8 +288,7 @@ module _ (old new : State) (id : ℤ) (k : Key) (h : Holdings)
     apart = from_pairs (recordings_in new.now.trees)
         ((pairs_along _ _ moved).1 (others, pairs_of (recordings_in old.now.trees) stand.apart));
     owned = subst (λ (rows : List Row). All (BelongsToRecording new.now.trees) rows)
-        (sym has.records)
-        (All-from_recursion (BelongsToRecording new.now.trees) (old.now.trees 2)
+        (sym has.records) (All-from_recursion (BelongsToRecording new.now.trees) (old.now.trees 2)
         (all_weaker (BelongsToRecording old.now.trees) (BelongsToRecording new.now.trees)
         (λ one owner. record {
           id = owner.id;
@@ -311,8 +302,7 @@ module _ (old new : State) (id : ℤ) (k : Key) (h : Holdings)
       | inl p ↦
           let same = same-recordings id m k q key it.key (sym own ∙ p) in
           same_rows m ∙ ap (records_in old.now.trees) (sym same.0) ∙ empty
-          ∙ ap (map record_cells) (sym (stand.others k (absent old.now.trees k none))
-          ∙ ap h same.1)
+          ∙ ap (map record_cells) (sym (stand.others k (absent old.now.trees k none)) ∙ ap h same.1)
       | inr was ↦ same_rows m ∙ stand.held m q was
     ];
     others = λ q gone. stand.others q (λ m it. gone m (there_still m q it));

@@ -67,8 +67,7 @@ module _ (cap : ℕ) (old new : State) (s : Survives old new (λ db. db ≡ old.
   crash_others = survives_weaker old new _ _ (λ clean db made.
       let it = (running (omega (arith, s.clean))).1 in (
         it.is_open,
-        subst (KeepsTrees old.committed.schema old.committed.trees) (sym made)
-            it.others.trees,
+        subst (KeepsTrees old.committed.schema old.committed.trees) (sym made) it.others.trees,
       )) s
 
   pub committed_others : (HasCleanDisk new → Shows old new old.now old.now false) →
@@ -118,8 +117,7 @@ pub still_inside : (cap : ℕ) (old new : State) (h : Holdings) → IsUnchanged 
 still_inside cap old new h same it = record {
   is_open = same.0.is_open;
   inside = record {
-    schema = subst (λ (d : Database). HasBoth d.schema) (sym same.0.now_is)
-        it.inside.schema;
+    schema = subst (λ (d : Database). HasBoth d.schema) (sym same.0.now_is) it.inside.schema;
     mode = subst IsTrue (sym same.0.mode) it.inside.mode;
   };
   stand = subst (λ (d : Database). Represent d.trees h) (sym same.0.now_is) it.stand;
@@ -133,8 +131,7 @@ pub still_under : (old new : State) (P : Trees → Type 0) → Survives old new 
 still_under old new P s same id k it = record {
   key = it.key;
   there = λ clean. subst (λ (d : Database). HasRecordingRow d.trees id k)
-      (sym (same clean).0.now_is)
-      (it.there (omega (arith, s.clean)));
+      (sym (same clean).0.now_is) (it.there (omega (arith, s.clean)));
 }
 
 pub sees_on : (cap : ℕ) (old new : State) (P : Trees → Type 0) → Survives old new P →

@@ -84,8 +84,7 @@ identities_rise trees h stand =
     (pairs_of (recordings_in trees) stand.apart)) in
     asc_all (λ r. IsRecordingRow (shown r)) AtMost Differ (λ a b. by_column 2 a b ≡ Less) below_of
     (by_identity (trees 0)) (all-permutation (λ r. IsRecordingRow (shown r)) (trees 0)
-    (by_identity (trees 0)) moved all) (rising_sort (by_column 2) (column_total 2) (trees 0))
-    pairs
+    (by_identity (trees 0)) moved all) (rising_sort (by_column 2) (column_total 2) (trees 0)) pairs
 
 -- ---- members of mapped lists
 to_mapped : {X Y : Type 0} (f : X → Y) (xs : List X) (x : X) → Contains xs x →
@@ -135,8 +134,7 @@ are_keys cap trees h keys kept good same =
     rising : IsStrictlySortedBy key_cmp keys
     rising = sorted_keys keys (ascending_weaker (λ a b. value_cmp (cell_of a) (cell_of b) ≡ Less)
         (λ a b. key_cmp a b ≡ Less) (λ a b e. sym (value_cmp-Blob (key_bytes a) (key_bytes b))
-        ∙ e) keys
-        (ascending_from_map (λ u v. value_cmp u v ≡ Less) cell_of keys
+        ∙ e) keys (ascending_from_map (λ u v. value_cmp u v ≡ Less) cell_of keys
         (subst (IsAscending (λ u v. value_cmp u v ≡ Less)) (sym same)
         (ascending-map (λ u v. value_cmp u v ≡ Less) identity_of (by_identity (trees 0))
         (identities_rise trees h kept.stand)))))

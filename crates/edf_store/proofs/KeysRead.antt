@@ -76,8 +76,7 @@ identities_of_keys trees h all stand e =
     let good = all_unmap IsRecordingRow shown (trees 0)
     (recursion_from_All IsRecordingRow (recordings_in trees) stand.recordings) in
     of_keys all (by_identity (trees 0))
-    (all-permutation (λ r. IsRecordingRow (shown r)) (trees 0) (by_identity (trees 0)) moved
-    good) e
+    (all-permutation (λ r. IsRecordingRow (shown r)) (trees 0) (by_identity (trees 0)) moved good) e
 
 same_cells : (keys : List Key) (all : List Bytes) →
     map key_bytes keys ≡ map (λ (b : Bytes). b.items) all →

@@ -66,8 +66,7 @@ pub near_shown : (trees : Trees) (h : Holdings) (id : ℤ) (k : Key) (start d : 
     (records_of id (trees 2))) ≡ map record_cells (near_of d start (h k))
 near_shown trees h id k start d stand there =
     from_show _ _ (show_filter _ (intervals_overlap d start) (near_test start d)
-    (records_of id (trees 2)) (h k)
-    (shown_of trees h stand id k there))
+    (records_of id (trees 2)) (h k) (shown_of trees h stand id k there))
 
 later_test : (after : ℤ) (row : Row) (x : DataRecord) → column row 2 ≡ Int (pos x.start) →
     starts_after after row ≡ is_gt (int_cmp (pos x.start) after)
@@ -77,8 +76,7 @@ later_test after row x e = ap (λ v. is_gt (value_cmp v (Int after))) e
 pub later_shown : (trees : Trees) (h : Holdings) (id : ℤ) (k : Key) (after : ℤ) (n : ℕ) →
     Represent trees h → HasRecordingRow trees id k
     → map shown_record (take n (filter (starts_after after) (records_of id (trees 2)))) ≡ map
-    record_cells (take n (filter (λ (r : DataRecord). is_gt (int_cmp (pos r.start) after))
-    (h k)))
+    record_cells (take n (filter (λ (r : DataRecord). is_gt (int_cmp (pos r.start) after)) (h k)))
 later_shown trees h id k after n stand there =
     from_show _ _ (show_take n _ _ (show_filter _
     (λ (r : DataRecord). is_gt (int_cmp (pos r.start) after)) (later_test after)
@@ -95,8 +93,7 @@ rows_rising trees cap h id k stand sound there =
 
 -- ---- one step of a walk
 pub low_first : (low : ℕ) (xs : List DataRecord) → StartsAreSpaced 1 low xs →
-    (n : ℕ) (r : DataRecord) →
-    slice_get xs n ≡ Some r → low ≤ r.start
+    (n : ℕ) (r : DataRecord) → slice_get xs n ≡ Some r → low ≤ r.start
 low_first low [] a n r e = absurd (let x : ◌≡◌ {A = Option DataRecord} None (Some r) = e in cc)
 low_first low (x ∷ xs) a zero r e = let same : x ≡ r = cc in
     omega (arith, a.0, ap (λ (y : DataRecord). y.start) same)
@@ -115,8 +112,7 @@ later_all after low (x ∷ xs) a l =
 
 -- after the record at a place of a rising list come those that follow it
 pub later_place : (low : ℕ) (xs : List DataRecord) → StartsAreSpaced 1 low xs →
-    (n : ℕ) (r : DataRecord) →
-    slice_get xs n ≡ Some r → filter (λ (y : DataRecord).
+    (n : ℕ) (r : DataRecord) → slice_get xs n ≡ Some r → filter (λ (y : DataRecord).
     is_gt (int_cmp (pos y.start) (pos r.start))) xs ≡ drop (suc n) xs
 later_place low [] a n r e = absurd (let x : ◌≡◌ {A = Option DataRecord} None (Some r) = e in cc)
 later_place low (x ∷ xs) a zero r e =

@@ -63,8 +63,7 @@ settled_now cap old new P s clean same none settles sound =
           (sound.schema was_clean was_open);
       holdings = (
         held.0,
-        subst (λ (d : Database). RepresentCommitted cap d.trees held.0)
-            (sym now) held.1,
+        subst (λ (d : Database). RepresentCommitted cap d.trees held.0) (sym now) held.1,
       );
     }
 
@@ -72,8 +71,7 @@ settled_now cap old new P s clean same none settles sound =
 pub held_now : (cap : ℕ) (s : State) → HasCleanDisk s → IsSettled cap s → (h : Holdings) →
     AreHeld cap s h → RepresentCommitted cap s.now.trees h
 held_now cap s clean it h held = subst (λ (d : Database). RepresentCommitted cap d.trees h)
-    (sym it.settled)
-    (held clean it.is_open)
+    (sym it.settled) (held clean it.is_open)
 
 pub named_apart : (cap : ℕ) (s : State) → IsSettled cap s → AreNamedApart s
 named_apart cap s it = record {
@@ -139,8 +137,7 @@ stays_so g cap old new s keeps = record {
 
 -- one call after the other
 pub stays_then : {S : Type 0} (g : Ghosts S) (a b c : StoreModel S) → KeepsHoldings g a b →
-    KeepsHoldings g b c →
-    KeepsHoldings g a c
+    KeepsHoldings g b c → KeepsHoldings g a c
 stays_then g a b c p q = record {
   cap = q.cap ∙ p.cap;
   holdings =

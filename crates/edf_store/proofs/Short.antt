@@ -30,8 +30,7 @@ one_more m d = omega arith
 
 -- records that lie apart reach as far as there are many of them
 far : (d : ℕ) (x : DataRecord) (xs acc : List DataRecord) → StartsAreSpaced d (x.start + d) xs →
-    (b : ℤ) →
-    number_at (reverse_aux xs (x ∷ acc)) ≡ Some b → (n : ℕ) × (b ≡ pos n)
+    (b : ℤ) → number_at (reverse_aux xs (x ∷ acc)) ≡ Some b → (n : ℕ) × (b ≡ pos n)
     × (x.start + length xs * d ≤ n)
 far d x [] acc a b e = (x.start, (let same : pos x.start ≡ b = cc in sym same), omega arith)
 far d x (y ∷ ys) acc a b e =
@@ -48,8 +47,7 @@ abs_far m n l = omega (arith, ints, l)
 fewer : (m n d : ℕ) → m * d < n * d → m < n
 fewer m n d l = elim (cases_lt m n) [
   | inl low ↦ low
-  | inr high ↦
-      absurd (omega (arith, l, mul-le-mul_right d high))
+  | inr high ↦ absurd (omega (arith, l, mul-le-mul_right d high))
 ]
 
 -- a list that reaches over less time than `most` durations has at most `most` records
@@ -72,8 +70,7 @@ short_list d most (x ∷ xs) apart a b first last l =
 -- two reads of a transaction that nothing changes between them
 module _ (cap : ℕ) (a b c : State) (id : ℤ) (first last : Option ℤ)
     (one : Survives a b (λ _. ⊥)) (two : Survives b c (λ _. ⊥)) (same : HasCleanDisk b →
-    IsUnchanged a b)
-    (began : HasCleanDisk b → FirstAt a id first) (ended : HasCleanDisk c →
+    IsUnchanged a b) (began : HasCleanDisk b → FirstAt a id first) (ended : HasCleanDisk c →
     LastAt b id last) (clean : HasCleanDisk c) where
   clean_b : HasCleanDisk b
   clean_b = omega (arith, two.clean, clean)
@@ -82,8 +79,7 @@ module _ (cap : ℕ) (a b c : State) (id : ℤ) (first last : Option ℤ)
   clean_a = omega (arith, one.clean, clean_b)
 
   ended_then : LastAt a id last
-  ended_then = subst (λ (db : Database).
-      option_map Int last ≡ option_map (λ row. column row 2)
+  ended_then = subst (λ (db : Database). option_map Int last ≡ option_map (λ row. column row 2)
       (slice_get (reverse (records_of id (db.trees 2))) 0)) (same clean_b).0.now_is (ended clean)
 
   pub short_read : (d most : ℕ) (k q : Key) → HasRowId a id k → d ≡ duration_of k.duration →

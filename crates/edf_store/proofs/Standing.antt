@@ -39,8 +39,7 @@ use Rattle.edf_store.proofs.StoredRows.{others_at, all_put, two_of}
 -- ids are compared as numbers
 pub other_id : (m n : ℤ) → m ≢ n → is_eq (int_cmp m n) ≡ false
 other_id m n apart = elim (cases_Bool (is_eq (int_cmp m n))) [
-  | inl e ↦
-      absurd (apart (same_of (int_cmp m n) refl e))
+  | inl e ↦ absurd (apart (same_of (int_cmp m n) refl e))
   | inr e ↦ e
 ]
   where

@@ -74,8 +74,7 @@ module _ (cap : ℕ) (old new : State) (P : Trees → Type 0) (s : Survives old 
       → ((h : Holdings) → IsTransactionOf cap old h → IsKey k →
       map shown_record (filter (starts_between (pos start -ℤ pos d) (pos start +ℤ pos d))
       (records_of id (old.now.trees 2))) ≡ map record_cells (near_of d start (h k)) →
-      records ≡ near_of d start (h k))
-      → AreNearIn cap old id start records
+      records ≡ near_of d start (h k)) → AreNearIn cap old id start records
   near_is id start d k records clean mine same read h q seen under =
       let it = seen (was_clean clean) in
       let key : k ≡ q = one_key old.now.trees h it.stand id k q (mine.there (was_clean clean))
@@ -85,8 +84,7 @@ module _ (cap : ℕ) (old new : State) (P : Trees → Type 0) (s : Survives old 
       subst (λ (p : Key). records ≡ near_of (duration_of p.duration) start (h p)) key
       (subst (λ n. records ≡ near_of n start (h k)) same answer)
 
-  pub added_in : (id : ℤ) (r : DataRecord) →
-      (HasCleanDisk new → HasRecord old new
+  pub added_in : (id : ℤ) (r : DataRecord) → (HasCleanDisk new → HasRecord old new
       (cells id (pos r.start) r.samples (block_text 0 r.start r.annotations))) →
       MayAddIn cap old id r → SeesSome cap old → IsAddedIn cap old new id r
   added_in id r has may running = record {
@@ -223,8 +221,7 @@ module _ (cap : ℕ) (a b : State) (id : ℤ) (k : Key) (bytes : List ℕ) (is :
     still_there m q clean it =
         let had = running (clean_a clean) in
         there_still b c id k had.0 (has clean) (made clean).1
-        (still_inside cap a b had.0 (same (clean_b clean)) had.1).stand key (unnamed clean) m q
-        it
+        (still_inside cap a b had.0 (same (clean_b clean)) had.1).stand key (unnamed clean) m q it
 
     made_under : HasRowId c id k
     made_under = record {
@@ -241,8 +238,7 @@ module _ (cap : ℕ) (a b : State) (id : ℤ) (k : Key) (bytes : List ℕ) (is :
       ids = λ m q under. let on = still_under a b _ one same m q under in
           record {
             key = under.key;
-            there = λ clean.
-                still_there m q clean (on.there (clean_b clean));
+            there = λ clean. still_there m q clean (on.there (clean_b clean));
           };
     }
 

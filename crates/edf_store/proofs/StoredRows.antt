@@ -81,8 +81,7 @@ three a b = elim (cases_Bool (nat_lt a b)) [
   | inr m ↦
       elim (cases_Bool (nat_lt b a)) [
         | inl l ↦ above (ltb-true b a l)
-        | inr n ↦
-            level (let p = ltb-false a b m in let q = ltb-false b a n in omega (arith, p, q))
+        | inr n ↦ level (let p = ltb-false a b m in let q = ltb-false b a n in omega (arith, p, q))
       ]
 ]
 

@@ -83,13 +83,11 @@ module _ (cap : ℕ) (trees : Trees) (h : Holdings) (id : ℤ) (k : Key)
       let few = kept.sound.few k in
       (omega (arith, e, rows, few, small), omega (arith, e, rows, few, small))
 
-  pub first_of : (start : Option ℤ) →
-      option_map Int start ≡ option_map (λ row. column row 2)
+  pub first_of : (start : Option ℤ) → option_map Int start ≡ option_map (λ row. column row 2)
       (slice_get (records_of id (trees 2)) 0) → start ≡ number_at (h k)
   first_of start e = first_is (records_of id (trees 2)) (h k) start shown e
 
-  pub last_of : (start : Option ℤ) →
-      option_map Int start ≡ option_map (λ row. column row 2)
+  pub last_of : (start : Option ℤ) → option_map Int start ≡ option_map (λ row. column row 2)
       (slice_get (reverse (records_of id (trees 2))) 0) → start ≡ number_at (reverse (h k))
   last_of start e = first_is (reverse (records_of id (trees 2))) (reverse (h k)) start
       (show_reverse _ _ shown) e
@@ -101,8 +99,7 @@ module _ (cap : ℕ) (trees : Trees) (h : Holdings) (id : ℤ) (k : Key)
       → option_map Int last ≡ option_map (λ row. column row 2)
       (slice_get (reverse (records_of id (trees 2))) 0)
       → (summary.records ≡ count) × (first ≡ Some (pos summary.first))
-      × (last ≡ Some (pos summary.last))
-      → IsSummary (h k) (Some summary)
+      × (last ≡ Some (pos summary.last)) → IsSummary (h k) (Some summary)
   summary_is count first last summary c f l is = (
     is.0 ∙ (count_of count c).0,
     start_is (h k) summary.first (sym is.1 ∙ first_of first f),
@@ -175,13 +172,11 @@ module _ (cap : ℕ) (a b c d : State) (id : ℤ) (count : ℕ) (first last : Op
     clean_a = omega (arith, one.clean, clean_b)
 
     began_then : FirstAt a id first
-    began_then = subst (λ (db : Database).
-        option_map Int first ≡ option_map (λ row. column row 2)
+    began_then = subst (λ (db : Database). option_map Int first ≡ option_map (λ row. column row 2)
         (slice_get (records_of id (db.trees 2)) 0)) (same clean_b).0.now_is (began clean_c)
 
     ended_then : LastAt a id last
-    ended_then = subst (λ (db : Database).
-        option_map Int last ≡ option_map (λ row. column row 2)
+    ended_then = subst (λ (db : Database). option_map Int last ≡ option_map (λ row. column row 2)
         (slice_get (reverse (records_of id (db.trees 2))) 0)) ((again clean_c).0.now_is
         ∙ (same clean_b).0.now_is) (ended clean)
 

@@ -176,8 +176,7 @@ module _ (cap : ℕ) (s : State) (id : ℤ) (cursor : Cursor) (h : Holdings) (k 
       recording_is = it.recording_is;
       within = it.within;
       some = omega (arith, it.some, limit);
-      later = subst (λ (z : ℤ). filter (starts_later z) (h k) ≡ drop n (h k)) (sym start)
-          it.later;
+      later = subst (λ (z : ℤ). filter (starts_later z) (h k) ≡ drop n (h k)) (sym start) it.later;
       ahead = ahead;
     }
 
@@ -193,8 +192,7 @@ module _ (cap : ℕ) (s : State) (id : ℤ) (cursor : Cursor) (h : Holdings) (k 
       recording_is = all;
       within = it.within;
       some = omega (arith, it.some, limit);
-      later = subst (λ (z : ℤ). filter (starts_later z) (h k) ≡ drop n (h k)) (sym start)
-          it.later;
+      later = subst (λ (z : ℤ). filter (starts_later z) (h k) ≡ drop n (h k)) (sym start) it.later;
       ahead = none_shown next.rows.items (drop n (h k)) none;
     }
 

@@ -1,4 +1,4 @@
--- The refusals of the store: their numbers and names, and why each may come.
+-- Refusals of the store have numbers, names and causes.
 use Rattle.std.specs.Prelude.{◌≡◌, ◌≢◌, ℕ, List, codes, Some, None}
 use Rattle.sqlite.specs.declared.error.Error.{Error}
 use Rattle.sqlite.specs.declared.error.Error.TheVariants.{SqliteFailure}
@@ -22,9 +22,9 @@ store_fault_name (Store cause) = codes "Store"
 store_fault_name Foreign = codes "Foreign"
 store_fault_name Failed = codes "Failed"
 
--- Why a call may be refused. Memory may run out and `sqlite` may refuse, with its error, at any
--- call. The connection is found in a transaction, the rows are foreign, and an earlier call had a
--- fault, each only where the condition of that name holds.
+-- at any call memory may run out and `sqlite` may refuse, with its error; the connection is in a
+-- transaction, the rows are foreign, or an earlier call had a fault, each only where the condition
+-- of that name is true
 abbrev pub MayRefuse : (IfBusy IfForeign IfFailed : Type 0) → StoreFault → Type 0
 MayRefuse IfBusy IfForeign IfFailed Memory = Unit {0}
 MayRefuse IfBusy IfForeign IfFailed (Store (Some error)) = Unit {0}
@@ -40,20 +40,20 @@ HasCause = MayRefuse ⊥ ⊥ ⊥
 abbrev pub HasCauseOrIsForeign : StoreFault → Type 0
 HasCauseOrIsForeign = MayRefuse ⊥ (Unit {0}) ⊥
 
--- E41 or E42, with or without a cause
+-- the refusal is E41, or E42 with or without a cause
 abbrev pub IsStoreRefusal : StoreFault → Type 0
 IsStoreRefusal Memory = Unit {0}
 IsStoreRefusal (Store cause) = Unit {0}
 IsStoreRefusal Foreign = ⊥
 IsStoreRefusal Failed = ⊥
 
--- the refusal that an error of `sqlite` is
+-- an error of `sqlite` becomes this refusal
 pub record IsRefusalOf (error : Error) (fault : StoreFault) : Type 0 where
   pub memory : error ≡ SqliteFailure OutOfMemory → fault ≡ Memory
   pub other : error ≢ SqliteFailure OutOfMemory → fault ≡ Store (Some error)
   pub cause : HasCause fault
 
--- the refusal that a fault with rows is
+-- a fault of rows becomes this refusal
 abbrev pub IsRefusalBy : RowFault → StoreFault → Type 0
 IsRefusalBy (row.Sqlite error) fault = IsRefusalOf error fault
 IsRefusalBy row.Foreign fault = fault ≡ Foreign

@@ -1,4 +1,4 @@
--- What a store holds.
+-- A store has holdings.
 use Rattle.std.specs.Prelude.{◌≡◌, ℕ, ◌≤◌, IsTrue, refl}
 use Rattle.std.specs.Coded.{Coded, code_by, coded×, coded_ℕ}
 use Rattle.sqlite_trees.specs.declared.store.Store.{Ghosts}
@@ -10,7 +10,7 @@ use Rattle.edf_tables.specs.Others.{KeepsTrees, KeepsOthers}
 use Rattle.edf_holdings.specs.Holdings.{Holdings}
 use Rattle.edf_rows.specs.Rows.{RepresentCommitted}
 
--- a store: its connection, and how many records a recording may have
+-- a store has a connection, and a cap on the data records of a recording
 pub record StoreModel (S : Type 0) : Type 0 where
   pub connection : Held S
   pub cap : ℕ
@@ -19,11 +19,11 @@ abbrev pub store_model_code : {S : Type 0} → Coded S → Coded (StoreModel S)
 store_model_code {S} store = code_by (Held S × ℕ) (coded× (held_code store) coded_ℕ)
     (λ k. (k.connection, k.cap)) (λ p. record { connection = p.0; cap = p.1 }) (λ _. refl)
 
--- what the connection shows
+-- the connection shows this state
 abbrev pub at : {S : Type 0} → Ghosts S → StoreModel S → State
 at g store = state g store.connection
 
--- what is committed stands for these holdings
+-- what is committed represents these holdings
 abbrev pub AreHeld : ℕ → State → Holdings → Type 0
 AreHeld cap s h = HasCleanDisk s → IsTrue s.is_open → RepresentCommitted cap s.committed.trees h
 
@@ -31,7 +31,7 @@ AreHeld cap s h = HasCleanDisk s → IsTrue s.is_open → RepresentCommitted cap
 abbrev pub Holds : {S : Type 0} → Ghosts S → StoreModel S → Holdings → Type 0
 Holds g store h = AreHeld store.cap (at g store) h
 
--- what is true of every store: the tables are there, and their rows stand for holdings
+-- every store has the tables, and their rows represent holdings
 pub record IsSoundStore (cap : ℕ) (s : State) : Type 0 where
   pub cap_from : 1 ≤ cap
   pub cap_to : cap ≤ MOST_RECORDS
@@ -40,15 +40,15 @@ pub record IsSoundStore (cap : ℕ) (s : State) : Type 0 where
       × RepresentCommitted cap s.committed.trees h
 
 -- what is committed beside our two tables is as it was, where the connection is still open after
--- the call; what a crash in the call may leave has it too
+-- the call; so it is after a crash in the call
 pub record KeepsOtherTables (old new : State) : Type 0 where
   pub was_open : HasCleanDisk new → IsTrue new.is_open → IsTrue old.is_open
   pub others : HasCleanDisk new → IsTrue new.is_open → KeepsOthers old.committed new.committed
   pub crash : Survives old new (λ rows. IsTrue old.is_open
       × KeepsTrees old.committed.schema old.committed.trees rows)
 
--- a call leaves the holdings as they are, and what is beside them; a crash in it leaves nothing but
--- what it could leave before
+-- after a call the holdings, and what is beside them, are as they were; a crash in it does nothing
+-- that a crash before it could not do
 pub record KeepsHoldings {S : Type 0} (g : Ghosts S) (old new : StoreModel S) : Type 0 where
   pub cap : new.cap ≡ old.cap
   pub holdings : (h : Holdings) → Holds g old h → Holds g new h

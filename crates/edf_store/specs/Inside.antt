@@ -1,3 +1,3 @@
--- Words of private contracts, which no public contract cites.
+-- Private contracts alone cite these definitions.
 pub mod Settled
 pub mod Rows

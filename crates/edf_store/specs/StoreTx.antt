@@ -1,4 +1,4 @@
--- What the calls of a transaction require and leave.
+-- A transaction begins, runs until a call is refused, and is committed or rolled back.
 use Rattle.std.specs.Prelude.{◌≡◌, false, true, Result, IsTrue, IfErr, OnOk, OnErr}
 use Rattle.sqlite_trees.specs.declared.store.Store.{Ghosts}
 use Rattle.sqlite.specs.State.{HasCleanDisk, Survives}
@@ -17,7 +17,7 @@ module _ {S : Type 0} (g : Ghosts S) where
     pub not_refused : tx.refused ≡ false
     pub sees : SeesHoldings g tx.store.now
 
-  -- a transaction that begins: what is held stays, and is what it sees
+  -- the transaction begins: what is held stays, and is what it sees
   pub record IsBegun (store : StoreModel S) (tx : StoreTx S) : Type 0 where
     pub stays : KeepsHoldings g store tx.store.now
     pub running : IsRunning tx
@@ -28,17 +28,16 @@ module _ {S : Type 0} (g : Ghosts S) where
   abbrev pub HasCauseOrIsUnclean : StoreTx S → StoreFault → Type 0
   HasCauseOrIsUnclean tx = MayRefuse ⊥ (IsUnclean g tx.store.now) ⊥
 
-  -- what each call leaves: what is held, and the transaction running, or refused
+  -- after each call what is held stays, and the transaction is running, or was refused
   pub record KeepsTransaction {X : Type 0} (old new : StoreTx S)
-      (result : Result X StoreFault) : Type 0
-    where
-      pub same_reference : new.store.ghost_name ≡ old.store.ghost_name
-      pub stays : KeepsHoldings g old.store.now new.store.now
-      pub running : OnOk result (IsRunning new)
-      pub refused : OnErr result (new.refused ≡ true)
-      pub why : IfErr result HasCause
+      (result : Result X StoreFault) : Type 0 where
+    pub same_reference : new.store.ghost_name ≡ old.store.ghost_name
+    pub stays : KeepsHoldings g old.store.now new.store.now
+    pub running : OnOk result (IsRunning new)
+    pub refused : OnErr result (new.refused ≡ true)
+    pub why : IfErr result HasCause
 
-  -- what a call leaves that only reads: what the transaction saw too
+  -- after a call that only reads the transaction sees what it saw, too
   pub record ReadsInTransaction {X : Type 0} (old new : StoreTx S) (result : Result X StoreFault)
       (Why : StoreFault → Type 0) : Type 0 where
     pub same_reference : new.store.ghost_name ≡ old.store.ghost_name
@@ -49,8 +48,8 @@ module _ {S : Type 0} (g : Ghosts S) where
     pub refused : OnErr result (new.refused ≡ true)
     pub why : IfErr result Why
 
-  -- A commit makes what the transaction saw what is held; where it is refused, what was held stays.
-  -- The transaction is over, and a crash leaves what was held or all that it saw.
+  -- what the transaction saw is held, or where the commit is refused what was held; the transaction
+  -- is over, and after a crash what was held is held, or all that it saw
   pub record Commits {X E : Type 0} (old new : StoreModel S) (result : Result X E) : Type 0 where
     pub cap : new.cap ≡ old.cap
     pub committed : OnOk result ((h : Holdings) → Sees g old h → Holds g new h)
@@ -60,8 +59,8 @@ module _ {S : Type 0} (g : Ghosts S) where
     pub ended : HasCleanDisk (at g new) → (at g new).in_transaction ≡ false
     pub is_open : HasCleanDisk (at g new) → OnOk result (IsTrue (at g new).is_open)
 
-  -- A transaction is given up: what was held before it stays, and nothing that it added is kept.
-  -- Where that is done, no transaction is open.
+  -- what was held before the transaction stays, and nothing that it added; where the call succeeds,
+  -- no transaction is open
   pub record RollsBack {X E : Type 0} (old new : StoreModel S) (result : Result X E) : Type 0 where
     pub stays : KeepsHoldings g old new
     pub ended : EndsOutsideTransaction g new result

@@ -1,4 +1,4 @@
--- What is read of the holdings.
+-- A store summarizes its holdings.
 use Rattle.std.specs.Prelude.{◌≡◌, ℕ, List, [], length, reverse, slice_get, Option, Some, None}
 use Rattle.std.specs.Option.{option_map}
 use Rattle.sqlite_trees.specs.declared.store.Store.{Ghosts}
@@ -9,14 +9,14 @@ use Rattle.edf_holdings.specs.Keys.{AreKeysOf}
 use Rattle.edf_store.specs.Held.{StoreModel, Holds}
 use Rattle.edf_store.specs.declared.summaries.Summary.{Summary}
 
--- these are the keys that hold records
+-- these are the keys that have records in the store
 abbrev pub AreKeysHeld : {S : Type 0} → Ghosts S → StoreModel S → List Key → Type 0
 AreKeysHeld g store keys = (h : Holdings) → Holds g store h → AreKeysOf h keys
 
 abbrev pub start_at : List DataRecord → ℕ → Option ℕ
 start_at records place = option_map (λ (r : DataRecord). r.start) (slice_get records place)
 
--- how many records there are, and the first and the last start; nothing where there is none
+-- the summary has the count of records, and the first and the last start; none has no summary
 abbrev pub IsSummary : List DataRecord → Option Summary → Type 0
 IsSummary records None = records ≡ []
 IsSummary records (Some summary) =

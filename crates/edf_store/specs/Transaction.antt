@@ -1,4 +1,4 @@
--- What a transaction sees.
+-- A transaction sees holdings, and adds to them.
 use Rattle.std.specs.Prelude.{◌≡◌, ◌≢◌, ◌⊎◌, ℕ, ℤ, Bool, ◌+◌, ◌<◌, ◌≤◌, nat_le, List, [], ◌∷◌}
 use Rattle.std.specs.Prelude.{length, map, All, Contains, Option, Some, None, IsTrue}
 use Rattle.sqlite_trees.specs.declared.store.Store.{Ghosts}
@@ -15,8 +15,8 @@ use Rattle.edf_tables.specs.Others.{KeepsOthers}
 use Rattle.edf_rows.specs.Rows.{HasRecordingRow, Represent, RepresentCommitted}
 use Rattle.edf_store.specs.Held.{StoreModel, at}
 
--- a transaction is open, and its rows stand for these sound holdings; what is beside them is as the
--- last commit left it
+-- a transaction is open, and its rows represent these sound holdings; what is beside them is as it
+-- was at the last commit
 pub record IsTransactionOf (cap : ℕ) (s : State) (h : Holdings) : Type 0 where
   pub is_open : IsTrue s.is_open
   pub inside : IsInside s
@@ -30,41 +30,39 @@ AreSeen cap s h = HasCleanDisk s → IsTransactionOf cap s h
 abbrev pub SeesSome : ℕ → State → Type 0
 SeesSome cap s = HasCleanDisk s → (h : Holdings) × IsTransactionOf cap s h
 
--- the key's recording is there under this id
+-- the key's recording is there with this id
 pub record HasRowId (s : State) (id : ℤ) (k : Key) : Type 0 where
   pub key : IsKey k
   pub there : HasCleanDisk s → HasRecordingRow s.now.trees id k
 
--- what was seen is seen, and the recordings are there under the ids that they had
+-- what was seen is seen, and the recordings are there with the ids that they had
 pub record StillSees (cap : ℕ) (old new : State) : Type 0 where
   pub running : SeesSome cap new
   pub holdings : (h : Holdings) → AreSeen cap old h → AreSeen cap new h
   pub ids : (id : ℤ) (k : Key) → HasRowId old id k → HasRowId new id k
 
--- no recording is made
+-- no recording is added
 abbrev pub AddsNoRecordingIn : State → State → Type 0
 AddsNoRecordingIn old new = HasCleanDisk new → (id : ℤ) (k : Key) →
-    HasRecordingRow new.now.trees id k →
-    HasRecordingRow old.now.trees id k
+    HasRecordingRow new.now.trees id k → HasRecordingRow old.now.trees id k
 
--- no recording but this one is made
+-- no recording but this one is added
 abbrev pub AddsOnlyRecordingIn : Key → State → State → Type 0
 AddsOnlyRecordingIn made old new = HasCleanDisk new → (id : ℤ) (k : Key) →
-    HasRecordingRow new.now.trees id k →
-    HasRecordingRow old.now.trees id k ⊎ (k ≡ made)
+    HasRecordingRow new.now.trees id k → HasRecordingRow old.now.trees id k ⊎ (k ≡ made)
 
--- these are the records of the recording that lie near the start
+-- these are the recording's records whose intervals overlap the one that begins at the start
 abbrev pub AreNearIn : ℕ → State → ℤ → ℕ → List DataRecord → Type 0
 AreNearIn cap s id start records = (h : Holdings) (k : Key) → AreSeen cap s h → HasRowId s id k →
     records ≡ near_of (duration_of k.duration) start (h k)
 
--- of the records' starts, the earliest that is `from` or later; none where there is no such start
+-- this is the earliest start of the records that is `from` or later, or None where there is none
 abbrev pub IsNextStart : ℕ → List DataRecord → Option ℕ → Type 0
 IsNextStart from records None = All (λ r. r.start < from) records
 IsNextStart from records (Some start) = (from ≤ start) × Contains (map (λ r. r.start) records) start
     × All (λ r. r.start < from ⊎ start ≤ r.start) records
 
--- the same, of the recording's records
+-- this is the earliest such start of the recording's records
 abbrev pub IsNextStartIn : ℕ → State → ℤ → ℕ → Option ℕ → Type 0
 IsNextStartIn cap s id from answer = (h : Holdings) (k : Key) → AreSeen cap s h → HasRowId s id k →
     IsNextStart from (h k) answer
@@ -74,21 +72,19 @@ abbrev pub IsCountIn : ℕ → State → ℤ → ℕ → Type 0
 IsCountIn cap s id count = (h : Holdings) (k : Key) → AreSeen cap s h → HasRowId s id k →
     count ≡ length (h k)
 
--- the answer tells whether the recording would have at most the cap with `more` records more
+-- the answer is true where the recording has at most the cap with `more` records more
 abbrev pub IsCapacityAnswerIn : ℕ → State → ℤ → ℕ → Bool → Type 0
 IsCapacityAnswerIn cap s id more answer = (h : Holdings) (k : Key) → AreSeen cap s h →
-    HasRowId s id k →
-    answer ≡ nat_le (length (h k) + more) cap
+    HasRowId s id k → answer ≡ nat_le (length (h k) + more) cap
 
--- there is a place for the record: none is near it, there are fewer than the cap, and where the
--- recording holds none, it may start with the record (one that holds some has a date or began
--- before 2085, as sound holdings do)
+-- the record can be added: none overlaps it, there are fewer than the cap, and a recording that has
+-- none may start with it (one that has some has a date or began before 2085, as sound holdings do)
 pub record CanAdd (cap : ℕ) (k : Key) (r : DataRecord) (h : Holdings) : Type 0 where
   pub none_near : near_of (duration_of k.duration) r.start (h k) ≡ []
   pub few : length (h k) < cap
   pub first : h k ≡ [] → MayStart k r.start
 
--- the recording may take the record, which is a sound one of its key
+-- the record is a sound one of the recording's key, and can be added to it
 pub record MayAddIn (cap : ℕ) (s : State) (id : ℤ) (r : DataRecord) : Type 0 where
   pub key : Key
   pub is_under : HasRowId s id key
@@ -103,18 +99,18 @@ pub record IsAddedIn (cap : ℕ) (old new : State) (id : ℤ) (r : DataRecord) :
   pub ids : (id : ℤ) (k : Key) → HasRowId old id k → HasRowId new id k
   pub only : AddsNoRecordingIn old new
 
--- the key's recording is under this id, and no other is made
+-- the key's recording has this id, and no other is added
 pub record IsFoundOrMadeIn (cap : ℕ) (old new : State) (k : Key) (id : ℤ) : Type 0 where
   pub found : HasRowId new id k
   pub same : StillSees cap old new
   pub only : AddsOnlyRecordingIn k old new
 
--- each recording holds a record
+-- each recording has a record
 abbrev pub EachHasRecordIn : ℕ → State → Type 0
 EachHasRecordIn cap s = HasCleanDisk s → (h : Holdings) (id : ℤ) (k : Key) → AreSeen cap s h →
     HasRowId s id k → h k ≢ []
 
--- these rows are what a commit would leave
+-- a commit would make these rows what is held
 abbrev pub AreSeenRows : ℕ → State → Trees → Type 0
 AreSeenRows cap s db = (h : Holdings) → AreSeen cap s h → RepresentCommitted cap db h
 
@@ -123,11 +119,11 @@ module _ {S : Type 0} (g : Ghosts S) where
   abbrev pub Sees : StoreModel S → Holdings → Type 0
   Sees store h = AreSeen store.cap (at g store) h
 
-  -- it sees some, as it does from where it begins until a call is refused
+  -- the transaction sees some, as it does from its begin until a call is refused
   abbrev pub SeesHoldings : StoreModel S → Type 0
   SeesHoldings store = SeesSome store.cap (at g store)
 
-  -- it has the key's recording under this id
+  -- the transaction has the key's recording with this id
   abbrev pub IsOf : StoreModel S → ℤ → Key → Type 0
   IsOf store id k = HasRowId (at g store) id k
 

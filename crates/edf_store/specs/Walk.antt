@@ -1,4 +1,4 @@
--- How far a walk over the records of a recording has come.
+-- A walk yields the records of a recording, one after another.
 use Rattle.std.specs.Prelude.{◌≡◌, ℕ, ◌+◌, ◌≤◌, ℤ, pos, Bool, false, List, length, map, take, drop}
 use Rattle.std.specs.Prelude.{filter, slice_get, Option, Some, None, IsTrue, MatchOption, true}
 use Rattle.std.specs.Prelude.{Result, Ok, Err, IfOk, IfErr, OnOk, OnErr}
@@ -23,9 +23,9 @@ use Rattle.edf_store.specs.declared.records.Records.{Records}
 abbrev pub starts_later : ℤ → DataRecord → Bool
 starts_later after r = is_gt (int_cmp (pos r.start) after)
 
--- no transaction is open, and the recording is the key's in these holdings. The first n of its
--- records are given; those that start after `cursor.start`, which is -1 before the first, come
--- next, and the rows that were read ahead show the first of them. Without a recording none is left
+-- No transaction is open, and the recording is the key's in these holdings. The first n of its
+-- records were yielded; those that start after `cursor.start`, which is -1 before the first, come
+-- next, and the rows that were read ahead show the first of them. Without a recording none comes.
 pub record IsCursorAfter (cap : ℕ) (s : State) (recording : Option ℤ) (cursor : Cursor)
     (h : Holdings) (k : Key) (n : ℕ) : Type 0 where
   pub is_open : IsTrue s.is_open
@@ -42,44 +42,44 @@ pub record IsCursorAfter (cap : ℕ) (s : State) (recording : Option ℤ) (curso
   pub ahead : map cells_of cursor.rows.items ≡ map record_cells
       (take (length cursor.rows.items) (drop n (h k)))
 
--- so, on a disk that returns what was written
+-- the cursor is so on a disk that returns what was written
 abbrev pub HasYieldedIn : ℕ → State → Option ℤ → Cursor → Holdings → Key → ℕ → Type 0
 HasYieldedIn cap s recording cursor h k n = HasCleanDisk s →
     IsCursorAfter cap s recording cursor h k n
 
--- the walk has given the first records of some key
+-- the walk has yielded the first records of some key
 abbrev pub IsSomeWalk : ℕ → State → Option ℤ → Cursor → Type 0
 IsSomeWalk cap s recording cursor = HasCleanDisk s → (h : Holdings) × (k : Key) × (n : ℕ)
     × IsCursorAfter cap s recording cursor h k n
 
--- the answer of one step: the record at this place of the list, or that there is no more
+-- a step returns the record at this place of the list, or None at the end of it
 abbrev pub IsNextRecord : List DataRecord → ℕ → Option DataRecord → Type 0
 IsNextRecord records n (Some r) = slice_get records n ≡ Some r
 IsNextRecord records n None = n ≡ length records
 
--- how many records are given after that answer
+-- counts the records that are yielded after that answer
 abbrev pub count_after : {X : Type 0} → ℕ → Option X → ℕ
 count_after n (Some x) = n + 1
 count_after n None = n
 
 module _ {S : Type 0} (g : Ghosts S) where
-  -- the walk has given the first n records of the key, and gives the others next
+  -- the walk has yielded the first n records of the key, and yields the others next
   abbrev pub HasYielded : Records S Cursor → Holdings → Key → ℕ → Type 0
   HasYielded walk = HasYieldedIn walk.store.now.cap (at g walk.store.now) walk.recording walk.cursor
 
-  -- the walk has given the first records of some key that is held
+  -- the walk has yielded the first records of some key that is held
   abbrev pub IsWalking : Records S Cursor → Type 0
   IsWalking walk = IsSomeWalk walk.store.now.cap (at g walk.store.now) walk.recording walk.cursor
 
-  -- a walk that begins, over what is held of the key
+  -- the walk begins, over what is held of the key
   pub record IsWalkBegun (store : StoreModel S) (k : Key) (walk : Records S Cursor) : Type 0 where
     pub stays : KeepsHoldings g store walk.store.now
     pub going : walk.failed ≡ false
     pub walking : IsWalking walk
     pub at_first : (h : Holdings) → Holds g store h → HasYielded walk h k 0
 
-  -- What a step leaves: what is held, and a walk that goes on, is over or has failed. Once over it
-  -- stays so. It refuses as foreign where the disk did not return what was written, and by `Failed`
+  -- After a step what is held stays, and the walk goes on, is over or has failed. Once over it is
+  -- over. It refuses as foreign where the disk did not return what was written, and by `Failed`
   -- where it had a fault before, and only then.
   pub record IsWalkStep {X : Type 0} (old new : Records S Cursor)
       (result : Result (Option X) StoreFault) : Type 0 where

@@ -1,4 +1,4 @@
-//! One recording or one data record more.
+//! A transaction adds recordings and data records.
 
 ghost use Rattle.std.specs.Prelude.{IfOk};
 ghost use Rattle.edf_store.specs.Held.{KeepsHoldings};
@@ -11,7 +11,7 @@ use edf_rows::{block_of, start_of};
 use edf_tables::{insert_record, insert_recording, select_recording};
 use sqlite::{Alter, Error};
 
-/// The id of the identity's recording, which is made where it is missing.
+/// Returns the id of the identity's recording, which is made where it is missing.
 pub(crate) fn find_or_make<S: Alter>(
     store: &mut Store<S>,
     identity: &Identity,

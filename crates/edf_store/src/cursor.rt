@@ -1,4 +1,4 @@
-//! How far a walk over the data records of one recording came.
+//! A walk over the data records of one recording has a cursor.
 
 ghost use Rattle.std.specs.Prelude.{◌≡◌, ◌*◌, ◌/◌, ◌≤◌, min, max, [], negsuc};
 ghost use Rattle.edf_header.specs.Signal.{samples_in_all};
@@ -8,24 +8,24 @@ use edf_tables::RecordRow;
 use std::alloc::Global;
 use std::collections::VecDeque;
 
-/// The most bytes of ordinary samples in a page of more than one row: 256 KiB.
+/// A page of more than one row has at most 256 KiB of ordinary samples.
 const PAGE_BYTES: usize = 262_144;
 
-/// The most rows of a page.
+/// A page has at most so many rows.
 const PAGE_ROWS: usize = 64;
 
-/// How far a walk came, and the rows that it read ahead.
+/// A cursor says how far a walk came, and has the rows that it read ahead.
 #[derive(Drop)]
 pub struct Cursor {
-    /// The start of the last data record that the walk gave; -1 before the first.
+    /// The last data record that the walk yielded starts here; -1 before the first.
     pub(crate) start: i64,
-    /// How many rows a page has at most.
+    /// A page has at most so many rows.
     pub(crate) limit: u32,
-    /// The rows of the data records that come next, as far as they were read.
+    /// These rows were read ahead, in order: those of the data records that come next.
     pub(crate) rows: VecDeque<RecordRow>,
 }
 
-/// Where a walk begins: before the first data record, and no row was read.
+/// Returns the cursor of a walk that begins: it is before the first data record, and read no row.
 pub(crate) fn cursor_at_first(alloc: Global, identity: &Identity) -> Cursor
     ensures start { result.start ≡ negsuc 0 }
     ensures limit { 1 ≤ result.limit }
@@ -38,7 +38,7 @@ pub(crate) fn cursor_at_first(alloc: Global, identity: &Identity) -> Cursor
     }
 }
 
-/// How many rows a page has at most: as many as have `PAGE_BYTES` of ordinary samples, but at least
+/// Returns the most rows of a page: as many as have `PAGE_BYTES` of ordinary samples, but at least
 /// one and at most `PAGE_ROWS`.
 fn page_limit(identity: &Identity) -> u32
     ensures value { result ≡

@@ -1,4 +1,4 @@
-//! Data records from the rows that stand for them.
+//! Rows are decoded to the data records that they represent.
 
 ghost use Rattle.std.specs.Prelude.{◌≡◌, ◌≢◌, List, map, MatchResult};
 ghost use Rattle.std.specs.List.{AllByRecursion};
@@ -14,10 +14,7 @@ use edf_rows::record_from;
 use edf_tables::RecordRow;
 use std::alloc::Global;
 
-/// The data record that a row stands for.
-///
-/// # Errors
-/// `Sqlite` where memory ran out, or `Foreign` where the row is no data record's.
+/// Returns the data record that a row represents; fails by `Foreign` where it represents none.
 pub(crate) fn record_in(alloc: Global, row: RecordRow) -> Result<Record, RowFault>
     ensures { (k : Key) (d : DataRecord) → IsKey k → IsSoundRecord k d →
         cells_of row ≡ record_cells d →
@@ -34,10 +31,7 @@ pub(crate) fn record_in(alloc: Global, row: RecordRow) -> Result<Record, RowFaul
     }
 }
 
-/// The data records that rows stand for, in their order.
-///
-/// # Errors
-/// `Sqlite` where memory ran out, or `Foreign` where a row is no data record's.
+/// Returns the data records that rows represent, in their order; fails as `record_in`.
 pub(crate) fn records_in(alloc: Global, rows: Vec<RecordRow>) -> Result<Vec<Record>, RowFault>
     ensures { (k : Key) (ds : List DataRecord) → IsKey k →
         AllByRecursion (IsSoundRecord k) ds → map cells_of rows.items ≡ map record_cells ds →

@@ -1,4 +1,4 @@
-//! How a transaction begins and ends.
+//! A transaction begins and ends.
 
 ghost use Rattle.edf_store.specs.Transaction.{SeesHoldings, EachHasRecord};
 ghost use Rattle.edf_store.specs.Call.{IsRefusedIfBusy};
@@ -22,7 +22,7 @@ pub(crate) fn begin_all<S: Alter>(store: &mut Store<S>) -> Result<(), StoreFault
     Ok(())
 }
 
-/// Makes what the transaction saw what is held.
+/// Commits the transaction: what it saw is then what is held.
 pub(crate) fn commit_all<S: Alter>(store: &mut Store<S>) -> Result<(), Error>
     requires sees { SeesHoldings S.Store store.old }
     requires whole { EachHasRecord S.Store store.old }
@@ -32,7 +32,7 @@ pub(crate) fn commit_all<S: Alter>(store: &mut Store<S>) -> Result<(), Error>
     Ok(())
 }
 
-/// Undoes the transaction, if one is open.
+/// Rolls the transaction back, if one is open.
 pub(crate) fn undo<S: Alter>(store: &mut Store<S>) -> Result<(), Error>
     ensures { RollsBack S.Store store.old store.new result }
 {

@@ -1,4 +1,4 @@
-//! Why a call of the store is refused, and why rows are not read or written.
+//! Faults say why a call of the store is refused, and why rows are not read.
 
 ghost use Rattle.std.specs.Prelude.{◌≡◌};
 ghost use Rattle.edf_store.specs.Fault.{number, store_fault_name};
@@ -7,17 +7,17 @@ use edf_header::IdentityFault;
 use sqlite::{Error, ErrorCode};
 use std::alloc::{AllocError, AllocFailed};
 
-/// Why a call of the store was refused.
+/// A call of the store was refused for this.
 #[derive(Clone, Copy, Debug, PartialEq, Eq, Drop, thiserror::Error)]
 pub enum StoreFault {
     /// E41: memory ran out.
     #[error("out of memory")]
     Memory,
-    /// E42: `sqlite` refused, with its error; or, with none, the connection was found in a
-    /// transaction that an earlier refusal left.
+    /// E42: `sqlite` refused, with its error; or, without one, the connection was still in the
+    /// transaction of an earlier call.
     #[error("the store failed")]
     Store(Option<Error>),
-    /// E45: the tables hold what no submission leaves.
+    /// E45: the tables have what no submission makes.
     #[error("the tables hold what no submission leaves")]
     Foreign,
     /// An earlier call had a fault, and nothing more can be read.
@@ -26,7 +26,7 @@ pub enum StoreFault {
 }
 
 impl StoreFault {
-    /// The number of the refusal: 41, 42 or 45, and 0 for `Failed`.
+    /// Returns the number of the refusal: 41, 42 or 45, and 0 for `Failed`.
     pub fn number(&self) -> u8
         ensures { result ≡ number self.now }
     {
@@ -38,7 +38,7 @@ impl StoreFault {
         }
     }
 
-    /// Its name: that of the variant.
+    /// Returns the name of the variant.
     pub fn name(&self) -> &'static str
         ensures { result.now ≡ store_fault_name self.now }
     {
@@ -51,8 +51,7 @@ impl StoreFault {
     }
 }
 
-/// The refusal that an error of `sqlite` is: `Memory` where memory ran out, else `Store` with the
-/// error.
+/// An error of `sqlite` becomes `Memory` where memory ran out, else `Store` with the error.
 impl From<Error> for StoreFault {
     ghost use Rattle.edf_store.specs.Fault.{IsRefusalOf};
 
@@ -66,11 +65,11 @@ impl From<Error> for StoreFault {
     }
 }
 
-/// Why rows were not read. That memory ran out is one of the errors of `sqlite`.
+/// Rows were not read for this. That memory ran out is one of the errors of `sqlite`.
 #[derive(Clone, Copy, Debug, PartialEq, Eq, Drop)]
 pub(crate) enum RowFault {
     Sqlite(Error),
-    /// They are not rows that submissions leave.
+    /// Submissions can't make the rows.
     Foreign,
 }
 
@@ -108,8 +107,7 @@ impl<T: Drop> From<AllocFailed<T>> for RowFault {
     }
 }
 
-/// What it means that the bytes of a row are not an identity's: memory ran out, or the row is
-/// foreign.
+/// Where the bytes of a row are no identity's, memory ran out, or the row is foreign.
 impl From<IdentityFault> for RowFault {
     ghost use Rattle.edf_store.specs.Fault.{IsFaultOfIdentity};
 

@@ -1,4 +1,4 @@
-//! What a transaction reads of a recording.
+//! A transaction reads a recording.
 
 ghost use Rattle.std.specs.Prelude.{◌≡◌, ◌≢◌, ◌*◌, ◌<◌, ◌≤◌, ℕ, ℤ, pos, ◌-ℤ◌, unsigned_abs, Some};
 ghost use Rattle.std.specs.Prelude.{None, length, IsTrue, IfOk, IfErr};
@@ -21,7 +21,7 @@ use edf_tables::{count_rows, first_start, last_start, near_rows};
 use edf_time::Instant;
 use sqlite::{Alter, Error};
 
-/// The data records whose intervals of this duration meet the one that begins at `start`.
+/// Returns the data records whose intervals of this duration overlap the one from `start` on.
 pub(crate) fn records_near<S: Alter>(
     store: &mut Store<S>,
     id: i64,
@@ -46,7 +46,7 @@ pub(crate) fn records_near<S: Alter>(
     records_in(store.alloc, rows)
 }
 
-/// The first start of a recording's data records that is `from` or later.
+/// Returns the first start of a recording's data records that is `from` or later.
 pub(crate) fn next_start<S: Alter>(
     store: &mut Store<S>,
     id: i64,
@@ -60,7 +60,7 @@ pub(crate) fn next_start<S: Alter>(
     start_in(next)
 }
 
-/// The start that the tables gave, if they gave one.
+/// Reads the start that the tables have, if they have one.
 fn start_in(next: Option<i64>) -> Result<Option<Instant>, RowFault>
     ensures read { IfOk result (λ start. next ≡ option_map pos start) }
     ensures foreign { IfErr result (λ _.
@@ -75,7 +75,7 @@ fn start_in(next: Option<i64>) -> Result<Option<Instant>, RowFault>
     }
 }
 
-/// How many data records a recording has.
+/// Counts the data records of a recording.
 pub(crate) fn count_records<S: Alter>(store: &mut Store<S>, id: i64) -> Result<u32, Error>
     requires recording { HasRecording S.Store store.old id }
     ensures reads { ReadsRows S.Store store.old store.new result }
@@ -88,8 +88,8 @@ pub(crate) fn count_records<S: Alter>(store: &mut Store<S>, id: i64) -> Result<u
     Ok(count)
 }
 
-/// Whether a recording has room for `more` data records. They are counted where the first start and
-/// the last do not tell.
+/// Is true where a recording has capacity for `more` data records. They are counted where the first
+/// start and the last don't decide.
 pub(crate) fn has_capacity<S: Alter>(
     store: &mut Store<S>,
     id: i64,
@@ -110,7 +110,7 @@ pub(crate) fn has_capacity<S: Alter>(
     Ok(more <= cap.saturating_sub(held))
 }
 
-/// Whether a recording has records, and reaches over so little time that it has at most `most`.
+/// Is true where a recording has records, in so little time that they are at most `most`.
 fn is_short<S: Alter>(
     store: &mut Store<S>,
     id: i64,
@@ -128,7 +128,7 @@ fn is_short<S: Alter>(
     Ok(lie_within(first, last, duration, most))
 }
 
-/// Whether two starts are there, and fewer than `most` durations lie between them.
+/// Is true where two starts are there, and fewer than `most` durations lie between them.
 fn lie_within(first: Option<i64>, last: Option<i64>, duration: u64, most: u32) -> bool
     ensures { IsTrue result →
         (a b : ℤ) × (first ≡ Some a) × (last ≡ Some b) × (unsigned_abs (b -ℤ a) < most * duration) }

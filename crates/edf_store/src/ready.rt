@@ -1,4 +1,4 @@
-//! What is true before a read outside a transaction.
+//! A read outside a transaction begins with these calls.
 
 ghost use Rattle.edf_header.specs.Key.{IsKey};
 ghost use Rattle.edf_holdings.specs.Holdings.{Holdings};
@@ -14,7 +14,7 @@ use edf_header::Identity;
 use edf_tables::select_recording;
 use sqlite::{Alter, Connection, Error};
 
-/// Runs no statement, which an open connection alone can do.
+/// Runs an empty statement, which succeeds on an open connection alone.
 fn run_nothing<S: Alter>(conn: &mut Connection<S>) -> Result<(), Error>
     ensures same { OnlyReads S.Store conn.old conn.new result }
     ensures kept { KeepsCommitted S.Store conn.old conn.new }
@@ -24,8 +24,7 @@ fn run_nothing<S: Alter>(conn: &mut Connection<S>) -> Result<(), Error>
     Ok(())
 }
 
-/// Sees to it that the connection is open and in no transaction, so that its tables are what is
-/// held.
+/// Succeeds where the connection is open and in no transaction: its tables are what is held.
 pub(crate) fn ready<S: Alter>(store: &mut Store<S>) -> Result<(), StoreFault>
     ensures settles { Settles S.Store store.old store.new result }
     ensures refuses { IsRefusedIfBusy S.Store store.old result ⊥ }
@@ -37,7 +36,7 @@ pub(crate) fn ready<S: Alter>(store: &mut Store<S>) -> Result<(), StoreFault>
     Ok(())
 }
 
-/// The id of the identity's recording, if it has one.
+/// Returns the id of the identity's recording, if it has one.
 pub(crate) fn find<S: Alter>(
     store: &mut Store<S>,
     identity: &Identity,

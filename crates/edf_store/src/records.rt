@@ -1,4 +1,4 @@
-//! The data records of one recording, one at a time.
+//! A walk yields the data records of one recording, one at a time.
 
 ghost use Rattle.std.specs.Prelude.{◌≡◌, ℕ, ◌+◌, false, None, Some, [], length, OnOk, IfOk};
 ghost use Rattle.std.specs.Prelude.{MatchOption};
@@ -24,7 +24,7 @@ use edf_tables::page_rows;
 use sqlite::{Alter, Error};
 use std::collections::VecDeque;
 
-/// Reads the next page of rows where none is left that was read ahead.
+/// Reads the next page of rows where no row is read ahead any more.
 fn read_ahead<S: Alter>(
     store: &mut Store<S>,
     recording: i64,
@@ -55,7 +55,7 @@ fn read_ahead<S: Alter>(
     Ok(())
 }
 
-/// The next data record of a recording, after those that the walk gave.
+/// Returns the next data record of a recording, after those that the walk yielded.
 pub(crate) fn next_record<S: Alter>(
     store: &mut Store<S>,
     recording: i64,
@@ -81,15 +81,12 @@ pub(crate) fn next_record<S: Alter>(
     Ok(Some(data_record))
 }
 
-/// A walk over the data records of one recording, by their starts. It may be dropped at any of
-/// them, and the store is then as the walk left it.
+/// A walk yields the data records of one recording, by their starts. It may be dropped at any of
+/// them. It reads ahead: beside the data record that it yielded last, it has at most 64 rows in
+/// memory, with 256 KiB of samples, or one row where a data record has more; and annotations.
 ///
-/// It reads ahead, by pages of rows. Beside the data record that it gave last, it has at most 64
-/// rows in memory, with at most 256 KiB of samples, or one row where a data record has more; and
-/// the annotations of these rows.
-///
-/// `P` is always `Cursor`. It is a parameter, because a type that owns memory would keep callers
-/// from knowing that the store ends as the walk left it.
+/// `P` is always `Cursor`. It is a parameter, because with a type that owns memory callers couldn't
+/// know that the store after the walk is as it was in the walk.
 pub struct Records<'store, S: Alter, P: Drop = Cursor> {
     pub(crate) store: &'store mut Store<S>,
     pub(crate) recording: Option<i64>,
@@ -113,11 +110,10 @@ impl<S: Alter, P: Drop> Drop for Records<'_, S, P> {
 impl<S: Alter> Store<S> {
     ghost use Rattle.edf_store.specs.contracts.store.Store.{the_row};
 
-    /// Begins a walk over the data records that an identity holds.
+    /// Begins a walk over the data records of an identity.
     ///
     /// # Errors
-    /// `Memory` (E41) or `Store` (E42), without a cause where the connection was left in a
-    /// transaction.
+    /// `Memory` (E41) or `Store` (E42), without a cause where the connection is in a transaction.
     pub fn records(&mut self, identity: &Identity) -> Result<Records<'_, S>, StoreFault>
         ensures* refused { sem 𝓛
             (RestsIfErr (the_row S.row S.Store) self.entry (λ it. it.store.ghost_name) result
@@ -139,7 +135,7 @@ impl<S: Alter> Store<S> {
 }
 
 impl<S: Alter> Records<'_, S> {
-    /// The next data record; `None` where all were given, and at every later call.
+    /// Returns the next data record; `None` after the last, and at every later call.
     ///
     /// # Errors
     /// `Memory` (E41), `Store` (E42), or `Foreign` (E45) where the disk returned what was not

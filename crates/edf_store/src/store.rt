@@ -1,4 +1,4 @@
-//! A store, and how a transaction of it begins.
+//! A store is opened over a connection, and begins transactions.
 
 ghost use Rattle.std.specs.Prelude.{◌≡◌, ◌≤◌, false, Err, IfOk, IfErr};
 ghost use Rattle.std.specs.Borrow.{sem, RestsIfErr};
@@ -21,11 +21,10 @@ use sqlite::{Alter, Connection};
 use std::alloc::Global;
 use std::marker::Model;
 
-/// Recordings in the two tables of a connection, each with at most `cap` data records.
+/// A store has recordings in the two tables of a connection, each with at most `cap` data records.
 ///
-/// What is held of a recording are its data records, by rising starts. A call that reads or adds
-/// them is refused by `Store` (E42) without a cause where an earlier refusal left the connection in
-/// a transaction; then the file is to be opened again.
+/// A call that reads or adds data records is refused by `Store` (E42) without a cause where the
+/// connection is still in the transaction of a refused call; then the file is to be opened again.
 #[derive(Drop)]
 pub struct Store<S: Alter> {
     pub(crate) alloc: Global,
@@ -49,7 +48,7 @@ impl<S: Alter> Model for Store<S> {
 impl<S: Alter> Store<S> {
     ghost use Rattle.edf_store.specs.contracts.store.Store.{the_row};
 
-    /// How many data records a recording may have.
+    /// Returns how many data records a recording may have.
     pub fn cap(&self) -> u32
         ensures value { result ≡ self.now.cap }
         ensures bound { (1 ≤ result) × (result ≤ MOST_RECORDS) }
@@ -57,15 +56,15 @@ impl<S: Alter> Store<S> {
         self.cap
     }
 
-    /// Whether the connection is in a transaction, as where a refused call left it in one. Then
-    /// every call that begins one is refused.
+    /// Is true where the connection is in a transaction, as after some refusals. Then every call
+    /// that begins one is refused.
     pub fn is_busy(&self) -> bool
         ensures { result ≡ (at S.Store self.now).in_transaction }
     {
         !self.conn.is_autocommit()
     }
 
-    /// The connection, as it is.
+    /// Returns the connection, as it is.
     pub fn into_connection(self) -> Connection<S>
         ensures { result ≡ self.connection }
     {
@@ -80,8 +79,7 @@ impl<S: Alter> Store<S> {
     /// Begins a transaction, which sees what is held.
     ///
     /// # Errors
-    /// `Memory` (E41) or `Store` (E42), without a cause where the connection was left in a
-    /// transaction; what is held stays.
+    /// `Memory` (E41) or `Store` (E42), without a cause in a transaction; what is held stays.
     pub fn transaction(&mut self) -> Result<StoreTx<'_, S>, StoreFault>
         ensures* refused { sem 𝓛
             (RestsIfErr (the_row S.row S.Store) self.entry (λ tx. tx.store.ghost_name) result
@@ -99,20 +97,19 @@ impl<S: Alter> Store<S> {
 }
 
 impl<S: Alter + Drop> Store<S> {
-    /// The store of a connection that is in no transaction, whose tables are made where they are
-    /// missing. Every row is read once.
+    /// Opens the store of a connection that is in no transaction, and makes missing tables. Every
+    /// row is read once.
     ///
     /// No recording has, or will have, more than `cap` data records; `cap` is at least 1, and at
     /// most as many as a file may have.
     ///
     /// # Errors
-    /// `Foreign` (E45) where the file's schema is not one that this call leaves or completes, or
-    /// where it has rows that submissions do not leave under this cap; else `Memory` (E41) or
-    /// `Store` (E42), with its cause. This call leaves our two tables where they come first, in
-    /// their order, and what comes after them has trees of its own and is no index and no trigger
-    /// on them; it completes a file with nothing, or with the first table alone. The connection
-    /// comes back with the refusal, so that its file can be closed: one of another schema as it
-    /// was, and every other with the rows that it had, where a missing table may have been made.
+    /// `Foreign` (E45) where the file's schema is not a store's, or submissions can't make its rows
+    /// under this cap; else `Memory` (E41) or `Store` (E42), with its cause. A store's file is
+    /// empty, has the first table alone, or has both tables first, in their order; what comes after
+    /// both has trees of its own and is no index and no trigger on them. The connection comes back
+    /// with the refusal, so that its file can be closed: one of another schema as it was, and every
+    /// other with the rows that it had, where a missing table may have been made.
     pub fn open_or_return(
         alloc: Global,
         mut conn: Connection<S>,
@@ -125,7 +122,8 @@ impl<S: Alter + Drop> Store<S> {
         ensures opened { IfOk result (IsOpened S.Store conn) }
         ensures live { IfOk result (λ store. IsLive (at S.Store store)) }
         ensures given_back { IfErr result (λ e. IsReturned S.Store conn cap e.0 e.1) }
-        ensures other { ¬ IsOurs (state S.Store conn).now → result ≡ Err (StoreFault.Foreign, conn) }
+        ensures other { ¬ IsOurs (state S.Store conn).now →
+            result ≡ Err (StoreFault.Foreign, conn) }
     {
         match audit(alloc, &mut conn, cap) {
             Ok(kept) => {
@@ -140,7 +138,7 @@ impl<S: Alter + Drop> Store<S> {
         }
     }
 
-    /// As [`Store::open_or_return`], where the connection of a refused store is dropped.
+    /// Opens a store as [`Store::open_or_return`], but drops the connection of a refused one.
     ///
     /// # Errors
     /// Those of `open_or_return`, without the connection.

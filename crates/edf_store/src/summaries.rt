@@ -1,4 +1,4 @@
-//! What is held, at a glance.
+//! A store lists its identities, and summarizes what it has of each.
 
 ghost use Rattle.std.specs.Prelude.{◌≡◌, ◌≢◌, ◌≤◌, ◌<◌, ℕ, pos, Some, IfOk, IfErr, map};
 ghost use Rattle.std.specs.Prelude.{MatchOption};
@@ -24,23 +24,20 @@ use edf_time::Instant;
 use sqlite::Alter;
 use std::alloc::Global;
 
-/// What is held of a recording: how many data records, and the first and the last start.
+/// A recording has so many data records, which start from `first` to `last`.
 #[derive(Clone, Copy, Debug, PartialEq, Eq, Drop)]
 pub struct Summary {
-    /// How many data records.
     pub records: u32,
-    /// When the first starts, to the nanosecond.
     pub first: Instant,
-    /// When the last starts, to the nanosecond.
     pub last: Instant,
 }
 
 impl<S: Alter> Store<S> {
-    /// The identities that hold data records, in the order of their bytes.
+    /// Returns the identities that have data records, in the order of their bytes.
     ///
     /// # Errors
-    /// `Memory` (E41) or `Store` (E42), without a cause where the connection was left in a
-    /// transaction; or `Foreign` (E45) where the disk returned what was not written.
+    /// `Memory` (E41) or `Store` (E42), without a cause where the connection is in a transaction;
+    /// or `Foreign` (E45) where the disk returned what was not written.
     pub fn identities(&mut self) -> Result<Vec<Identity>, StoreFault>
         ensures leaves { ReadsOutsideTransaction S.Store self.old self.new result }
         ensures refuses { IsRefusedIfBusy S.Store self.old result (IsUnclean S.Store self.new) }
@@ -51,12 +48,12 @@ impl<S: Alter> Store<S> {
         Ok(list(self)?)
     }
 
-    /// How many data records an identity holds, and their first and last start; `None` where it
-    /// holds nothing.
+    /// Returns how many data records an identity has, and their first and last start; `None` where
+    /// it has none.
     ///
     /// # Errors
-    /// `Memory` (E41) or `Store` (E42), without a cause where the connection was left in a
-    /// transaction; or `Foreign` (E45) where the disk returned what was not written.
+    /// `Memory` (E41) or `Store` (E42), without a cause where the connection is in a transaction;
+    /// or `Foreign` (E45) where the disk returned what was not written.
     pub fn summary(&mut self, identity: &Identity) -> Result<Option<Summary>, StoreFault>
         ensures leaves { ReadsOutsideTransaction S.Store self.old self.new result }
         ensures refuses { IsRefusedIfBusy S.Store self.old result (IsUnclean S.Store self.new) }
@@ -72,7 +69,7 @@ impl<S: Alter> Store<S> {
     }
 }
 
-/// The identities that the tables have.
+/// Reads the identities that the tables have.
 fn list<S: Alter>(store: &mut Store<S>) -> Result<Vec<Identity>, RowFault>
     requires settled { IsAtRest S.Store store.old }
     ensures leaves { ReadsOutsideTransaction S.Store store.old store.new result }
@@ -83,7 +80,7 @@ fn list<S: Alter>(store: &mut Store<S>) -> Result<Vec<Identity>, RowFault>
     identities_in(store.alloc, all)
 }
 
-/// The identities of these bytes.
+/// Parses the identities of these bytes.
 fn identities_in(alloc: Global, all: Vec<Vec<u8>>) -> Result<Vec<Identity>, RowFault>
     ensures read { IfOk result (λ found. map key_bytes found.items ≡ map (λ b. b.items) all.items) }
     ensures keys { IfOk result (λ found. AllByRecursion IsKey found.items) }
@@ -99,7 +96,7 @@ fn identities_in(alloc: Global, all: Vec<Vec<u8>>) -> Result<Vec<Identity>, RowF
     Ok(found)
 }
 
-/// The summary of a recording that is there.
+/// Summarizes a recording that is there.
 fn summary_of<S: Alter>(store: &mut Store<S>, id: i64) -> Result<Summary, RowFault>
     requires settled { IsAtRest S.Store store.old }
     requires there { HasCleanDisk (at S.Store store.old) →
@@ -115,7 +112,7 @@ fn summary_of<S: Alter>(store: &mut Store<S>, id: i64) -> Result<Summary, RowFau
     summary_from(count, first, last)
 }
 
-/// The summary that a count, a first start and a last start tell.
+/// Makes a summary of a count, a first start and a last start.
 fn summary_from(count: u64, first: Option<i64>, last: Option<i64>) -> Result<Summary, RowFault>
     ensures summary { IfOk result (λ s.
         (s.records ≡ count) × (first ≡ Some (pos s.first)) × (last ≡ Some (pos s.last))) }
@@ -136,7 +133,7 @@ fn summary_from(count: u64, first: Option<i64>, last: Option<i64>) -> Result<Sum
     }
 }
 
-/// The instant of a cell, if it is one.
+/// Returns the instant of a cell, if it is one.
 pub(crate) fn instant_in(cell: Option<i64>) -> Option<Instant>
     ensures { MatchOption result ((n : ℕ) → n < window → cell ≢ Some (pos n))
         (λ i. cell ≡ Some (pos i)) }

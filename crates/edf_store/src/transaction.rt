@@ -1,4 +1,4 @@
-//! What a transaction does.
+//! A transaction finds, reads and adds, and is then committed or given up.
 
 ghost use Rattle.std.specs.Prelude.{◌≡◌, ◌≤◌, length, IfOk, IfErr};
 ghost use Rattle.edf_field.specs.Number.{duration_of};
@@ -21,19 +21,17 @@ use edf_header::Identity;
 use edf_time::Instant;
 use sqlite::Alter;
 
-/// A recording that a transaction found or made. It has a meaning in that transaction alone.
+/// A transaction found or made this recording. The id has a meaning in that transaction alone.
 #[derive(Clone, Copy, Debug, PartialEq, Eq, Drop)]
 pub struct RecordingId {
     pub(crate) row: i64,
 }
 
-/// A transaction, to be spent by `commit` or `give_up`; where a call of it was refused, by
-/// `give_up`.
-///
-/// Until then what is held stays, and a crash leaves that.
+/// A transaction ends by `commit` or `give_up`; where a call of it was refused, by `give_up`. Until
+/// then what is held stays, also after a crash.
 pub struct StoreTx<'store, S: Alter> {
     pub(crate) store: &'store mut Store<S>,
-    /// Whether a call was refused. No code reads it: it carries a condition from call to call.
+    /// Is true after a refused call. No code reads it: it carries a condition from call to call.
     pub(crate) refused: bool,
 }
 
@@ -53,8 +51,8 @@ impl<S: Alter> StoreTx<'_, S> {
         Ok(RecordingId { row: answer? })
     }
 
-    /// The data records of a recording whose intervals of this duration meet the one that begins at
-    /// `start`, by their starts: two at most. `duration` is the recording's, in nanoseconds.
+    /// Returns the data records of a recording whose intervals overlap the one of `duration`, the
+    /// recording's, in nanoseconds, that begins at `start`: two at most, by their starts.
     ///
     /// # Errors
     /// `Memory` (E41), `Store` (E42), or `Foreign` (E45) where the disk returned what was not
@@ -80,8 +78,8 @@ impl<S: Alter> StoreTx<'_, S> {
         Ok(answer?)
     }
 
-    /// The first start of a recording's data records that is `from` or later; `None` where none is.
-    /// It reads no data record.
+    /// Returns the first start of a recording's data records that is `from` or later, if there is
+    /// one. It reads no data record.
     ///
     /// # Errors
     /// `Memory` (E41), `Store` (E42), or `Foreign` (E45) where the disk returned what was not
@@ -103,7 +101,7 @@ impl<S: Alter> StoreTx<'_, S> {
         Ok(answer?)
     }
 
-    /// How many data records a recording has.
+    /// Counts the data records of a recording.
     ///
     /// # Errors
     /// `Memory` (E41) or `Store` (E42), and the transaction is to be given up.
@@ -119,12 +117,11 @@ impl<S: Alter> StoreTx<'_, S> {
         Ok(answer?)
     }
 
-    /// Whether a recording has room for `more` data records below the cap. `duration` is the
-    /// recording's, in nanoseconds.
+    /// Is true where a recording has capacity for `more` data records below the cap. `duration` is
+    /// the recording's, in nanoseconds.
     ///
-    /// Data records do not overlap, so there is room where a recording reaches over less time than
-    /// as many data records take as the cap leaves. Only where that does not tell are they counted,
-    /// each of them.
+    /// Data records do not overlap, so there is capacity where those that are held lie within less
+    /// time than the cap without `more` takes. Only where that doesn't decide are they counted.
     ///
     /// # Errors
     /// `Memory` (E41) or `Store` (E42), and the transaction is to be given up.
@@ -163,11 +160,11 @@ impl<S: Alter> StoreTx<'_, S> {
         Ok(answer?)
     }
 
-    /// Makes what the transaction sees what is held.
+    /// Commits the transaction: what it sees is then what is held.
     ///
     /// # Errors
-    /// `Memory` (E41) or `Store` (E42): what was held before stays, and the transaction is over. A
-    /// crash leaves that, or all that the transaction saw, refused or not.
+    /// `Memory` (E41) or `Store` (E42): what was held before stays, and the transaction is over.
+    /// After a crash that is held, or all that the transaction saw, refused or not.
     pub fn commit(self) -> Result<(), StoreFault>
         requires running { IsRunning S.Store self }
         requires whole { EachHasRecord S.Store self.store.now }
@@ -179,7 +176,7 @@ impl<S: Alter> StoreTx<'_, S> {
         Ok(())
     }
 
-    /// Undoes the transaction: what was held when it began stays, also where this call is refused.
+    /// Rolls the transaction back: what was held when it began stays, also where this is refused.
     ///
     /// # Errors
     /// `Memory` (E41) or `Store` (E42).

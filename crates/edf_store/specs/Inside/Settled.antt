@@ -1,4 +1,4 @@
--- Words of the functions that only this crate calls.
+-- Outside a transaction the tables are what is held.
 use Rattle.std.specs.Prelude.{◌≡◌, ℕ, ℤ, false, [], Option, MatchOption, IsTrue, Result, OnOk}
 use Rattle.sqlite_trees.specs.declared.store.Store.{Ghosts}
 use Rattle.sqlite.specs.State.{State, HasCleanDisk}
@@ -19,12 +19,12 @@ pub record IsSettled (cap : ℕ) (s : State) : Type 0 where
 abbrev pub IsAtRest : {S : Type 0} → Ghosts S → StoreModel S → Type 0
 IsAtRest g store = HasCleanDisk (at g store) → IsSettled store.cap (at g store)
 
--- what is held stays, and is what the tables are after a function that is done
+-- what is held stays, and is what the tables are after a call that succeeds
 pub record Settles {S X E : Type 0} (g : Ghosts S) (old new : StoreModel S)
     (result : Result X E) : Type 0 where
   pub stays : KeepsHoldings g old new
   pub settled : HasCleanDisk (at g new) → OnOk result (IsSettled new.cap (at g new))
 
--- the key's recording is under this id, or it holds nothing
+-- the key's recording has this id, or the key has no records
 abbrev pub IsFoundIn : State → Key → Holdings → Option ℤ → Type 0
 IsFoundIn s k h id = MatchOption id (h k ≡ []) (λ id. HasRecordingRow s.now.trees id k)
