@@ -5,7 +5,7 @@ use Rattle.std.specs.Prelude.{unwrap_or, IfSome, replicate, All}
 use Rattle.std.proofs.lemmas.List.Elements.{All-head, All-tail}
 use Rattle.std.specs.List.{slice_get}
 use Rattle.edf_header.specs.Key.{Key}
-use Rattle.edf_tal.specs.Canonical.{block_text}
+use Rattle.edf_tal.specs.Canonical.{tals_text}
 use Rattle.edf_fragment.specs.Fragment.{DataRecord}
 use Rattle.edf_fragment.specs.Sound.{IsSoundRecord, IsValidRecord}
 use Rattle.edf_canonical.specs.File.{block_of, record_text}
@@ -94,8 +94,8 @@ module _ (o : Option DataRecord) (r a : DataRecord) (is : a ≡ unwrap_or o r) w
 pub text-with : (base size : ℕ) (r k : DataRecord) → k.samples ≡ [] →
     r.samples ++ record_text base size k ≡ record_text base size (with_samples k r)
 text-with base size r k bare =
-    let filled : List ℕ = block_text base k.start k.annotations
-    ++ replicate (size - length (block_text base k.start k.annotations)) 0 in
+    let filled : List ℕ = tals_text base k.start k.annotations
+    ++ replicate (size - length (tals_text base k.start k.annotations)) 0 in
     ap (λ (l : List ℕ). r.samples ++ (l ++ filled)) bare
 
 -- what was kept of the nth

@@ -8,9 +8,9 @@ use Rattle.edf_time.specs.Civil.{window}
 use Rattle.edf_field.specs.Number.{duration_of}
 use Rattle.edf_header.specs.Signal.{samples_in_all}
 use Rattle.edf_header.specs.Header.{Layout}
-use Rattle.edf_tal.specs.Tal.{Annotation, IsAnnotation}
+use Rattle.edf_tal.specs.Tal.{Annotation, IsValidAnnotation}
 use Rattle.edf_tal.specs.Block.{BlockParsesTo, IsWithinLimits}
-use Rattle.edf_tal.specs.Canonical.{block_text}
+use Rattle.edf_tal.specs.Canonical.{tals_text}
 use Rattle.edf_tal.specs.declared.place.Place.{Place}
 use Rattle.edf_tal.specs.declared.place.Place.TheVariants.{First, After, Any}
 use Rattle.edf_fragment.specs.Fragment.{DataRecord, IsDataRecord, place_after}
@@ -27,8 +27,8 @@ MayStand Any base start = Unit {0}
 -- a written block is read again
 again : (place : Place) (base start zeros : ℕ) (list : List Annotation) →
     MayStand place base start → start < window → base < window
-    → IsWithinLimits list → AllByRecursion IsAnnotation list →
-    BlockParsesTo (block_text base start list ++ replicate zeros 0) base place start list
+    → IsWithinLimits list → AllByRecursion IsValidAnnotation list →
+    BlockParsesTo (tals_text base start list ++ replicate zeros 0) base place start list
 again First base start zeros list stands start-in base-in limits notes =
     read-first base start zeros list base-in start-in notes limits stands.0 stands.1
 again (After before duration) base start zeros list stands start-in base-in limits notes =

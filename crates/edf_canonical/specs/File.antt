@@ -4,7 +4,7 @@ use Rattle.std.specs.Prelude.{replicate, All}
 use Rattle.std.specs.List.{flat_map}
 use Rattle.edf_header.specs.Key.{Key}
 use Rattle.edf_header.specs.Canonical.{IsCanonicalHeader}
-use Rattle.edf_tal.specs.Canonical.{block_text}
+use Rattle.edf_tal.specs.Canonical.{tals_text}
 use Rattle.edf_fragment.specs.Fragment.{DataRecord, IsFragmentFile}
 
 -- the whole second of an instant, from which a file's onsets count
@@ -13,7 +13,7 @@ second_of instant = instant / 10 ^ 9 * 10 ^ 9
 
 -- a record's block, its onsets counted from the file's start
 abbrev pub block_of : ℕ → DataRecord → List ℕ
-block_of file_start r = block_text file_start r.start r.annotations
+block_of file_start r = tals_text file_start r.start r.annotations
 
 -- so many samples, two bytes each, hold a record's block: half of its bytes, rounded up
 abbrev pub samples_of : ℕ → DataRecord → ℕ

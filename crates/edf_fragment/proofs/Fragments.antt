@@ -11,7 +11,7 @@ use Rattle.edf_header.specs.declared.fault.HeaderFault.{HeaderFault}
 use Rattle.edf_tal.specs.declared.place.Place.{Place}
 use Rattle.edf_tal.specs.declared.place.Place.TheVariants.{First}
 use Rattle.edf_tal.specs.declared.place.TalFault.{TalFault}
-use Rattle.edf_tal.specs.Block.{IsFirstBlocksFault}
+use Rattle.edf_tal.specs.Block.{BlocksHaveFirstFault}
 use Rattle.edf_fragment.specs.Fragment.{DataRecord, AreDataRecords, blocks, IsFragmentFile}
 use Rattle.edf_fragment.specs.Fault.{ParsedUpToFault, IsCutRecord, IsRefusedBlock, IsTrailing}
 use Rattle.edf_fragment.specs.Fault.{IsFirstFault}
@@ -141,7 +141,7 @@ block_of_all (Some all) (Some one) (Some two) (Some rest) a b h rs p nth e x y i
       is_nth = omega (arith, f.is_nth, given);
       may_come = omega (arith, f.is_nth, f.may_come);
       whole = omega (arith, f.len, len);
-      refused = subst (λ (z : List (List ℕ)). IsFirstBlocksFault z l.start p.place e) (sym same)
+      refused = subst (λ (z : List (List ℕ)). BlocksHaveFirstFault z l.start p.place e) (sym same)
           f.refused;
     }
 

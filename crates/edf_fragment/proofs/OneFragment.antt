@@ -5,7 +5,7 @@ use Rattle.std.proofs.lemmas.Bool.{cases_lt}
 use Rattle.edf_header.specs.Key.{Key}
 use Rattle.edf_header.specs.Header.{HeaderRecord, IsHeader, Layout, IsLayout, layout_of}
 use Rattle.edf_header.specs.Header.{least_records, most_records}
-use Rattle.edf_tal.specs.Block.{IsFirstBlocksFault}
+use Rattle.edf_tal.specs.Block.{BlocksHaveFirstFault}
 use Rattle.edf_tal.specs.declared.place.Place.{Place}
 use Rattle.edf_tal.specs.declared.place.Place.TheVariants.{First}
 use Rattle.edf_tal.specs.declared.place.TalFault.{TalFault}
@@ -138,7 +138,7 @@ block-stuck b nth e p =
           let same : blocks l p.up_to.remaining ≡ blocks l front = ap (blocks l) parts
           ∙ blocks-front l front back (layout-up-to b p.up_to) (omega (arith, is.len)) in
           blocks-read-no-fault (blocks l front) l.start p.up_to.last r.start r.annotations e is.read
-          (subst (λ (z : List (List ℕ)). IsFirstBlocksFault z l.start p.up_to.last e) same
+          (subst (λ (z : List (List ℕ)). BlocksHaveFirstFault z l.start p.up_to.last e) same
           p.refused);
     }
 
@@ -290,11 +290,12 @@ one-refused b n m e f p q =
     let k = both-numbers b p.up_to q.up_to (block-stuck b n e p) (block-stuck b m f q) in
     let g = q.up_to.header in
     let here = subst (λ (z : HeaderRecord).
-    IsFirstBlocksFault (blocks (layout_of z) p.up_to.remaining) (layout_of z).start p.up_to.last e)
+    BlocksHaveFirstFault (blocks (layout_of z) p.up_to.remaining)
+    (layout_of z).start p.up_to.last e)
     s.header p.refused in
-    let place = subst (λ (z : Place). IsFirstBlocksFault (blocks (layout_of g) p.up_to.remaining)
+    let place = subst (λ (z : Place). BlocksHaveFirstFault (blocks (layout_of g) p.up_to.remaining)
     (layout_of g).start z e) s.run.place here in
-    let there = subst (λ (z : List ℕ). IsFirstBlocksFault (blocks (layout_of g) z)
+    let there = subst (λ (z : List ℕ). BlocksHaveFirstFault (blocks (layout_of g) z)
     (layout_of g).start
     q.up_to.last e) s.run.rest place in
     record {

@@ -11,7 +11,7 @@ use Rattle.edf_header.specs.Signal.{samples_in_all}
 use Rattle.edf_header.specs.Key.{Key, IsKey}
 use Rattle.edf_header.specs.Header.{IsLayout, HeaderRecord, IsHeader, Layout, layout_of}
 use Rattle.edf_header.proofs.Cited.{key-duration-some, header-has-layout, one-header}
-use Rattle.edf_tal.specs.Tal.{Tal, Annotation, HasTimeKeepingTal, record_start, first_tals}
+use Rattle.edf_tal.specs.Tal.{Tal, Annotation, HasTimeKeepingTal, record_start, first_block_tals}
 use Rattle.edf_tal.specs.Block.{BlocksParseTo, StartFitsPlace}
 use Rattle.edf_header.specs.declared.limits.TheConstants.{MOST_BLOCK_BYTES, MOST_RECORDS}
 use Rattle.edf_tal.specs.declared.place.Place.{Place}
@@ -101,8 +101,7 @@ abs-below (negsuc m) n from to = absurd (omega (arith, ints))
 
 -- it starts in the second that the header names
 in-second : (file_start : ℕ) (ts : List Tal) → HasTimeKeepingTal ts →
-    StartFitsPlace First file_start ts →
-    record_start file_start ts < file_start + 10 ^ 9
+    StartFitsPlace First file_start ts → record_start file_start ts < file_start + 10 ^ 9
 in-second file_start [] timed keeps = absurd timed
 in-second file_start (t ∷ ts) timed (from, to) =
     abs-below (pos file_start +ℤ t.onset) (file_start + 10 ^ 9) (omega (arith, ints))
@@ -111,7 +110,8 @@ in-second file_start (t ∷ ts) timed (from, to) =
 first-start : (bs : List (List ℕ)) (file_start start : ℕ) (list : List Annotation) →
     BlocksParseTo bs file_start First start list → start < file_start + 10 ^ 9
 first-start bs file_start start list read =
-    rw (read.start_is) (in-second file_start (first_tals read.tals) read.timed read.fits_place)
+    rw (read.start_is) (in-second file_start
+    (first_block_tals read.tals) read.timed read.fits_place)
 
 -- so the key's recording may start with it: the part of the window that two digits name ends with a
 -- second

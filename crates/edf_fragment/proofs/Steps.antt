@@ -4,7 +4,8 @@ use Rattle.std.proofs.Common.{arith, refl, sym, ap, ◌∙◌, subst, Option}
 use Rattle.std.specs.Bool.{MatchBool}
 use Rattle.std.specs.Io.KnownBytes.{Consumes}
 use Rattle.edf_header.specs.Header.{Layout, IsLayout, most_records}
-use Rattle.edf_tal.specs.Block.{BlocksParseTo, IsFirstBlocksFault, IsBlocksRefusal, split_by_sizes}
+use Rattle.edf_tal.specs.Block.{BlocksParseTo, BlocksHaveFirstFault, BlocksAreRefused}
+use Rattle.edf_tal.specs.Block.{split_by_sizes}
 use Rattle.edf_tal.specs.declared.place.TalFault.{TalFault}
 use Rattle.edf_tal.specs.declared.place.TalFault.TheVariants.{Memory as TalMemory}
 use Rattle.edf_fragment.specs.Fragment.{DataRecord, IsDataRecord, blocks, ordinary_bytes}
@@ -63,7 +64,7 @@ given_whole l p left rest whole r h read samples =
 
 refused_blocks : (l : Layout) (p : Progress) (left rest : Option (List ℕ)) (whole : List ℕ)
     (nth : ℕ) (e : TalFault) → HasWhole l p left rest whole
-    → nth ≡ p.given + 1 → IsFirstBlocksFault (blocks l whole) l.start p.place e →
+    → nth ≡ p.given + 1 → BlocksHaveFirstFault (blocks l whole) l.start p.place e →
     RefusesBlock l p left rest nth e
 refused_blocks l p left rest whole nth e h is fault =
     record {
@@ -80,7 +81,7 @@ told_blocks : (l : Layout) (p : Progress) (left rest : Option (List ℕ)) (whole
     (e : TalFault) (told : FragmentFault)
     → HasWhole l p left rest whole → nth ≡ p.given + 1 → (e ≡ TalMemory → told ≡ Memory) →
     ((e ≡ TalMemory → ⊥) → told ≡ Tal nth e)
-    → IsBlocksRefusal (blocks l whole) l.start p.place e → IsNextFault l p left rest told
+    → BlocksAreRefused (blocks l whole) l.start p.place e → IsNextFault l p left rest told
 told_blocks l p left rest whole nth TalMemory told h is memory other (start, list, read) =
     let r : DataRecord = record {
       start = start;
@@ -149,8 +150,8 @@ pub told_cut : (l : Layout) (p : Progress) (left rest : Option (List ℕ)) (whol
     (bs : List (List ℕ)) (s nth : ℕ) (e : TalFault) (told : FragmentFault)
     → WasCut l p left rest whole samples bs → s ≡ l.start → nth ≡ p.given + 1 →
     (e ≡ TalMemory → told ≡ Memory) → ((e ≡ TalMemory → ⊥) → told ≡ Tal nth e)
-    → IsBlocksRefusal bs s p.place e → IsNextFault l p left rest told
+    → BlocksAreRefused bs s p.place e → IsNextFault l p left rest told
 told_cut l p left rest whole samples bs s nth e told c from is memory other refusal =
-    let here = subst (λ (x : List (List ℕ)). IsBlocksRefusal x s p.place e) c.blocks_are refusal in
+    let here = subst (λ (x : List (List ℕ)). BlocksAreRefused x s p.place e) c.blocks_are refusal in
     told_blocks l p left rest whole nth e told c.has is memory other
-    (subst (λ (n : ℕ). IsBlocksRefusal (blocks l whole) n p.place e) from here)
+    (subst (λ (n : ℕ). BlocksAreRefused (blocks l whole) n p.place e) from here)

@@ -4,7 +4,7 @@ use Rattle.edf_header.specs.Header.{HeaderRecord, IsHeader, Layout, layout_of, l
 use Rattle.edf_header.specs.Header.{most_records}
 use Rattle.edf_header.specs.Fault.{IsHeaderFault, header_fault_number, header_fault_name}
 use Rattle.edf_header.specs.Fault.{header_fault_offset, header_fault_signal}
-use Rattle.edf_tal.specs.Block.{IsFirstBlocksFault}
+use Rattle.edf_tal.specs.Block.{BlocksHaveFirstFault}
 use Rattle.edf_tal.specs.Block.{tal_fault_number, tal_fault_name, tal_fault_offset}
 use Rattle.edf_tal.specs.declared.place.Place.{Place}
 use Rattle.edf_tal.specs.declared.place.Place.TheVariants.{First}
@@ -48,7 +48,7 @@ pub record IsRefusedBlock (bytes : List ℕ) (nth : ℕ) (fault : TalFault) : Ty
   pub is_nth : nth ≡ next_nth up_to
   pub may_come : nth ≤ most_records (layout up_to).count
   pub whole : (layout up_to).record_bytes ≤ length up_to.remaining
-  pub refused : IsFirstBlocksFault (blocks (layout up_to) up_to.remaining)
+  pub refused : BlocksHaveFirstFault (blocks (layout up_to) up_to.remaining)
       (layout up_to).start up_to.last fault
 
 -- bytes follow the last record that may come

@@ -5,7 +5,7 @@ use Rattle.edf_time.specs.Civil.{window}
 use Rattle.edf_field.specs.Number.{duration_of}
 use Rattle.edf_header.specs.Key.{Key, MayStart}
 use Rattle.edf_header.specs.Signal.{samples_in_all}
-use Rattle.edf_tal.specs.Tal.{IsAnnotation}
+use Rattle.edf_tal.specs.Tal.{IsValidAnnotation}
 use Rattle.edf_tal.specs.Block.{IsWithinLimits}
 use Rattle.edf_fragment.specs.Fragment.{DataRecord, IsWithinSize}
 
@@ -14,14 +14,14 @@ use Rattle.edf_fragment.specs.Fragment.{DataRecord, IsWithinSize}
 pub record IsValidRecord (r : DataRecord) : Type 0 where
   pub size : IsWithinSize r
   pub start : r.start < window
-  pub notes : AllByRecursion IsAnnotation r.annotations
+  pub notes : AllByRecursion IsValidAnnotation r.annotations
 
 -- a data record of a recording is valid, and has as many samples as the recording's key says
 pub record IsSoundRecord (k : Key) (r : DataRecord) : Type 0 where
   pub samples_len : length r.samples ≡ 2 * samples_in_all k.signals
   pub start : r.start < window
   pub limits : IsWithinLimits r.annotations
-  pub notes : AllByRecursion IsAnnotation r.annotations
+  pub notes : AllByRecursion IsValidAnnotation r.annotations
 
 -- records that start from `low` on, each at least a duration of a data record after the one before
 abbrev pub AreSound : Key → ℕ → List DataRecord → Type 0

@@ -7,7 +7,7 @@ use Rattle.edf_header.specs.Fault.{HasSignals, SignalsFail, IsClean, IsHeaderFau
 use Rattle.edf_header.specs.Fault.{header_fault_number}
 use Rattle.edf_header.specs.declared.fault.HeaderFault.{HeaderFault}
 use Rattle.edf_header.specs.declared.fault.HeaderFault.TheVariants.{Cut, CutSignals}
-use Rattle.edf_tal.specs.Block.{IsFirstBlocksFault}
+use Rattle.edf_tal.specs.Block.{BlocksHaveFirstFault}
 use Rattle.edf_tal.specs.declared.place.TalFault.{TalFault}
 use Rattle.edf_fragment.specs.Fragment.{blocks}
 use Rattle.edf_fragment.specs.declared.advance.Progress.{Progress}
@@ -43,7 +43,7 @@ pub record RefusesBlock (l : Layout) (from : Progress) (input rest : Option (Lis
   pub may_come : from.given < most_records l.count
   pub read : Consumes input rest bytes
   pub len : length bytes ≡ l.record_bytes
-  pub refused : IsFirstBlocksFault (blocks l bytes) l.start from.place fault
+  pub refused : BlocksHaveFirstFault (blocks l bytes) l.start from.place fault
 
 -- one byte was read after the last record that may come
 pub record HasTrailingByte (l : Layout) (from : Progress)

@@ -1,7 +1,7 @@
 ghost use Rattle.std.specs.Prelude.{◌≡◌, ◌≤◌, ◌+◌, ◌↔◌, length, MatchOption, IsTrue};
 ghost use Rattle.std.specs.List.{AllByRecursion};
 ghost use Rattle.edf_tal.specs.Block.{IsWithinLimits};
-ghost use Rattle.edf_tal.specs.Tal.{IsAnnotation};
+ghost use Rattle.edf_tal.specs.Tal.{IsValidAnnotation};
 ghost use Rattle.edf_fragment.specs.Fragment.{DataRecord, IsWithinSize};
 ghost use Rattle.edf_fragment.specs.Sound.{IsValidRecord};
 
@@ -41,7 +41,7 @@ impl Model for Record {
 /// Is true where there are at most `MOST_ANNOTATIONS`, with at most `MOST_TEXT_BYTES` of texts.
 fn are_within_limits(notes: &[Note]) -> bool
     ensures limits { IsTrue result ↔ IsWithinLimits notes.now }
-    ensures notes { IsTrue result → AllByRecursion IsAnnotation notes.now }
+    ensures notes { IsTrue result → AllByRecursion IsValidAnnotation notes.now }
 {
     if notes.len() > MOST_ANNOTATIONS {
         return false;

@@ -6,9 +6,9 @@ use Rattle.std.proofs.lemmas.Grind.{flat_map-append}
 use Rattle.std.specs.List.{AllByRecursion, flat_map}
 use Rattle.std.specs.Prelude.{IsUtf8}
 use Rattle.edf_tal.specs.Tal.{Tal, Annotation, IsOnset, IsDurationPart, terminated, AreTals}
-use Rattle.edf_tal.specs.Tal.{AreTalsAndZeros, AreBlocks, first_tals, all_tals, HaveUtf8Texts}
-use Rattle.edf_tal.specs.Tal.{HasTimeKeepingTal, IsTalInWindow, tal_annotations, annotations}
-use Rattle.edf_tal.specs.Tal.{record_start}
+use Rattle.edf_tal.specs.Tal.{AreTalsAndZeros, AreTalBlocks, first_block_tals, all_tals}
+use Rattle.edf_tal.specs.Tal.{HaveUtf8Texts, HasTimeKeepingTal, IsTalInWindow, tal_annotations}
+use Rattle.edf_tal.specs.Tal.{annotations, record_start}
 use Rattle.edf_tal.specs.Block.{BlocksParseTo, BlockParsesTo, IsWithinLimits}
 use Rattle.edf_tal.specs.declared.place.Place.TheVariants.{Any}
 use Rattle.edf_tal.proofs.OneBlock.{one-block}
@@ -93,7 +93,7 @@ of-tals block (t ∷ ts) (front, zeros, parts, (f, r, cut, is, more), are) timed
     ∙ simp append_assoc) is.is_onset is.is_duration
 
 of-blocks : (block : List ℕ) (others : List (List ℕ)) (tss : List (List Tal)) →
-    AreBlocks (block ∷ others) tss → HasTimeKeepingTal (first_tals tss) → ReadsOnset block
+    AreTalBlocks (block ∷ others) tss → HasTimeKeepingTal (first_block_tals tss) → ReadsOnset block
 of-blocks block others [] a timed = absurd a
 of-blocks block others (ts ∷ tss) a timed = of-tals block ts a.0 timed
 
@@ -102,8 +102,7 @@ pub reads-onset : (block : List ℕ) (others : List (List ℕ)) (s start : ℕ)
 reads-onset block others s start list r = of-blocks block others r.tals r.lists r.timed
 
 -- zeros behind the rest change nothing of its front
-pub behind-zeros : (rest : List ℕ) (n : ℕ) →
-    (take 1 rest ≡ 20 ∷ []) ⊎ (take 1 rest ≡ 21 ∷ []) →
+pub behind-zeros : (rest : List ℕ) (n : ℕ) → (take 1 rest ≡ 20 ∷ []) ⊎ (take 1 rest ≡ 21 ∷ []) →
     (take 1 (rest ++ replicate n 0) ≡ 20 ∷ []) ⊎ (take 1 (rest ++ replicate n 0) ≡ 21 ∷ [])
 behind-zeros [] n (inl is) = cc
 behind-zeros [] n (inr is) = cc
@@ -151,7 +150,7 @@ block-end block (t ∷ ts) (front, zeros, parts, are, none) timed =
     subst EndsZero (sym parts) (zeros-end front zeros (tals-end front t ts are) none)
 
 blocks-end : (block : List ℕ) (others : List (List ℕ)) (tss : List (List Tal)) →
-    AreBlocks (block ∷ others) tss → HasTimeKeepingTal (first_tals tss) → EndsZero block
+    AreTalBlocks (block ∷ others) tss → HasTimeKeepingTal (first_block_tals tss) → EndsZero block
 blocks-end block others [] a timed = absurd a
 blocks-end block others (ts ∷ tss) a timed = block-end block ts a.0 timed
 
@@ -213,9 +212,10 @@ pub record Single (block : List ℕ) (s start : ℕ) (list : List Annotation) : 
   pub list_is : list ≡ drop 1 (flat_map (tal_annotations s) tals)
 
 single-of : (block : List ℕ) (s start : ℕ) (list : List Annotation) (tss : List (List Tal)) →
-    AreBlocks (block ∷ []) tss → HaveUtf8Texts (all_tals tss) → HasTimeKeepingTal (first_tals tss) →
+    AreTalBlocks (block ∷ []) tss → HaveUtf8Texts (all_tals tss) →
+    HasTimeKeepingTal (first_block_tals tss) →
     AllByRecursion (IsTalInWindow s) (all_tals tss) → IsWithinLimits list →
-    start ≡ record_start s (first_tals tss) → list ≡ annotations s (all_tals tss) →
+    start ≡ record_start s (first_block_tals tss) → list ≡ annotations s (all_tals tss) →
     Single block s start list
 single-of block s start list [] a good timed window limits at is = absurd a
 single-of block s start list (ts ∷ []) a good timed window limits at is = record {
@@ -242,7 +242,7 @@ record Several (block : List ℕ) (others : List (List ℕ)) (s : ℕ) (list : L
     tals : List Tal
     more : List (List Tal)
     are : AreTalsAndZeros block tals
-    lists : AreBlocks others more
+    lists : AreTalBlocks others more
     good : HaveUtf8Texts (all_tals more)
     window : AllByRecursion (IsTalInWindow s) (all_tals more)
     limits : IsWithinLimits list
@@ -250,8 +250,8 @@ record Several (block : List ℕ) (others : List (List ℕ)) (s : ℕ) (list : L
         ++ flat_map (tal_annotations s) (all_tals more)
 
 several-of : (block : List ℕ) (others : List (List ℕ)) (s : ℕ) (list : List Annotation)
-    (tss : List (List Tal)) → AreBlocks (block ∷ others) tss → HaveUtf8Texts (all_tals tss) →
-    HasTimeKeepingTal (first_tals tss) → AllByRecursion (IsTalInWindow s) (all_tals tss) →
+    (tss : List (List Tal)) → AreTalBlocks (block ∷ others) tss → HaveUtf8Texts (all_tals tss) →
+    HasTimeKeepingTal (first_block_tals tss) → AllByRecursion (IsTalInWindow s) (all_tals tss) →
     IsWithinLimits list → list ≡ annotations s (all_tals tss) → Several block others s list
 several-of block others s list [] a good timed window limits is = absurd a
 several-of block others s list (ts ∷ tss) a good timed window limits is = record {

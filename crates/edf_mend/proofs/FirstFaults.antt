@@ -2,7 +2,7 @@
 use Rattle.std.proofs.Common.{◌≡◌, ◌⊎◌, ℕ, ◌≤◌, ◌<◌, List, [], ◌∷◌, ◌++◌, length, sym, ap, ◌∙◌}
 use Rattle.std.proofs.Common.{subst, inl, inr, arith, append-nil, length-append}
 use Rattle.edf_header.specs.Header.{HeaderRecord, IsHeader, IsLayout, layout_of, least_records}
-use Rattle.edf_tal.specs.Block.{IsFirstBlocksFault}
+use Rattle.edf_tal.specs.Block.{BlocksHaveFirstFault}
 use Rattle.edf_tal.specs.declared.place.Place.{Place}
 use Rattle.edf_tal.specs.declared.place.Place.TheVariants.{First}
 use Rattle.edf_fragment.specs.Fault.{ParsedUpToFault, IsFirstFault}
@@ -53,10 +53,10 @@ module _ (front : List ℕ) (h : HeaderRecord) (is_header : IsHeader front h [])
         is_nth = e.is_nth;
         may_come = omega (arith, e.is_nth, e.may_come);
         whole = omega (arith, len, length-append next more);
-        refused = subst (λ (bs : List (List ℕ)). IsFirstBlocksFault bs
+        refused = subst (λ (bs : List (List ℕ)). BlocksHaveFirstFault bs
             (layout_of h).start last fault)
             (sym (blocks-front (layout_of h) next more layout (omega (arith, len))))
-            (subst (λ (x : List ℕ). IsFirstBlocksFault (blocks (layout_of h) x)
+            (subst (λ (x : List ℕ). BlocksHaveFirstFault (blocks (layout_of h) x)
             (layout_of h).start last
             fault) whole e.refused);
       }

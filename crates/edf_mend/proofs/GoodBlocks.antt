@@ -10,7 +10,7 @@ use Rattle.std.proofs.lemmas.Slice.Eq.{bytes_eq-Decides}
 use Rattle.edf_time.specs.Decimal.{IsSeconds, IsFine, IsDecimal}
 use Rattle.edf_time.proofs.Cited.{same-parts}
 use Rattle.edf_tal.specs.Tal.{Tal, IsTal, IsOnset, IsDurationPart, AreTals, AreTalsAndZeros}
-use Rattle.edf_tal.specs.Tal.{AreBlocks, HaveUtf8Texts, all_tals, terminated}
+use Rattle.edf_tal.specs.Tal.{AreTalBlocks, HaveUtf8Texts, all_tals, terminated}
 use Rattle.edf_tal.proofs.OneBlock.{tal-sides}
 use Rattle.edf_fragment.proofs.Fronts.{same_front}
 use Rattle.edf_mend.proofs.SpelledBlocks.{same-lists, one-list, one-block, fill-none}
@@ -197,7 +197,7 @@ pub back-utf8 : (xs ys : List Tal) → HaveUtf8Texts (xs ++ ys) → HaveUtf8Text
 back-utf8 [] ys all = all
 back-utf8 (x ∷ xs) ys all = back-utf8 xs ys all.1
 
-pub good-blocks : (blocks : List (List ℕ)) (tals : List (List Tal)) → AreBlocks blocks tals →
+pub good-blocks : (blocks : List (List ℕ)) (tals : List (List Tal)) → AreTalBlocks blocks tals →
     HaveUtf8Texts (all_tals tals) → AllByRecursion IsGoodBlock blocks
 good-blocks [] [] a utf8 = tt
 good-blocks [] (ts ∷ tss) a utf8 = absurd a

@@ -8,7 +8,8 @@ use Rattle.edf_field.specs.Number.{field}
 use Rattle.edf_time.specs.Decimal.{short}
 use Rattle.edf_header.specs.Header.{Layout, AreApart}
 use Rattle.edf_header.specs.declared.header.Block.{Block}
-use Rattle.edf_tal.specs.Tal.{Tal, Annotation, AreTalsAndZeros, AreBlocks, first_tals, record_start}
+use Rattle.edf_tal.specs.Tal.{Tal, Annotation, AreTalsAndZeros, AreTalBlocks, first_block_tals}
+use Rattle.edf_tal.specs.Tal.{record_start}
 use Rattle.edf_tal.specs.Block.{BlocksParseTo, BlockParsesTo}
 use Rattle.edf_tal.specs.declared.place.Place.TheVariants.{Any}
 use Rattle.edf_tal.proofs.OneBlock.{one-block}
@@ -106,8 +107,8 @@ same-cut first bytes a b c x y z p q = record {
 -- ---- what a data record starts at, by its first block
 
 first-starts : (block : List ℕ) (others : List (List ℕ)) (s start : ℕ) (a : List Tal)
-    (tss : List (List Tal)) → AreTalsAndZeros block a → AreBlocks (block ∷ others) tss →
-    start ≡ record_start s (first_tals tss) → start ≡ record_start s a
+    (tss : List (List Tal)) → AreTalsAndZeros block a → AreTalBlocks (block ∷ others) tss →
+    start ≡ record_start s (first_block_tals tss) → start ≡ record_start s a
 first-starts block others s start a [] p q is = absurd q
 first-starts block others s start a (ts ∷ tss) p q is =
     is ∙ ap (record_start s) (one-block block ts a q.0 p)
@@ -200,8 +201,7 @@ module _ (l : Layout) (first : Block) (others : List Block) (to : ℕ)
 
   pub is-moved : (old new front block block' back : List ℕ) (was start w by : ℕ)
       (list : List Annotation) (edits : List Edit) → IsCutAt first old front block back →
-      IsCutAt first new front block' back →
-      GetsOnset block (43 ∷ short (start - l.start)) block' →
+      IsCutAt first new front block' back → GetsOnset block (43 ∷ short (start - l.start)) block' →
       ReadsBoth l.start block block' was start list → StartsAt l old w →
       by ≡ apart was start → 0 < by → IsBelowHalfSample l by
       → edits ≡ record { at = first.at; old = block; new = block' } ∷ []

@@ -6,8 +6,8 @@ use Rattle.edf_field.specs.Number.{duration_of}
 use Rattle.edf_header.proofs.Cited.{header-has-layout}
 use Rattle.edf_header.specs.Header.{HeaderRecord, Layout, layout_of, IsLayout, AreApart}
 use Rattle.edf_tal.specs.Block.{BlocksParseTo}
-use Rattle.edf_tal.specs.Tal.{Tal, Annotation, IsOnset, HasTimeKeepingTal, first_tals, all_tals}
-use Rattle.edf_tal.specs.Tal.{record_start, annotations, tal_annotations}
+use Rattle.edf_tal.specs.Tal.{Tal, Annotation, IsOnset, HasTimeKeepingTal, first_block_tals}
+use Rattle.edf_tal.specs.Tal.{all_tals, record_start, annotations, tal_annotations}
 use Rattle.edf_tal.specs.declared.place.Place.{Place}
 use Rattle.edf_tal.specs.declared.place.Place.TheVariants.{First, Any}
 use Rattle.edf_fragment.specs.Fragment.{DataRecord, IsDataRecord, blocks}
@@ -53,9 +53,9 @@ pub record Tells (l : Layout) (old : List ℕ) (start : ℕ) (list : List Annota
 
 told-by : (l : Layout) (old : List ℕ) (start : ℕ) (list : List Annotation)
     (oss : List (List WrittenTal)) (tss : List (List Tal)) → AreWritten (blocks l old) oss →
-    AllZip (AllZip SpelledAs) oss tss → HasTimeKeepingTal (first_tals tss) →
-    start ≡ record_start l.start (first_tals tss) → list ≡ annotations l.start (all_tals tss) →
-    Tells l old start list
+    AllZip (AllZip SpelledAs) oss tss → HasTimeKeepingTal (first_block_tals tss) →
+    start ≡ record_start l.start (first_block_tals tss) →
+    list ≡ annotations l.start (all_tals tss) → Tells l old start list
 told-by l old start list oss [] are zip timed s e = absurd timed
 told-by l old start list oss ([] ∷ tss) are zip timed s e = absurd timed
 told-by l old start list [] ((t ∷ ts) ∷ tss) are zip timed s e = absurd zip

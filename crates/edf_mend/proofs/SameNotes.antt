@@ -10,7 +10,7 @@ use Rattle.std.proofs.lemmas.Str.{inside_one}
 use Rattle.edf_time.specs.Decimal.{IsSeconds, short}
 use Rattle.edf_time.proofs.Cited.{IsSeconds-short}
 use Rattle.edf_tal.specs.Tal.{Tal, IsTal, IsOnset, IsDurationPart, IsText, terminated, AreTals}
-use Rattle.edf_tal.specs.Tal.{AreTalsAndZeros, AreBlocks, HaveUtf8Texts, all_tals, instant}
+use Rattle.edf_tal.specs.Tal.{AreTalsAndZeros, AreTalBlocks, HaveUtf8Texts, all_tals, instant}
 use Rattle.edf_tal.specs.Tal.{tal_annotations}
 use Rattle.edf_tal.proofs.OneBlock.{tal-sides}
 use Rattle.edf_mend.proofs.GoodBlocks.{good-block, front-utf8, back-utf8, zeros-are}
@@ -255,7 +255,7 @@ pub record AllNoted (olds : List (List ℕ)) (tss : List (List Tal)) : Type 0 wh
   pub reads : AllZip (AllZip SpelledAs) tals tss
 
 pub noted-blocks : (olds news : List (List ℕ)) (tss : List (List Tal)) → AllZip IsBlockMade olds news →
-    AreBlocks news tss → HaveUtf8Texts (all_tals tss) → AllNoted olds tss
+    AreTalBlocks news tss → HaveUtf8Texts (all_tals tss) → AllNoted olds tss
 noted-blocks [] [] [] zip a utf8 = record { tals = []; are = refl; reads = tt }
 noted-blocks [] [] (ts ∷ tss) zip a utf8 = absurd a
 noted-blocks [] (n ∷ ns) tss zip a utf8 = absurd zip

@@ -10,7 +10,7 @@ use Rattle.std.specs.List.{flat_map}
 use Rattle.edf_field.specs.Number.{field}
 use Rattle.edf_header.specs.Header.{Layout, AreApart}
 use Rattle.edf_header.specs.declared.header.Block.{Block}
-use Rattle.edf_tal.specs.Block.{BlocksParseTo, IsBlocksRefusal, split_by_sizes}
+use Rattle.edf_tal.specs.Block.{BlocksParseTo, BlocksAreRefused, split_by_sizes}
 use Rattle.edf_tal.specs.Tal.{Annotation}
 use Rattle.edf_tal.specs.declared.place.Place.{Place}
 use Rattle.edf_tal.specs.declared.place.Place.TheVariants.{Any}
@@ -68,7 +68,7 @@ told-start l bytes bs same (Err e) h = h
 
 -- blocks that were refused for another reason than memory are not read
 pub not-read : (bs : List (List ℕ)) (s : ℕ) (p : Place) (e : TalFault) (start : ℕ)
-    (list : List Annotation) → e ≢ TalMemory → IsBlocksRefusal bs s p e →
+    (list : List Annotation) → e ≢ TalMemory → BlocksAreRefused bs s p e →
     BlocksParseTo bs s p start list → ⊥
 not-read bs s p TalMemory start list other r read = other refl
 not-read bs s p e start list other r read = blocks-read-no-fault bs s p start list e read r

@@ -7,7 +7,7 @@ use Rattle.std.specs.Str.Parse.{AllDigits}
 use Rattle.edf_time.specs.Decimal.{IsDecimal}
 use Rattle.edf_time.proofs.Cited.{digit_only}
 use Rattle.edf_tal.specs.Tal.{IsText, terminated}
-use Rattle.edf_tal.specs.Inside.Scan.{Lacks, EndsWith20}
+use Rattle.edf_tal.specs.Inside.Scan.{Lacks, IsEmptyOrEndsWith20}
 use Rattle.edf_tal.proofs.Unique.{SameSides, same-sides, not-both, Lacks-append, Lacks-text}
 use Rattle.edf_tal.proofs.Fronts.{NoZero-ended}
 use Rattle.edf_tal.proofs.Heads.{texts-of, IsEnded-ended}
@@ -141,9 +141,9 @@ no-twenty bytes body rest lacks e none t later w f =
     (front-body bytes body rest later t lacks e w f).front
 
 pub no-end : (bytes body rest head texts : List ℕ) → Lacks 0 body → bytes ≡ body ++ 0 ∷ rest →
-    Lacks 20 head → body ≡ head ++ 20 ∷ texts → (EndsWith20 texts → ⊥) → NoWrittenTal bytes
+    Lacks 20 head → body ≡ head ++ 20 ∷ texts → (IsEmptyOrEndsWith20 texts → ⊥) → NoWrittenTal bytes
 no-end bytes body rest head texts lacks e lacks' f bad t later w g =
-    bad (subst EndsWith20
+    bad (subst IsEmptyOrEndsWith20
     (sym (front-sides bytes body rest head texts later t lacks e lacks' f w g).back)
     (IsEnded-ended t.texts))
 
@@ -162,7 +162,7 @@ no-head bytes body rest head texts lacks e lacks' f bad t later w g =
 
 pub front-made : (bytes body rest head texts : List ℕ) (sign : ℕ) (onset duration : List ℕ)
     (d : Option (List ℕ)) → Lacks 0 body → bytes ≡ body ++ 0 ∷ rest → body ≡ head ++ 20 ∷ texts
-    → EndsWith20 texts → IsWrittenHead head sign onset d → duration ≡ duration_text d
+    → IsEmptyOrEndsWith20 texts → IsWrittenHead head sign onset d → duration ≡ duration_text d
     → (t : WrittenTal) × IsWrittenFront bytes sign onset duration texts rest t
 front-made bytes body rest head texts sign onset duration d lacks e f ends h told =
     let none : Lacks 0 texts =

@@ -7,7 +7,7 @@ ghost use Rattle.std.specs.Prelude.{string_bytes, encode_utf8_all};
 ghost use Rattle.std.specs.List.{AllByRecursion};
 ghost use Rattle.edf_header.specs.Header.{IsLayout};
 ghost use Rattle.edf_tal.specs.Tal.{IsText, terminated};
-ghost use Rattle.edf_tal.specs.Inside.Scan.{Lacks, EndsWith20};
+ghost use Rattle.edf_tal.specs.Inside.Scan.{Lacks, IsEmptyOrEndsWith20};
 ghost use Rattle.edf_mend.specs.Edits.{Edit};
 ghost use Rattle.edf_mend.specs.Texts.{WrittenTal, tal_bytes, IsTime, RoundsUp, IsRounded};
 ghost use Rattle.edf_mend.specs.Texts.{IsTimeSpelled, IsTextSpelled, IsTalSpelled};
@@ -122,7 +122,7 @@ fn head_in(head: &[u8]) -> Option<(u8, &[u8], &[u8])>
 
 /// Whether the last byte, if there is one, ends a text.
 fn is_ended(texts: &[u8]) -> bool
-    ensures { IsTrue result ↔ EndsWith20 texts.now }
+    ensures { IsTrue result ↔ IsEmptyOrEndsWith20 texts.now }
 {
     texts.is_empty() || texts[texts.len() - 1] == TEXT_END
 }

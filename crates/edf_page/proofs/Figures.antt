@@ -10,7 +10,7 @@ use Rattle.edf_field.specs.Number.{duration_of}
 use Rattle.edf_field.specs.declared.number.TheConstants.{MOST_DURATION}
 use Rattle.edf_header.specs.Key.{Key}
 use Rattle.edf_header.proofs.Cited.{key-duration-bound}
-use Rattle.edf_tal.specs.Tal.{Annotation, IsAnnotation}
+use Rattle.edf_tal.specs.Tal.{Annotation, IsValidAnnotation}
 use Rattle.edf_fragment.specs.Fragment.{DataRecord, IsFragmentFile}
 use Rattle.edf_fragment.specs.Sound.{AreSound}
 use Rattle.edf_fragment.proofs.Fragments.{fragment_of_all}
@@ -44,7 +44,7 @@ short : (d : Option ℕ) → IfSome d (λ x. x < window) → IsShort d
 short None is = tt
 short (Some d) is = omega (arith, is)
 
-notes-are : (xs : List Annotation) (ns : List Note) → AllByRecursion IsAnnotation xs →
+notes-are : (xs : List Annotation) (ns : List Note) → AllByRecursion IsValidAnnotation xs →
     AllZip IsNoted xs ns → All HasOnset ns × All HasDuration ns
 notes-are [] [] all zip = (All-nil HasOnset, All-nil HasDuration)
 notes-are [] (n ∷ ns) all zip = absurd zip
@@ -56,13 +56,13 @@ notes-are (a ∷ xs) (n ∷ ns) all zip =
           (short a.duration all.0.duration)) rest.1,
     )
 
-together : (xs ys : List Annotation) → AllByRecursion IsAnnotation xs →
-    AllByRecursion IsAnnotation ys → AllByRecursion IsAnnotation (xs ++ ys)
+together : (xs ys : List Annotation) → AllByRecursion IsValidAnnotation xs →
+    AllByRecursion IsValidAnnotation ys → AllByRecursion IsValidAnnotation (xs ++ ys)
 together [] ys p q = q
 together (x ∷ xs) ys p q = (p.0, together xs ys p.1 q)
 
 sound-notes : (k : Key) (low : ℕ) (rs : List DataRecord) → AreSound k low rs →
-    AllByRecursion IsAnnotation (annotations_of rs)
+    AllByRecursion IsValidAnnotation (annotations_of rs)
 sound-notes k low [] sound = tt
 sound-notes k low (r ∷ rs) sound = together r.annotations (annotations_of rs) sound.0.notes
     (sound-notes k (r.start + duration_of k.duration) rs sound.2)

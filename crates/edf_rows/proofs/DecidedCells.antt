@@ -25,7 +25,7 @@ use Rattle.edf_header.proofs.DecidedTexts.{patient-or-fault, duration}
 use Rattle.edf_header.proofs.DecidedSignals.{checked}
 use Rattle.edf_header.proofs.Faults.{is-key, key-clean}
 use Rattle.edf_tal.specs.declared.place.Place.TheVariants.{Any}
-use Rattle.edf_tal.specs.Canonical.{block_text}
+use Rattle.edf_tal.specs.Canonical.{tals_text}
 use Rattle.edf_tal.proofs.Cited.{some-answer}
 use Rattle.edf_fragment.specs.Fragment.{DataRecord}
 use Rattle.edf_tables.specs.Cells.{first_three}
@@ -163,7 +163,7 @@ own_block_or : (block : List ℕ) → ((start : ℕ) × (list : _) × OwnBlock b
 own_block_or block =
     elim (some-answer block 0 Any) [
       | inr refused ↦ inr (refused-block block refused.0 refused.1)
-      | inl read ↦ elim (same-bytes block (block_text 0 read.0 read.1)) [
+      | inl read ↦ elim (same-bytes block (tals_text 0 read.0 read.1)) [
         | inl is ↦ inl (read.0, read.1, record { read = read.2; written = is })
         | inr other ↦ inr (other-block block read.0 read.1 read.2 other)
       ]

@@ -8,13 +8,13 @@ use Rattle.sqlite_value.specs.Order.{Row, column}
 use Rattle.edf_header.specs.Key.{Key, IsKey}
 use Rattle.edf_header.specs.Signal.{samples_in_all}
 use Rattle.edf_tal.specs.Tal.{Annotation}
-use Rattle.edf_tal.specs.Block.{BlockParsesTo, IsFirstBlockFault, IsBlockRefusal}
+use Rattle.edf_tal.specs.Block.{BlockParsesTo, BlockHasFirstFault, BlockIsRefused}
 use Rattle.edf_tal.specs.declared.place.Place.TheVariants.{Any}
 use Rattle.edf_tal.specs.declared.place.TalFault.{TalFault}
 use Rattle.edf_tal.specs.declared.place.TalFault.TheVariants.{Memory}
 use Rattle.std.proofs.lemmas.Int.{to_z-of_z}
 use Rattle.std.proofs.lemmas.List.{append-nil}
-use Rattle.edf_tal.specs.Canonical.{block_text}
+use Rattle.edf_tal.specs.Canonical.{tals_text}
 use Rattle.edf_tal.proofs.Cited.{one-read, read-no-fault, read-start, read-annotations, read-any}
 use Rattle.edf_fragment.specs.Fragment.{DataRecord, IsWithinSize}
 use Rattle.edf_fragment.specs.Sound.{IsValidRecord, IsSoundRecord}
@@ -24,19 +24,19 @@ use Rattle.edf_rows.specs.Inside.Shape.{IsNoBlock, OwnBlock, NoOwnBlock}
 
 -- a block is written for nothing else than what is read of it
 pub other-block : (block : List ℕ) (start : ℕ) (list : List Annotation) →
-    BlockParsesTo block 0 Any start list → block ≢ block_text 0 start list → NoOwnBlock block
+    BlockParsesTo block 0 Any start list → block ≢ tals_text 0 start list → NoOwnBlock block
 other-block block start list read other s l own =
     let same = one-read block 0 Any start s list l read own.read in
-    other (own.written ∙ sym (ap₂ (block_text 0) same.start same.list))
+    other (own.written ∙ sym (ap₂ (tals_text 0) same.start same.list))
 
-pub refused-no_block : (block : List ℕ) (fault : TalFault) → IsFirstBlockFault block 0 Any fault →
+pub refused-no_block : (block : List ℕ) (fault : TalFault) → BlockHasFirstFault block 0 Any fault →
     IsNoBlock block
 refused-no_block block fault refused s l read = read-no-fault block 0 Any s l fault read refused
 
 pub no_block-own : (block : List ℕ) → IsNoBlock block → NoOwnBlock block
 no_block-own block none s l own = none s l own.read
 
-pub refused-block : (block : List ℕ) (fault : TalFault) → IsFirstBlockFault block 0 Any fault →
+pub refused-block : (block : List ℕ) (fault : TalFault) → BlockHasFirstFault block 0 Any fault →
     NoOwnBlock block
 refused-block block fault refused = no_block-own block (refused-no_block block fault refused)
 
@@ -89,7 +89,7 @@ bad-starts k start samples block read list is other = bad_block (λ own.
     other (ap pos one.start ∙ sym (int-number start (pos own.start) own.starts)))
 
 pub fault-of : (block : List ℕ) (fault : TalFault) → fault ≢ Memory →
-    IsBlockRefusal block 0 Any fault → IsFirstBlockFault block 0 Any fault
+    BlockIsRefused block 0 Any fault → BlockHasFirstFault block 0 Any fault
 fault-of block Memory other refused = absurd (other refl)
 fault-of block fault other refused = refused
 
@@ -100,16 +100,16 @@ same-cell n z low fits same = sym (to_z-of_z w64 (pos n) (record { sfits = omega
 
 -- the block of a sound data record gives its start and annotations
 pub own-read : (k : Key) (r : DataRecord) → IsSoundRecord k r →
-    BlockParsesTo (block_text 0 r.start r.annotations) 0 Any r.start r.annotations
+    BlockParsesTo (tals_text 0 r.start r.annotations) 0 Any r.start r.annotations
 own-read k r s = subst (λ (b : List ℕ). BlockParsesTo b 0 Any r.start r.annotations)
-    (append-nil (block_text 0 r.start r.annotations))
+    (append-nil (tals_text 0 r.start r.annotations))
     (read-any 0 r.start 0 r.annotations (omega arith) s.start s.notes s.limits)
 
 row-read : (k : Key) (r : DataRecord) (start : ℤ) (samples block : List ℕ) →
     IsRowOf k r (Int start ∷ Blob samples ∷ Blob block ∷ []) →
     BlockParsesTo block 0 Any r.start r.annotations
 row-read k r start samples block is =
-    let same : block ≡ block_text 0 r.start r.annotations =
+    let same : block ≡ tals_text 0 r.start r.annotations =
     blob-bytes block _ (ap (λ (row : Row). column row 2) is.cells) in
     subst (λ (b : List ℕ). BlockParsesTo b 0 Any r.start r.annotations) (sym same)
     (own-read k r is.sound)

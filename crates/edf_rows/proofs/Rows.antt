@@ -17,7 +17,7 @@ use Rattle.sqlite_trees.specs.Tree.{Trees}
 use Rattle.edf_field.specs.Number.{duration_of}
 use Rattle.edf_header.specs.Key.{Key, IsKey, MayStart, key_bytes, key_at}
 use Rattle.edf_header.proofs.Cited.{key-back}
-use Rattle.edf_tal.specs.Canonical.{block_text}
+use Rattle.edf_tal.specs.Canonical.{tals_text}
 use Rattle.edf_tal.proofs.Cited.{one-writing}
 use Rattle.edf_fragment.specs.Fragment.{DataRecord}
 use Rattle.edf_holdings.specs.Same.{same_key}
@@ -85,7 +85,7 @@ same-records k r s p q e =
     (ap (λ (x : Row). column x 0) e)) in
     let samples : r.samples ≡ s.samples =
     blob-bytes r.samples s.samples (ap (λ (x : Row). column x 1) e) in
-    let blocks : block_text 0 r.start r.annotations ≡ block_text 0 s.start s.annotations =
+    let blocks : tals_text 0 r.start r.annotations ≡ tals_text 0 s.start s.annotations =
     blob-bytes _ _ (ap (λ (x : Row). column x 2) e) in
     let same = one-writing 0 r.start s.start r.annotations s.annotations (omega arith) p.start
     q.start p.notes q.notes p.limits q.limits blocks in
@@ -235,7 +235,7 @@ pub not-bad : (k : Key) (r : DataRecord) → IsSoundRecord k r → ¬ IsBadRow k
 not-bad k r s (bad_start none) = none r.start (refl, s.start)
 not-bad k r s (bad_samples none) = none (r.samples, refl, s.samples_len)
 not-bad k r s (bad_block none) = none (record {
-  block = block_text 0 r.start r.annotations;
+  block = tals_text 0 r.start r.annotations;
   start = r.start;
   list = r.annotations;
   is_block = refl;

@@ -7,12 +7,12 @@ use Rattle.sqlite_keyed.specs.Lists.{sort_by}
 use Rattle.edf_tables.specs.Columns.{stored_recordings, stored_id, stored_identity, stored_records}
 use Rattle.edf_tables.specs.Columns.{stored_start, stored_samples, stored_block, start_order, is_of}
 use Rattle.edf_header.specs.Key.{Key, key_bytes}
-use Rattle.edf_tal.specs.Canonical.{block_text}
+use Rattle.edf_tal.specs.Canonical.{tals_text}
 use Rattle.edf_fragment.specs.Fragment.{DataRecord}
 
 -- a data record has a start, samples and a block without fill, with onsets from 1985-01-01 00:00:00
 abbrev pub record_cells : DataRecord → Row
-record_cells r = Int (pos r.start) ∷ Blob r.samples ∷ Blob (block_text 0 r.start r.annotations) ∷ []
+record_cells r = Int (pos r.start) ∷ Blob r.samples ∷ Blob (tals_text 0 r.start r.annotations) ∷ []
 
 -- a recording has an id and the bytes of its key
 abbrev pub recording_cells : ℤ → Key → Row

@@ -11,7 +11,7 @@ use Rattle.edf_header.specs.Key.{Key, MayStart}
 use Rattle.edf_tal.specs.Tal.{Annotation}
 use Rattle.edf_tal.specs.Block.{BlockParsesTo}
 use Rattle.edf_tal.specs.declared.place.Place.TheVariants.{Any}
-use Rattle.edf_tal.specs.Canonical.{block_text}
+use Rattle.edf_tal.specs.Canonical.{tals_text}
 use Rattle.edf_rows.specs.Cells.{recordings_in, records_in}
 use Rattle.edf_tables.specs.Columns.{the_id, the_identity, the_start, the_samples, the_block}
 use Rattle.edf_tables.specs.Columns.{stored_records, is_of}
@@ -33,7 +33,7 @@ pub record IsCanonicalBlock (row : Row) : Type 0 where
   pub list : List Annotation
   pub is_block : the_block row ≡ Blob block
   pub read : BlockParsesTo block 0 Any start list
-  pub written : block ≡ block_text 0 start list
+  pub written : block ≡ tals_text 0 start list
   pub starts : the_start row ≡ Int (pos start)
 
 -- the row's start, samples or block are not those of a data record of the key

@@ -6,7 +6,7 @@ ghost use Rattle.edf_header.specs.Key.{Key, IsKey};
 ghost use Rattle.edf_tal.specs.Tal.{Annotation};
 ghost use Rattle.edf_tal.specs.Block.{BlockParsesTo};
 ghost use Rattle.edf_tal.specs.declared.place.Place.TheVariants.{Any};
-ghost use Rattle.edf_tal.specs.Canonical.{block_text};
+ghost use Rattle.edf_tal.specs.Canonical.{tals_text};
 ghost use Rattle.edf_fragment.specs.Fragment.{DataRecord};
 ghost use Rattle.edf_rows.specs.Foreign.{IsBadRow};
 ghost use Rattle.edf_rows.specs.Rows.{IsRowOf, IsRecordFrom, IsNoRecord};
@@ -130,7 +130,7 @@ pub fn record_from(
 /// `AllocError` where memory runs out.
 pub fn block_of(alloc: Global, data_record: &Record) -> Result<Vec<u8>, AllocError>
     ensures { IfOk result
-        (λ v. v.items ≡ block_text 0 data_record.now.start data_record.now.annotations) }
+        (λ v. v.items ≡ tals_text 0 data_record.now.start data_record.now.annotations) }
 {
     write_block(alloc, data_record.start(), data_record.notes(), base())
 }

@@ -6,7 +6,7 @@ use Rattle.std.specs.List.{AllZip, AllByRecursion}
 use Rattle.std.proofs.lemmas.List.Elements.{All-head, All-tail}
 use Rattle.edf_field.specs.Number.{duration_of}
 use Rattle.edf_header.specs.Key.{Key}
-use Rattle.edf_tal.specs.Tal.{Annotation, IsAnnotation}
+use Rattle.edf_tal.specs.Tal.{Annotation, IsValidAnnotation}
 use Rattle.edf_tal.specs.Block.{IsWithinLimits}
 use Rattle.edf_fragment.specs.Fragment.{DataRecord}
 use Rattle.edf_fragment.specs.Sound.{AreSound, IsSoundRecord}
@@ -22,8 +22,7 @@ use Rattle.edf_canonical.specs.Kept.{annotated, with_samples}
 abbrev bare : List DataRecord → List DataRecord
 bare xs = map without_samples xs
 
-one-annotated : (x y : DataRecord) → AreAlike x y →
-    with_samples (without_samples x) y ≡ x
+one-annotated : (x y : DataRecord) → AreAlike x y → with_samples (without_samples x) y ≡ x
 one-annotated x y alike =
     let samples : y.samples ≡ x.samples = sym alike.1 in
     λ i. record { start = x.start; samples = samples i; annotations = x.annotations }
@@ -55,23 +54,23 @@ append-all P [] bs all more = more
 append-all P (a ∷ rest) bs all more = (all.0, append-all P rest bs all.1 more)
 
 all-notes : (k : Key) (low : ℕ) (rs : List DataRecord) → AreSound k low rs →
-    AllByRecursion IsAnnotation (annotations_of rs)
+    AllByRecursion IsValidAnnotation (annotations_of rs)
 all-notes k low [] sound = tt
 all-notes k low (r ∷ rs) sound =
-    append-all IsAnnotation r.annotations (annotations_of rs) sound.0.notes
+    append-all IsValidAnnotation r.annotations (annotations_of rs) sound.0.notes
     (all-notes k (r.start + duration_of k.duration) rs sound.2)
 
 abbrev within : DataRecord → Type 0
 within r = IsWithinLimits r.annotations
 
-module _ (k : Key) (all : List Annotation) (notes : AllByRecursion IsAnnotation all) where
+module _ (k : Key) (all : List Annotation) (notes : AllByRecursion IsValidAnnotation all) where
   one-sound : (low : ℕ) (r : DataRecord) (rs : List DataRecord) → IsSoundRecord k r →
       within (assigned all low r rs) → IsSoundRecord k (assigned all low r rs)
   one-sound low r rs sound limits = record {
     samples_len = sound.samples_len;
     start = sound.start;
     limits = limits;
-    notes = filter-all IsAnnotation (is_between low rs) all notes;
+    notes = filter-all IsValidAnnotation (is_between low rs) all notes;
   }
 
   each-sound : (low : ℕ) (rs : List DataRecord) → AreSound k low rs →
@@ -89,7 +88,8 @@ pub stay-sound : StaySound
 stay-sound k [] sound limits = tt
 stay-sound k (r ∷ rs) sound limits =
     let all = in_order (annotations_of (r ∷ rs)) in
-    let notes = order-all IsAnnotation (annotations_of (r ∷ rs)) (all-notes k 0 (r ∷ rs) sound) in (
+    let notes = order-all IsValidAnnotation (annotations_of (r ∷ rs)) (all-notes k 0
+    (r ∷ rs) sound) in (
       one-sound k all notes 0 r rs sound.0
           (All-head within (assigned all 0 r rs) (each_assigned all rs) limits),
       sound.1,

@@ -6,7 +6,7 @@ use Rattle.std.proofs.Math.Nat.{suc-mul}
 use Rattle.std.specs.Io.KnownBytes.{Consumes, IsAtEnd}
 use Rattle.edf_field.specs.Number.{duration_of}
 use Rattle.edf_header.specs.Header.{Layout, IsLayout, most_records}
-use Rattle.edf_tal.specs.Block.{IsFirstBlocksFault}
+use Rattle.edf_tal.specs.Block.{BlocksHaveFirstFault}
 use Rattle.edf_tal.specs.declared.place.Place.{Place}
 use Rattle.edf_tal.specs.declared.place.TalFault.{TalFault}
 use Rattle.edf_tal.proofs.Cited.{blocks-read-no-fault}
@@ -131,7 +131,7 @@ no_refusal l from left rest all x xs last after nth fault is (
     let fronts = same_front all front back refuses.bytes k.bytes parts k.parts (one.len
     ∙ sym refuses.len) in
     blocks-read-no-fault (blocks l front) l.start from.place x.start x.annotations fault one.read
-    (subst (λ (z : List ℕ). IsFirstBlocksFault (blocks l z) l.start from.place fault)
+    (subst (λ (z : List ℕ). BlocksHaveFirstFault (blocks l z) l.start from.place fault)
     (sym fronts.front)
     refuses.refused)
 

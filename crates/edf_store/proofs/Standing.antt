@@ -17,7 +17,7 @@ use Rattle.std.proofs.lemmas.Cmp.{tied_itself}
 use Rattle.sqlite.specs.State.{State}
 use Rattle.edf_field.specs.Number.{duration_of}
 use Rattle.edf_header.specs.Key.{Key}
-use Rattle.edf_tal.specs.Canonical.{block_text}
+use Rattle.edf_tal.specs.Canonical.{tals_text}
 use Rattle.edf_fragment.specs.Fragment.{DataRecord}
 use Rattle.edf_holdings.specs.Same.{same_key}
 use Rattle.edf_holdings.specs.Clash.{near_of}
@@ -92,7 +92,7 @@ shown_of trees h stand id k there =
 -- ---- a record more
 module _ (old new : State) (id : ℤ) (k : Key) (r : DataRecord) (h : Holdings)
     (has : HasRecord old new (cells id (pos r.start) r.samples
-    (block_text 0 r.start r.annotations)))
+    (tals_text 0 r.start r.annotations)))
     (stand : Represent old.now.trees h) (there : HasRecordingRow old.now.trees id k)
     (none : near_of (duration_of k.duration) r.start (h k) ≡ []) where
   pub there_same : (m : ℤ) (q : Key) → HasRecordingRow new.now.trees m q →
@@ -115,7 +115,7 @@ module _ (old new : State) (id : ℤ) (k : Key) (r : DataRecord) (h : Holdings)
 
   abbrev row : Row
   row = new_row (old.now.trees 2) (cells id (pos r.start) r.samples
-      (block_text 0 r.start r.annotations))
+      (tals_text 0 r.start r.annotations))
 
   apart : NotAt r.start (h k)
   apart = not_at (duration_of k.duration) r.start (h k) (lasting k there.key) none
@@ -124,7 +124,7 @@ module _ (old new : State) (id : ℤ) (k : Key) (r : DataRecord) (h : Holdings)
   own =
       let shown = shown_of old.now.trees h stand id k there in
       ap (map shown_record) (own_records old new id (pos r.start) r.samples
-      (block_text 0 r.start r.annotations) has
+      (tals_text 0 r.start r.annotations) has
       (others_at r row (records_of id (old.now.trees 2)) (h k) refl apart shown))
       ∙ from_show _ _ (show_more r row (records_of id (old.now.trees 2)) (h k) refl apart shown)
 
@@ -150,7 +150,7 @@ module _ (old new : State) (id : ℤ) (k : Key) (r : DataRecord) (h : Holdings)
             | inr e ↦ e
           ] in
           ap (map shown_record) (other_records old new m id (pos r.start) r.samples
-          (block_text 0 r.start r.annotations) has (other_id id m other))
+          (tals_text 0 r.start r.annotations) has (other_id id m other))
           ∙ stand.held m q was ∙ ap (map record_cells)
           (sym (cond-false (same_key k q) (union (h q) (r ∷ [])) (h q) differ))
 

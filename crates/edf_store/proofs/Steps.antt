@@ -10,7 +10,7 @@ use Rattle.sqlite_value.specs.Order.{Row, column}
 use Rattle.sqlite_rules.specs.Edit.{next_rowid}
 use Rattle.edf_field.specs.Number.{duration_of}
 use Rattle.edf_header.specs.Key.{Key, IsKey, key_bytes}
-use Rattle.edf_tal.specs.Canonical.{block_text}
+use Rattle.edf_tal.specs.Canonical.{tals_text}
 use Rattle.edf_fragment.specs.Fragment.{DataRecord}
 use Rattle.edf_holdings.specs.Holdings.{Holdings, IsSound, with_records}
 use Rattle.edf_holdings.specs.Clash.{near_of, intervals_overlap}
@@ -85,7 +85,7 @@ module _ (cap : ℕ) (old new : State) (P : Trees → Type 0) (s : Survives old 
       (subst (λ n. records ≡ near_of n start (h k)) same answer)
 
   pub added_in : (id : ℤ) (r : DataRecord) → (HasCleanDisk new → HasRecord old new
-      (cells id (pos r.start) r.samples (block_text 0 r.start r.annotations))) →
+      (cells id (pos r.start) r.samples (tals_text 0 r.start r.annotations))) →
       MayAddIn cap old id r → SeesSome cap old → IsAddedIn cap old new id r
   added_in id r has may running = record {
     running = λ clean. let it = running (was_clean clean) in

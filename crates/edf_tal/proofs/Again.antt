@@ -13,12 +13,13 @@ use Rattle.std.proofs.lemmas.Str.{IsUtf8-nil}
 use Rattle.edf_time.specs.Decimal.{IsSeconds, short}
 use Rattle.edf_time.specs.Civil.{window, IsInWindow}
 use Rattle.edf_time.proofs.Cited.{IsSeconds-short}
-use Rattle.edf_tal.specs.Tal.{Tal, Annotation, IsAnnotation, IsTal, IsOnset, IsDurationPart}
+use Rattle.edf_tal.specs.Tal.{Tal, Annotation, IsValidAnnotation, IsTal, IsOnset, IsDurationPart}
 use Rattle.edf_tal.specs.Tal.{terminated, AreTals, AreTalsAndZeros, HaveUtf8Texts}
 use Rattle.edf_tal.specs.Tal.{HasTimeKeepingTal, IsTalInWindow, instant, tal_annotations}
 use Rattle.edf_tal.specs.Tal.{annotations, record_start}
 use Rattle.edf_tal.specs.Block.{BlocksParseTo, BlockParsesTo, IsWithinLimits, StartFitsPlace}
-use Rattle.edf_tal.specs.Canonical.{onset_text, duration_text, tal_text, time_keeping, block_text}
+use Rattle.edf_tal.specs.Canonical.{onset_text, duration_text, tal_text, time_keeping_annotation}
+use Rattle.edf_tal.specs.Canonical.{tals_text}
 use Rattle.edf_tal.specs.declared.place.Place.{Place}
 use Rattle.edf_tal.specs.declared.place.Place.TheVariants.{First, After, Any}
 use Rattle.edf_tal.specs.Inside.Scan.{AreZeros}
@@ -85,7 +86,7 @@ pub in-parts : (o d x : List ℕ) → o ++ (d ++ (20 ∷ (x ++ (20 ∷ 0 ∷ [])
     ++ 20 ∷ terminated (x ∷ []) ++ 0 ∷ []
 in-parts o d x = simp (append_assoc, append-nil)
 
-IsTal-text : (base : ℕ) (a : Annotation) → base < window → IsAnnotation a →
+IsTal-text : (base : ℕ) (a : Annotation) → base < window → IsValidAnnotation a →
     IsTal (tal_text base a) (tal_of base a)
 IsTal-text base a low h = record {
   onset = onset_text base a.onset;
@@ -97,7 +98,7 @@ IsTal-text base a low h = record {
 }
 
 AreTals-text : (base : ℕ) (list : List Annotation) → base < window →
-    AllByRecursion IsAnnotation list →
+    AllByRecursion IsValidAnnotation list →
     AreTals (flat_map (tal_text base) list) (map (tal_of base) list)
 AreTals-text base [] low h = refl
 AreTals-text base (a ∷ list) low h = (
@@ -108,7 +109,7 @@ AreTals-text base (a ∷ list) low h = (
   AreTals-text base list low h.1,
 )
 
-HaveUtf8Texts-text : (base : ℕ) (list : List Annotation) → AllByRecursion IsAnnotation list →
+HaveUtf8Texts-text : (base : ℕ) (list : List Annotation) → AllByRecursion IsValidAnnotation list →
     HaveUtf8Texts (map (tal_of base) list)
 HaveUtf8Texts-text base [] h = tt
 HaveUtf8Texts-text base (a ∷ list) h = ((h.0.utf8, tt), HaveUtf8Texts-text base list h.1)
@@ -127,7 +128,7 @@ in-window : (base onset : ℕ) → onset < window → IsInWindow (pos base +ℤ 
 in-window base onset h = rw (onset-back base onset)
     (record { from = omega (arith, ints); to = omega (arith, ints) })
 
-AreInWindow-text : (base : ℕ) (list : List Annotation) → AllByRecursion IsAnnotation list →
+AreInWindow-text : (base : ℕ) (list : List Annotation) → AllByRecursion IsValidAnnotation list →
     AllByRecursion (IsTalInWindow base) (map (tal_of base) list)
 AreInWindow-text base [] h = tt
 AreInWindow-text base (a ∷ list) h = (
@@ -148,7 +149,8 @@ list-back base (a ∷ list) =
     let more = list-back base list in
     cc
 
-IsAnnotation-time_keeping : (start : ℕ) → start < window → IsAnnotation (time_keeping start)
+IsAnnotation-time_keeping : (start : ℕ) → start < window →
+    IsValidAnnotation (time_keeping_annotation start)
 IsAnnotation-time_keeping start h = record {
   onset = h;
   duration = tt;
@@ -159,8 +161,7 @@ IsAnnotation-time_keeping start h = record {
 
 -- the one block of a data record, with these TALs
 pub read-of : (b : List ℕ) (s : ℕ) (p : Place) (start : ℕ) (list : List Annotation) (ts : List Tal)
-    →
-    AreTalsAndZeros b ts → HaveUtf8Texts ts → HasTimeKeepingTal ts → StartFitsPlace p s ts
+    → AreTalsAndZeros b ts → HaveUtf8Texts ts → HasTimeKeepingTal ts → StartFitsPlace p s ts
     → AllByRecursion (IsTalInWindow s) ts → IsWithinLimits list → start ≡ record_start s ts →
     list ≡ annotations s ts → BlockParsesTo b s p start list
 read-of b s p start list ts whole good timed keeps window limits start-is list-is =
@@ -179,24 +180,24 @@ read-of b s p start list ts whole good timed keeps window limits start-is list-i
 
 -- a written block, with any fill, where the first onset keeps its place
 pub read-again : (p : Place) (base start n : ℕ) (list : List Annotation) → base < window →
-    start < window → AllByRecursion IsAnnotation list → IsWithinLimits list
-    → StartFitsPlace p base (map (tal_of base) (time_keeping start ∷ list)) →
-    BlockParsesTo (block_text base start list ++ replicate n 0) base p start list
+    start < window → AllByRecursion IsValidAnnotation list → IsWithinLimits list
+    → StartFitsPlace p base (map (tal_of base) (time_keeping_annotation start ∷ list)) →
+    BlockParsesTo (tals_text base start list ++ replicate n 0) base p start list
 read-again p base start n list low in-window' all limits keeps =
-    let whole : AllByRecursion IsAnnotation (time_keeping start ∷ list) =
+    let whole : AllByRecursion IsValidAnnotation (time_keeping_annotation start ∷ list) =
     (IsAnnotation-time_keeping start in-window', all) in
-    read-of (block_text base start list ++ replicate n 0) base p start list
-    (map (tal_of base) (time_keeping start ∷ list)) (
-      block_text base start list,
+    read-of (tals_text base start list ++ replicate n 0) base p start list
+    (map (tal_of base) (time_keeping_annotation start ∷ list)) (
+      tals_text base start list,
       replicate n 0,
       refl,
-      AreTals-text base (time_keeping start ∷ list) low whole,
+      AreTals-text base (time_keeping_annotation start ∷ list) low whole,
       AreZeros-replicate n,
     )
-    (HaveUtf8Texts-text base (time_keeping start ∷ list) whole) (
+    (HaveUtf8Texts-text base (time_keeping_annotation start ∷ list) whole) (
       [],
       refl,
-    ) keeps (AreInWindow-text base (time_keeping start ∷ list) whole) limits
+    ) keeps (AreInWindow-text base (time_keeping_annotation start ∷ list) whole) limits
     (sym (instant-back base start)) (sym (list-back base list))
 
 keeps-first : (base start : ℕ) → base ≤ start → start < base + 10 ^ 9 →
@@ -204,32 +205,32 @@ keeps-first : (base start : ℕ) → base ≤ start → start < base + 10 ^ 9 �
 keeps-first base start low high = (omega (arith, ints), omega (arith, ints))
 
 pub read-first : (base start n : ℕ) (list : List Annotation) → base < window → start < window →
-    AllByRecursion IsAnnotation list → IsWithinLimits list
+    AllByRecursion IsValidAnnotation list → IsWithinLimits list
     → base ≤ start → start < base + 10 ^ 9 →
-    BlockParsesTo (block_text base start list ++ replicate n 0) base First start list
+    BlockParsesTo (tals_text base start list ++ replicate n 0) base First start list
 read-first base start n list low in-window' all limits from to =
     read-again First base start n list low in-window' all limits (keeps-first base start from to)
 
 pub read-after : (base start n before duration : ℕ) (list : List Annotation) → base < window →
-    start < window → AllByRecursion IsAnnotation list → IsWithinLimits list
-    → before + duration ≤ start → BlockParsesTo (block_text base start list
+    start < window → AllByRecursion IsValidAnnotation list → IsWithinLimits list
+    → before + duration ≤ start → BlockParsesTo (tals_text base start list
     ++ replicate n 0) base (After before duration) start list
 read-after base start n before duration list low in-window' all limits later =
     read-again (After before duration) base start n list low in-window' all limits
     (rw (instant-back base start) later)
 
 pub read-any : (base start n : ℕ) (list : List Annotation) → base < window → start < window →
-    AllByRecursion IsAnnotation list → IsWithinLimits list
-    → BlockParsesTo (block_text base start list ++ replicate n 0) base Any start list
+    AllByRecursion IsValidAnnotation list → IsWithinLimits list
+    → BlockParsesTo (tals_text base start list ++ replicate n 0) base Any start list
 read-any base start n list low in-window' all limits =
     read-again Any base start n list low in-window' all limits tt
 
 pub read-alone : (base start : ℕ) (list : List Annotation) → base < window → start < window →
-    AllByRecursion IsAnnotation list → IsWithinLimits list
-    → BlockParsesTo (block_text base start list) base Any start list
+    AllByRecursion IsValidAnnotation list → IsWithinLimits list
+    → BlockParsesTo (tals_text base start list) base Any start list
 read-alone base start list low in-window' all limits =
     subst (λ (x : List ℕ). BlockParsesTo x base Any start list)
-    (append-nil (block_text base start list))
+    (append-nil (tals_text base start list))
     (read-any base start 0 list low in-window' all limits)
 
 -- what is read at a place is read without one
@@ -253,9 +254,9 @@ read-elsewhere b s p start list r = blocks-read-elsewhere (b ∷ []) s p start l
 
 -- a canonical block is written of one start and list
 pub one-writing : (base m n : ℕ) (k l : List Annotation) → base < window → m < window → n < window →
-    AllByRecursion IsAnnotation k → AllByRecursion IsAnnotation l
-    → IsWithinLimits k → IsWithinLimits l → block_text base m k ≡ block_text base n l →
+    AllByRecursion IsValidAnnotation k → AllByRecursion IsValidAnnotation l
+    → IsWithinLimits k → IsWithinLimits l → tals_text base m k ≡ tals_text base n l →
     SameAnswer m n k l
 one-writing base m n k l low p q a b c d e =
-    one-read (block_text base m k) base Any m n k l (read-alone base m k low p a c)
+    one-read (tals_text base m k) base Any m n k l (read-alone base m k low p a c)
     (subst (λ (x : List ℕ). BlockParsesTo x base Any n l) (sym e) (read-alone base n l low q b d))

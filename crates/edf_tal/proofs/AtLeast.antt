@@ -11,9 +11,10 @@ use Rattle.std.proofs.lemmas.Int.{ints}
 use Rattle.std.proofs.lemmas.Str.{IsUtf8-from_is_utf8, is_utf8-from_IsUtf8}
 use Rattle.edf_time.specs.Civil.{window}
 use Rattle.edf_tal.specs.Tal.{Tal, IsText, terminated, IsTalInWindow}
-use Rattle.edf_tal.specs.Condition.{IsInvalidUtf8At, IsMalformedAt}
-use Rattle.edf_tal.specs.Inside.Scan.{Lacks, NoTal, AreZeros, IsLeadingTal, IsBadAmong}
-use Rattle.edf_tal.specs.Inside.Scan.{AreGoodTexts, FollowsTals, IsSurvey, KeepsSecond, KeepsOrder}
+use Rattle.edf_tal.specs.Condition.{HasNonUtf8TextAt, AreMalformedAt}
+use Rattle.edf_tal.specs.Inside.Scan.{Lacks, NoTal, AreZeros, IsLeadingTal, HasNonUtf8TextAmong}
+use Rattle.edf_tal.specs.Inside.Scan.{BeginWithUtf8Texts, FollowsTals, IsSurvey}
+use Rattle.edf_tal.specs.Inside.Scan.{StartsInFirstSecond, StartsInOrder}
 use Rattle.edf_tal.specs.Inside.Blocks.{HasForm}
 use Rattle.edf_tal.specs.declared.blocks.Form.{Form}
 use Rattle.edf_tal.specs.declared.blocks.Form.TheVariants.{Good, BadText}
@@ -84,7 +85,8 @@ bit (inr never) = (false, (λ h. absurd (let e : false ≡ true = h in cc), λ p
 
 -- the texts of a TAL
 texts-of : (xs : List (List ℕ)) → AllByRecursion IsText xs →
-    AllByRecursion (λ x. Lacks 20 x × IsUtf8 x) xs ⊎ ((at : ℕ) × IsBadAmong (terminated xs) at)
+    AllByRecursion (λ x. Lacks 20 x × IsUtf8 x) xs
+    ⊎ ((at : ℕ) × HasNonUtf8TextAmong (terminated xs) at)
 texts-of [] a = inl tt
 texts-of (x ∷ xs) a =
     elim (utf8 x) [
@@ -122,7 +124,7 @@ texts-of (x ∷ xs) a =
     ]
 
 front-texts : (bytes texts rest : List ℕ) (t : Tal) → IsLeadingTal bytes texts rest t →
-    AreGoodTexts texts (length t.texts) ⊎ ((at : ℕ) × IsBadAmong texts at)
+    BeginWithUtf8Texts texts (length t.texts) ⊎ ((at : ℕ) × HasNonUtf8TextAmong texts at)
 front-texts bytes texts rest t f =
     elim (texts-of t.texts f.tal.are_texts) [
       | inl good ↦ inl (record {
@@ -134,7 +136,11 @@ front-texts bytes texts rest t f =
         is_rest = tt;
         count_is = refl;
       })
-      | inr bad ↦ inr (bad.0, subst (λ (w : List ℕ). IsBadAmong w bad.0) (sym f.texts_are) bad.1)
+      | inr bad ↦ inr (
+        bad.0,
+        subst (λ (w : List ℕ). HasNonUtf8TextAmong w bad.0)
+            (sym f.texts_are) bad.1,
+      )
     ]
 
 -- ---- one TAL after another
@@ -171,11 +177,11 @@ pub record IsBadSurvey (block : List ℕ) : Type 0 where
   pub at : ℕ
   pub is_after : FollowsTals block rest
   pub last : NoTal rest
-  pub bad : IsInvalidUtf8At block at
+  pub bad : HasNonUtf8TextAt block at
 
 bad-survey : (block rest : List ℕ) (s : ℕ) (in_window : Bool) (count bytes : ℕ) (f : Front rest)
     (at : ℕ) → IsSurvey block s rest in_window count bytes
-    → IsBadAmong f.texts at → IsBadSurvey block
+    → HasNonUtf8TextAmong f.texts at → IsBadSurvey block
 bad-survey block rest s in_window count bytes f at v b =
     let more = after-tals (suc (length f.rest)) f.rest (omega arith) in
     record {
@@ -224,12 +230,12 @@ survey block s = survey-from (suc (length block)) block block s true 0 0 (omega 
 
 -- ---- the first TAL's rules
 
-pub keeps-second : (p : Place) (z : ℤ) → KeepsSecond p z ⊎ (¬ KeepsSecond p z)
+pub keeps-second : (p : Place) (z : ℤ) → StartsInFirstSecond p z ⊎ (¬ StartsInFirstSecond p z)
 keeps-second First z = below z (10 ^ 9)
 keeps-second (After before duration) z = inl tt
 keeps-second Any z = inl tt
 
-pub keeps-order : (p : Place) (start : ℕ) → KeepsOrder p start ⊎ (¬ KeepsOrder p start)
+pub keeps-order : (p : Place) (start : ℕ) → StartsInOrder p start ⊎ (¬ StartsInOrder p start)
 keeps-order First start = inl tt
 keeps-order (After before duration) start =
     elim (cases_lt start (before + duration)) [
@@ -268,7 +274,7 @@ empty-or-not (b ∷ texts) =
 -- ---- what blocks are
 
 form : (b : List ℕ) (s : ℕ) → ((f : Form) × HasForm (b ∷ []) s f)
-    ⊎ ((at : ℕ) × IsMalformedAt (b ∷ []) at)
+    ⊎ ((at : ℕ) × AreMalformedAt (b ∷ []) at)
 form b s =
     elim (survey b s) [
       | inl v ↦ elim (zeros v.rest) [
@@ -294,7 +300,7 @@ form b s =
     ]
 
 pub forms : (bs : List (List ℕ)) (s : ℕ) →
-    ((f : Form) × HasForm bs s f) ⊎ ((at : ℕ) × IsMalformedAt bs
+    ((f : Form) × HasForm bs s f) ⊎ ((at : ℕ) × AreMalformedAt bs
     at)
 forms [] s = inl (Good (record { in_window = true; count = 0; text_bytes = 0 }), surveyed-none s)
 forms (b ∷ bs) s =

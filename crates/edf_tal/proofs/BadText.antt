@@ -6,7 +6,7 @@ use Rattle.std.specs.List.{AllByRecursion}
 use Rattle.std.proofs.lemmas.List.{length-append}
 use Rattle.edf_tal.specs.Tal.{Tal, IsTal, IsOnset, IsDurationPart, IsText, terminated, AreTals}
 use Rattle.edf_tal.specs.Tal.{AreTalsAndZeros, HaveUtf8Texts}
-use Rattle.edf_tal.specs.Condition.{IsInvalidUtf8At}
+use Rattle.edf_tal.specs.Condition.{HasNonUtf8TextAt}
 use Rattle.edf_tal.specs.Inside.Scan.{Lacks, AreZeros}
 use Rattle.edf_tal.proofs.Unique.{same-sides, Lacks-append, Lacks-onset, Lacks-duration, Lacks-text}
 use Rattle.edf_tal.proofs.Fronts.{same-front, HasEnd-tal}
@@ -39,7 +39,7 @@ pub record BadParts (bytes : List ℕ) (at : ℕ) : Type 0 where
   pub bad : IsBadFront rest inner
   pub at_is : at ≡ length prefix + inner
 
-pub bad-split : (bytes : List ℕ) (at : ℕ) → IsInvalidUtf8At bytes at → BadParts bytes at
+pub bad-split : (bytes : List ℕ) (at : ℕ) → HasNonUtf8TextAt bytes at → BadParts bytes at
 bad-split bytes at b = record {
   prefix = b.prefix;
   rest = (b.onset ++ b.duration) ++ 20 ∷ (terminated b.good ++ (b.text ++ 20 ∷ b.suffix));
@@ -47,7 +47,7 @@ bad-split bytes at b = record {
   inner = length b.onset + length b.duration + 1 + length (terminated b.good);
   parts = b.parts ∙ simp append_assoc;
   whole = b.whole;
-  good = b.front_good;
+  good = b.good_tals;
   bad = record {
     onset = b.onset;
     duration = b.duration;
@@ -68,7 +68,7 @@ bad-split bytes at b = record {
 
 pub bad-join : (bytes front rest : List ℕ) (tals : List Tal) (at inner : ℕ) → bytes ≡ front
     ++ rest → AreTals front tals → HaveUtf8Texts tals
-    → IsBadFront rest inner → at ≡ length front + inner → IsInvalidUtf8At bytes at
+    → IsBadFront rest inner → at ≡ length front + inner → HasNonUtf8TextAt bytes at
 bad-join bytes front rest tals at inner e whole good b here = record {
   prefix = front;
   tals = tals;
@@ -79,7 +79,7 @@ bad-join bytes front rest tals at inner e whole good b here = record {
   suffix = b.suffix;
   parts = e ∙ ap (λ (x : List ℕ). front ++ x) b.parts ∙ simp append_assoc;
   whole = whole;
-  front_good = good;
+  good_tals = good;
   is_onset = b.is_onset;
   is_duration = b.is_duration;
   good_texts = b.good_texts;
@@ -175,7 +175,7 @@ no-bad (u ∷ us) (t ∷ ts) front rest front' zeros at (f, r, parts, is, more) 
     no-bad us ts r rest r' zeros at more more' good.1 a b s.suffix
 
 pub good-block : (bytes : List ℕ) (ts : List Tal) (at : ℕ) → AreTalsAndZeros bytes ts →
-    HaveUtf8Texts ts → IsInvalidUtf8At bytes at → ⊥
+    HaveUtf8Texts ts → HasNonUtf8TextAt bytes at → ⊥
 good-block bytes ts at (front, zeros, parts, tals, are) good b =
     let s = bad-split bytes at b in
     no-bad s.tals ts s.prefix s.rest front zeros s.inner s.whole tals good are s.bad (sym s.parts
@@ -255,8 +255,8 @@ one-bad (t ∷ ts) (u ∷ us) front rest front' rest' j k (f, r, parts, is, more
       ap length s.prefix,
     ))
 
-pub one-bad-text : (bytes : List ℕ) (j k : ℕ) → IsInvalidUtf8At bytes j → IsInvalidUtf8At bytes k →
-    j ≡ k
+pub one-bad-text : (bytes : List ℕ) (j k : ℕ) → HasNonUtf8TextAt bytes j →
+    HasNonUtf8TextAt bytes k → j ≡ k
 one-bad-text bytes j k b c =
     let p = bad-split bytes j b in
     let q = bad-split bytes k c in

@@ -9,8 +9,8 @@ use Rattle.edf_time.specs.Decimal.{IsSeconds}
 use Rattle.edf_time.specs.Civil.{IsInWindow}
 use Rattle.edf_tal.specs.Tal.{instant}
 use Rattle.edf_tal.specs.Block.{BlockParsesTo, split_by_sizes}
-use Rattle.edf_tal.specs.Inside.Scan.{AreZeros, capped, KeepsSecond, KeepsOrder}
-use Rattle.edf_tal.specs.Inside.Blocks.{AreSizes, IsTimeKeepingBlock, bare_tal}
+use Rattle.edf_tal.specs.Inside.Scan.{AreZeros, capped, StartsInFirstSecond, StartsInOrder}
+use Rattle.edf_tal.specs.Inside.Blocks.{AreBlockSizes, IsTimeKeepingBlock, bare_tal}
 use Rattle.edf_tal.specs.declared.place.Place.{Place}
 use Rattle.edf_tal.proofs.Again.{in-parts, read-of}
 use Rattle.edf_tal.proofs.Judge.{keeps-place}
@@ -76,15 +76,15 @@ bare-told block tal zeros onset (Some nanos) parts sides are (n, seconds, is) =
     (n, is, keeps-time block tal zeros onset n parts sides seconds are)
 
 pub bare-read : (block : List ℕ) (s : ℕ) (p : Place) (n start : ℕ) → IsTimeKeepingBlock block n →
-    KeepsSecond p (pos n) → IsInWindow (pos s +ℤ pos n) → start ≡ instant s (pos n)
-    → KeepsOrder p start → BlockParsesTo block s p start []
+    StartsInFirstSecond p (pos n) → IsInWindow (pos s +ℤ pos n) → start ≡ instant s (pos n)
+    → StartsInOrder p start → BlockParsesTo block s p start []
 bare-read block s p n start whole second in-window start-is order =
     read-of block s p start [] (bare_tal n ∷ []) whole ((IsUtf8-nil, tt), tt) ([], refl)
-    (keeps-place p s (bare_tal n) [] second (subst (KeepsOrder p) start-is order))
+    (keeps-place p s (bare_tal n) [] second (subst (StartsInOrder p) start-is order))
     (record { onset = in-window; duration = tt }, tt)
     (record { count = omega arith; bytes = omega arith }) start-is refl
 
-pub cut-one : (sizes block : List ℕ) → AreSizes sizes block → length sizes ≡ 1 →
+pub cut-one : (sizes block : List ℕ) → AreBlockSizes sizes block → length sizes ≡ 1 →
     split_by_sizes sizes block ≡ block ∷ []
 cut-one [] block sizes one = absurd (omega arith)
 cut-one (n ∷ []) block sizes one = ap (λ (w : List ℕ). w ∷ [])

@@ -8,11 +8,12 @@ use Rattle.std.proofs.lemmas.Grind.{flat_map-append}
 use Rattle.std.proofs.lemmas.List.{append-nil, length-append, length-take, take-append-drop}
 use Rattle.std.proofs.lemmas.List.{take_all, take_at, drop_at}
 use Rattle.std.proofs.lemmas.List.Sums.{sum_by-append, sum_by-cons, sum_by-drop_more}
-use Rattle.edf_tal.specs.Tal.{Tal, Annotation, AreBlocks, first_tals, all_tals, HaveUtf8Texts}
+use Rattle.edf_tal.specs.Tal.{Tal, Annotation, AreTalBlocks, first_block_tals, all_tals}
+use Rattle.edf_tal.specs.Tal.{HaveUtf8Texts}
 use Rattle.edf_tal.specs.Tal.{HasTimeKeepingTal, IsTalInWindow, tal_annotations, annotations}
 use Rattle.edf_tal.specs.Block.{BlocksParseTo, split_by_sizes}
-use Rattle.edf_tal.specs.Condition.{IsMalformedAt}
-use Rattle.edf_tal.specs.Inside.Blocks.{HasForm, AreSoundTals, AreSoundLists}
+use Rattle.edf_tal.specs.Condition.{AreMalformedAt}
+use Rattle.edf_tal.specs.Inside.Blocks.{HasForm, AreSoundTals, AreSoundBlocks}
 use Rattle.edf_tal.specs.declared.blocks.Form.{Form}
 use Rattle.edf_tal.specs.declared.place.Place.{Place}
 use Rattle.edf_tal.proofs.OneBlock.{one-block}
@@ -123,8 +124,8 @@ surveyed-fits sizes block i rest front later s form w n =
 
 pub surveyed-broken : (sizes block : List ℕ) (i : ℕ) (rest front later : List ℕ) (s : ℕ)
     (form : Form) (at : ℕ) → HasSurveyed sizes block i rest s form
-    → HasNext sizes i rest front later → IsMalformedAt (front ∷ []) at →
-    IsMalformedAt (split_by_sizes sizes block) (length block - length rest + at)
+    → HasNext sizes i rest front later → AreMalformedAt (front ∷ []) at →
+    AreMalformedAt (split_by_sizes sizes block) (length block - length rest + at)
 surveyed-broken sizes block i rest front later s form at w n b =
     let l = form-lists w.done s form w.is_form in
     let there : split_by_sizes sizes block
@@ -148,8 +149,8 @@ pub record HasPushedBlocks (s : ℕ) (sizes block : List ℕ) (i : ℕ) (rest : 
     (old new : List Annotation) : Type 0 where
   pub all : List (List Tal)
   pub left : List (List Tal)
-  pub are_all : AreSoundLists (split_by_sizes sizes block) s all
-  pub are_left : AreSoundLists (split_by_sizes (drop i sizes) rest) s left
+  pub are_all : AreSoundBlocks (split_by_sizes sizes block) s all
+  pub are_left : AreSoundBlocks (split_by_sizes (drop i sizes) rest) s left
   pub room : sum (drop i sizes) ≡ length rest
   pub items : old ++ flat_map (tal_annotations s) (all_tals all) ≡ new
       ++ flat_map (tal_annotations s) (all_tals left)
@@ -161,10 +162,10 @@ pub record NextTals (s : ℕ) (front : List ℕ) (later : List (List ℕ)) (left
   pub others : List (List Tal)
   pub left_is : left ≡ tals ∷ others
   pub sound : AreSoundTals front s tals
-  pub rest : AreSoundLists later s others
+  pub rest : AreSoundBlocks later s others
 
 next-of : (s : ℕ) (front : List ℕ) (later : List (List ℕ)) (left : List (List Tal)) →
-    AreSoundLists (front ∷ later) s left → NextTals s front later left
+    AreSoundBlocks (front ∷ later) s left → NextTals s front later left
 next-of s front later [] a = absurd a
 next-of s front later (ts ∷ tss) a = record {
   tals = ts;
@@ -180,7 +181,7 @@ pub next-tals : (s : ℕ) (sizes block : List ℕ) (i : ℕ) (rest front later :
     NextTals s front (split_by_sizes (drop (i + 1) sizes) later) h.left
 next-tals s sizes block i rest front later old new h n =
     next-of s front (split_by_sizes (drop (i + 1) sizes) later) h.left
-    (subst (λ (x : List (List ℕ)). AreSoundLists x s h.left) n.parts h.are_left)
+    (subst (λ (x : List (List ℕ)). AreSoundBlocks x s h.left) n.parts h.are_left)
 
 pub pushed-more : (s : ℕ) (sizes block : List ℕ) (i : ℕ) (rest front later : List ℕ)
     (old new newer : List Annotation) → (h : HasPushedBlocks s sizes block i rest old new)
@@ -204,8 +205,8 @@ pushed-more s sizes block i rest front later old new newer h n t is =
           ∙ sym (ap (λ (w : List Annotation). w ++ others) is ∙ append_assoc new first others);
     }
 
-sound-one : (s : ℕ) (bs : List (List ℕ)) (ts us : List (List Tal)) → AreSoundLists bs s ts →
-    AreSoundLists bs s us → ts ≡ us
+sound-one : (s : ℕ) (bs : List (List ℕ)) (ts us : List (List Tal)) → AreSoundBlocks bs s ts →
+    AreSoundBlocks bs s us → ts ≡ us
 sound-one s [] [] [] a b = refl
 sound-one s [] [] (u ∷ us) a b = absurd b
 sound-one s [] (t ∷ ts) us a b = absurd a
@@ -216,18 +217,18 @@ sound-one s (x ∷ bs) (t ∷ ts) (u ∷ us) a b =
     let more : ts ≡ us = sound-one s bs ts us a.1 b.1 in
     cc
 
-none-left : (s : ℕ) (tss : List (List Tal)) → AreSoundLists [] s tss → tss ≡ []
+none-left : (s : ℕ) (tss : List (List Tal)) → AreSoundBlocks [] s tss → tss ≡ []
 none-left s [] a = refl
 none-left s (t ∷ ts) a = absurd a
 
 pub pushed-all : (s : ℕ) (sizes block : List ℕ) (i : ℕ) (rest : List ℕ)
     (old new : List Annotation) → HasPushedBlocks s sizes block i rest old new → length sizes ≤ i
-    → (tss : List (List Tal)) → AreSoundLists (split_by_sizes sizes block) s tss → new ≡ old
+    → (tss : List (List Tal)) → AreSoundBlocks (split_by_sizes sizes block) s tss → new ≡ old
     ++ flat_map (tal_annotations s) (all_tals tss)
 pushed-all s sizes block i rest old new h over tss a =
     let over' : split_by_sizes (drop i sizes) rest ≡ [] =
     ap (λ (ss : List ℕ). split_by_sizes ss rest) (drop_of_length-le sizes over) in
-    let none = none-left s h.left (subst (λ (x : List (List ℕ)). AreSoundLists x s h.left) over'
+    let none = none-left s h.left (subst (λ (x : List (List ℕ)). AreSoundBlocks x s h.left) over'
     h.are_left) in
     let same = sound-one s (split_by_sizes sizes block) h.all tss h.are_all a in
     sym (append-nil new)
@@ -237,9 +238,9 @@ pushed-all s sizes block i rest old new h over tss a =
 
 -- ---- the list of what is read
 
-sound-lists : (s : ℕ) (bs : List (List ℕ)) (tss : List (List Tal)) → AreBlocks bs tss →
+sound-lists : (s : ℕ) (bs : List (List ℕ)) (tss : List (List Tal)) → AreTalBlocks bs tss →
     HaveUtf8Texts (all_tals tss) → AllByRecursion (IsTalInWindow s) (all_tals tss) →
-    AreSoundLists bs s tss
+    AreSoundBlocks bs s tss
 sound-lists s [] [] l g w = tt
 sound-lists s [] (ts ∷ tss) l g w = absurd l
 sound-lists s (b ∷ bs) [] l g w = absurd l
@@ -275,7 +276,7 @@ pub record HasFirst (s : ℕ) (first : List ℕ) (later : List (List ℕ)) (list
   pub others : List (List Tal)
   pub sound : AreSoundTals first s tals
   pub timed : HasTimeKeepingTal tals
-  pub rest : AreSoundLists later s others
+  pub rest : AreSoundBlocks later s others
   pub list_is : list ≡ annotations s tals ++ flat_map (tal_annotations s) (all_tals others)
 
 pub has-first : (s : ℕ) (p : Place) (first : List ℕ) (later : List (List ℕ)) (start : ℕ)
@@ -284,8 +285,8 @@ pub has-first : (s : ℕ) (p : Place) (first : List ℕ) (later : List (List ℕ
 has-first s p first later start list r =
     at r.tals (sound-lists s (first ∷ later) r.tals r.lists r.good r.window) r.timed r.list_is
   where
-    at : (tss : List (List Tal)) → AreSoundLists (first ∷ later) s tss →
-        HasTimeKeepingTal (first_tals tss) →
+    at : (tss : List (List Tal)) → AreSoundBlocks (first ∷ later) s tss →
+        HasTimeKeepingTal (first_block_tals tss) →
         list ≡ annotations s (all_tals tss) → HasFirst s first later list
     at [] a timed e = absurd a
     at (ts ∷ tss) a timed e = record {

@@ -4,7 +4,8 @@ use Rattle.std.proofs.Common.{neg_ℤ, Option, Some, None}
 use Rattle.std.proofs.lemmas.Bool.{cases_eq}
 use Rattle.edf_time.proofs.Cited.{some-value}
 use Rattle.edf_tal.specs.Tal.{Tal}
-use Rattle.edf_tal.specs.Inside.Scan.{Lacks, NoTal, IsTimes, IsHead, EndsWith20, IsLeadingTal}
+use Rattle.edf_tal.specs.Inside.Scan.{Lacks, NoTal, IsSecondsAndDuration, IsOnsetAndDuration}
+use Rattle.edf_tal.specs.Inside.Scan.{IsEmptyOrEndsWith20, IsLeadingTal}
 use Rattle.edf_tal.proofs.Heads.{alone, from-alone, both, from-both, no-head, head-signed}
 use Rattle.edf_tal.proofs.Heads.{head-plus, head-minus, neither, IsEnded-ended, no-zero-byte}
 use Rattle.edf_tal.proofs.Heads.{no-twenty, front-sides, front-made}
@@ -40,8 +41,8 @@ split c (b ∷ bytes) =
     ]
 
 -- an onset's decimal, and a duration or none
-pub times : (bytes : List ℕ) → ((n : ℕ) × (d : Option ℕ) × IsTimes bytes n d)
-    ⊎ ((n : ℕ) (d : Option ℕ) → ¬ IsTimes bytes n d)
+pub times : (bytes : List ℕ) → ((n : ℕ) × (d : Option ℕ) × IsSecondsAndDuration bytes n d)
+    ⊎ ((n : ℕ) (d : Option ℕ) → ¬ IsSecondsAndDuration bytes n d)
 times bytes =
     elim (split 21 bytes) [
       | inl s ↦ elim (some-value s.prefix) [
@@ -60,30 +61,30 @@ times bytes =
     ]
 
 -- after a sign
-signed : (b : ℕ) (bytes : List ℕ) (n : ℕ) (d : Option ℕ) → IsTimes bytes n d
-    → ((z : ℤ) × (d : Option ℕ) × IsHead (b ∷ bytes) z d)
-    ⊎ ((z : ℤ) (d : Option ℕ) → ¬ IsHead (b ∷ bytes) z d)
+signed : (b : ℕ) (bytes : List ℕ) (n : ℕ) (d : Option ℕ) → IsSecondsAndDuration bytes n d
+    → ((z : ℤ) × (d : Option ℕ) × IsOnsetAndDuration (b ∷ bytes) z d)
+    ⊎ ((z : ℤ) (d : Option ℕ) → ¬ IsOnsetAndDuration (b ∷ bytes) z d)
 signed b bytes n d t =
     elim (cases_eq b 43) [
       | inl is ↦ inl (
         pos n,
         d,
-        subst (λ (x : ℕ). IsHead (x ∷ bytes) (pos n) d) (sym is)
+        subst (λ (x : ℕ). IsOnsetAndDuration (x ∷ bytes) (pos n) d) (sym is)
             (head-plus bytes n d t),
       )
       | inr not-plus ↦ elim (cases_eq b 45) [
         | inl is ↦ inl (
           neg_ℤ (pos n),
           d,
-          subst (λ (x : ℕ). IsHead (x ∷ bytes) (neg_ℤ (pos n)) d) (sym is)
+          subst (λ (x : ℕ). IsOnsetAndDuration (x ∷ bytes) (neg_ℤ (pos n)) d) (sym is)
               (head-minus bytes n d t),
         )
         | inr not-minus ↦ inr (λ z e. neither b bytes z e not-plus not-minus)
       ]
     ]
 
-pub head : (bytes : List ℕ) → ((z : ℤ) × (d : Option ℕ) × IsHead bytes z d)
-    ⊎ ((z : ℤ) (d : Option ℕ) → ¬ IsHead bytes z d)
+pub head : (bytes : List ℕ) → ((z : ℤ) × (d : Option ℕ) × IsOnsetAndDuration bytes z d)
+    ⊎ ((z : ℤ) (d : Option ℕ) → ¬ IsOnsetAndDuration bytes z d)
 head [] = inr no-head
 head (b ∷ bytes) =
     elim (times bytes) [
@@ -91,7 +92,7 @@ head (b ∷ bytes) =
       | inr never ↦ inr (λ z d h. let s = head-signed b bytes z d h in never s.n d s.times)
     ]
 
-ends : (bytes : List ℕ) → EndsWith20 bytes ⊎ (¬ EndsWith20 bytes)
+ends : (bytes : List ℕ) → IsEmptyOrEndsWith20 bytes ⊎ (¬ IsEmptyOrEndsWith20 bytes)
 ends [] = inl tt
 ends (b ∷ []) = cases_eq b 20
 ends (b ∷ c ∷ bytes) = ends (c ∷ bytes)
@@ -128,7 +129,7 @@ module _ (bytes body rest head-bytes texts : List ℕ) (no-zeros : Lacks 0 body)
         | inr never ↦ inr (λ front later t f s.
             let at = front-sides bytes body rest head-bytes texts front later t no-zeros parts
             no-twenties sides f s in
-            never (subst EndsWith20 (sym at.texts) (IsEnded-ended t.texts)))
+            never (subst IsEmptyOrEndsWith20 (sym at.texts) (IsEnded-ended t.texts)))
       ]
 
 pub front : (bytes : List ℕ) → Front bytes ⊎ NoTal bytes

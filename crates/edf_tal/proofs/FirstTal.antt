@@ -5,10 +5,10 @@ use Rattle.std.specs.Prelude.{IsTrue, ◌↔◌}
 use Rattle.std.specs.List.{AllByRecursion, flat_map}
 use Rattle.std.proofs.lemmas.List.Sums.{sum_by-cons}
 use Rattle.edf_tal.specs.Tal.{Tal, Annotation, IsTal, IsText, terminated, AreTalsAndZeros}
-use Rattle.edf_tal.specs.Tal.{AreBlocks}
+use Rattle.edf_tal.specs.Tal.{AreTalBlocks}
 use Rattle.edf_tal.specs.Tal.{all_tals, HaveUtf8Texts, IsTalInWindow, instant, tal_annotations}
 use Rattle.edf_tal.specs.Inside.Scan.{IsLeadingTal}
-use Rattle.edf_tal.specs.Inside.Blocks.{AreSurveyed}
+use Rattle.edf_tal.specs.Inside.Blocks.{HaveSums}
 use Rattle.edf_tal.specs.declared.blocks.Sums.{Sums}
 use Rattle.edf_tal.proofs.Unique.{one-tal}
 use Rattle.edf_tal.proofs.Fronts.{same-front, HasEnd-tal}
@@ -19,7 +19,7 @@ use Rattle.edf_tal.proofs.Totals.{text_bytes, note_of}
 pub record Known (bs : List (List ℕ)) (s : ℕ) (sums : Sums) (t : Tal) : Type 0 where
   pub more : List Tal
   pub others : List (List Tal)
-  pub lists : AreBlocks bs ((t ∷ more) ∷ others)
+  pub lists : AreTalBlocks bs ((t ∷ more) ∷ others)
   pub good : HaveUtf8Texts (all_tals ((t ∷ more) ∷ others))
   pub window : IsTrue sums.in_window ↔ AllByRecursion (IsTalInWindow s)
       (all_tals ((t ∷ more) ∷ others))
@@ -38,7 +38,7 @@ first-of b f more (u ∷ us) t (front, zeros, parts, (g, r, same, is, others), a
     (us, ap (λ (x : Tal). x ∷ us) (one-tal g u t is (rw (both.prefix) s)))
 
 first-list : (b : List ℕ) (later : List (List ℕ)) (f more : List ℕ) (tss : List (List Tal))
-    (t : Tal) → AreBlocks (b ∷ later) tss → IsTal f t → b ≡ f ++ more
+    (t : Tal) → AreTalBlocks (b ∷ later) tss → IsTal f t → b ≡ f ++ more
     → (us : List Tal) × (others : List (List Tal)) × (tss ≡ (t ∷ us) ∷ others)
 first-list b later f more [] t l s e = absurd l
 first-list b later f more (ts ∷ tss) t l s e =
@@ -46,14 +46,14 @@ first-list b later f more (ts ∷ tss) t l s e =
     (first.0, tss, ap (λ (x : List Tal). x ∷ tss) first.1)
 
 pub known : (b : List ℕ) (later : List (List ℕ)) (texts rest : List ℕ) (s : ℕ) (sums : Sums)
-    (t : Tal) → AreSurveyed (b ∷ later) s sums → IsLeadingTal b texts rest t
+    (t : Tal) → HaveSums (b ∷ later) s sums → IsLeadingTal b texts rest t
     → Known (b ∷ later) s sums t
 known b later texts rest s sums t v f =
     let first = first-list b later f.prefix rest v.tals t v.lists f.tal f.parts in
     record {
       more = first.0;
       others = first.1;
-      lists = subst (AreBlocks (b ∷ later)) first.2 v.lists;
+      lists = subst (AreTalBlocks (b ∷ later)) first.2 v.lists;
       good = subst (λ (ts : List (List Tal)). HaveUtf8Texts (all_tals ts)) first.2 v.good;
       window = subst (λ (ts : List (List Tal)).
           IsTrue sums.in_window ↔ AllByRecursion (IsTalInWindow s) (all_tals ts)) first.2 v.window;

@@ -8,7 +8,8 @@ use Rattle.std.proofs.lemmas.Bool.{cases_eq}
 use Rattle.std.proofs.lemmas.List.{append-nil, length-append, take_all}
 use Rattle.edf_time.specs.Decimal.{IsDecimal, IsFine, IsSeconds}
 use Rattle.edf_tal.specs.Tal.{Tal, IsTal, IsOnset, IsDurationPart, IsText, terminated}
-use Rattle.edf_tal.specs.Inside.Scan.{Lacks, NoTal, IsTimes, IsHead, EndsWith20, IsLeadingTal}
+use Rattle.edf_tal.specs.Inside.Scan.{Lacks, NoTal, IsSecondsAndDuration, IsOnsetAndDuration}
+use Rattle.edf_tal.specs.Inside.Scan.{IsEmptyOrEndsWith20, IsLeadingTal}
 use Rattle.edf_time.proofs.Cited.{same-parts}
 use Rattle.edf_tal.proofs.Unique.{same-sides, not-both, Lacks-append, Lacks-onset, Lacks-duration}
 use Rattle.edf_tal.proofs.Unique.{Lacks-seconds}
@@ -21,7 +22,7 @@ too-fine text w f n d bad s =
     bad (subst (λ (x : List ℕ). IsFine x)
     (sym (same-parts text w f s.whole s.fraction d s.parts).fraction) s.fine)
 
-pub alone : (bytes : List ℕ) (n : ℕ) → IsSeconds bytes n → IsTimes bytes n None
+pub alone : (bytes : List ℕ) (n : ℕ) → IsSeconds bytes n → IsSecondsAndDuration bytes n None
 alone bytes n s = record {
   onset = bytes;
   duration = [];
@@ -36,13 +37,13 @@ alone-back bytes o x n None lacks e s is = (n, rw (e, is, append-nil o) s)
 alone-back bytes o x n (Some m) lacks e s (text, is, t) =
     absurd (not-both 21 bytes o text lacks (e ∙ ap (λ (w : List ℕ). o ++ w) is))
 
-pub from-alone : (bytes : List ℕ) (n : ℕ) (d : Option ℕ) → Lacks 21 bytes → IsTimes bytes n d →
-    (k : ℕ) × IsSeconds bytes k
+pub from-alone : (bytes : List ℕ) (n : ℕ) (d : Option ℕ) → Lacks 21 bytes →
+    IsSecondsAndDuration bytes n d → (k : ℕ) × IsSeconds bytes k
 from-alone bytes n d lacks t = alone-back bytes t.onset t.duration n d lacks t.parts t.is_seconds
     t.is_duration
 
 pub both : (bytes o x : List ℕ) (m n : ℕ) → bytes ≡ o ++ 21 ∷ x → IsSeconds o m → IsSeconds x n →
-    IsTimes bytes m (Some n)
+    IsSecondsAndDuration bytes m (Some n)
 both bytes o x m n e s t = record {
   onset = o;
   duration = 21 ∷ x;
@@ -66,7 +67,7 @@ both-back bytes o x p y n (Some m) lacks e f s (text, is, t) =
     record { onset = (n, rw (same.prefix) s); duration = (m, rw (same.suffix) t) }
 
 pub from-both : (bytes o x : List ℕ) (n : ℕ) (d : Option ℕ) → Lacks 21 o → bytes ≡ o ++ 21 ∷ x →
-    IsTimes bytes n d → Both o x
+    IsSecondsAndDuration bytes n d → Both o x
 from-both bytes o x n d lacks e t =
     both-back bytes o x t.onset t.duration n d lacks e t.parts t.is_seconds t.is_duration
 
@@ -74,7 +75,7 @@ from-both bytes o x n d lacks e t =
 pub record Signed (b : ℕ) (bytes : List ℕ) (d : Option ℕ) : Type 0 where
   pub sign : (b ≡ 43) ⊎ (b ≡ 45)
   pub n : ℕ
-  pub times : IsTimes bytes n d
+  pub times : IsSecondsAndDuration bytes n d
 
 signed-of : (b : ℕ) (bytes o x : List ℕ) (z : ℤ) (d : Option ℕ) → b ∷ bytes ≡ o ++ x → IsOnset o z →
     IsDurationPart x d → Signed b bytes d
@@ -98,12 +99,12 @@ signed-of b bytes (c ∷ o) x z d e (inr (is, (n, s, v))) q =
           record { onset = o; duration = x; parts = rest; is_seconds = s; is_duration = q };
     }
 
-pub head-signed : (b : ℕ) (bytes : List ℕ) (z : ℤ) (d : Option ℕ) → IsHead (b ∷ bytes) z d →
-    Signed b bytes d
+pub head-signed : (b : ℕ) (bytes : List ℕ) (z : ℤ) (d : Option ℕ) →
+    IsOnsetAndDuration (b ∷ bytes) z d → Signed b bytes d
 head-signed b bytes z d h = signed-of b bytes h.onset h.duration z d h.parts h.is_onset
     h.is_duration
 
-pub no-head : (z : ℤ) (d : Option ℕ) → ¬ IsHead [] z d
+pub no-head : (z : ℤ) (d : Option ℕ) → ¬ IsOnsetAndDuration [] z d
 no-head z d h = none h.onset h.parts h.is_onset
   where
     none : (o : List ℕ) → [] ≡ o ++ h.duration → IsOnset o z → ⊥
@@ -111,8 +112,8 @@ no-head z d h = none h.onset h.parts h.is_onset
     none (c ∷ o) e p = cc
 
 -- the head of a sign
-pub head-plus : (bytes : List ℕ) (n : ℕ) (d : Option ℕ) → IsTimes bytes n d →
-    IsHead (43 ∷ bytes) (pos n) d
+pub head-plus : (bytes : List ℕ) (n : ℕ) (d : Option ℕ) → IsSecondsAndDuration bytes n d →
+    IsOnsetAndDuration (43 ∷ bytes) (pos n) d
 head-plus bytes n d t = record {
   onset = 43 ∷ t.onset;
   duration = t.duration;
@@ -122,8 +123,8 @@ head-plus bytes n d t = record {
   is_duration = t.is_duration;
 }
 
-pub head-minus : (bytes : List ℕ) (n : ℕ) (d : Option ℕ) → IsTimes bytes n d →
-    IsHead (45 ∷ bytes) (neg_ℤ (pos n)) d
+pub head-minus : (bytes : List ℕ) (n : ℕ) (d : Option ℕ) → IsSecondsAndDuration bytes n d →
+    IsOnsetAndDuration (45 ∷ bytes) (neg_ℤ (pos n)) d
 head-minus bytes n d t = record {
   onset = 45 ∷ t.onset;
   duration = t.duration;
@@ -142,27 +143,28 @@ head-apart (b ∷ head) some = let e : suc (length head) - 1 ≡ length head = o
 
 -- no other sign
 pub neither : (b : ℕ) (bytes : List ℕ) (z : ℤ) (d : Option ℕ) → b ≢ 43 → b ≢ 45 →
-    ¬ IsHead (b ∷ bytes) z d
+    ¬ IsOnsetAndDuration (b ∷ bytes) z d
 neither b bytes z d p q h = elim (head-signed b bytes z d h).sign [ inl e ↦ p e | inr e ↦ q e ]
 
 -- the last byte
-IsEnded-last : (b : ℕ) (bytes : List ℕ) → EndsWith20 (b ∷ bytes) →
+IsEnded-last : (b : ℕ) (bytes : List ℕ) → IsEmptyOrEndsWith20 (b ∷ bytes) →
     get_or (b ∷ bytes) (length bytes) 0 ≡ 20
 IsEnded-last b [] e = e
 IsEnded-last b (c ∷ bytes) e = IsEnded-last c bytes e
 
 last-IsEnded : (b : ℕ) (bytes : List ℕ) → get_or (b ∷ bytes) (length bytes) 0 ≡ 20 →
-    EndsWith20 (b ∷ bytes)
+    IsEmptyOrEndsWith20 (b ∷ bytes)
 last-IsEnded b [] e = e
 last-IsEnded b (c ∷ bytes) e = last-IsEnded c bytes e
 
-IsEnded-append : (a b : List ℕ) → 0 < length b → EndsWith20 b → EndsWith20 (a ++ b)
+IsEnded-append : (a b : List ℕ) → 0 < length b → IsEmptyOrEndsWith20 b →
+    IsEmptyOrEndsWith20 (a ++ b)
 IsEnded-append [] b some e = e
 IsEnded-append (x ∷ []) [] some e = absurd (omega arith)
 IsEnded-append (x ∷ []) (y ∷ b) some e = e
 IsEnded-append (x ∷ c ∷ a) b some e = IsEnded-append (c ∷ a) b some e
 
-pub IsEnded-ended : (texts : List (List ℕ)) → EndsWith20 (terminated texts)
+pub IsEnded-ended : (texts : List (List ℕ)) → IsEmptyOrEndsWith20 (terminated texts)
 IsEnded-ended [] = tt
 IsEnded-ended (x ∷ []) = rw (append-nil (x ++ 20 ∷ []))
     (IsEnded-append x (20 ∷ []) (omega arith) refl)
@@ -175,8 +177,8 @@ IsEnded-ended (x ∷ y ∷ texts) = IsEnded-append (x
 
 -- the test of the last byte
 pub ended-tests : (bytes : List ℕ) → 0 < length bytes →
-    (IsTrue (nat_eq (get_or bytes (length bytes - 1) 0) 20) → EndsWith20 bytes)
-    × (EndsWith20 bytes → IsTrue (nat_eq (get_or bytes (length bytes - 1) 0) 20))
+    (IsTrue (nat_eq (get_or bytes (length bytes - 1) 0) 20) → IsEmptyOrEndsWith20 bytes)
+    × (IsEmptyOrEndsWith20 bytes → IsTrue (nat_eq (get_or bytes (length bytes - 1) 0) 20))
 ended-tests [] some = absurd (omega arith)
 ended-tests (b ∷ bytes) some =
     let at : suc (length bytes) - 1 ≡ length bytes = omega arith in (
@@ -204,7 +206,7 @@ onto b tail nz nt some t = go t.texts t.parts t.are_texts
       are_texts = (((nz, nt), a.0), a.1);
     }
 
-pub texts-of : (tail : List ℕ) → Lacks 0 tail → EndsWith20 tail → Texts tail
+pub texts-of : (tail : List ℕ) → Lacks 0 tail → IsEmptyOrEndsWith20 tail → Texts tail
 texts-of [] nz e = record { texts = []; parts = refl; are_texts = tt }
 texts-of (b ∷ []) nz e = record { texts = [] ∷ []; parts = rw e refl; are_texts = (tt, tt) }
 texts-of (b ∷ c ∷ tail) nz e =
@@ -246,7 +248,7 @@ no-twenty bytes body rest lacks e none front later t f s =
     (front-body bytes body rest front later t lacks e f s).body_is
 
 pub record Sides (h x : List ℕ) (t : Tal) : Type 0 where
-  pub head : IsHead h t.onset t.duration
+  pub head : IsOnsetAndDuration h t.onset t.duration
   pub texts : x ≡ terminated t.texts
 
 pub front-sides : (bytes body rest head texts front later : List ℕ) (t : Tal) → Lacks 0 body →
@@ -270,7 +272,8 @@ front-sides bytes body rest head texts front later t lacks e lacks' f g s =
     }
 
 pub front-made : (bytes body rest head texts : List ℕ) (z : ℤ) (d : Option ℕ) → Lacks 0 body →
-    bytes ≡ body ++ 0 ∷ rest → body ≡ head ++ 20 ∷ texts → IsHead head z d → EndsWith20 texts
+    bytes ≡ body ++ 0 ∷ rest → body ≡ head ++ 20 ∷ texts → IsOnsetAndDuration head z d →
+    IsEmptyOrEndsWith20 texts
     → (x : Texts texts) × IsLeadingTal bytes texts rest
     (record { onset = z; duration = d; texts = x.texts })
 front-made bytes body rest head texts z d lacks e f h ends =

@@ -7,12 +7,12 @@ use Rattle.std.proofs.lemmas.Grind.{flat_map-append}
 use Rattle.std.proofs.lemmas.List.{append-nil, length-append, length-take, take-append-drop}
 use Rattle.std.proofs.lemmas.List.{take_at}
 use Rattle.std.proofs.lemmas.List.Sums.{sum_by-append, sum_by-cons}
-use Rattle.edf_tal.specs.Tal.{Tal, Annotation, AreTalsAndZeros, AreBlocks, all_tals, HaveUtf8Texts}
-use Rattle.edf_tal.specs.Tal.{IsTalInWindow, tal_annotations}
-use Rattle.edf_tal.specs.Condition.{IsInvalidUtf8At, IsLongestTalPrefix, IsMalformedAt}
-use Rattle.edf_tal.specs.Condition.{HaveInvalidUtf8At}
+use Rattle.edf_tal.specs.Tal.{Tal, Annotation, AreTalsAndZeros, AreTalBlocks, all_tals}
+use Rattle.edf_tal.specs.Tal.{HaveUtf8Texts, IsTalInWindow, tal_annotations}
+use Rattle.edf_tal.specs.Condition.{HasNonUtf8TextAt, IsLongestTalPrefix, AreMalformedAt}
+use Rattle.edf_tal.specs.Condition.{HaveNonUtf8TextAt}
 use Rattle.edf_tal.specs.Inside.Scan.{NoTal, AreZeros, FollowsTals, IsSurvey}
-use Rattle.edf_tal.specs.Inside.Blocks.{AreSurveyed, HasForm}
+use Rattle.edf_tal.specs.Inside.Blocks.{HaveSums, HasForm}
 use Rattle.edf_tal.specs.declared.blocks.Sums.{Sums}
 use Rattle.edf_tal.specs.declared.blocks.Form.{Form}
 use Rattle.edf_tal.specs.declared.blocks.Form.TheVariants.{Good, BadText}
@@ -44,8 +44,8 @@ IsGood t = AllByRecursion IsUtf8 t.texts
 
 -- ---- blocks that are TALs and zeros
 
-pub lists-append : (bs cs : List (List ℕ)) (ts us : List (List Tal)) → AreBlocks bs ts →
-    AreBlocks cs us → AreBlocks (bs ++ cs) (ts ++ us)
+pub lists-append : (bs cs : List (List ℕ)) (ts us : List (List Tal)) → AreTalBlocks bs ts →
+    AreTalBlocks cs us → AreTalBlocks (bs ++ cs) (ts ++ us)
 lists-append [] cs [] us p q = q
 lists-append [] cs (t ∷ ts) us p q = absurd p
 lists-append (b ∷ bs) cs [] us p q = absurd p
@@ -65,30 +65,30 @@ all_tals-one ts = sym (append-nil ts)
 
 -- the TALs of a block among others
 block-at : (front back : List (List ℕ)) (b : List ℕ) (tss : List (List Tal)) →
-    AreBlocks (front ++ b ∷ back) tss → (ts : List Tal) × AreTalsAndZeros b ts
+    AreTalBlocks (front ++ b ∷ back) tss → (ts : List Tal) × AreTalsAndZeros b ts
 block-at [] back b [] l = absurd l
 block-at [] back b (ts ∷ tss) l = (ts, l.0)
 block-at (f ∷ front) back b [] l = absurd l
 block-at (f ∷ front) back b (ts ∷ tss) l = block-at front back b tss l.1
 
-pub not-broken : (bs : List (List ℕ)) (tss : List (List Tal)) (at : ℕ) → AreBlocks bs tss →
-    IsMalformedAt bs at → ⊥
+pub not-broken : (bs : List (List ℕ)) (tss : List (List Tal)) (at : ℕ) → AreTalBlocks bs tss →
+    AreMalformedAt bs at → ⊥
 not-broken bs tss at l h =
     let b = block-at h.prefix h.suffix h.block tss
-    (subst (λ (x : List (List ℕ)). AreBlocks x tss) h.parts l) in
+    (subst (λ (x : List (List ℕ)). AreTalBlocks x tss) h.parts l) in
     h.broken b.0 b.1
 
 -- each of them is
-pub each-whole : (bs : List (List ℕ)) (tss : List (List Tal)) → AreBlocks bs tss →
+pub each-whole : (bs : List (List ℕ)) (tss : List (List Tal)) → AreTalBlocks bs tss →
     AllByRecursion (λ (b : List ℕ). (ts : List Tal) × AreTalsAndZeros b ts) bs
 each-whole [] tss l = tt
 each-whole (b ∷ bs) [] l = absurd l
 each-whole (b ∷ bs) (ts ∷ tss) l = ((ts, l.0), each-whole bs tss l.1)
 
 -- where all texts are UTF-8, no block has one that is not
-pub each-good : (bs : List (List ℕ)) (tss : List (List Tal)) → AreBlocks bs tss →
+pub each-good : (bs : List (List ℕ)) (tss : List (List Tal)) → AreTalBlocks bs tss →
     HaveUtf8Texts (all_tals tss) →
-    AllByRecursion (λ (b : List ℕ). (at : ℕ) → ¬ IsInvalidUtf8At b at) bs
+    AllByRecursion (λ (b : List ℕ). (at : ℕ) → ¬ HasNonUtf8TextAt b at) bs
 each-good [] tss l g = tt
 each-good (b ∷ bs) [] l g = absurd l
 each-good (b ∷ bs) (ts ∷ tss) l g = (
@@ -100,10 +100,10 @@ block-in : (front back : List (List ℕ)) (b : List ℕ) (P : List ℕ → Type 
     AllByRecursion P (front ++ b ∷ back) → P b
 block-in front back b P a = (all-back P front (b ∷ back) a).0
 
-pub not-bad : (bs : List (List ℕ)) (tss : List (List Tal)) (at : ℕ) → AreBlocks bs tss →
-    HaveUtf8Texts (all_tals tss) → HaveInvalidUtf8At bs at → ⊥
+pub not-bad : (bs : List (List ℕ)) (tss : List (List Tal)) (at : ℕ) → AreTalBlocks bs tss →
+    HaveUtf8Texts (all_tals tss) → HaveNonUtf8TextAt bs at → ⊥
 not-bad bs tss at l g h =
-    let P = λ (b : List ℕ). (at : ℕ) → ¬ IsInvalidUtf8At b at in
+    let P = λ (b : List ℕ). (at : ℕ) → ¬ HasNonUtf8TextAt b at in
     block-in h.prefix h.suffix h.block P (subst (AllByRecursion P) h.parts (each-good bs tss l g))
     h.offset h.bad
 
@@ -134,7 +134,7 @@ one-offset b m n p q =
     let down = q.longest m p.tals p.within p.prefix in
     omega arith
 
-pub one-broken : (bs : List (List ℕ)) (m n : ℕ) → IsMalformedAt bs m → IsMalformedAt bs n → m ≡ n
+pub one-broken : (bs : List (List ℕ)) (m n : ℕ) → AreMalformedAt bs m → AreMalformedAt bs n → m ≡ n
 one-broken bs m n h k =
     let s = first-without (λ (b : List ℕ). (ts : List Tal) × AreTalsAndZeros b ts) h.prefix k.prefix
     h.suffix k.suffix h.block k.block
@@ -148,17 +148,17 @@ one-broken bs m n h k =
     let before : sum_by length h.prefix ≡ sum_by length k.prefix = ap (sum_by length) s.prefix in
     omega arith
 
-pub one-bad-place : (bs : List (List ℕ)) (m n : ℕ) → HaveInvalidUtf8At bs m →
-    HaveInvalidUtf8At bs n → m ≡ n
+pub one-bad-place : (bs : List (List ℕ)) (m n : ℕ) → HaveNonUtf8TextAt bs m →
+    HaveNonUtf8TextAt bs n → m ≡ n
 one-bad-place bs m n h k =
-    let s = first-without (λ (b : List ℕ). (at : ℕ) → ¬ IsInvalidUtf8At b at) h.prefix k.prefix
+    let s = first-without (λ (b : List ℕ). (at : ℕ) → ¬ HasNonUtf8TextAt b at) h.prefix k.prefix
     h.suffix
     k.suffix h.block k.block
     (each-good h.prefix h.good.0 h.good.1 h.good.2) (each-good k.prefix k.good.0 k.good.1 k.good.2)
     (λ none. none h.offset h.bad) (λ none. none k.offset k.bad) (sym h.parts ∙ k.parts) in
     let offset : h.offset ≡ k.offset =
     one-bad-text h.block h.offset k.offset h.bad
-    (subst (λ (b : List ℕ). IsInvalidUtf8At b k.offset) (sym s.block) k.bad) in
+    (subst (λ (b : List ℕ). HasNonUtf8TextAt b k.offset) (sym s.block) k.bad) in
     let left : m ≡ sum_by length h.prefix + h.offset = h.at_is in
     let right : n ≡ sum_by length k.prefix + k.offset = k.at_is in
     let before : sum_by length h.prefix ≡ sum_by length k.prefix = ap (sum_by length) s.prefix in
@@ -166,8 +166,8 @@ one-bad-place bs m n h k =
 
 -- ---- blocks, and those after them
 
-pub broken-front : (bs cs : List (List ℕ)) (at : ℕ) → IsMalformedAt bs at →
-    IsMalformedAt (bs ++ cs) at
+pub broken-front : (bs cs : List (List ℕ)) (at : ℕ) → AreMalformedAt bs at →
+    AreMalformedAt (bs ++ cs) at
 broken-front bs cs at h = record {
   prefix = h.prefix;
   block = h.block;
@@ -181,8 +181,8 @@ broken-front bs cs at h = record {
   at_is = h.at_is;
 }
 
-pub broken-back : (bs cs : List (List ℕ)) (tss : List (List Tal)) (at : ℕ) → AreBlocks bs tss →
-    IsMalformedAt cs at → IsMalformedAt (bs ++ cs) (sum_by length bs + at)
+pub broken-back : (bs cs : List (List ℕ)) (tss : List (List Tal)) (at : ℕ) → AreTalBlocks bs tss →
+    AreMalformedAt cs at → AreMalformedAt (bs ++ cs) (sum_by length bs + at)
 broken-back bs cs tss at l h = record {
   prefix = bs ++ h.prefix;
   block = h.block;
@@ -197,8 +197,8 @@ broken-back bs cs tss at l h = record {
       omega (arith, sum_by-append length bs h.prefix);
 }
 
-pub bad-front : (bs cs : List (List ℕ)) (at : ℕ) → HaveInvalidUtf8At bs at →
-    HaveInvalidUtf8At (bs ++ cs) at
+pub bad-front : (bs cs : List (List ℕ)) (at : ℕ) → HaveNonUtf8TextAt bs at →
+    HaveNonUtf8TextAt (bs ++ cs) at
 bad-front bs cs at h = record {
   prefix = h.prefix;
   block = h.block;
@@ -211,8 +211,8 @@ bad-front bs cs at h = record {
   at_is = h.at_is;
 }
 
-pub bad-back : (bs cs : List (List ℕ)) (s : ℕ) (sums : Sums) (at : ℕ) → AreSurveyed bs s sums →
-    HaveInvalidUtf8At cs at → HaveInvalidUtf8At (bs ++ cs) (sum_by length bs + at)
+pub bad-back : (bs cs : List (List ℕ)) (s : ℕ) (sums : Sums) (at : ℕ) → HaveSums bs s sums →
+    HaveNonUtf8TextAt cs at → HaveNonUtf8TextAt (bs ++ cs) (sum_by length bs + at)
 bad-back bs cs s sums at v h = record {
   prefix = bs ++ h.prefix;
   block = h.block;
@@ -239,8 +239,8 @@ both a b = record {
       a.text_bytes + b.text_bytes;
 }
 
-pub surveyed-append : (bs cs : List (List ℕ)) (s : ℕ) (a b : Sums) → AreSurveyed bs s a →
-    AreSurveyed cs s b → AreSurveyed (bs ++ cs) s (both a b)
+pub surveyed-append : (bs cs : List (List ℕ)) (s : ℕ) (a b : Sums) → HaveSums bs s a →
+    HaveSums cs s b → HaveSums (bs ++ cs) s (both a b)
 surveyed-append bs cs s a b v w =
     let tals = all_tals-append v.tals w.tals in
     let notes = notes-append s v.tals w.tals in
@@ -278,12 +278,13 @@ surveyed-append bs cs s a b v w =
 
 -- which lists of TALs blocks of this form are
 pub form-lists : (bs : List (List ℕ)) (s : ℕ) (f : Form) → HasForm bs s f → (tss : List (List Tal))
-    × AreBlocks bs tss
+    × AreTalBlocks bs tss
 form-lists bs s (Good sums) v = (v.tals, v.lists)
 form-lists bs s (BadText at) h = h.0
 
-pub lists-both : (bs cs : List (List ℕ)) → ((ts : List (List Tal)) × AreBlocks bs ts) →
-    ((us : List (List Tal)) × AreBlocks cs us) → (tss : List (List Tal)) × AreBlocks (bs ++ cs) tss
+pub lists-both : (bs cs : List (List ℕ)) → ((ts : List (List Tal)) × AreTalBlocks bs ts) →
+    ((us : List (List Tal)) × AreTalBlocks cs us) →
+    (tss : List (List Tal)) × AreTalBlocks (bs ++ cs) tss
 lists-both bs cs p q = (p.0 ++ q.0, lists-append bs cs p.0 q.0 p.1 q.1)
 
 pub form-append : (bs cs : List (List ℕ)) (s : ℕ) (f g : Form) → HasForm bs s f → HasForm cs s g →
@@ -321,7 +322,7 @@ longest-front block rest b last =
     })
 
 pub broken-one : (block rest : List ℕ) → FollowsTals block rest → NoTal rest → ¬ AreZeros rest →
-    IsMalformedAt (block ∷ []) (length block - length rest)
+    AreMalformedAt (block ∷ []) (length block - length rest)
 broken-one block rest b last not-zeros = record {
   prefix = [];
   block = block;
@@ -335,7 +336,7 @@ broken-one block rest b last not-zeros = record {
 }
 
 pub form-bad : (block rest : List ℕ) (s at : ℕ) → FollowsTals block rest → AreZeros rest →
-    IsInvalidUtf8At block at → HasForm (block ∷ []) s (BadText at)
+    HasNonUtf8TextAt block at → HasForm (block ∷ []) s (BadText at)
 form-bad block rest s at b zeros bad = (
   (b.tals ∷ [], ((b.prefix, rest, b.parts, b.whole, zeros), tt)),
   record {
@@ -352,7 +353,7 @@ form-bad block rest s at b zeros bad = (
 
 pub surveyed-one : (block rest : List ℕ) (s : ℕ) (in_window : Bool) (count bytes : ℕ) →
     IsSurvey block s rest in_window count bytes → AreZeros rest
-    → AreSurveyed (block ∷ []) s (record {
+    → HaveSums (block ∷ []) s (record {
       in_window = in_window;
       count = count;
       text_bytes =
@@ -371,8 +372,7 @@ surveyed-one block rest s in_window count bytes v zeros =
           one;
     }
 
-pub surveyed-none : (s : ℕ) →
-    AreSurveyed [] s (record { in_window = true; count = 0; text_bytes = 0 })
+pub surveyed-none : (s : ℕ) → HaveSums [] s (record { in_window = true; count = 0; text_bytes = 0 })
 surveyed-none s = record {
   tals = [];
   lists = tt;
@@ -384,7 +384,7 @@ surveyed-none s = record {
 
 -- ---- how much there is
 
-lists-room : (s : ℕ) (bs : List (List ℕ)) (tss : List (List Tal)) → AreBlocks bs tss
+lists-room : (s : ℕ) (bs : List (List ℕ)) (tss : List (List Tal)) → AreTalBlocks bs tss
     → length (flat_map (tal_annotations s) (all_tals tss)) + text_bytes
     (flat_map (tal_annotations s) (all_tals tss)) ≤ sum_by length bs
 lists-room s [] [] l = omega arith
@@ -406,7 +406,7 @@ lists-room s (b ∷ bs) (ts ∷ tss) ((front, zeros, parts, tals, are), more) =
       sum_by-cons length b bs,
     ))
 
-pub surveyed-room : (bs : List (List ℕ)) (s : ℕ) (sums : Sums) → AreSurveyed bs s sums →
+pub surveyed-room : (bs : List (List ℕ)) (s : ℕ) (sums : Sums) → HaveSums bs s sums →
     sums.count + sums.text_bytes ≤ sum_by length bs
 surveyed-room bs s sums v =
     let c : sums.count ≡ length (flat_map (tal_annotations s) (all_tals v.tals)) = v.count_is in
@@ -414,7 +414,7 @@ surveyed-room bs s sums v =
     v.bytes_is in
     omega (arith, lists-room s bs v.tals v.lists)
 
-pub broken-room : (bs : List (List ℕ)) (at : ℕ) → IsMalformedAt bs at → at ≤ sum_by length bs
+pub broken-room : (bs : List (List ℕ)) (at : ℕ) → AreMalformedAt bs at → at ≤ sum_by length bs
 broken-room bs at h =
     let low : h.offset ≤ length h.block = h.longest.within in
     let here : at ≡ sum_by length h.prefix + h.offset = h.at_is in

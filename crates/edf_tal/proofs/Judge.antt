@@ -5,15 +5,15 @@ use Rattle.std.proofs.Common.{arith, refl, sym, ap, ◌∙◌, subst, append_ass
 use Rattle.std.specs.Prelude.{IsTrue}
 use Rattle.std.specs.List.{AllByRecursion, flat_map}
 use Rattle.std.proofs.lemmas.Bool.{cases_lt}
-use Rattle.edf_tal.specs.Tal.{Tal, Annotation, AreTalsAndZeros, AreBlocks, first_tals, all_tals}
-use Rattle.edf_tal.specs.Tal.{HaveUtf8Texts, HasTimeKeepingTal, IsTalInWindow, instant}
+use Rattle.edf_tal.specs.Tal.{Tal, Annotation, AreTalsAndZeros, AreTalBlocks, first_block_tals}
+use Rattle.edf_tal.specs.Tal.{all_tals, HaveUtf8Texts, HasTimeKeepingTal, IsTalInWindow, instant}
 use Rattle.edf_tal.specs.Tal.{tal_annotations, annotations, record_start}
 use Rattle.edf_tal.specs.Block.{BlocksParseTo, BlockParsesTo, IsWithinLimits, StartFitsPlace}
-use Rattle.edf_tal.specs.Condition.{IsMalformedAt, HaveInvalidUtf8At}
-use Rattle.edf_tal.specs.Block.{BlocksHaveFault, IsFirstBlocksFault, IsFirstBlockFault}
+use Rattle.edf_tal.specs.Condition.{AreMalformedAt, HaveNonUtf8TextAt}
+use Rattle.edf_tal.specs.Block.{BlocksHaveFault, BlocksHaveFirstFault, BlockHasFirstFault}
 use Rattle.edf_tal.specs.Block.{tal_fault_number}
-use Rattle.edf_tal.specs.Inside.Scan.{NoTal, IsLeadingTal, KeepsSecond, KeepsOrder}
-use Rattle.edf_tal.specs.Inside.Blocks.{AreSurveyed, HasForm, IsChecked}
+use Rattle.edf_tal.specs.Inside.Scan.{NoTal, IsLeadingTal, StartsInFirstSecond, StartsInOrder}
+use Rattle.edf_tal.specs.Inside.Blocks.{HaveSums, HasForm, IsChecked}
 use Rattle.edf_tal.specs.declared.blocks.Sums.{Sums}
 use Rattle.edf_tal.specs.declared.blocks.Form.{Form}
 use Rattle.edf_tal.specs.declared.blocks.Form.TheVariants.{Good, BadText}
@@ -35,15 +35,15 @@ use Rattle.edf_tal.proofs.FirstTal.{dropped-first}
 
 -- a fault on the TALs of blocks is a fault on those TALs
 on-tals : (P : List (List Tal) → Type 0) (bs : List (List ℕ)) (ts us : List (List Tal)) →
-    AreBlocks bs ts → AreBlocks bs us → P ts → ¬ P us → ⊥
+    AreTalBlocks bs ts → AreTalBlocks bs us → P ts → ¬ P us → ⊥
 on-tals P bs ts us p q h fails = fails (rw (one-lists bs us ts q p) h)
 
 lowest : (e : TalFault) → tal_fault_number e < 22 → ⊥
 lowest (NotTals offset) h = omega arith
 lowest e h = omega arith
 
-pub fault-tal : (bs : List (List ℕ)) (s : ℕ) (p : Place) (at : ℕ) → IsMalformedAt bs at →
-    IsFirstBlocksFault bs s p (NotTals at)
+pub fault-tal : (bs : List (List ℕ)) (s : ℕ) (p : Place) (at : ℕ) → AreMalformedAt bs at →
+    BlocksHaveFirstFault bs s p (NotTals at)
 fault-tal bs s p at broken = record {
   holds = broken;
   first = λ other low. absurd (lowest other low);
@@ -53,23 +53,23 @@ fault-tal bs s p at broken = record {
 pub record IsClear (bs : List (List ℕ)) (s : ℕ) (p : Place) (n : ℕ) (tss : List (List Tal)) : Type 0
   where
     pub known : n ≤ 28
-    pub lists : 22 < n → AreBlocks bs tss
+    pub lists : 22 < n → AreTalBlocks bs tss
     pub good : 23 < n → HaveUtf8Texts (all_tals tss)
-    pub timed : 24 < n → HasTimeKeepingTal (first_tals tss)
-    pub second : 25 < n → (p ≡ First → StartFitsPlace First s (first_tals tss))
+    pub timed : 24 < n → HasTimeKeepingTal (first_block_tals tss)
+    pub second : 25 < n → (p ≡ First → StartFitsPlace First s (first_block_tals tss))
     pub window : 26 < n → AllByRecursion (IsTalInWindow s) (all_tals tss)
-    pub order : 27 < n → KeepsOrder p (record_start s (first_tals tss))
+    pub order : 27 < n → StartsInOrder p (record_start s (first_block_tals tss))
 
 clear : (bs : List (List ℕ)) (s : ℕ) (p : Place) (n : ℕ) (tss : List (List Tal)) →
     IsClear bs s p n tss → (e : TalFault) → tal_fault_number e < n → ¬ BlocksHaveFault bs s p e
 clear bs s p n tss h (NotTals at) low f = not-broken bs tss at (h.lists low) f
 clear bs s p n tss h (Text at) low f = not-bad bs tss at (h.lists (omega arith)) (h.good low) f.1
 clear bs s p n tss h NotTimed low (us, w, fails) =
-    on-tals (λ (ts : List (List Tal)). HasTimeKeepingTal (first_tals ts)) bs tss us
+    on-tals (λ (ts : List (List Tal)). HasTimeKeepingTal (first_block_tals ts)) bs tss us
     (h.lists (omega arith)) w
     (h.timed low) fails
 clear bs s First n tss h FirstOnset low (us, w, fails) =
-    on-tals (λ (ts : List (List Tal)). StartFitsPlace First s (first_tals ts)) bs tss us
+    on-tals (λ (ts : List (List Tal)). StartFitsPlace First s (first_block_tals ts)) bs tss us
     (h.lists (omega arith)) w (h.second low refl) fails
 clear bs s (After before duration) n tss h FirstOnset low f = f
 clear bs s Any n tss h FirstOnset low f = f
@@ -78,7 +78,8 @@ clear bs s p n tss h Window low (us, w, fails) =
     (h.lists (omega arith)) w (h.window low) fails
 clear bs s First n tss h Order low f = f
 clear bs s (After before duration) n tss h Order low (us, w, fails) =
-    on-tals (λ (ts : List (List Tal)). StartFitsPlace (After before duration) s (first_tals ts)) bs
+    on-tals (λ (ts : List (List Tal)). StartFitsPlace (After before duration) s
+    (first_block_tals ts)) bs
     tss
     us (h.lists (omega arith)) w (h.order low) fails
 clear bs s Any n tss h Order low f = f
@@ -86,8 +87,8 @@ clear bs s p n tss h TooMany low f = let k = h.known in absurd (omega arith)
 clear bs s p n tss h Memory low f = let k = h.known in absurd (omega arith)
 
 pub fault-text : (bs : List (List ℕ)) (s : ℕ) (p : Place) (at : ℕ) →
-    ((tss : List (List Tal)) × AreBlocks bs tss) → HaveInvalidUtf8At bs at →
-    IsFirstBlocksFault bs s p (Text at)
+    ((tss : List (List Tal)) × AreTalBlocks bs tss) → HaveNonUtf8TextAt bs at →
+    BlocksHaveFirstFault bs s p (Text at)
 fault-text bs s p at (tss, lists) bad = record {
   holds = ((tss, lists), bad);
   first = clear bs s p 23 tss (record {
@@ -102,9 +103,9 @@ fault-text bs s p at (tss, lists) bad = record {
 }
 
 -- blocks of TALs with good texts, which are not timed
-fault-lists : (bs : List (List ℕ)) (s : ℕ) (p : Place) (tss : List (List Tal)) → AreBlocks bs tss →
-    HaveUtf8Texts (all_tals tss) → ¬ HasTimeKeepingTal (first_tals tss)
-    → IsFirstBlocksFault bs s p NotTimed
+fault-lists : (bs : List (List ℕ)) (s : ℕ) (p : Place) (tss : List (List Tal)) →
+    AreTalBlocks bs tss → HaveUtf8Texts (all_tals tss) → ¬ HasTimeKeepingTal (first_block_tals tss)
+    → BlocksHaveFirstFault bs s p NotTimed
 fault-lists bs s p tss lists good fails = record {
   holds = (tss, lists, fails);
   first = clear bs s p 24 tss (record {
@@ -125,21 +126,21 @@ not-timed b (t ∷ ts) (front, zeros, parts, (f, r, same, is, more), are) none h
     none f (r ++ zeros) t (parts ∙ ap (λ (x : List ℕ). x ++ zeros) same ∙ append_assoc f r zeros) is
 
 pub fault-none : (b : List ℕ) (later : List (List ℕ)) (s : ℕ) (p : Place) (sums : Sums) →
-    AreSurveyed (b ∷ later) s sums → NoTal b
-    → IsFirstBlocksFault (b ∷ later) s p NotTimed
+    HaveSums (b ∷ later) s sums → NoTal b
+    → BlocksHaveFirstFault (b ∷ later) s p NotTimed
 fault-none b later s p sums v none =
     fault-lists (b ∷ later) s p v.tals v.lists v.good (untimed v.tals v.lists)
   where
-    untimed : (tss : List (List Tal)) → AreBlocks (b ∷ later) tss →
-        ¬ HasTimeKeepingTal (first_tals tss)
+    untimed : (tss : List (List Tal)) → AreTalBlocks (b ∷ later) tss →
+        ¬ HasTimeKeepingTal (first_block_tals tss)
     untimed [] l = absurd l
     untimed (ts ∷ tss) l = not-timed b ts l.0 none
 
-pub fault-empty : (s : ℕ) (p : Place) → IsFirstBlocksFault [] s p NotTimed
+pub fault-empty : (s : ℕ) (p : Place) → BlocksHaveFirstFault [] s p NotTimed
 fault-empty s p = fault-lists [] s p [] tt tt (λ h. h)
 
-pub keeps-place : (p : Place) (s : ℕ) (t : Tal) (ts : List Tal) → KeepsSecond p t.onset →
-    KeepsOrder p (instant s t.onset) → StartFitsPlace p s (t ∷ ts)
+pub keeps-place : (p : Place) (s : ℕ) (t : Tal) (ts : List Tal) → StartsInFirstSecond p t.onset →
+    StartsInOrder p (instant s t.onset) → StartFitsPlace p s (t ∷ ts)
 keeps-place First s t ts second order = second
 keeps-place (After before duration) s t ts second order = order
 keeps-place Any s t ts second order = tt
@@ -147,15 +148,16 @@ keeps-place Any s t ts second order = tt
 -- what the first TAL of a data record says, and what its blocks come to
 module _ (bs : List (List ℕ)) (s : ℕ) (p : Place) (sums : Sums) (t : Tal) (k : Known bs s sums t)
   where
-    clear-known : (n : ℕ) → n ≤ 28 → (24 < n → IsEmptyFirst t) → (25 < n → KeepsSecond p t.onset) →
-        (26 < n → IsTrue sums.in_window) → (27 < n → KeepsOrder p (instant s t.onset))
+    clear-known : (n : ℕ) → n ≤ 28 → (24 < n → IsEmptyFirst t) →
+        (25 < n → StartsInFirstSecond p t.onset) →
+        (26 < n → IsTrue sums.in_window) → (27 < n → StartsInOrder p (instant s t.onset))
         → IsClear bs s p n ((t ∷ k.more) ∷ k.others)
     clear-known n low timed second window order = record {
       known = low;
       lists = λ h. k.lists;
       good = λ h. k.good;
       timed = timed;
-      second = λ h is. subst (λ (q : Place). KeepsSecond q t.onset) is (second h);
+      second = λ h is. subst (λ (q : Place). StartsInFirstSecond q t.onset) is (second h);
       window = λ h. k.window.0 (window h);
       order = order;
     }
@@ -194,12 +196,12 @@ module _ (bs : List (List ℕ)) (s : ℕ) (p : Place) (sums : Sums) (t : Tal) (k
         omega (arith, d.count)
 
     pub fault-untimed : (b texts more : List ℕ) → IsLeadingTal b texts more t →
-        ¬ ((rest : List ℕ) × (texts ≡ 20 ∷ rest)) → IsFirstBlocksFault bs s p NotTimed
+        ¬ ((rest : List ℕ) × (texts ≡ 20 ∷ rest)) → BlocksHaveFirstFault bs s p NotTimed
     fault-untimed b texts more f fails =
         fault-lists bs s p ((t ∷ k.more) ∷ k.others) k.lists k.good (untimed b texts more t f fails)
 
-    pub fault-window : IsEmptyFirst t → KeepsSecond p t.onset → ¬ IsTrue sums.in_window →
-        IsFirstBlocksFault bs s p Window
+    pub fault-window : IsEmptyFirst t → StartsInFirstSecond p t.onset → ¬ IsTrue sums.in_window →
+        BlocksHaveFirstFault bs s p Window
     fault-window timed second fails = record {
       holds = ((t ∷ k.more) ∷ k.others, k.lists, λ w. fails (k.window.1 w));
       first = clear bs s p 26 ((t ∷ k.more) ∷ k.others)
@@ -207,18 +209,18 @@ module _ (bs : List (List ℕ)) (s : ℕ) (p : Place) (sums : Sums) (t : Tal) (k
           (λ h. absurd (omega arith)));
     }
 
-    pub fault-many : IsEmptyFirst t → KeepsSecond p t.onset → IsTrue sums.in_window →
-        KeepsOrder p (instant s t.onset)
+    pub fault-many : IsEmptyFirst t → StartsInFirstSecond p t.onset → IsTrue sums.in_window →
+        StartsInOrder p (instant s t.onset)
         → ¬ ((sums.count ≤ MOST_ANNOTATIONS + 1) × (sums.text_bytes ≤ MOST_TEXT_BYTES)) →
-        IsFirstBlocksFault bs s p TooMany
+        BlocksHaveFirstFault bs s p TooMany
     fault-many timed second window order fails = record {
       holds = ((t ∷ k.more) ∷ k.others, k.lists, λ w. fails (beyond timed w));
       first = clear bs s p 28 ((t ∷ k.more) ∷ k.others)
           (clear-known 28 (omega arith) (λ h. timed) (λ h. second) (λ h. window) (λ h. order));
     }
 
-    pub checked : (start : ℕ) → IsEmptyFirst t → KeepsSecond p t.onset → IsTrue sums.in_window →
-        start ≡ instant s t.onset → KeepsOrder p start
+    pub checked : (start : ℕ) → IsEmptyFirst t → StartsInFirstSecond p t.onset →
+        IsTrue sums.in_window → start ≡ instant s t.onset → StartsInOrder p start
         → (sums.count ≤ MOST_ANNOTATIONS + 1) × (sums.text_bytes ≤ MOST_TEXT_BYTES) →
         IsChecked bs s p start (sums.count - 1)
     checked start empty second window start-is order limits =
@@ -232,7 +234,7 @@ module _ (bs : List (List ℕ)) (s : ℕ) (p : Place) (sums : Sums) (t : Tal) (k
             lists = k.lists;
             good = k.good;
             timed = empty;
-            fits_place = keeps-place p s t k.more second (subst (KeepsOrder p) start-is order);
+            fits_place = keeps-place p s t k.more second (subst (StartsInOrder p) start-is order);
             window = k.window.0 window;
             limits = within empty limits.0 limits.1;
             start_is = start-is;
@@ -242,8 +244,8 @@ module _ (bs : List (List ℕ)) (s : ℕ) (p : Place) (sums : Sums) (t : Tal) (k
         }
 
 pub fault-second : (bs : List (List ℕ)) (s : ℕ) (p : Place) (sums : Sums) (t : Tal) →
-    Known bs s sums t → IsEmptyFirst t → ¬ KeepsSecond p t.onset
-    → IsFirstBlocksFault bs s p FirstOnset
+    Known bs s sums t → IsEmptyFirst t → ¬ StartsInFirstSecond p t.onset
+    → BlocksHaveFirstFault bs s p FirstOnset
 fault-second bs s First sums t k timed fails = record {
   holds = ((t ∷ k.more) ∷ k.others, k.lists, fails);
   first = clear bs s First 25 ((t ∷ k.more) ∷ k.others)
@@ -254,8 +256,8 @@ fault-second bs s (After before duration) sums t k timed fails = absurd (fails t
 fault-second bs s Any sums t k timed fails = absurd (fails tt)
 
 pub fault-order : (bs : List (List ℕ)) (s : ℕ) (p : Place) (sums : Sums) (t : Tal) →
-    Known bs s sums t → IsEmptyFirst t → KeepsSecond p t.onset → IsTrue sums.in_window
-    → ¬ KeepsOrder p (instant s t.onset) → IsFirstBlocksFault bs s p Order
+    Known bs s sums t → IsEmptyFirst t → StartsInFirstSecond p t.onset → IsTrue sums.in_window
+    → ¬ StartsInOrder p (instant s t.onset) → BlocksHaveFirstFault bs s p Order
 fault-order bs s First sums t k timed second window fails = absurd (fails tt)
 fault-order bs s (After before duration) sums t k timed second window fails = record {
   holds = ((t ∷ k.more) ∷ k.others, k.lists, fails);
@@ -276,7 +278,7 @@ pub blocks-one-read : (bs : List (List ℕ)) (s : ℕ) (p : Place) (m n : ℕ) (
 blocks-one-read bs s p m n k l r q =
     let same = one-lists bs r.tals q.tals r.lists q.lists in
     record {
-      start = r.start_is ∙ ap (λ (ts : List (List Tal)). record_start s (first_tals ts)) same
+      start = r.start_is ∙ ap (λ (ts : List (List Tal)). record_start s (first_block_tals ts)) same
           ∙ sym q.start_is;
       list = r.list_is ∙ ap (λ (ts : List (List Tal)). annotations s (all_tals ts)) same
           ∙ sym q.list_is;
@@ -288,10 +290,12 @@ no-fault : (bs : List (List ℕ)) (s : ℕ) (p : Place) (m : ℕ) (l : List Anno
 no-fault bs s p m l (NotTals offset) r f = not-broken bs r.tals offset r.lists f
 no-fault bs s p m l (Text offset) r f = not-bad bs r.tals offset r.lists r.good f.1
 no-fault bs s p m l NotTimed r (us, w, fails) =
-    on-tals (λ (ts : List (List Tal)). HasTimeKeepingTal (first_tals ts)) bs r.tals us r.lists w
+    on-tals (λ (ts : List (List Tal)). HasTimeKeepingTal (first_block_tals ts)) bs r.tals us r.lists
+    w
     r.timed fails
 no-fault bs s First m l FirstOnset r (us, w, fails) =
-    on-tals (λ (ts : List (List Tal)). StartFitsPlace First s (first_tals ts)) bs r.tals us r.lists
+    on-tals (λ (ts : List (List Tal)). StartFitsPlace First s (first_block_tals ts)) bs r.tals us
+    r.lists
     w
     r.fits_place fails
 no-fault bs s (After before duration) m l FirstOnset r f = f
@@ -301,7 +305,8 @@ no-fault bs s p m l Window r (us, w, fails) =
     r.lists w r.window fails
 no-fault bs s First m l Order r f = f
 no-fault bs s (After before duration) m l Order r (us, w, fails) =
-    on-tals (λ (ts : List (List Tal)). StartFitsPlace (After before duration) s (first_tals ts)) bs
+    on-tals (λ (ts : List (List Tal)). StartFitsPlace (After before duration) s
+    (first_block_tals ts)) bs
     r.tals us r.lists w r.fits_place fails
 no-fault bs s Any m l Order r f = f
 no-fault bs s p m l TooMany r (us, w, fails) =
@@ -310,7 +315,7 @@ no-fault bs s p m l TooMany r (us, w, fails) =
 no-fault bs s p m l Memory r f = f
 
 pub blocks-read-no-fault : (bs : List (List ℕ)) (s : ℕ) (p : Place) (m : ℕ) (l : List Annotation)
-    (e : TalFault) → BlocksParseTo bs s p m l → ¬ IsFirstBlocksFault bs s p e
+    (e : TalFault) → BlocksParseTo bs s p m l → ¬ BlocksHaveFirstFault bs s p e
 blocks-read-no-fault bs s p m l e r f = no-fault bs s p m l e r f.holds
 
 -- faults of one number
@@ -330,7 +335,7 @@ same-number bs s p Memory Memory same h g = refl
 same-number bs s p e f same h g = absurd (omega arith)
 
 pub blocks-one-fault : (bs : List (List ℕ)) (s : ℕ) (p : Place) (e f : TalFault) →
-    IsFirstBlocksFault bs s p e → IsFirstBlocksFault bs s p f → e ≡ f
+    BlocksHaveFirstFault bs s p e → BlocksHaveFirstFault bs s p f → e ≡ f
 blocks-one-fault bs s p e f h g =
     elim (cases_lt (tal_fault_number e) (tal_fault_number f)) [
       | inl low ↦ absurd (g.first e low h.holds)
@@ -345,13 +350,13 @@ blocks-one-fault bs s p e f h g =
 -- a start and a list, or a fault
 abbrev pub HaveAnswer : List (List ℕ) → ℕ → Place → Type 0
 HaveAnswer bs s p = ((start : ℕ) × (list : List Annotation) × BlocksParseTo bs s p start list)
-    ⊎ ((e : TalFault) × IsFirstBlocksFault bs s p e)
+    ⊎ ((e : TalFault) × BlocksHaveFirstFault bs s p e)
 
 -- of TALs and zeros, the first of which is known
 module _ (bs : List (List ℕ)) (s : ℕ) (p : Place) (sums : Sums) (t : Tal) (k : Known bs s sums t)
     (empty : IsEmptyFirst t) where
-  by-limits : KeepsSecond p t.onset → IsTrue sums.in_window → KeepsOrder p (instant s t.onset) →
-      HaveAnswer bs s p
+  by-limits : StartsInFirstSecond p t.onset → IsTrue sums.in_window →
+      StartsInOrder p (instant s t.onset) → HaveAnswer bs s p
   by-limits second window order =
       elim (few-or-not sums.count sums.text_bytes) [
         | inl few ↦ let c = checked bs s p sums t k (instant s t.onset) empty second window refl
@@ -373,7 +378,7 @@ module _ (bs : List (List ℕ)) (s : ℕ) (p : Place) (sums : Sums) (t : Tal) (k
       ]
 
 -- of TALs and zeros
-judged : (bs : List (List ℕ)) (s : ℕ) (p : Place) (sums : Sums) → AreSurveyed bs s sums →
+judged : (bs : List (List ℕ)) (s : ℕ) (p : Place) (sums : Sums) → HaveSums bs s sums →
     HaveAnswer bs s p
 judged [] s p sums v = inr (NotTimed, fault-empty s p)
 judged (b ∷ bs) s p sums v =
@@ -402,7 +407,8 @@ blocks-some-answer bs s p = elim (forms bs s) [
       inr (NotTals x.0, fault-tal bs s p x.0 x.1)
 ]
 
-pub blocks-no-memory : (bs : List (List ℕ)) (s : ℕ) (p : Place) → ¬ IsFirstBlocksFault bs s p Memory
+pub blocks-no-memory : (bs : List (List ℕ)) (s : ℕ) (p : Place) →
+    ¬ BlocksHaveFirstFault bs s p Memory
 blocks-no-memory bs s p f = f.holds
 
 -- ---- the same of a data record with one block
@@ -412,19 +418,19 @@ pub one-read : (b : List ℕ) (s : ℕ) (p : Place) (m n : ℕ) (k l : List Anno
 one-read b s p m n k l r q = blocks-one-read (b ∷ []) s p m n k l r q
 
 pub read-no-fault : (b : List ℕ) (s : ℕ) (p : Place) (m : ℕ) (l : List Annotation) (e : TalFault) →
-    BlockParsesTo b s p m l → ¬ IsFirstBlockFault b s p e
+    BlockParsesTo b s p m l → ¬ BlockHasFirstFault b s p e
 read-no-fault b s p m l e r = blocks-read-no-fault (b ∷ []) s p m l e r
 
-pub one-fault : (b : List ℕ) (s : ℕ) (p : Place) (e f : TalFault) → IsFirstBlockFault b s p e →
-    IsFirstBlockFault b s p f → e ≡ f
+pub one-fault : (b : List ℕ) (s : ℕ) (p : Place) (e f : TalFault) → BlockHasFirstFault b s p e →
+    BlockHasFirstFault b s p f → e ≡ f
 one-fault b s p e f h g = blocks-one-fault (b ∷ []) s p e f h g
 
 abbrev pub HasAnswer : List ℕ → ℕ → Place → Type 0
 HasAnswer b s p = ((start : ℕ) × (list : List Annotation) × BlockParsesTo b s p start list)
-    ⊎ ((e : TalFault) × IsFirstBlockFault b s p e)
+    ⊎ ((e : TalFault) × BlockHasFirstFault b s p e)
 
 pub some-answer : (b : List ℕ) (s : ℕ) (p : Place) → HasAnswer b s p
 some-answer b s p = blocks-some-answer (b ∷ []) s p
 
-pub no-memory : (b : List ℕ) (s : ℕ) (p : Place) → ¬ IsFirstBlockFault b s p Memory
+pub no-memory : (b : List ℕ) (s : ℕ) (p : Place) → ¬ BlockHasFirstFault b s p Memory
 no-memory b s p = blocks-no-memory (b ∷ []) s p

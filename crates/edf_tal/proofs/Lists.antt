@@ -8,7 +8,7 @@ use Rattle.edf_tal.specs.Tal.{Tal, Annotation, IsText, terminated, AreTalsAndZer
 use Rattle.edf_tal.specs.Tal.{HasTimeKeepingTal, IsTalInWindow, instant, tal_annotations}
 use Rattle.edf_tal.specs.Tal.{annotations}
 use Rattle.edf_tal.specs.Inside.Scan.{Lacks, NoTal, IsLeadingTal, IsCappedOnset, IsCappedDuration}
-use Rattle.edf_tal.specs.Inside.Scan.{AreTexts, IsScannedTal}
+use Rattle.edf_tal.specs.Inside.Scan.{AreUtf8Texts, IsScannedTal}
 use Rattle.edf_tal.specs.Inside.Blocks.{AreSoundTals}
 use Rattle.edf_tal.proofs.Unique.{same-sides, not-both, Lacks-text, one-tal}
 use Rattle.edf_tal.proofs.Fronts.{same-front, HasEnd-tal}
@@ -20,8 +20,8 @@ pub record HasPushed (onset : ℕ) (duration : Option ℕ) (texts rest : List �
     (old new : List Annotation) : Type 0 where
   pub all : List (List ℕ)
   pub left : List (List ℕ)
-  pub are_all : AreTexts texts all
-  pub are_left : AreTexts rest left
+  pub are_all : AreUtf8Texts texts all
+  pub are_left : AreUtf8Texts rest left
   pub items : old ++ map (note_of onset duration) all ≡ new ++ map (note_of onset duration) left
 
 pub record NextText (text more : List ℕ) (left : List (List ℕ)) : Type 0 where
@@ -29,7 +29,7 @@ pub record NextText (text more : List ℕ) (left : List (List ℕ)) : Type 0 whe
   pub left_is : left ≡ text ∷ others
   pub is_text : IsText text
   pub good : IsUtf8 text
-  pub rest : AreTexts more others
+  pub rest : AreUtf8Texts more others
 
 next-text : (rest text more : List ℕ) (xs : List (List ℕ)) → rest ≡ terminated xs →
     AllByRecursion IsText xs → AllByRecursion IsUtf8 xs → Lacks 20 text → rest ≡ text ++ 20 ∷ more →
@@ -92,7 +92,7 @@ same-texts (x ∷ xs) (y ∷ ys) a b e =
 
 pub pushed-all : (onset : ℕ) (duration : Option ℕ) (texts rest : List ℕ)
     (old new : List Annotation) → HasPushed onset duration texts rest old new → Lacks 20 rest
-    → (xs : List (List ℕ)) → AreTexts texts xs → new ≡ old ++ map (note_of onset duration) xs
+    → (xs : List (List ℕ)) → AreUtf8Texts texts xs → new ≡ old ++ map (note_of onset duration) xs
 pushed-all onset duration texts rest old new h lacks xs a =
     let none = no-text-left rest h.left h.are_left.bytes_are lacks in
     let same = same-texts h.all xs h.are_all.are_texts a.are_texts (sym h.are_all.bytes_are

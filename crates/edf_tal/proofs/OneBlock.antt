@@ -1,7 +1,8 @@
 -- Blocks are TALs and zeros in one way.
 use Rattle.std.proofs.Common.{◌≡◌, ℕ, List, [], ◌∷◌, ◌++◌, arith, refl, sym, ap, ◌∙◌, append_assoc}
 use Rattle.std.proofs.Common.{inl, inr, ℤ}
-use Rattle.edf_tal.specs.Tal.{Tal, IsTal, IsOnset, terminated, AreTals, AreTalsAndZeros, AreBlocks}
+use Rattle.edf_tal.specs.Tal.{Tal, IsTal, IsOnset, terminated, AreTals, AreTalsAndZeros}
+use Rattle.edf_tal.specs.Tal.{AreTalBlocks}
 use Rattle.edf_tal.specs.Inside.Scan.{NoTal, AreZeros}
 use Rattle.edf_tal.proofs.Unique.{one-tal}
 use Rattle.edf_tal.proofs.Fronts.{same-front, HasEnd-tal}
@@ -75,8 +76,8 @@ one-block b ts us (front, zeros, parts, tals, are) (front', zeros', parts', tals
     (same-tals ts us front zeros front' zeros' tals tals' (zeros-no-tal zeros are)
     (zeros-no-tal zeros' are') (sym parts ∙ parts')).tals
 
-pub one-lists : (bs : List (List ℕ)) (ts us : List (List Tal)) → AreBlocks bs ts → AreBlocks bs us →
-    ts ≡ us
+pub one-lists : (bs : List (List ℕ)) (ts us : List (List Tal)) → AreTalBlocks bs ts →
+    AreTalBlocks bs us → ts ≡ us
 one-lists [] [] [] p q = refl
 one-lists [] [] (u ∷ us) p q = absurd q
 one-lists [] (t ∷ ts) us p q = absurd p

@@ -9,9 +9,9 @@ use Rattle.std.proofs.lemmas.List.Sums.{sum_by-append, sum_by-cons}
 use Rattle.edf_time.specs.Civil.{window}
 use Rattle.edf_tal.specs.Tal.{Tal, Annotation, IsText, terminated, AreTals, IsTalInWindow, instant}
 use Rattle.edf_tal.specs.Tal.{tal_annotations}
-use Rattle.edf_tal.specs.Condition.{IsInvalidUtf8At}
-use Rattle.edf_tal.specs.Inside.Scan.{Lacks, IsCappedDuration, IsLeadingTal, IsBadAmong}
-use Rattle.edf_tal.specs.Inside.Scan.{AreGoodTexts, FollowsTals, IsSurvey}
+use Rattle.edf_tal.specs.Condition.{HasNonUtf8TextAt}
+use Rattle.edf_tal.specs.Inside.Scan.{Lacks, IsCappedDuration, IsLeadingTal, HasNonUtf8TextAmong}
+use Rattle.edf_tal.specs.Inside.Scan.{BeginWithUtf8Texts, FollowsTals, IsSurvey}
 use Rattle.edf_tal.proofs.Unique.{same-sides, not-both, Lacks-text}
 use Rattle.edf_tal.proofs.Fronts.{AreTals-more, NoZero-ended}
 use Rattle.edf_tal.proofs.OneBlock.{tal-sides}
@@ -107,7 +107,7 @@ pub record Counted (t : Tal) (count : ℕ) : Type 0 where
   pub count_is : count ≡ length t.texts
 
 pub counted : (texts rest bytes : List ℕ) (t : Tal) (count : ℕ) → IsLeadingTal bytes texts rest t →
-    AreGoodTexts texts count → Counted t count
+    BeginWithUtf8Texts texts count → Counted t count
 counted texts rest bytes t count f g =
     let same = same-list g.list t.texts g.rest g.good g.is_rest f.tal.are_texts (sym g.parts
     ∙ f.texts_are) in
@@ -178,7 +178,8 @@ survey-none block s = record {
 
 pub survey-more : (block rest texts more : List ℕ) (s : ℕ) (t : Tal) (in_window next is : Bool)
     (count bytes n m : ℕ) → IsSurvey block s rest in_window count bytes
-    → IsLeadingTal rest texts more t → AreGoodTexts texts n → (IsTrue is ↔ IsTalInWindow s t) →
+    → IsLeadingTal rest texts more t → BeginWithUtf8Texts texts n →
+    (IsTrue is ↔ IsTalInWindow s t) →
     (IsTrue next ↔ (IsTrue in_window × IsTrue is)) → n + m ≡ length texts
     → IsSurvey block s more next (count + n) (bytes + m)
 survey-more block rest texts more s t in_window next is count bytes n m v f g one both sum =
@@ -248,7 +249,7 @@ survey-room block rest s in_window count bytes v =
       length-append v.prefix rest,
     )
 
-pub good-count : (texts : List ℕ) (n : ℕ) → AreGoodTexts texts n → n ≤ length texts
+pub good-count : (texts : List ℕ) (n : ℕ) → BeginWithUtf8Texts texts n → n ≤ length texts
 good-count texts n g =
     let c : n ≡ length g.list = g.count_is in
     omega (
@@ -283,7 +284,7 @@ good-texts (x ∷ xs) p a = (
 )
 
 bad-front : (rest texts more : List ℕ) (t : Tal) (at : ℕ) (f : IsLeadingTal rest texts more t) →
-    IsBadAmong texts at
+    HasNonUtf8TextAmong texts at
     → IsBadFront rest (length f.tal.onset + length f.tal.duration + 1 + at)
 bad-front rest texts more t at f b =
     let none : Lacks 0 (terminated b.good ++ (b.text ++ 20 ∷ b.suffix)) =
@@ -311,8 +312,8 @@ bad-front rest texts more t at f b =
 -- where the first bad text begins in the block
 pub survey-bad : (block rest texts more : List ℕ) (s : ℕ) (t : Tal) (in_window : Bool)
     (count bytes at : ℕ) → IsSurvey block s rest in_window count bytes
-    → IsLeadingTal rest texts more t → IsBadAmong texts at →
-    IsInvalidUtf8At block (length block - length more - 1 - length texts + at)
+    → IsLeadingTal rest texts more t → HasNonUtf8TextAmong texts at →
+    HasNonUtf8TextAt block (length block - length more - 1 - length texts + at)
 survey-bad block rest texts more s t in_window count bytes at v f b =
     bad-join block v.prefix rest v.tals (length block - length more - 1 - length texts + at)
     (length f.tal.onset + length f.tal.duration + 1 + at) v.parts v.whole v.good

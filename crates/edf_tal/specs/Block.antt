@@ -2,8 +2,9 @@
 use Rattle.std.specs.Prelude.{◌≡◌, ℕ, ◌+◌, ◌^◌, ◌≤◌, ◌<◌, List, [], ◌∷◌, length, take, drop}
 use Rattle.std.specs.Prelude.{sum_by, pos, ◌≤ℤ◌, ◌<ℤ◌, Option, Some, None, codes}
 use Rattle.std.specs.List.{AllByRecursion}
-use Rattle.edf_tal.specs.Condition.{IsMalformedAt, HaveInvalidUtf8At}
-use Rattle.edf_tal.specs.Tal.{Tal, Annotation, AreBlocks, first_tals, all_tals, HaveUtf8Texts}
+use Rattle.edf_tal.specs.Condition.{AreMalformedAt, HaveNonUtf8TextAt}
+use Rattle.edf_tal.specs.Tal.{Tal, Annotation, AreTalBlocks, first_block_tals, all_tals}
+use Rattle.edf_tal.specs.Tal.{HaveUtf8Texts}
 use Rattle.edf_tal.specs.Tal.{HasTimeKeepingTal, IsTalInWindow, annotations, record_start}
 use Rattle.edf_tal.specs.declared.limits.TheConstants.{MOST_ANNOTATIONS, MOST_TEXT_BYTES}
 use Rattle.edf_tal.specs.declared.place.Place.{Place}
@@ -31,13 +32,13 @@ pub record IsWithinLimits (list : List Annotation) : Type 0 where
 pub record BlocksParseTo (blocks : List (List ℕ)) (file_start : ℕ) (place : Place) (start : ℕ)
     (list : List Annotation) : Type 0 where
   pub tals : List (List Tal)
-  pub lists : AreBlocks blocks tals
+  pub lists : AreTalBlocks blocks tals
   pub good : HaveUtf8Texts (all_tals tals)
-  pub timed : HasTimeKeepingTal (first_tals tals)
-  pub fits_place : StartFitsPlace place file_start (first_tals tals)
+  pub timed : HasTimeKeepingTal (first_block_tals tals)
+  pub fits_place : StartFitsPlace place file_start (first_block_tals tals)
   pub window : AllByRecursion (IsTalInWindow file_start) (all_tals tals)
   pub limits : IsWithinLimits list
-  pub start_is : start ≡ record_start file_start (first_tals tals)
+  pub start_is : start ≡ record_start file_start (first_block_tals tals)
   pub list_is : list ≡ annotations file_start (all_tals tals)
 
 -- a data record with one block parses to these
@@ -74,24 +75,24 @@ tal_fault_offset fault = None
 
 -- the fault is true of the blocks of a data record at this place
 abbrev pub BlocksHaveFault : List (List ℕ) → ℕ → Place → TalFault → Type 0
-BlocksHaveFault bs s place (NotTals offset) = IsMalformedAt bs offset
-BlocksHaveFault bs s place (Text offset) = ((tss : List (List Tal)) × AreBlocks bs tss)
-    × HaveInvalidUtf8At bs offset
-BlocksHaveFault bs s place NotTimed = (tss : List (List Tal)) × AreBlocks bs tss
-    × ¬ HasTimeKeepingTal (first_tals tss)
-BlocksHaveFault bs s First FirstOnset = (tss : List (List Tal)) × AreBlocks bs tss
-    × ¬ StartFitsPlace First s (first_tals tss)
-BlocksHaveFault bs s place Window = (tss : List (List Tal)) × AreBlocks bs tss
+BlocksHaveFault bs s place (NotTals offset) = AreMalformedAt bs offset
+BlocksHaveFault bs s place (Text offset) = ((tss : List (List Tal)) × AreTalBlocks bs tss)
+    × HaveNonUtf8TextAt bs offset
+BlocksHaveFault bs s place NotTimed = (tss : List (List Tal)) × AreTalBlocks bs tss
+    × ¬ HasTimeKeepingTal (first_block_tals tss)
+BlocksHaveFault bs s First FirstOnset = (tss : List (List Tal)) × AreTalBlocks bs tss
+    × ¬ StartFitsPlace First s (first_block_tals tss)
+BlocksHaveFault bs s place Window = (tss : List (List Tal)) × AreTalBlocks bs tss
     × ¬ AllByRecursion (IsTalInWindow s) (all_tals tss)
 BlocksHaveFault bs s (After before duration) Order =
-    (tss : List (List Tal)) × AreBlocks bs tss
-    × ¬ StartFitsPlace (After before duration) s (first_tals tss)
-BlocksHaveFault bs s place TooMany = (tss : List (List Tal)) × AreBlocks bs tss
+    (tss : List (List Tal)) × AreTalBlocks bs tss
+    × ¬ StartFitsPlace (After before duration) s (first_block_tals tss)
+BlocksHaveFault bs s place TooMany = (tss : List (List Tal)) × AreTalBlocks bs tss
     × ¬ IsWithinLimits (annotations s (all_tals tss))
 BlocksHaveFault bs s place fault = ⊥
 
 -- the fault is true, and no fault of a lower number is
-pub record IsFirstBlocksFault (bs : List (List ℕ)) (s : ℕ) (place : Place)
+pub record BlocksHaveFirstFault (bs : List (List ℕ)) (s : ℕ) (place : Place)
     (fault : TalFault) : Type 0
   where
     pub holds : BlocksHaveFault bs s place fault
@@ -99,18 +100,18 @@ pub record IsFirstBlocksFault (bs : List (List ℕ)) (s : ℕ) (place : Place)
         ¬ BlocksHaveFault bs s place other
 
 -- it is the first fault of a data record with one block
-abbrev pub IsFirstBlockFault : List ℕ → ℕ → Place → TalFault → Type 0
-IsFirstBlockFault block s place fault = IsFirstBlocksFault (block ∷ []) s place fault
+abbrev pub BlockHasFirstFault : List ℕ → ℕ → Place → TalFault → Type 0
+BlockHasFirstFault block s place fault = BlocksHaveFirstFault (block ∷ []) s place fault
 
 -- blocks are refused for their first fault, or for want of memory where they have none
-abbrev pub IsBlocksRefusal : List (List ℕ) → ℕ → Place → TalFault → Type 0
-IsBlocksRefusal bs s place Memory = (start : ℕ) × (list : List Annotation)
+abbrev pub BlocksAreRefused : List (List ℕ) → ℕ → Place → TalFault → Type 0
+BlocksAreRefused bs s place Memory = (start : ℕ) × (list : List Annotation)
     × BlocksParseTo bs s place start list
-IsBlocksRefusal bs s place fault = IsFirstBlocksFault bs s place fault
+BlocksAreRefused bs s place fault = BlocksHaveFirstFault bs s place fault
 
 -- a data record with one block is refused so
-abbrev pub IsBlockRefusal : List ℕ → ℕ → Place → TalFault → Type 0
-IsBlockRefusal block s place fault = IsBlocksRefusal (block ∷ []) s place fault
+abbrev pub BlockIsRefused : List ℕ → ℕ → Place → TalFault → Type 0
+BlockIsRefused block s place fault = BlocksAreRefused (block ∷ []) s place fault
 
 -- the bytes are cut into blocks of these sizes
 abbrev pub split_by_sizes : List ℕ → List ℕ → List (List ℕ)

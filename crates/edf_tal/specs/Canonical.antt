@@ -21,10 +21,10 @@ tal_text base a = onset_text base a.onset
     ++ (duration_text a.duration ++ (20 ∷ (a.text ++ (20 ∷ 0 ∷ []))))
 
 -- the time-keeping annotation of a data record: its start, no duration, the empty text
-abbrev pub time_keeping : ℕ → Annotation
-time_keeping start = record { onset = start; duration = None; text = [] }
+abbrev pub time_keeping_annotation : ℕ → Annotation
+time_keeping_annotation start = record { onset = start; duration = None; text = [] }
 
 -- a block without its fill: the time-keeping annotation alone in its TAL, then a TAL for each
 -- annotation in order
-abbrev pub block_text : ℕ → ℕ → List Annotation → List ℕ
-block_text base start list = flat_map (tal_text base) (time_keeping start ∷ list)
+abbrev pub tals_text : ℕ → ℕ → List Annotation → List ℕ
+tals_text base start list = flat_map (tal_text base) (time_keeping_annotation start ∷ list)

@@ -59,15 +59,15 @@ AreTalsAndZeros bytes ts =
     × AllByRecursion (λ b. b ≡ 0) zeros
 
 -- the blocks of a data record, each by itself TALs and zeros
-abbrev pub AreBlocks : List (List ℕ) → List (List Tal) → Type 0
-AreBlocks [] [] = Unit {0}
-AreBlocks (block ∷ blocks) (ts ∷ tss) = AreTalsAndZeros block ts × AreBlocks blocks tss
-AreBlocks blocks tss = ⊥
+abbrev pub AreTalBlocks : List (List ℕ) → List (List Tal) → Type 0
+AreTalBlocks [] [] = Unit {0}
+AreTalBlocks (block ∷ blocks) (ts ∷ tss) = AreTalsAndZeros block ts × AreTalBlocks blocks tss
+AreTalBlocks blocks tss = ⊥
 
 -- the TALs of the first block, and those of all blocks, in the order of the blocks
-abbrev pub first_tals : List (List Tal) → List Tal
-first_tals [] = []
-first_tals (ts ∷ tss) = ts
+abbrev pub first_block_tals : List (List Tal) → List Tal
+first_block_tals [] = []
+first_block_tals (ts ∷ tss) = ts
 
 abbrev pub all_tals : List (List Tal) → List Tal
 all_tals tss = flat_map (λ ts. ts) tss
@@ -108,7 +108,7 @@ pub record IsTalInWindow (file_start : ℕ) (t : Tal) : Type 0 where
 
 -- an annotation of a data record: an instant of the window, a duration shorter than it or none, and
 -- a text that a TAL can hold
-pub record IsAnnotation (a : Annotation) : Type 0 where
+pub record IsValidAnnotation (a : Annotation) : Type 0 where
   pub onset : a.onset < window
   pub duration : IfSome a.duration (λ d. d < window)
   pub text : IsText a.text

@@ -2,10 +2,10 @@ ghost use Rattle.std.specs.Prelude.{◌≡◌, ℕ, ◌^◌, ◌<◌, ◌↔◌,
 ghost use Rattle.std.specs.Prelude.{List, [], ◌∷◌, ◌++◌, length, sum, sum_by};
 ghost use Rattle.std.specs.List.{flat_map};
 ghost use Rattle.edf_tal.specs.Tal.{Tal, all_tals, tal_annotations};
-ghost use Rattle.edf_tal.specs.Block.{IsFirstBlocksFault, split_by_sizes};
-ghost use Rattle.edf_tal.specs.Condition.{IsMalformedAt};
+ghost use Rattle.edf_tal.specs.Block.{BlocksHaveFirstFault, split_by_sizes};
+ghost use Rattle.edf_tal.specs.Condition.{AreMalformedAt};
 ghost use Rattle.edf_tal.specs.Inside.Scan.{AreZeros};
-ghost use Rattle.edf_tal.specs.Inside.Blocks.{AreSurveyed, HasForm, AreSoundLists};
+ghost use Rattle.edf_tal.specs.Inside.Blocks.{HaveSums, HasForm, AreSoundBlocks};
 ghost use Rattle.edf_tal.specs.declared.place.Place.{Place};
 
 use crate::note::Note;
@@ -45,7 +45,7 @@ pub(crate) fn are_zeros(bytes: &[u8]) -> bool
 /// longest prefix of whole TALs ends.
 fn form_of(block: &[u8], file_start: Instant) -> Result<Form, usize>
     ensures { MatchResult result (HasForm (block.now ∷ []) file_start)
-        (IsMalformedAt (block.now ∷ [])) }
+        (AreMalformedAt (block.now ∷ [])) }
 {
     match survey(block, file_start) {
         Ok(totals) => {
@@ -97,9 +97,9 @@ pub(crate) fn survey_blocks(
     file_start: Instant,
 ) -> Result<Sums, TalFault>
     requires { sum sizes.now ≡ length block.now }
-    ensures { MatchResult result (AreSurveyed (split_by_sizes sizes.now block.now) file_start)
+    ensures { MatchResult result (HaveSums (split_by_sizes sizes.now block.now) file_start)
         (λ fault. (place : Place) →
-        IsFirstBlocksFault (split_by_sizes sizes.now block.now) file_start place fault) }
+        BlocksHaveFirstFault (split_by_sizes sizes.now block.now) file_start place fault) }
 {
     let mut rest = block;
     let mut form = Form::Good(Sums {
@@ -136,9 +136,9 @@ pub(crate) fn push_blocks(
 ) -> Result<(), AllocError>
     requires sizes { sum sizes.now ≡ length block.now }
     requires sound { (tss : List (List Tal))
-        × AreSoundLists (split_by_sizes sizes.now block.now) file_start tss }
+        × AreSoundBlocks (split_by_sizes sizes.now block.now) file_start tss }
     ensures { (tss : List (List Tal)) →
-        AreSoundLists (split_by_sizes sizes.now block.now) file_start tss →
+        AreSoundBlocks (split_by_sizes sizes.now block.now) file_start tss →
         OnOk result (list.new.items
         ≡ list.old.items ++ flat_map (tal_annotations file_start) (all_tals tss)) }
 {

@@ -1,8 +1,10 @@
 ghost use Rattle.std.specs.Prelude.{◌≡◌, ℕ, ◌+◌, ◌≤◌, ◌<◌, ◌↔◌, ℤ, MatchResult, IfSome, IsTrue};
 ghost use Rattle.std.specs.Prelude.{List, [], ◌∷◌};
-ghost use Rattle.edf_tal.specs.Block.{BlocksParseTo, IsFirstBlocksFault, split_by_sizes};
-ghost use Rattle.edf_tal.specs.Inside.Scan.{capped, IsCappedOnset, KeepsSecond, KeepsOrder};
-ghost use Rattle.edf_tal.specs.Inside.Blocks.{AreSizes, AreSurveyed, IsChecked, IsTimeKeepingBlock};
+ghost use Rattle.edf_tal.specs.Block.{BlocksParseTo, BlocksHaveFirstFault, split_by_sizes};
+ghost use Rattle.edf_tal.specs.Inside.Scan.{capped, IsCappedOnset, StartsInFirstSecond};
+ghost use Rattle.edf_tal.specs.Inside.Scan.{StartsInOrder};
+ghost use Rattle.edf_tal.specs.Inside.Blocks.{AreBlockSizes, HaveSums, IsChecked};
+ghost use Rattle.edf_tal.specs.Inside.Blocks.{IsTimeKeepingBlock};
 ghost use Rattle.edf_tal.specs.declared.place.Place.{Place};
 
 use crate::blocks::{Sums, are_zeros, survey_blocks};
@@ -32,7 +34,8 @@ fn is_time_keeping(texts: &[u8]) -> bool
 
 /// Is false where a first data record's onset is outside the second that the header names.
 fn keeps_second(place: &Place, ahead: bool, onset: u64) -> bool
-    ensures { (z : ℤ) → IsCappedOnset ahead onset z → (IsTrue result ↔ KeepsSecond place.now z) }
+    ensures { (z : ℤ) → IsCappedOnset ahead onset z →
+        (IsTrue result ↔ StartsInFirstSecond place.now z) }
 {
     match place {
         Place::First => (ahead || onset == 0) && onset < 1_000_000_000,
@@ -43,7 +46,7 @@ fn keeps_second(place: &Place, ahead: bool, onset: u64) -> bool
 
 /// Is false where a later data record starts before the one before it ends.
 fn keeps_order(place: &Place, start: Instant) -> bool
-    ensures { IsTrue result ↔ KeepsOrder place.now start }
+    ensures { IsTrue result ↔ StartsInOrder place.now start }
 {
     match place {
         Place::First => true,
@@ -71,11 +74,11 @@ fn check_tals(
     file_start: Instant,
     place: Place,
 ) -> Result<Checked, TalFault>
-    requires { (later : List (List ℕ)) × AreSurveyed (first.now ∷ later) file_start sums }
-    ensures { (later : List (List ℕ)) → AreSurveyed (first.now ∷ later) file_start sums →
+    requires { (later : List (List ℕ)) × HaveSums (first.now ∷ later) file_start sums }
+    ensures { (later : List (List ℕ)) → HaveSums (first.now ∷ later) file_start sums →
         MatchResult result
         (λ c. IsChecked (first.now ∷ later) file_start place c.start c.count)
-        (IsFirstBlocksFault (first.now ∷ later) file_start place) }
+        (BlocksHaveFirstFault (first.now ∷ later) file_start place) }
 {
     let Some(first) = first_tal(first) else {
         return Err(TalFault::NotTimed);
@@ -111,10 +114,10 @@ pub(crate) fn check_blocks(
     file_start: Instant,
     place: Place,
 ) -> Result<Checked, TalFault>
-    requires { AreSizes sizes.now block.now }
+    requires { AreBlockSizes sizes.now block.now }
     ensures { MatchResult result
         (λ c. IsChecked (split_by_sizes sizes.now block.now) file_start place c.start c.count)
-        (IsFirstBlocksFault (split_by_sizes sizes.now block.now) file_start place) }
+        (BlocksHaveFirstFault (split_by_sizes sizes.now block.now) file_start place) }
 {
     let sums = survey_blocks(block, sizes, file_start)?;
     check_tals(&block[..sizes[0]], sums, file_start, place)
@@ -141,7 +144,7 @@ pub(crate) fn bare_start(
     file_start: Instant,
     place: &Place,
 ) -> Option<Instant>
-    requires { AreSizes sizes.now block.now }
+    requires { AreBlockSizes sizes.now block.now }
     ensures { IfSome result (λ start.
         BlocksParseTo (split_by_sizes sizes.now block.now) file_start place.now start []) }
 {

@@ -3,10 +3,10 @@ ghost use Rattle.std.specs.Prelude.{◌≡◌, ◌⊎◌, ℕ, ◌+◌, ◌^◌,
 ghost use Rattle.std.specs.Prelude.{List, ◌++◌, length, map, replicate};
 ghost use Rattle.std.specs.List.{AllByRecursion, flat_map};
 ghost use Rattle.edf_time.specs.Civil.{window};
-ghost use Rattle.edf_tal.specs.Tal.{Tal, Annotation, IsTal, AreBlocks, IsAnnotation};
-ghost use Rattle.edf_tal.specs.Block.{BlocksParseTo, BlockParsesTo, IsFirstBlocksFault};
+ghost use Rattle.edf_tal.specs.Tal.{Tal, Annotation, IsTal, AreTalBlocks, IsValidAnnotation};
+ghost use Rattle.edf_tal.specs.Block.{BlocksParseTo, BlockParsesTo, BlocksHaveFirstFault};
 ghost use Rattle.edf_tal.specs.Block.{IsWithinLimits, split_by_sizes};
-ghost use Rattle.edf_tal.specs.Canonical.{block_text};
+ghost use Rattle.edf_tal.specs.Canonical.{tals_text};
 ghost use Rattle.edf_tal.specs.declared.place.TalFault.{TalFault};
 ghost use Rattle.edf_tal.specs.declared.place.TalFault.TheVariants.{Memory};
 ghost use Rattle.edf_tal.specs.declared.place.Place.{Place};
@@ -22,7 +22,7 @@ pub fn one_tal()
 /// Blocks parse to at most one list of TALs each.
 pub fn one_block()
     ensures { (bs : List (List ℕ)) (ts us : List (List Tal)) →
-        AreBlocks bs ts → AreBlocks bs us → ts ≡ us }
+        AreTalBlocks bs ts → AreTalBlocks bs us → ts ≡ us }
 {}
 
 /// The blocks of a data record have at most one answer at a place: a start and a list, or a fault.
@@ -31,9 +31,9 @@ pub fn one_answer()
         (k l : List Annotation) →
         BlocksParseTo bs s p m k → BlocksParseTo bs s p n l → (m ≡ n) × (k ≡ l) }
     ensures not_both { (bs : List (List ℕ)) (s : ℕ) (p : Place) (m : ℕ) (l : List Annotation)
-        (e : TalFault) → BlocksParseTo bs s p m l → ¬ IsFirstBlocksFault bs s p e }
+        (e : TalFault) → BlocksParseTo bs s p m l → ¬ BlocksHaveFirstFault bs s p e }
     ensures one_fault { (bs : List (List ℕ)) (s : ℕ) (p : Place) (e f : TalFault) →
-        IsFirstBlocksFault bs s p e → IsFirstBlocksFault bs s p f → e ≡ f }
+        BlocksHaveFirstFault bs s p e → BlocksHaveFirstFault bs s p f → e ≡ f }
 {}
 
 /// The blocks of a data record have an answer at each place: a start and a list, or a fault. Out
@@ -41,9 +41,9 @@ pub fn one_answer()
 pub fn some_answer()
     ensures some { (bs : List (List ℕ)) (s : ℕ) (p : Place) →
         ((start : ℕ) × (list : List Annotation) × BlocksParseTo bs s p start list)
-        ⊎ ((e : TalFault) × IsFirstBlocksFault bs s p e) }
+        ⊎ ((e : TalFault) × BlocksHaveFirstFault bs s p e) }
     ensures not_memory { (bs : List (List ℕ)) (s : ℕ) (p : Place) →
-        ¬ IsFirstBlocksFault bs s p Memory }
+        ¬ BlocksHaveFirstFault bs s p Memory }
 {}
 
 /// Blocks that are joined and then split by their lengths are the same blocks.
@@ -54,19 +54,20 @@ pub fn cut_again()
 /// A canonical block, alone or filled with zeros, parses to what was written.
 pub fn read_again()
     ensures alone { (base start : ℕ) (list : List Annotation) →
-        base < window → start < window → AllByRecursion IsAnnotation list → IsWithinLimits list →
-        BlockParsesTo (block_text base start list) base Any start list }
+        base < window → start < window → AllByRecursion IsValidAnnotation list →
+        IsWithinLimits list → BlockParsesTo (tals_text base start list) base Any start list }
     ensures any { (base start n : ℕ) (list : List Annotation) →
-        base < window → start < window → AllByRecursion IsAnnotation list → IsWithinLimits list →
-        BlockParsesTo (block_text base start list ++ replicate n 0) base Any start list }
+        base < window → start < window → AllByRecursion IsValidAnnotation list →
+        IsWithinLimits list →
+        BlockParsesTo (tals_text base start list ++ replicate n 0) base Any start list }
     ensures first { (base start n : ℕ) (list : List Annotation) →
-        base < window → start < window → AllByRecursion IsAnnotation list → IsWithinLimits list →
-        base ≤ start → start < base + 10 ^ 9 →
-        BlockParsesTo (block_text base start list ++ replicate n 0) base First start list }
+        base < window → start < window → AllByRecursion IsValidAnnotation list →
+        IsWithinLimits list → base ≤ start → start < base + 10 ^ 9 →
+        BlockParsesTo (tals_text base start list ++ replicate n 0) base First start list }
     ensures after { (base start n before duration : ℕ) (list : List Annotation) →
-        base < window → start < window → AllByRecursion IsAnnotation list → IsWithinLimits list →
-        before + duration ≤ start →
-        BlockParsesTo (block_text base start list ++ replicate n 0) base
+        base < window → start < window → AllByRecursion IsValidAnnotation list →
+        IsWithinLimits list → before + duration ≤ start →
+        BlockParsesTo (tals_text base start list ++ replicate n 0) base
         (After before duration) start
         list }
 {}
@@ -77,7 +78,7 @@ pub fn read_annotations()
         (list : List Annotation) → BlocksParseTo bs s p start list → start < window }
     ensures annotations { (bs : List (List ℕ)) (s : ℕ) (p : Place) (start : ℕ)
         (list : List Annotation) → BlocksParseTo bs s p start list →
-        AllByRecursion IsAnnotation list }
+        AllByRecursion IsValidAnnotation list }
     ensures limits { (bs : List (List ℕ)) (s : ℕ) (p : Place) (start : ℕ)
         (list : List Annotation) → BlocksParseTo bs s p start list → IsWithinLimits list }
 {}
@@ -90,16 +91,16 @@ pub fn any_place()
 
 /// A canonical block is that of one start and one list.
 pub fn one_writing()
-    ensures { (base m n : ℕ) (k l : List Annotation) →
-        base < window → m < window → n < window →
-        AllByRecursion IsAnnotation k → AllByRecursion IsAnnotation l →
+    ensures { (base m n : ℕ) (k l : List Annotation) → base < window → m < window → n < window →
+        AllByRecursion IsValidAnnotation k → AllByRecursion IsValidAnnotation l →
         IsWithinLimits k → IsWithinLimits l →
-        block_text base m k ≡ block_text base n l → (m ≡ n) × (k ≡ l) }
+        tals_text base m k ≡ tals_text base n l → (m ≡ n) × (k ≡ l) }
 {}
 
 /// A canonical block within the limits has at most `MOST_CANONICAL_BLOCK_BYTES`.
 pub fn most_bytes()
     ensures { (base start : ℕ) (list : List Annotation) →
-        base < window → start < window → IsWithinLimits list → AllByRecursion IsAnnotation list →
-        length (block_text base start list) ≤ MOST_CANONICAL_BLOCK_BYTES }
+        base < window → start < window → IsWithinLimits list →
+        AllByRecursion IsValidAnnotation list →
+        length (tals_text base start list) ≤ MOST_CANONICAL_BLOCK_BYTES }
 {}

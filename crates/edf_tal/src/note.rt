@@ -1,6 +1,6 @@
 ghost use Rattle.std.specs.Prelude.{◌≡◌, ◌*◌, ◌<◌, ◌↔◌, IsSome, IfSome, string_bytes, IsTrue};
 ghost use Rattle.std.specs.Option.{ForSome};
-ghost use Rattle.edf_tal.specs.Tal.{Annotation, IsText, IsAnnotation};
+ghost use Rattle.edf_tal.specs.Tal.{Annotation, IsText, IsValidAnnotation};
 ghost use Rattle.edf_time.specs.Civil.{window};
 
 use crate::scan::{TAL_END, TEXT_END};
@@ -22,14 +22,14 @@ pub struct Note {
 
 impl Model for Note {
     ghost use Rattle.std.specs.Prelude.{string_bytes};
-    ghost use Rattle.edf_tal.specs.Tal.{Annotation, IsAnnotation};
+    ghost use Rattle.edf_tal.specs.Tal.{Annotation, IsValidAnnotation};
 
     ghost Value = { Annotation };
 
     ghost view = { λ n.
         record { onset = n.onset; duration = n.duration; text = string_bytes n.text } };
 
-    ghost invariant = { λ n. IsAnnotation
+    ghost invariant = { λ n. IsValidAnnotation
         (record { onset = n.onset; duration = n.duration; text = string_bytes n.text }) };
 }
 
@@ -86,7 +86,7 @@ impl Note {
     /// Returns the onset as an instant.
     pub fn onset(&self) -> Instant
         ensures value { result ≡ self.now.onset }
-        ensures note { IsAnnotation self.now }
+        ensures note { IsValidAnnotation self.now }
     {
         self.onset
     }
@@ -94,7 +94,7 @@ impl Note {
     /// Returns the duration in nanoseconds, shorter than the window of instants, or none.
     pub fn duration(&self) -> Option<u64>
         ensures value { result ≡ self.now.duration }
-        ensures note { IsAnnotation self.now }
+        ensures note { IsValidAnnotation self.now }
     {
         self.duration
     }
@@ -102,7 +102,7 @@ impl Note {
     /// Returns the text, which has no byte 0 or 20.
     pub fn text(&self) -> &str
         ensures value { result.now ≡ self.now.text }
-        ensures note { IsAnnotation self.now }
+        ensures note { IsValidAnnotation self.now }
     {
         self.text.as_str()
     }

@@ -4,10 +4,10 @@ ghost use Rattle.std.specs.List.{flat_map};
 ghost use Rattle.edf_time.specs.Civil.{window};
 ghost use Rattle.edf_tal.specs.Tal.{Tal, Annotation, IsText, HasTimeKeepingTal, tal_annotations};
 ghost use Rattle.edf_tal.specs.Tal.{annotations};
-ghost use Rattle.edf_tal.specs.Block.{BlocksParseTo, IsBlocksRefusal, BlockParsesTo};
-ghost use Rattle.edf_tal.specs.Block.{IsBlockRefusal, split_by_sizes};
-ghost use Rattle.edf_tal.specs.Inside.Scan.{AreTexts, IsScannedTal};
-ghost use Rattle.edf_tal.specs.Inside.Blocks.{AreSizes, AreSoundTals};
+ghost use Rattle.edf_tal.specs.Block.{BlocksParseTo, BlocksAreRefused, BlockParsesTo};
+ghost use Rattle.edf_tal.specs.Block.{BlockIsRefused, split_by_sizes};
+ghost use Rattle.edf_tal.specs.Inside.Scan.{AreUtf8Texts, IsScannedTal};
+ghost use Rattle.edf_tal.specs.Inside.Blocks.{AreBlockSizes, AreSoundTals};
 ghost use Rattle.edf_tal.specs.declared.place.Place.{Place};
 
 use crate::blocks::push_blocks;
@@ -48,8 +48,8 @@ fn push_texts(
     texts: &[u8],
 ) -> Result<(), AllocError>
     requires duration { IfSome duration (λ d. d < window) }
-    requires texts { (xs : List (List ℕ)) × AreTexts texts.now xs }
-    ensures { (xs : List (List ℕ)) → AreTexts texts.now xs → OnOk result (list.new.items
+    requires texts { (xs : List (List ℕ)) × AreUtf8Texts texts.now xs }
+    ensures { (xs : List (List ℕ)) → AreUtf8Texts texts.now xs → OnOk result (list.new.items
         ≡ list.old.items
         ++ map (λ text. record { onset = onset; duration = duration; text = text }) xs) }
 {
@@ -139,7 +139,7 @@ fn list_notes(
     count: usize,
     file_start: Instant,
 ) -> Result<Vec<Note>, AllocError>
-    requires sizes { AreSizes sizes.now block.now }
+    requires sizes { AreBlockSizes sizes.now block.now }
     requires read { (place : Place) × (start : ℕ) × (list : List Annotation)
         × BlocksParseTo (split_by_sizes sizes.now block.now) file_start place start list }
     ensures { (place : Place) (start : ℕ) (list : List Annotation) →
@@ -180,7 +180,7 @@ pub fn read_blocks(
     requires sizes { sum sizes.now ≡ length block.now }
     ensures { MatchResult result
         (λ r. BlocksParseTo (split_by_sizes sizes.now block.now) file_start place r.0 r.1.items)
-        (IsBlocksRefusal (split_by_sizes sizes.now block.now) file_start place) }
+        (BlocksAreRefused (split_by_sizes sizes.now block.now) file_start place) }
 {
     // most data records have the time-keeping annotation alone, which needs no survey
     if let Some(start) = bare_start(block, sizes, file_start, &place) {
@@ -208,7 +208,7 @@ pub fn read_block(
 ) -> Result<(Instant, Vec<Note>), TalFault>
     ensures { MatchResult result
         (λ r. BlockParsesTo block.now file_start place r.0 r.1.items)
-        (IsBlockRefusal block.now file_start place) }
+        (BlockIsRefused block.now file_start place) }
 {
     read_blocks(alloc, block, &[block.len()], file_start, place)
 }

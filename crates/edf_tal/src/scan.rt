@@ -2,9 +2,10 @@ ghost use Rattle.std.specs.Prelude.{◌≡◌, ℕ, ◌+◌, ◌<◌, ◌↔◌,
 ghost use Rattle.std.specs.Prelude.{Option, MatchOption, MatchResult, IsTrue, IsUtf8};
 ghost use Rattle.edf_time.specs.Decimal.{IsSeconds};
 ghost use Rattle.edf_tal.specs.Tal.{Tal};
-ghost use Rattle.edf_tal.specs.Inside.Scan.{Lacks, NoTal, capped, IsTimes, IsHead, IsCappedOnset};
-ghost use Rattle.edf_tal.specs.Inside.Scan.{IsCappedDuration, EndsWith20, IsLeadingTal, IsBadAmong};
-ghost use Rattle.edf_tal.specs.Inside.Scan.{AreGoodTexts};
+ghost use Rattle.edf_tal.specs.Inside.Scan.{Lacks, NoTal, capped, IsSecondsAndDuration};
+ghost use Rattle.edf_tal.specs.Inside.Scan.{IsOnsetAndDuration, IsCappedOnset, IsCappedDuration};
+ghost use Rattle.edf_tal.specs.Inside.Scan.{IsEmptyOrEndsWith20, IsLeadingTal, HasNonUtf8TextAmong};
+ghost use Rattle.edf_tal.specs.Inside.Scan.{BeginWithUtf8Texts};
 
 use edf_time::{DecimalFault, read_seconds};
 
@@ -63,8 +64,8 @@ pub(crate) fn capped_seconds(text: &[u8]) -> Option<u64>
 
 /// Reads an onset without its sign, and a duration or none.
 fn spans(bytes: &[u8]) -> Option<(u64, Option<u64>)>
-    ensures { MatchOption result ((n : ℕ) (d : Option ℕ) → ¬ IsTimes bytes.now n d)
-        (λ r. (n : ℕ) × (d : Option ℕ) × IsTimes bytes.now n d
+    ensures { MatchOption result ((n : ℕ) (d : Option ℕ) → ¬ IsSecondsAndDuration bytes.now n d)
+        (λ r. (n : ℕ) × (d : Option ℕ) × IsSecondsAndDuration bytes.now n d
         × (r.0 ≡ capped n) × IsCappedDuration r.1 d) }
 {
     match split_first(bytes, DURATION_MARK) {
@@ -82,8 +83,9 @@ fn spans(bytes: &[u8]) -> Option<(u64, Option<u64>)>
 
 /// Reads the times after a sign.
 fn signed_times(sign: u8, unsigned: &[u8]) -> Option<Times>
-    ensures { MatchOption result ((z : ℤ) (d : Option ℕ) → ¬ IsHead (sign ∷ unsigned.now) z d)
-        (λ t. (z : ℤ) × (d : Option ℕ) × IsHead (sign ∷ unsigned.now) z d
+    ensures { MatchOption result ((z : ℤ) (d : Option ℕ) →
+        ¬ IsOnsetAndDuration (sign ∷ unsigned.now) z d)
+        (λ t. (z : ℤ) × (d : Option ℕ) × IsOnsetAndDuration (sign ∷ unsigned.now) z d
         × IsCappedOnset t.ahead t.onset z × IsCappedDuration t.duration d) }
 {
     let (onset, duration) = spans(unsigned)?;
@@ -101,8 +103,8 @@ fn signed_times(sign: u8, unsigned: &[u8]) -> Option<Times>
 
 /// Reads the times before a TAL's first byte 20.
 fn head_times(head: &[u8]) -> Option<Times>
-    ensures { MatchOption result ((z : ℤ) (d : Option ℕ) → ¬ IsHead head.now z d)
-        (λ t. (z : ℤ) × (d : Option ℕ) × IsHead head.now z d
+    ensures { MatchOption result ((z : ℤ) (d : Option ℕ) → ¬ IsOnsetAndDuration head.now z d)
+        (λ t. (z : ℤ) × (d : Option ℕ) × IsOnsetAndDuration head.now z d
         × IsCappedOnset t.ahead t.onset z × IsCappedDuration t.duration d) }
 {
     match head {
@@ -113,7 +115,7 @@ fn head_times(head: &[u8]) -> Option<Times>
 
 /// Is true where there is no byte, or the last one ends a text.
 fn is_ended(bytes: &[u8]) -> bool
-    ensures { IsTrue result ↔ EndsWith20 bytes.now }
+    ensures { IsTrue result ↔ IsEmptyOrEndsWith20 bytes.now }
 {
     bytes.is_empty() || bytes[bytes.len() - 1] == TEXT_END
 }
@@ -142,7 +144,7 @@ fn is_utf8(text: &[u8]) -> bool
 
 /// Counts the texts. The error is where the first one begins that is not UTF-8.
 pub(crate) fn check_texts(texts: &[u8]) -> Result<usize, usize>
-    ensures { MatchResult result (AreGoodTexts texts.now) (IsBadAmong texts.now) }
+    ensures { MatchResult result (BeginWithUtf8Texts texts.now) (HasNonUtf8TextAmong texts.now) }
 {
     let len = texts.len();
     let mut rest = texts;

@@ -2,7 +2,7 @@ ghost use Rattle.std.specs.Prelude.{◌≡◌, ◌+◌, ◌<◌, ◌↔◌, ℤ,
 ghost use Rattle.std.specs.Prelude.{MatchResult, IsTrue};
 ghost use Rattle.edf_time.specs.Civil.{IsInWindow};
 ghost use Rattle.edf_tal.specs.Tal.{Tal, IsTalInWindow, instant};
-ghost use Rattle.edf_tal.specs.Condition.{IsInvalidUtf8At};
+ghost use Rattle.edf_tal.specs.Condition.{HasNonUtf8TextAt};
 ghost use Rattle.edf_tal.specs.Inside.Scan.{NoTal, IsCappedOnset, IsCappedDuration, FollowsTals};
 ghost use Rattle.edf_tal.specs.Inside.Scan.{IsSurvey};
 
@@ -77,7 +77,7 @@ pub(crate) fn survey(block: &[u8], file_start: Instant) -> Result<Totals<'_>, Ba
         (λ s. IsSurvey block.now file_start s.rest.now s.in_window s.count s.text_bytes
         × NoTal s.rest.now)
         (λ b. FollowsTals block.now b.rest.now × NoTal b.rest.now
-        × IsInvalidUtf8At block.now b.offset) }
+        × HasNonUtf8TextAt block.now b.offset) }
 {
     let mut rest = block;
     let mut in_window = true;

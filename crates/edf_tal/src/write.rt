@@ -3,9 +3,9 @@ ghost use Rattle.std.specs.Prelude.{unsigned_abs, length, IfOk, IfSome, OnOk, Is
 ghost use Rattle.edf_time.specs.Decimal.{short};
 ghost use Rattle.edf_time.specs.Civil.{window};
 ghost use Rattle.std.specs.List.{AllByRecursion};
-ghost use Rattle.edf_tal.specs.Tal.{IsAnnotation};
+ghost use Rattle.edf_tal.specs.Tal.{IsValidAnnotation};
 ghost use Rattle.edf_tal.specs.Block.{IsWithinLimits};
-ghost use Rattle.edf_tal.specs.Canonical.{onset_text, duration_text, tal_text, block_text};
+ghost use Rattle.edf_tal.specs.Canonical.{onset_text, duration_text, tal_text, tals_text};
 
 use crate::limits::{MOST_CANONICAL_BLOCK_BYTES, MOST_TEXT_BYTES, MOST_TIMES_BYTES};
 use crate::note::Note;
@@ -121,9 +121,9 @@ fn annotation_len(base: Instant, onset: Instant, duration: Option<u64>, text: &[
 /// contract also says what holds of each of them.
 pub fn block_len(start: Instant, notes: &[Note], base: Instant) -> usize
     requires { IsWithinLimits notes.now }
-    ensures value { result ≡ length (block_text base start notes.now) }
+    ensures value { result ≡ length (tals_text base start notes.now) }
     ensures bound { result ≤ MOST_CANONICAL_BLOCK_BYTES }
-    ensures annotations { AllByRecursion IsAnnotation notes.now }
+    ensures annotations { AllByRecursion IsValidAnnotation notes.now }
 {
     let mut len = annotation_len(base, start, None, b"");
     for note in notes {
@@ -149,7 +149,7 @@ pub fn write_block(
     base: Instant,
 ) -> Result<Vec<u8>, AllocError>
     requires { IsWithinLimits notes.now }
-    ensures { IfOk result (λ v. v.items ≡ block_text base start notes.now) }
+    ensures { IfOk result (λ v. v.items ≡ tals_text base start notes.now) }
 {
     let mut block = Vec::with_capacity(alloc, block_len(start, notes, base))?;
     push_annotation(alloc, &mut block, base, start, None, b"")?;

@@ -6,7 +6,7 @@ use Rattle.edf_header.specs.Key.{Key, IsKey}
 use Rattle.edf_tal.specs.Tal.{Annotation}
 use Rattle.edf_tal.specs.Block.{BlockParsesTo}
 use Rattle.edf_tal.specs.declared.place.Place.TheVariants.{Any}
-use Rattle.edf_tal.specs.Canonical.{block_text}
+use Rattle.edf_tal.specs.Canonical.{tals_text}
 use Rattle.edf_fragment.specs.Fragment.{DataRecord}
 use Rattle.edf_fragment.specs.Sound.{AreSound, MayBegin}
 use Rattle.edf_rows.specs.Cells.{record_cells, recording_cells, records_in}
@@ -18,7 +18,7 @@ IsNoBlock block = (start : ℕ) (list : List Annotation) → ¬ BlockParsesTo bl
 -- the block parses to this start and list, and is the one that is written for them
 pub record OwnBlock (block : List ℕ) (start : ℕ) (list : List Annotation) : Type 0 where
   pub read : BlockParsesTo block 0 Any start list
-  pub written : block ≡ block_text 0 start list
+  pub written : block ≡ tals_text 0 start list
 
 -- the block is not the one that is written for what it parses to
 abbrev pub NoOwnBlock : List ℕ → Type 0

@@ -2,24 +2,24 @@
 use Rattle.std.specs.Prelude.{◌≡◌, ℕ, ◌≤◌, List, [], ◌∷◌, length, sum, sum_by, IsTrue, ◌↔◌, pos}
 use Rattle.std.specs.Prelude.{None}
 use Rattle.std.specs.List.{AllByRecursion, flat_map}
-use Rattle.edf_tal.specs.Tal.{Tal, Annotation, AreTalsAndZeros, AreBlocks, all_tals, HaveUtf8Texts}
-use Rattle.edf_tal.specs.Tal.{IsTalInWindow, tal_annotations}
+use Rattle.edf_tal.specs.Tal.{Tal, Annotation, AreTalsAndZeros, AreTalBlocks, all_tals}
+use Rattle.edf_tal.specs.Tal.{HaveUtf8Texts, IsTalInWindow, tal_annotations}
 use Rattle.edf_tal.specs.Block.{BlocksParseTo}
-use Rattle.edf_tal.specs.Condition.{HaveInvalidUtf8At}
+use Rattle.edf_tal.specs.Condition.{HaveNonUtf8TextAt}
 use Rattle.edf_tal.specs.declared.place.Place.{Place}
 use Rattle.edf_tal.specs.declared.blocks.Sums.{Sums}
 use Rattle.edf_tal.specs.declared.blocks.Form.{Form}
 use Rattle.edf_tal.specs.declared.blocks.Form.TheVariants.{Good, BadText}
 
 -- sizes of one block or more, whose sum is the number of bytes
-pub record AreSizes (sizes block : List ℕ) : Type 0 where
+pub record AreBlockSizes (sizes block : List ℕ) : Type 0 where
   pub some : 1 ≤ length sizes
   pub sum_is : sum sizes ≡ length block
 
 -- blocks of TALs with UTF-8 texts have these totals
-pub record AreSurveyed (blocks : List (List ℕ)) (file_start : ℕ) (sums : Sums) : Type 0 where
+pub record HaveSums (blocks : List (List ℕ)) (file_start : ℕ) (sums : Sums) : Type 0 where
   pub tals : List (List Tal)
-  pub lists : AreBlocks blocks tals
+  pub lists : AreTalBlocks blocks tals
   pub good : HaveUtf8Texts (all_tals tals)
   pub window : IsTrue sums.in_window ↔ AllByRecursion (IsTalInWindow file_start) (all_tals tals)
   pub count_is : sums.count ≡ length (flat_map (tal_annotations file_start) (all_tals tals))
@@ -28,9 +28,9 @@ pub record AreSurveyed (blocks : List (List ℕ)) (file_start : ℕ) (sums : Sum
 
 -- blocks that are TALs and zeros have this form
 abbrev pub HasForm : List (List ℕ) → ℕ → Form → Type 0
-HasForm blocks file_start (Good sums) = AreSurveyed blocks file_start sums
-HasForm blocks file_start (BadText offset) = ((tss : List (List Tal)) × AreBlocks blocks tss)
-    × HaveInvalidUtf8At blocks offset
+HasForm blocks file_start (Good sums) = HaveSums blocks file_start sums
+HasForm blocks file_start (BadText offset) = ((tss : List (List Tal)) × AreTalBlocks blocks tss)
+    × HaveNonUtf8TextAt blocks offset
 
 -- the blocks have no fault at this place: they parse to this start, and to a list of this length
 pub record IsChecked (blocks : List (List ℕ)) (file_start : ℕ) (place : Place)
@@ -54,8 +54,8 @@ pub record AreSoundTals (bytes : List ℕ) (file_start : ℕ) (tals : List Tal) 
   pub window : AllByRecursion (IsTalInWindow file_start) tals
 
 -- each block has such TALs
-abbrev pub AreSoundLists : List (List ℕ) → ℕ → List (List Tal) → Type 0
-AreSoundLists [] file_start [] = Unit {0}
-AreSoundLists (block ∷ blocks) file_start (ts ∷ tss) = AreSoundTals block file_start ts
-    × AreSoundLists blocks file_start tss
-AreSoundLists blocks file_start tss = ⊥
+abbrev pub AreSoundBlocks : List (List ℕ) → ℕ → List (List Tal) → Type 0
+AreSoundBlocks [] file_start [] = Unit {0}
+AreSoundBlocks (block ∷ blocks) file_start (ts ∷ tss) = AreSoundTals block file_start ts
+    × AreSoundBlocks blocks file_start tss
+AreSoundBlocks blocks file_start tss = ⊥

@@ -26,7 +26,7 @@ abbrev pub capped : ℕ → ℕ
 capped n = min n (2 ^ 63)
 
 -- a decimal, and a duration or none
-pub record IsTimes (bytes : List ℕ) (n : ℕ) (d : Option ℕ) : Type 0 where
+pub record IsSecondsAndDuration (bytes : List ℕ) (n : ℕ) (d : Option ℕ) : Type 0 where
   pub onset : List ℕ
   pub duration : List ℕ
   pub parts : bytes ≡ onset ++ duration
@@ -34,7 +34,7 @@ pub record IsTimes (bytes : List ℕ) (n : ℕ) (d : Option ℕ) : Type 0 where
   pub is_duration : IsDurationPart duration d
 
 -- an onset, and a duration or none
-pub record IsHead (bytes : List ℕ) (z : ℤ) (d : Option ℕ) : Type 0 where
+pub record IsOnsetAndDuration (bytes : List ℕ) (z : ℤ) (d : Option ℕ) : Type 0 where
   pub onset : List ℕ
   pub duration : List ℕ
   pub parts : bytes ≡ onset ++ duration
@@ -53,10 +53,10 @@ IsCappedDuration (Some n) (Some m) = n ≡ capped m
 IsCappedDuration d e = ⊥
 
 -- nothing, or bytes of which the last is 20
-abbrev pub EndsWith20 : List ℕ → Type 0
-EndsWith20 [] = Unit {0}
-EndsWith20 (b ∷ []) = b ≡ 20
-EndsWith20 (b ∷ c ∷ bytes) = EndsWith20 (c ∷ bytes)
+abbrev pub IsEmptyOrEndsWith20 : List ℕ → Type 0
+IsEmptyOrEndsWith20 [] = Unit {0}
+IsEmptyOrEndsWith20 (b ∷ []) = b ≡ 20
+IsEmptyOrEndsWith20 (b ∷ c ∷ bytes) = IsEmptyOrEndsWith20 (c ∷ bytes)
 
 -- the bytes begin with the TAL of these texts, and the rest follows
 pub record IsLeadingTal (bytes texts rest : List ℕ) (t : Tal) : Type 0 where
@@ -66,7 +66,7 @@ pub record IsLeadingTal (bytes texts rest : List ℕ) (t : Tal) : Type 0 where
   pub texts_are : texts ≡ terminated t.texts
 
 -- the first of the texts that is not UTF-8
-pub record IsBadAmong (texts : List ℕ) (at : ℕ) : Type 0 where
+pub record HasNonUtf8TextAmong (texts : List ℕ) (at : ℕ) : Type 0 where
   pub good : List (List ℕ)
   pub text : List ℕ
   pub suffix : List ℕ
@@ -77,7 +77,7 @@ pub record IsBadAmong (texts : List ℕ) (at : ℕ) : Type 0 where
   pub at_is : at ≡ length (terminated good)
 
 -- this many texts, all of them UTF-8
-pub record AreGoodTexts (texts : List ℕ) (count : ℕ) : Type 0 where
+pub record BeginWithUtf8Texts (texts : List ℕ) (count : ℕ) : Type 0 where
   pub list : List (List ℕ)
   pub rest : List ℕ
   pub parts : texts ≡ terminated list ++ rest
@@ -107,14 +107,14 @@ pub record IsSurvey (bytes : List ℕ) (file_start : ℕ) (rest : List ℕ) (in_
       (flat_map (tal_annotations file_start) tals)
 
 -- the first data record starts in the second that the header names
-abbrev pub KeepsSecond : Place → ℤ → Type 0
-KeepsSecond First onset = (pos 0 ≤ℤ onset) × (onset <ℤ pos (10 ^ 9))
-KeepsSecond place onset = Unit {0}
+abbrev pub StartsInFirstSecond : Place → ℤ → Type 0
+StartsInFirstSecond First onset = (pos 0 ≤ℤ onset) × (onset <ℤ pos (10 ^ 9))
+StartsInFirstSecond place onset = Unit {0}
 
 -- a later one starts at least a duration after the one before
-abbrev pub KeepsOrder : Place → ℕ → Type 0
-KeepsOrder (After before duration) start = before + duration ≤ start
-KeepsOrder place start = Unit {0}
+abbrev pub StartsInOrder : Place → ℕ → Type 0
+StartsInOrder (After before duration) start = before + duration ≤ start
+StartsInOrder place start = Unit {0}
 
 -- the texts of a TAL without a fault, and its times
 pub record IsScannedTal (texts : List ℕ) (ahead : Bool) (onset : ℕ) (duration : Option ℕ)
@@ -127,7 +127,7 @@ pub record IsScannedTal (texts : List ℕ) (ahead : Bool) (onset : ℕ) (duratio
   pub window : IsTalInWindow file_start t
 
 -- texts that make annotations
-pub record AreTexts (bytes : List ℕ) (texts : List (List ℕ)) : Type 0 where
+pub record AreUtf8Texts (bytes : List ℕ) (texts : List (List ℕ)) : Type 0 where
   pub bytes_are : bytes ≡ terminated texts
   pub are_texts : AllByRecursion IsText texts
   pub good : AllByRecursion IsUtf8 texts

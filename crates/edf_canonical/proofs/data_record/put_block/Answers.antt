@@ -1,7 +1,7 @@
 use Rattle.std.proofs.Common.{◌≡◌, ◌∙◌, ◌++◌, ◌-◌, ℕ, List, replicate, length, refl, ap, sym, arith}
 use Rattle.std.proofs.lemmas.Result.{err_from_is_err_and}
 use Rattle.edf_tal.specs.Tal.{Annotation}
-use Rattle.edf_tal.specs.Canonical.{block_text}
+use Rattle.edf_tal.specs.Canonical.{tals_text}
 use Rattle.edf_canonical.specs.File.{block_of}
 use Rattle.edf_canonical.proofs.Puts.{holds-none, put-then, put-stops}
 use Rattle.edf_canonical.proofs.data_record.put_block.Goals as goal
@@ -21,8 +21,8 @@ returns g c =
     let fs = c.args.file_start in
     let block : List ℕ = block_of fs r in
     let items : c.in-Ok.block.items ≡ block =
-    c.in-Ok.ensures ∙ ap (λ (n : ℕ). block_text fs n c.notes.result.now) c.start.ensures.value
-    ∙ ap (λ (l : List Annotation). block_text fs r.start l) c.notes.ensures.value in
+    c.in-Ok.ensures ∙ ap (λ (n : ℕ). tals_text fs n c.notes.result.now) c.start.ensures.value
+    ∙ ap (λ (l : List Annotation). tals_text fs r.start l) c.notes.ensures.value in
     let text : c.as_slice.result.now ≡ block = c.as_slice.ensures.value ∙ items in
     let len : c.len.result ≡ length block =
     omega (arith, c.len.ensures, c.in-Ok.block.ok.0, ap (λ (l : List ℕ). length l) items) in
@@ -36,8 +36,8 @@ returns-in_err-put g c =
     let fs = c.args.file_start in
     let block : List ℕ = block_of fs r in
     let items : c.in-Ok.block.items ≡ block =
-    c.in-Ok.ensures ∙ ap (λ (n : ℕ). block_text fs n c.notes.result.now) c.start.ensures.value
-    ∙ ap (λ (l : List Annotation). block_text fs r.start l) c.notes.ensures.value in
+    c.in-Ok.ensures ∙ ap (λ (n : ℕ). tals_text fs n c.notes.result.now) c.start.ensures.value
+    ∙ ap (λ (l : List Annotation). tals_text fs r.start l) c.notes.ensures.value in
     let text : c.as_slice.result.now ≡ block = c.as_slice.ensures.value ∙ items in
     let p = err_from_is_err_and c.from_residual.result c.from_residual.ensures.1 in
     rw (p.1, p.2) (put-stops _ _ c.as_slice.result.now

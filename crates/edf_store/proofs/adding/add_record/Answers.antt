@@ -2,7 +2,7 @@ use Rattle.std.proofs.Common.{◌≡◌, pos, rules, w64}
 use Rattle.std.proofs.lemmas.Int.{to_z-of_z}
 use Rattle.sqlite.specs.Held.{state}
 use Rattle.sqlite.specs.State.{HasCleanDisk}
-use Rattle.edf_tal.specs.Canonical.{block_text}
+use Rattle.edf_tal.specs.Canonical.{tals_text}
 use Rattle.edf_tables.specs.Row.{cells, HasRecord}
 use Rattle.edf_tables.proofs.Held.{record_keeps}
 use Rattle.edf_store.proofs.Begun.{stays_same}
@@ -33,10 +33,10 @@ returns-clause-added g c =
     let sees = rw (← c.store.view_is) at c.requires.sees in
     let spare = rw (← c.store.view_is) at c.requires.spare in
     let start : c.start_of-start.result ≡ pos r.start = search rules in
-    let block : c.as_slice.result.now ≡ block_text 0 r.start r.annotations = search rules in
+    let block : c.as_slice.result.now ≡ tals_text 0 r.start r.annotations = search rules in
     let has : HasCleanDisk new →
     HasRecord old new (cells c.args.id (pos r.start) r.samples
-    (block_text 0 r.start r.annotations)) =
+    (tals_text 0 r.start r.annotations)) =
     λ clean. rw (
       to_z-of_z w64 c.args.id c.ranges.id,
       start,

@@ -5,7 +5,7 @@ use Rattle.edf_tal.specs.Inside.Blocks.{HasForm}
 use Rattle.edf_tal.specs.declared.blocks.Sums.{Sums}
 use Rattle.edf_tal.specs.declared.blocks.Form.{Form}
 use Rattle.edf_tal.specs.declared.blocks.Form.TheVariants.{Good}
-use Rattle.edf_tal.specs.Condition.{HaveInvalidUtf8At}
+use Rattle.edf_tal.specs.Condition.{HaveNonUtf8TextAt}
 use Rattle.edf_tal.proofs.Joined.{surveyed-append, surveyed-room, bad-front, bad-back, form-lists}
 use Rattle.edf_tal.proofs.Joined.{lists-both}
 use Rattle.edf_tal.proofs.blocks.with_next.Goals as goal
@@ -56,6 +56,6 @@ returns-in-Good-BadText c = λ s before after p start q.
     let place : sum_by length before + c.in-Good-BadText.offset ≡ c.args.start +
     c.in-Good-BadText.offset = ap (λ (n : ℕ). n + c.in-Good-BadText.offset) (sym start) in (
       lists-both before after (v.tals, v.lists) h.0,
-      subst (HaveInvalidUtf8At (before ++ after)) place
+      subst (HaveNonUtf8TextAt (before ++ after)) place
           (bad-back before after s c.in-Good-BadText.field-0-0 c.in-Good-BadText.offset v h.1),
     )

@@ -1,7 +1,7 @@
 use Rattle.std.proofs.Common.{◌≡◌, ℕ, Bool, true, false, not, List, ◌∷◌, refl, sym, subst, arith}
 use Rattle.std.specs.Prelude.{IsTrue}
-use Rattle.edf_tal.specs.Inside.Scan.{KeepsOrder}
-use Rattle.edf_tal.specs.Inside.Blocks.{AreSurveyed}
+use Rattle.edf_tal.specs.Inside.Scan.{StartsInOrder}
+use Rattle.edf_tal.specs.Inside.Blocks.{HaveSums}
 use Rattle.edf_tal.proofs.FirstTal.{Known, IsEmptyFirst, known, timed}
 use Rattle.edf_tal.proofs.Judge.{some-count, checked, fault-none}
 use Rattle.edf_tal.proofs.Judge.{fault-untimed, fault-second, fault-window, fault-order, fault-many}
@@ -14,7 +14,7 @@ not-false false e = absurd cc
 
 -- what is known of the TALs where the first is known
 the-first : (c : In-Some) (later : List (List ℕ)) →
-    AreSurveyed (c.args.first.now ∷ later) c.args.file_start c.args.sums
+    HaveSums (c.args.first.now ∷ later) c.args.file_start c.args.sums
     → Known (c.args.first.now ∷ later) c.args.file_start c.args.sums c.in-Some.ensures.0
 the-first c later v =
     known c.args.first.now later c.in-Some.first.texts.now c.in-Some.first.rest.now
@@ -78,7 +78,7 @@ returns-then-not-keeps_order c = λ later v.
     (λ e. absurd (grind (
       arith,
       c.keeps_order.ensures.1
-          (subst (KeepsOrder c.args.place) (sym start) e),
+          (subst (StartsInOrder c.args.place) (sym start) e),
       c.if-not-keeps_order.true,
     )))
 
@@ -91,7 +91,7 @@ returns-then-not-is_within_limits c = λ later v.
     fault-many (c.args.first.now ∷ later) c.args.file_start c.args.place c.args.sums t
     (the-first a later v) (is-empty a (c.if-not-is_time_keeping.ensures.0 refl))
     ((c.if-not-keeps_second.ensures t.onset c.in-Some.ensures.2).0 refl) window
-    (subst (KeepsOrder c.args.place) start (c.if-not-keeps_order.ensures.0 refl))
+    (subst (StartsInOrder c.args.place) start (c.if-not-keeps_order.ensures.0 refl))
     (λ e. absurd (grind (arith, c.is_within_limits.ensures.1 e, c.if-not-is_within_limits.true)))
 
 pub overflow_sub-result : goal.overflow_sub-result

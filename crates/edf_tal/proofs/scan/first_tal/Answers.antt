@@ -1,5 +1,5 @@
 use Rattle.std.proofs.Common.{refl, arith, sym, subst}
-use Rattle.edf_tal.specs.Inside.Scan.{EndsWith20}
+use Rattle.edf_tal.specs.Inside.Scan.{IsEmptyOrEndsWith20}
 use Rattle.edf_tal.proofs.Heads.{no-twenty, front-sides, front-made, IsEnded-ended}
 use Rattle.edf_tal.proofs.scan.first_tal.Goals as goal
 
@@ -15,8 +15,8 @@ returns-then-not-is_ended c = λ front rest t e s.
     c.in_ok-head.head.now c.in_ok-head.texts.now front rest t
     c.in_ok-body.ensures.0 c.in_ok-body.ensures.1 c.in_ok-head.ensures.0 c.in_ok-head.ensures.1 e
     s in
-    let ends : EndsWith20 c.in_ok-head.texts.now =
-    subst EndsWith20 (sym sides.texts) (IsEnded-ended t.texts) in
+    let ends : IsEmptyOrEndsWith20 c.in_ok-head.texts.now =
+    subst IsEmptyOrEndsWith20 (sym sides.texts) (IsEnded-ended t.texts) in
     absurd (grind (arith, c.is_ended.ensures.1 ends, c.if-not-is_ended.true))
 
 pub returns-in_err-times : goal.returns-in_err-times
