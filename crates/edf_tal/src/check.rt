@@ -58,14 +58,6 @@ fn keeps_order(place: &Place, start: Instant) -> bool
     }
 }
 
-/// Is true where annotations, with the time-keeping one, are within the limits.
-fn is_within_limits(count: usize, text_bytes: usize) -> bool
-    ensures { IsTrue result
-        ↔ ((count ≤ MOST_ANNOTATIONS + 1) × (text_bytes ≤ MOST_TEXT_BYTES)) }
-{
-    count <= MOST_ANNOTATIONS + 1 && text_bytes <= MOST_TEXT_BYTES
-}
-
 /// Checks the TALs of a data record: the time-keeping annotation, the first onset, the window, the
 /// order and the limits. `first` is its first block, and `sums` has the totals of all its blocks.
 fn check_tals(
@@ -98,7 +90,7 @@ fn check_tals(
     if !keeps_order(&place, start) {
         return Err(TalFault::Order);
     }
-    if !is_within_limits(sums.count, sums.text_bytes) {
+    if sums.count > MOST_ANNOTATIONS + 1 || sums.text_bytes > MOST_TEXT_BYTES {
         return Err(TalFault::TooMany);
     }
     Ok(Checked {

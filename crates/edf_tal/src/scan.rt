@@ -136,12 +136,6 @@ pub(crate) fn first_tal(bytes: &[u8]) -> Option<LeadingTal<'_>>
     Some(LeadingTal { times, texts, rest })
 }
 
-fn is_utf8(text: &[u8]) -> bool
-    ensures { IsTrue result ↔ IsUtf8 text.now }
-{
-    simdutf8::basic::from_utf8(text).is_ok()
-}
-
 /// Counts the texts. The error is where the first one begins that is not UTF-8.
 pub(crate) fn check_texts(texts: &[u8]) -> Result<usize, usize>
     ensures { MatchResult result (BeginWithUtf8Texts texts.now) (HasNonUtf8TextAmong texts.now) }
@@ -150,9 +144,9 @@ pub(crate) fn check_texts(texts: &[u8]) -> Result<usize, usize>
     let mut rest = texts;
     let mut count = 0;
     while let Some((text, more)) = split_first(rest, TEXT_END) {
-        if !is_utf8(text) {
+        let Ok(_) = simdutf8::basic::from_utf8(text) else {
             return Err(len - rest.len());
-        }
+        };
         count += 1;
         rest = more;
     }

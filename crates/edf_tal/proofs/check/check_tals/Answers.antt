@@ -82,17 +82,17 @@ returns-then-not-keeps_order c = λ later v.
       c.if-not-keeps_order.true,
     )))
 
-pub returns-then-not-is_within_limits : goal.returns-then-not-is_within_limits
-returns-then-not-is_within_limits c = λ later v.
+pub returns-then-sums : goal.returns-then-sums
+returns-then-sums c = λ later v.
     let t = c.in-Some.ensures.0 in
-    let a = (goal.at.returns-then-not-is_within_limits c).In-Some in
+    let a = (goal.at.returns-then-sums c).In-Some in
     let window = not-false c.args.sums.in_window c.if-not-sums.false in
     let start = (c.in-Some-onset_instant.ensures t.onset c.in-Some.ensures.2).1 in
     fault-many (c.args.first.now ∷ later) c.args.file_start c.args.place c.args.sums t
     (the-first a later v) (is-empty a (c.if-not-is_time_keeping.ensures.0 refl))
     ((c.if-not-keeps_second.ensures t.onset c.in-Some.ensures.2).0 refl) window
     (subst (StartsInOrder c.args.place) start (c.if-not-keeps_order.ensures.0 refl))
-    (λ e. absurd (grind (arith, c.is_within_limits.ensures.1 e, c.if-not-is_within_limits.true)))
+    (λ e. absurd (omega (arith, e.0, e.1, c.then-sums.either)))
 
 pub overflow_sub-result : goal.overflow_sub-result
 overflow_sub-result c =
@@ -111,4 +111,5 @@ returns c = λ later v.
     (the-first a later v) c.in-Some-onset_instant.start
     (is-empty a (c.if-not-is_time_keeping.ensures.0 refl))
     ((c.if-not-keeps_second.ensures t.onset c.in-Some.ensures.2).0 refl) window start
-    (c.if-not-keeps_order.ensures.0 refl) (c.if-not-is_within_limits.ensures.0 refl)
+    (c.if-not-keeps_order.ensures.0 refl)
+    (omega (arith, c.if-sums.false), omega (arith, c.if-sums-gt-MOST_TEXT_BYTES.false))

@@ -1,4 +1,4 @@
-use Rattle.std.proofs.Common.{arith, refl, length, ap, ◌∷◌}
+use Rattle.std.proofs.Common.{arith, length, ap, ◌∷◌}
 use Rattle.std.proofs.lemmas.List.{length-append}
 use Rattle.edf_tal.proofs.Surveys.{checked-more, checked-room}
 use Rattle.edf_tal.proofs.scan.check_texts.Goals as goal
@@ -18,4 +18,4 @@ pub loop-text-preserved : goal.loop-text-preserved
 loop-text-preserved c =
     checked-more c.args.texts.now c.loop-text.rest.now c.in-Some.text.now c.in-Some.more.now
     c.loop-text.count c.loop-text.invariant
-    c.in-Some.ensures.0 c.in-Some.ensures.1 (c.if-not-is_utf8.ensures.0 refl)
+    c.in-Some.ensures.0 c.in-Some.ensures.1 c.in-Ok.ensures.1
