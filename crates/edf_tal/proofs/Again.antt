@@ -205,9 +205,8 @@ keeps-first : (base start : ℕ) → base ≤ start → start < base + 10 ^ 9 �
 keeps-first base start low high = (omega (arith, ints), omega (arith, ints))
 
 pub read-first : (base start n : ℕ) (list : List Annotation) → base < window → start < window →
-    AllByRecursion IsValidAnnotation list → IsWithinLimits list
-    → base ≤ start → start < base + 10 ^ 9 →
-    BlockParsesTo (tals_text base start list ++ replicate n 0) base First start list
+    AllByRecursion IsValidAnnotation list → IsWithinLimits list → base ≤ start → start < base + 10 ^
+    9 → BlockParsesTo (tals_text base start list ++ replicate n 0) base First start list
 read-first base start n list low in-window' all limits from to =
     read-again First base start n list low in-window' all limits (keeps-first base start from to)
 
@@ -230,8 +229,7 @@ pub read-alone : (base start : ℕ) (list : List Annotation) → base < window �
     → BlockParsesTo (tals_text base start list) base Any start list
 read-alone base start list low in-window' all limits =
     subst (λ (x : List ℕ). BlockParsesTo x base Any start list)
-    (append-nil (tals_text base start list))
-    (read-any base start 0 list low in-window' all limits)
+    (append-nil (tals_text base start list)) (read-any base start 0 list low in-window' all limits)
 
 -- what is read at a place is read without one
 pub blocks-read-elsewhere : (bs : List (List ℕ)) (s : ℕ) (p : Place) (start : ℕ)
@@ -254,9 +252,8 @@ read-elsewhere b s p start list r = blocks-read-elsewhere (b ∷ []) s p start l
 
 -- a canonical block is written of one start and list
 pub one-writing : (base m n : ℕ) (k l : List Annotation) → base < window → m < window → n < window →
-    AllByRecursion IsValidAnnotation k → AllByRecursion IsValidAnnotation l
-    → IsWithinLimits k → IsWithinLimits l → tals_text base m k ≡ tals_text base n l →
-    SameAnswer m n k l
+    AllByRecursion IsValidAnnotation k → AllByRecursion IsValidAnnotation l → IsWithinLimits k →
+    IsWithinLimits l → tals_text base m k ≡ tals_text base n l → SameAnswer m n k l
 one-writing base m n k l low p q a b c d e =
     one-read (tals_text base m k) base Any m n k l (read-alone base m k low p a c)
     (subst (λ (x : List ℕ). BlockParsesTo x base Any n l) (sym e) (read-alone base n l low q b d))

@@ -156,8 +156,7 @@ after-tals (suc fuel) bytes short =
           let more = after-tals fuel f.rest (omega arith) in (
             more.0,
             after-after bytes f.rest more.0
-                (after-more bytes bytes f.texts f.rest f.tal (after-none bytes) f.is_front)
-                more.1,
+                (after-more bytes bytes f.texts f.rest f.tal (after-none bytes) f.is_front) more.1,
             more.2,
           )
       | inr none ↦ (bytes, after-none bytes, none)
@@ -300,8 +299,7 @@ form b s =
     ]
 
 pub forms : (bs : List (List ℕ)) (s : ℕ) →
-    ((f : Form) × HasForm bs s f) ⊎ ((at : ℕ) × AreMalformedAt bs
-    at)
+    ((f : Form) × HasForm bs s f) ⊎ ((at : ℕ) × AreMalformedAt bs at)
 forms [] s = inl (Good (record { in_window = true; count = 0; text_bytes = 0 }), surveyed-none s)
 forms (b ∷ bs) s =
     elim (form b s) [

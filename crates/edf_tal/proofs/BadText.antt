@@ -108,8 +108,7 @@ among : (good xs : List (List ℕ)) (text back rest : List ℕ) →
 among [] [] text back rest g p ts us e = absurd (no-zero text back rest p e)
 among [] (x ∷ xs) text back rest g p ts us e =
     let s = same-sides 20 text x back (terminated xs ++ 0 ∷ rest) (Lacks-text text p)
-    (Lacks-text x ts.0)
-    (e ∙ first-text x xs (0 ∷ rest)) in
+    (Lacks-text x ts.0) (e ∙ first-text x xs (0 ∷ rest)) in
     rw (s.prefix) (us.0)
 among (y ∷ good) [] text back rest g p ts us e =
     absurd (no-zero y (terminated good ++ (text ++ 20 ∷ back)) rest g.0.0
@@ -140,8 +139,7 @@ good-front bytes front rest t at e s good b =
 zeros-front : (zeros : List ℕ) (at : ℕ) → AreZeros zeros → IsBadFront zeros at → ⊥
 zeros-front zeros at a b =
     no-onset b.onset (b.duration ++ 20 ∷ (terminated b.good ++ (b.text ++ 20 ∷ b.suffix))) zeros
-    b.is_onset.0 a b.is_onset.1
-    (b.parts ∙ append_assoc b.onset b.duration
+    b.is_onset.0 a b.is_onset.1 (b.parts ∙ append_assoc b.onset b.duration
     (20 ∷ (terminated b.good ++ (b.text ++ 20 ∷ b.suffix))))
 
 regroup : (f r x f' r' x' front front' : List ℕ) → front ≡ f ++ r → front' ≡ f' ++ r' → front
@@ -185,8 +183,7 @@ good-block bytes ts at (front, zeros, parts, tals, are) good b =
 same-good : (good more : List (List ℕ)) (x y back rest : List ℕ) →
     AllByRecursion (λ x. IsText x × IsUtf8 x) good → AllByRecursion (λ x. IsText x × IsUtf8 x) more
     → IsText x → IsText y → ¬ IsUtf8 x → ¬ IsUtf8 y →
-    terminated good ++ (x ++ 20 ∷ back) ≡ terminated more
-    ++ (y ++ 20 ∷ rest) → good ≡ more
+    terminated good ++ (x ++ 20 ∷ back) ≡ terminated more ++ (y ++ 20 ∷ rest) → good ≡ more
 same-good [] [] x y back rest g m p q b c e = refl
 same-good [] (m ∷ ms) x y back rest g a p q b c e =
     let s = same-sides 20 x m back (terminated ms ++ (y ++ 20 ∷ rest)) (Lacks-text x p)
@@ -211,8 +208,7 @@ one-front bytes j k b c =
     (Lacks-head b.onset b.duration b.is_onset b.is_duration)
     (Lacks-head c.onset c.duration c.is_onset c.is_duration) (sym b.parts ∙ c.parts) in
     let g = same-good b.good c.good b.text c.text b.suffix c.suffix b.good_texts c.good_texts
-    b.is_text
-    c.is_text b.bad c.bad s.suffix in
+    b.is_text c.is_text b.bad c.bad s.suffix in
     let heads : length b.onset + length b.duration ≡ length c.onset + length c.duration =
     sym (length-append b.onset b.duration) ∙ ap length s.prefix
     ∙ length-append c.onset c.duration in

@@ -67,10 +67,9 @@ keeps-time block tal zeros onset n parts sides seconds are =
     )
 
 pub bare-told : (block tal zeros onset : List ℕ) (told : Option ℕ) → block ≡ tal ++ 0 ∷ zeros →
-    tal ≡ 43 ∷ (onset ++ 20 ∷ 20 ∷ []) → AreZeros zeros
-    → MatchOption told ((n : ℕ) → ¬ IsSeconds onset n)
-    (λ nanos. (n : ℕ) × IsSeconds onset n × (nanos ≡ capped n))
-    → IfSome told (λ nanos. (n : ℕ) × (nanos ≡ capped n) × IsTimeKeepingBlock block n)
+    tal ≡ 43 ∷ (onset ++ 20 ∷ 20 ∷ []) → AreZeros zeros → MatchOption told ((n : ℕ) → ¬ IsSeconds
+    onset n) (λ nanos. (n : ℕ) × IsSeconds onset n × (nanos ≡ capped n)) → IfSome told (λ nanos. (n
+    : ℕ) × (nanos ≡ capped n) × IsTimeKeepingBlock block n)
 bare-told block tal zeros onset None parts sides are h = tt
 bare-told block tal zeros onset (Some nanos) parts sides are (n, seconds, is) =
     (n, is, keeps-time block tal zeros onset n parts sides seconds are)

@@ -38,14 +38,12 @@ cut-first [] block some = absurd (omega arith)
 cut-first (n ∷ sizes) block some = refl
 
 pub cut-split : (sizes block first later : List ℕ) → 1 ≤ length sizes →
-    first ≡ take (get_or sizes 0 0) block → later ≡ drop (get_or sizes 0 0) block
-    → split_by_sizes sizes block ≡ first ∷ split_by_sizes
-    (take (length sizes - 1) (drop 1 sizes)) later
+    first ≡ take (get_or sizes 0 0) block → later ≡ drop (get_or sizes 0 0) block → split_by_sizes
+    sizes block ≡ first ∷ split_by_sizes (take (length sizes - 1) (drop 1 sizes)) later
 cut-split [] block first later some f l = absurd (omega arith)
 cut-split (n ∷ sizes) block first later some f l =
-    ap₂ (λ (x y : List ℕ). x ∷ split_by_sizes sizes y) (sym f) (sym l)
-    ∙ ap (λ (ss : List ℕ). first ∷ split_by_sizes ss later)
-    (sym (take_all (length (n ∷ sizes) - 1) sizes (omega arith)))
+    ap₂ (λ (x y : List ℕ). x ∷ split_by_sizes sizes y) (sym f) (sym l) ∙ ap (λ (ss : List ℕ). first
+    ∷ split_by_sizes ss later) (sym (take_all (length (n ∷ sizes) - 1) sizes (omega arith)))
 
 -- the blocks that were gone over, and those that are left
 pub record HasSurveyed (sizes block : List ℕ) (i : ℕ) (rest : List ℕ) (s : ℕ) (form : Form) : Type 0
@@ -63,9 +61,8 @@ pub record HasNext (sizes : List ℕ) (i : ℕ) (rest front later : List ℕ) : 
   pub left : sum (drop (i + 1) sizes) ≡ length later
 
 pub next-block : (sizes : List ℕ) (i : ℕ) (rest front later : List ℕ) → i < length sizes →
-    sum (drop i sizes) ≡ length rest
-    → front ≡ take (get_or sizes i 0) rest → later ≡ drop (get_or sizes i 0) rest →
-    HasNext sizes i rest front later
+    sum (drop i sizes) ≡ length rest → front ≡ take (get_or sizes i 0) rest → later ≡ drop (get_or
+    sizes i 0) rest → HasNext sizes i rest front later
 next-block sizes i rest front later low left f b =
     let joined : front ++ later ≡ rest = ap₂ (λ (x y : List ℕ). x ++ y) f b
     ∙ take-append-drop (get_or sizes i 0) rest in
@@ -87,9 +84,8 @@ next-block sizes i rest front later low left f b =
     }
 
 pub surveyed-next : (sizes block : List ℕ) (i : ℕ) (rest front later : List ℕ) (s : ℕ)
-    (form next : Form) → (w : HasSurveyed sizes block i rest s form)
-    → HasNext sizes i rest front later → HasForm (w.done ++ front ∷ []) s next →
-    HasSurveyed sizes block (i + 1) later s next
+    (form next : Form) → (w : HasSurveyed sizes block i rest s form) → HasNext sizes i rest front
+    later → HasForm (w.done ++ front ∷ []) s next → HasSurveyed sizes block (i + 1) later s next
 surveyed-next sizes block i rest front later s form next w n is = record {
   done = w.done ++ front ∷ [];
   parts = w.parts ∙ ap (λ (x : List (List ℕ)). w.done ++ x) n.parts
@@ -106,8 +102,7 @@ surveyed-next sizes block i rest front later s form next w n is = record {
 }
 
 pub surveyed-begin : (sizes block : List ℕ) (i : ℕ) (rest : List ℕ) (s : ℕ) (form : Form) →
-    (w : HasSurveyed sizes block i rest s form)
-    → length block - length rest ≡ sum_by length w.done
+    (w : HasSurveyed sizes block i rest s form) → length block - length rest ≡ sum_by length w.done
 surveyed-begin sizes block i rest s form w = omega (arith, w.room)
 
 pub surveyed-fits : (sizes block : List ℕ) (i : ℕ) (rest front later : List ℕ) (s : ℕ)
@@ -176,9 +171,8 @@ next-of s front later (ts ∷ tss) a = record {
 }
 
 pub next-tals : (s : ℕ) (sizes block : List ℕ) (i : ℕ) (rest front later : List ℕ)
-    (old new : List Annotation) → (h : HasPushedBlocks s sizes block i rest old new)
-    → HasNext sizes i rest front later →
-    NextTals s front (split_by_sizes (drop (i + 1) sizes) later) h.left
+    (old new : List Annotation) → (h : HasPushedBlocks s sizes block i rest old new) → HasNext sizes
+    i rest front later → NextTals s front (split_by_sizes (drop (i + 1) sizes) later) h.left
 next-tals s sizes block i rest front later old new h n =
     next-of s front (split_by_sizes (drop (i + 1) sizes) later) h.left
     (subst (λ (x : List (List ℕ)). AreSoundBlocks x s h.left) n.parts h.are_left)
@@ -187,8 +181,7 @@ pub pushed-more : (s : ℕ) (sizes block : List ℕ) (i : ℕ) (rest front later
     (old new newer : List Annotation) → (h : HasPushedBlocks s sizes block i rest old new)
     → HasNext sizes i rest front later →
     (t : NextTals s front (split_by_sizes (drop (i + 1) sizes) later) h.left) → newer ≡ new
-    ++ flat_map (tal_annotations s) t.tals
-    → HasPushedBlocks s sizes block (i + 1) later old newer
+    ++ flat_map (tal_annotations s) t.tals → HasPushedBlocks s sizes block (i + 1) later old newer
 pushed-more s sizes block i rest front later old new newer h n t is =
     let first = flat_map (tal_annotations s) t.tals in
     let others = flat_map (tal_annotations s) (all_tals t.others) in
@@ -199,10 +192,9 @@ pushed-more s sizes block i rest front later old new newer h n t is =
       are_left = t.rest;
       room = n.left;
       items = h.items ∙ ap (λ (w : List (List Tal)). new
-          ++ flat_map (tal_annotations s) (all_tals w)) t.left_is
-          ∙ ap (λ (w : List Annotation). new ++ w)
-          (flat_map-append (tal_annotations s) t.tals (all_tals t.others))
-          ∙ sym (ap (λ (w : List Annotation). w ++ others) is ∙ append_assoc new first others);
+          ++ flat_map (tal_annotations s) (all_tals w)) t.left_is ∙ ap (λ (w : List Annotation). new
+          ++ w) (flat_map-append (tal_annotations s) t.tals (all_tals t.others)) ∙ sym (ap (λ (w :
+          List Annotation). w ++ others) is ∙ append_assoc new first others);
     }
 
 sound-one : (s : ℕ) (bs : List (List ℕ)) (ts us : List (List Tal)) → AreSoundBlocks bs s ts →
@@ -231,10 +223,9 @@ pushed-all s sizes block i rest old new h over tss a =
     let none = none-left s h.left (subst (λ (x : List (List ℕ)). AreSoundBlocks x s h.left) over'
     h.are_left) in
     let same = sound-one s (split_by_sizes sizes block) h.all tss h.are_all a in
-    sym (append-nil new)
-    ∙ sym (ap (λ (w : List (List Tal)). new ++ flat_map (tal_annotations s) (all_tals w)) none)
-    ∙ sym h.items
-    ∙ ap (λ (w : List (List Tal)). old ++ flat_map (tal_annotations s) (all_tals w)) same
+    sym (append-nil new) ∙ sym (ap (λ (w : List (List Tal)). new ++ flat_map (tal_annotations s)
+    (all_tals w)) none) ∙ sym h.items ∙ ap (λ (w : List (List Tal)). old ++ flat_map
+    (tal_annotations s) (all_tals w)) same
 
 -- ---- the list of what is read
 
@@ -265,9 +256,8 @@ annotations-append : (s : ℕ) (ts us : List Tal) → HasTimeKeepingTal ts →
 annotations-append s [] us timed = absurd timed
 annotations-append s (t ∷ ts) us (xs, e) =
     let d = dropped-first s t ts xs e in
-    ap (drop 1) (flat_map-append (tal_annotations s) (t ∷ ts) us)
-    ∙ drop-first (flat_map (tal_annotations s) (t ∷ ts)) (flat_map (tal_annotations s) us)
-    (omega (arith, d.count))
+    ap (drop 1) (flat_map-append (tal_annotations s) (t ∷ ts) us) ∙ drop-first (flat_map
+    (tal_annotations s) (t ∷ ts)) (flat_map (tal_annotations s) us) (omega (arith, d.count))
 
 -- what is read is the first block's list and then that of those after it
 pub record HasFirst (s : ℕ) (first : List ℕ) (later : List (List ℕ)) (list : List Annotation) : Type

@@ -106,8 +106,7 @@ pub record Front (bytes : List ℕ) : Type 0 where
 
 -- around the first byte 0 and the first byte 20 before it
 module _ (bytes body rest head-bytes texts : List ℕ) (no-zeros : Lacks 0 body) (parts : bytes ≡ body
-    ++ 0 ∷ rest) (no-twenties : Lacks 20 head-bytes)
-    (sides : body ≡ head-bytes ++ 20 ∷ texts) where
+    ++ 0 ∷ rest) (no-twenties : Lacks 20 head-bytes) (sides : body ≡ head-bytes ++ 20 ∷ texts) where
   front-in : Front bytes ⊎ NoTal bytes
   front-in =
       elim (ends texts) [

@@ -33,8 +33,7 @@ first-of b f more [] t (front, zeros, parts, a, are) s e =
     absurd (zeros-no-tal zeros are f more t (sym (parts ∙ ap (λ (x : List ℕ). x ++ zeros) a) ∙ e) s)
 first-of b f more (u ∷ us) t (front, zeros, parts, (g, r, same, is, others), are) s e =
     let both = same-front g f (r ++ zeros) more (HasEnd-tal g u is) (HasEnd-tal f t s)
-    (sym (append_assoc g r zeros) ∙ ap (λ (x : List ℕ). x ++ zeros) (sym same) ∙ sym parts
-    ∙ e) in
+    (sym (append_assoc g r zeros) ∙ ap (λ (x : List ℕ). x ++ zeros) (sym same) ∙ sym parts ∙ e) in
     (us, ap (λ (x : Tal). x ∷ us) (one-tal g u t is (rw (both.prefix) s)))
 
 first-list : (b : List ℕ) (later : List (List ℕ)) (f more : List ℕ) (tss : List (List Tal))

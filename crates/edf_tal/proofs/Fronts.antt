@@ -20,9 +20,8 @@ pub NoZero-ended : (texts : List (List ℕ)) → AllByRecursion IsText texts →
     Lacks 0 (terminated texts)
 NoZero-ended [] p = tt
 NoZero-ended (text ∷ texts) p =
-    Lacks-append 0 (text ++ 20 ∷ []) (terminated texts)
-    (Lacks-append 0 text (20 ∷ []) (NoZero-text text p.0) ((λ e. absurd (omega arith)), tt))
-    (NoZero-ended texts p.1)
+    Lacks-append 0 (text ++ 20 ∷ []) (terminated texts) (Lacks-append 0 text (20 ∷ []) (NoZero-text
+    text p.0) ((λ e. absurd (omega arith)), tt)) (NoZero-ended texts p.1)
 
 -- what a TAL has before its last byte
 pub record HasEnd (bytes : List ℕ) : Type 0 where
@@ -33,10 +32,9 @@ pub record HasEnd (bytes : List ℕ) : Type 0 where
 pub NoZero-tal : (bytes : List ℕ) (t : Tal) (s : IsTal bytes t) →
     Lacks 0 ((s.onset ++ s.duration) ++ 20 ∷ terminated t.texts)
 NoZero-tal bytes t s =
-    Lacks-append 0 (s.onset ++ s.duration) (20 ∷ terminated t.texts)
-    (Lacks-append 0 s.onset s.duration (Lacks-onset 0 s.onset t.onset (omega arith) s.is_onset)
-    (NoZero-duration s.duration t.duration s.is_duration))
-    ((λ e. absurd (omega arith)), NoZero-ended t.texts s.are_texts)
+    Lacks-append 0 (s.onset ++ s.duration) (20 ∷ terminated t.texts) (Lacks-append 0 s.onset
+    s.duration (Lacks-onset 0 s.onset t.onset (omega arith) s.is_onset) (NoZero-duration s.duration
+    t.duration s.is_duration)) ((λ e. absurd (omega arith)), NoZero-ended t.texts s.are_texts)
 
 pub HasEnd-tal : (bytes : List ℕ) (t : Tal) → IsTal bytes t → HasEnd bytes
 HasEnd-tal bytes t s = record {

@@ -273,8 +273,7 @@ front-sides bytes body rest head texts front later t lacks e lacks' f g s =
 
 pub front-made : (bytes body rest head texts : List ℕ) (z : ℤ) (d : Option ℕ) → Lacks 0 body →
     bytes ≡ body ++ 0 ∷ rest → body ≡ head ++ 20 ∷ texts → IsOnsetAndDuration head z d →
-    IsEmptyOrEndsWith20 texts
-    → (x : Texts texts) × IsLeadingTal bytes texts rest
+    IsEmptyOrEndsWith20 texts → (x : Texts texts) × IsLeadingTal bytes texts rest
     (record { onset = z; duration = d; texts = x.texts })
 front-made bytes body rest head texts z d lacks e f h ends =
     let none : Lacks 0 texts =

@@ -137,9 +137,8 @@ one-offset b m n p q =
 pub one-broken : (bs : List (List ℕ)) (m n : ℕ) → AreMalformedAt bs m → AreMalformedAt bs n → m ≡ n
 one-broken bs m n h k =
     let s = first-without (λ (b : List ℕ). (ts : List Tal) × AreTalsAndZeros b ts) h.prefix k.prefix
-    h.suffix k.suffix h.block k.block
-    (each-whole h.prefix h.whole.0 h.whole.1) (each-whole k.prefix k.whole.0 k.whole.1)
-    (λ w. h.broken w.0 w.1) (λ w. k.broken w.0 w.1) (sym h.parts ∙ k.parts) in
+    h.suffix k.suffix h.block k.block (each-whole h.prefix h.whole.0 h.whole.1) (each-whole k.prefix
+    k.whole.0 k.whole.1) (λ w. h.broken w.0 w.1) (λ w. k.broken w.0 w.1) (sym h.parts ∙ k.parts) in
     let offset : h.offset ≡ k.offset =
     one-offset h.block h.offset k.offset h.longest
     (subst (λ (b : List ℕ). IsLongestTalPrefix b k.offset) (sym s.block) k.longest) in
@@ -152,8 +151,7 @@ pub one-bad-place : (bs : List (List ℕ)) (m n : ℕ) → HaveNonUtf8TextAt bs 
     HaveNonUtf8TextAt bs n → m ≡ n
 one-bad-place bs m n h k =
     let s = first-without (λ (b : List ℕ). (at : ℕ) → ¬ HasNonUtf8TextAt b at) h.prefix k.prefix
-    h.suffix
-    k.suffix h.block k.block
+    h.suffix k.suffix h.block k.block
     (each-good h.prefix h.good.0 h.good.1 h.good.2) (each-good k.prefix k.good.0 k.good.1 k.good.2)
     (λ none. none h.offset h.bad) (λ none. none k.offset k.bad) (sym h.parts ∙ k.parts) in
     let offset : h.offset ≡ k.offset =
@@ -352,8 +350,7 @@ form-bad block rest s at b zeros bad = (
 )
 
 pub surveyed-one : (block rest : List ℕ) (s : ℕ) (in_window : Bool) (count bytes : ℕ) →
-    IsSurvey block s rest in_window count bytes → AreZeros rest
-    → HaveSums (block ∷ []) s (record {
+    IsSurvey block s rest in_window count bytes → AreZeros rest → HaveSums (block ∷ []) s (record {
       in_window = in_window;
       count = count;
       text_bytes =

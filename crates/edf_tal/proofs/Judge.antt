@@ -66,8 +66,7 @@ clear bs s p n tss h (NotTals at) low f = not-broken bs tss at (h.lists low) f
 clear bs s p n tss h (Text at) low f = not-bad bs tss at (h.lists (omega arith)) (h.good low) f.1
 clear bs s p n tss h NotTimed low (us, w, fails) =
     on-tals (λ (ts : List (List Tal)). HasTimeKeepingTal (first_block_tals ts)) bs tss us
-    (h.lists (omega arith)) w
-    (h.timed low) fails
+    (h.lists (omega arith)) w (h.timed low) fails
 clear bs s First n tss h FirstOnset low (us, w, fails) =
     on-tals (λ (ts : List (List Tal)). StartFitsPlace First s (first_block_tals ts)) bs tss us
     (h.lists (omega arith)) w (h.second low refl) fails
@@ -79,9 +78,7 @@ clear bs s p n tss h Window low (us, w, fails) =
 clear bs s First n tss h Order low f = f
 clear bs s (After before duration) n tss h Order low (us, w, fails) =
     on-tals (λ (ts : List (List Tal)). StartFitsPlace (After before duration) s
-    (first_block_tals ts)) bs
-    tss
-    us (h.lists (omega arith)) w (h.order low) fails
+    (first_block_tals ts)) bs tss us (h.lists (omega arith)) w (h.order low) fails
 clear bs s Any n tss h Order low f = f
 clear bs s p n tss h TooMany low f = let k = h.known in absurd (omega arith)
 clear bs s p n tss h Memory low f = let k = h.known in absurd (omega arith)
@@ -126,8 +123,7 @@ not-timed b (t ∷ ts) (front, zeros, parts, (f, r, same, is, more), are) none h
     none f (r ++ zeros) t (parts ∙ ap (λ (x : List ℕ). x ++ zeros) same ∙ append_assoc f r zeros) is
 
 pub fault-none : (b : List ℕ) (later : List (List ℕ)) (s : ℕ) (p : Place) (sums : Sums) →
-    HaveSums (b ∷ later) s sums → NoTal b
-    → BlocksHaveFirstFault (b ∷ later) s p NotTimed
+    HaveSums (b ∷ later) s sums → NoTal b → BlocksHaveFirstFault (b ∷ later) s p NotTimed
 fault-none b later s p sums v none =
     fault-lists (b ∷ later) s p v.tals v.lists v.good (untimed v.tals v.lists)
   where
@@ -149,9 +145,8 @@ keeps-place Any s t ts second order = tt
 module _ (bs : List (List ℕ)) (s : ℕ) (p : Place) (sums : Sums) (t : Tal) (k : Known bs s sums t)
   where
     clear-known : (n : ℕ) → n ≤ 28 → (24 < n → IsEmptyFirst t) →
-        (25 < n → StartsInFirstSecond p t.onset) →
-        (26 < n → IsTrue sums.in_window) → (27 < n → StartsInOrder p (instant s t.onset))
-        → IsClear bs s p n ((t ∷ k.more) ∷ k.others)
+        (25 < n → StartsInFirstSecond p t.onset) → (26 < n → IsTrue sums.in_window) → (27 < n →
+        StartsInOrder p (instant s t.onset)) → IsClear bs s p n ((t ∷ k.more) ∷ k.others)
     clear-known n low timed second window order = record {
       known = low;
       lists = λ h. k.lists;
@@ -210,9 +205,8 @@ module _ (bs : List (List ℕ)) (s : ℕ) (p : Place) (sums : Sums) (t : Tal) (k
     }
 
     pub fault-many : IsEmptyFirst t → StartsInFirstSecond p t.onset → IsTrue sums.in_window →
-        StartsInOrder p (instant s t.onset)
-        → ¬ ((sums.count ≤ MOST_ANNOTATIONS + 1) × (sums.text_bytes ≤ MOST_TEXT_BYTES)) →
-        BlocksHaveFirstFault bs s p TooMany
+        StartsInOrder p (instant s t.onset) → ¬ ((sums.count ≤ MOST_ANNOTATIONS + 1) ×
+        (sums.text_bytes ≤ MOST_TEXT_BYTES)) → BlocksHaveFirstFault bs s p TooMany
     fault-many timed second window order fails = record {
       holds = ((t ∷ k.more) ∷ k.others, k.lists, λ w. fails (beyond timed w));
       first = clear bs s p 28 ((t ∷ k.more) ∷ k.others)
@@ -291,13 +285,10 @@ no-fault bs s p m l (NotTals offset) r f = not-broken bs r.tals offset r.lists f
 no-fault bs s p m l (Text offset) r f = not-bad bs r.tals offset r.lists r.good f.1
 no-fault bs s p m l NotTimed r (us, w, fails) =
     on-tals (λ (ts : List (List Tal)). HasTimeKeepingTal (first_block_tals ts)) bs r.tals us r.lists
-    w
-    r.timed fails
+    w r.timed fails
 no-fault bs s First m l FirstOnset r (us, w, fails) =
     on-tals (λ (ts : List (List Tal)). StartFitsPlace First s (first_block_tals ts)) bs r.tals us
-    r.lists
-    w
-    r.fits_place fails
+    r.lists w r.fits_place fails
 no-fault bs s (After before duration) m l FirstOnset r f = f
 no-fault bs s Any m l FirstOnset r f = f
 no-fault bs s p m l Window r (us, w, fails) =
@@ -306,8 +297,7 @@ no-fault bs s p m l Window r (us, w, fails) =
 no-fault bs s First m l Order r f = f
 no-fault bs s (After before duration) m l Order r (us, w, fails) =
     on-tals (λ (ts : List (List Tal)). StartFitsPlace (After before duration) s
-    (first_block_tals ts)) bs
-    r.tals us r.lists w r.fits_place fails
+    (first_block_tals ts)) bs r.tals us r.lists w r.fits_place fails
 no-fault bs s Any m l Order r f = f
 no-fault bs s p m l TooMany r (us, w, fails) =
     on-tals (λ (ts : List (List Tal)). IsWithinLimits (annotations s (all_tals ts))) bs r.tals us

@@ -97,9 +97,8 @@ pushed-all onset duration texts rest old new h lacks xs a =
     let none = no-text-left rest h.left h.are_left.bytes_are lacks in
     let same = same-texts h.all xs h.are_all.are_texts a.are_texts (sym h.are_all.bytes_are
     ∙ a.bytes_are) in
-    sym (append-nil new)
-    ∙ sym (ap (λ (w : List (List ℕ)). new ++ map (note_of onset duration) w) none) ∙ sym h.items
-    ∙ ap (λ (w : List (List ℕ)). old ++ map (note_of onset duration) w) same
+    sym (append-nil new) ∙ sym (ap (λ (w : List (List ℕ)). new ++ map (note_of onset duration) w)
+    none) ∙ sym h.items ∙ ap (λ (w : List (List ℕ)). old ++ map (note_of onset duration) w) same
 
 -- the annotations of the TALs so far
 pub record HasPushedTals (file_start : ℕ) (tals rest : List ℕ) (old new : List Annotation) : Type 0
@@ -152,9 +151,8 @@ next-tal s bytes texts more t ts a f = at ts a.whole a.good a.window
         }
 
 pub tells : (s : ℕ) (rest texts : List ℕ) (t : Tal) (left : List Tal) (ahead : Bool) (onset : ℕ)
-    (duration : Option ℕ) → NextTal s rest texts t left
-    → IsCappedOnset ahead onset t.onset → IsCappedDuration duration t.duration →
-    IsScannedTal texts ahead onset duration s t
+    (duration : Option ℕ) → NextTal s rest texts t left → IsCappedOnset ahead onset t.onset →
+    IsCappedDuration duration t.duration → IsScannedTal texts ahead onset duration s t
 tells s rest texts t left ahead onset duration n o d = record {
   texts_are = n.texts_are;
   are_texts = n.are_texts;
@@ -196,8 +194,7 @@ tals-all s tals rest old new h last ts a =
 
 -- the TALs of a timed block have a first
 pub some-tal : (s : ℕ) (bytes : List ℕ) (ts : List Tal) → AreSoundTals bytes s ts →
-    HasTimeKeepingTal ts →
-    NoTal bytes → ⊥
+    HasTimeKeepingTal ts → NoTal bytes → ⊥
 some-tal s bytes ts a h none = subst HasTimeKeepingTal (no-tal-left bytes ts a.whole none) h
 
 pub first-timed : (s : ℕ) (rest texts : List ℕ) (t : Tal) (ts : List Tal) →
@@ -209,9 +206,8 @@ pub after-empty : (s : ℕ) (rest texts : List ℕ) (t : Tal) (ts : List Tal) (x
 after-empty s rest texts t ts xs n e = n.texts_are ∙ ap terminated e
 
 pub tells-rest : (s : ℕ) (rest texts : List ℕ) (t : Tal) (ts : List Tal) (xs : List (List ℕ))
-    (ahead : Bool) (onset : ℕ) (duration : Option ℕ) (texts_after : List ℕ) →
-    NextTal s rest texts t ts
-    → t.texts ≡ [] ∷ xs → texts_after ≡ terminated xs → IsCappedOnset ahead onset t.onset →
+    (ahead : Bool) (onset : ℕ) (duration : Option ℕ) (texts_after : List ℕ) → NextTal s rest texts t
+    ts → t.texts ≡ [] ∷ xs → texts_after ≡ terminated xs → IsCappedOnset ahead onset t.onset →
     IsCappedDuration duration t.duration →
     IsScannedTal texts_after ahead onset duration s (record t { texts = xs })
 tells-rest s rest texts t ts xs ahead onset duration texts_after n e b o d = record {
@@ -230,10 +226,8 @@ pub whole-list : (s : ℕ) (rest texts : List ℕ) (t : Tal) (ts : List Tal) (xs
 whole-list s rest texts t ts xs none first all n e g h =
     let there : annotations s ts ≡ tal_annotations s (record t { texts = xs })
     ++ flat_map (tal_annotations s) n.others =
-    ap (annotations s) n.left_is
-    ∙ ap (λ (w : List (List ℕ)). drop 1 (map (note_of (instant s t.onset) t.duration) w
-    ++ flat_map (tal_annotations s) n.others)) e in
+    ap (annotations s) n.left_is ∙ ap (λ (w : List (List ℕ)). drop 1 (map (note_of (instant s
+    t.onset) t.duration) w ++ flat_map (tal_annotations s) n.others)) e in
     h ∙ ap (λ (w : List Annotation). w ++ flat_map (tal_annotations s) n.others) g
     ∙ append_assoc none (tal_annotations s (record t { texts = xs }))
-    (flat_map (tal_annotations s) n.others)
-    ∙ ap (λ (w : List Annotation). none ++ w) (sym there)
+    (flat_map (tal_annotations s) n.others) ∙ ap (λ (w : List Annotation). none ++ w) (sym there)

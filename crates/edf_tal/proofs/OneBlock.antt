@@ -25,8 +25,7 @@ tal-sides front rest t s = ap (λ (x : List ℕ). x ++ rest) s.parts ∙ simp ap
 pub zeros-no-tal : (zeros : List ℕ) → AreZeros zeros → NoTal zeros
 zeros-no-tal zeros a front rest t e s =
     no-onset s.onset (s.duration ++ 20 ∷ (terminated t.texts ++ 0 ∷ rest)) zeros t.onset a
-    s.is_onset
-    (e ∙ tal-sides front rest t s
+    s.is_onset (e ∙ tal-sides front rest t s
     ∙ append_assoc s.onset s.duration (20 ∷ (terminated t.texts ++ 0 ∷ rest)))
 
 pub record SameTals (ts us : List Tal) (f x g y : List ℕ) : Type 0 where

@@ -41,8 +41,7 @@ of-tals s front [] a g w = tt
 of-tals s front (t ∷ ts) (f, r, parts, is, more) g w =
     all-append IsValidAnnotation (tal_annotations s t) (flat_map (tal_annotations s) ts)
     (of-texts (instant s t.onset) t.duration t.texts (instant-below s t w.0) w.0.duration
-    is.are_texts g.0)
-    (of-tals s r ts more g.1 w.1)
+    is.are_texts g.0) (of-tals s r ts more g.1 w.1)
 
 of-lists : (s : ℕ) (bs : List (List ℕ)) (tss : List (List Tal)) → AreTalBlocks bs tss →
     HaveUtf8Texts (all_tals tss) → AllByRecursion (IsTalInWindow s) (all_tals tss)
@@ -53,12 +52,10 @@ of-lists s (b ∷ bs) [] l g w = absurd l
 of-lists s (b ∷ bs) (ts ∷ tss) ((front, zeros, parts, tals, are), more) g w =
     let others = all_tals tss in
     rw (flat_map-append (tal_annotations s) ts others) (
-    all-append IsValidAnnotation (flat_map (tal_annotations s) ts)
-    (flat_map (tal_annotations s) others)
-    (of-tals s front ts tals (all-front (λ (t : Tal). AllByRecursion IsUtf8 t.texts) ts others g)
-    (all-front (IsTalInWindow s) ts others w))
-    (of-lists s bs tss more (all-back (λ (t : Tal). AllByRecursion IsUtf8 t.texts) ts others g)
-    (all-back (IsTalInWindow s) ts others w)))
+    all-append IsValidAnnotation (flat_map (tal_annotations s) ts) (flat_map (tal_annotations s)
+    others) (of-tals s front ts tals (all-front (λ (t : Tal). AllByRecursion IsUtf8 t.texts) ts
+    others g) (all-front (IsTalInWindow s) ts others w)) (of-lists s bs tss more (all-back (λ (t :
+    Tal). AllByRecursion IsUtf8 t.texts) ts others g) (all-back (IsTalInWindow s) ts others w)))
 
 begin-below : (s : ℕ) (tss : List (List Tal)) → HasTimeKeepingTal (first_block_tals tss) →
     AllByRecursion (IsTalInWindow s) (all_tals tss) → record_start s (first_block_tals tss) < window

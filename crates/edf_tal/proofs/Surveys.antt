@@ -26,8 +26,7 @@ all-more P [] x a p = (p, tt)
 all-more P (y ∷ xs) x a p = (a.0, all-more P xs x a.1 p)
 
 pub checked-more : (texts rest text more : List ℕ) (count : ℕ) → HasChecked texts rest count →
-    Lacks 20 text → rest ≡ text ++ 20 ∷ more → IsUtf8 text
-    → HasChecked texts more (count + 1)
+    Lacks 20 text → rest ≡ text ++ 20 ∷ more → IsUtf8 text → HasChecked texts more (count + 1)
 checked-more texts rest text more count h lacks e u = record {
   list = h.list ++ text ∷ [];
   parts = h.parts ∙ ap (λ (w : List ℕ). terminated h.list ++ w) e

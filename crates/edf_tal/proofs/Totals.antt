@@ -148,9 +148,8 @@ flat_map-append : (s : ℕ) (ts : List Tal) (t : Tal) →
     ++ tal_annotations s t
 flat_map-append s [] t = append-nil (tal_annotations s t)
 flat_map-append s (u ∷ ts) t = ap (λ (w : List Annotation). tal_annotations s u
-    ++ w) (flat_map-append s ts t)
-    ∙ sym (append_assoc (tal_annotations s u) (flat_map (tal_annotations s) ts)
-    (tal_annotations s t))
+    ++ w) (flat_map-append s ts t) ∙ sym (append_assoc (tal_annotations s u) (flat_map
+    (tal_annotations s) ts) (tal_annotations s t))
 
 length-annotations : (s : ℕ) (t : Tal) → length (tal_annotations s t) ≡ length t.texts
 length-annotations s t = length-map t.texts (note_of (instant s t.onset) t.duration)
@@ -177,11 +176,10 @@ survey-none block s = record {
 }
 
 pub survey-more : (block rest texts more : List ℕ) (s : ℕ) (t : Tal) (in_window next is : Bool)
-    (count bytes n m : ℕ) → IsSurvey block s rest in_window count bytes
-    → IsLeadingTal rest texts more t → BeginWithUtf8Texts texts n →
-    (IsTrue is ↔ IsTalInWindow s t) →
-    (IsTrue next ↔ (IsTrue in_window × IsTrue is)) → n + m ≡ length texts
-    → IsSurvey block s more next (count + n) (bytes + m)
+    (count bytes n m : ℕ) → IsSurvey block s rest in_window count bytes → IsLeadingTal rest texts
+    more t → BeginWithUtf8Texts texts n → (IsTrue is ↔ IsTalInWindow s t) → (IsTrue next ↔ (IsTrue
+    in_window × IsTrue is)) → n + m ≡ length texts → IsSurvey block s more next (count + n) (bytes +
+    m)
 survey-more block rest texts more s t in_window next is count bytes n m v f g one both sum =
     let c = counted texts more rest t n f g in
     let b = after-more block rest texts more t
@@ -301,8 +299,7 @@ bad-front rest texts more t at f b =
       is_onset = (t.onset, f.tal.is_onset);
       is_duration = (t.duration, f.tal.is_duration);
       good_texts = good-texts b.good
-          (Lacks-front 0 (terminated b.good) (b.text ++ 20 ∷ b.suffix) none)
-          b.good_texts;
+          (Lacks-front 0 (terminated b.good) (b.text ++ 20 ∷ b.suffix) none) b.good_texts;
       is_text = is-text b.text (Lacks-front 0 b.text (20 ∷ b.suffix)
           (Lacks-back 0 (terminated b.good) (b.text ++ 20 ∷ b.suffix) none)) b.is_text;
       bad = b.bad;
@@ -317,8 +314,7 @@ pub survey-bad : (block rest texts more : List ℕ) (s : ℕ) (t : Tal) (in_wind
 survey-bad block rest texts more s t in_window count bytes at v f b =
     bad-join block v.prefix rest v.tals (length block - length more - 1 - length texts + at)
     (length f.tal.onset + length f.tal.duration + 1 + at) v.parts v.whole v.good
-    (bad-front rest texts more t at f b)
-    (omega (
+    (bad-front rest texts more t at f b) (omega (
       arith,
       ap length v.parts,
       length-append v.prefix rest,

@@ -136,21 +136,17 @@ one-texts (x ∷ xs) (y ∷ ys) p q e =
 pub one-tal : (bytes : List ℕ) (t s : Tal) → IsTal bytes t → IsTal bytes s → t ≡ s
 one-tal bytes t s p q =
     let whole : (p.onset ++ p.duration) ++ 20 ∷ (terminated t.texts ++ 0 ∷ [])
-    ≡ (q.onset ++ q.duration)
-    ++ 20 ∷ (terminated s.texts ++ 0 ∷ []) =
+    ≡ (q.onset ++ q.duration) ++ 20 ∷ (terminated s.texts ++ 0 ∷ []) =
     sym (append_assoc (p.onset ++ p.duration) (20 ∷ terminated t.texts) (0 ∷ [])) ∙ sym p.parts
-    ∙ q.parts
-    ∙ append_assoc (q.onset ++ q.duration) (20 ∷ terminated s.texts) (0 ∷ []) in
+    ∙ q.parts ∙ append_assoc (q.onset ++ q.duration) (20 ∷ terminated s.texts) (0 ∷ []) in
     let sides = same-sides 20 (p.onset ++ p.duration) (q.onset ++ q.duration) (terminated t.texts
-    ++ 0 ∷ []) (terminated s.texts ++ 0 ∷ [])
-    (Lacks-append 20 p.onset p.duration (Lacks-onset 20 p.onset t.onset (omega arith) p.is_onset)
-    (Lacks-duration p.duration t.duration p.is_duration))
+    ++ 0 ∷ []) (terminated s.texts ++ 0 ∷ []) (Lacks-append 20 p.onset p.duration (Lacks-onset 20
+    p.onset t.onset (omega arith) p.is_onset) (Lacks-duration p.duration t.duration p.is_duration))
     (Lacks-append 20 q.onset q.duration (Lacks-onset 20 q.onset s.onset (omega arith) q.is_onset)
     (Lacks-duration q.duration s.duration q.is_duration)) whole in
     let head = one-head p.onset q.onset p.duration q.duration t.duration s.duration
-    (Lacks-onset 21 p.onset t.onset (omega arith) p.is_onset)
-    (Lacks-onset 21 q.onset s.onset (omega arith) q.is_onset) p.is_duration q.is_duration
-    sides.prefix in
+    (Lacks-onset 21 p.onset t.onset (omega arith) p.is_onset) (Lacks-onset 21 q.onset s.onset (omega
+    arith) q.is_onset) p.is_duration q.is_duration sides.prefix in
     let onset : t.onset ≡ s.onset =
     one-onset p.onset t.onset s.onset p.is_onset (rw (head.onset) q.is_onset) in
     let duration : t.duration ≡ s.duration = head.duration in

@@ -3,9 +3,8 @@ use Rattle.std.specs.Prelude.{◌≡◌, ℕ, ◌+◌, ◌^◌, ◌≤◌, ◌<�
 use Rattle.std.specs.Prelude.{sum_by, pos, ◌≤ℤ◌, ◌<ℤ◌, Option, Some, None, codes}
 use Rattle.std.specs.List.{AllByRecursion}
 use Rattle.edf_tal.specs.Condition.{AreMalformedAt, HaveNonUtf8TextAt}
-use Rattle.edf_tal.specs.Tal.{Tal, Annotation, AreTalBlocks, first_block_tals, all_tals}
-use Rattle.edf_tal.specs.Tal.{HaveUtf8Texts}
-use Rattle.edf_tal.specs.Tal.{HasTimeKeepingTal, IsTalInWindow, annotations, record_start}
+use Rattle.edf_tal.specs.Tal.{Tal, Annotation, first_block_tals, HasTimeKeepingTal, annotations}
+use Rattle.edf_tal.specs.Tal.{AreTalBlocks, all_tals, HaveUtf8Texts, IsTalInWindow, record_start}
 use Rattle.edf_tal.specs.declared.limits.TheConstants.{MOST_ANNOTATIONS, MOST_TEXT_BYTES}
 use Rattle.edf_tal.specs.declared.place.Place.{Place}
 use Rattle.edf_tal.specs.declared.place.Place.TheVariants.{First, After}

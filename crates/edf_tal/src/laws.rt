@@ -36,8 +36,7 @@ pub fn one_answer()
         BlocksHaveFirstFault bs s p e → BlocksHaveFirstFault bs s p f → e ≡ f }
 {}
 
-/// The blocks of a data record have an answer at each place: a start and a list, or a fault. Out
-/// of memory is no fault of theirs.
+/// The blocks of a data record have an answer at each place, and `Memory` is no fault of theirs.
 pub fn some_answer()
     ensures some { (bs : List (List ℕ)) (s : ℕ) (p : Place) →
         ((start : ℕ) × (list : List Annotation) × BlocksParseTo bs s p start list)
@@ -68,8 +67,7 @@ pub fn read_again()
         base < window → start < window → AllByRecursion IsValidAnnotation list →
         IsWithinLimits list → before + duration ≤ start →
         BlockParsesTo (tals_text base start list ++ replicate n 0) base
-        (After before duration) start
-        list }
+        (After before duration) start list }
 {}
 
 /// Blocks parse to a start in the window and to annotations within the limits.

@@ -16,8 +16,7 @@
 //! - [`Place`] says where the data record is in its fragment.
 //! - [`write_block`] writes a canonical block, and [`block_len`] returns its length.
 //! - [`same_notes`] compares two lists.
-//! - [`MOST_ANNOTATIONS`], [`MOST_TEXT_BYTES`] limit the annotations of a data record,
-//!   [`MOST_CANONICAL_BLOCK_BYTES`] and [`MOST_CANONICAL_BLOCK_SAMPLES`] its canonical block.
+//! - [`MOST_ANNOTATIONS`] and the other constants limit a data record and its canonical block.
 //! - [`laws`] says that blocks have one answer, and that a written block parses to what was written.
 #![tactic(auto)]
 

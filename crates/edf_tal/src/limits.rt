@@ -1,5 +1,4 @@
-//! The limits of the annotations of a data record. Each number stands here alone: code, contracts,
-//! definitions and proofs name it.
+//! The limits of the annotations of a data record. No other file has these numbers.
 
 /// The most annotations that a data record has, without the time-keeping one.
 pub const MOST_ANNOTATIONS: usize = 10_000;

@@ -73,8 +73,7 @@ fn push_tal(
     requires { (t : Tal) × IsScannedTal texts.now times.ahead times.onset times.duration file_start
         t }
     ensures { (t : Tal) → IsScannedTal texts.now times.ahead times.onset times.duration file_start t
-        →
-        OnOk result (list.new.items ≡ list.old.items ++ tal_annotations file_start t) }
+        → OnOk result (list.new.items ≡ list.old.items ++ tal_annotations file_start t) }
 {
     let Some(onset) = onset_instant(times.ahead, times.onset, file_start) else {
         unreachable!()

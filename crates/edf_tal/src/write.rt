@@ -116,7 +116,6 @@ fn annotation_len(base: Instant, onset: Instant, duration: Option<u64>, text: &[
 }
 
 /// Returns the number of bytes that `write_block` writes, at most `MOST_CANONICAL_BLOCK_BYTES`.
-///
 /// There are at most `MOST_ANNOTATIONS` annotations, with texts of `MOST_TEXT_BYTES` in all. The
 /// contract also says what holds of each of them.
 pub fn block_len(start: Instant, notes: &[Note], base: Instant) -> usize

@@ -8,8 +8,7 @@ returns-then-not-are_zeros c =
     let v = c.in-Ok.totals in
     broken-one c.args.block.now v.rest.now
     (survey-after c.args.block.now v.rest.now c.args.file_start v.in_window v.count
-    v.text_bytes c.in-Ok.ensures.0)
-    c.in-Ok.ensures.1 (λ z. absurd (grind (
+    v.text_bytes c.in-Ok.ensures.0) c.in-Ok.ensures.1 (λ z. absurd (grind (
       arith,
       c.are_zeros.ensures.1 z,
       c.if-not-are_zeros.true,

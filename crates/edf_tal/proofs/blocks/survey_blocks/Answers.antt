@@ -50,9 +50,8 @@ overflow_add-result c =
 pub returns-in-Err : goal.returns-in-Err
 returns-in-Err c = λ place.
     let n = the-next (goal.at.returns-in-Err c).After-split_at in
-    fault-tal _ c.args.file_start place _
-    (surveyed-broken c.args.sizes.now c.args.block.now c.loop-size.size-index c.loop-size.rest.now
-    c.split_at.result.0.now c.split_at.result.1.now
+    fault-tal _ c.args.file_start place _ (surveyed-broken c.args.sizes.now c.args.block.now
+    c.loop-size.size-index c.loop-size.rest.now c.split_at.result.0.now c.split_at.result.1.now
     c.args.file_start c.loop-size.form c.in-Err.offset c.loop-size.invariant n c.in-Err.ensures)
 
 pub loop-size-preserved : goal.loop-size-preserved
@@ -62,11 +61,9 @@ loop-size-preserved c =
     let begun = surveyed-begin c.args.sizes.now c.args.block.now c.loop-size.size-index
     c.loop-size.rest.now c.args.file_start c.loop-size.form w in
     surveyed-next c.args.sizes.now c.args.block.now c.loop-size.size-index c.loop-size.rest.now
-    c.split_at.result.0.now c.split_at.result.1.now
-    c.args.file_start c.loop-size.form c.with_next-form.result w n
-    (c.with_next-form.ensures c.args.file_start w.done (c.split_at.result.0.now ∷ []) w.is_form
-    begun
-    c.in-Ok.ensures)
+    c.split_at.result.0.now c.split_at.result.1.now c.args.file_start c.loop-size.form
+    c.with_next-form.result w n (c.with_next-form.ensures c.args.file_start w.done
+    (c.split_at.result.0.now ∷ []) w.is_form begun c.in-Ok.ensures)
 
 pub returns-in-BadText : goal.returns-in-BadText
 returns-in-BadText c = λ place.
@@ -76,8 +73,7 @@ returns-in-BadText c = λ place.
     let bad = subst (HasForm (split_by_sizes c.args.sizes.now c.args.block.now) c.args.file_start)
     c.in-BadText.is h in
     fault-text (split_by_sizes c.args.sizes.now c.args.block.now) c.args.file_start place
-    c.in-BadText.offset
-    bad.0 bad.1
+    c.in-BadText.offset bad.0 bad.1
 
 pub returns-in-Good : goal.returns-in-Good
 returns-in-Good c =

@@ -11,8 +11,7 @@ use Rattle.edf_tal.proofs.Joined.{lists-both}
 use Rattle.edf_tal.proofs.blocks.with_next.Goals as goal
 
 sums-fit : (before after : List (List ℕ)) (s : ℕ) (f g : Form) (a b : Sums) → HasForm before s f →
-    HasForm after s g → f ≡ Good a → g ≡ Good b
-    → sum_by length (before ++ after) < 2 ^ 64 →
+    HasForm after s g → f ≡ Good a → g ≡ Good b → sum_by length (before ++ after) < 2 ^ 64 →
     (a.count + a.text_bytes) + (b.count + b.text_bytes) < 2 ^ 64
 sums-fit before after s f g a b p q is-f is-g low =
     omega (
@@ -39,8 +38,7 @@ overflow_add-result-in-Good-Good c =
 pub returns-in-Good-Good : goal.returns-in-Good-Good
 returns-in-Good-Good c = λ s before after p start q.
     surveyed-append before after s c.in-Good-Good.sums c.in-Good-Good.more
-    (subst (HasForm before s) c.in-Good-Good.is-0 p)
-    (subst (HasForm after s) c.in-Good-Good.is-1 q)
+    (subst (HasForm before s) c.in-Good-Good.is-0 p) (subst (HasForm after s) c.in-Good-Good.is-1 q)
 
 pub returns-in-BadText-default : goal.returns-in-BadText-default
 returns-in-BadText-default c = λ s before after p start q.

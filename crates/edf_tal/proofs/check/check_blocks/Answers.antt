@@ -20,9 +20,7 @@ check_tals-requires c =
 pub returns : goal.returns
 returns c =
     let parts = cut-first c.args.sizes.now c.args.block.now c.requires.some in
-    subst (λ (bs : List (List ℕ)). MatchResult c.check_tals.result
-    (λ (x : Checked). IsChecked bs c.args.file_start c.args.place x.start x.count)
-    (BlocksHaveFirstFault bs c.args.file_start c.args.place))
-    (sym parts) (c.check_tals.ensures _
-    (subst (λ (bs : List (List ℕ)). HaveSums bs c.args.file_start c.in_ok-sums.sums) parts
-    c.in_ok-sums.ensures))
+    subst (λ (bs : List (List ℕ)). MatchResult c.check_tals.result (λ (x : Checked). IsChecked bs
+    c.args.file_start c.args.place x.start x.count) (BlocksHaveFirstFault bs c.args.file_start
+    c.args.place)) (sym parts) (c.check_tals.ensures _ (subst (λ (bs : List (List ℕ)). HaveSums bs
+    c.args.file_start c.in_ok-sums.sums) parts c.in_ok-sums.ensures))

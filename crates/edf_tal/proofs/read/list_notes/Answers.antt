@@ -10,10 +10,8 @@ use Rattle.edf_tal.proofs.read.list_notes.Goals.{After-split_at}
 -- what the blocks give, by the first and those after it
 the-first : (c : After-split_at) (p : Place) (start : ℕ) (list : List Annotation) →
     BlocksParseTo (split_by_sizes c.args.sizes.now c.args.block.now) c.args.file_start p start list
-    → HasFirst c.args.file_start c.split_at.result.0.now
-    (split_by_sizes (take (length c.args.sizes.now - 1) (drop 1 c.args.sizes.now))
-    c.split_at.result.1.now)
-    list
+    → HasFirst c.args.file_start c.split_at.result.0.now (split_by_sizes (take (length
+    c.args.sizes.now - 1) (drop 1 c.args.sizes.now)) c.split_at.result.1.now) list
 the-first c p start list r =
     let parts = cut-split c.args.sizes.now c.args.block.now c.split_at.result.0.now
     c.split_at.result.1.now c.requires.sizes.some c.split_at.ensures.front

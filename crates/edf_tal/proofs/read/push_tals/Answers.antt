@@ -22,12 +22,10 @@ loop-tal-preserved c =
     let n = next-tal c.args.file_start c.loop-tal.rest.now c.in-Some.tal.texts.now
     c.in-Some.tal.rest.now t i.left i.are_left c.in-Some.ensures.1 in
     tals-more c.args.file_start c.args.tals.now c.loop-tal.rest.now c.in-Some.tal.texts.now
-    c.in-Some.tal.rest.now c.args.list.now.items c.loop-tal.list.items c.push_tal.new.list.items
-    t i c.in-Some.ensures.1
-    (c.in_ok-push_tal.ensures t (tells c.args.file_start c.in-Some.tal.rest.now
+    c.in-Some.tal.rest.now c.args.list.now.items c.loop-tal.list.items c.push_tal.new.list.items t i
+    c.in-Some.ensures.1 (c.in_ok-push_tal.ensures t (tells c.args.file_start c.in-Some.tal.rest.now
     c.in-Some.tal.texts.now t i.left c.in-Some.tal.times.ahead c.in-Some.tal.times.onset
-    c.in-Some.tal.times.duration
-    n c.in-Some.ensures.2 c.in-Some.ensures.3))
+    c.in-Some.tal.times.duration n c.in-Some.ensures.2 c.in-Some.ensures.3))
 
 pub loop-tal-smaller : goal.loop-tal-smaller
 loop-tal-smaller c =

@@ -9,6 +9,5 @@ returns-in-Err-TooFine c =
     let bad : (whole fraction : List ℕ) × IsDecimal c.args.text.now whole fraction
     × ¬ IsFine fraction =
     subst (λ (f : DecimalFault). IsDecimalFault c.args.text.now f) c.in-Err-TooFine.field-0-is
-    c.in-Err-TooFine.ensures
-    in
+    c.in-Err-TooFine.ensures in
     λ n s. too-fine c.args.text.now bad.0 bad.1 n bad.2 bad.3 s

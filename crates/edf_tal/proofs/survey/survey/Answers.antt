@@ -42,13 +42,12 @@ loop-tal-preserved c =
     let sum : c.in-Ok.texts + (length c.in-Some.tal.texts.now - c.in-Ok.texts) ≡ length
     c.in-Some.tal.texts.now = omega arith in
     survey-more c.args.block.now c.loop-tal.rest.now c.in-Some.tal.texts.now c.in-Some.tal.rest.now
-    c.args.file_start c.in-Some.ensures.0
-    c.loop-tal.in_window (c.loop-tal.in_window && c.is_in_window-in_window.result)
-    c.is_in_window-in_window.result c.loop-tal.count c.loop-tal.text_bytes
-    c.in-Ok.texts (length c.in-Some.tal.texts.now - c.in-Ok.texts) c.loop-tal.invariant
-    c.in-Some.ensures.1 c.in-Ok.ensures
-    (c.is_in_window-in_window.ensures c.in-Some.ensures.0 c.in-Some.ensures.2 c.in-Some.ensures.3)
-    (both-true c.loop-tal.in_window c.is_in_window-in_window.result) sum
+    c.args.file_start c.in-Some.ensures.0 c.loop-tal.in_window (c.loop-tal.in_window &&
+    c.is_in_window-in_window.result) c.is_in_window-in_window.result c.loop-tal.count
+    c.loop-tal.text_bytes c.in-Ok.texts (length c.in-Some.tal.texts.now - c.in-Ok.texts)
+    c.loop-tal.invariant c.in-Some.ensures.1 c.in-Ok.ensures (c.is_in_window-in_window.ensures
+    c.in-Some.ensures.0 c.in-Some.ensures.2 c.in-Some.ensures.3) (both-true c.loop-tal.in_window
+    c.is_in_window-in_window.result) sum
 
 pub returns-in-Err : goal.returns-in-Err
 returns-in-Err c =
