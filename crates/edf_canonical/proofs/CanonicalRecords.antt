@@ -15,7 +15,7 @@ use Rattle.edf_tal.specs.declared.place.Place.{Place}
 use Rattle.edf_tal.specs.declared.place.Place.TheVariants.{First, After, Any}
 use Rattle.edf_fragment.specs.Fragment.{DataRecord, IsDataRecord, place_after}
 use Rattle.edf_canonical.specs.File.{block_of, record_text}
-use Rattle.edf_fragment.specs.Sound.{IsSoundRecord, AreSound}
+use Rattle.edf_fragment.specs.Sound.{IsSoundRecord, AreSoundFrom}
 use Rattle.edf_canonical.proofs.Records.{AreReadable, one_block, record-read}
 
 -- where a record that starts at `start` may be in a file that starts at `base`
@@ -58,7 +58,7 @@ readable l place base size r is e stands fits =
 
 readable-after : (l : Layout) (before base size : ℕ) (rs : List DataRecord) →
     IsCanonicalLayout l base size
-    → AreSound l.key (before + duration_of l.key.duration) rs →
+    → AreSoundFrom l.key (before + duration_of l.key.duration) rs →
     All (λ r. length (block_of base r) ≤ size) rs →
     AreReadable l (place_after l before) base size rs
 readable-after l before base size [] is are fit = tt
@@ -71,7 +71,7 @@ readable-after l before base size (r ∷ rs) is (e, low, more) fit = (
 
 pub are-readable : (l : Layout) (base size low : ℕ) (r : DataRecord) (rs : List DataRecord) →
     IsCanonicalLayout l base size
-    → AreSound l.key low (r ∷ rs) → (base ≤ r.start) × (r.start < base + 10 ^ 9) →
+    → AreSoundFrom l.key low (r ∷ rs) → (base ≤ r.start) × (r.start < base + 10 ^ 9) →
     All (λ x. length (block_of base x) ≤ size) (r ∷ rs)
     → AreReadable l First base size (r ∷ rs)
 are-readable l base size low r rs is (e, lower, more) stands fit = (

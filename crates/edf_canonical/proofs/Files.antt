@@ -14,10 +14,10 @@ use Rattle.edf_header.specs.Canonical.{IsCanonicalHeader}
 use Rattle.edf_tal.specs.declared.place.Place.TheVariants.{First}
 use Rattle.edf_header.specs.declared.limits.TheConstants.{MOST_RECORDS}
 use Rattle.edf_tal.specs.declared.limits.TheConstants.{MOST_CANONICAL_BLOCK_SAMPLES}
-use Rattle.edf_fragment.specs.Fragment.{DataRecord, AreDataRecords, IsFragmentFile}
+use Rattle.edf_fragment.specs.Fragment.{DataRecord, BeginWithDataRecords, IsFragmentFile}
 use Rattle.edf_canonical.specs.File.{second_of, block_of, record_text, IsLaidOut, IsCanonicalFile}
 use Rattle.edf_canonical.proofs.Records.{records-read}
-use Rattle.edf_fragment.specs.Sound.{AreSound}
+use Rattle.edf_fragment.specs.Sound.{AreSoundFrom}
 use Rattle.edf_canonical.proofs.CanonicalRecords.{IsCanonicalLayout, are-readable}
 
 second-of-low : (n : ℕ) → second_of n ≤ n
@@ -26,7 +26,8 @@ second-of-low n = omega arith
 second-of-high : (n : ℕ) → n < second_of n + 10 ^ 9
 second-of-high n = omega arith
 
-all-bounded : (k : Key) (low base : ℕ) (rs : List DataRecord) → base < window → AreSound k low rs →
+all-bounded : (k : Key) (low base : ℕ) (rs : List DataRecord) → base < window →
+    AreSoundFrom k low rs →
     All (λ r. length (block_of base r) ≤ 2 * MOST_CANONICAL_BLOCK_SAMPLES) rs
 all-bounded k low base [] in_window are =
     All-nil (λ r. length (block_of base r) ≤ 2 * MOST_CANONICAL_BLOCK_SAMPLES)
@@ -53,7 +54,7 @@ canonical-layout-is k start count samples lt =
 
 -- what is laid out so is read again, and so is the records' file
 pub canonical : (file : List ℕ) (k : Key) (r : DataRecord) (rs : List DataRecord) → IsKey k →
-    MayStart k r.start → AreSound k 0 (r ∷ rs) → length (r ∷ rs) ≤ MOST_RECORDS
+    MayStart k r.start → AreSoundFrom k 0 (r ∷ rs) → length (r ∷ rs) ≤ MOST_RECORDS
     → IsLaidOut file k r (r ∷ rs) → IsCanonicalFile file k (r ∷ rs)
 canonical file k r rs is-key begins are count laid =
     let samples = laid.samples in
@@ -85,10 +86,10 @@ canonical file k r rs is-key begins are count laid =
     let spells : IsFragmentFile (header ++ body) k (r ∷ rs) = record {
       header = again.header;
       rest = body;
-      last = read.0;
+      next_place = read.0;
       is_header = again.reads body;
       key = ap (λ (x : Layout). x.key) (sym again.says);
-      are_records = subst (λ (x : Layout). AreDataRecords x First body (r ∷ rs) read.0 [])
+      are_records = subst (λ (x : Layout). BeginWithDataRecords x First body (r ∷ rs) read.0 [])
           (sym again.says) read.1;
       least = omega (arith, counted.0);
       most = omega (arith, counted.1);

@@ -7,7 +7,7 @@ use Rattle.edf_header.specs.Key.{Key, IsKey, MayStart}
 use Rattle.edf_header.specs.Signal.{samples_in_all}
 use Rattle.edf_header.specs.Canonical.{IsCanonicalHeader}
 use Rattle.edf_fragment.specs.Fragment.{DataRecord}
-use Rattle.edf_fragment.specs.Sound.{AreSound}
+use Rattle.edf_fragment.specs.Sound.{AreSoundFrom}
 use Rattle.edf_fragment.proofs.Sound.{sound_sizes}
 use Rattle.edf_canonical.specs.File.{second_of, record_text, BlocksFit, IsCanonicalFile}
 use Rattle.edf_canonical.specs.Measure.{IsMeasured, records_text, planned_text}
@@ -17,14 +17,14 @@ use Rattle.edf_canonical.proofs.Files.{canonical}
 use Rattle.edf_canonical.proofs.Written.{laid-out, file-length}
 
 pub file_of : (k : Key) (rs : List DataRecord) (m : Measure) (header : List ℕ) → IsKey k →
-    AreSound k 0 rs → IsMeasured rs m → MayStart k m.first →
+    AreSoundFrom k 0 rs → IsMeasured rs m → MayStart k m.first →
     IsCanonicalHeader header k m.first m.records m.block_samples →
     IsCanonicalFile (planned_text header m rs) k rs
 file_of k rs m header key are-sound is begins is-header =
     let r = is.first in
     let more = is.others in
     let same : r ∷ more ≡ rs = sym is.parts in
-    let sound : AreSound k 0 (r ∷ more) = subst (AreSound k 0) is.parts are-sound in
+    let sound : AreSoundFrom k 0 (r ∷ more) = subst (AreSoundFrom k 0) is.parts are-sound in
     let few : length (r ∷ more) ≤ MOST_RECORDS = subst (λ (x : List DataRecord).
     length x ≤ MOST_RECORDS) is.parts (omega (arith, is.count, m.records_few)) in
     let count : m.records ≡ length (r ∷ more) =
@@ -41,7 +41,7 @@ file_of k rs m header key are-sound is begins is-header =
     (subst (BlocksFit (second_of m.first) fewer) same hold))))
 
 pub length_of : (k : Key) (rs : List DataRecord) (m : Measure) (header : List ℕ) →
-    AreSound k 0 rs → IsMeasured rs m →
+    AreSoundFrom k 0 rs → IsMeasured rs m →
     length header + m.records * (2 * samples_in_all k.signals + 2 * m.block_samples)
     ≡ length (planned_text header m rs)
 length_of k rs m header sound is =

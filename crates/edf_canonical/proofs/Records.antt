@@ -9,7 +9,7 @@ use Rattle.edf_header.specs.Header.{Layout}
 use Rattle.edf_header.specs.declared.header.Block.{Block}
 use Rattle.edf_tal.specs.Block.{BlocksParseTo, BlockParsesTo}
 use Rattle.edf_tal.specs.declared.place.Place.{Place}
-use Rattle.edf_fragment.specs.Fragment.{DataRecord, IsDataRecord, AreDataRecords, blocks}
+use Rattle.edf_fragment.specs.Fragment.{DataRecord, IsDataRecord, BeginWithDataRecords, blocks}
 use Rattle.edf_fragment.specs.Fragment.{bytes_outside, ordinary_bytes, place_after}
 use Rattle.edf_canonical.specs.File.{block_of, record_text}
 
@@ -72,7 +72,7 @@ AreReadable l place base size (r ∷ rs) = IsDataRecord l place (record_text bas
 
 pub records-read : (l : Layout) (place : Place) (base size : ℕ) (rs : List DataRecord) →
     AreReadable l place base size rs
-    → (last : Place) × AreDataRecords l place (flat_map (record_text base size) rs) rs last []
+    → (last : Place) × BeginWithDataRecords l place (flat_map (record_text base size) rs) rs last []
 records-read l place base size [] each = (place, (refl, refl))
 records-read l place base size (r ∷ rs) each =
     let rest = records-read l (place_after l r.start) base size rs each.1 in

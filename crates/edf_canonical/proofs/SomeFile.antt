@@ -9,7 +9,7 @@ use Rattle.edf_header.specs.Key.{Key, IsKey}
 use Rattle.edf_header.specs.Canonical.{IsCanonicalHeader}
 use Rattle.edf_header.specs.declared.limits.TheConstants.{MOST_RECORDS}
 use Rattle.edf_fragment.specs.Fragment.{DataRecord, IsFragmentFile}
-use Rattle.edf_fragment.specs.Sound.{AreSound, MayBegin}
+use Rattle.edf_fragment.specs.Sound.{AreSoundFrom, FirstMayStart}
 use Rattle.edf_fragment.proofs.Sound.{spelled-key, spelled-sound, spelled-begins, spelled-some}
 use Rattle.edf_fragment.proofs.Sound.{spelled-few}
 use Rattle.edf_canonical.specs.File.{second_of, block_of, record_text, BlocksFit, IsLaidOut}
@@ -70,7 +70,8 @@ some-header k start count samples lt =
       },
     )
 
-pub some-file : (k : Key) (rs : List DataRecord) → IsKey k → AreSound k 0 rs → MayBegin k rs →
+pub some-file : (k : Key) (rs : List DataRecord) → IsKey k → AreSoundFrom k 0 rs →
+    FirstMayStart k rs →
     1 ≤ length rs → length rs ≤ MOST_RECORDS → (file : List ℕ) × IsCanonicalFile file k rs
 some-file k [] is-key are begins some few = absurd (omega arith)
 some-file k (r ∷ rs) is-key are begins some few =

@@ -3,7 +3,7 @@
 ghost use Rattle.std.specs.Prelude.{◌≡◌, ℕ, ◌≤◌, List, length};
 ghost use Rattle.edf_header.specs.Key.{Key, IsKey};
 ghost use Rattle.edf_fragment.specs.Fragment.{DataRecord, IsFragmentFile};
-ghost use Rattle.edf_fragment.specs.Sound.{AreSound, MayBegin};
+ghost use Rattle.edf_fragment.specs.Sound.{AreSoundFrom, FirstMayStart};
 ghost use Rattle.edf_canonical.specs.File.{IsCanonicalFile};
 
 use edf_header::MOST_RECORDS;
@@ -18,7 +18,7 @@ pub fn one_canonical_file()
 /// canonical file, and so have those of each fragment.
 pub fn some_canonical_file()
     ensures sound { (key : Key) (records : List DataRecord) →
-        IsKey key → AreSound key 0 records → MayBegin key records → 1 ≤ length records →
+        IsKey key → AreSoundFrom key 0 records → FirstMayStart key records → 1 ≤ length records →
         length records ≤ MOST_RECORDS → (file : List ℕ) × IsCanonicalFile file key records }
     ensures spelled { (bytes : List ℕ) (key : Key) (records : List DataRecord) →
         IsFragmentFile bytes key records → (file : List ℕ) × IsCanonicalFile file key records }

@@ -6,7 +6,7 @@ use Rattle.sqlite_trees.specs.declared.store.Store.{Ghosts}
 use Rattle.sqlite.specs.State.{State, HasCleanDisk}
 use Rattle.edf_header.specs.Key.{Key, MayStart}
 use Rattle.edf_fragment.specs.Fragment.{DataRecord}
-use Rattle.edf_fragment.specs.Sound.{IsSoundRecord, MayBegin}
+use Rattle.edf_fragment.specs.Sound.{IsSoundRecord, FirstMayStart}
 use Rattle.edf_holdings.specs.Holdings.{Holdings, IsSound}
 use Rattle.edf_holdings.proofs.Joining.{IsGood-from_sound}
 use Rattle.edf_holdings.proofs.Sound.{Each-from_All}
@@ -53,9 +53,9 @@ idle_after s Write idle = idle
 
 -- the first start of a recording that may begin so
 pub may_start : (k : Key) (records : List DataRecord) (m : Measure) → IsMeasured records m →
-    MayBegin k records → MayStart k m.first
+    FirstMayStart k records → MayStart k m.first
 may_start k records m is begins =
-    subst (MayStart k) (sym is.start) (subst (MayBegin k) is.parts begins)
+    subst (MayStart k) (sym is.start) (subst (FirstMayStart k) is.parts begins)
 
 -- the recording that a walk is in is sound
 pub sound_recording : (cap : ℕ) (s : State) (recording : Option ℤ) (cursor : _) (h : Holdings)

@@ -12,16 +12,17 @@ use Rattle.edf_tal.specs.declared.place.Place.{Place}
 use Rattle.edf_tal.specs.declared.place.Place.TheVariants.{First}
 use Rattle.edf_tal.specs.declared.place.TalFault.{TalFault}
 use Rattle.edf_tal.specs.Block.{BlocksHaveFirstFault}
-use Rattle.edf_fragment.specs.Fragment.{DataRecord, AreDataRecords, blocks, IsFragmentFile}
-use Rattle.edf_fragment.specs.Fault.{ParsedUpToFault, IsCutRecord, IsRefusedBlock, IsTrailing}
+use Rattle.edf_fragment.specs.Fragment.{DataRecord, BeginWithDataRecords, blocks, IsFragmentFile}
+use Rattle.edf_fragment.specs.Fault.{ParsedPrefix, IsCutRecord, IsRefusedRecord, HasTrailingBytes}
 use Rattle.edf_fragment.specs.Fault.{IsFirstFault}
 use Rattle.edf_fragment.specs.Reading.{ReadsHeader, IsOpenFault, IsEndOfRecords}
 use Rattle.edf_fragment.specs.Stops.{ReadsHeaderFault}
-use Rattle.edf_fragment.specs.Reading.{IsNextFault, IsNext}
-use Rattle.edf_fragment.specs.Stops.{EndsInRecord, RefusesBlock, HasTrailingByte}
-use Rattle.edf_fragment.specs.Reading.{initial_progress, progress_after, IsAnswerInState, IsAnswer}
+use Rattle.edf_fragment.specs.Reading.{IsNextFault, IsNextResult}
+use Rattle.edf_fragment.specs.Stops.{EndsInRecord, RefusesRecord, ReadsTrailingByte}
+use Rattle.edf_fragment.specs.Reading.{initial_progress, progress_after, IsNextAnswerInState}
+use Rattle.edf_fragment.specs.Reading.{IsNextAnswer}
 use Rattle.edf_fragment.specs.Whole.{HasReadRecords, FailsAfterRecords, ReadsFragment}
-use Rattle.edf_fragment.specs.Whole.{IsFirstFaultIfKnown, IsFragmentFault}
+use Rattle.edf_fragment.specs.Whole.{IsFirstFaultIfKnown, ReadsFragmentFault}
 use Rattle.edf_fragment.specs.Inside.Steps.{ReadsRecords}
 use Rattle.edf_fragment.specs.declared.advance.Progress.{Progress}
 use Rattle.edf_fragment.specs.declared.advance.ReaderState.{ReaderState}
@@ -39,12 +40,13 @@ use Rattle.edf_fragment.proofs.Runs.{reads_more}
 pub fragment_read : (left mid rest : Option (List ℕ)) (l : Layout) (rs : List DataRecord) →
     ReadsHeader left mid l → ReadsRecords l mid rest rs → ReadsFragment left rest l rs
 fragment_read left mid rest l rs a b =
-    let are = subst (λ (x : Layout). AreDataRecords x First b.bytes rs b.last []) a.layout_is
+    let are = subst (λ (x : Layout). BeginWithDataRecords x First b.bytes rs b.next_place [])
+    a.layout_is
     b.are_records in
     let spells : IsFragmentFile (a.bytes ++ b.bytes) l.key rs = record {
       header = a.header;
       rest = b.bytes;
-      last = b.last;
+      next_place = b.next_place;
       is_header = IsHeader-more a.bytes b.bytes a.header a.is_header;
       key = ap (λ (x : Layout). x.key) a.layout_is;
       are_records = are;
@@ -77,7 +79,7 @@ first_in_header left rest Memory f = tt
 first_in_header left rest e f = absurd f
 
 pub open_refused : (left rest : Option (List ℕ)) (e : FragmentFault) → IsOpenFault left rest e →
-    IsFragmentFault left rest e
+    ReadsFragmentFault left rest e
 open_refused left rest e f = record { met = inl f; first = first_in_header left rest e f }
 
 -- ---- a fault after some data records
@@ -85,21 +87,23 @@ open_refused left rest e f = record { met = inl f; first = first_in_header left 
 -- the bytes of a header, those of the data records, and what is left
 abbrev up_to : (all one two a b : List ℕ) (h : HeaderRecord) (rs : List DataRecord) (p : Place) →
     all ≡ a ++ one → one ≡ b ++ two → IsHeader a h [] →
-    AreDataRecords (layout_of h) First b rs p [] → ParsedUpToFault all
+    BeginWithDataRecords (layout_of h) First b rs p [] → ParsedPrefix all
 up_to all one two a b h rs p first second is are = record {
   header = h;
   rest = one;
   records = rs;
-  last = p;
+  next_place = p;
   remaining = two;
   is_header = subst (λ (x : List ℕ). IsHeader x h one) (sym first) (IsHeader-more a one h is);
-  are_records = subst (λ (x : List ℕ). AreDataRecords (layout_of h) First x rs p two) (sym second)
+  are_records = subst (λ (x : List ℕ). BeginWithDataRecords (layout_of h) First x rs p two)
+      (sym second)
       (AreDataRecords-more (layout_of h) First p b [] two rs are);
 }
 
 cut_of_all : (left mid two rest : Option (List ℕ)) (a b : List ℕ) (h : HeaderRecord)
     (rs : List DataRecord) (p : Progress) (nth : ℕ) → Consumes left mid a → Consumes mid two b
-    → IsHeader a h [] → AreDataRecords (layout_of h) First b rs p.place [] → p.given ≡ length rs →
+    → IsHeader a h [] → BeginWithDataRecords (layout_of h) First b rs p.place [] →
+    p.given ≡ length rs →
     EndsInRecord (layout_of h) p two rest nth → IfSome left (λ all. IsCutRecord all nth)
 cut_of_all None mid two rest a b h rs p nth x y is are given f = tt
 cut_of_all (Some all) None two rest a b h rs p nth x y is are given f = absurd x
@@ -123,8 +127,9 @@ cut_of_all (Some all) (Some one) (Some two) (Some rest) a b h rs p nth x y is ar
 block_of_all : (left mid two rest : Option (List ℕ)) (a b : List ℕ) (h : HeaderRecord)
     (rs : List DataRecord) (p : Progress) (nth : ℕ) (e : TalFault) → Consumes left mid a →
     Consumes mid two b
-    → IsHeader a h [] → AreDataRecords (layout_of h) First b rs p.place [] → p.given ≡ length rs →
-    RefusesBlock (layout_of h) p two rest nth e → IfSome left (λ all. IsRefusedBlock all nth e)
+    → IsHeader a h [] → BeginWithDataRecords (layout_of h) First b rs p.place [] →
+    p.given ≡ length rs →
+    RefusesRecord (layout_of h) p two rest nth e → IfSome left (λ all. IsRefusedRecord all nth e)
 block_of_all None mid two rest a b h rs p nth e x y is are given f = tt
 block_of_all (Some all) None two rest a b h rs p nth e x y is are given f = absurd x
 block_of_all (Some all) (Some one) None rest a b h rs p nth e x y is are given f = absurd y
@@ -147,8 +152,9 @@ block_of_all (Some all) (Some one) (Some two) (Some rest) a b h rs p nth e x y i
 
 more_of_all : (left mid two rest : Option (List ℕ)) (a b : List ℕ) (h : HeaderRecord)
     (rs : List DataRecord) (p : Progress) → Consumes left mid a → Consumes mid two b
-    → IsHeader a h [] → AreDataRecords (layout_of h) First b rs p.place [] → p.given ≡ length rs →
-    HasTrailingByte (layout_of h) p two rest → IfSome left (λ all. IsTrailing all)
+    → IsHeader a h [] → BeginWithDataRecords (layout_of h) First b rs p.place [] →
+    p.given ≡ length rs →
+    ReadsTrailingByte (layout_of h) p two rest → IfSome left (λ all. HasTrailingBytes all)
 more_of_all None mid two rest a b h rs p x y is are given f = tt
 more_of_all (Some all) None two rest a b h rs p x y is are given f = absurd x
 more_of_all (Some all) (Some one) None rest a b h rs p x y is are given f = absurd y
@@ -165,8 +171,8 @@ more_of_all (Some all) (Some one) (Some two) (Some rest) a b h rs p x y is are g
 after_header : (left mid two rest : Option (List ℕ)) (a b : List ℕ) (h : HeaderRecord)
     (rs : List DataRecord) (p : Progress) (e : FragmentFault) → Consumes left mid a →
     Consumes mid two b
-    → IsHeader a h [] → AreDataRecords (layout_of h) First b rs p.place [] → p.given ≡ length rs →
-    IsNextFault (layout_of h) p two rest e → IsFirstFaultIfKnown left e
+    → IsHeader a h [] → BeginWithDataRecords (layout_of h) First b rs p.place [] →
+    p.given ≡ length rs → IsNextFault (layout_of h) p two rest e → IsFirstFaultIfKnown left e
 after_header left mid two rest a b h rs p (CutRecord nth) x y is are given f =
     cut_of_all left mid two rest a b h rs p nth x y is are given f
 after_header left mid two rest a b h rs p (Tal nth e) x y is are given f =
@@ -178,9 +184,9 @@ after_header left mid two rest a b h rs p Memory x y is are given f = tt
 after_header left mid two rest a b h rs p e x y is are given f = absurd f
 
 pub records_refused : (left mid rest : Option (List ℕ)) (l : Layout) (e : FragmentFault) →
-    ReadsHeader left mid l → FailsAfterRecords l mid rest e → IsFragmentFault left rest e
+    ReadsHeader left mid l → FailsAfterRecords l mid rest e → ReadsFragmentFault left rest e
 records_refused left mid rest l e a b =
-    let are = subst (λ (x : Layout). AreDataRecords x First b.before.bytes b.records
+    let are = subst (λ (x : Layout). BeginWithDataRecords x First b.before.bytes b.records
     b.progress.place []) a.layout_is b.before.are_records in
     let fault = subst (λ (x : Layout). IsNextFault x b.progress b.mid rest e) a.layout_is
     b.is_fault in
@@ -206,7 +212,7 @@ reads_end : (l : Layout) (left mid rest : Option (List ℕ)) (rs : List DataReco
     HasReadRecords l left mid rs p → IsEndOfRecords l p mid rest → ReadsRecords l left rest rs
 reads_end l left mid rest rs p before ends = record {
   bytes = before.bytes;
-  last = p.place;
+  next_place = p.place;
   read = subst (λ (x : List ℕ). Consumes left rest x) (append-nil before.bytes)
       (Consumes-trans left mid rest before.bytes [] before.read ends.read);
   end = ends.end;
@@ -218,14 +224,14 @@ reads_end l left mid rest rs p before ends = record {
 -- what a reader answers that goes on
 going : (l : Layout) (p q : Progress) (mid rest : Option (List ℕ))
     (result : Result (Option DataRecord) FragmentFault) → p.state ≡ Reading →
-    IsAnswer l p q mid rest result
-    → (q ≡ progress_after l p result) × IsNext l p mid rest result
+    IsNextAnswer l p q mid rest result
+    → (q ≡ progress_after l p result) × IsNextResult l p mid rest result
 going l p q mid rest result on answer =
-    subst (λ (s : ReaderState). IsAnswerInState s l p q mid rest result) on answer
+    subst (λ (s : ReaderState). IsNextAnswerInState s l p q mid rest result) on answer
 
 pub one_more_read : (l : Layout) (left mid rest : Option (List ℕ)) (rs : List DataRecord)
     (p q : Progress) (r : DataRecord) → HasReadRecords l left mid rs p → p.state ≡ Reading
-    → IsAnswer l p q mid rest (Ok (Some r)) → HasReadRecords l left rest (rs ++ r ∷ []) q
+    → IsNextAnswer l p q mid rest (Ok (Some r)) → HasReadRecords l left rest (rs ++ r ∷ []) q
     × (q.state ≡ Reading)
 one_more_read l left mid rest rs p q r before on answer =
     let step = going l p q mid rest (Ok (Some r)) on answer in (
@@ -235,14 +241,14 @@ one_more_read l left mid rest rs p q r before on answer =
 
 pub all_read : (l : Layout) (left one two rest : Option (List ℕ)) (rs : List DataRecord)
     (p q : Progress) → ReadsHeader left one l → HasReadRecords l one two rs p → p.state ≡ Reading
-    → IsAnswer l p q two rest (Ok None) → ReadsFragment left rest l rs
+    → IsNextAnswer l p q two rest (Ok None) → ReadsFragment left rest l rs
 all_read l left one two rest rs p q header before on answer =
     let step = going l p q two rest (Ok None) on answer in
     fragment_read left one rest l rs header (reads_end l one two rest rs p before step.1)
 
 pub refused_then : (l : Layout) (left one two rest : Option (List ℕ)) (rs : List DataRecord)
     (p q : Progress) (e : FragmentFault) → ReadsHeader left one l → HasReadRecords l one two rs p
-    → p.state ≡ Reading → IsAnswer l p q two rest (Err e) → IsFragmentFault left rest e
+    → p.state ≡ Reading → IsNextAnswer l p q two rest (Err e) → ReadsFragmentFault left rest e
 refused_then l left one two rest rs p q e header before on answer =
     let step = going l p q two rest (Err e) on answer in
     records_refused left one rest l e header
@@ -266,5 +272,5 @@ told_of_all all Failed f = absurd f
 told_of_all all e f = inr (inr f)
 
 pub fault_of_all : (all : List ℕ) (rest : Option (List ℕ)) (e : FragmentFault) →
-    IsFragmentFault (Some all) rest e → (e ≡ Read) ⊎ ((e ≡ Memory) ⊎ IsFirstFault all e)
+    ReadsFragmentFault (Some all) rest e → (e ≡ Read) ⊎ ((e ≡ Memory) ⊎ IsFirstFault all e)
 fault_of_all all rest e f = told_of_all all e f.first

@@ -18,10 +18,10 @@ use Rattle.edf_header.specs.declared.fault.HeaderFault.TheVariants.{Physical, Di
 use Rattle.edf_header.specs.declared.fault.HeaderFault.TheVariants.{Size, Memory}
 use Rattle.edf_fragment.specs.Reading.{ReadsHeader}
 use Rattle.edf_fragment.specs.Stops.{ReadsFewerBytes, StopsInSignalHeaders, RunsOutOfMemoryInHeader}
-use Rattle.edf_fragment.specs.Reading.{IsOpenFault, CountsAnswer}
+use Rattle.edf_fragment.specs.Reading.{IsOpenFault, CountsReadFailures}
 use Rattle.edf_fragment.specs.Stops.{ReadsHeaderFault}
-use Rattle.edf_fragment.specs.Inside.Steps.{ReadsFixed, ReadsSignals, ReadsSignalsFault}
-use Rattle.edf_fragment.specs.Inside.Steps.{LacksSignalsMemory, IsSignalsFault}
+use Rattle.edf_fragment.specs.Inside.Steps.{ReadsFixed, ReadsSignalHeaders, ReadsSignalHeadersFault}
+use Rattle.edf_fragment.specs.Inside.Steps.{RunsOutOfMemoryInSignalHeaders, IsSignalHeadersFault}
 use Rattle.edf_fragment.specs.declared.fault.FragmentFault.{FragmentFault}
 use Rattle.edf_fragment.specs.declared.fault.FragmentFault.TheVariants.{Header as BadHeader}
 use Rattle.edf_fragment.specs.declared.fault.FragmentFault.TheVariants.{CutRecord, Tal, Trailing}
@@ -103,13 +103,13 @@ pub told_second : (left rest : Option (List ℕ)) (n : ℕ) (b : List ℕ) (e : 
     (told : FragmentFault) → length b ≤ 256 * n → Consumes left rest b
     → (length b < 256 * n → IsAtEnd rest)
     → (e ≡ Memory → told ≡ NoMemory) → ((e ≡ Memory → ⊥) → told ≡ BadHeader e)
-    → IsSignalsRefusal b n e → IsSignalsFault left rest n told
+    → IsSignalsRefusal b n e → IsSignalHeadersFault left rest n told
 told_second left rest n b e told within read short memory other (inl (is, clean)) =
-    subst (IsSignalsFault left rest n) (sym (memory is))
+    subst (IsSignalHeadersFault left rest n) (sym (memory is))
     (record { bytes = b; read = read; within = within; clean = inr clean })
 told_second left rest n b e told within read short memory other (inr first) =
     let no : e ≡ Memory → ⊥ = λ is. subst (SignalsFail b n) is first.0 in
-    let r : ReadsSignalsFault left rest n e =
+    let r : ReadsSignalHeadersFault left rest n e =
     record {
       bytes = b;
       read = read;
@@ -118,11 +118,11 @@ told_second left rest n b e told within read short memory other (inr first) =
       ended =
           λ is. short (subst (SignalsFail b n) is first.0);
     } in
-    subst (IsSignalsFault left rest n) (sym (other no)) r
+    subst (IsSignalHeadersFault left rest n) (sym (other no)) r
 
 -- both parts of a header
 pub whole_header : (left mid rest : Option (List ℕ)) (f : FixedPart) (l : Layout) →
-    ReadsFixed left mid f → ReadsSignals mid rest f l → ReadsHeader left rest l
+    ReadsFixed left mid f → ReadsSignalHeaders mid rest f l → ReadsHeader left rest l
 whole_header left mid rest f l a b =
     let fixed : IsFixedHeader a.bytes b.header.fixed =
     subst (IsFixedHeader a.bytes) (sym b.same) a.is_fixed in
@@ -205,7 +205,7 @@ in-signals left mid rest f a b = record {
 
 -- the fixed part was read, and memory ran out at the signals
 lacks-signals : (left mid rest : Option (List ℕ)) (f : FixedPart) → ReadsFixed left mid f →
-    LacksSignalsMemory mid rest f.signal_count → RunsOutOfMemoryInHeader left rest
+    RunsOutOfMemoryInSignalHeaders mid rest f.signal_count → RunsOutOfMemoryInHeader left rest
 lacks-signals left mid rest f a b = record {
   fixed = f;
   first = a.bytes;
@@ -218,7 +218,8 @@ lacks-signals left mid rest f a b = record {
 
 -- the fixed part and no signals
 pub header_fault : (left mid rest : Option (List ℕ)) (f : FixedPart) (told : FragmentFault) →
-    ReadsFixed left mid f → IsSignalsFault mid rest f.signal_count told → IsOpenFault left rest told
+    ReadsFixed left mid f → IsSignalHeadersFault mid rest f.signal_count told →
+    IsOpenFault left rest told
 header_fault left mid rest f (BadHeader e) a b =
     let whole = second_fault a.bytes b.bytes f e a.is_fixed b.within b.is_fault in
     let len : length (a.bytes ++ b.bytes) ≡ 256 + length b.bytes = length-append a.bytes b.bytes
@@ -250,13 +251,14 @@ header_fault left mid rest f Failed a b = b
 -- the answer of the second part, as that of the whole
 pub header_answer : (left mid rest : Option (List ℕ)) (f : FixedPart)
     (result : Result Layout FragmentFault) → ReadsFixed left mid f
-    → MatchResult result (ReadsSignals mid rest f) (IsSignalsFault mid rest f.signal_count) →
+    → MatchResult result (ReadsSignalHeaders mid rest f)
+    (IsSignalHeadersFault mid rest f.signal_count) →
     MatchResult result (ReadsHeader left rest) (IsOpenFault left rest)
 header_answer left mid rest f (Ok l) a b = whole_header left mid rest f l a b
 header_answer left mid rest f (Err e) a b = header_fault left mid rest f e a b
 
 -- the second part's count, after a first part without a failed read
 pub counted_after : {X : Type 0} (old mid new : ℕ) (result : Result X FragmentFault) → mid ≡ old →
-    CountsAnswer mid new result → CountsAnswer old new result
+    CountsReadFailures mid new result → CountsReadFailures old new result
 counted_after old mid new result same counts =
-    subst (λ (n : ℕ). CountsAnswer n new result) same counts
+    subst (λ (n : ℕ). CountsReadFailures n new result) same counts

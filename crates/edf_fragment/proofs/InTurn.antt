@@ -12,10 +12,10 @@ use Rattle.edf_header.specs.Signal.{has_label, samples, samples_in_all}
 use Rattle.edf_header.specs.Header.{HeaderRecord, layout_of, blocks_from}
 use Rattle.edf_header.specs.declared.header.Block.{Block}
 use Rattle.edf_fragment.specs.Fragment.{blocks, bytes_outside, ordinary_bytes}
-use Rattle.edf_fragment.specs.Signals.{split_by_signal, annotations_blocks, ordinary_samples}
+use Rattle.edf_fragment.specs.Signals.{split_by_signal, blocks_by_signal, ordinary_bytes_by_signal}
 
 blocks-from : (at : ℕ) (rows : List (List ℕ)) (bytes : List ℕ) →
-    map (λ (b : Block). field bytes b.at b.bytes) (blocks_from at rows) ≡ annotations_blocks rows
+    map (λ (b : Block). field bytes b.at b.bytes) (blocks_from at rows) ≡ blocks_by_signal rows
     (drop at bytes)
 blocks-from at [] bytes = refl
 blocks-from at (row ∷ rows) bytes =
@@ -23,8 +23,8 @@ blocks-from at (row ∷ rows) bytes =
     let next : ℕ = at + size in
     let after : drop next bytes ≡ drop size (drop at bytes) = sym (drop-drop size at bytes) in
     let more : map (λ (b : Block). field bytes b.at b.bytes)
-    (blocks_from next rows) ≡ annotations_blocks rows (drop size (drop at bytes)) =
-    blocks-from next rows bytes ∙ ap (annotations_blocks rows) after in
+    (blocks_from next rows) ≡ blocks_by_signal rows (drop size (drop at bytes)) =
+    blocks-from next rows bytes ∙ ap (blocks_by_signal rows) after in
     let rest = filter (λ (p : List ℕ × List ℕ). has_label p.0)
     (split_by_signal rows (drop size (drop at bytes))) in
     elim (has_label row) as (λ b. map (λ (b : Block). field bytes b.at b.bytes)
@@ -37,7 +37,7 @@ blocks-from at (row ∷ rows) bytes =
 outside-of : (from at : ℕ) (rows : List (List ℕ)) (bytes : List ℕ) → from ≤ at →
     at + 2 * samples_in_all rows ≡ length bytes
     → bytes_outside from (blocks_from at rows) bytes ≡ field bytes from (at - from)
-    ++ ordinary_samples rows (drop at bytes)
+    ++ ordinary_bytes_by_signal rows (drop at bytes)
 outside-of from at [] bytes le all =
     let short : length (drop from bytes) ≤ at - from = omega (arith, all, length-drop from bytes) in
     sym (take_all (at - from) (drop from bytes) short)
@@ -51,12 +51,12 @@ outside-of from at (row ∷ rows) bytes le all =
     let rest = filter (λ (p : List ℕ × List ℕ). not (has_label p.0))
     (split_by_signal rows (drop size (drop at bytes))) in
     let others : List ℕ = flat_map (λ (p : List ℕ × List ℕ). p.1) rest in
-    let later : ordinary_samples rows (drop next bytes) ≡ others =
-    ap (ordinary_samples rows) after in
+    let later : ordinary_bytes_by_signal rows (drop next bytes) ≡ others =
+    ap (ordinary_bytes_by_signal rows) after in
     let none : next - next ≡ 0 = omega arith in
     let closed : bytes_outside next (blocks_from next rows) bytes ≡ others =
     outside-of next next rows bytes (omega arith) end
-    ∙ ap (λ (n : ℕ). field bytes next n ++ ordinary_samples rows (drop next bytes)) none
+    ∙ ap (λ (n : ℕ). field bytes next n ++ ordinary_bytes_by_signal rows (drop next bytes)) none
     ∙ later in
     let sum : next - from ≡ (at - from) + size = omega arith in
     let place : from + (at - from) ≡ at = omega arith in
@@ -69,7 +69,7 @@ outside-of from at (row ∷ rows) bytes le all =
     let apart : bytes_outside from (blocks_from next rows) bytes ≡ field bytes from (at - from)
     ++ (take size (drop at bytes) ++ others) =
     outside-of from next rows bytes (omega arith) end
-    ∙ ap (λ (l : List ℕ). l ++ ordinary_samples rows (drop next bytes)) both
+    ∙ ap (λ (l : List ℕ). l ++ ordinary_bytes_by_signal rows (drop next bytes)) both
     ∙ ap (λ (l : List ℕ). (field bytes from (at - from) ++ take size (drop at bytes)) ++ l) later
     ∙ append_assoc (field bytes from (at - from)) (take size (drop at bytes)) others in
     elim (has_label row) as (λ b. bytes_outside from
@@ -83,10 +83,10 @@ outside-of from at (row ∷ rows) bytes le all =
     ]
 
 pub blocks-in-turn : (h : HeaderRecord) (bytes : List ℕ) →
-    blocks (layout_of h) bytes ≡ annotations_blocks h.signals bytes
+    blocks (layout_of h) bytes ≡ blocks_by_signal h.signals bytes
 blocks-in-turn h bytes = blocks-from 0 h.signals bytes
 
 pub ordinary-in-turn : (h : HeaderRecord) (bytes : List ℕ) →
     length bytes ≡ (layout_of h).record_bytes
-    → ordinary_bytes (layout_of h) bytes ≡ ordinary_samples h.signals bytes
+    → ordinary_bytes (layout_of h) bytes ≡ ordinary_bytes_by_signal h.signals bytes
 ordinary-in-turn h bytes len = outside-of 0 0 h.signals bytes (omega arith) (omega (arith, len))

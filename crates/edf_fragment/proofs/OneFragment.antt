@@ -10,9 +10,9 @@ use Rattle.edf_tal.specs.declared.place.Place.{Place}
 use Rattle.edf_tal.specs.declared.place.Place.TheVariants.{First}
 use Rattle.edf_tal.specs.declared.place.TalFault.{TalFault}
 use Rattle.edf_tal.proofs.Cited.{blocks-one-read, blocks-read-no-fault, blocks-one-fault}
-use Rattle.edf_fragment.specs.Fragment.{DataRecord, IsDataRecord, AreDataRecords, place_after}
+use Rattle.edf_fragment.specs.Fragment.{DataRecord, IsDataRecord, BeginWithDataRecords, place_after}
 use Rattle.edf_fragment.specs.Fragment.{blocks, IsFragmentFile}
-use Rattle.edf_fragment.specs.Fault.{ParsedUpToFault, IsCutRecord, IsRefusedBlock, IsTrailing}
+use Rattle.edf_fragment.specs.Fault.{ParsedPrefix, IsCutRecord, IsRefusedRecord, HasTrailingBytes}
 use Rattle.edf_fragment.specs.Fault.{IsFirstFault}
 use Rattle.edf_fragment.specs.declared.fault.FragmentFault.{FragmentFault}
 use Rattle.edf_fragment.specs.declared.fault.FragmentFault.TheVariants.{Header as BadHeader}
@@ -37,16 +37,16 @@ one-record l p b r s x y =
 pub record GoesOn (l : Layout) (rs ss : List DataRecord) (p q : Place) (x y : List ℕ) : Type 0 where
   pub others : List DataRecord
   pub all : ss ≡ rs ++ others
-  pub are_records : AreDataRecords l p x others q y
+  pub are_records : BeginWithDataRecords l p x others q y
 
 pub goes_on : (l : Layout) (f p q : Place) (b x y : List ℕ) (rs ss : List DataRecord) →
     length rs ≤ length ss
-    → AreDataRecords l f b rs p x → AreDataRecords l f b ss q y → GoesOn l rs ss p q x y
+    → BeginWithDataRecords l f b rs p x → BeginWithDataRecords l f b ss q y → GoesOn l rs ss p q x y
 goes_on l f p q b x y [] ss few (place, rest) more = record {
   others = ss;
   all = refl;
-  are_records = subst (λ (z : List ℕ). AreDataRecords l p z ss q y) (sym rest)
-      (subst (λ (z : Place). AreDataRecords l z b ss q y) (sym place) more);
+  are_records = subst (λ (z : List ℕ). BeginWithDataRecords l p z ss q y) (sym rest)
+      (subst (λ (z : Place). BeginWithDataRecords l z b ss q y) (sym place) more);
 }
 goes_on l f p q b x y (r ∷ rs) [] few are more = absurd (omega arith)
 goes_on l f p q b x y (r ∷ rs) (s ∷ ss) few (front, back, parts, one, are) (
@@ -59,9 +59,11 @@ goes_on l f p q b x y (r ∷ rs) (s ∷ ss) few (front, back, parts, one, are) (
     let same = same_front b front back front2 back2 parts parts2 (one.len ∙ sym one2.len) in
     let first : r ≡ s = one-record l f front2 r s
     (subst (λ (z : List ℕ). IsDataRecord l f z r) same.front one) one2 in
-    let here = subst (λ (z : DataRecord). AreDataRecords l (place_after l z.start) back rs p x)
+    let here = subst (λ (z : DataRecord). BeginWithDataRecords l
+    (place_after l z.start) back rs p x)
     first are in
-    let there = subst (λ (z : List ℕ). AreDataRecords l (place_after l s.start) z rs p x) same.back
+    let there = subst (λ (z : List ℕ). BeginWithDataRecords l (place_after l s.start) z rs p x)
+    same.back
     here in
     let rest = goes_on l (place_after l s.start) p q back2 x y rs ss (omega arith) there are2 in
     let all : s ∷ ss ≡ (r ∷ rs) ++ rest.others = ap (λ (z : List DataRecord). s ∷ z) rest.all
@@ -84,7 +86,7 @@ pub record SameRun (rs ss : List DataRecord) (p q : Place) (x y : List ℕ) : Ty
 
 stops : (l : Layout) (rs ss others : List DataRecord) (p q : Place) (x y : List ℕ) → ss ≡ rs
     ++ others → IsStuck l rs p x → length ss ≤ most_records l.count
-    → AreDataRecords l p x others q y → SameRun rs ss p q x y
+    → BeginWithDataRecords l p x others q y → SameRun rs ss p q x y
 stops l rs ss [] p q x y all stuck few (place, rest) =
     record { records = sym (all ∙ append-nil rs); place = sym place; rest = sym rest }
 stops l rs ss (r ∷ others) p q x y all stuck few (front, back, parts, one, more) =
@@ -97,7 +99,7 @@ swapped : (rs ss : List DataRecord) (p q : Place) (x y : List ℕ) → SameRun s
 swapped rs ss p q x y s = record { records = sym s.records; place = sym s.place; rest = sym s.rest }
 
 pub one-run : (l : Layout) (f p q : Place) (b x y : List ℕ) (rs ss : List DataRecord) →
-    AreDataRecords l f b rs p x → AreDataRecords l f b ss q y
+    BeginWithDataRecords l f b rs p x → BeginWithDataRecords l f b ss q y
     → IsStuck l rs p x → IsStuck l ss q y → SameRun rs ss p q x y
 one-run l f p q b x y rs ss a c stuck stuck2 =
     elim (cases_lt (length ss) (length rs)) [
@@ -113,7 +115,7 @@ one-run l f p q b x y rs ss a c stuck stuck2 =
 -- ---- where a fragment or a fault stops
 
 cut-stuck : (b : List ℕ) (nth : ℕ) (p : IsCutRecord b nth) →
-    IsStuck (layout_of p.up_to.header) p.up_to.records p.up_to.last p.up_to.remaining
+    IsStuck (layout_of p.up_to.header) p.up_to.records p.up_to.next_place p.up_to.remaining
 cut-stuck b nth p = record {
   within = omega (arith, p.is_nth, p.may_come);
   none = λ low front back r parts is. omega (
@@ -125,11 +127,11 @@ cut-stuck b nth p = record {
 }
 
 -- the layout of the header that was read
-layout-up-to : (b : List ℕ) (u : ParsedUpToFault b) → IsLayout (layout_of u.header)
+layout-up-to : (b : List ℕ) (u : ParsedPrefix b) → IsLayout (layout_of u.header)
 layout-up-to b u = header-has-layout b u.header u.rest u.is_header
 
-block-stuck : (b : List ℕ) (nth : ℕ) (e : TalFault) (p : IsRefusedBlock b nth e) →
-    IsStuck (layout_of p.up_to.header) p.up_to.records p.up_to.last p.up_to.remaining
+block-stuck : (b : List ℕ) (nth : ℕ) (e : TalFault) (p : IsRefusedRecord b nth e) →
+    IsStuck (layout_of p.up_to.header) p.up_to.records p.up_to.next_place p.up_to.remaining
 block-stuck b nth e p =
     let l = layout_of p.up_to.header in
     record {
@@ -137,8 +139,9 @@ block-stuck b nth e p =
       none = λ low front back r parts is.
           let same : blocks l p.up_to.remaining ≡ blocks l front = ap (blocks l) parts
           ∙ blocks-front l front back (layout-up-to b p.up_to) (omega (arith, is.len)) in
-          blocks-read-no-fault (blocks l front) l.start p.up_to.last r.start r.annotations e is.read
-          (subst (λ (z : List (List ℕ)). BlocksHaveFirstFault z l.start p.up_to.last e) same
+          blocks-read-no-fault (blocks l front) l.start p.up_to.next_place r.start r.annotations e
+          is.read
+          (subst (λ (z : List (List ℕ)). BlocksHaveFirstFault z l.start p.up_to.next_place e) same
           p.refused);
     }
 
@@ -150,9 +153,9 @@ all-stuck l rs p x all = record {
       λ low. absurd (omega (arith, all, low));
 }
 
-trailing-stuck : (b : List ℕ) (p : IsTrailing b) →
-    IsStuck (layout_of p.up_to.header) p.up_to.records p.up_to.last p.up_to.remaining
-trailing-stuck b p = all-stuck (layout_of p.up_to.header) p.up_to.records p.up_to.last
+trailing-stuck : (b : List ℕ) (p : HasTrailingBytes b) →
+    IsStuck (layout_of p.up_to.header) p.up_to.records p.up_to.next_place p.up_to.remaining
+trailing-stuck b p = all-stuck (layout_of p.up_to.header) p.up_to.records p.up_to.next_place
     p.up_to.remaining
     p.all
 
@@ -170,20 +173,20 @@ none-stuck l rs p i within = record {
 }
 
 abbrev spelled : (b : List ℕ) (k : Key) (rs : List DataRecord) → IsFragmentFile b k rs →
-    ParsedUpToFault b
+    ParsedPrefix b
 spelled b k rs s = record {
   header = s.header;
   rest = s.rest;
   records = rs;
-  last = s.last;
+  next_place = s.next_place;
   remaining = [];
   is_header = s.is_header;
   are_records = s.are_records;
 }
 
 spelled-stuck : (b : List ℕ) (k : Key) (rs : List DataRecord) (s : IsFragmentFile b k rs) →
-    IsStuck (layout_of s.header) rs s.last []
-spelled-stuck b k rs s = none-stuck (layout_of s.header) rs s.last
+    IsStuck (layout_of s.header) rs s.next_place []
+spelled-stuck b k rs s = none-stuck (layout_of s.header) rs s.next_place
     (layout-up-to b (spelled b k rs s)) s.most
 
 -- ---- two readings of the same bytes
@@ -195,12 +198,13 @@ pub record SameEnd (h g : HeaderRecord) (rs ss : List DataRecord) (p q : Place)
 
 same-end : (b r s : List ℕ) (h g : HeaderRecord) (rs ss : List DataRecord) (p q : Place)
     (x y : List ℕ) → IsHeader b h r → IsHeader b g s
-    → AreDataRecords (layout_of h) First r rs p x → AreDataRecords (layout_of g) First s ss q y
+    → BeginWithDataRecords (layout_of h) First r rs p x →
+    BeginWithDataRecords (layout_of g) First s ss q y
     → IsStuck (layout_of h) rs p x → IsStuck (layout_of g) ss q y → SameEnd h g rs ss p q x y
 same-end b r s h g rs ss p q x y is is2 are are2 stuck stuck2 =
     let one = one-header b h g r s is is2 in
-    let there = subst (λ (z : List ℕ). AreDataRecords (layout_of g) First z rs p x) one.1
-    (subst (λ (z : HeaderRecord). AreDataRecords (layout_of z) First r rs p x) one.0 are) in
+    let there = subst (λ (z : List ℕ). BeginWithDataRecords (layout_of g) First z rs p x) one.1
+    (subst (λ (z : HeaderRecord). BeginWithDataRecords (layout_of z) First r rs p x) one.0 are) in
     let stuck1 = subst (λ (z : HeaderRecord). IsStuck (layout_of z) rs p x) one.0 stuck in
     record {
       header = one.0;
@@ -227,19 +231,22 @@ numbers h g rs ss p q x y e = record {
 }
 
 -- two readings of the same bytes that both stop
-both : (b : List ℕ) (u v : ParsedUpToFault b) →
-    IsStuck (layout_of u.header) u.records u.last u.remaining →
-    IsStuck (layout_of v.header) v.records v.last v.remaining
-    → SameEnd u.header v.header u.records v.records u.last v.last u.remaining v.remaining
-both b u v s t = same-end b u.rest v.rest u.header v.header u.records v.records u.last v.last
+both : (b : List ℕ) (u v : ParsedPrefix b) →
+    IsStuck (layout_of u.header) u.records u.next_place u.remaining →
+    IsStuck (layout_of v.header) v.records v.next_place v.remaining
+    → SameEnd u.header v.header u.records v.records u.next_place v.next_place u.remaining
+    v.remaining
+both b u v s t = same-end b u.rest v.rest u.header v.header u.records v.records u.next_place
+    v.next_place
     u.remaining
     v.remaining u.is_header v.is_header u.are_records v.are_records s t
 
-both-numbers : (b : List ℕ) (u v : ParsedUpToFault b) →
-    IsStuck (layout_of u.header) u.records u.last u.remaining →
-    IsStuck (layout_of v.header) v.records v.last v.remaining
+both-numbers : (b : List ℕ) (u v : ParsedPrefix b) →
+    IsStuck (layout_of u.header) u.records u.next_place u.remaining →
+    IsStuck (layout_of v.header) v.records v.next_place v.remaining
     → SameNumbers u.header v.header u.records v.records u.remaining v.remaining
-both-numbers b u v s t = numbers u.header v.header u.records v.records u.last v.last u.remaining
+both-numbers b u v s t = numbers u.header v.header u.records v.records u.next_place v.next_place
+    u.remaining
     v.remaining
     (both b u v s t)
 
@@ -259,17 +266,17 @@ one-fragment b k j rs ss s t =
       records = e.run.records;
     }
 
-cut-trailing : (b : List ℕ) (n : ℕ) → IsCutRecord b n → ¬ IsTrailing b
+cut-trailing : (b : List ℕ) (n : ℕ) → IsCutRecord b n → ¬ HasTrailingBytes b
 cut-trailing b n p q =
     let e = both-numbers b p.up_to q.up_to (cut-stuck b n p) (trailing-stuck b q) in
     omega (arith, e.given, e.most, p.is_nth, p.may_come, q.all)
 
-block-trailing : (b : List ℕ) (n : ℕ) (f : TalFault) → IsRefusedBlock b n f → ¬ IsTrailing b
+block-trailing : (b : List ℕ) (n : ℕ) (f : TalFault) → IsRefusedRecord b n f → ¬ HasTrailingBytes b
 block-trailing b n f p q =
     let e = both-numbers b p.up_to q.up_to (block-stuck b n f p) (trailing-stuck b q) in
     omega (arith, e.given, e.most, p.is_nth, p.may_come, q.all)
 
-cut-block : (b : List ℕ) (n m : ℕ) (f : TalFault) → IsCutRecord b n → ¬ IsRefusedBlock b m f
+cut-block : (b : List ℕ) (n m : ℕ) (f : TalFault) → IsCutRecord b n → ¬ IsRefusedRecord b m f
 cut-block b n m f p q =
     let e = both-numbers b p.up_to q.up_to (cut-stuck b n p) (block-stuck b m f q) in
     omega (arith, e.size, e.remaining, p.cut, q.whole)
@@ -283,26 +290,26 @@ record SameBlock (n m : ℕ) (e f : TalFault) : Type 0 where
   nth : n ≡ m
   fault : e ≡ f
 
-one-refused : (b : List ℕ) (n m : ℕ) (e f : TalFault) → IsRefusedBlock b n e →
-    IsRefusedBlock b m f → SameBlock n m e f
+one-refused : (b : List ℕ) (n m : ℕ) (e f : TalFault) → IsRefusedRecord b n e →
+    IsRefusedRecord b m f → SameBlock n m e f
 one-refused b n m e f p q =
     let s = both b p.up_to q.up_to (block-stuck b n e p) (block-stuck b m f q) in
     let k = both-numbers b p.up_to q.up_to (block-stuck b n e p) (block-stuck b m f q) in
     let g = q.up_to.header in
     let here = subst (λ (z : HeaderRecord).
     BlocksHaveFirstFault (blocks (layout_of z) p.up_to.remaining)
-    (layout_of z).start p.up_to.last e)
+    (layout_of z).start p.up_to.next_place e)
     s.header p.refused in
     let place = subst (λ (z : Place). BlocksHaveFirstFault (blocks (layout_of g) p.up_to.remaining)
     (layout_of g).start z e) s.run.place here in
     let there = subst (λ (z : List ℕ). BlocksHaveFirstFault (blocks (layout_of g) z)
     (layout_of g).start
-    q.up_to.last e) s.run.rest place in
+    q.up_to.next_place e) s.run.rest place in
     record {
       nth = omega (arith, k.given, p.is_nth, q.is_nth);
       fault =
           blocks-one-fault (blocks (layout_of g) q.up_to.remaining)
-          (layout_of g).start q.up_to.last e f
+          (layout_of g).start q.up_to.next_place e f
           there q.refused;
     }
 

@@ -12,9 +12,9 @@ use Rattle.edf_tal.specs.Block.{BlocksParseTo}
 use Rattle.edf_tal.specs.declared.place.Place.{Place}
 use Rattle.edf_tal.specs.declared.place.Place.TheVariants.{First}
 use Rattle.edf_tal.proofs.Cited.{blocks-some-answer}
-use Rattle.edf_fragment.specs.Fragment.{DataRecord, IsDataRecord, AreDataRecords, place_after}
+use Rattle.edf_fragment.specs.Fragment.{DataRecord, IsDataRecord, BeginWithDataRecords, place_after}
 use Rattle.edf_fragment.specs.Fragment.{blocks, ordinary_bytes, IsFragmentFile}
-use Rattle.edf_fragment.specs.Fault.{ParsedUpToFault, IsFirstFault}
+use Rattle.edf_fragment.specs.Fault.{ParsedPrefix, IsFirstFault}
 use Rattle.edf_fragment.specs.declared.fault.FragmentFault.{FragmentFault}
 use Rattle.edf_fragment.specs.declared.fault.FragmentFault.TheVariants.{Header as BadHeader}
 use Rattle.edf_fragment.specs.declared.fault.FragmentFault.TheVariants.{CutRecord, Tal, Trailing}
@@ -25,8 +25,8 @@ use Rattle.edf_fragment.proofs.OneFragment.{one-fragment, spelled-no-fault, one-
 -- one more data record, at the front of what is left
 AreDataRecords-next : (l : Layout) (p q : Place) (b left front back : List ℕ) (rs : List DataRecord)
     (r : DataRecord)
-    → AreDataRecords l p b rs q left → left ≡ front ++ back → IsDataRecord l q front r →
-    AreDataRecords l p b (rs ++ r ∷ []) (place_after l r.start) back
+    → BeginWithDataRecords l p b rs q left → left ≡ front ++ back → IsDataRecord l q front r →
+    BeginWithDataRecords l p b (rs ++ r ∷ []) (place_after l r.start) back
 AreDataRecords-next l p q b left front back [] r (place, rest) parts is = (
   front,
   back,
@@ -47,12 +47,12 @@ HasAnswer b = ((k : Key) × (rs : List DataRecord) × IsFragmentFile b k rs)
 module _ (b : List ℕ) (h : HeaderRecord) (rest : List ℕ) (is : IsHeader b h rest) where
   -- so far
   abbrev up-to : (rs : List DataRecord) (last : Place) (left : List ℕ) →
-      AreDataRecords (layout_of h) First rest rs last left → ParsedUpToFault b
+      BeginWithDataRecords (layout_of h) First rest rs last left → ParsedPrefix b
   up-to rs last left are = record {
     header = h;
     rest = rest;
     records = rs;
-    last = last;
+    next_place = last;
     remaining = left;
     is_header = is;
     are_records = are;
@@ -60,7 +60,7 @@ module _ (b : List ℕ) (h : HeaderRecord) (rest : List ℕ) (is : IsHeader b h 
 
   -- nothing is left, and no more data records must come
   ended : (rs : List DataRecord) (last : Place) →
-      AreDataRecords (layout_of h) First rest rs last [] →
+      BeginWithDataRecords (layout_of h) First rest rs last [] →
       least_records (layout_of h).count ≤ length rs
       → length rs ≤ most_records (layout_of h).count → HasAnswer b
   ended rs last are least most =
@@ -70,7 +70,7 @@ module _ (b : List ℕ) (h : HeaderRecord) (rest : List ℕ) (is : IsHeader b h 
         record {
           header = h;
           rest = rest;
-          last = last;
+          next_place = last;
           is_header = is;
           key = refl;
           are_records = are;
@@ -81,7 +81,7 @@ module _ (b : List ℕ) (h : HeaderRecord) (rest : List ℕ) (is : IsHeader b h 
 
   -- no more data records may be there
   at-end : (rs : List DataRecord) (last : Place) (left : List ℕ) →
-      AreDataRecords (layout_of h) First rest rs last left →
+      BeginWithDataRecords (layout_of h) First rest rs last left →
       length rs ≡ most_records (layout_of h).count → HasAnswer b
   at-end rs last [] are all = ended rs last are (omega (arith, all, least-most (layout_of h).count))
       (omega (arith, all))
@@ -90,7 +90,7 @@ module _ (b : List ℕ) (h : HeaderRecord) (rest : List ℕ) (is : IsHeader b h 
 
   -- too few bytes are left for a data record
   at-cut : (rs : List DataRecord) (last : Place) (left : List ℕ) →
-      AreDataRecords (layout_of h) First rest rs last left →
+      BeginWithDataRecords (layout_of h) First rest rs last left →
       length rs < most_records (layout_of h).count
       → length left < (layout_of h).record_bytes → HasAnswer b
   at-cut rs last [] are low cut =
@@ -148,7 +148,7 @@ module _ (b : List ℕ) (h : HeaderRecord) (rest : List ℕ) (is : IsHeader b h 
 
   -- what comes after some data records, where there may be n more
   read-on : (n : ℕ) (rs : List DataRecord) (last : Place) (left : List ℕ) →
-      AreDataRecords (layout_of h) First rest rs last left →
+      BeginWithDataRecords (layout_of h) First rest rs last left →
       length rs + n ≡ most_records (layout_of h).count → HasAnswer b
   read-on zero rs last left are all = at-end rs last left are (omega (arith, all))
   read-on (suc n) rs last left are all =

@@ -13,8 +13,9 @@ use Rattle.edf_header.specs.declared.fault.HeaderFault.{HeaderFault}
 use Rattle.edf_header.specs.declared.fault.HeaderFault.TheVariants.{Cut, CutSignals}
 use Rattle.edf_tal.specs.declared.place.Place.{Place}
 use Rattle.edf_tal.specs.declared.place.Place.TheVariants.{First}
-use Rattle.edf_fragment.specs.Fragment.{DataRecord, IsDataRecord, AreDataRecords, place_after}
-use Rattle.edf_fragment.specs.Reading.{ReadsRecord, IsAnswerInState, IsAnswer, progress_after}
+use Rattle.edf_fragment.specs.Fragment.{DataRecord, IsDataRecord, BeginWithDataRecords, place_after}
+use Rattle.edf_fragment.specs.Reading.{ReadsRecord, IsNextAnswerInState, IsNextAnswer}
+use Rattle.edf_fragment.specs.Reading.{progress_after}
 use Rattle.edf_fragment.specs.Whole.{HasReadRecords}
 use Rattle.edf_fragment.specs.declared.advance.Progress.{Progress}
 use Rattle.edf_fragment.specs.declared.advance.ReaderState.{ReaderState}
@@ -26,8 +27,8 @@ use Rattle.edf_fragment.proofs.HeaderParts.{field_front, signals-later}
 -- one more record at the end
 pub AreDataRecords-snoc : (l : Layout) (p q : Place) (b front : List ℕ) (rs : List DataRecord)
     (r : DataRecord)
-    → AreDataRecords l p b rs q [] → IsDataRecord l q front r →
-    AreDataRecords l p (b ++ front) (rs ++ r ∷ []) (place_after l r.start) []
+    → BeginWithDataRecords l p b rs q [] → IsDataRecord l q front r →
+    BeginWithDataRecords l p (b ++ front) (rs ++ r ∷ []) (place_after l r.start) []
 AreDataRecords-snoc l p q b front [] r (place, rest) is =
     let all : b ++ front ≡ front ++ [] = ap (λ (x : List ℕ). x ++ front) (sym rest)
     ∙ sym (append-nil front) in
@@ -42,7 +43,8 @@ AreDataRecords-snoc l p q b front (x ∷ rs) r (first, back, parts, one, more) i
 
 -- more bytes that are left
 pub AreDataRecords-more : (l : Layout) (p q : Place) (b rest more : List ℕ) (rs : List DataRecord)
-    → AreDataRecords l p b rs q rest → AreDataRecords l p (b ++ more) rs q (rest ++ more)
+    → BeginWithDataRecords l p b rs q rest →
+    BeginWithDataRecords l p (b ++ more) rs q (rest ++ more)
 AreDataRecords-more l p q b rest more [] (place, same) =
     (place, ap (λ (x : List ℕ). x ++ more) same)
 AreDataRecords-more l p q b rest more (x ∷ rs) (first, back, parts, one, others) = (
@@ -134,11 +136,11 @@ IsHeaderFault-more b more e none (inr (n, clean, has, first)) =
 -- what a reader answers that goes on, with a record
 pub next_of : (l : Layout) (p q : Progress) (mid rest : Option (List ℕ)) (o : Option DataRecord)
     (r : DataRecord) → p.state ≡ Reading
-    → IsAnswer l p q mid rest (Ok o) → o ≡ Some r → (q ≡ progress_after l p (Ok (Some r)))
+    → IsNextAnswer l p q mid rest (Ok o) → o ≡ Some r → (q ≡ progress_after l p (Ok (Some r)))
     × ReadsRecord l p mid rest r
 next_of l p q mid rest o r going answer is =
-    subst (λ (x : Option DataRecord). IsAnswerInState Reading l p q mid rest (Ok x)) is
-    (subst (λ (s : ReaderState). IsAnswerInState s l p q mid rest (Ok o)) going answer)
+    subst (λ (x : Option DataRecord). IsNextAnswerInState Reading l p q mid rest (Ok x)) is
+    (subst (λ (s : ReaderState). IsNextAnswerInState s l p q mid rest (Ok o)) going answer)
 
 -- one more record was read
 pub reads_more : (l : Layout) (left mid rest : Option (List ℕ)) (rs : List DataRecord)
@@ -153,7 +155,8 @@ reads_more l left mid rest rs p q r before is gives =
     record {
       bytes = before.bytes ++ gives.bytes;
       read = Consumes-trans left mid rest before.bytes gives.bytes before.read gives.read;
-      are_records = subst (λ (x : Place). AreDataRecords l First (before.bytes ++ gives.bytes) (rs
+      are_records = subst (λ (x : Place). BeginWithDataRecords l First (before.bytes
+          ++ gives.bytes) (rs
           ++ r ∷ []) x []) (sym place) more;
       given = omega (arith, before.given, length-append rs (r ∷ []));
       within = omega (arith, gives.may_come, given);

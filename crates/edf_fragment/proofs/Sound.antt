@@ -17,10 +17,10 @@ use Rattle.edf_header.specs.declared.limits.TheConstants.{MOST_BLOCK_BYTES, MOST
 use Rattle.edf_tal.specs.declared.place.Place.{Place}
 use Rattle.edf_tal.specs.declared.place.Place.TheVariants.{First, After, Any}
 use Rattle.edf_tal.proofs.Cited.{blocks-read-start, blocks-read-annotations}
-use Rattle.edf_fragment.specs.Fragment.{DataRecord, IsDataRecord, AreDataRecords, place_after}
+use Rattle.edf_fragment.specs.Fragment.{DataRecord, IsDataRecord, BeginWithDataRecords, place_after}
 use Rattle.edf_fragment.specs.Fragment.{ordinary_bytes, IsFragmentFile}
-use Rattle.edf_fragment.specs.Sound.{IsValidRecord, IsSoundRecord, AreSound, MayBegin}
-use Rattle.edf_fragment.specs.Reading.{ReadsHeader, IsNext}
+use Rattle.edf_fragment.specs.Sound.{IsValidRecord, IsSoundRecord, AreSoundFrom, FirstMayStart}
+use Rattle.edf_fragment.specs.Reading.{ReadsHeader, IsNextResult}
 use Rattle.edf_fragment.specs.Whole.{HasReadRecords}
 use Rattle.edf_fragment.specs.declared.advance.Progress.{Progress}
 use Rattle.edf_fragment.specs.declared.fault.FragmentFault.{FragmentFault}
@@ -74,7 +74,7 @@ read-kept bs file_start place start samples list few read = record {
 -- the next record, where one is given
 pub sound-next : (l : Layout) (from : Progress) (left rest : Option (List ℕ))
     (result : Result (Option DataRecord) FragmentFault) → IsLayout l →
-    IsNext l from left rest result
+    IsNextResult l from left rest result
     → IfOk result (λ next. IfSome next (λ r. IsSoundRecord l.key r))
 sound-next l from left rest (Ok (Some r)) in_layout gives =
     sound-record l from.place gives.bytes r in_layout gives.is_record
@@ -85,7 +85,7 @@ sound-next l from left rest (Err fault) in_layout is = tt
 
 are-sound : (l : Layout) (place : Place) (bytes : List ℕ) (rs : List DataRecord) (last : Place)
     (rest : List ℕ) → IsLayout l
-    → AreDataRecords l place bytes rs last rest → AreSound l.key (least_start place) rs
+    → BeginWithDataRecords l place bytes rs last rest → AreSoundFrom l.key (least_start place) rs
 are-sound l place bytes [] last rest in_layout are = tt
 are-sound l place bytes (r ∷ rs) last rest in_layout (front, back, parts, is, more) = (
   sound-record l place front r in_layout is,
@@ -116,7 +116,7 @@ first-start bs file_start start list read =
 -- so the key's recording may start with it: the part of the window that two digits name ends with a
 -- second
 may-begin : (l : Layout) (bytes : List ℕ) (rs : List DataRecord) (last : Place) (rest : List ℕ) →
-    IsLayout l → AreDataRecords l First bytes rs last rest → MayBegin l.key rs
+    IsLayout l → BeginWithDataRecords l First bytes rs last rest → FirstMayStart l.key rs
 may-begin l bytes [] last rest in_layout are = tt
 may-begin l bytes (r ∷ rs) last rest in_layout (front, back, parts, is, more) =
     λ undated. omega (
@@ -150,17 +150,17 @@ pub spelled-few : (bytes : List ℕ) (k : Key) (rs : List DataRecord) → IsFrag
 spelled-few bytes k rs s = omega (arith, s.most, (spelled-layout bytes k rs s).count.1)
 
 pub spelled-sound : (bytes : List ℕ) (k : Key) (rs : List DataRecord) → IsFragmentFile bytes k rs →
-    AreSound k 0 rs
+    AreSoundFrom k 0 rs
 spelled-sound bytes k rs s =
-    subst (λ (x : Key). AreSound x 0 rs) (sym s.key)
-    (are-sound (layout_of s.header) First s.rest rs s.last [] (spelled-layout bytes k rs s)
+    subst (λ (x : Key). AreSoundFrom x 0 rs) (sym s.key)
+    (are-sound (layout_of s.header) First s.rest rs s.next_place [] (spelled-layout bytes k rs s)
     s.are_records)
 
 pub spelled-begins : (bytes : List ℕ) (k : Key) (rs : List DataRecord) → IsFragmentFile bytes k rs →
-    MayBegin k rs
+    FirstMayStart k rs
 spelled-begins bytes k rs s =
-    subst (λ (x : Key). MayBegin x rs) (sym s.key)
-    (may-begin (layout_of s.header) s.rest rs s.last [] (spelled-layout bytes k rs s)
+    subst (λ (x : Key). FirstMayStart x rs) (sym s.key)
+    (may-begin (layout_of s.header) s.rest rs s.next_place [] (spelled-layout bytes k rs s)
     s.are_records)
 
 -- ---- those that were read so far
@@ -173,12 +173,13 @@ pub read-key : (left rest : Option (List ℕ)) (l : Layout) → ReadsHeader left
 read-key left rest l h = (read-layout left rest l h).key
 
 pub read-sound : (left one two : Option (List ℕ)) (l : Layout) (rs : List DataRecord)
-    (p : Progress) → ReadsHeader left one l → HasReadRecords l one two rs p → AreSound l.key 0 rs
+    (p : Progress) → ReadsHeader left one l → HasReadRecords l one two rs p →
+    AreSoundFrom l.key 0 rs
 read-sound left one two l rs p h b =
     are-sound l First b.bytes rs p.place [] (read-layout left one l h) b.are_records
 
 pub read-begins : (left one two : Option (List ℕ)) (l : Layout) (rs : List DataRecord)
-    (p : Progress) → ReadsHeader left one l → HasReadRecords l one two rs p → MayBegin l.key rs
+    (p : Progress) → ReadsHeader left one l → HasReadRecords l one two rs p → FirstMayStart l.key rs
 read-begins left one two l rs p h b =
     may-begin l b.bytes rs p.place [] (read-layout left one l h) b.are_records
 
@@ -188,7 +189,7 @@ Begins all rs = (later : List DataRecord) × (all ≡ rs ++ later)
 
 -- no data record is there where nothing is left
 none-after : (l : Layout) (p q : Place) (x : List ℕ) (rs : List DataRecord) → IsLayout l →
-    AreDataRecords l p [] rs q x → 0 < length rs → ⊥
+    BeginWithDataRecords l p [] rs q x → 0 < length rs → ⊥
 none-after l p q x [] i are some = omega (arith, some)
 none-after l p q x (r ∷ rs) i (front, back, parts, is, more) some =
     omega (
@@ -201,7 +202,7 @@ none-after l p q x (r ∷ rs) i (front, back, parts, is, more) some =
 
 -- data records that were read don't go on where the spelled ones stop: nothing is left there
 not-past : (l : Layout) (f p q : Place) (b x : List ℕ) (rs all : List DataRecord) → IsLayout l →
-    AreDataRecords l f b rs p x → AreDataRecords l f b all q [] → length rs ≤ length all
+    BeginWithDataRecords l f b rs p x → BeginWithDataRecords l f b all q [] → length rs ≤ length all
 not-past l f p q b x rs all i read spelled =
     elim (cases_lt (length all) (length rs)) [
       | inl more ↦
@@ -215,22 +216,23 @@ not-past l f p q b x rs all i read spelled =
 -- after the same header, in the same bytes
 front-of : (a b c : List ℕ) (h g : HeaderRecord) (rest : List ℕ) (rs all : List DataRecord)
     (p q : Place) → IsHeader (a ++ (b ++ c)) g rest → IsHeader a h []
-    → AreDataRecords (layout_of h) First b rs p [] →
-    AreDataRecords (layout_of g) First rest all q [] → ((layout_of g).key ≡ (layout_of h).key)
+    → BeginWithDataRecords (layout_of h) First b rs p [] →
+    BeginWithDataRecords (layout_of g) First rest all q [] → ((layout_of g).key ≡ (layout_of h).key)
     × Begins all rs
 front-of a b c h g rest rs all p q is read are spelled =
     let one = one-header (a ++ (b ++ c)) g h rest (b ++ c) is (IsHeader-more a (b ++ c) h read) in
     let l = layout_of h in
     let here = AreDataRecords-more l First p b [] c rs are in
-    let there = subst (λ (x : HeaderRecord). AreDataRecords (layout_of x) First (b ++ c) all q [])
-    one.0 (subst (λ (x : List ℕ). AreDataRecords (layout_of g) First x all q []) one.1
+    let there = subst (λ (x : HeaderRecord). BeginWithDataRecords (layout_of x) First
+    (b ++ c) all q [])
+    one.0 (subst (λ (x : List ℕ). BeginWithDataRecords (layout_of g) First x all q []) one.1
     spelled) in
     let few = not-past l First p q (b ++ c) c rs all (header-has-layout a h [] read) here there in
     let on = goes_on l First p q (b ++ c) c [] rs all few here there in
     (ap (λ (x : HeaderRecord). (layout_of x).key) one.0, (on.others, on.all))
 
 -- each has as many samples as the key says
-pub sound_sizes : (k : Key) (low : ℕ) (rs : List DataRecord) → AreSound k low rs →
+pub sound_sizes : (k : Key) (low : ℕ) (rs : List DataRecord) → AreSoundFrom k low rs →
     All (λ r. length r.samples ≡ 2 * samples_in_all k.signals) rs
 sound_sizes k low [] sound = All-nil (λ r. length r.samples ≡ 2 * samples_in_all k.signals)
 sound_sizes k low (r ∷ rs) (one, lower, more) =
@@ -247,9 +249,10 @@ read-front all (Some one) None l rs p k others h b s = absurd b.read
 read-front all (Some one) (Some two) l rs p k others h b s =
     let parts : all ≡ h.bytes ++ (b.bytes ++ two) = h.read
     ∙ ap (λ (x : List ℕ). h.bytes ++ x) b.read in
-    let are = subst (λ (x : Layout). AreDataRecords x First b.bytes rs p.place []) h.layout_is
+    let are = subst (λ (x : Layout). BeginWithDataRecords x First b.bytes rs p.place []) h.layout_is
     b.are_records in
     let is = subst (λ (x : List ℕ). IsHeader x s.header s.rest) parts s.is_header in
-    let front = front-of h.bytes b.bytes two h.header s.header s.rest rs others p.place s.last is
+    let front = front-of h.bytes b.bytes two h.header s.header s.rest rs others p.place s.next_place
+    is
     h.is_header are s.are_records in
     (s.key ∙ front.0 ∙ ap (λ (x : Layout). x.key) (sym h.layout_is), front.1)

@@ -10,7 +10,7 @@ use Rattle.edf_tal.specs.declared.place.TalFault.{TalFault}
 use Rattle.edf_tal.specs.declared.place.TalFault.TheVariants.{Memory as TalMemory}
 use Rattle.edf_fragment.specs.Fragment.{DataRecord, IsDataRecord, blocks, ordinary_bytes}
 use Rattle.edf_fragment.specs.Reading.{ReadsRecord, IsEndOfRecords}
-use Rattle.edf_fragment.specs.Stops.{ReadsFewerBytes, RefusesBlock}
+use Rattle.edf_fragment.specs.Stops.{ReadsFewerBytes, RefusesRecord}
 use Rattle.edf_fragment.specs.Reading.{IsNextFault}
 use Rattle.edf_fragment.specs.declared.advance.Progress.{Progress}
 use Rattle.edf_fragment.specs.declared.fault.FragmentFault.{FragmentFault}
@@ -65,7 +65,7 @@ given_whole l p left rest whole r h read samples =
 refused_blocks : (l : Layout) (p : Progress) (left rest : Option (List ℕ)) (whole : List ℕ)
     (nth : ℕ) (e : TalFault) → HasWhole l p left rest whole
     → nth ≡ p.given + 1 → BlocksHaveFirstFault (blocks l whole) l.start p.place e →
-    RefusesBlock l p left rest nth e
+    RefusesRecord l p left rest nth e
 refused_blocks l p left rest whole nth e h is fault =
     record {
       bytes = whole;

@@ -2,7 +2,7 @@
 use Rattle.std.specs.Prelude.{◌≡◌, ℕ, List, Option, Result, MatchResult, IfOk, IfSome}
 use Rattle.edf_fragment.specs.Fragment.{DataRecord}
 use Rattle.edf_fragment.specs.Sound.{IsSoundRecord}
-use Rattle.edf_fragment.specs.Reading.{CountsAnswer, IsAnswer}
+use Rattle.edf_fragment.specs.Reading.{CountsReadFailures, IsNextAnswer}
 use Rattle.edf_fragment.specs.declared.fault.FragmentFault.{FragmentFault}
 use Rattle.edf_fragment.specs.declared.open_fragment.OpenFragment.{OpenFragment}
 use Rattle.edf_fragment.specs.declared.streams.Input.{Ghosts}
@@ -21,7 +21,7 @@ pub record ReadsInput {X : Type 0}
     (Says : Option (List ℕ) → Option (List ℕ) → Result X FragmentFault → Type 0)
     (before after : InputState) (result : Result X FragmentFault) : Type 0 where
   pub step : Says before.remaining after.remaining result
-  pub counted : CountsAnswer before.failed after.failed result
+  pub counted : CountsReadFailures before.failed after.failed result
 
 -- `Value` holds of an answer that is a value, and `Fault` of one that is a fault
 abbrev pub ValueOrFault : {X : Type 0} → (Option (List ℕ) → Option (List ℕ) → X → Type 0) →
@@ -35,6 +35,7 @@ ValueOrFault Value Fault input rest result =
 pub record ReadsNext (old new : OpenFragment) (before after : InputState)
     (result : Result (Option DataRecord) FragmentFault) : Type 0 where
   pub header : new.header ≡ old.header
-  pub answer : IsAnswer old.header old.progress new.progress before.remaining after.remaining result
+  pub answer : IsNextAnswer old.header old.progress new.progress before.remaining after.remaining
+      result
   pub sound : IfOk result (λ next. IfSome next (λ r. IsSoundRecord old.header.key r))
-  pub counted : CountsAnswer before.failed after.failed result
+  pub counted : CountsReadFailures before.failed after.failed result

@@ -7,8 +7,8 @@ abbrev pub saturating_increment : ℕ → ℕ
 saturating_increment n = min (n + 1) (2 ^ 64 - 1)
 
 -- a read that answers an error counts
-abbrev pub CountsRead : {E : Type 0} → ℕ → ℕ → Result ℕ E → Type 0
-CountsRead old new result = MatchResult result (λ n. new ≡ old)
+abbrev pub CountsFailedRead : {E : Type 0} → ℕ → ℕ → Result ℕ E → Type 0
+CountsFailedRead old new result = MatchResult result (λ n. new ≡ old)
     (λ e. new ≡ saturating_increment old)
 
 -- a write that took none of some bytes counts
@@ -18,7 +18,7 @@ CountsWriteZero old new len zero = (len ≡ 0 → new ≡ old)
 CountsWriteZero old new len (suc n) = new ≡ old
 
 -- a write that answers an error counts, too
-abbrev pub CountsWrite : {E : Type 0} → ℕ → ℕ → List ℕ → Result ℕ E → Type 0
-CountsWrite old new bytes result =
+abbrev pub CountsFailedWrite : {E : Type 0} → ℕ → ℕ → List ℕ → Result ℕ E → Type 0
+CountsFailedWrite old new bytes result =
     MatchResult result (CountsWriteZero old new (length bytes))
     (λ e. new ≡ saturating_increment old)

@@ -19,7 +19,7 @@ pub record DataRecord : Type 0 where
   pub annotations : List Annotation
 
 -- the limits of a data record
-pub record IsWithinSize (r : DataRecord) : Type 0 where
+pub record IsRecordWithinLimits (r : DataRecord) : Type 0 where
   pub samples : length r.samples ≤ MOST_BLOCK_BYTES
   pub annotations : IsWithinLimits r.annotations
 
@@ -48,22 +48,24 @@ pub record IsDataRecord (l : Layout) (place : Place) (bytes : List ℕ) (r : Dat
 abbrev pub place_after : Layout → ℕ → Place
 place_after l start = After start (duration_of l.key.duration)
 
--- the bytes begin with these data records, the first at `place`; the next one would be at `last`,
--- and `rest` follows
-abbrev pub AreDataRecords : Layout → Place → List ℕ → List DataRecord → Place → List ℕ → Type 0
-AreDataRecords l place bytes [] last rest = (last ≡ place) × (rest ≡ bytes)
-AreDataRecords l place bytes (r ∷ rs) last rest =
+-- the bytes begin with these data records, the first at `place`; the next one would be at
+-- `next_place`, and `rest` follows
+abbrev pub BeginWithDataRecords : Layout → Place → List ℕ → List DataRecord → Place → List ℕ →
+    Type 0
+BeginWithDataRecords l place bytes [] next_place rest = (next_place ≡ place) × (rest ≡ bytes)
+BeginWithDataRecords l place bytes (r ∷ rs) next_place rest =
     (prefix : List ℕ) × (suffix : List ℕ) × (bytes ≡ prefix ++ suffix)
-    × IsDataRecord l place prefix r × AreDataRecords l (place_after l r.start) suffix rs last rest
+    × IsDataRecord l place prefix r
+    × BeginWithDataRecords l (place_after l r.start) suffix rs next_place rest
 
 -- the bytes are the file of a key and of data records: as many as the header says, or, where its
 -- count is -1, 1 to the most that a file has; and nothing follows them
 pub record IsFragmentFile (bytes : List ℕ) (k : Key) (records : List DataRecord) : Type 0 where
   pub header : HeaderRecord
   pub rest : List ℕ
-  pub last : Place
+  pub next_place : Place
   pub is_header : IsHeader bytes header rest
   pub key : k ≡ (layout_of header).key
-  pub are_records : AreDataRecords (layout_of header) First rest records last []
+  pub are_records : BeginWithDataRecords (layout_of header) First rest records next_place []
   pub least : least_records (layout_of header).count ≤ length records
   pub most : length records ≤ most_records (layout_of header).count

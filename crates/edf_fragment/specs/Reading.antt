@@ -8,9 +8,9 @@ use Rattle.edf_header.specs.Header.{most_records}
 use Rattle.edf_tal.specs.declared.place.Place.TheVariants.{First}
 use Rattle.edf_fragment.specs.Failures.{saturating_increment}
 use Rattle.edf_fragment.specs.Fragment.{DataRecord, IsDataRecord, place_after}
-use Rattle.edf_fragment.specs.Stops.{ReadsHeaderFault, EndsInRecord, RefusesBlock, HasTrailingByte}
-use Rattle.edf_fragment.specs.Stops.{ReadsFewerBytes, StopsInSignalHeaders, ReadFailsAtRecord}
-use Rattle.edf_fragment.specs.Stops.{RunsOutOfMemoryInHeader}
+use Rattle.edf_fragment.specs.Stops.{ReadsHeaderFault, EndsInRecord, RefusesRecord}
+use Rattle.edf_fragment.specs.Stops.{ReadsTrailingByte, ReadsFewerBytes, StopsInSignalHeaders}
+use Rattle.edf_fragment.specs.Stops.{ReadFailsAtRecord, RunsOutOfMemoryInHeader}
 use Rattle.edf_fragment.specs.declared.advance.Progress.{Progress}
 use Rattle.edf_fragment.specs.declared.advance.ReaderState.{ReaderState}
 use Rattle.edf_fragment.specs.declared.advance.ReaderState.TheVariants.{Reading, Ended, Stopped}
@@ -65,12 +65,12 @@ pub record RunsOutOfMemoryAtRecord (l : Layout) (from : Progress)
     pub read : Consumes input rest [] ⊎ ((r : DataRecord) × ReadsRecord l from input rest r)
 
 -- the count of failed reads is one more where the fault is `Read`, and else the same
-abbrev pub CountsFault : ℕ → ℕ → FragmentFault → Type 0
-CountsFault old new Read = new ≡ saturating_increment old
-CountsFault old new fault = new ≡ old
+abbrev pub CountsReadFault : ℕ → ℕ → FragmentFault → Type 0
+CountsReadFault old new Read = new ≡ saturating_increment old
+CountsReadFault old new fault = new ≡ old
 
-abbrev pub CountsAnswer : {X : Type 0} → ℕ → ℕ → Result X FragmentFault → Type 0
-CountsAnswer old new result = MatchResult result (λ x. new ≡ old) (CountsFault old new)
+abbrev pub CountsReadFailures : {X : Type 0} → ℕ → ℕ → Result X FragmentFault → Type 0
+CountsReadFailures old new result = MatchResult result (λ x. new ≡ old) (CountsReadFault old new)
 
 -- The answers of both calls: opening, and the next record.
 
@@ -85,34 +85,35 @@ IsOpenFault input rest fault = ⊥
 abbrev pub IsNextFault : Layout → Progress → Option (List ℕ) → Option (List ℕ) → FragmentFault →
     Type 0
 IsNextFault l from input rest (CutRecord nth) = EndsInRecord l from input rest nth
-IsNextFault l from input rest (Tal nth fault) = RefusesBlock l from input rest nth fault
-IsNextFault l from input rest Trailing = HasTrailingByte l from input rest
+IsNextFault l from input rest (Tal nth fault) = RefusesRecord l from input rest nth fault
+IsNextFault l from input rest Trailing = ReadsTrailingByte l from input rest
 IsNextFault l from input rest Read = ReadFailsAtRecord l from input rest
 IsNextFault l from input rest Memory = RunsOutOfMemoryAtRecord l from input rest
 IsNextFault l from input rest fault = ⊥
 
 -- a reader that may go on answers with a record, the end or a fault
-abbrev pub IsNext : Layout → Progress → Option (List ℕ) → Option (List ℕ) →
+abbrev pub IsNextResult : Layout → Progress → Option (List ℕ) → Option (List ℕ) →
     Result (Option DataRecord) FragmentFault → Type 0
-IsNext l from input rest (Ok (Some r)) = ReadsRecord l from input rest r
-IsNext l from input rest (Ok None) = IsEndOfRecords l from input rest
-IsNext l from input rest (Err fault) = IsNextFault l from input rest fault
+IsNextResult l from input rest (Ok (Some r)) = ReadsRecord l from input rest r
+IsNextResult l from input rest (Ok None) = IsEndOfRecords l from input rest
+IsNextResult l from input rest (Err fault) = IsNextFault l from input rest fault
 
 -- nothing was read, and the reader is where it was
 abbrev pub ReadsNothing : Progress → Progress → Option (List ℕ) → Option (List ℕ) → Type 0
 ReadsNothing from to input rest = (to ≡ from) × (rest ≡ input)
 
 -- a reader in this state answers so: after the end with no record, and after a fault with `Failed`
-abbrev pub IsAnswerInState : ReaderState → Layout → Progress → Progress → Option (List ℕ) →
+abbrev pub IsNextAnswerInState : ReaderState → Layout → Progress → Progress → Option (List ℕ) →
     Option (List ℕ) → Result (Option DataRecord) FragmentFault → Type 0
-IsAnswerInState Reading l from to input rest result = (to ≡ progress_after l from result)
-    × IsNext l from input rest result
-IsAnswerInState Ended l from to input rest result = (result ≡ Ok None)
+IsNextAnswerInState Reading l from to input rest result = (to ≡ progress_after l from result)
+    × IsNextResult l from input rest result
+IsNextAnswerInState Ended l from to input rest result = (result ≡ Ok None)
     × ReadsNothing from to input rest
-IsAnswerInState Stopped l from to input rest result = (result ≡ Err Failed)
+IsNextAnswerInState Stopped l from to input rest result = (result ≡ Err Failed)
     × ReadsNothing from to input rest
 
 -- a reader at `from` answers so, and is at `to` then
-abbrev pub IsAnswer : Layout → Progress → Progress → Option (List ℕ) → Option (List ℕ) →
+abbrev pub IsNextAnswer : Layout → Progress → Progress → Option (List ℕ) → Option (List ℕ) →
     Result (Option DataRecord) FragmentFault → Type 0
-IsAnswer l from to input rest result = IsAnswerInState from.state l from to input rest result
+IsNextAnswer l from to input rest result =
+    IsNextAnswerInState from.state l from to input rest result

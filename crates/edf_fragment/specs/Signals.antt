@@ -10,11 +10,11 @@ split_by_signal (row ∷ rows) bytes = (row, take (2 * samples row) bytes) ∷ s
     (drop (2 * samples row) bytes)
 
 -- the bytes of each annotations signal
-abbrev pub annotations_blocks : List (List ℕ) → List ℕ → List (List ℕ)
-annotations_blocks signals bytes =
+abbrev pub blocks_by_signal : List (List ℕ) → List ℕ → List (List ℕ)
+blocks_by_signal signals bytes =
     map (λ p. p.1) (filter (λ p. has_label p.0) (split_by_signal signals bytes))
 
 -- the bytes of the ordinary signals, joined
-abbrev pub ordinary_samples : List (List ℕ) → List ℕ → List ℕ
-ordinary_samples signals bytes =
+abbrev pub ordinary_bytes_by_signal : List (List ℕ) → List ℕ → List ℕ
+ordinary_bytes_by_signal signals bytes =
     flat_map (λ p. p.1) (filter (λ p. not (has_label p.0)) (split_by_signal signals bytes))

@@ -7,12 +7,12 @@ use Rattle.edf_header.specs.Key.{Key, MayStart}
 use Rattle.edf_header.specs.Signal.{samples_in_all}
 use Rattle.edf_tal.specs.Tal.{IsValidAnnotation}
 use Rattle.edf_tal.specs.Block.{IsWithinLimits}
-use Rattle.edf_fragment.specs.Fragment.{DataRecord, IsWithinSize}
+use Rattle.edf_fragment.specs.Fragment.{DataRecord, IsRecordWithinLimits}
 
 -- a data record in memory: within the limits, with a start in the window, and annotations that each
 -- have an onset and a duration in the window and a text of UTF-8 that a TAL can hold
 pub record IsValidRecord (r : DataRecord) : Type 0 where
-  pub size : IsWithinSize r
+  pub size : IsRecordWithinLimits r
   pub start : r.start < window
   pub notes : AllByRecursion IsValidAnnotation r.annotations
 
@@ -24,12 +24,12 @@ pub record IsSoundRecord (k : Key) (r : DataRecord) : Type 0 where
   pub notes : AllByRecursion IsValidAnnotation r.annotations
 
 -- records that start from `low` on, each at least a duration of a data record after the one before
-abbrev pub AreSound : Key → ℕ → List DataRecord → Type 0
-AreSound k low [] = Unit {0}
-AreSound k low (r ∷ rs) = IsSoundRecord k r × (low ≤ r.start)
-    × AreSound k (r.start + duration_of k.duration) rs
+abbrev pub AreSoundFrom : Key → ℕ → List DataRecord → Type 0
+AreSoundFrom k low [] = Unit {0}
+AreSoundFrom k low (r ∷ rs) = IsSoundRecord k r × (low ≤ r.start)
+    × AreSoundFrom k (r.start + duration_of k.duration) rs
 
 -- the key's recording may start with the first of the records, which rise in time
-abbrev pub MayBegin : Key → List DataRecord → Type 0
-MayBegin k [] = Unit {0}
-MayBegin k (r ∷ rs) = MayStart k r.start
+abbrev pub FirstMayStart : Key → List DataRecord → Type 0
+FirstMayStart k [] = Unit {0}
+FirstMayStart k (r ∷ rs) = MayStart k r.start

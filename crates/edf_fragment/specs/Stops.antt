@@ -36,7 +36,7 @@ pub record EndsInRecord (l : Layout) (from : Progress) (input rest : Option (Lis
   pub end : IsAtEnd rest
 
 -- a record's bytes were read, and its blocks are refused
-pub record RefusesBlock (l : Layout) (from : Progress) (input rest : Option (List ℕ)) (nth : ℕ)
+pub record RefusesRecord (l : Layout) (from : Progress) (input rest : Option (List ℕ)) (nth : ℕ)
     (fault : TalFault) : Type 0 where
   pub bytes : List ℕ
   pub is_nth : nth ≡ from.given + 1
@@ -46,7 +46,7 @@ pub record RefusesBlock (l : Layout) (from : Progress) (input rest : Option (Lis
   pub refused : BlocksHaveFirstFault (blocks l bytes) l.start from.place fault
 
 -- one byte was read after the last record that may come
-pub record HasTrailingByte (l : Layout) (from : Progress)
+pub record ReadsTrailingByte (l : Layout) (from : Progress)
     (input rest : Option (List ℕ)) : Type 0 where
   pub byte : ℕ
   pub all : from.given ≡ most_records l.count

@@ -3,7 +3,7 @@ use Rattle.std.specs.Prelude.{◌≡◌, ℕ, ◌≤◌, ◌⊎◌, List, [], le
 use Rattle.std.specs.Io.KnownBytes.{Consumes, IsAtEnd}
 use Rattle.edf_header.specs.Header.{Layout, layout_of, most_records}
 use Rattle.edf_tal.specs.declared.place.Place.TheVariants.{First}
-use Rattle.edf_fragment.specs.Fragment.{DataRecord, AreDataRecords, IsFragmentFile}
+use Rattle.edf_fragment.specs.Fragment.{DataRecord, BeginWithDataRecords, IsFragmentFile}
 use Rattle.edf_fragment.specs.Fault.{IsFirstFault}
 use Rattle.edf_fragment.specs.Reading.{ReadsHeader, IsOpenFault, IsNextFault}
 use Rattle.edf_fragment.specs.declared.advance.Progress.{Progress}
@@ -24,7 +24,7 @@ pub record HasReadRecords (l : Layout) (input rest : Option (List ℕ)) (records
     (p : Progress) : Type 0 where
   pub bytes : List ℕ
   pub read : Consumes input rest bytes
-  pub are_records : AreDataRecords l First bytes records p.place []
+  pub are_records : BeginWithDataRecords l First bytes records p.place []
   pub given : p.given ≡ length records
   pub within : p.given ≤ most_records l.count
 
@@ -52,6 +52,6 @@ IsFirstFaultIfKnown input Failed = ⊥
 IsFirstFaultIfKnown input fault = IfSome input (λ all. IsFirstFault all fault)
 
 -- an input is no fragment's: the fault is in the header, or after it and some data records
-pub record IsFragmentFault (input rest : Option (List ℕ)) (fault : FragmentFault) : Type 0 where
+pub record ReadsFragmentFault (input rest : Option (List ℕ)) (fault : FragmentFault) : Type 0 where
   pub met : IsOpenFault input rest fault ⊎ FailsAfterHeader input rest fault
   pub first : IsFirstFaultIfKnown input fault

@@ -4,7 +4,8 @@ ghost use Rattle.std.specs.Prelude.{◌≡◌, ◌≢◌, ◌+◌, ◌-◌, ◌^
 ghost use Rattle.std.specs.Bool.{MatchBool};
 ghost use Rattle.std.specs.Io.KnownBytes.{Consumes};
 ghost use Rattle.edf_header.specs.Header.{IsLayout, least_records, most_records, block_bytes};
-ghost use Rattle.edf_fragment.specs.Reading.{IsEndOfRecords, IsNextFault, IsNext, progress_after};
+ghost use Rattle.edf_fragment.specs.Reading.{IsEndOfRecords, IsNextFault, IsNextResult};
+ghost use Rattle.edf_fragment.specs.Reading.{progress_after};
 ghost use Rattle.edf_fragment.specs.Call.{ReadsInput, ValueOrFault, input_state};
 ghost use Rattle.edf_fragment.specs.Inside.Buffers.{FitOneRecord};
 ghost use Rattle.edf_fragment.specs.Inside.Steps.{ReadsEnd, IsEndFault};
@@ -138,7 +139,7 @@ fn read_record<R: Input>(
     requires countable { progress.given < 2 ^ 32 - 1 }
     requires room { FitOneRecord header.now buffers.old }
     ensures room { FitOneRecord header.now buffers.new }
-    ensures read { ReadsInput (IsNext header.now progress)
+    ensures read { ReadsInput (IsNextResult header.now progress)
         (input_state R.Input input.old) (input_state R.Input input.new) result }
 {
     let Ok(mut samples) = vec![in alloc; 0u8; sample_bytes(header)] else {
@@ -190,7 +191,7 @@ pub(crate) fn record_or_end<R: Input>(
     requires within { progress.given ≤ most_records header.now.count }
     requires room { FitOneRecord header.now buffers.old }
     ensures room { FitOneRecord header.now buffers.new }
-    ensures read { ReadsInput (IsNext header.now progress)
+    ensures read { ReadsInput (IsNextResult header.now progress)
         (input_state R.Input input.old) (input_state R.Input input.new) result }
 {
     if progress.given < most_given(header) {

@@ -5,12 +5,13 @@ ghost use Rattle.edf_field.specs.Number.{duration_of};
 ghost use Rattle.edf_header.specs.Key.{Key, IsKey};
 ghost use Rattle.edf_header.specs.Header.{HeaderRecord, Layout, layout_of};
 ghost use Rattle.edf_fragment.specs.Fragment.{DataRecord, IsFragmentFile, blocks, ordinary_bytes};
-ghost use Rattle.edf_fragment.specs.Signals.{annotations_blocks, ordinary_samples};
+ghost use Rattle.edf_fragment.specs.Signals.{blocks_by_signal, ordinary_bytes_by_signal};
 ghost use Rattle.edf_fragment.specs.Fault.{IsFirstFault};
 ghost use Rattle.edf_fragment.specs.Parsed.{Parsed, ParsesTo};
-ghost use Rattle.edf_fragment.specs.Sound.{AreSound, MayBegin};
-ghost use Rattle.edf_fragment.specs.Reading.{ReadsHeader, IsOpenFault, IsAnswer, initial_progress};
-ghost use Rattle.edf_fragment.specs.Whole.{HasReadRecords, ReadsFragment, IsFragmentFault};
+ghost use Rattle.edf_fragment.specs.Sound.{AreSoundFrom, FirstMayStart};
+ghost use Rattle.edf_fragment.specs.Reading.{ReadsHeader, IsOpenFault, IsNextAnswer};
+ghost use Rattle.edf_fragment.specs.Reading.{initial_progress};
+ghost use Rattle.edf_fragment.specs.Whole.{HasReadRecords, ReadsFragment, ReadsFragmentFault};
 ghost use Rattle.edf_fragment.specs.declared.advance.Progress.{Progress};
 ghost use Rattle.edf_fragment.specs.declared.advance.ReaderState.TheVariants.{Reading};
 ghost use Rattle.edf_fragment.specs.declared.fault.FragmentFault.{FragmentFault};
@@ -23,10 +24,10 @@ use edf_header::MOST_RECORDS;
 /// those of the others, joined.
 pub fn signals_in_turn()
     ensures blocks { (header : HeaderRecord) (bytes : List ℕ) →
-        blocks (layout_of header) bytes ≡ annotations_blocks header.signals bytes }
+        blocks (layout_of header) bytes ≡ blocks_by_signal header.signals bytes }
     ensures ordinary { (header : HeaderRecord) (bytes : List ℕ) →
         length bytes ≡ (layout_of header).record_bytes →
-        ordinary_bytes (layout_of header) bytes ≡ ordinary_samples header.signals bytes }
+        ordinary_bytes (layout_of header) bytes ≡ ordinary_bytes_by_signal header.signals bytes }
 {}
 
 /// Bytes are the file of at most one fragment.
@@ -68,9 +69,9 @@ pub fn records_are_sound()
     ensures few { (bytes : List ℕ) (key : Key) (records : List DataRecord) →
         IsFragmentFile bytes key records → length records ≤ MOST_RECORDS }
     ensures sound { (bytes : List ℕ) (key : Key) (records : List DataRecord) →
-        IsFragmentFile bytes key records → AreSound key 0 records }
+        IsFragmentFile bytes key records → AreSoundFrom key 0 records }
     ensures begins { (bytes : List ℕ) (key : Key) (records : List DataRecord) →
-        IsFragmentFile bytes key records → MayBegin key records }
+        IsFragmentFile bytes key records → FirstMayStart key records }
 {}
 
 /// The data records that were read so far are sound under a key that headers name, whose recording
@@ -81,10 +82,10 @@ pub fn records_so_far()
         ReadsHeader input rest l → IsKey l.key }
     ensures sound { (input one two : Option (List ℕ)) (l : Layout) (records : List DataRecord)
         (p : Progress) → ReadsHeader input one l → HasReadRecords l one two records p →
-        AreSound l.key 0 records }
+        AreSoundFrom l.key 0 records }
     ensures begins { (input one two : Option (List ℕ)) (l : Layout) (records : List DataRecord)
         (p : Progress) → ReadsHeader input one l → HasReadRecords l one two records p →
-        MayBegin l.key records }
+        FirstMayStart l.key records }
     ensures front { (bytes : List ℕ) (one two : Option (List ℕ)) (l : Layout)
         (records : List DataRecord) (p : Progress)
         (key : Key) (spelled : List DataRecord) →
@@ -100,17 +101,18 @@ pub fn answers_join()
         HasReadRecords l input input [] initial_progress }
     ensures more { (l : Layout) (input mid rest : Option (List ℕ)) (records : List DataRecord)
         (p q : Progress) (r : DataRecord) → HasReadRecords l input mid records p →
-        p.state ≡ Reading → IsAnswer l p q mid rest (Ok (Some r)) →
+        p.state ≡ Reading → IsNextAnswer l p q mid rest (Ok (Some r)) →
         HasReadRecords l input rest (records ++ r ∷ []) q × (q.state ≡ Reading) }
     ensures end { (l : Layout) (input one two rest : Option (List ℕ)) (records : List DataRecord)
         (p q : Progress) → ReadsHeader input one l → HasReadRecords l one two records p →
-        p.state ≡ Reading → IsAnswer l p q two rest (Ok None) → ReadsFragment input rest l records }
+        p.state ≡ Reading → IsNextAnswer l p q two rest (Ok None) →
+        ReadsFragment input rest l records }
     ensures fault { (l : Layout) (input one two rest : Option (List ℕ)) (records : List DataRecord)
         (p q : Progress) (fault : FragmentFault) → ReadsHeader input one l →
         HasReadRecords l one two records p → p.state ≡ Reading →
-        IsAnswer l p q two rest (Err fault) → IsFragmentFault input rest fault }
+        IsNextAnswer l p q two rest (Err fault) → ReadsFragmentFault input rest fault }
     ensures refused { (input rest : Option (List ℕ)) (fault : FragmentFault) →
-        IsOpenFault input rest fault → IsFragmentFault input rest fault }
+        IsOpenFault input rest fault → ReadsFragmentFault input rest fault }
 {}
 
 /// Where all the bytes are known, they are the file of the fragment that was read, or have the fault
@@ -120,6 +122,6 @@ pub fn known_bytes()
         (records : List DataRecord) → ReadsFragment (Some bytes) rest l records →
         IsFragmentFile bytes l.key records }
     ensures fault { (bytes : List ℕ) (rest : Option (List ℕ)) (fault : FragmentFault) →
-        IsFragmentFault (Some bytes) rest fault →
+        ReadsFragmentFault (Some bytes) rest fault →
         (fault ≡ Read) ⊎ ((fault ≡ Memory) ⊎ IsFirstFault bytes fault) }
 {}

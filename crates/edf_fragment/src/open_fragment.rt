@@ -2,8 +2,8 @@ ghost use Rattle.std.specs.Prelude.{◌≡◌, ◌≤◌, IfOk, IfSome};
 ghost use Rattle.edf_header.specs.Header.{most_records};
 ghost use Rattle.edf_fragment.specs.Inside.Buffers.{FitOneRecord};
 ghost use Rattle.edf_fragment.specs.Sound.{IsSoundRecord};
-ghost use Rattle.edf_fragment.specs.Reading.{ReadsHeader, IsOpenFault, IsNext, initial_progress};
-ghost use Rattle.edf_fragment.specs.Reading.{progress_after};
+ghost use Rattle.edf_fragment.specs.Reading.{ReadsHeader, IsOpenFault, IsNextResult};
+ghost use Rattle.edf_fragment.specs.Reading.{initial_progress, progress_after};
 
 use crate::advance::{Progress, ReaderState, progress_after, record_or_end};
 use crate::buffers::Buffers;
@@ -100,7 +100,7 @@ impl OpenFragment {
         ensures header { self.new.header ≡ self.old.header }
         ensures progress { self.new.progress
             ≡ progress_after self.old.header self.old.progress result }
-        ensures read { ReadsInput (IsNext self.old.header self.old.progress)
+        ensures read { ReadsInput (IsNextResult self.old.header self.old.progress)
             (input_state R.Input input.old) (input_state R.Input input.new) result }
         ensures sound { IfOk result
             (λ next. IfSome next (λ r. IsSoundRecord self.old.header.key r)) }

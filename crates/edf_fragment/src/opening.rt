@@ -1,7 +1,8 @@
 ghost use Rattle.std.specs.Prelude.{◌≡◌, ◌≢◌};
 ghost use Rattle.edf_fragment.specs.Reading.{ReadsHeader, IsOpenFault};
 ghost use Rattle.edf_fragment.specs.Call.{ReadsInput, ValueOrFault, input_state};
-ghost use Rattle.edf_fragment.specs.Inside.Steps.{ReadsFixed, ReadsSignals, IsSignalsFault};
+ghost use Rattle.edf_fragment.specs.Inside.Steps.{ReadsFixed, ReadsSignalHeaders};
+ghost use Rattle.edf_fragment.specs.Inside.Steps.{IsSignalHeadersFault};
 
 use crate::fault::FragmentFault;
 use crate::streams::{Filled, Input, fill};
@@ -43,8 +44,8 @@ fn read_signal_headers<R: Input>(
     fixed: Fixed,
 ) -> Result<Header, FragmentFault>
     ensures { ReadsInput
-        (ValueOrFault (λ before rest. ReadsSignals before rest fixed)
-        (λ before rest. IsSignalsFault before rest fixed.signal_count))
+        (ValueOrFault (λ before rest. ReadsSignalHeaders before rest fixed)
+        (λ before rest. IsSignalHeadersFault before rest fixed.signal_count))
         (input_state R.Input input.old) (input_state R.Input input.new) result }
 {
     let Ok(mut bytes) = vec![in alloc; 0u8; 256 * fixed.signals()] else {

@@ -2,7 +2,7 @@ ghost use Rattle.std.specs.Prelude.{◌≡◌, ◌≤◌, ◌+◌, ◌↔◌, le
 ghost use Rattle.std.specs.List.{AllByRecursion};
 ghost use Rattle.edf_tal.specs.Block.{IsWithinLimits};
 ghost use Rattle.edf_tal.specs.Tal.{IsValidAnnotation};
-ghost use Rattle.edf_fragment.specs.Fragment.{DataRecord, IsWithinSize};
+ghost use Rattle.edf_fragment.specs.Fragment.{DataRecord, IsRecordWithinLimits};
 ghost use Rattle.edf_fragment.specs.Sound.{IsValidRecord};
 
 use edf_header::MOST_BLOCK_BYTES;
@@ -62,7 +62,7 @@ impl Record {
     pub fn new(start: Instant, samples: Vec<u8>, notes: Vec<Note>) -> Option<Record>
         ensures { let parts : DataRecord =
             record { start = start; samples = samples.items; annotations = notes.items } in
-            MatchOption result (¬ IsWithinSize parts) (λ r. IsValidRecord r × (r ≡ parts)) }
+            MatchOption result (¬ IsRecordWithinLimits parts) (λ r. IsValidRecord r × (r ≡ parts)) }
     {
         instant_is_in_window(start);
         if samples.len() <= MOST_BLOCK_BYTES && are_within_limits(notes.as_slice()) {

@@ -1,6 +1,6 @@
 ghost use Rattle.std.specs.Prelude.{◌≡◌};
 ghost use Rattle.edf_fragment.specs.Reading.{initial_progress};
-ghost use Rattle.edf_fragment.specs.Whole.{ReadsFragment, FailsAfterRecords, IsFragmentFault};
+ghost use Rattle.edf_fragment.specs.Whole.{ReadsFragment, FailsAfterRecords, ReadsFragmentFault};
 ghost use Rattle.edf_fragment.specs.Call.{ReadsInput, ValueOrFault, input_state};
 ghost use Rattle.edf_fragment.specs.Inside.Steps.{ReadsRecords};
 
@@ -48,7 +48,7 @@ pub fn read_fragment<R: Input>(
     input: &mut R,
 ) -> Result<(Header, Vec<Record>), FragmentFault>
     ensures { ReadsInput
-        (ValueOrFault (λ before rest r. ReadsFragment before rest r.0 r.1.items) IsFragmentFault)
+        (ValueOrFault (λ before rest r. ReadsFragment before rest r.0 r.1.items) ReadsFragmentFault)
         (input_state R.Input input.old) (input_state R.Input input.new) result }
 {
     let mut fragment = OpenFragment::read(alloc, input)?;

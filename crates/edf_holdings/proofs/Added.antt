@@ -4,7 +4,7 @@ use Rattle.std.proofs.Common.{sym, subst, ◌∙◌, inl, inr, arith, cond}
 use Rattle.std.proofs.lemmas.Bool.{cond_both, cond-true, false_from_ne_true, and_from, lt-ltb}
 use Rattle.edf_field.specs.Number.{duration_of}
 use Rattle.edf_fragment.specs.Fragment.{DataRecord}
-use Rattle.edf_fragment.specs.Sound.{AreSound}
+use Rattle.edf_fragment.specs.Sound.{AreSoundFrom}
 use Rattle.edf_holdings.specs.Same.{same_record}
 use Rattle.edf_holdings.specs.Clash.{clashes, intervals_overlap, near_of}
 use Rattle.edf_holdings.specs.Rising.{insert}
@@ -49,7 +49,7 @@ inserted_short r (x ∷ xs) =
 
 pub add_stays_sound : AddStaysSound
 add_stays_sound cap h key r s w sound none room first =
-    let one : AreSound key 0 (r ∷ []) = (sound, omega arith, tt) in
+    let one : AreSoundFrom key 0 (r ∷ []) = (sound, omega arith, tt) in
     let may : MayJoin cap key (r ∷ []) h = record {
       free = free_where_none_near (duration_of key.duration) r (h key) none;
       within_cap = inr (omega (arith, inserted_short r (h key), room));

@@ -12,7 +12,7 @@ use Rattle.edf_fragment.specs.Parsed.{Fragment}
 use Rattle.edf_holdings.specs.Same.{same_key}
 use Rattle.edf_holdings.specs.Clash.{clashes}
 use Rattle.edf_holdings.specs.Rising.{union, count_new, StartsAreSpaced, IsRising}
-use Rattle.edf_fragment.specs.Sound.{IsSoundRecord, AreSound}
+use Rattle.edf_fragment.specs.Sound.{IsSoundRecord, AreSoundFrom}
 use Rattle.edf_holdings.specs.Holdings.{Holdings, IsSound, with_records, nothing_held}
 use Rattle.edf_holdings.specs.Reply.{IsWellFormed, fits, after_one, Accepted, Differs, Overlap}
 use Rattle.edf_holdings.specs.Reply.{Conflict, Conflicts, conflict_of_clash}
@@ -202,7 +202,7 @@ new_from_nothing (r ∷ rs) = omega (arith, new_from_nothing rs)
 -- records that lie apart and are each sound are sound together
 pub are-sound-from : (k : Key) (low : ℕ) (rs : List DataRecord) →
     StartsAreSpaced (duration_of k.duration) low rs →
-    ((r : DataRecord) → In r rs → IsSoundRecord k r) → AreSound k low rs
+    ((r : DataRecord) → In r rs → IsSoundRecord k r) → AreSoundFrom k low rs
 are-sound-from k low [] a e = tt
 are-sound-from k low (r ∷ rs) a e = (
   e r (inl refl),

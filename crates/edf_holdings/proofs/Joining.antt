@@ -14,7 +14,7 @@ use Rattle.edf_header.proofs.Cited.{key-duration-some}
 use Rattle.edf_holdings.specs.Same.{same_key}
 use Rattle.edf_holdings.specs.Clash.{clashes}
 use Rattle.edf_holdings.specs.Rising.{union, StartsAreSpaced, IsRising}
-use Rattle.edf_fragment.specs.Sound.{AreSound}
+use Rattle.edf_fragment.specs.Sound.{AreSoundFrom}
 use Rattle.edf_holdings.specs.Holdings.{Holdings, IsSound, with_records}
 use Rattle.edf_holdings.specs.Reply.{has_no_clash, fits}
 use Rattle.edf_holdings.proofs.Same.{same_key-true, same_key-refl, clashes-true, clashes_near}
@@ -148,7 +148,7 @@ IsGood-from_sound cap h s = record {
 pub lasting : (k : Key) → IsKey k → 0 < duration_of k.duration
 lasting k i = key-duration-some k i
 
-pub apart-sound : (k : Key) (low : ℕ) (rs : List DataRecord) → AreSound k low rs →
+pub apart-sound : (k : Key) (low : ℕ) (rs : List DataRecord) → AreSoundFrom k low rs →
     StartsAreSpaced (duration_of k.duration) low rs
 apart-sound k low [] s = tt
 apart-sound k low (r ∷ rs) s = (s.1, apart-sound k (r.start + duration_of k.duration) rs s.2)

@@ -9,7 +9,7 @@ use Rattle.edf_fragment.specs.Fragment.{DataRecord}
 use Rattle.edf_fragment.specs.Parsed.{Parsed, Fragment, Fault}
 use Rattle.edf_holdings.specs.Same.{same_key, same_record}
 use Rattle.edf_holdings.specs.Rising.{insert, union}
-use Rattle.edf_fragment.specs.Sound.{IsSoundRecord, AreSound, MayBegin}
+use Rattle.edf_fragment.specs.Sound.{IsSoundRecord, AreSoundFrom, FirstMayStart}
 use Rattle.edf_holdings.specs.Holdings.{Holdings, IsSound, with_records}
 use Rattle.edf_holdings.specs.Reply.{IsWellFormed, fits, after_one}
 use Rattle.edf_holdings.specs.Laws.{StaysSound}
@@ -31,7 +31,7 @@ All-from_Each P (x ∷ xs) e = All-cons P x xs (e x (inl refl))
 pub Each-from_All : (P : DataRecord → Type 0) (xs : List DataRecord) → All P xs → Each P xs
 Each-from_All P xs a y m = let c = Contains-from_In xs y m in subst P c.2 (a c.0 y c.1)
 
-pub each-sound : (k : Key) (low : ℕ) (rs : List DataRecord) → AreSound k low rs →
+pub each-sound : (k : Key) (low : ℕ) (rs : List DataRecord) → AreSoundFrom k low rs →
     Each (IsSoundRecord k) rs
 each-sound k low [] s y m = absurd m
 each-sound k low (r ∷ rs) s y (inl p) = subst (IsSoundRecord k) p s.0
@@ -47,17 +47,17 @@ inserted-some r (x ∷ xs) =
     (λ _ e. cc) (λ _. cond_both (nat_lt r.start x.start) (r ∷ x ∷ xs) (x ∷ insert r xs)
     (λ (l : List DataRecord). l ≢ []) (λ _ e. cc) (λ _ e. cc))
 
-inserted-begins : (k : Key) (r : DataRecord) (xs : List DataRecord) → MayBegin k xs →
-    (xs ≡ [] → MayStart k r.start) → MayBegin k (insert r xs)
+inserted-begins : (k : Key) (r : DataRecord) (xs : List DataRecord) → FirstMayStart k xs →
+    (xs ≡ [] → MayStart k r.start) → FirstMayStart k (insert r xs)
 inserted-begins k r [] old first = first refl
 inserted-begins k r (x ∷ xs) old first =
     cond_both (same_record x r) (x ∷ xs)
-    (cond (nat_lt r.start x.start) (r ∷ x ∷ xs) (x ∷ insert r xs)) (MayBegin k) (λ _. old)
-    (λ _. cond_both (nat_lt r.start x.start) (r ∷ x ∷ xs) (x ∷ insert r xs) (MayBegin k)
+    (cond (nat_lt r.start x.start) (r ∷ x ∷ xs) (x ∷ insert r xs)) (FirstMayStart k) (λ _. old)
+    (λ _. cond_both (nat_lt r.start x.start) (r ∷ x ∷ xs) (x ∷ insert r xs) (FirstMayStart k)
     (λ e undated. omega (arith, ltb-true _ _ e, old undated)) (λ _. old))
 
-pub joined-begins : (k : Key) (xs records : List DataRecord) → MayBegin k xs →
-    (xs ≡ [] → MayBegin k records) → MayBegin k (union xs records)
+pub joined-begins : (k : Key) (xs records : List DataRecord) → FirstMayStart k xs →
+    (xs ≡ [] → FirstMayStart k records) → FirstMayStart k (union xs records)
 joined-begins k xs [] old first = old
 joined-begins k xs (r ∷ rs) old first =
     joined-begins k (insert r xs) rs (inserted-begins k r xs old first)
@@ -66,13 +66,13 @@ joined-begins k xs (r ∷ rs) old first =
 -- what soundness asks beside what `IsGood` has
 pub record HasHolders (h : Holdings) : Type 0 where
   pub records : (k : Key) → Each (IsSoundRecord k) (h k)
-  pub begins : (k : Key) → MayBegin k (h k)
+  pub begins : (k : Key) → FirstMayStart k (h k)
   pub holders : (k : Key) → h k ≢ [] → IsKey k
   pub finite : List Key
   pub all : (k : Key) → h k ≢ [] → Contains finite k
 
 pub HasHolders-put : (key : Key) (records : List DataRecord) (h : Holdings) → IsKey key →
-    AreSound key 0 records → (h key ≡ [] → MayBegin key records) → HasHolders h →
+    AreSoundFrom key 0 records → (h key ≡ [] → FirstMayStart key records) → HasHolders h →
     HasHolders (with_records key records h)
 HasHolders-put key records h is_key sound first p = record {
   records = put_cases key records h (λ q l. Each (IsSoundRecord q) l)
@@ -82,7 +82,8 @@ HasHolders-put key records h is_key sound first p = record {
             each-sound key 0 records sound y n
       ])
       p.records;
-  begins = put_cases key records h MayBegin (joined-begins key (h key) records (p.begins key) first)
+  begins = put_cases key records h FirstMayStart
+      (joined-begins key (h key) records (p.begins key) first)
       p.begins;
   holders = put_cases key records h (λ q l. l ≢ [] → IsKey q) (λ _. is_key) p.holders;
   finite = key ∷ p.finite;

@@ -6,7 +6,7 @@ use Rattle.edf_fragment.specs.Fragment.{DataRecord}
 use Rattle.edf_holdings.specs.Same.{same_key}
 use Rattle.edf_holdings.specs.Clash.{NoClash}
 use Rattle.edf_holdings.specs.Rising.{IsRising, union}
-use Rattle.edf_fragment.specs.Sound.{IsSoundRecord, MayBegin}
+use Rattle.edf_fragment.specs.Sound.{IsSoundRecord, FirstMayStart}
 
 -- each key has a list of data records, which is empty where none are held
 abbrev pub Holdings : Type 0
@@ -22,7 +22,7 @@ pub record IsSound (cap : ℕ) (h : Holdings) : Type 0 where
   pub no_clash : (k : Key) → NoClash (duration_of k.duration) (h k)
   pub few : (k : Key) → length (h k) ≤ cap
   pub records : (k : Key) → All (IsSoundRecord k) (h k)
-  pub begins : (k : Key) → MayBegin k (h k)
+  pub begins : (k : Key) → FirstMayStart k (h k)
   pub keys : (k : Key) → h k ≢ [] → IsKey k
   pub finite : (keys : List Key) × ((k : Key) → h k ≢ [] → Contains keys k)
 

@@ -8,14 +8,15 @@ use Rattle.edf_header.specs.Key.{Key, IsKey}
 use Rattle.edf_fragment.specs.Fragment.{DataRecord}
 use Rattle.edf_fragment.specs.declared.fault.FragmentFault.{FragmentFault}
 use Rattle.edf_fragment.specs.Parsed.{Parsed, Fragment, Fault}
-use Rattle.edf_fragment.specs.Sound.{AreSound, MayBegin}
+use Rattle.edf_fragment.specs.Sound.{AreSoundFrom, FirstMayStart}
 use Rattle.edf_holdings.specs.Clash.{clashes}
 use Rattle.edf_holdings.specs.Rising.{union, count_new}
 use Rattle.edf_holdings.specs.Holdings.{Holdings, with_records}
 
 -- a fragment has a key of a header and sound records; a law says that bytes parse to nothing else
 abbrev pub IsWellFormed : Parsed → Type 0
-IsWellFormed (Fragment key records) = IsKey key × AreSound key 0 records × MayBegin key records
+IsWellFormed (Fragment key records) = IsKey key × AreSoundFrom key 0 records
+    × FirstMayStart key records
 IsWellFormed (Fault fault) = Unit {0}
 
 -- tests all pairs: no record of the second list clashes with one of the first

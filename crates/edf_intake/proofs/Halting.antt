@@ -2,8 +2,8 @@
 use Rattle.std.proofs.Common.{◌≡◌, ℕ, List, [], Option, Some, None, sym, subst, IfSome}
 use Rattle.edf_header.specs.Header.{Layout}
 use Rattle.edf_fragment.specs.Fault.{IsFirstFault}
-use Rattle.edf_fragment.specs.Reading.{ReadsHeader, CountsFault, initial_progress}
-use Rattle.edf_fragment.specs.Whole.{IsFragmentFault, ReadsFragment}
+use Rattle.edf_fragment.specs.Reading.{ReadsHeader, CountsReadFault, initial_progress}
+use Rattle.edf_fragment.specs.Whole.{ReadsFragmentFault, ReadsFragment}
 use Rattle.edf_fragment.specs.Fragment.{DataRecord}
 use Rattle.edf_fragment.specs.declared.fault.FragmentFault.{FragmentFault}
 use Rattle.edf_fragment.specs.declared.fault.FragmentFault.TheVariants.{Read, Memory, Failed}
@@ -26,8 +26,8 @@ spells_none (Some all) fault first = λ k rs s. spelled-no-fault all k rs fault 
 
 -- the refusal for a fault of the fragment
 pub stopped_by : {S : Type 0} (g : Ghosts S) (old new : StoreTx S) (from to : InputState)
-    (fault : FragmentFault) → IsFragmentFault from.remaining to.remaining fault →
-    CountsFault from.failed to.failed fault
+    (fault : FragmentFault) → ReadsFragmentFault from.remaining to.remaining fault →
+    CountsReadFault from.failed to.failed fault
     → IsStop g old new from to (Input (fragment_refusal fault))
 stopped_by g old new from to Read is n = record { is_fault = is; counted = n }
 stopped_by g old new from to Memory is n = record { is_fault = is; counted = n }

@@ -7,8 +7,8 @@ use Rattle.edf_field.specs.Number.{duration_of}
 use Rattle.edf_header.specs.Key.{MayStart}
 use Rattle.edf_header.specs.Header.{Layout, most_records}
 use Rattle.edf_fragment.specs.Fragment.{DataRecord}
-use Rattle.edf_fragment.specs.Sound.{MayBegin}
-use Rattle.edf_fragment.specs.Reading.{ReadsHeader, IsAnswer, initial_progress}
+use Rattle.edf_fragment.specs.Sound.{FirstMayStart}
+use Rattle.edf_fragment.specs.Reading.{ReadsHeader, IsNextAnswer, initial_progress}
 use Rattle.edf_fragment.specs.Whole.{HasReadRecords, ReadsFragment}
 use Rattle.edf_fragment.specs.declared.advance.Progress.{Progress}
 use Rattle.edf_fragment.specs.declared.advance.ReaderState.TheVariants.{Reading}
@@ -90,7 +90,7 @@ module _ {S : Type 0} (g : Ghosts S) (first : StoreModel S) (l : Layout)
   pub first_seen : (now : StoreModel S) (mid rest : Option (List ℕ)) (p q : Progress)
       (findings : Findings) (r : DataRecord) → MetSoFar g first now l left mid p findings →
       p.state ≡ Reading
-      → IsAnswer l p q mid rest (Ok (Some r)) → SeesHoldings g first →
+      → IsNextAnswer l p q mid rest (Ok (Some r)) → SeesHoldings g first →
       (HasCleanDisk (at g now) → HasCleanDisk (at g first)) → HasCleanDisk (at g now) →
       findings.clash ≡ None → findings.new < spare
       → (h : Holdings) → Sees g now h → h l.key ≡ [] → MayStart l.key r.start
@@ -111,13 +111,13 @@ module _ {S : Type 0} (g : Ghosts S) (first : StoreModel S) (l : Layout)
       (joined_has (some.0 l.key) w.records) (sym all ∙ empty) in
       let read : HasReadRecords l left rest (w.records ++ r ∷ []) q =
       (one_more_read l left mid rest w.records p q r w.read going answer).0 in
-      subst (λ (rs : List DataRecord). MayBegin l.key (rs ++ r ∷ [])) before_it
+      subst (λ (rs : List DataRecord). FirstMayStart l.key (rs ++ r ∷ [])) before_it
       (read-begins before left rest l (w.records ++ r ∷ []) q header read)
 
   -- one record more
   pub one_more_met : (now next : StoreModel S) (mid rest : Option (List ℕ)) (p q : Progress)
       (from to : Findings) (r : DataRecord) → MetSoFar g first now l left mid p from
-      → p.state ≡ Reading → IsAnswer l p q mid rest (Ok (Some r)) → q.given ≡ p.given + 1 →
+      → p.state ≡ Reading → IsNextAnswer l p q mid rest (Ok (Some r)) → q.given ≡ p.given + 1 →
       p.given < most_records l.count
       → (HasCleanDisk (at g next) → HasCleanDisk (at g now)) →
       (HasCleanDisk (at g now) → HasCleanDisk (at g first))
@@ -160,7 +160,7 @@ module _ {S : Type 0} (g : Ghosts S) (first : StoreModel S) (l : Layout)
   -- the end
   pub at_end : (now : StoreModel S) (mid rest : Option (List ℕ)) (p q : Progress)
       (findings : Findings) → (w : MetSoFar g first now l left mid p findings) →
-      p.state ≡ Reading → IsAnswer l p q mid rest (Ok None) →
+      p.state ≡ Reading → IsNextAnswer l p q mid rest (Ok None) →
       (HasCleanDisk (at g now) → HasCleanDisk (at g first)) →
       ((other : Option (List ℕ)) → ReadsHeader other left l →
       ReadsFragment other rest l w.records)

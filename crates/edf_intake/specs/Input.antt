@@ -6,8 +6,8 @@ use Rattle.edf_header.specs.Header.{Layout}
 use Rattle.edf_fragment.specs.Fragment.{DataRecord, IsFragmentFile}
 use Rattle.edf_fragment.specs.Parsed.{Parsed, Fragment, Fault}
 use Rattle.edf_fragment.specs.Call.{InputState}
-use Rattle.edf_fragment.specs.Reading.{ReadsHeader, CountsFault}
-use Rattle.edf_fragment.specs.Whole.{HasReadRecords, IsFragmentFault}
+use Rattle.edf_fragment.specs.Reading.{ReadsHeader, CountsReadFault}
+use Rattle.edf_fragment.specs.Whole.{HasReadRecords, ReadsFragmentFault}
 use Rattle.edf_fragment.specs.declared.advance.Progress.{Progress}
 use Rattle.edf_fragment.specs.declared.fault.FragmentFault.{FragmentFault}
 use Rattle.edf_fragment.specs.declared.fault.FragmentFault.TheVariants.{Read, Memory, Failed}
@@ -38,7 +38,7 @@ module _ (from to : InputState) where
   -- the input has this fault and is no fragment; no more was read than shows it, and no read failed
   pub record ReadsFault (fault : FragmentFault) : Type 0 where
     pub of_form : IsFormFault fault
-    pub is_fault : IsFragmentFault from.remaining to.remaining fault
+    pub is_fault : ReadsFragmentFault from.remaining to.remaining fault
     pub none : IfSome from.remaining IsNoFragmentFile
     pub counted : NoReadFailed
 
@@ -49,8 +49,8 @@ module _ (from to : InputState) where
 
   -- a read failed, and was counted
   pub record FailsToRead : Type 0 where
-    pub is_fault : IsFragmentFault from.remaining to.remaining Read
-    pub counted : CountsFault from.failed to.failed Read
+    pub is_fault : ReadsFragmentFault from.remaining to.remaining Read
+    pub counted : CountsReadFault from.failed to.failed Read
 
   -- a header and some data records were read, and nothing more
   pub record ReadsSome : Type 0 where
@@ -64,7 +64,7 @@ module _ (from to : InputState) where
 
   -- memory ran out while the input was read
   pub record RunsOutOfMemory : Type 0 where
-    pub is_fault : IsFragmentFault from.remaining to.remaining Memory
+    pub is_fault : ReadsFragmentFault from.remaining to.remaining Memory
     pub counted : NoReadFailed
 
   -- Where memory ran out or the store refused, the input was read so far: not at all; a header and

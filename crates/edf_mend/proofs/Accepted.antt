@@ -6,9 +6,9 @@ use Rattle.edf_header.specs.Header.{IsHeader, Layout, IsLayout, least_records}
 use Rattle.edf_header.specs.Fault.{IsHeaderFault}
 use Rattle.edf_header.proofs.Cited.{header-no-fault, one-header}
 use Rattle.edf_fragment.specs.Fragment.{DataRecord}
-use Rattle.edf_fragment.specs.Reading.{ReadsHeader, IsOpenFault, IsNextFault, CountsFault}
-use Rattle.edf_fragment.specs.Reading.{ReadsRecord, IsEndOfRecords, IsAnswerInState, IsAnswer}
-use Rattle.edf_fragment.specs.Reading.{CountsAnswer, initial_progress}
+use Rattle.edf_fragment.specs.Reading.{ReadsHeader, IsOpenFault, IsNextFault, CountsReadFault}
+use Rattle.edf_fragment.specs.Reading.{ReadsRecord, IsEndOfRecords, IsNextAnswerInState}
+use Rattle.edf_fragment.specs.Reading.{IsNextAnswer, CountsReadFailures, initial_progress}
 use Rattle.edf_fragment.specs.Call.{ValueOrFault}
 use Rattle.edf_fragment.specs.declared.open_fragment.OpenFragment.{OpenFragment}
 use Rattle.edf_fragment.specs.declared.advance.ReaderState.{ReaderState}
@@ -39,7 +39,7 @@ other-is fault f told other = told.other (λ is. subst IsOther is other)
 -- ---- headers
 
 header-refused : (bytes : List ℕ) (rest : Option (List ℕ)) (fault : FragmentFault)
-    (f : MendFault) → IsOpenFault (Some bytes) rest fault → CountsFault 0 0 fault →
+    (f : MendFault) → IsOpenFault (Some bytes) rest fault → CountsReadFault 0 0 fault →
     IsTold fault f → RefusesHeader bytes f
 header-refused bytes rest (fragment.Header e) f met counted told =
     let first : IsHeaderFault bytes e = (open_refused (Some bytes) rest (fragment.Header e) met).first
@@ -91,11 +91,12 @@ opened-longer bytes left piece result o fault same step is more =
 
 pub opened-fault : (bytes left piece : List ℕ) (result : Result OpenFragment FragmentFault)
     (fault : FragmentFault) (f : MendFault) → piece ≡ bytes →
-    Opens (Some piece) (Some left) result → CountsAnswer 0 0 result → result ≡ Err fault →
+    Opens (Some piece) (Some left) result → CountsReadFailures 0 0 result → result ≡ Err fault →
     IsTold fault f → RefusesHeader bytes f
 opened-fault bytes left piece result fault f same step counted is told =
     let known = opens-known (Some piece) (Some left) result (Err fault) is step in
-    let count = subst (λ (x : Result OpenFragment FragmentFault). CountsAnswer 0 0 x) is counted in
+    let count = subst (λ (x : Result OpenFragment FragmentFault). CountsReadFailures 0 0 x) is
+    counted in
     header-refused bytes (Some left) fault f
     (subst (λ (x : List ℕ). IsOpenFault (Some x) (Some left) fault) same known) count told
 
@@ -107,7 +108,7 @@ length-parts all front back parts = ap (λ (x : List ℕ). length x) parts ∙ l
 
 next-refused : (l : Layout) (p : Progress) (bytes left : List ℕ)
     (fault : FragmentFault) (f : MendFault) → IsNextFault l p (Some bytes) (Some left) fault →
-    CountsFault 0 0 fault → IsTold fault f → RefusesNext l p bytes f
+    CountsReadFault 0 0 fault → IsTold fault f → RefusesNext l p bytes f
 next-refused l p bytes left (fragment.CutRecord nth) f met counted told =
     subst (RefusesNext l p bytes) (sym (other-is (fragment.CutRecord nth) f told tt)) (tt, (left, met))
 next-refused l p bytes left (fragment.Tal nth e) f met counted told =
@@ -126,21 +127,22 @@ nil-of (x ∷ xs) e = absurd (omega arith)
 -- what a reader answers that goes on
 going : (l : Layout) (p q : Progress) (left rest : Option (List ℕ))
     (result answer : Result (Option DataRecord) FragmentFault) → p.state ≡ Reading →
-    result ≡ answer → IsAnswer l p q left rest result →
-    IsAnswerInState Reading l p q left rest answer
+    result ≡ answer → IsNextAnswer l p q left rest result →
+    IsNextAnswerInState Reading l p q left rest answer
 going l p q left rest result answer on is told =
-    let known = subst (λ (x : Result (Option DataRecord) FragmentFault). IsAnswer l p q left rest x)
+    let known = subst (λ (x : Result (Option DataRecord) FragmentFault). IsNextAnswer l p q left
+    rest x)
     is told in
-    subst (λ (s : ReaderState). IsAnswerInState s l p q left rest answer) on known
+    subst (λ (s : ReaderState). IsNextAnswerInState s l p q left rest answer) on known
 
 counted-fault : (result : Result (Option DataRecord) FragmentFault) (fault : FragmentFault) →
-    result ≡ Err fault → CountsAnswer 0 0 result → CountsFault 0 0 fault
+    result ≡ Err fault → CountsReadFailures 0 0 result → CountsReadFault 0 0 fault
 counted-fault result fault is counted =
-    subst (λ (x : Result (Option DataRecord) FragmentFault). CountsAnswer 0 0 x) is counted
+    subst (λ (x : Result (Option DataRecord) FragmentFault). CountsReadFailures 0 0 x) is counted
 
 module _ (l : Layout) (p q : Progress) (bytes piece left : List ℕ)
     (result : Result (Option DataRecord) FragmentFault) (on : p.state ≡ Reading)
-    (same : piece ≡ bytes) (told : IsAnswer l p q (Some piece) (Some left) result) where
+    (same : piece ≡ bytes) (told : IsNextAnswer l p q (Some piece) (Some left) result) where
   gives : (r : DataRecord) → result ≡ Ok (Some r) → ReadsRecord l p (Some bytes) (Some left) r
   gives r is =
       subst (λ (x : List ℕ). ReadsRecord l p (Some x) (Some left) r) same
@@ -169,7 +171,7 @@ module _ (l : Layout) (p q : Progress) (bytes piece left : List ℕ)
       let none : length left ≡ 0 = ap (λ (x : List ℕ). length x) e.end in
       omega (arith, none, len, record-some l i, ap (λ (x : List ℕ). length x) e.read)
 
-  pub next-fault : (fault : FragmentFault) (f : MendFault) → CountsAnswer 0 0 result →
+  pub next-fault : (fault : FragmentFault) (f : MendFault) → CountsReadFailures 0 0 result →
       result ≡ Err fault → IsTold fault f → RefusesNext l p bytes f
   next-fault fault f counted is as_it_is =
       next-refused l p bytes left fault f

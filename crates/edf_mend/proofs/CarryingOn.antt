@@ -11,7 +11,7 @@ use Rattle.std.proofs.lemmas.List.Sums.{sum_by-cons, sum_by-append}
 use Rattle.edf_header.specs.Header.{Layout, IsLayout}
 use Rattle.edf_tal.specs.declared.place.Place.{Place}
 use Rattle.edf_tal.specs.declared.place.Place.TheVariants.{First}
-use Rattle.edf_fragment.specs.Fragment.{DataRecord, AreDataRecords, IsDataRecord, place_after}
+use Rattle.edf_fragment.specs.Fragment.{DataRecord, BeginWithDataRecords, IsDataRecord, place_after}
 use Rattle.edf_fragment.specs.Reading.{initial_progress}
 use Rattle.edf_fragment.specs.declared.advance.Progress.{Progress}
 use Rattle.edf_fragment.specs.declared.advance.ReaderState.TheVariants.{Reading}
@@ -46,7 +46,7 @@ unread-none None = refl
 unread-none (Some n) = ap (λ (k : ℕ). Some k) (omega arith)
 
 texts-few : (l : Layout) (p last : Place) (bytes rest : List ℕ) (rs : List DataRecord) →
-    AreDataRecords l p bytes rs last rest →
+    BeginWithDataRecords l p bytes rs last rest →
     sum_by (λ r. length r.annotations) rs ≤ 10000 * length rs
 texts-few l p last bytes rest [] are = omega arith
 texts-few l p last bytes rest (r ∷ rs) are =
@@ -288,7 +288,7 @@ module _ (l : Layout) (shape : Shape) (moves : Bool) where
               ∙ sym (append-nil (so.done ++ new ∷ []));
           records = so.records ++ r ∷ [];
           last = place_after l r.start;
-          are = subst (λ (x : List ℕ). AreDataRecords l First x (so.records ++ r ∷ [])
+          are = subst (λ (x : List ℕ). BeginWithDataRecords l First x (so.records ++ r ∷ [])
               (place_after l r.start) []) (sym pieces)
               (AreDataRecords-snoc l First so.last (concatenated so.done) new so.records r so.are
               is);

@@ -10,7 +10,7 @@ use Rattle.edf_field.specs.Number.{duration_of}
 use Rattle.edf_header.specs.Header.{HeaderRecord, IsHeader, Layout, IsLayout, layout_of}
 use Rattle.edf_header.specs.Header.{least_records}
 use Rattle.edf_fragment.specs.Fault.{IsFirstFault}
-use Rattle.edf_fragment.specs.Fragment.{DataRecord, AreDataRecords}
+use Rattle.edf_fragment.specs.Fragment.{DataRecord, BeginWithDataRecords}
 use Rattle.edf_tal.specs.declared.place.Place.{Place}
 use Rattle.edf_tal.specs.declared.place.Place.TheVariants.{First}
 use Rattle.edf_fragment.specs.declared.advance.Progress.{Progress}
@@ -116,7 +116,7 @@ module _ (front : List ℕ) (h : HeaderRecord) (is_header : IsHeader front h [])
       (leaves_out : Bool) (piece : List ℕ) (p : Progress) (why : FragmentFault)
       (f : Option MendFault) → f ≡ Some (Refused why) → news ≡ done ++ later →
       All (λ r. length r ≡ (layout_of h).record_bytes) news →
-      AreDataRecords (layout_of h) First (concatenated done) records last [] →
+      BeginWithDataRecords (layout_of h) First (concatenated done) records last [] →
       GoesOnFrom (layout_of h) (length records) last later p f →
       IsFirstMet (layout_of h) front news leaves_out piece why
   in-record news done later records last leaves_out piece p why f is news_are lens are goes =
@@ -155,7 +155,7 @@ module _ (front : List ℕ) (h : HeaderRecord) (is_header : IsHeader front h [])
   at-end : (news done : List (List ℕ)) (records : List DataRecord) (last : Place)
       (leaves_out : Bool) (piece bytes : List ℕ) (why : FragmentFault) → news ≡ done →
       tail_of leaves_out piece ≡ bytes → length bytes < (layout_of h).record_bytes →
-      AreDataRecords (layout_of h) First (concatenated done) records last [] →
+      BeginWithDataRecords (layout_of h) First (concatenated done) records last [] →
       RefusesNext (layout_of h) (at_place (length records) last) bytes (Refused why) →
       IsFirstMet (layout_of h) front news leaves_out piece why
   at-end news done records last leaves_out piece bytes why same tail less are x = record {

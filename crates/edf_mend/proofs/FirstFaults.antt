@@ -5,8 +5,8 @@ use Rattle.edf_header.specs.Header.{HeaderRecord, IsHeader, IsLayout, layout_of,
 use Rattle.edf_tal.specs.Block.{BlocksHaveFirstFault}
 use Rattle.edf_tal.specs.declared.place.Place.{Place}
 use Rattle.edf_tal.specs.declared.place.Place.TheVariants.{First}
-use Rattle.edf_fragment.specs.Fault.{ParsedUpToFault, IsFirstFault}
-use Rattle.edf_fragment.specs.Fragment.{DataRecord, AreDataRecords, blocks}
+use Rattle.edf_fragment.specs.Fault.{ParsedPrefix, IsFirstFault}
+use Rattle.edf_fragment.specs.Fragment.{DataRecord, BeginWithDataRecords, blocks}
 use Rattle.edf_fragment.specs.declared.fault.FragmentFault.{FragmentFault}
 use Rattle.edf_fragment.specs.declared.fault.FragmentFault.TheVariants as fragment
 use Rattle.edf_fragment.proofs.Layouts.{blocks-front}
@@ -17,9 +17,9 @@ use Rattle.edf_mend.specs.declared.fault.MendFault.TheVariants.{Refused}
 
 module _ (front : List ℕ) (h : HeaderRecord) (is_header : IsHeader front h [])
     (layout : IsLayout (layout_of h)) (done : List ℕ) (records : List DataRecord) (last : Place)
-    (are : AreDataRecords (layout_of h) First done records last []) where
+    (are : BeginWithDataRecords (layout_of h) First done records last []) where
   -- the header, the data records before the fault, and these bytes behind them
-  up-to : (left : List ℕ) → ParsedUpToFault (front ++ (done ++ left))
+  up-to : (left : List ℕ) → ParsedPrefix (front ++ (done ++ left))
   up-to left = record {
     header = h;
     rest = done ++ left;

@@ -14,7 +14,7 @@ use Rattle.edf_tal.specs.declared.place.Place.{Place}
 use Rattle.edf_tal.specs.declared.place.Place.TheVariants.{Any, After}
 use Rattle.edf_tal.proofs.Cited.{blocks-one-read}
 use Rattle.edf_fragment.proofs.Fronts.{same_front}
-use Rattle.edf_fragment.specs.Fragment.{DataRecord, IsDataRecord, AreDataRecords, blocks}
+use Rattle.edf_fragment.specs.Fragment.{DataRecord, IsDataRecord, BeginWithDataRecords, blocks}
 use Rattle.edf_fragment.specs.Fragment.{place_after, ordinary_bytes}
 use Rattle.edf_mend.proofs.GoodBlocks.{IsGoodBlock, good-blocks, all-same, told-none}
 use Rattle.edf_mend.proofs.Rebuilt.{rebuilt}
@@ -42,7 +42,7 @@ pub record AreCut (l : Layout) (p : Place) (bytes : List ℕ) (rs : List DataRec
   pub are : AllZip (λ x r. (q : Place) × IsDataRecord l q x r) fronts rs
 
 pub are-cut : (l : Layout) (p : Place) (bytes : List ℕ) (rs : List DataRecord) (last : Place) →
-    AreDataRecords l p bytes rs last [] → AreCut l p bytes rs
+    BeginWithDataRecords l p bytes rs last [] → AreCut l p bytes rs
 are-cut l p bytes [] last a = record {
   fronts = [];
   parts = sym a.1;

@@ -11,7 +11,7 @@ use Rattle.edf_tal.specs.Block.{BlocksParseTo}
 use Rattle.edf_tal.specs.Tal.{Annotation}
 use Rattle.edf_tal.specs.declared.place.Place.{Place}
 use Rattle.edf_tal.specs.declared.place.Place.TheVariants.{First, Any as Anywhere, After}
-use Rattle.edf_fragment.specs.Fragment.{DataRecord, IsDataRecord, AreDataRecords, blocks}
+use Rattle.edf_fragment.specs.Fragment.{DataRecord, IsDataRecord, BeginWithDataRecords, blocks}
 use Rattle.edf_fragment.specs.Fragment.{ordinary_bytes, place_after}
 use Rattle.edf_mend.proofs.OneClock.{first-stays, one-place}
 use Rattle.edf_mend.proofs.OneRecords.{blocks-one}
@@ -43,7 +43,7 @@ ReadInOrder l place (r ∷ rs) = (here : ReadsAt l place r)
 pub record AreFragment (l : Layout) (place : Place) (fronts : List (List ℕ)) : Type 0 where
   pub records : List DataRecord
   pub last : Place
-  pub are : AreDataRecords l place (concatenated fronts) records last []
+  pub are : BeginWithDataRecords l place (concatenated fronts) records last []
   pub count : length records ≡ length fronts
 
 pub in-order : (l : Layout) (place : Place) (fronts : List (List ℕ)) →

@@ -9,7 +9,7 @@ use Rattle.edf_field.specs.Number.{duration_of}
 use Rattle.edf_header.specs.Header.{HeaderRecord, IsHeader, layout_of, least_records, most_records}
 use Rattle.edf_header.specs.declared.limits.TheConstants.{MOST_RECORDS}
 use Rattle.edf_tal.specs.declared.place.Place.TheVariants.{First}
-use Rattle.edf_fragment.specs.Fragment.{DataRecord, IsFragmentFile, AreDataRecords}
+use Rattle.edf_fragment.specs.Fragment.{DataRecord, IsFragmentFile, BeginWithDataRecords}
 use Rattle.edf_mend.proofs.ByteLaws.{Keeps, texts-keep, clock-keeps, zip-sizes}
 use Rattle.edf_mend.proofs.Following.{nil-of}
 use Rattle.edf_mend.proofs.FragmentLaws.{longer}
@@ -160,7 +160,8 @@ records-spell w first body ledger new left sound records counts =
         last = f.last;
         is_header = is;
         key = refl;
-        are_records = subst (λ (x : List ℕ). AreDataRecords l First x f.records f.last []) (sym end)
+        are_records = subst (λ (x : List ℕ). BeginWithDataRecords l First x f.records f.last [])
+            (sym end)
             f.are;
         least = subst (λ (n : ℕ). least_records left.header.fixed.count ≤ n) (sym count)
             (count-least left.header.fixed.count (whole_records own body) counts.counted counts.some);

@@ -12,8 +12,8 @@ use Rattle.edf_header.specs.Key.{Key}
 use Rattle.edf_header.specs.Header.{HeaderRecord, IsHeader, Layout, layout_of, least_records}
 use Rattle.edf_header.specs.Header.{most_records}
 use Rattle.edf_tal.specs.declared.place.Place.TheVariants.{First}
-use Rattle.edf_fragment.specs.Fragment.{DataRecord, AreDataRecords, IsFragmentFile}
-use Rattle.edf_fragment.specs.Sound.{AreSound}
+use Rattle.edf_fragment.specs.Fragment.{DataRecord, BeginWithDataRecords, IsFragmentFile}
+use Rattle.edf_fragment.specs.Sound.{AreSoundFrom}
 use Rattle.edf_fragment.specs.declared.advance.Progress.{Progress}
 use Rattle.edf_fragment.proofs.Runs.{IsHeader-more}
 use Rattle.edf_mend.specs.Carried.{AreCarried}
@@ -47,7 +47,7 @@ use Rattle.edf_mend.proofs.ToldRecords.{Carries, carries, true-not-false}
 
 -- ---- data records that are read lie in the window
 
-pub sound-window : (k : Key) (low : ℕ) (rs : List DataRecord) → AreSound k low rs → (n : ℕ) →
+pub sound-window : (k : Key) (low : ℕ) (rs : List DataRecord) → AreSoundFrom k low rs → (n : ℕ) →
     n < length rs → low + n * duration_of k.duration < window
 sound-window k low [] are n lt = absurd (omega (arith, lt))
 sound-window k low (r ∷ rs) are zero lt = omega (arith, are.0.start, are.1)
@@ -59,7 +59,7 @@ sound-window k low (r ∷ rs) are (suc n) lt =
       sound-window k (r.start + duration_of k.duration) rs are.2 n (omega (arith, lt)),
     )
 
-pub in-room : (k : Key) (rs : List DataRecord) → AreSound k 0 rs → (n : ℕ) → n < length rs →
+pub in-room : (k : Key) (rs : List DataRecord) → AreSoundFrom k 0 rs → (n : ℕ) → n < length rs →
     n * duration_of k.duration < 2 ^ 64
 in-room k rs are n lt = let w = sound-window k 0 rs are n lt in omega (arith, w)
 
@@ -203,9 +203,10 @@ module _ (w : Wanted) (first t : HeaderTexts) (steps : List RuleEdits) (added : 
       enough : least_records l.count ≤ length put_of.records
       enough = omega (arith, ends.least, ap (λ (x : Progress). x.given) goes.1)
 
-      pub are-all : AreDataRecords l First (concatenated u.carries.all.so.news) put_of.records
+      pub are-all : BeginWithDataRecords l First (concatenated u.carries.all.so.news) put_of.records
           put_of.last []
-      are-all = subst (λ (x : List (List ℕ)). AreDataRecords l First (concatenated x) put_of.records
+      are-all = subst (λ (x : List (List ℕ)). BeginWithDataRecords l First
+          (concatenated x) put_of.records
           put_of.last []) done-all put_of.are
 
       -- a fragment
@@ -217,7 +218,7 @@ module _ (w : Wanted) (first t : HeaderTexts) (steps : List RuleEdits) (added : 
         last = put_of.last;
         is_header = IsHeader-more (header_bytes t) (concatenated u.carries.all.so.news) o is_header;
         key = ap (λ (x : Layout). x.key) same_layout;
-        are_records = subst (λ (x : Layout). AreDataRecords x First (concatenated
+        are_records = subst (λ (x : Layout). BeginWithDataRecords x First (concatenated
             u.carries.all.so.news)
             put_of.records put_of.last []) same_layout are-all;
         least = subst (λ (x : Layout). least_records x.count ≤ length put_of.records) same_layout enough;

@@ -12,7 +12,7 @@ use Rattle.edf_header.specs.Key.{Key}
 use Rattle.edf_header.proofs.Cited.{key-duration-bound}
 use Rattle.edf_tal.specs.Tal.{Annotation, IsValidAnnotation}
 use Rattle.edf_fragment.specs.Fragment.{DataRecord, IsFragmentFile}
-use Rattle.edf_fragment.specs.Sound.{AreSound}
+use Rattle.edf_fragment.specs.Sound.{AreSoundFrom}
 use Rattle.edf_fragment.proofs.Fragments.{fragment_of_all}
 use Rattle.edf_fragment.proofs.OneFragment.{one-fragment}
 use Rattle.edf_fragment.proofs.Sound.{spelled-key, spelled-lasts, spelled-sound}
@@ -61,7 +61,7 @@ together : (xs ys : List Annotation) → AllByRecursion IsValidAnnotation xs →
 together [] ys p q = q
 together (x ∷ xs) ys p q = (p.0, together xs ys p.1 q)
 
-sound-notes : (k : Key) (low : ℕ) (rs : List DataRecord) → AreSound k low rs →
+sound-notes : (k : Key) (low : ℕ) (rs : List DataRecord) → AreSoundFrom k low rs →
     AllByRecursion IsValidAnnotation (annotations_of rs)
 sound-notes k low [] sound = tt
 sound-notes k low (r ∷ rs) sound = together r.annotations (annotations_of rs) sound.0.notes
@@ -85,14 +85,14 @@ module _ (k : Key) (some : 0 < duration_of k.duration) (most : duration_of k.dur
 
     -- where a run begins and ends, and what is behind it
     front-run : (low first : ℕ) (r : DataRecord) (rs back : List DataRecord) →
-        StartFrom d first (r ∷ rs) → AreSound k low ((r ∷ rs) ++ back) →
+        StartFrom d first (r ∷ rs) → AreSoundFrom k low ((r ∷ rs) ++ back) →
         (low ≤ first) × (first < window) × (first + length rs * d < window)
-        × AreSound k (first + length rs * d + d) back
+        × AreSoundFrom k (first + length rs * d + d) back
     front-run low first r [] back starts sound = (
       omega (arith, sound.1, starts.0),
       omega (arith, sound.0.start, starts.0),
       omega (arith, sound.0.start, starts.0),
-      subst (λ (n : ℕ). AreSound k n back) (omega (arith, starts.0)) sound.2,
+      subst (λ (n : ℕ). AreSoundFrom k n back) (omega (arith, starts.0)) sound.2,
     )
     front-run low first r (s ∷ rs) back starts sound =
         let rest = front-run (r.start + d) (first + d) s rs back starts.1 sound.2 in
@@ -100,11 +100,11 @@ module _ (k : Key) (some : 0 < duration_of k.duration) (most : duration_of k.dur
           omega (arith, sound.1, starts.0),
           omega (arith, sound.0.start, starts.0),
           omega (arith, e, rest.2),
-          subst (λ (n : ℕ). AreSound k n back) (omega (arith, e)) rest.3,
+          subst (λ (n : ℕ). AreSoundFrom k n back) (omega (arith, e)) rest.3,
         )
 
     runs-are : (low : ℕ) (runs : List (List DataRecord)) (listed : List Run) →
-        AreSound k low (flat_map (λ run. run) runs) → All IsFull runs →
+        AreSoundFrom k low (flat_map (λ run. run) runs) → All IsFull runs →
         AllZip (IsListed d) runs listed → RiseFrom low (map (run_time d) listed)
         × All IsFrom (map (run_time d) listed) × All IsTo (map (run_time d) listed)
     runs-are low [] [] sound full each = (tt, All-nil IsFrom, All-nil IsTo)
@@ -142,7 +142,7 @@ files-have-figures file listing notes has noted =
     let runs = runs-are k (spelled-lasts file k read.records spelled)
     (key-duration-bound k (spelled-key file k read.records spelled)) 0 read.listed.runs
     listing.runs.items
-    (subst (AreSound k 0) (sym read.listed.are_runs.joined) sound)
+    (subst (AreSoundFrom k 0) (sym read.listed.are_runs.joined) sound)
     read.listed.are_runs.none_empty read.listed.each in
     let notes_are = notes-are (annotations_of read.records) notes (sound-notes k 0 read.records sound)
     (subst (λ (rs : List DataRecord). AreNoted (annotations_of rs) notes) (sym same.records)

@@ -23,7 +23,7 @@ use Rattle.edf_field.specs.Number.{duration_of}
 use Rattle.edf_header.specs.Key.{Key, MayStart, key_bytes}
 use Rattle.edf_time.specs.Civil.{two_digit_window}
 use Rattle.edf_fragment.specs.Fragment.{DataRecord}
-use Rattle.edf_fragment.specs.Sound.{IsSoundRecord, AreSound, MayBegin}
+use Rattle.edf_fragment.specs.Sound.{IsSoundRecord, AreSoundFrom, FirstMayStart}
 use Rattle.edf_holdings.specs.Holdings.{Holdings}
 use Rattle.edf_tables.specs.Cells.{first_three}
 use Rattle.edf_rows.specs.Cells.{record_cells, recording_cells, recordings_in, records_in}
@@ -82,7 +82,7 @@ falls m n h = ap is_gt (value_cmp-Int (pos m) (pos n)) ∙ grind (arith, nat_tes
 apart_or : (k : Key) (low : ℕ) (r : DataRecord) (rs : List DataRecord) →
     AllByRecursion (IsSoundRecord k) (r ∷ rs) →
     IsAscending (λ a b. is_gt (by_column 0 a b) ≡ false) (map record_cells (r ∷ rs)) → low ≤ r.start
-    → AreSound k low (r ∷ rs) ⊎ AreTooNear (map record_cells (r ∷ rs)) (duration_of k.duration)
+    → AreSoundFrom k low (r ∷ rs) ⊎ AreTooNear (map record_cells (r ∷ rs)) (duration_of k.duration)
 apart_or k low r [] sound up from = inl (sound.0, from, tt)
 apart_or k low r (s ∷ rs) sound up from =
     let order : r.start ≤ s.start = elim (cases_lt s.start r.start) [
@@ -125,8 +125,8 @@ may_start_or k start =
 
 record HasGood (cap : ℕ) (k : Key) (rows : List Row) : Type 0 where
   records : List DataRecord
-  sound : AreSound k 0 records
-  begins : MayBegin k records
+  sound : AreSoundFrom k 0 records
+  begins : FirstMayStart k records
   shown : rows ≡ map record_cells records
   some : rows ≢ []
   few : length records ≤ cap

@@ -28,7 +28,7 @@ use Rattle.sqlite_keyed.proofs.SortLemmas.{sort_by-map, sorted_unique, IsPermuta
 use Rattle.edf_field.specs.Number.{duration_of}
 use Rattle.edf_header.specs.Key.{Key, MayStart}
 use Rattle.edf_fragment.specs.Fragment.{DataRecord}
-use Rattle.edf_fragment.specs.Sound.{IsSoundRecord, AreSound, MayBegin}
+use Rattle.edf_fragment.specs.Sound.{IsSoundRecord, AreSoundFrom, FirstMayStart}
 use Rattle.edf_tables.specs.Cells.{first_three}
 use Rattle.edf_tables.proofs.Queries.{ordered_query, of_recording, start_samples_block, passes}
 use Rattle.edf_tables.proofs.Sorting.{rising_sort}
@@ -124,19 +124,19 @@ no_last (x ∷ []) h = absurd (cc)
 no_last (x ∷ y ∷ rs) h = absurd (let none = no_last (y ∷ rs) h in cc)
 
 push_after : (k : Key) (low : ℕ) (x : DataRecord) (rs : List DataRecord) (r : DataRecord) →
-    AreSound k low (x ∷ rs) → IsSoundRecord k r → MayComeNext k (last_start (x ∷ rs)) r.start →
-    AreSound k low ((x ∷ rs) ++ r ∷ [])
+    AreSoundFrom k low (x ∷ rs) → IsSoundRecord k r → MayComeNext k (last_start (x ∷ rs)) r.start →
+    AreSoundFrom k low ((x ∷ rs) ++ r ∷ [])
 push_after k low x [] r s sound follows = (s.0, s.1, (sound, follows, tt))
 push_after k low x (y ∷ rs) r s sound follows =
     (s.0, s.1, push_after k (x.start + duration_of k.duration) y rs r s.2 sound follows)
 
-pub push_sound : (k : Key) (rs : List DataRecord) (r : DataRecord) → AreSound k 0 rs →
-    IsSoundRecord k r → MayComeNext k (last_start rs) r.start → AreSound k 0 (rs ++ r ∷ [])
+pub push_sound : (k : Key) (rs : List DataRecord) (r : DataRecord) → AreSoundFrom k 0 rs →
+    IsSoundRecord k r → MayComeNext k (last_start rs) r.start → AreSoundFrom k 0 (rs ++ r ∷ [])
 push_sound k [] r s sound follows = (sound, omega arith, tt)
 push_sound k (x ∷ rs) r s sound follows = push_after k 0 x rs r s sound follows
 
-pub push_begins : (k : Key) (rs : List DataRecord) (r : DataRecord) → MayBegin k rs →
-    MayComeNext k (last_start rs) r.start → MayBegin k (rs ++ r ∷ [])
+pub push_begins : (k : Key) (rs : List DataRecord) (r : DataRecord) → FirstMayStart k rs →
+    MayComeNext k (last_start rs) r.start → FirstMayStart k (rs ++ r ∷ [])
 push_begins k [] r begins follows = follows
 push_begins k (x ∷ rs) r begins follows = begins
 
@@ -144,7 +144,7 @@ push_begins k (x ∷ rs) r begins follows = begins
 pub starts_rise : (m n : ℕ) → m < n → value_cmp (Int (pos m)) (Int (pos n)) ≡ Less
 starts_rise m n h = value_cmp-Int (pos m) (pos n) ∙ grind (arith, nat_tests)
 
-all_later : (k : Key) (low n : ℕ) (rs : List DataRecord) → AreSound k low rs → n < low →
+all_later : (k : Key) (low n : ℕ) (rs : List DataRecord) → AreSoundFrom k low rs → n < low →
     AllByRecursion (λ b. value_cmp (Int (pos n)) (column b 0) ≡ Less) (map record_cells rs)
 all_later k low n [] s less = tt
 all_later k low n (r ∷ rs) s less = (
@@ -154,7 +154,7 @@ all_later k low n (r ∷ rs) s less = (
 )
 
 rises : (k : Key) (low : ℕ) (rs : List DataRecord) → 0 < duration_of k.duration →
-    AreSound k low rs → IsAscending (λ a b. by_column 0 a b ≡ Less) (map record_cells rs)
+    AreSoundFrom k low rs → IsAscending (λ a b. by_column 0 a b ≡ Less) (map record_cells rs)
 rises k low [] long s = tt
 rises k low (r ∷ rs) long s = (
   all_later k (r.start + duration_of k.duration) r.start rs s.2 (omega (arith, long)),
@@ -186,7 +186,7 @@ answer_moved trees id rows a =
 
 -- sound records that a query gives are all that there are, in order
 pub only_sound : (trees : Trees) (id : ℤ) (k : Key) (rs : List DataRecord) →
-    0 < duration_of k.duration → AreSound k 0 rs →
+    0 < duration_of k.duration → AreSoundFrom k 0 rs →
     IsPermutation (records_in trees id) (map record_cells rs) →
     records_in trees id ≡ map record_cells rs
 only_sound trees id k rs long sound same =

@@ -15,7 +15,7 @@ use Rattle.edf_fragment.specs.Fragment.{DataRecord}
 use Rattle.edf_holdings.specs.Same.{same_key}
 use Rattle.edf_holdings.specs.Clash.{NoClash}
 use Rattle.edf_holdings.specs.Rising.{IsRising}
-use Rattle.edf_fragment.specs.Sound.{IsSoundRecord, AreSound, MayBegin}
+use Rattle.edf_fragment.specs.Sound.{IsSoundRecord, AreSoundFrom, FirstMayStart}
 use Rattle.edf_holdings.specs.Holdings.{Holdings}
 use Rattle.edf_holdings.proofs.Same.{same_key-Decides, same_key-true, test_from_Clash}
 use Rattle.edf_holdings.proofs.Joining.{apart-sound, rising_from_apart, free_from_apart, lasting}
@@ -101,8 +101,7 @@ held_here cap trees (row ∷ rows) all apart id k key c =
         rw yes (ap (records_in trees) (sym same.0) ∙ all.0.shown)
     go (inr c) more = there_too (same_key all.0.key k) refl
       where
-        there_too : (b : Bool) → same_key all.0.key k ≡ b →
-            records_in trees id ≡ map record_cells
+        there_too : (b : Bool) → same_key all.0.key k ≡ b → records_in trees id ≡ map record_cells
             (cond b all.0.records (held_of cap trees rows all.1 k))
         there_too false e = more c
         there_too true e =
@@ -130,7 +129,7 @@ held_none cap trees (row ∷ rows) all k none =
         (subst (Contains (row ∷ rows)) all.0.cells (here row rows)))
         (subst IsKey same all.0.is_key))
 
-each_sound : (k : Key) (low : ℕ) (rs : List DataRecord) → AreSound k low rs →
+each_sound : (k : Key) (low : ℕ) (rs : List DataRecord) → AreSoundFrom k low rs →
     AllByRecursion (IsSoundRecord k) rs
 each_sound k low [] s = tt
 each_sound k low (r ∷ rs) s = (s.0, each_sound k (r.start + duration_of k.duration) rs s.2)
@@ -155,11 +154,12 @@ all_keys cap trees (row ∷ rows) all k some =
     go false e more = there all.0.key k (keys_of cap trees rows all.1)
         (more (λ none. some (rw e none)))
 
-rising : (k : Key) (rs : List DataRecord) → IsKey k → AreSound k 0 rs → IsRising rs
+rising : (k : Key) (rs : List DataRecord) → IsKey k → AreSoundFrom k 0 rs → IsRising rs
 rising k rs key s = rising_from_apart (duration_of k.duration) 0 rs (lasting k key)
     (apart-sound k 0 rs s)
 
-no_clash : (k : Key) (rs : List DataRecord) → AreSound k 0 rs → NoClash (duration_of k.duration) rs
+no_clash : (k : Key) (rs : List DataRecord) → AreSoundFrom k 0 rs →
+    NoClash (duration_of k.duration) rs
 no_clash k rs s x y c d clash =
     true≢false (sym (test_from_Clash (duration_of k.duration) x y clash)
     ∙ free_from_apart (duration_of k.duration) 0 rs (apart-sound k 0 rs s) x y
@@ -217,7 +217,7 @@ are-kept cap trees all apart owned =
             (λ k. All-from_recursion (IsSoundRecord k) [] tt)
             (λ row has. All-from_recursion (IsSoundRecord has.key) has.records
             (each_sound has.key 0 has.records has.sound)) rows all;
-        begins = held_keeps cap trees MayBegin (λ k. tt) (λ row has. has.begins) rows all;
+        begins = held_keeps cap trees FirstMayStart (λ k. tt) (λ row has. has.begins) rows all;
         keys = held_keeps cap trees (λ k rs. rs ≢ [] → IsKey k) (λ k some. absurd (some refl))
             (λ row has some. has.is_key) rows all;
         finite = (keys_of cap trees rows all, all_keys cap trees rows all);

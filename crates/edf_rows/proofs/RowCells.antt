@@ -16,7 +16,7 @@ use Rattle.std.proofs.lemmas.Int.{to_z-of_z}
 use Rattle.std.proofs.lemmas.List.{append-nil}
 use Rattle.edf_tal.specs.Canonical.{tals_text}
 use Rattle.edf_tal.proofs.Cited.{one-read, read-no-fault, read-start, read-annotations, read-any}
-use Rattle.edf_fragment.specs.Fragment.{DataRecord, IsWithinSize}
+use Rattle.edf_fragment.specs.Fragment.{DataRecord, IsRecordWithinLimits}
 use Rattle.edf_fragment.specs.Sound.{IsValidRecord, IsSoundRecord}
 use Rattle.edf_rows.specs.Foreign.{IsBadRow, bad_samples, bad_block}
 use Rattle.edf_rows.specs.Rows.{IsRowOf, IsRecordFrom, IsNoRecord}
@@ -147,7 +147,7 @@ given-no_block samples block none r gives = none r.start r.annotations gives.rea
 pub given-made : (samples block : List ℕ) (read : ℕ) (list : List Annotation)
     (made : Option DataRecord) → BlockParsesTo block 0 Any read list
     → (let parts : DataRecord = record { start = read; samples = samples; annotations = list } in
-    MatchOption made (¬ IsWithinSize parts) (λ d. IsValidRecord d × (d ≡ parts)))
+    MatchOption made (¬ IsRecordWithinLimits parts) (λ d. IsValidRecord d × (d ≡ parts)))
     → IsGiven samples block made
 given-made samples block read list None is large = λ r gives.
     let one = one-read block 0 Any r.start read r.annotations list gives.read is in
@@ -158,7 +158,7 @@ given-made samples block read list None is large = λ r gives.
       annotations =
           one.list i;
     } in
-    large (subst IsWithinSize same gives.size)
+    large (subst IsRecordWithinLimits same gives.size)
 given-made samples block read list (Some d) is kept = record {
   samples_are = ap (λ (r : DataRecord). r.samples) kept.1;
   read = subst (λ (r : DataRecord). BlockParsesTo block 0 Any r.start r.annotations)

@@ -21,7 +21,7 @@ use Rattle.edf_tal.specs.Canonical.{tals_text}
 use Rattle.edf_tal.proofs.Cited.{one-writing}
 use Rattle.edf_fragment.specs.Fragment.{DataRecord}
 use Rattle.edf_holdings.specs.Same.{same_key}
-use Rattle.edf_fragment.specs.Sound.{IsSoundRecord, MayBegin}
+use Rattle.edf_fragment.specs.Sound.{IsSoundRecord, FirstMayStart}
 use Rattle.edf_holdings.specs.Rising.{StartsAreSpaced}
 use Rattle.edf_holdings.specs.Holdings.{Holdings, IsSound}
 use Rattle.edf_holdings.proofs.Same.{same_key-Decides, same_key-true}
@@ -244,7 +244,7 @@ not-bad k r s (bad_block none) = none (record {
   starts = refl;
 })
 
-not-late : (k : Key) (xs : List DataRecord) → MayBegin k xs →
+not-late : (k : Key) (xs : List DataRecord) → FirstMayStart k xs →
     ¬ BeginsTooLate k (map record_cells xs)
 not-late k [] begins late = late
 not-late k (x ∷ xs) begins (start, is, late) =
@@ -253,7 +253,7 @@ not-late k (x ∷ xs) begins (start, is, late) =
 
 pub not-bad-records : (cap : ℕ) (k : Key) (xs : List DataRecord) →
     AllByRecursion (IsSoundRecord k) xs → StartsAreSpaced (duration_of k.duration) 0 xs →
-    MayBegin k xs → length xs ≤ cap → map record_cells xs ≢ []
+    FirstMayStart k xs → length xs ≤ cap → map record_cells xs ≢ []
     → ¬ AreBadRecords cap k (map record_cells xs)
 not-bad-records cap k xs sound apart begins few some (bad_row row c bad) =
     let it = mapped record_cells (IsSoundRecord k) xs row sound c in

@@ -18,7 +18,7 @@ use Rattle.sqlite.specs.State.{State, IsUnchanged}
 use Rattle.edf_field.specs.Number.{duration_of}
 use Rattle.edf_header.specs.Key.{Key}
 use Rattle.edf_fragment.specs.Fragment.{DataRecord}
-use Rattle.edf_fragment.specs.Sound.{AreSound, MayBegin}
+use Rattle.edf_fragment.specs.Sound.{AreSoundFrom, FirstMayStart}
 use Rattle.edf_tables.specs.Schema.{HasBoth}
 use Rattle.edf_tables.proofs.QueryTexts.{rows_text, rows_is}
 use Rattle.edf_tables.proofs.Shown.{answer_of, answer_begun}
@@ -34,8 +34,8 @@ pub record Stands {S : Type 0} (g : Ghosts S) (recording : ℤ) (k : Key) (last 
     (count : ℕ) (h : Held S) : Type 0 where
   pub records : List DataRecord
   pub given : HasGiven g rows_text (Int recording ∷ []) h (map record_cells records)
-  pub sound : AreSound k 0 records
-  pub begins : MayBegin k records
+  pub sound : AreSoundFrom k 0 records
+  pub begins : FirstMayStart k records
   pub last_is : last ≡ last_start records
   pub size : length records ≡ count
 

@@ -9,7 +9,7 @@ use Rattle.edf_tal.specs.declared.place.Place.TheVariants.{Any}
 use Rattle.edf_holdings.specs.Holdings.{Holdings, IsSound}
 use Rattle.edf_rows.specs.Cells.{record_cells, recording_cells, recordings_in, records_in}
 use Rattle.edf_tables.specs.Columns.{the_id, the_identity, stored_records, is_of}
-use Rattle.edf_fragment.specs.Fragment.{DataRecord, IsWithinSize}
+use Rattle.edf_fragment.specs.Fragment.{DataRecord, IsRecordWithinLimits}
 use Rattle.edf_fragment.specs.Sound.{IsSoundRecord}
 
 -- the key's recording has a row with this id
@@ -67,7 +67,7 @@ pub record IsRowOf (k : Key) (r : DataRecord) (row : Row) : Type 0 where
 pub record IsRecordFrom (samples block : List ℕ) (r : DataRecord) : Type 0 where
   pub samples_are : r.samples ≡ samples
   pub read : BlockParsesTo block 0 Any r.start r.annotations
-  pub size : IsWithinSize r
+  pub size : IsRecordWithinLimits r
 
 -- no data record has these samples and this block
 abbrev pub IsNoRecord : List ℕ → List ℕ → Type 0

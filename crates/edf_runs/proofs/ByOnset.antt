@@ -15,7 +15,7 @@ use Rattle.edf_field.specs.Number.{duration_of}
 use Rattle.edf_header.specs.Key.{Key}
 use Rattle.edf_tal.specs.Tal.{Annotation}
 use Rattle.edf_fragment.specs.Fragment.{DataRecord}
-use Rattle.edf_fragment.specs.Sound.{AreSound}
+use Rattle.edf_fragment.specs.Sound.{AreSoundFrom}
 use Rattle.edf_runs.specs.ByOnset.{annotations_of, is_before, is_between, assigned, each_assigned}
 use Rattle.edf_runs.specs.ByOnset.{all_assigned, by_onset, IsLastStarted, EachWhereStarted}
 use Rattle.edf_runs.specs.ByOnset.{StayInOrder, StayAlike, AreAlike}
@@ -29,7 +29,7 @@ use Rattle.edf_runs.proofs.Members.{contains-kept, kept-contains, filter-both}
 
 -- ---- starts that rise
 
-pub spaced-sound : (k : Key) (low : ℕ) (rs : List DataRecord) → AreSound k low rs →
+pub spaced-sound : (k : Key) (low : ℕ) (rs : List DataRecord) → AreSoundFrom k low rs →
     Spaced (duration_of k.duration) low rs
 spaced-sound k low [] sound = tt
 spaced-sound k low (r ∷ rs) sound =

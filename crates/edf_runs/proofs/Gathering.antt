@@ -9,8 +9,8 @@ use Rattle.edf_tal.specs.Tal.{Annotation}
 use Rattle.edf_fragment.specs.Fragment.{DataRecord}
 use Rattle.edf_runs.specs.ByOnset.{annotations_of, assigned, each_assigned, all_assigned, by_onset}
 use Rattle.edf_runs.specs.Order.{in_order}
-use Rattle.edf_fragment.specs.Reading.{CountsFault}
-use Rattle.edf_fragment.specs.Whole.{ReadsFragment, IsFragmentFault}
+use Rattle.edf_fragment.specs.Reading.{CountsReadFault}
+use Rattle.edf_fragment.specs.Whole.{ReadsFragment, ReadsFragmentFault}
 use Rattle.edf_fragment.specs.declared.fault.FragmentFault.{FragmentFault}
 use Rattle.edf_fragment.specs.declared.fault.FragmentFault.TheVariants.{Memory as NoMemory}
 use Rattle.edf_runs.specs.OnsetRead.{without_samples, IsOnsetFault, CountsOnsetFault}
@@ -77,7 +77,7 @@ full-within (x ∷ xs) all = All-cons (λ r. IsWithinLimits r.annotations) x xs
 
 module _ (left rest : Option (List ℕ)) where
   -- a fault of the reading
-  pub read-told : (fault : FragmentFault) → IsFragmentFault left rest fault →
+  pub read-told : (fault : FragmentFault) → ReadsFragmentFault left rest fault →
       IsOnsetFault left rest (fault_by_onset fault)
   read-told NoMemory is = inl is
   read-told fault is = is
@@ -92,7 +92,7 @@ module _ (left rest : Option (List ℕ)) where
       record { layout = l; records = records; read = read; crowded = is }
   kept-told l records Memory read is = inr (l, records, read)
 
-pub read-counts : (old new : ℕ) (fault : FragmentFault) → CountsFault old new fault →
+pub read-counts : (old new : ℕ) (fault : FragmentFault) → CountsReadFault old new fault →
     CountsOnsetFault old new (fault_by_onset fault)
 read-counts old new NoMemory counts = counts
 read-counts old new fault counts = counts

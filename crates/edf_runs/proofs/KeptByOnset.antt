@@ -9,7 +9,7 @@ use Rattle.edf_header.specs.Key.{Key}
 use Rattle.edf_tal.specs.Tal.{Annotation, IsValidAnnotation}
 use Rattle.edf_tal.specs.Block.{IsWithinLimits}
 use Rattle.edf_fragment.specs.Fragment.{DataRecord}
-use Rattle.edf_fragment.specs.Sound.{AreSound, IsSoundRecord}
+use Rattle.edf_fragment.specs.Sound.{AreSoundFrom, IsSoundRecord}
 use Rattle.edf_runs.specs.Order.{in_order}
 use Rattle.edf_runs.proofs.Order.{order-all}
 use Rattle.edf_runs.specs.ByOnset.{annotations_of, AreAlike, assigned, each_assigned, is_between}
@@ -53,7 +53,7 @@ append-all : (P : Annotation → Type 0) (rest bs : List Annotation) → AllByRe
 append-all P [] bs all more = more
 append-all P (a ∷ rest) bs all more = (all.0, append-all P rest bs all.1 more)
 
-all-notes : (k : Key) (low : ℕ) (rs : List DataRecord) → AreSound k low rs →
+all-notes : (k : Key) (low : ℕ) (rs : List DataRecord) → AreSoundFrom k low rs →
     AllByRecursion IsValidAnnotation (annotations_of rs)
 all-notes k low [] sound = tt
 all-notes k low (r ∷ rs) sound =
@@ -73,8 +73,8 @@ module _ (k : Key) (all : List Annotation) (notes : AllByRecursion IsValidAnnota
     notes = filter-all IsValidAnnotation (is_between low rs) all notes;
   }
 
-  each-sound : (low : ℕ) (rs : List DataRecord) → AreSound k low rs →
-      All within (each_assigned all rs) → AreSound k low (each_assigned all rs)
+  each-sound : (low : ℕ) (rs : List DataRecord) → AreSoundFrom k low rs →
+      All within (each_assigned all rs) → AreSoundFrom k low (each_assigned all rs)
   each-sound low [] sound limits = tt
   each-sound low (r ∷ rs) sound limits = (
     one-sound r.start r rs sound.0

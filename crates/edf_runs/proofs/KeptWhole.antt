@@ -6,7 +6,7 @@ use Rattle.std.specs.List.{AllByRecursion, AllZip, slice_get}
 use Rattle.edf_field.specs.Number.{duration_of}
 use Rattle.edf_header.specs.Key.{Key}
 use Rattle.edf_fragment.specs.Fragment.{DataRecord}
-use Rattle.edf_fragment.specs.Sound.{AreSound, IsSoundRecord}
+use Rattle.edf_fragment.specs.Sound.{AreSoundFrom, IsSoundRecord}
 use Rattle.edf_runs.specs.ByOnset.{AreAlike}
 use Rattle.edf_runs.specs.Canonical.{StartAlike}
 use Rattle.edf_runs.specs.OnsetRead.{without_samples}
@@ -50,14 +50,14 @@ alike-bare (x ∷ xs) (y ∷ ys) alike = (alike.0.0, alike-bare xs ys alike.1)
 -- ---- soundness
 
 pub annotated-sound : (k : Key) (low : ℕ) (kept rs : List DataRecord) → StartAlike kept rs →
-    AreSound k low rs → AllByRecursion (IsSoundRecord k) (annotated kept rs) →
-    AreSound k low (annotated kept rs)
+    AreSoundFrom k low rs → AllByRecursion (IsSoundRecord k) (annotated kept rs) →
+    AreSoundFrom k low (annotated kept rs)
 annotated-sound k low [] rs alike sound each = sound
 annotated-sound k low (x ∷ xs) [] alike sound each = tt
 annotated-sound k low (x ∷ xs) (r ∷ rs) alike sound each =
     let d = duration_of k.duration in (
       each.0,
       subst (λ n. low ≤ n) (sym alike.0) sound.1,
-      subst (λ n. AreSound k (n + d) (annotated xs rs)) (sym alike.0)
+      subst (λ n. AreSoundFrom k (n + d) (annotated xs rs)) (sym alike.0)
           (annotated-sound k (r.start + d) xs rs alike.1 sound.2 each.1),
     )

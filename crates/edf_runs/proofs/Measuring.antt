@@ -2,7 +2,7 @@
 use Rattle.std.proofs.Common.{ℕ, List, sym, subst}
 use Rattle.edf_header.specs.Key.{Key, MayStart}
 use Rattle.edf_fragment.specs.Fragment.{DataRecord, IsFragmentFile}
-use Rattle.edf_fragment.specs.Sound.{MayBegin}
+use Rattle.edf_fragment.specs.Sound.{FirstMayStart}
 use Rattle.edf_fragment.proofs.Sound.{spelled-begins}
 use Rattle.edf_canonical.specs.Measure.{IsMeasured}
 use Rattle.edf_canonical.specs.declared.measure.Measure.{Measure}
@@ -11,5 +11,5 @@ use Rattle.edf_canonical.specs.declared.measure.Measure.{Measure}
 pub measured_starts : (bytes : List ℕ) (k : Key) (records : List DataRecord) (m : Measure) →
     IsFragmentFile bytes k records → IsMeasured records m → MayStart k m.first
 measured_starts bytes k records m spells is =
-    subst (MayStart k) (sym is.start) (subst (MayBegin k) is.parts
+    subst (MayStart k) (sym is.start) (subst (FirstMayStart k) is.parts
     (spelled-begins bytes k records spells))

@@ -10,11 +10,11 @@ use Rattle.edf_tal.specs.Block.{BlocksHaveFirstFault}
 use Rattle.edf_tal.specs.declared.place.Place.{Place}
 use Rattle.edf_tal.specs.declared.place.TalFault.{TalFault}
 use Rattle.edf_tal.proofs.Cited.{blocks-read-no-fault}
-use Rattle.edf_fragment.specs.Fragment.{DataRecord, IsDataRecord, AreDataRecords, place_after}
+use Rattle.edf_fragment.specs.Fragment.{DataRecord, IsDataRecord, BeginWithDataRecords, place_after}
 use Rattle.edf_fragment.specs.Fragment.{blocks}
-use Rattle.edf_fragment.specs.Reading.{IsAnswer, IsAnswerInState, IsNext, ReadsRecord}
+use Rattle.edf_fragment.specs.Reading.{IsNextAnswer, IsNextAnswerInState, IsNextResult, ReadsRecord}
 use Rattle.edf_fragment.specs.Reading.{IsEndOfRecords}
-use Rattle.edf_fragment.specs.Stops.{EndsInRecord, RefusesBlock}
+use Rattle.edf_fragment.specs.Stops.{EndsInRecord, RefusesRecord}
 use Rattle.edf_fragment.specs.declared.advance.Progress.{Progress}
 use Rattle.edf_fragment.specs.declared.advance.ReaderState.{ReaderState}
 use Rattle.edf_fragment.specs.declared.advance.ReaderState.TheVariants.{Reading}
@@ -71,11 +71,11 @@ record Follows (l : Layout) (rest : Option (List ℕ)) (x r : DataRecord) (xs : 
   same : x ≡ r
   bytes : List ℕ
   known : rest ≡ Some bytes
-  are_records : AreDataRecords l (place_after l r.start) bytes xs last after
+  are_records : BeginWithDataRecords l (place_after l r.start) bytes xs last after
 
 follows : (l : Layout) (from : Progress) (left rest : Option (List ℕ)) (all : List ℕ)
     (x r : DataRecord) (xs : List DataRecord) (last : Place) (after : List ℕ) → left ≡ Some all
-    → AreDataRecords l from.place all (x ∷ xs) last after → ReadsRecord l from left rest r →
+    → BeginWithDataRecords l from.place all (x ∷ xs) last after → ReadsRecord l from left rest r →
     Follows l rest x r xs last after
 follows l from left rest all x r xs last after is (front, back, parts, one, more) gives =
     let k = known left rest all gives.bytes is gives.read in
@@ -84,12 +84,13 @@ follows l from left rest all x r xs last after is (front, back, parts, one, more
     let same : x ≡ r = one-record l from.place gives.bytes x r
     (subst (λ (z : List ℕ). IsDataRecord l from.place z x) fronts.front one) gives.is_record in
     let here = subst (λ (z : DataRecord).
-    AreDataRecords l (place_after l z.start) back xs last after) same more in
+    BeginWithDataRecords l (place_after l z.start) back xs last after) same more in
     record {
       same = same;
       bytes = k.bytes;
       known = k.known;
-      are_records = subst (λ (z : List ℕ). AreDataRecords l (place_after l r.start) z xs last after)
+      are_records = subst (λ (z : List ℕ). BeginWithDataRecords l
+          (place_after l r.start) z xs last after)
           fronts.back here;
     }
 
@@ -98,7 +99,7 @@ follows l from left rest all x r xs last after is (front, back, parts, one, more
 no_end : (l : Layout) (from : Progress) (left rest : Option (List ℕ)) (all : List ℕ)
     (x : DataRecord) (xs : List DataRecord) (last : Place) (after : List ℕ) → IsLayout l →
     left ≡ Some all
-    → AreDataRecords l from.place all (x ∷ xs) last after → ¬ IsEndOfRecords l from left rest
+    → BeginWithDataRecords l from.place all (x ∷ xs) last after → ¬ IsEndOfRecords l from left rest
 no_end l from left rest all x xs last after layout is (front, back, parts, one, more) ends =
     let none = all_read left rest all [] is ends.read ends.end in
     let len : length all ≡ length front + length back = ap (λ (z : List ℕ). length z) parts
@@ -108,7 +109,8 @@ no_end l from left rest all x xs last after layout is (front, back, parts, one, 
 no_cut : (l : Layout) (from : Progress) (left rest : Option (List ℕ)) (all : List ℕ)
     (x : DataRecord) (xs : List DataRecord) (last : Place) (after : List ℕ) (nth : ℕ) →
     left ≡ Some all
-    → AreDataRecords l from.place all (x ∷ xs) last after → ¬ EndsInRecord l from left rest nth
+    → BeginWithDataRecords l from.place all (x ∷ xs) last after →
+    ¬ EndsInRecord l from left rest nth
 no_cut l from left rest all x xs last after nth is (front, back, parts, one, more) cut =
     let none = all_read left rest all cut.bytes is cut.read cut.end in
     let len : length all ≡ length front + length back = ap (λ (z : List ℕ). length z) parts
@@ -118,8 +120,8 @@ no_cut l from left rest all x xs last after nth is (front, back, parts, one, mor
 no_refusal : (l : Layout) (from : Progress) (left rest : Option (List ℕ)) (all : List ℕ)
     (x : DataRecord) (xs : List DataRecord) (last : Place) (after : List ℕ) (nth : ℕ)
     (fault : TalFault)
-    → left ≡ Some all → AreDataRecords l from.place all (x ∷ xs) last after →
-    ¬ RefusesBlock l from left rest nth fault
+    → left ≡ Some all → BeginWithDataRecords l from.place all (x ∷ xs) last after →
+    ¬ RefusesRecord l from left rest nth fault
 no_refusal l from left rest all x xs last after nth fault is (
   front,
   back,
@@ -139,11 +141,11 @@ no_refusal l from left rest all x xs last after nth fault is (
 
 reading : (l : Layout) (from to : Progress) (left rest : Option (List ℕ))
     (answer : Result (Option DataRecord) FragmentFault) → from.state ≡ Reading →
-    IsAnswer l from to left rest answer
-    → IsNext l from left rest answer
+    IsNextAnswer l from to left rest answer
+    → IsNextResult l from left rest answer
 reading l from to left rest answer going is =
-    let a : IsAnswerInState Reading l from to left rest answer =
-    subst (λ (s : ReaderState). IsAnswerInState s l from to left rest answer) going is in
+    let a : IsNextAnswerInState Reading l from to left rest answer =
+    subst (λ (s : ReaderState). IsNextAnswerInState s l from to left rest answer) going is in
     a.1
 
 pub has_all : (l : Layout) (from : Progress) (left : Option (List ℕ)) (run : Run)
@@ -173,7 +175,7 @@ more_with : (l : Layout) (from to : Progress) (left rest : Option (List ℕ))
     (all records others : List DataRecord) (bytes : List ℕ) (last : Place) (after : List ℕ)
     (instant : ℕ) (r : DataRecord)
     → others ≢ [] → all ≡ records ++ others → left ≡ Some bytes →
-    AreDataRecords l from.place bytes others last after →
+    BeginWithDataRecords l from.place bytes others last after →
     from.given + length others ≤ most_records l.count
     → StepsOn l from to left rest instant r → HasOthers l to rest all (records ++ r ∷ [])
 more_with l from to left rest all records [] bytes last after instant r some parts known are within
@@ -192,7 +194,8 @@ more_with l from to left rest all records (x ∷ xs) bytes last after instant r 
       known = f.known;
       last = last;
       after = after;
-      are_records = subst (λ (z : Place). AreDataRecords l z f.bytes xs last after) (sym place)
+      are_records = subst (λ (z : Place). BeginWithDataRecords l z f.bytes xs last after)
+          (sym place)
           f.are_records;
       within = omega (arith, within, given);
     }
@@ -209,9 +212,9 @@ has_more l from to left rest all records instant r h few step =
 -- another fault than that of form
 form : (l : Layout) (from : Progress) (left rest : Option (List ℕ)) (all : List ℕ) (x : DataRecord)
     (xs : List DataRecord) (last : Place) (after : List ℕ) (fault : FragmentFault) → left ≡ Some all
-    → AreDataRecords l from.place all (x ∷ xs) last after →
-    from.given + length (x ∷ xs) ≤ most_records l.count → IsNext l from left rest (Err fault) →
-    fault_again fault ≢ Changed
+    → BeginWithDataRecords l from.place all (x ∷ xs) last after →
+    from.given + length (x ∷ xs) ≤ most_records l.count →
+    IsNextResult l from left rest (Err fault) → fault_again fault ≢ Changed
 form l from left rest all x xs last after (BadHeader fault) is are within next same = absurd next
 form l from left rest all x xs last after (CutRecord nth) is are within next same =
     no_cut l from left rest all x xs last after nth is are next
@@ -228,9 +231,9 @@ form l from left rest all x xs last after Failed is are within next same = absur
 no_stop : (l : Layout) (from : Progress) (left rest : Option (List ℕ)) (all : List ℕ)
     (x : DataRecord) (xs : List DataRecord) (last : Place) (after : List ℕ) (instant : ℕ)
     (answer : Result (Option DataRecord) FragmentFault) → IsLayout l → left ≡ Some all →
-    AreDataRecords l from.place all (x ∷ xs) last after
+    BeginWithDataRecords l from.place all (x ∷ xs) last after
     → from.given + length (x ∷ xs) ≤ most_records l.count → x.start ≡ instant →
-    IsNext l from left rest answer → ¬ IsFaultBy instant answer Changed
+    IsNextResult l from left rest answer → ¬ IsFaultBy instant answer Changed
 no_stop l from left rest all x xs last after instant (Ok (Some r)) layout is are within start next
     why =
     let f = follows l from left rest all x r xs last after is are next in
@@ -253,7 +256,7 @@ stop_with : (l : Layout) (from to : Progress) (left rest : Option (List ℕ)) (d
     (all records others : List DataRecord) (bytes : List ℕ) (last : Place) (after : List ℕ)
     (instant : ℕ)
     → IsLayout l → others ≢ [] → all ≡ records ++ others → left ≡ Some bytes →
-    AreDataRecords l from.place bytes others last after
+    BeginWithDataRecords l from.place bytes others last after
     → from.given + length others ≤ most_records l.count → from.state ≡ Reading →
     StartFrom d at all → instant ≡ at + length records * d →
     ¬ StopsAt l from to left rest instant Changed

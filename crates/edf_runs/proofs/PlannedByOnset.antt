@@ -10,7 +10,7 @@ use Rattle.edf_header.specs.Key.{Key, MayStart}
 use Rattle.edf_header.specs.declared.limits.TheConstants.{MOST_RECORDS}
 use Rattle.edf_tal.specs.Tal.{Annotation}
 use Rattle.edf_fragment.specs.Fragment.{DataRecord}
-use Rattle.edf_fragment.specs.Sound.{MayBegin}
+use Rattle.edf_fragment.specs.Sound.{FirstMayStart}
 use Rattle.edf_fragment.specs.Whole.{ReadsFragment}
 use Rattle.edf_fragment.proofs.Sound.{spelled-begins, spelled-few, spelled-some, spelled-sound}
 use Rattle.edf_canonical.specs.File.{second_of, block_of, BlocksFit}
@@ -102,8 +102,8 @@ of-read l records left rest P d read is told =
     (spaced-sound l.key 0 records (spelled-sound read.bytes l.key records read.spells)))
     (spelled-few read.bytes l.key records read.spells))
 
-begins-by-onset : (k : Key) (records : List DataRecord) → MayBegin k records →
-    MayBegin k (by_onset records)
+begins-by-onset : (k : Key) (records : List DataRecord) → FirstMayStart k records →
+    FirstMayStart k (by_onset records)
 begins-by-onset k [] begins = tt
 begins-by-onset k (r ∷ rs) begins = begins
 
@@ -132,9 +132,9 @@ module _ (l : Layout) (records kept : List DataRecord) (left rest : Option (List
   pub kept-starts : (m : Measure) → IsMeasured kept m → MayStart l.key m.first
   kept-starts m is =
       let whole = kept-measured m is in
-      let begins : MayBegin l.key (by_onset records) = begins-by-onset l.key records
+      let begins : FirstMayStart l.key (by_onset records) = begins-by-onset l.key records
       (spelled-begins read.bytes l.key records read.spells) in
-      subst (MayStart l.key) (sym whole.start) (subst (MayBegin l.key) whole.parts begins)
+      subst (MayStart l.key) (sym whole.start) (subst (FirstMayStart l.key) whole.parts begins)
 
   pub planned : (plan : CanonicalPlan) → plan.identity ≡ l.key → plan.kept.items ≡ kept →
       IsMeasured kept plan.measure → plan.outside ≡ sum_by (outside_here d) kept →

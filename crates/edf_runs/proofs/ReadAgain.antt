@@ -9,8 +9,8 @@ use Rattle.edf_header.specs.Key.{Key}
 use Rattle.edf_header.specs.Header.{Layout, IsLayout}
 use Rattle.edf_header.specs.Signal.{samples_in_all}
 use Rattle.edf_fragment.specs.Fragment.{DataRecord, IsFragmentFile}
-use Rattle.edf_fragment.specs.Reading.{ReadsHeader, IsAnswer, initial_progress}
-use Rattle.edf_fragment.specs.Sound.{IsSoundRecord, AreSound}
+use Rattle.edf_fragment.specs.Reading.{ReadsHeader, IsNextAnswer, initial_progress}
+use Rattle.edf_fragment.specs.Sound.{IsSoundRecord, AreSoundFrom}
 use Rattle.edf_fragment.specs.Whole.{HasReadRecords}
 use Rattle.edf_fragment.specs.declared.advance.Progress.{Progress}
 use Rattle.edf_fragment.specs.declared.advance.ReaderState.TheVariants.{Reading}
@@ -60,12 +60,14 @@ module _ {R : Type 0} (g : Ghosts R) (l : Layout) where
   -- an answer by the header that was read
   answer-of : (mid to : At WholeAgain OpenFragment R)
       (answer : Result (Option DataRecord) FragmentFault) → mid.file.header ≡ l →
-      IsAnswer mid.file.header mid.file.progress to.file.progress (g.remaining mid.input)
+      IsNextAnswer mid.file.header mid.file.progress to.file.progress (g.remaining mid.input)
       (g.remaining to.input) answer →
-      IsAnswer l mid.file.progress to.file.progress (g.remaining mid.input) (g.remaining to.input)
+      IsNextAnswer l mid.file.progress to.file.progress (g.remaining mid.input)
+      (g.remaining to.input)
       answer
   answer-of mid to answer same is =
-      subst (λ (x : Layout). IsAnswer x mid.file.progress to.file.progress (g.remaining mid.input)
+      subst (λ (x : Layout). IsNextAnswer x mid.file.progress to.file.progress
+      (g.remaining mid.input)
       (g.remaining to.input) answer) same is
 
 module _ {R : Type 0} {g : Ghosts R} {l : Layout} {kept : List DataRecord}
@@ -158,7 +160,7 @@ module _ {R : Type 0} {g : Ghosts R} {l : Layout} {kept : List DataRecord}
 
         alike-next : (mid to : At WholeAgain OpenFragment R) (rs : List DataRecord)
             (r : DataRecord) → HasReadAgain g l kept left reads mid rs →
-            IsAnswer l mid.file.progress to.file.progress (g.remaining mid.input)
+            IsNextAnswer l mid.file.progress to.file.progress (g.remaining mid.input)
             (g.remaining to.input) (Ok (Some r)) → IsAlike mid.source r
         alike-next mid to rs r so answer =
             let more = one_more_read l left (g.remaining mid.input) (g.remaining to.input) rs
@@ -175,9 +177,8 @@ module _ {R : Type 0} {g : Ghosts R} {l : Layout} {kept : List DataRecord}
         not-changed : (mid : At WholeAgain OpenFragment R) (rs : List DataRecord)
             (answer : Result (Option DataRecord) FragmentFault) (fault : WriteFault) →
             HasReadAgain g l kept left reads mid rs →
-            IsAnswer l mid.file.progress to.file.progress (g.remaining mid.input)
-            (g.remaining to.input) answer → IsFaultAgain mid.source answer fault →
-            fault ≢ Changed
+            IsNextAnswer l mid.file.progress to.file.progress (g.remaining mid.input)
+            (g.remaining to.input) answer → IsFaultAgain mid.source answer fault → fault ≢ Changed
         not-changed mid rs (Ok (Some r)) fault so answer why same =
             why.1 (alike-next mid to rs r so answer)
         not-changed mid rs (Ok None) fault so answer why same = absurd why
@@ -243,7 +244,8 @@ module _ {R : Type 0} {g : Ghosts R} {l : Layout} {left file : Option (List ℕ)
       s.mid.file.progress to.file.progress opens so.read so.going
       (answer-of g l s.mid to (Ok None) so.header s.end.answers) in
       let rs = annotated plan.kept.items s.records in
-      let sound : AreSound l.key 0 rs = annotated-sound l.key 0 plan.kept.items s.records so.alike
+      let sound : AreSoundFrom l.key 0 rs =
+      annotated-sound l.key 0 plan.kept.items s.records so.alike
       (spelled-sound read.bytes l.key s.records read.spells) (s.sound l.key so.sound) in
       planned_written file (g.remaining to.input) before after plan l s.records header len read
       (record {

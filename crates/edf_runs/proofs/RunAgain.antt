@@ -13,7 +13,7 @@ use Rattle.edf_header.specs.Header.{Layout, IsLayout}
 use Rattle.edf_header.specs.declared.limits.TheConstants.{MOST_RECORDS}
 use Rattle.edf_tal.specs.declared.limits.TheConstants.{MOST_ANNOTATIONS}
 use Rattle.edf_fragment.specs.Fragment.{DataRecord}
-use Rattle.edf_fragment.specs.Reading.{IsAnswer}
+use Rattle.edf_fragment.specs.Reading.{IsNextAnswer}
 use Rattle.edf_fragment.specs.Sound.{IsSoundRecord}
 use Rattle.edf_fragment.specs.declared.advance.Progress.{Progress}
 use Rattle.edf_fragment.specs.declared.fault.FragmentFault.{FragmentFault}
@@ -222,7 +222,8 @@ module _ {R : Type 0} {g : Ghosts R} {l : Layout} {from : Progress} {run : Run}
 
           asked : (answer : Result (Option DataRecord) FragmentFault) →
               mid.source.nth < mid.source.run.now.records →
-              IsAnswer mid.file.header mid.file.progress to.file.progress (g.remaining mid.input)
+              IsNextAnswer mid.file.header mid.file.progress to.file.progress
+              (g.remaining mid.input)
               (g.remaining to.input) answer →
               ReadsOneMoreAtMost l mid.file.progress to.file.progress (g.remaining mid.input)
               (g.remaining to.input) (length rs) run
@@ -230,7 +231,7 @@ module _ {R : Type 0} {g : Ghosts R} {l : Layout} {from : Progress} {run : Run}
             omega (arith, few-of mid to rs so few, so.so_far.counted),
             (
               answer,
-              subst (λ (x : Layout). IsAnswer x mid.file.progress to.file.progress
+              subst (λ (x : Layout). IsNextAnswer x mid.file.progress to.file.progress
                   (g.remaining mid.input) (g.remaining to.input) answer) so.header is,
             ),
           )

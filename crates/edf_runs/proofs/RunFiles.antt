@@ -15,7 +15,7 @@ use Rattle.edf_header.specs.Key.{Key, IsKey}
 use Rattle.edf_header.proofs.SpelledTexts.{printable-by}
 use Rattle.edf_header.specs.declared.limits.TheConstants.{MOST_RECORDS}
 use Rattle.edf_fragment.specs.Fragment.{DataRecord, IsFragmentFile}
-use Rattle.edf_fragment.specs.Sound.{AreSound, MayBegin}
+use Rattle.edf_fragment.specs.Sound.{AreSoundFrom, FirstMayStart}
 use Rattle.edf_canonical.proofs.Files.{one-file, its-own}
 use Rattle.edf_canonical.proofs.SomeFile.{some-file}
 use Rattle.edf_runs.specs.Runs.{IsTouching}
@@ -168,7 +168,7 @@ marked-spells : (bytes : List ℕ) (k : Key) (records : List DataRecord) →
 marked-spells bytes k records s = record {
   header = s.header;
   rest = s.rest;
-  last = s.last;
+  next_place = s.next_place;
   is_header = marked-header bytes s.header s.rest s.is_header;
   key = s.key;
   are_records = s.are_records;
@@ -187,8 +187,8 @@ long-header bytes h rest is = omega (
 
 -- ---- the laws
 
-pub some-run-file : (k : Key) (run : List DataRecord) → IsKey k → AreSound k 0 run →
-    MayBegin k run → 1 ≤ length run → length run ≤ MOST_RECORDS
+pub some-run-file : (k : Key) (run : List DataRecord) → IsKey k → AreSoundFrom k 0 run →
+    FirstMayStart k run → 1 ≤ length run → length run ≤ MOST_RECORDS
     → IsTouching (duration_of k.duration) run → (file : List ℕ) × IsRunFile file k run
 some-run-file k run key sound begins some few touching =
     let file = some-file k run key sound begins some few in (

@@ -6,7 +6,7 @@ use Rattle.std.proofs.KnownBytes.{Consumes-nil, Consumes-trans}
 use Rattle.edf_field.specs.Number.{duration_of}
 use Rattle.edf_header.specs.Header.{Layout, most_records}
 use Rattle.edf_tal.specs.declared.place.Place.{Place}
-use Rattle.edf_fragment.specs.Fragment.{DataRecord, AreDataRecords, place_after}
+use Rattle.edf_fragment.specs.Fragment.{DataRecord, BeginWithDataRecords, place_after}
 use Rattle.edf_fragment.specs.declared.advance.Progress.{Progress}
 use Rattle.edf_fragment.proofs.Runs.{AreDataRecords-snoc}
 use Rattle.edf_runs.specs.Read.{ReadsOn}
@@ -48,7 +48,7 @@ one_more l from mid to left middle rest rs instant r before step =
       going = λ some. sym before.state ∙ step.going;
       bytes = before.bytes ++ gives.bytes;
       read = Consumes-trans left middle rest before.bytes gives.bytes before.read gives.read;
-      are_records = subst (λ (x : Place). AreDataRecords l from.place (before.bytes
+      are_records = subst (λ (x : Place). BeginWithDataRecords l from.place (before.bytes
           ++ gives.bytes) (rs ++ r ∷ []) x []) (sym place) more;
       given = omega (arith, before.given, given, length-append rs (r ∷ []));
       within = omega (arith, gives.may_come, given);

@@ -12,7 +12,7 @@ use Rattle.edf_header.specs.Header.{Layout, most_records}
 use Rattle.edf_header.proofs.Cited.{canonical-header-reads}
 use Rattle.edf_header.specs.declared.limits.TheConstants.{MOST_SIGNALS}
 use Rattle.edf_fragment.specs.Fragment.{DataRecord}
-use Rattle.edf_fragment.specs.Sound.{IsSoundRecord, AreSound}
+use Rattle.edf_fragment.specs.Sound.{IsSoundRecord, AreSoundFrom}
 use Rattle.edf_fragment.specs.declared.advance.Progress.{Progress}
 use Rattle.edf_canonical.specs.File.{second_of, block_of}
 use Rattle.edf_canonical.specs.Output.{CountsOutputFault}
@@ -87,7 +87,7 @@ marked_short header k run key begins is =
     )
 
 sound_from : (k : Key) (low at : ℕ) (rs : List DataRecord) → AllByRecursion (IsSoundRecord k) rs →
-    StartFrom (duration_of k.duration) at rs → low ≤ at → AreSound k low rs
+    StartFrom (duration_of k.duration) at rs → low ≤ at → AreSoundFrom k low rs
 sound_from k low at [] sound from le = tt
 sound_from k low at (r ∷ rs) sound from le = (
   sound.0,
@@ -128,7 +128,7 @@ listed_measured d (r ∷ rs) run is = record {
 module _ (k : Key) (rs : List DataRecord) (run : Run) (header : List ℕ)
     (sound : AllByRecursion (IsSoundRecord k) rs) (is : IsListed (duration_of k.duration) rs run)
   where
-    are-sound : AreSound k 0 rs
+    are-sound : AreSoundFrom k 0 rs
     are-sound = sound_from k 0 run.first rs sound is.starts (omega arith)
 
     pub run_file : IsKey k → MayStart k run.first → IsRunHeader header k run →

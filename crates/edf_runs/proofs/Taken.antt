@@ -8,7 +8,7 @@ use Rattle.std.proofs.lemmas.List.Elements.{Contains-append_right, length_all_zi
 use Rattle.edf_field.specs.Number.{duration_of}
 use Rattle.edf_header.specs.Key.{Key}
 use Rattle.edf_fragment.specs.Fragment.{DataRecord, IsFragmentFile}
-use Rattle.edf_fragment.specs.Sound.{AreSound}
+use Rattle.edf_fragment.specs.Sound.{AreSoundFrom}
 use Rattle.edf_fragment.specs.Parsed.{Parsed, Fragment, ParsesTo}
 use Rattle.edf_fragment.proofs.Parsed.{one-parse}
 use Rattle.edf_canonical.specs.File.{IsCanonicalFile}
@@ -109,10 +109,10 @@ front-accepted cap h (t ∷ ts) others all =
 -- ---- the files of a card
 
 -- by onset each of its pieces, and itself, has data records of the card
-module _ (k : Key) (card : List DataRecord) (sound : AreSound k 0 card)
+module _ (k : Key) (card : List DataRecord) (sound : AreSoundFrom k 0 card)
     (within : outside_count (duration_of k.duration) card ≡ 0) where
   abbrev IsPiece : List DataRecord → Type 0
-  IsPiece piece = AreSound k 0 piece × IsPieceOf (duration_of k.duration) card piece
+  IsPiece piece = AreSoundFrom k 0 piece × IsPieceOf (duration_of k.duration) card piece
 
   among-card : (pieces : List (List DataRecord)) (one : List DataRecord) → All IsPiece pieces →
       Contains (card ∷ pieces) one → All (Contains (by_onset card)) (by_onset one)

@@ -7,7 +7,7 @@ use Rattle.edf_canonical.specs.Kept.{annotated}
 use Rattle.edf_canonical.proofs.Annotated.{annotated-front}
 use Rattle.edf_header.specs.Header.{Layout}
 use Rattle.edf_fragment.specs.Fragment.{DataRecord, IsFragmentFile}
-use Rattle.edf_fragment.specs.Reading.{ReadsHeader, IsAnswer}
+use Rattle.edf_fragment.specs.Reading.{ReadsHeader, IsNextAnswer}
 use Rattle.edf_fragment.specs.Whole.{HasReadRecords, ReadsFragment}
 use Rattle.edf_fragment.specs.declared.advance.Progress.{Progress}
 use Rattle.edf_fragment.specs.declared.advance.ReaderState.TheVariants.{Reading}
@@ -22,7 +22,7 @@ use Rattle.edf_canonical.proofs.MeasuredFiles.{file_of, front_more, planned_more
 use Rattle.edf_canonical.specs.File.{IsCanonicalFile}
 use Rattle.edf_header.specs.Key.{MayStart}
 use Rattle.edf_header.specs.Canonical.{IsCanonicalHeader}
-use Rattle.edf_fragment.specs.Sound.{AreSound}
+use Rattle.edf_fragment.specs.Sound.{AreSoundFrom}
 use Rattle.edf_fragment.proofs.Sound.{spelled-key, spelled-sound}
 use Rattle.edf_canonical.specs.Measure.{planned_text}
 use Rattle.edf_runs.specs.Canonical.{IsCanonicalWritten}
@@ -63,14 +63,14 @@ module _ (bytes : List ℕ) (k : Key) (spelled : List DataRecord) (whole : Measu
     (alike : StartAlike kept spelled) (is : IsMeasured (annotated kept spelled) whole)
     (going : p.state ≡ Reading) (read : HasReadRecords l left mid rs p) where
   -- at the end all were read
-  pub all_at_end : IsAnswer l p q mid rest (Ok None) → IsMeasured (annotated kept rs) whole
+  pub all_at_end : IsNextAnswer l p q mid rest (Ok None) → IsMeasured (annotated kept rs) whole
   all_at_end answer =
       let all = fragment_of_all bytes rest l rs
       (all_read l (Some bytes) left mid rest rs p q header read going answer) in
       subst (λ x. IsMeasured (annotated kept x) whole) (one-fragment bytes k l.key spelled rs spells all).records is
 
   -- no fault of form comes
-  pub no_fault : (fault : FragmentFault) → IsAnswer l p q mid rest (Err fault) →
+  pub no_fault : (fault : FragmentFault) → IsNextAnswer l p q mid rest (Err fault) →
       fault_again fault ≡ Changed → ⊥
   no_fault fault answer same =
       let told = fault_of_all bytes rest fault
@@ -101,7 +101,7 @@ IsHead plan header = IsCanonicalHeader header plan.identity plan.measure.first p
     plan.measure.block_samples
 
 planned_file : (k : Key) (records : List DataRecord) (plan : CanonicalPlan) (header : List ℕ) →
-    IsKey k → AreSound k 0 (annotated plan.kept.items records) → AreAsPlanned k records plan →
+    IsKey k → AreSoundFrom k 0 (annotated plan.kept.items records) → AreAsPlanned k records plan →
     IsHead plan header →
     IsCanonicalFile (planned_text header plan.measure (annotated plan.kept.items records)) k
     (annotated plan.kept.items records)
@@ -115,7 +115,7 @@ planned_file k records plan header key sound is is-header =
 -- what was planned of the data records that were read went out
 pub planned_written : (left rest before after : Option (List ℕ)) (plan : CanonicalPlan) (l : Layout)
     (records : List DataRecord) (header : List ℕ) (len : ℕ) → ReadsFragment left rest l records →
-    AreAsPlanned l.key records plan → AreSound l.key 0 (annotated plan.kept.items records) →
+    AreAsPlanned l.key records plan → AreSoundFrom l.key 0 (annotated plan.kept.items records) →
     IsHead plan header →
     Appends before after (planned_text header plan.measure (annotated plan.kept.items records)) →
     len ≡ length (planned_text header plan.measure (annotated plan.kept.items records)) →
@@ -168,7 +168,7 @@ header_unchanged bytes rest k key records fault spells same why is =
 -- ---- what went out before a fault
 
 file-sound : (file : List ℕ) (k : Key) (rs : List DataRecord) → IsCanonicalFile file k rs →
-    AreSound k 0 rs
+    AreSoundFrom k 0 rs
 file-sound file k [] is = tt
 file-sound file k (r ∷ rs) is = spelled-sound file k (r ∷ rs) is.0
 

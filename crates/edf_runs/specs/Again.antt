@@ -7,8 +7,8 @@ use Rattle.edf_header.specs.Header.{Layout, most_records}
 use Rattle.edf_header.specs.declared.fault.HeaderFault.{HeaderFault}
 use Rattle.edf_tal.specs.declared.place.Place.{Place}
 use Rattle.edf_fragment.specs.Failures.{saturating_increment}
-use Rattle.edf_fragment.specs.Fragment.{DataRecord, AreDataRecords}
-use Rattle.edf_fragment.specs.Reading.{ReadsHeader, IsOpenFault, IsAnswer}
+use Rattle.edf_fragment.specs.Fragment.{DataRecord, BeginWithDataRecords}
+use Rattle.edf_fragment.specs.Reading.{ReadsHeader, IsOpenFault, IsNextAnswer}
 use Rattle.edf_fragment.specs.declared.advance.Progress.{Progress}
 use Rattle.edf_fragment.specs.declared.advance.ReaderState.TheVariants.{Reading}
 use Rattle.edf_fragment.specs.declared.fault.FragmentFault.{FragmentFault}
@@ -52,7 +52,7 @@ IsFaultBy instant (Err refused) fault = fault ≡ fault_again refused
 pub record StopsAt (l : Layout) (from to : Progress) (left rest : Option (List ℕ)) (instant : ℕ)
     (fault : WriteFault) : Type 0 where
   pub answer : Result (Option DataRecord) FragmentFault
-  pub is_answer : IsAnswer l from to left rest answer
+  pub is_answer : IsNextAnswer l from to left rest answer
   pub why : IsFaultBy instant answer fault
 
 -- when the data record after these starts
@@ -69,7 +69,7 @@ pub record ComesNext (l : Layout) (from : Progress) (left : Option (List ℕ)) (
     pub records : List DataRecord
     pub last : Place
     pub rest : List ℕ
-    pub are_records : AreDataRecords l from.place bytes records last rest
+    pub are_records : BeginWithDataRecords l from.place bytes records last rest
     pub within : from.given + length records ≤ most_records l.count
     pub listed : IsListed (duration_of l.key.duration) records run
 

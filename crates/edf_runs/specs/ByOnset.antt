@@ -7,7 +7,7 @@ use Rattle.edf_header.specs.Key.{Key, IsKey}
 use Rattle.edf_tal.specs.Block.{IsWithinLimits}
 use Rattle.edf_tal.specs.Tal.{Annotation}
 use Rattle.edf_fragment.specs.Fragment.{DataRecord, IsFragmentFile}
-use Rattle.edf_fragment.specs.Sound.{AreSound}
+use Rattle.edf_fragment.specs.Sound.{AreSoundFrom}
 use Rattle.edf_runs.specs.File.{IsRunFile}
 use Rattle.edf_runs.specs.Order.{in_order, AreInOrder}
 use Rattle.edf_runs.specs.Runs.{IsRuns}
@@ -97,7 +97,7 @@ AreAlike r other = (r.start ≡ other.start) × (r.samples ≡ other.samples)
 -- and their data records start as those of the recording do, and have the same samples
 abbrev pub EachInItsRun : Type 0
 EachInItsRun = (k : Key) (records : List DataRecord) (runs spelled : List (List DataRecord))
-    (files : List (List ℕ)) → IsKey k → AreSound k 0 records →
+    (files : List (List ℕ)) → IsKey k → AreSoundFrom k 0 records →
     IsRuns (duration_of k.duration) (by_onset records) runs →
     AllZip (λ file run. IsRunFile file k run) files runs →
     AllZip (λ file run. IsFragmentFile file k run) files spelled →
@@ -117,21 +117,21 @@ pub record IsLastStarted (before : List DataRecord) (r : DataRecord) (after : Li
 -- for whose onset it is the last that started
 abbrev pub EachWhereStarted : Type 0
 EachWhereStarted = (k : Key) (records before after : List DataRecord) (r : DataRecord)
-    (a : Annotation) → AreSound k 0 records → by_onset records ≡ before ++ r ∷ after →
+    (a : Annotation) → AreSoundFrom k 0 records → by_onset records ≡ before ++ r ∷ after →
     Contains r.annotations a
     ↔ (Contains (annotations_of records) a × IsLastStarted before r after a.onset)
 
 -- an annotation whose onset lies in a data record is in that one, and in no other
 abbrev pub EachWhereItLies : Type 0
 EachWhereItLies = (k : Key) (records : List DataRecord) (r other : DataRecord) (a : Annotation) →
-    AreSound k 0 records → Contains (by_onset records) r → Contains (annotations_of records) a →
+    AreSoundFrom k 0 records → Contains (by_onset records) r → Contains (annotations_of records) a →
     r.start ≤ a.onset → a.onset < r.start + duration_of k.duration →
     (Contains r.annotations a)
     × (Contains (by_onset records) other → Contains other.annotations a → other ≡ r)
 
 -- and the data records are alike else, and have the annotations once
 abbrev pub StayAlike : Type 0
-StayAlike = (k : Key) (records : List DataRecord) → AreSound k 0 records →
+StayAlike = (k : Key) (records : List DataRecord) → AreSoundFrom k 0 records →
     AllZip AreAlike (by_onset records) records
     × IsPermutation (annotations_of (by_onset records)) (annotations_of records)
 
@@ -141,5 +141,5 @@ StayInOrder = (records : List DataRecord) → All (λ r. AreInOrder r.annotation
 
 -- where none has too many annotations, data records by onset are sound
 abbrev pub StaySound : Type 0
-StaySound = (k : Key) (records : List DataRecord) → AreSound k 0 records →
-    All (λ r. IsWithinLimits r.annotations) (by_onset records) → AreSound k 0 (by_onset records)
+StaySound = (k : Key) (records : List DataRecord) → AreSoundFrom k 0 records →
+    All (λ r. IsWithinLimits r.annotations) (by_onset records) → AreSoundFrom k 0 (by_onset records)

@@ -5,7 +5,7 @@ use Rattle.edf_header.specs.Key.{Key}
 use Rattle.edf_header.specs.Header.{Layout}
 use Rattle.edf_header.specs.Canonical.{IsCanonicalHeader}
 use Rattle.edf_fragment.specs.Fragment.{DataRecord, IsFragmentFile}
-use Rattle.edf_fragment.specs.Reading.{ReadsHeader, IsAnswer}
+use Rattle.edf_fragment.specs.Reading.{ReadsHeader, IsNextAnswer}
 use Rattle.edf_fragment.specs.Whole.{ReadsFragment, HasReadRecords}
 use Rattle.edf_fragment.specs.declared.advance.Progress.{Progress}
 use Rattle.edf_fragment.specs.declared.fault.FragmentFault.{FragmentFault}
@@ -73,7 +73,7 @@ WritesPlannedFront before after plan records = Keeps before after
 abbrev pub AnswersOnceAtMost : Layout → Progress → Option (List ℕ) → Option (List ℕ) → Type 0
 AnswersOnceAtMost l from left rest = (rest ≡ left)
     ⊎ ((to : Progress) × (answer : Result (Option DataRecord) FragmentFault)
-    × IsAnswer l from to left rest answer)
+    × IsNextAnswer l from to left rest answer)
 
 -- the header was read again and names the recording; the first data records were read, which with
 -- the annotations that were kept may be those that were planned, and a front of the planned header

@@ -6,7 +6,7 @@ use Rattle.edf_field.specs.Number.{duration_of}
 use Rattle.edf_header.specs.Key.{Key}
 use Rattle.edf_tal.specs.Tal.{Annotation}
 use Rattle.edf_fragment.specs.Fragment.{DataRecord}
-use Rattle.edf_fragment.specs.Sound.{AreSound}
+use Rattle.edf_fragment.specs.Sound.{AreSoundFrom}
 use Rattle.edf_canonical.specs.File.{IsCanonicalFile}
 use Rattle.edf_runs.specs.Order.{AreInOrder}
 use Rattle.edf_runs.specs.ByOnset.{annotations_of, by_onset, AreAlike, IsLastStarted}
@@ -28,7 +28,7 @@ pub record AreByOnset (records others : List DataRecord) : Type 0 where
 
 -- there are such data records, and no others
 abbrev pub AreOneByOnset : Type 0
-AreOneByOnset = (k : Key) (records : List DataRecord) → AreSound k 0 records →
+AreOneByOnset = (k : Key) (records : List DataRecord) → AreSoundFrom k 0 records →
     AreByOnset records (by_onset records)
     × ((others : List DataRecord) → AreByOnset records others → others ≡ by_onset records)
 
@@ -44,7 +44,7 @@ AreOneHoweverSpread = (records others : List DataRecord) → AllZip AreAlike rec
 
 -- by onset again changes nothing
 abbrev pub StaysByOnset : Type 0
-StaysByOnset = (k : Key) (records : List DataRecord) → AreSound k 0 records →
+StaysByOnset = (k : Key) (records : List DataRecord) → AreSoundFrom k 0 records →
     by_onset (by_onset records) ≡ by_onset records
 
 -- ---- annotations outside of all data records
@@ -83,7 +83,7 @@ pub record IsPieceOf (d : ℕ) (card piece : List DataRecord) : Type 0 where
 -- by onset is one of the card by onset (that is enough, and not needed: where piece and card have
 -- an annotation behind the same data record in a gap, they agree too)
 abbrev pub PiecesAreOfCard : Type 0
-PiecesAreOfCard = (k : Key) (card piece : List DataRecord) → AreSound k 0 card →
-    AreSound k 0 piece → IsPieceOf (duration_of k.duration) card piece →
+PiecesAreOfCard = (k : Key) (card piece : List DataRecord) → AreSoundFrom k 0 card →
+    AreSoundFrom k 0 piece → IsPieceOf (duration_of k.duration) card piece →
     outside_count (duration_of k.duration) card ≡ 0 →
     All (Contains (by_onset card)) (by_onset piece)

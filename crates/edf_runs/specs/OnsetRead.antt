@@ -5,8 +5,8 @@ use Rattle.edf_field.specs.Number.{duration_of}
 use Rattle.edf_header.specs.Header.{Layout}
 use Rattle.edf_tal.specs.Block.{IsWithinLimits}
 use Rattle.edf_fragment.specs.Fragment.{DataRecord}
-use Rattle.edf_fragment.specs.Reading.{CountsFault}
-use Rattle.edf_fragment.specs.Whole.{ReadsFragment, IsFragmentFault}
+use Rattle.edf_fragment.specs.Reading.{CountsReadFault}
+use Rattle.edf_fragment.specs.Whole.{ReadsFragment, ReadsFragmentFault}
 use Rattle.edf_fragment.specs.declared.fault.FragmentFault.TheVariants.{Memory as NoMemory}
 use Rattle.edf_runs.specs.Runs.{IsRuns}
 use Rattle.edf_runs.specs.ByOnset.{by_onset}
@@ -45,20 +45,20 @@ pub record ReadsCrowded (left rest : Option (List ℕ)) (number : ℕ) : Type 0 
 -- memory ran out at the reading, as it may without regard to onsets; or after the whole input was
 -- read, which spells a fragment
 abbrev pub LacksMemory : Option (List ℕ) → Option (List ℕ) → Type 0
-LacksMemory left rest = IsFragmentFault left rest NoMemory ⊎ ((layout : Layout)
+LacksMemory left rest = ReadsFragmentFault left rest NoMemory ⊎ ((layout : Layout)
     × (records : List DataRecord) × ReadsFragment left rest layout records)
 
 -- why there is no plan by onset: a fault of the reading other than want of memory, as it is
 -- without regard to onsets; a data record that would be crowded; or want of memory
 abbrev pub IsOnsetFault : Option (List ℕ) → Option (List ℕ) → OnsetFault → Type 0
 IsOnsetFault left rest (Fragment NoMemory) = ⊥
-IsOnsetFault left rest (Fragment fault) = IsFragmentFault left rest fault
+IsOnsetFault left rest (Fragment fault) = ReadsFragmentFault left rest fault
 IsOnsetFault left rest (TooMany number) = ReadsCrowded left rest number
 IsOnsetFault left rest Memory = LacksMemory left rest
 
 -- one more read failed where a failed read is the fault, and else none did
 abbrev pub CountsOnsetFault : ℕ → ℕ → OnsetFault → Type 0
-CountsOnsetFault old new (Fragment fault) = CountsFault old new fault
+CountsOnsetFault old new (Fragment fault) = CountsReadFault old new fault
 CountsOnsetFault old new fault = new ≡ old
 
 abbrev pub CountsOnset : {X : Type 0} → ℕ → ℕ → Result X OnsetFault → Type 0

@@ -3,7 +3,7 @@ use Rattle.std.specs.Prelude.{◌≡◌, ◌≢◌, ℕ, ◌+◌, ◌≤◌, Lis
 use Rattle.std.specs.Io.KnownBytes.{Consumes}
 use Rattle.edf_field.specs.Number.{duration_of}
 use Rattle.edf_header.specs.Header.{Layout, most_records}
-use Rattle.edf_fragment.specs.Fragment.{DataRecord, AreDataRecords}
+use Rattle.edf_fragment.specs.Fragment.{DataRecord, BeginWithDataRecords}
 use Rattle.edf_fragment.specs.Whole.{ReadsFragment}
 use Rattle.edf_fragment.specs.declared.advance.Progress.{Progress}
 use Rattle.edf_fragment.specs.declared.advance.ReaderState.TheVariants.{Reading}
@@ -24,7 +24,7 @@ pub record ReadsOn (l : Layout) (from to : Progress) (left rest : Option (List �
   pub going : records ≢ [] → from.state ≡ Reading
   pub bytes : List ℕ
   pub read : Consumes left rest bytes
-  pub are_records : AreDataRecords l from.place bytes records to.place []
+  pub are_records : BeginWithDataRecords l from.place bytes records to.place []
   pub given : to.given ≡ from.given + length records
   pub within : to.given ≤ most_records l.count
   pub state : to.state ≡ from.state

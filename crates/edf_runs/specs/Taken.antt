@@ -4,7 +4,7 @@ use Rattle.std.specs.List.{AllZip}
 use Rattle.edf_field.specs.Number.{duration_of}
 use Rattle.edf_header.specs.Key.{Key}
 use Rattle.edf_fragment.specs.Fragment.{DataRecord}
-use Rattle.edf_fragment.specs.Sound.{AreSound}
+use Rattle.edf_fragment.specs.Sound.{AreSoundFrom}
 use Rattle.edf_fragment.specs.Parsed.{Parsed, ParsesTo}
 use Rattle.edf_canonical.specs.File.{IsCanonicalFile}
 use Rattle.edf_holdings.specs.Holdings.{Holdings, IsSound, with_records}
@@ -24,9 +24,10 @@ AreByOnsetOf k recordings files = All (λ file. (one : List DataRecord) × Conta
 abbrev pub PiecesAndCardAreTaken : Type 0
 PiecesAndCardAreTaken = (cap : ℕ) (h : Holdings) (k : Key) (card : List DataRecord)
     (pieces : List (List DataRecord)) (whole : List ℕ) (files : List (List ℕ))
-    (submissions : List Parsed) → IsSound cap h → h k ≡ [] → AreSound k 0 card → length card ≤ cap →
+    (submissions : List Parsed) → IsSound cap h → h k ≡ [] → AreSoundFrom k 0 card →
+    length card ≤ cap →
     outside_count (duration_of k.duration) card ≡ 0 → IsCanonicalFile whole k (by_onset card) →
-    All (λ piece. AreSound k 0 piece × IsPieceOf (duration_of k.duration) card piece) pieces →
+    All (λ piece. AreSoundFrom k 0 piece × IsPieceOf (duration_of k.duration) card piece) pieces →
     AreByOnsetOf k (card ∷ pieces) files → AllZip ParsesTo files submissions →
     All IsAccepted (replies cap h submissions)
     × (Contains files whole → (after cap h submissions ≡ with_records k (by_onset card) h)

@@ -9,7 +9,7 @@ use Rattle.edf_header.specs.Header.{Layout}
 use Rattle.edf_header.specs.Canonical.{IsCanonicalHeader}
 use Rattle.edf_fragment.specs.Failures.{saturating_increment}
 use Rattle.edf_fragment.specs.Fragment.{DataRecord}
-use Rattle.edf_fragment.specs.Reading.{IsAnswer}
+use Rattle.edf_fragment.specs.Reading.{IsNextAnswer}
 use Rattle.edf_fragment.specs.declared.advance.Progress.{Progress}
 use Rattle.edf_fragment.specs.declared.fault.FragmentFault.{FragmentFault}
 use Rattle.edf_canonical.specs.File.{second_of, record_text, BlocksFit}
@@ -46,7 +46,7 @@ abbrev pub ReadsOneMoreAtMost : Layout → Progress → Progress → Option (Lis
 ReadsOneMoreAtMost l from to left rest count run =
     ((to ≡ from) × (rest ≡ left))
     ⊎ ((count < run.records) × ((answer : Result (Option DataRecord) FragmentFault)
-    × IsAnswer l from to left rest answer))
+    × IsNextAnswer l from to left rest answer))
 
 -- nothing was read or written, since no header can name when the run starts: the Startdate subfield
 -- is X and the run starts in 2085 or later, which the two-digit year of the startdate can't tell

@@ -2,7 +2,7 @@
 
 ghost use Rattle.std.specs.Prelude.{◌≡◌, ◌++◌, ◌∷◌, [], ℕ, List, MatchResult, IfOk, OnOk, map};
 ghost use Rattle.edf_fragment.specs.Fragment.{DataRecord};
-ghost use Rattle.edf_fragment.specs.Reading.{CountsAnswer, initial_progress};
+ghost use Rattle.edf_fragment.specs.Reading.{CountsReadFailures, initial_progress};
 ghost use Rattle.edf_fragment.specs.Whole.{FailsAfterRecords};
 ghost use Rattle.edf_fragment.specs.Inside.Steps.{ReadsRecords};
 ghost use Rattle.edf_runs.specs.ByOnset.{by_onset};
@@ -54,7 +54,7 @@ pub(crate) fn gather<R: Input>(
         (λ gathered. (records : List DataRecord) × ReadsRecords fragment.old.header
         (R.remaining input.old) (R.remaining input.new) records × IsGathered records gathered)
         (FailsAfterRecords fragment.old.header (R.remaining input.old) (R.remaining input.new)) }
-    ensures counted { CountsAnswer (R.failures input.old) (R.failures input.new) result }
+    ensures counted { CountsReadFailures (R.failures input.old) (R.failures input.new) result }
 {
     header_is_layout(fragment.header());
     let mut gathered = Gathered {

@@ -5,7 +5,7 @@ ghost use Rattle.edf_field.specs.Number.{duration_of};
 ghost use Rattle.edf_header.specs.declared.limits.TheConstants.{MOST_RECORDS};
 ghost use Rattle.edf_header.specs.Key.{Key, IsKey};
 ghost use Rattle.edf_fragment.specs.Fragment.{DataRecord};
-ghost use Rattle.edf_fragment.specs.Sound.{AreSound, MayBegin};
+ghost use Rattle.edf_fragment.specs.Sound.{AreSoundFrom, FirstMayStart};
 ghost use Rattle.edf_runs.specs.ByOnset.{EachInItsRun, EachWhereStarted, EachWhereItLies};
 ghost use Rattle.edf_runs.specs.ByOnset.{StayAlike, StayInOrder, StaySound};
 ghost use Rattle.edf_runs.specs.Canonical.{LeavesFrontOfFile};
@@ -31,7 +31,7 @@ pub fn each_has_its_runs()
 /// and a header can name when the first starts; the file is read again, as one without a gap.
 pub fn a_runs_file()
     ensures some { (key : Key) (run : List DataRecord) →
-        IsKey key → AreSound key 0 run → MayBegin key run → 1 ≤ length run →
+        IsKey key → AreSoundFrom key 0 run → FirstMayStart key run → 1 ≤ length run →
         length run ≤ MOST_RECORDS → IsTouching (duration_of key.duration) run →
         (file : List ℕ) × IsRunFile file key run }
     ensures one { (file other : List ℕ) (key : Key) (run : List DataRecord) →

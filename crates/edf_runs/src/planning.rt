@@ -2,8 +2,8 @@
 
 ghost use Rattle.std.specs.Prelude.{◌≡◌, List, MatchResult};
 ghost use Rattle.edf_fragment.specs.Fragment.{DataRecord};
-ghost use Rattle.edf_fragment.specs.Reading.{CountsAnswer, initial_progress};
-ghost use Rattle.edf_fragment.specs.Whole.{FailsAfterRecords, IsFragmentFault};
+ghost use Rattle.edf_fragment.specs.Reading.{CountsReadFailures, initial_progress};
+ghost use Rattle.edf_fragment.specs.Whole.{FailsAfterRecords, ReadsFragmentFault};
 ghost use Rattle.edf_fragment.specs.Inside.Steps.{ReadsRecords};
 ghost use Rattle.edf_canonical.specs.Measure.{IsMeasuredSoFar};
 ghost use Rattle.edf_runs.specs.Canonical.{ReadsPlan};
@@ -26,7 +26,7 @@ fn measure_records<R: Input>(
         (R.remaining input.old) (R.remaining input.new) records
         × IsMeasuredSoFar records measure)
         (FailsAfterRecords fragment.old.header (R.remaining input.old) (R.remaining input.new)) }
-    ensures counted { CountsAnswer (R.failures input.old) (R.failures input.new) result }
+    ensures counted { CountsReadFailures (R.failures input.old) (R.failures input.new) result }
 {
     header_is_layout(fragment.header());
     let mut measure: Option<Measure> = None;
@@ -51,8 +51,8 @@ pub fn plan_canonical<R: Input>(
 ) -> Result<CanonicalPlan, FragmentFault>
     ensures answer { MatchResult result
         (ReadsPlan (R.remaining input.old) (R.remaining input.new))
-        (IsFragmentFault (R.remaining input.old) (R.remaining input.new)) }
-    ensures counted { CountsAnswer (R.failures input.old) (R.failures input.new) result }
+        (ReadsFragmentFault (R.remaining input.old) (R.remaining input.new)) }
+    ensures counted { CountsReadFailures (R.failures input.old) (R.failures input.new) result }
 {
     let mut fragment = OpenFragment::read(alloc, input)?;
     match measure_records(&mut fragment, input)? {

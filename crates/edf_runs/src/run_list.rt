@@ -1,7 +1,7 @@
 ghost use Rattle.std.specs.Prelude.{◌≡◌, ◌≤◌, List, MatchResult};
 ghost use Rattle.edf_fragment.specs.Fragment.{DataRecord};
-ghost use Rattle.edf_fragment.specs.Reading.{CountsAnswer, initial_progress};
-ghost use Rattle.edf_fragment.specs.Whole.{FailsAfterRecords, IsFragmentFault};
+ghost use Rattle.edf_fragment.specs.Reading.{CountsReadFailures, initial_progress};
+ghost use Rattle.edf_fragment.specs.Whole.{FailsAfterRecords, ReadsFragmentFault};
 ghost use Rattle.edf_fragment.specs.Inside.Steps.{ReadsRecords};
 ghost use Rattle.edf_runs.specs.Runs.{AreListed};
 ghost use Rattle.edf_runs.specs.Read.{ReadsRuns};
@@ -38,7 +38,7 @@ fn list_records<R: Input>(
         (R.remaining input.old) (R.remaining input.new) records
         × AreListed duration records runs.items)
         (FailsAfterRecords fragment.old.header (R.remaining input.old) (R.remaining input.new)) }
-    ensures counted { CountsAnswer (R.failures input.old) (R.failures input.new) result }
+    ensures counted { CountsReadFailures (R.failures input.old) (R.failures input.new) result }
 {
     header_is_layout(fragment.header());
     let mut runs = Vec::new(alloc);
@@ -63,8 +63,8 @@ fn list_records<R: Input>(
 pub fn list_runs<R: Input>(alloc: Global, input: &mut R) -> Result<Listing, FragmentFault>
     ensures answer { MatchResult result
         (ReadsRuns (R.remaining input.old) (R.remaining input.new))
-        (IsFragmentFault (R.remaining input.old) (R.remaining input.new)) }
-    ensures counted { CountsAnswer (R.failures input.old) (R.failures input.new) result }
+        (ReadsFragmentFault (R.remaining input.old) (R.remaining input.new)) }
+    ensures counted { CountsReadFailures (R.failures input.old) (R.failures input.new) result }
 {
     let mut fragment = OpenFragment::read(alloc, input)?;
     let duration = fragment.header().identity().duration();

@@ -6,20 +6,20 @@ use Rattle.std.proofs.KnownBytes.{Consumes-trans}
 use Rattle.std.proofs.lemmas.List.{take_more}
 use Rattle.edf_header.specs.Header.{Layout}
 use Rattle.edf_tal.specs.declared.place.Place.{Place}
-use Rattle.edf_fragment.specs.Fragment.{DataRecord, AreDataRecords, place_after}
+use Rattle.edf_fragment.specs.Fragment.{DataRecord, BeginWithDataRecords, place_after}
 use Rattle.edf_fragment.specs.declared.advance.Progress.{Progress}
 use Rattle.edf_fragment.specs.declared.advance.ReaderState.TheVariants.{Reading}
 use Rattle.edf_runs.specs.Read.{ReadsOn}
 
 -- data records, and then others
 records-then : (l : Layout) (p q r : Place) (a b : List ℕ) (xs ys : List DataRecord) →
-    AreDataRecords l p a xs q [] → AreDataRecords l q b ys r [] →
-    AreDataRecords l p (a ++ b) (xs ++ ys) r []
+    BeginWithDataRecords l p a xs q [] → BeginWithDataRecords l q b ys r [] →
+    BeginWithDataRecords l p (a ++ b) (xs ++ ys) r []
 records-then l p q r a b [] ys first then =
     let place = first.0 in
     let none = first.1 in
-    subst (λ (z : List ℕ). AreDataRecords l p (z ++ b) ys r []) none
-    (subst (λ (z : Place). AreDataRecords l z b ys r []) place then)
+    subst (λ (z : List ℕ). BeginWithDataRecords l p (z ++ b) ys r []) none
+    (subst (λ (z : Place). BeginWithDataRecords l z b ys r []) place then)
 records-then l p q r a b (x ∷ xs) ys first then =
     let front = first.0 in
     let back = first.1 in (

@@ -9,7 +9,7 @@ use Rattle.edf_field.specs.Number.{duration_of}
 use Rattle.edf_header.specs.Key.{Key}
 use Rattle.edf_header.specs.Header.{Layout}
 use Rattle.edf_fragment.specs.Fragment.{DataRecord}
-use Rattle.edf_fragment.specs.Reading.{IsAnswerInState, IsEndOfRecords}
+use Rattle.edf_fragment.specs.Reading.{IsNextAnswerInState, IsEndOfRecords}
 use Rattle.edf_fragment.specs.declared.advance.Progress.{Progress}
 use Rattle.edf_fragment.specs.declared.advance.ReaderState.{ReaderState}
 use Rattle.edf_fragment.specs.declared.advance.ReaderState.TheVariants.{Reading}
@@ -113,8 +113,9 @@ module _ (m : Making) (bytes : Option (List ℕ)) (listing : Listing) (names : L
 
     ended : IsAtEnd l mid to left rest → IsEndOfRecords l mid left rest
     ended ends =
-        let a : IsAnswerInState Reading l mid to left rest (Ok None) =
-        subst (λ (s : ReaderState). IsAnswerInState s l mid to left rest (Ok None)) makes.read.state
+        let a : IsNextAnswerInState Reading l mid to left rest (Ok None) =
+        subst (λ (s : ReaderState). IsNextAnswerInState s l mid to left rest (Ok None))
+        makes.read.state
         ends in
         a.1
 
@@ -127,7 +128,7 @@ module _ (m : Making) (bytes : Option (List ℕ)) (listing : Listing) (names : L
         let on = makes.read in
         record {
           bytes = on.bytes;
-          last = mid.place;
+          next_place = mid.place;
           read = subst (Consumes start rest) (append-nil on.bytes)
               (Consumes-trans start left rest on.bytes [] on.read end.read);
           end = end.end;

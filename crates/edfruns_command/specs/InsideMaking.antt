@@ -4,7 +4,7 @@ use Rattle.std.specs.List.{flat_map, AllZip}
 use Rattle.edf_field.specs.Number.{duration_of}
 use Rattle.edf_header.specs.Header.{Layout}
 use Rattle.edf_fragment.specs.Fragment.{DataRecord}
-use Rattle.edf_fragment.specs.Reading.{IsAnswer, initial_progress}
+use Rattle.edf_fragment.specs.Reading.{IsNextAnswer, initial_progress}
 use Rattle.edf_fragment.specs.declared.advance.Progress.{Progress}
 use Rattle.edf_fragment.specs.declared.fault.FragmentFault.{FragmentFault}
 use Rattle.edf_runs.specs.Again.{ComesNext}
@@ -30,12 +30,12 @@ use Rattle.edfruns_command.specs.declared.stop.Stop.TheVariants as stop
 -- ---- the end
 
 abbrev pub IsAtEnd : Layout → Progress → Progress → Option (List ℕ) → Option (List ℕ) → Type 0
-IsAtEnd l from to left rest = IsAnswer l from to left rest (Ok None)
+IsAtEnd l from to left rest = IsNextAnswer l from to left rest (Ok None)
 
 pub record StopsAtEnd (l : Layout) (from to : Progress) (left rest : Option (List ℕ))
     (why : WriteFault) : Type 0 where
   pub answer : Result (Option DataRecord) FragmentFault
-  pub is_answer : IsAnswer l from to left rest answer
+  pub is_answer : IsNextAnswer l from to left rest answer
   pub is_why : IsNoEnd answer why
 
 -- ---- one file

@@ -1,6 +1,6 @@
 -- What is found where the runs of a file are listed, and what is written where it has none.
 use Rattle.std.specs.Prelude.{◌≡◌, ℕ, ◌≤◌, List, ◌++◌, Option, replicate}
-use Rattle.edf_fragment.specs.Whole.{IsFragmentFault}
+use Rattle.edf_fragment.specs.Whole.{ReadsFragmentFault}
 use Rattle.edf_fragment.specs.declared.fault.FragmentFault.{FragmentFault}
 use Rattle.edf_cli.specs.Output.{OutputChange, Explains}
 use Rattle.edf_cli.specs.Text.{memory_line}
@@ -27,7 +27,7 @@ pub record HasRuns (bytes : Option (List ℕ)) (listing : Listing) : Type 0 wher
 -- it was read up to this fault
 pub record HasFault (bytes : Option (List ℕ)) (fault : FragmentFault) : Type 0 where
   pub rest : Option (List ℕ)
-  pub met : IsFragmentFault bytes rest fault
+  pub met : ReadsFragmentFault bytes rest fault
 
 module _ (out err : OutputChange) (bytes : Option (List ℕ)) (name : List ℕ) (status : Status) where
   -- memory ran out, and nothing went to `out`

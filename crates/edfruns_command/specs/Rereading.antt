@@ -7,7 +7,7 @@ use Rattle.edf_header.specs.Header.{Layout}
 use Rattle.edf_header.specs.Key.{Key}
 use Rattle.edf_fragment.specs.Failures.{saturating_increment}
 use Rattle.edf_fragment.specs.Fragment.{DataRecord}
-use Rattle.edf_fragment.specs.Reading.{ReadsHeader, IsAnswer, initial_progress}
+use Rattle.edf_fragment.specs.Reading.{ReadsHeader, IsNextAnswer, initial_progress}
 use Rattle.edf_fragment.specs.declared.advance.Progress.{Progress}
 use Rattle.edf_fragment.specs.declared.fault.FragmentFault.{FragmentFault}
 use Rattle.edf_runs.specs.Again.{IsNotReopened, ComesNext, fault_again}
@@ -81,7 +81,7 @@ pub record StopsAfter (l : Layout) (start rest : Option (List ℕ)) (runs : List
   pub passes : PassesRuns l from start left runs
   pub to : Progress
   pub answer : Result (Option DataRecord) FragmentFault
-  pub is_answer : IsAnswer l from to left rest answer
+  pub is_answer : IsNextAnswer l from to left rest answer
   pub is_why : IsNoEnd answer why
 
 -- it came to the run whose file has this name, after so many, which are whole; so many files were

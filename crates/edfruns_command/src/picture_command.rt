@@ -3,7 +3,7 @@
 ghost use Rattle.std.specs.Prelude.{◌≡◌, ◌⊎◌, ◌++◌, ◌≤◌, ℕ, List, MatchResult, replicate};
 ghost use Rattle.edf_fragment.specs.Fragment.{DataRecord};
 ghost use Rattle.edf_fragment.specs.Reading.{initial_progress};
-ghost use Rattle.edf_fragment.specs.Whole.{FailsAfterRecords, IsFragmentFault};
+ghost use Rattle.edf_fragment.specs.Whole.{FailsAfterRecords, ReadsFragmentFault};
 ghost use Rattle.edf_fragment.specs.Inside.Steps.{ReadsRecords};
 ghost use Rattle.edf_cli.specs.Output.{output_change};
 ghost use Rattle.edf_runs.specs.ByOnset.{annotations_of};
@@ -126,7 +126,7 @@ fn see_file<R: Input>(alloc: Global, input: &mut R) -> Result<SeenFile, Fragment
           identity = seen.identity;
           runs = seen.sight.runs;
         }) × ReadsNotes (R.remaining input.old) (R.remaining input.new) seen.sight.notes.items)
-        (IsFragmentFault (R.remaining input.old) (R.remaining input.new)) }
+        (ReadsFragmentFault (R.remaining input.old) (R.remaining input.new)) }
 {
     let mut fragment = OpenFragment::read(alloc, input)?;
     let duration = fragment.header().identity().duration();

@@ -5,7 +5,7 @@ use Rattle.std.specs.Io.KnownBytes.{Appends}
 use Rattle.edf_header.specs.declared.limits.TheConstants.{MOST_RECORDS}
 use Rattle.edf_header.specs.Key.{Key, IsKey}
 use Rattle.edf_fragment.specs.Fragment.{DataRecord}
-use Rattle.edf_fragment.specs.Sound.{AreSound, MayBegin}
+use Rattle.edf_fragment.specs.Sound.{AreSoundFrom, FirstMayStart}
 use Rattle.edf_store.specs.Fault.{IsStoreRefusal}
 use Rattle.edf_store.specs.declared.fault.StoreFault.{StoreFault}
 use Rattle.edf_store.specs.declared.fault.StoreFault.TheVariants.{Foreign}
@@ -23,8 +23,8 @@ use Rattle.edf_export.specs.declared.fault.ExportFault.TheVariants.{Write}
 -- the records are sound ones of the key with which its recording may begin, and at most `cap`
 pub record IsSoundRecording (cap : ℕ) (k : Key) (records : List DataRecord) : Type 0 where
   pub key : IsKey k
-  pub sound : AreSound k 0 records
-  pub begins : MayBegin k records
+  pub sound : AreSoundFrom k 0 records
+  pub begins : FirstMayStart k records
   pub few : length records ≤ cap
 
 -- the plan is that of the records' file

@@ -8,7 +8,7 @@ use Rattle.edf_header.specs.declared.fault.HeaderFault.{HeaderFault}
 use Rattle.edf_header.specs.declared.fault.HeaderFault.TheVariants.{CutSignals}
 use Rattle.edf_tal.specs.declared.place.Place.{Place}
 use Rattle.edf_tal.specs.declared.place.Place.TheVariants.{First}
-use Rattle.edf_fragment.specs.Fragment.{DataRecord, AreDataRecords}
+use Rattle.edf_fragment.specs.Fragment.{DataRecord, BeginWithDataRecords}
 use Rattle.edf_fragment.specs.Stops.{ReadsFewerBytes}
 use Rattle.edf_fragment.specs.declared.fault.FragmentFault.{FragmentFault}
 use Rattle.edf_fragment.specs.declared.fault.FragmentFault.TheVariants.{Header as BadHeader}
@@ -21,7 +21,7 @@ pub record ReadsFixed (input rest : Option (List ℕ)) (fixed : FixedPart) : Typ
   pub is_fixed : IsFixedHeader bytes fixed
 
 -- the bytes that were read are the signal headers after this fixed part
-pub record ReadsSignals (input rest : Option (List ℕ)) (fixed : FixedPart)
+pub record ReadsSignalHeaders (input rest : Option (List ℕ)) (fixed : FixedPart)
     (layout : Layout) : Type 0
   where
     pub bytes : List ℕ
@@ -32,7 +32,8 @@ pub record ReadsSignals (input rest : Option (List ℕ)) (fixed : FixedPart)
     pub layout_is : layout ≡ layout_of header
 
 -- the bytes that were read have this fault as n signals; where they are too few, no more follow
-pub record ReadsSignalsFault (input rest : Option (List ℕ)) (n : ℕ) (fault : HeaderFault) : Type 0
+pub record ReadsSignalHeadersFault (input rest : Option (List ℕ)) (n : ℕ)
+    (fault : HeaderFault) : Type 0
   where
     pub bytes : List ℕ
     pub read : Consumes input rest bytes
@@ -41,18 +42,18 @@ pub record ReadsSignalsFault (input rest : Option (List ℕ)) (n : ℕ) (fault :
     pub ended : fault ≡ CutSignals → IsAtEnd rest
 
 -- memory ran out before a byte of n signals was read, or after signals that have no fault
-pub record LacksSignalsMemory (input rest : Option (List ℕ)) (n : ℕ) : Type 0 where
+pub record RunsOutOfMemoryInSignalHeaders (input rest : Option (List ℕ)) (n : ℕ) : Type 0 where
   pub bytes : List ℕ
   pub read : Consumes input rest bytes
   pub within : length bytes ≤ 256 * n
   pub clean : (bytes ≡ []) ⊎ IsClean (SignalsFail bytes n) 21
 
 -- there are no signal headers, for a fault of the bytes, a failed read, or want of memory
-abbrev pub IsSignalsFault : Option (List ℕ) → Option (List ℕ) → ℕ → FragmentFault → Type 0
-IsSignalsFault input rest n (BadHeader fault) = ReadsSignalsFault input rest n fault
-IsSignalsFault input rest n Read = ReadsFewerBytes (256 * n) input rest
-IsSignalsFault input rest n Memory = LacksSignalsMemory input rest n
-IsSignalsFault input rest n fault = ⊥
+abbrev pub IsSignalHeadersFault : Option (List ℕ) → Option (List ℕ) → ℕ → FragmentFault → Type 0
+IsSignalHeadersFault input rest n (BadHeader fault) = ReadsSignalHeadersFault input rest n fault
+IsSignalHeadersFault input rest n Read = ReadsFewerBytes (256 * n) input rest
+IsSignalHeadersFault input rest n Memory = RunsOutOfMemoryInSignalHeaders input rest n
+IsSignalHeadersFault input rest n fault = ⊥
 
 -- nothing was read, and the input is at its end
 abbrev pub ReadsEnd : Option (List ℕ) → Option (List ℕ) → Type 0
@@ -68,9 +69,9 @@ IsEndFault input rest fault = ⊥
 pub record ReadsRecords (l : Layout) (input rest : Option (List ℕ))
     (records : List DataRecord) : Type 0 where
   pub bytes : List ℕ
-  pub last : Place
+  pub next_place : Place
   pub read : Consumes input rest bytes
   pub end : IsAtEnd rest
-  pub are_records : AreDataRecords l First bytes records last []
+  pub are_records : BeginWithDataRecords l First bytes records next_place []
   pub least : least_records l.count ≤ length records
   pub most : length records ≤ most_records l.count

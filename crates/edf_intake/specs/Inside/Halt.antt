@@ -2,8 +2,8 @@
 use Rattle.std.specs.Prelude.{◌≡◌, ℕ, List, Option}
 use Rattle.sqlite_trees.specs.declared.store.Store.{Ghosts}
 use Rattle.edf_header.specs.Header.{Layout}
-use Rattle.edf_fragment.specs.Reading.{ReadsHeader, CountsFault}
-use Rattle.edf_fragment.specs.Whole.{IsFragmentFault}
+use Rattle.edf_fragment.specs.Reading.{ReadsHeader, CountsReadFault}
+use Rattle.edf_fragment.specs.Whole.{ReadsFragmentFault}
 use Rattle.edf_fragment.specs.declared.fault.FragmentFault.{FragmentFault}
 use Rattle.edf_fragment.specs.declared.fault.FragmentFault.TheVariants.{Read as NoRead}
 use Rattle.edf_fragment.specs.declared.fault.FragmentFault.TheVariants.{Memory as NoMemory}
@@ -34,8 +34,8 @@ store_refusal fault = Refused fault
 abbrev pub HaltsReading : {S : Type 0} → Ghosts S → StoreTx S → InputState → InputState → Stop →
     Type 0
 HaltsReading g tx from to (Input refusal) = (fault : FragmentFault)
-    × (refusal ≡ fragment_refusal fault)
-    × IsFragmentFault from.remaining to.remaining fault × CountsFault from.failed to.failed fault
+    × (refusal ≡ fragment_refusal fault) × ReadsFragmentFault from.remaining to.remaining fault
+    × CountsReadFault from.failed to.failed fault
 HaltsReading g tx from to (Store fault) = ReadsSome from to × HasCauseOrIsUnclean g tx fault
 
 -- reading halts so, if `from` is taken as it was before the header was read

@@ -7,7 +7,7 @@ use Rattle.edf_header.specs.Header.{Layout, least_records, most_records}
 use Rattle.edf_tal.specs.declared.place.Place.{Place}
 use Rattle.edf_tal.specs.declared.place.Place.TheVariants.{First}
 use Rattle.edf_header.specs.declared.fault.HeaderFault.TheVariants.{UnprintableSignals}
-use Rattle.edf_fragment.specs.Fragment.{DataRecord, AreDataRecords}
+use Rattle.edf_fragment.specs.Fragment.{DataRecord, BeginWithDataRecords}
 use Rattle.edf_fragment.specs.declared.fault.FragmentFault.{FragmentFault}
 use Rattle.edf_fragment.specs.declared.fault.FragmentFault.TheVariants.{Header as BadHeader}
 use Rattle.edf_fragment.specs.declared.open_fragment.OpenFragment.{OpenFragment}
@@ -194,7 +194,7 @@ pub record ArePut (l : Layout) (news : List (List ℕ)) (p : Progress) (a b : Bu
   pub news_are : news ≡ done ++ later
   pub records : List DataRecord
   pub last : Place
-  pub are : AreDataRecords l First (concatenated done) records last []
+  pub are : BeginWithDataRecords l First (concatenated done) records last []
   pub most : length records ≤ most_records l.count
   pub as_many : length records ≡ length done
   pub wrote : Writes a b (concatenated done) b.held

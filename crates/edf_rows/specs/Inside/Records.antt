@@ -10,7 +10,7 @@ use Rattle.edf_tables.specs.Columns.{the_start}
 use Rattle.edf_field.specs.Number.{duration_of}
 use Rattle.edf_header.specs.Key.{Key, MayStart}
 use Rattle.edf_fragment.specs.Fragment.{DataRecord}
-use Rattle.edf_fragment.specs.Sound.{AreSound, MayBegin}
+use Rattle.edf_fragment.specs.Sound.{AreSoundFrom, FirstMayStart}
 use Rattle.edf_tables.specs.Cells.{first_three}
 use Rattle.edf_rows.specs.Cells.{record_cells}
 use Rattle.edf_rows.specs.Foreign.{IsBadRow, AreBadRecords}
@@ -69,8 +69,8 @@ IsWrong k last row = IsBadRow k row ⊎ (IsNear k last row ⊎ IsLateFirst k las
 pub record HasSound (cap : ℕ) (k : Key) (rows : List Row) (count : ℕ) : Type 0 where
   pub records : List DataRecord
   pub shown : rows ≡ map record_cells records
-  pub sound : AreSound k 0 records
-  pub begins : MayBegin k records
+  pub sound : AreSoundFrom k 0 records
+  pub begins : FirstMayStart k records
   pub some : rows ≢ []
   pub few : length records ≤ cap
   pub count_is : count ≡ length records

@@ -8,7 +8,7 @@ use Rattle.edf_tal.specs.Block.{BlockParsesTo}
 use Rattle.edf_tal.specs.declared.place.Place.TheVariants.{Any}
 use Rattle.edf_tal.specs.Canonical.{tals_text}
 use Rattle.edf_fragment.specs.Fragment.{DataRecord}
-use Rattle.edf_fragment.specs.Sound.{AreSound, MayBegin}
+use Rattle.edf_fragment.specs.Sound.{AreSoundFrom, FirstMayStart}
 use Rattle.edf_rows.specs.Cells.{record_cells, recording_cells, records_in}
 
 -- the block parses to nothing, whichever place it has in a file
@@ -32,8 +32,8 @@ pub record HasRecords (cap : ℕ) (trees : Trees) (row : Row) : Type 0 where
   pub records : List DataRecord
   pub cells : row ≡ recording_cells id key
   pub is_key : IsKey key
-  pub sound : AreSound key 0 records
-  pub begins : MayBegin key records
+  pub sound : AreSoundFrom key 0 records
+  pub begins : FirstMayStart key records
   pub shown : records_in trees id ≡ map record_cells records
   pub some : records_in trees id ≢ []
   pub few : length records ≤ cap

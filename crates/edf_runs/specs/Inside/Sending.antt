@@ -3,7 +3,7 @@ use Rattle.std.specs.Prelude.{◌≡◌, ◌+◌, min, slice_get, unwrap_or}
 use Rattle.std.specs.Prelude.{Option, Some, None, Result, Ok, Err}
 use Rattle.edf_header.specs.declared.limits.TheConstants.{MOST_RECORDS}
 use Rattle.edf_fragment.specs.Fragment.{DataRecord}
-use Rattle.edf_fragment.specs.Reading.{IsAnswer}
+use Rattle.edf_fragment.specs.Reading.{IsNextAnswer}
 use Rattle.edf_fragment.specs.Sound.{IsSoundRecord}
 use Rattle.edf_fragment.specs.declared.fault.FragmentFault.{FragmentFault}
 use Rattle.edf_fragment.specs.declared.open_fragment.OpenFragment.{OpenFragment}
@@ -31,15 +31,16 @@ module _ {R : Type 0} (g : Ghosts R) where
   abbrev pub AnswersAgain : WholeAgain → OpenFragment → R → WholeAgain → OpenFragment → R →
       Result (Option DataRecord) WriteFault → Type 0
   AnswersAgain from old left to new rest (Ok (Some r)) =
-      IsAnswer old.header old.progress new.progress (g.remaining left) (g.remaining rest)
+      IsNextAnswer old.header old.progress new.progress (g.remaining left) (g.remaining rest)
       (Ok (Some r))
-      × IsSoundRecord old.header.key r × IsAlike from r
-      × (to.nth ≡ min (from.nth + 1) MOST_RECORDS)
+      × IsSoundRecord old.header.key r × IsAlike from r × (to.nth ≡ min (from.nth + 1) MOST_RECORDS)
   AnswersAgain from old left to new rest (Ok None) =
-      IsAnswer old.header old.progress new.progress (g.remaining left) (g.remaining rest) (Ok None)
+      IsNextAnswer old.header old.progress new.progress (g.remaining left) (g.remaining rest)
+      (Ok None)
   AnswersAgain from old left to new rest (Err fault) =
       (answer : Result (Option DataRecord) FragmentFault)
-      × IsAnswer old.header old.progress new.progress (g.remaining left) (g.remaining rest) answer
+      × IsNextAnswer old.header old.progress new.progress (g.remaining left)
+      (g.remaining rest) answer
       × IsFaultAgain from answer fault
 
   -- after which the header and what was kept are as they were

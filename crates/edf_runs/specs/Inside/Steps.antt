@@ -4,9 +4,9 @@ use Rattle.std.specs.Prelude.{Option, Some, Ok, Result, MatchResult}
 use Rattle.edf_field.specs.Number.{duration_of}
 use Rattle.edf_header.specs.Header.{Layout, most_records}
 use Rattle.edf_tal.specs.declared.place.Place.{Place}
-use Rattle.edf_fragment.specs.Fragment.{DataRecord, AreDataRecords}
+use Rattle.edf_fragment.specs.Fragment.{DataRecord, BeginWithDataRecords}
 use Rattle.edf_fragment.specs.Sound.{IsSoundRecord}
-use Rattle.edf_fragment.specs.Reading.{ReadsRecord, IsAnswer, progress_after}
+use Rattle.edf_fragment.specs.Reading.{ReadsRecord, IsNextAnswer, progress_after}
 use Rattle.edf_fragment.specs.declared.advance.Progress.{Progress}
 use Rattle.edf_fragment.specs.declared.advance.ReaderState.TheVariants.{Reading}
 use Rattle.edf_canonical.specs.declared.fault.OutputFault.{OutputFault}
@@ -44,7 +44,7 @@ CountsSending reads reads' writes writes' result =
 pub record StepsOn (l : Layout) (from to : Progress) (left rest : Option (List ℕ)) (instant : ℕ)
     (r : DataRecord) : Type 0 where
   pub going : from.state ≡ Reading
-  pub is_answer : IsAnswer l from to left rest (Ok (Some r))
+  pub is_answer : IsNextAnswer l from to left rest (Ok (Some r))
   pub progress : to ≡ progress_after l from (Ok (Some r))
   pub gives : ReadsRecord l from left rest r
   pub sound : IsSoundRecord l.key r
@@ -61,7 +61,7 @@ pub record HasOthers (l : Layout) (to : Progress) (rest : Option (List ℕ))
   pub known : rest ≡ Some bytes
   pub last : Place
   pub after : List ℕ
-  pub are_records : AreDataRecords l to.place bytes others last after
+  pub are_records : BeginWithDataRecords l to.place bytes others last after
   pub within : to.given + length others ≤ most_records l.count
 
 -- the data records that were read so far, as many as `count`; the next one is to start at `next`;

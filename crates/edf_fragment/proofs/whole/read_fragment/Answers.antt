@@ -1,7 +1,7 @@
 use Rattle.std.proofs.Common.{◌≡◌, ℕ, ◌∙◌, sym, subst, rules}
 use Rattle.std.proofs.lemmas.Result.{err_from_is_err_and}
 use Rattle.edf_header.specs.Header.{Layout}
-use Rattle.edf_fragment.specs.Reading.{CountsFault}
+use Rattle.edf_fragment.specs.Reading.{CountsReadFault}
 use Rattle.edf_fragment.specs.Whole.{ReadsFragment}
 use Rattle.edf_fragment.proofs.Fragments.{open_refused, fragment_read, records_refused}
 use Rattle.edf_fragment.proofs.whole.read_fragment.Goals as goal
@@ -30,9 +30,9 @@ pub returns-in_err-records : goal.returns-in_err-records
 returns-in_err-records g c =
     let p = err_from_is_err_and c.from_residual-in_err-records.result
     c.from_residual-in_err-records.ensures.1 in
-    let counted : CountsFault (g.R.Input.failures c.args.input.now)
+    let counted : CountsReadFault (g.R.Input.failures c.args.input.now)
     (g.R.Input.failures c.read_records.new.input) c.in_err-records.field-0.0 =
-    subst (λ (n : ℕ). CountsFault n (g.R.Input.failures c.read_records.new.input)
+    subst (λ (n : ℕ). CountsReadFault n (g.R.Input.failures c.read_records.new.input)
     c.in_err-records.field-0.0) c.in_ok-fragment.ensures.counted
     c.in_err-records.ensures.read.counted in
     rw (p.1, p.2) (record {

@@ -5,7 +5,7 @@ use Rattle.edf_header.specs.Key.{Key, MayStart}
 use Rattle.edf_header.specs.Header.{Layout, IsLayout}
 use Rattle.edf_header.proofs.Cited.{header-has-layout}
 use Rattle.edf_fragment.specs.Fragment.{DataRecord}
-use Rattle.edf_fragment.specs.Reading.{IsAnswer, CountsFault, initial_progress}
+use Rattle.edf_fragment.specs.Reading.{IsNextAnswer, CountsReadFault, initial_progress}
 use Rattle.edf_fragment.specs.declared.advance.Progress.{Progress}
 use Rattle.edf_fragment.proofs.Runs.{next_of}
 use Rattle.edf_fragment.proofs.Fragments.{one_more_read, refused_then}
@@ -68,9 +68,9 @@ take_record-requires-clause-next g c =
     let same : c.identity-identity.result.now ≡ l.key = c.identity-identity.ensures
     ∙ ap (λ (x : Layout). x.key) (c.header.ensures
     ∙ (c.in-Ok-Some.ensures.header ∙ inv.header)) in
-    let answer = subst (λ (o : Option DataRecord). IsAnswer l from to mid rest (Ok o))
+    let answer = subst (λ (o : Option DataRecord). IsNextAnswer l from to mid rest (Ok o))
     c.in-Ok-Some.field-0-is
-    (subst (λ (x : Layout). IsAnswer x from to mid rest (Ok c.in-Ok-Some.field-0)) inv.header
+    (subst (λ (x : Layout). IsNextAnswer x from to mid rest (Ok c.in-Ok-Some.field-0)) inv.header
     c.in-Ok-Some.ensures.answer) in
     let step = next_of l from to mid rest (Some r) r inv.reading answer refl in
     let layout : IsLayout l = subst IsLayout (sym head.layout_is)
@@ -115,9 +115,9 @@ returns-in-Err-take_record-clause-halted g c left head =
     let from = c.records.fragment.progress in
     let to = c.next.new.self.progress in
     let r = c.in-Ok-Some.data_record in
-    let answer = subst (λ (o : Option DataRecord). IsAnswer l from to mid rest (Ok o))
+    let answer = subst (λ (o : Option DataRecord). IsNextAnswer l from to mid rest (Ok o))
     c.in-Ok-Some.field-0-is
-    (subst (λ (x : Layout). IsAnswer x from to mid rest (Ok c.in-Ok-Some.field-0)) inv.header
+    (subst (λ (x : Layout). IsNextAnswer x from to mid rest (Ok c.in-Ok-Some.field-0)) inv.header
     c.in-Ok-Some.ensures.answer) in (
       record {
         layout = l;
@@ -154,9 +154,9 @@ records-preserved g c =
     let taken = subst (λ (k : Key). IsRecordTaken g.S.Store c.records.transaction
     c.take_record.new.transaction k r id spare c.records.course c.in-Ok.next) same
     c.in-Ok.ensures.taken in
-    let answer = subst (λ (o : Option DataRecord). IsAnswer l from to mid rest (Ok o))
+    let answer = subst (λ (o : Option DataRecord). IsNextAnswer l from to mid rest (Ok o))
     c.in-Ok-Some.field-0-is
-    (subst (λ (x : Layout). IsAnswer x from to mid rest (Ok c.in-Ok-Some.field-0)) inv.header
+    (subst (λ (x : Layout). IsNextAnswer x from to mid rest (Ok c.in-Ok-Some.field-0)) inv.header
     c.in-Ok-Some.ensures.answer) in
     let step = next_of l from to mid rest (Some r) r inv.reading answer refl in
     let was : HasCleanDisk (at g.S.Store next) → HasCleanDisk (at g.S.Store now) =
@@ -196,9 +196,9 @@ returns-in-Ok-None-clause-taken g c =
     let rest = g.R.Input.remaining c.next.new.input in
     let from = c.records.fragment.progress in
     let to = c.next.new.self.progress in
-    let answer = subst (λ (o : Option DataRecord). IsAnswer l from to mid rest (Ok o))
+    let answer = subst (λ (o : Option DataRecord). IsNextAnswer l from to mid rest (Ok o))
     c.in-Ok-None.field-0-is
-    (subst (λ (x : Layout). IsAnswer x from to mid rest (Ok c.in-Ok-None.field-0)) inv.header
+    (subst (λ (x : Layout). IsNextAnswer x from to mid rest (Ok c.in-Ok-None.field-0)) inv.header
     c.in-Ok-None.ensures.answer) in
     let end = at_end g.S.Store c.args.transaction.now.store.now l c.requires.header.before
     (g.R.Input.remaining c.args.input.now) c.requires.header.header c.args.destination.spare
@@ -227,12 +227,13 @@ returns-in-Err-clause-halted g c left head =
     let rest = g.R.Input.remaining c.next.new.input in
     let from = c.records.fragment.progress in
     let to = c.next.new.self.progress in
-    let answer = subst (λ (x : Layout). IsAnswer x from to mid rest (Err c.in-Err.fault)) inv.header
+    let answer = subst (λ (x : Layout). IsNextAnswer x from to mid rest (Err c.in-Err.fault))
+    inv.header
     c.in-Err.ensures.answer in (
       c.in-Err.fault,
       c.fragment_refusal.ensures,
       refused_then l left first mid rest inv.so_far.records from to c.in-Err.fault head
           inv.so_far.read inv.reading answer,
-      subst (λ (n : ℕ). CountsFault n (g.R.Input.failures c.next.new.input) c.in-Err.fault)
+      subst (λ (n : ℕ). CountsReadFault n (g.R.Input.failures c.next.new.input) c.in-Err.fault)
           inv.counted c.in-Err.ensures.counted,
     )

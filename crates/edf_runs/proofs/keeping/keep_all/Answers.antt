@@ -5,7 +5,7 @@ use Rattle.std.proofs.lemmas.List.{nil_from_length}
 use Rattle.std.proofs.lemmas.List.Elements.{All-nil, All-push}
 use Rattle.edf_header.specs.declared.limits.TheConstants.{MOST_RECORDS}
 use Rattle.edf_tal.specs.Block.{IsWithinLimits}
-use Rattle.edf_fragment.specs.Fragment.{DataRecord, IsWithinSize}
+use Rattle.edf_fragment.specs.Fragment.{DataRecord, IsRecordWithinLimits}
 use Rattle.edf_runs.specs.Runs.{AreListed}
 use Rattle.edf_runs.specs.Inside.Keeping.{AreKeptWithin}
 use Rattle.edf_runs.proofs.Growing.{nothing_listed}
@@ -78,7 +78,7 @@ returns-in_default c few =
       annotations = c.slot.inside.notes.items;
     } in
     let slot_is : slot ≡ parts_of [] = search rules in
-    let none : ¬ IsWithinSize (parts_of c.new.result.items) = search rules in
+    let none : ¬ IsRecordWithinLimits (parts_of c.new.result.items) = search rules in
     let bare : length c.new.result.items ≡ 0 = ap (λ (l : List ℕ). length l) c.new.ensures.items in
     record {
       before = ys;

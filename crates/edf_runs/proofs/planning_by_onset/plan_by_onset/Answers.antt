@@ -7,7 +7,7 @@ use Rattle.edf_header.specs.Header.{Layout}
 use Rattle.edf_header.specs.declared.limits.TheConstants.{MOST_RECORDS}
 use Rattle.edf_fragment.proofs.Fragments.{open_refused, fragment_read, records_refused}
 use Rattle.edf_fragment.specs.Fragment.{DataRecord}
-use Rattle.edf_fragment.specs.Reading.{CountsFault}
+use Rattle.edf_fragment.specs.Reading.{CountsReadFault}
 use Rattle.edf_canonical.specs.Measure.{IsMeasured, IsMeasuredSoFar}
 use Rattle.edf_runs.specs.ByOnset.{by_onset}
 use Rattle.edf_runs.specs.OnsetRead.{without_samples}
@@ -36,7 +36,7 @@ pub returns-in_err-gathered-clause-counted : goal.returns-in_err-gathered-clause
 returns-in_err-gathered-clause-counted g c =
     let p = err_from_is_err_and c.from_residual-in_err-gathered.result
     c.from_residual-in_err-gathered.ensures.1 in
-    let counts : CountsFault (g.R.Input.failures c.args.input.now)
+    let counts : CountsReadFault (g.R.Input.failures c.args.input.now)
     (g.R.Input.failures c.gather.new.input) c.in_err-gathered.field-0.0 = search rules in
     rw (p.1, p.2) (read-counts _ _ c.in_err-gathered.field-0.0 counts)
 
