@@ -32,7 +32,7 @@ only-file : (cap : ℕ) (h : Holdings) (k : Key) → IsSound cap h → cap ≤ M
     → (file : List ℕ) × IsOnlyFile file k (h k)
 only-file cap h k sound low some =
     let told : IsWellFormed (Fragment k (h k)) = held-sound cap h k sound some in
-    let few : length (h k) ≤ cap = sound.few k in
+    let few : length (h k) ≤ cap = sound.within_cap k in
     let file = some-file k (h k) told.0 told.1 told.2 (some-long (h k) some) (omega arith) in (
       file.0,
       record {

@@ -68,14 +68,14 @@ sound_recording cap s recording cursor h k n it =
       sound = are-sound-from k 0 (h k) ((IsGood-from_sound cap h sound).apart k)
           (Each-from_All (IsSoundRecord k) (h k) (sound.records k));
       begins = sound.begins k;
-      few = sound.few k;
+      within_cap = sound.within_cap k;
     }
 
 -- it has no more than the store may hold of one
 pub few_records : (cap : ℕ) (s : State) (recording : Option ℤ) (cursor : _) (h : Holdings)
     (k : Key) (n : ℕ) → IsCursorAfter cap s recording cursor h k n → length (h k) ≤ cap
 few_records cap s recording cursor h k n it =
-    (sound_recording cap s recording cursor h k n it).few
+    (sound_recording cap s recording cursor h k n it).within_cap
 
 -- ---- the store
 

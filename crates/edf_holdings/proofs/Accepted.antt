@@ -6,7 +6,7 @@ use Rattle.edf_fragment.specs.Fragment.{DataRecord}
 use Rattle.edf_fragment.specs.Parsed.{Parsed, Fragment, Fault}
 use Rattle.edf_holdings.specs.Holdings.{Holdings, with_records}
 use Rattle.edf_holdings.specs.Reply.{IsWellFormed, fits, after_one, after, reply, IsAccepted}
-use Rattle.edf_holdings.specs.ConflictFree.{Has}
+use Rattle.edf_holdings.specs.ConflictFree.{HasRecordUnder}
 use Rattle.edf_holdings.specs.Laws.{AreWellFormed}
 use Rattle.edf_holdings.specs.Meaning.{FromAccepted, AfterHasAccepted, RefusedChangesNothing}
 use Rattle.edf_holdings.proofs.Members.{In, in_joined}
@@ -22,8 +22,8 @@ use Rattle.edf_holdings.proofs.ConflictFree.{put_has}
 record Met (cap : ℕ) (h : Holdings) (t : Parsed) : Type 0 where
   same : (IsAccepted (reply cap h t) → ⊥) → after_one cap h t ≡ h
   adds : (k : Key) (y : DataRecord) → In y (after_one cap h t k) → In y (h k)
-      ⊎ (IsAccepted (reply cap h t) × Has k y t)
-  has : (k : Key) (y : DataRecord) → IsAccepted (reply cap h t) → Has k y t →
+      ⊎ (IsAccepted (reply cap h t) × HasRecordUnder k y t)
+  has : (k : Key) (y : DataRecord) → IsAccepted (reply cap h t) → HasRecordUnder k y t →
       In y (after_one cap h t k)
 
 met : (cap : ℕ) (h : Holdings) (t : Parsed) → IsWellFormed t → IsGood cap h → Met cap h t
@@ -43,7 +43,8 @@ met cap h (Fragment key records) w g = elim (cases_Bool (fits cap key records h)
       record {
         same = λ n. absurd (n i);
         adds = λ k y m. put_cases key records h (λ q l. In y l → In y (h q)
-            ⊎ (IsAccepted (reply cap h (Fragment key records)) × Has q y (Fragment key records)))
+            ⊎ (IsAccepted (reply cap h (Fragment key records))
+            × HasRecordUnder q y (Fragment key records)))
             (λ p. elim (in_joined y (h key) records p) [
               | inl q ↦ inl q
               | inr q ↦

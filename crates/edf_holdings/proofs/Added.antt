@@ -6,30 +6,31 @@ use Rattle.edf_field.specs.Number.{duration_of}
 use Rattle.edf_fragment.specs.Fragment.{DataRecord}
 use Rattle.edf_fragment.specs.Sound.{AreSoundFrom}
 use Rattle.edf_holdings.specs.Same.{same_record}
-use Rattle.edf_holdings.specs.Clash.{clashes, intervals_overlap, near_of}
+use Rattle.edf_holdings.specs.Clash.{clashes, intervals_overlap, overlapping}
 use Rattle.edf_holdings.specs.Rising.{insert}
 use Rattle.edf_holdings.specs.Holdings.{with_records, nothing_held}
-use Rattle.edf_holdings.specs.Laws.{NothingIsSound, AddStaysSound}
+use Rattle.edf_holdings.specs.Laws.{NothingHeldIsSound, AddStaysSound}
 use Rattle.edf_holdings.proofs.Same.{clashes-true}
 use Rattle.edf_holdings.proofs.Members.{In, AreFree}
 use Rattle.edf_holdings.proofs.Joining.{IsGood-from_sound, MayJoin, IsGood-put, apart-sound}
 use Rattle.edf_holdings.proofs.Sound.{IsSound-from, HasHolders-put, HasHolders-from_sound}
 
 -- where nothing is near, nothing meets
-none_meets : (d start : ℕ) (xs : List DataRecord) → near_of d start xs ≡ [] → (x : DataRecord) →
+none_meets : (d start : ℕ) (xs : List DataRecord) → overlapping d start xs ≡ [] → (x : DataRecord) →
     In x xs → intervals_overlap d start x ≡ true → ⊥
 none_meets d start [] e x m t = m
 none_meets d start (y ∷ ys) e x (inl p) t =
-    cc (sym (cond-true (intervals_overlap d start y) (y ∷ near_of d start ys) (near_of d start ys)
+    cc (sym (cond-true (intervals_overlap d start y) (y ∷ overlapping d start ys)
+    (overlapping d start ys)
     (subst (λ (u : DataRecord). intervals_overlap d start u ≡ true) (sym p) t)) ∙ e)
 none_meets d start (y ∷ ys) e x (inr m) t =
     none_meets d start ys
-    (cond_both (intervals_overlap d start y) (y ∷ near_of d start ys) (near_of d start ys)
-    (λ (l : List DataRecord). l ≡ [] → near_of d start ys ≡ []) (λ _ q. cc q) (λ _ q. q) e)
+    (cond_both (intervals_overlap d start y) (y ∷ overlapping d start ys) (overlapping d start ys)
+    (λ (l : List DataRecord). l ≡ [] → overlapping d start ys ≡ []) (λ _ q. cc q) (λ _ q. q) e)
     x m t
 
 pub free_where_none_near : (d : ℕ) (r : DataRecord) (xs : List DataRecord) →
-    near_of d r.start xs ≡ [] → AreFree d xs (r ∷ [])
+    overlapping d r.start xs ≡ [] → AreFree d xs (r ∷ [])
 free_where_none_near d r xs e q x (inl p) m =
     subst (λ (u : DataRecord). clashes d u x ≡ false) p
     (false_from_ne_true _ (λ t. let c = clashes-true d r x t in
@@ -59,9 +60,9 @@ add_stays_sound cap h key r s w sound none room first =
     may)
     (HasHolders-put key (r ∷ []) h w one first (HasHolders-from_sound cap h s))
 
-pub nothing_is_sound : NothingIsSound
+pub nothing_is_sound : NothingHeldIsSound
 nothing_is_sound cap = IsSound-from cap nothing_held
-    (record { rising = λ k. tt; apart = λ k. tt; few = λ k. omega arith })
+    (record { rising = λ k. tt; apart = λ k. tt; within_cap = λ k. omega arith })
     (record {
       records = λ k y m. absurd m;
       begins = λ k. tt;

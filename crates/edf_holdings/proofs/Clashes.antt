@@ -7,7 +7,7 @@ use Rattle.edf_fragment.specs.Fragment.{DataRecord}
 use Rattle.edf_holdings.specs.Clash.{Clash, clashes}
 use Rattle.edf_holdings.specs.Rising.{StartsAreSpaced, IsRising}
 use Rattle.edf_holdings.specs.Reply.{clash_or, first_clash}
-use Rattle.edf_holdings.specs.Meaning.{IsFirstClash, FirstClashExists, CountsAreNamed}
+use Rattle.edf_holdings.specs.Meaning.{IsFirstClash, FirstClashExists, RepliesNameTheCounts}
 use Rattle.edf_holdings.specs.Meaning.{NewRecordsAreCounted}
 use Rattle.edf_holdings.proofs.Same.{Clash-from_test, test_from_Clash}
 use Rattle.edf_holdings.proofs.Members.{In, AreFree, in_rest, length_joined}
@@ -117,7 +117,7 @@ free_of_clashes d xs rs n r s m k =
     false_from_ne_true _ (λ t. n r s (Contains-from_In rs r m) (Contains-from_In xs s k)
     (Clash-from_test d r s t))
 
-pub counts_are_named : CountsAreNamed
+pub counts_are_named : RepliesNameTheCounts
 counts_are_named cap h key records clear = counts-named cap h key records
     (no_first (duration_of key.duration) (h key) records
     (free_of_clashes (duration_of key.duration) (h key) records clear))

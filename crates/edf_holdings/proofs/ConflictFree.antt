@@ -14,8 +14,9 @@ use Rattle.edf_holdings.specs.Rising.{insert, union, IsRising}
 use Rattle.edf_holdings.specs.Holdings.{Holdings, with_records}
 use Rattle.edf_holdings.specs.Reply.{IsWellFormed, fits, after_one, after, reply, replies}
 use Rattle.edf_holdings.specs.Reply.{IsAccepted}
-use Rattle.edf_holdings.specs.ConflictFree.{union_with, union_with_all, IsConflictFree, Has}
-use Rattle.edf_holdings.specs.Laws.{AreWellFormed, AnyOrder, Recut}
+use Rattle.edf_holdings.specs.ConflictFree.{union_with, union_with_all, IsConflictFree}
+use Rattle.edf_holdings.specs.ConflictFree.{HasRecordUnder}
+use Rattle.edf_holdings.specs.Laws.{AreWellFormed, ConflictFreeIsAccepted, Recut}
 use Rattle.edf_holdings.proofs.Same.{Clash-from_test}
 use Rattle.edf_holdings.proofs.Members.{In, Within, AreFree, in_joined, joined_has, joined_keeps}
 use Rattle.edf_holdings.proofs.Members.{same_lists}
@@ -57,13 +58,13 @@ all_longer h (t ∷ ts) k = omega (arith, one_longer h t k, all_longer (union_wi
 -- `Any` by recursion
 abbrev pub IsAmong : Key → DataRecord → List Parsed → Type 0
 IsAmong k r [] = ⊥
-IsAmong k r (t ∷ ts) = Has k r t ⊎ IsAmong k r ts
+IsAmong k r (t ∷ ts) = HasRecordUnder k r t ⊎ IsAmong k r ts
 
 in_one : (h : Holdings) (t : Parsed) (k : Key) (y : DataRecord) → In y (union_with h t k) →
-    In y (h k) ⊎ Has k y t
+    In y (h k) ⊎ HasRecordUnder k y t
 in_one h (Fault fault) k y m = inl m
 in_one h (Fragment key records) k y m =
-    put_cases key records h (λ q l. In y l → In y (h q) ⊎ Has q y (Fragment key records))
+    put_cases key records h (λ q l. In y l → In y (h q) ⊎ HasRecordUnder q y (Fragment key records))
     (λ p. elim (in_joined y (h key) records p) [
       | inl n ↦ inl n
       | inr n ↦
@@ -72,13 +73,13 @@ in_one h (Fragment key records) k y m =
     (λ q p. inl p) k m
 
 pub put_has : (h : Holdings) (key : Key) (records : List DataRecord) (k : Key) (y : DataRecord) →
-    Has k y (Fragment key records) → In y (with_records key records h k)
+    HasRecordUnder k y (Fragment key records) → In y (with_records key records h k)
 put_has h key records k y s =
     subst (λ (q : Key). In y (with_records key records h q)) s.0
     (subst (λ (l : List DataRecord). In y l) (sym (put_here key records h))
     (joined_has (h key) records y (In-from_Contains records y s.1)))
 
-one_has : (h : Holdings) (t : Parsed) (k : Key) (y : DataRecord) → Has k y t →
+one_has : (h : Holdings) (t : Parsed) (k : Key) (y : DataRecord) → HasRecordUnder k y t →
     In y (union_with h t k)
 one_has h (Fault fault) k y s = absurd s
 one_has h (Fragment key records) k y s = put_has h key records k y s
@@ -106,17 +107,17 @@ all_has h [] k y m = absurd m
 all_has h (t ∷ ts) k y (inl s) = all_grows (union_with h t) ts k y (one_has h t k y s)
 all_has h (t ∷ ts) k y (inr n) = all_has (union_with h t) ts k y n
 
-pub IsAmong-from_Any : (k : Key) (r : DataRecord) (ts : List Parsed) → Any (Has k r) ts →
+pub IsAmong-from_Any : (k : Key) (r : DataRecord) (ts : List Parsed) → Any (HasRecordUnder k r) ts →
     IsAmong k r ts
 IsAmong-from_Any k r ts a = go ts a.0 a.2 a.3
   where
     go : (us : List Parsed) (i : ℕ) → i < length us → slice_index_or us i a.1 ≡ a.1 → IsAmong k r us
     go [] i l e = absurd (omega arith)
-    go (u ∷ us) zero l e = inl (subst (Has k r) (sym e) a.4)
+    go (u ∷ us) zero l e = inl (subst (HasRecordUnder k r) (sym e) a.4)
     go (u ∷ us) (suc i) l e = inr (go us i (omega arith) e)
 
 pub Any-from_IsAmong : (k : Key) (r : DataRecord) (ts : List Parsed) → IsAmong k r ts →
-    Any (Has k r) ts
+    Any (HasRecordUnder k r) ts
 Any-from_IsAmong k r [] m = absurd m
 Any-from_IsAmong k r (t ∷ ts) (inl s) = (0, t, omega arith, refl, s)
 Any-from_IsAmong k r (t ∷ ts) (inr m) = let a = Any-from_IsAmong k r ts m in
@@ -145,7 +146,7 @@ MayJoin-from_free cap h key records ts i = record { free = free; within_cap = in
     room : length (union (h key) records) ≤ cap
     room = omega (
       arith,
-      i.few key,
+      i.within_cap key,
       all_longer (with_records key records h) ts key,
       ap (λ (l : List DataRecord). length l) (put_here key records h),
     )
@@ -179,7 +180,7 @@ whole_of_free cap h (t ∷ ts) w g i =
     let rest : WholeOf cap (union_with h t) ts =
     whole_of_free cap (union_with h t) ts w.1
     (subst (IsGood cap) one.joins (IsGood-one cap h t w.0 g))
-    (record { fragments = i.fragments.1; no_clash = i.no_clash; few = i.few }) in
+    (record { fragments = i.fragments.1; no_clash = i.no_clash; within_cap = i.within_cap }) in
     record {
       accepted = All-cons IsAccepted (reply cap h t) (replies cap (after_one cap h t) ts)
           one.accepted
@@ -188,7 +189,7 @@ whole_of_free cap h (t ∷ ts) w g i =
       joins = ap (λ (z : Holdings). after cap z ts) one.joins ∙ rest.joins;
     }
 
-pub any_order_law : AnyOrder
+pub any_order_law : ConflictFreeIsAccepted
 any_order_law cap h ts s w i = let a = whole_of_free cap h ts w (IsGood-from_sound cap h s) i in
     (a.accepted, a.joins)
 

@@ -19,10 +19,10 @@ use Rattle.edf_holdings.specs.Reply.{Conflict, Conflicts, conflict_of_clash}
 use Rattle.edf_holdings.specs.Reply.{clash_or, first_clash, reply_to_clash, reply, IsAccepted}
 use Rattle.edf_holdings.specs.ConflictFree.{union_with_all}
 use Rattle.edf_holdings.specs.Meaning.{SameKeyIsEqual, SameRecordIsEqual, TestIsClash}
-use Rattle.edf_holdings.specs.Meaning.{TestIsContains, ListIsSet, HoldingsAreSets, JoinedHasBoth}
-use Rattle.edf_holdings.specs.Meaning.{AllHasBoth, Fits, TestIsFits, AcceptedWhereFits}
+use Rattle.edf_holdings.specs.Meaning.{TestIsContains, ListIsSet, HoldingsAreSets, UnionHasBoth}
+use Rattle.edf_holdings.specs.Meaning.{UnionWithAllHasBoth, Fits, TestIsFits, AcceptedWhereFits}
 use Rattle.edf_holdings.specs.Meaning.{IsFirstClash, RepliesNameTheClash, OwnRecordsAreKnown}
-use Rattle.edf_holdings.specs.Meaning.{NearTwo}
+use Rattle.edf_holdings.specs.Meaning.{AtMostTwoOverlap}
 use Rattle.edf_holdings.proofs.Same.{same_key-Decides, same_record-Decides, Clash-from_test}
 use Rattle.edf_holdings.proofs.Same.{test_from_Clash}
 use Rattle.edf_holdings.proofs.Members.{In, Within, AreFree, In-from_holds, holds_from_In}
@@ -65,7 +65,7 @@ pub holdings_are_sets : HoldingsAreSets
 holdings_are_sets cap h other s t m =
     fun_ext (λ k. list_is_set (h k) (other k) (s.rising k) (t.rising k) (m k))
 
-pub joined_has_both : JoinedHasBoth
+pub joined_has_both : UnionHasBoth
 joined_has_both xs rs r = (
   (λ m. elim (in_joined r xs rs (In-from_Contains (union xs rs) r m)) [
     | inl n ↦ inl (Contains-from_In xs r n)
@@ -77,7 +77,7 @@ joined_has_both xs rs r = (
   ])),
 )
 
-pub all_has_both : AllHasBoth
+pub all_has_both : UnionWithAllHasBoth
 all_has_both h ts k r = (
   (λ m. elim (in_all h ts k r (In-from_Contains (union_with_all h ts k) r m)) [
     | inl n ↦ inl (Contains-from_In (h k) r n)
@@ -95,7 +95,7 @@ MayJoin-from_Fits : (cap : ℕ) (h : Holdings) (key : Key) (records : List DataR
     Fits cap key records h → MayJoin cap key records h
 MayJoin-from_Fits cap h key records f = record {
   free = λ r s m n. false_from_ne_true _ (λ t.
-      f.clear r s (Contains-from_In records r m) (Contains-from_In (h key) s n)
+      f.none_clashes r s (Contains-from_In records r m) (Contains-from_In (h key) s n)
       (Clash-from_test (duration_of key.duration) r s t));
   within_cap = elim f.within_cap [
     | inl e ↦ inl (λ y m. subst (λ (l : List DataRecord). In y l) e
@@ -107,7 +107,7 @@ MayJoin-from_Fits cap h key records f = record {
 Fits-from_MayJoin : (cap : ℕ) (h : Holdings) (key : Key) (records : List DataRecord) → IsKey key →
     IsGood cap h → MayJoin cap key records h → Fits cap key records h
 Fits-from_MayJoin cap h key records w g m = record {
-  clear = λ r s n k c. both_ways _ (m.free r s (In-from_Contains records r n)
+  none_clashes = λ r s n k c. both_ways _ (m.free r s (In-from_Contains records r n)
       (In-from_Contains (h key) s k)) (test_from_Clash (duration_of key.duration) r s c);
   within_cap = elim m.within_cap [
     | inl i ↦ inl (joined_held (duration_of key.duration) 0 (h key) records (lasting key w)
@@ -186,7 +186,7 @@ clash_is_named cap h key records r s t i = (
 -- a recording's own records
 
 none_held : (cap : ℕ) → IsGood cap nothing_held
-none_held cap = record { rising = λ k. tt; apart = λ k. tt; few = λ k. omega arith }
+none_held cap = record { rising = λ k. tt; apart = λ k. tt; within_cap = λ k. omega arith }
 
 pub from_nothing : (d low : ℕ) (rs : List DataRecord) → 0 < d → StartsAreSpaced d low rs →
     StartsAreSpaced d 0 rs → union [] rs ≡ rs
@@ -244,7 +244,7 @@ own_list cap h k s some = (
     may = record {
       free = λ r t m n. absurd n;
       within_cap =
-          inr (subst (λ (l : List DataRecord). length l ≤ cap) (sym whole) (g.few k));
+          inr (subst (λ (l : List DataRecord). length l ≤ cap) (sym whole) (g.within_cap k));
     }
 
     counted : answered k (h k) [] ≡ Accepted k (length (h k)) 0
@@ -252,6 +252,6 @@ own_list cap h k s some = (
         let p : length (h k) - count_new [] (h k) ≡ 0 = omega (arith, new_from_nothing (h k)) in
         cc (new_from_nothing (h k), p)
 
-pub near_two_law : NearTwo
+pub near_two_law : AtMostTwoOverlap
 near_two_law cap h k start s = near_two (duration_of k.duration) 0 start (h k)
     ((IsGood-from_sound cap h s).apart k)

@@ -132,7 +132,7 @@ test_from_AreFree d xs (s ∷ rs) f =
 pub record IsGood (cap : ℕ) (h : Holdings) : Type 0 where
   pub rising : (k : Key) → IsRising (h k)
   pub apart : (k : Key) → StartsAreSpaced (duration_of k.duration) 0 (h k)
-  pub few : (k : Key) → length (h k) ≤ cap
+  pub within_cap : (k : Key) → length (h k) ≤ cap
 
 pub IsGood-from_sound : (cap : ℕ) (h : Holdings) → IsSound cap h → IsGood cap h
 IsGood-from_sound cap h s = record {
@@ -141,7 +141,7 @@ IsGood-from_sound cap h s = record {
       (λ r t m n. false_from_ne_true _ (λ e.
       s.no_clash k r t (Contains-from_In (h k) r m) (Contains-from_In (h k) t n)
       (Clash-from_test (duration_of k.duration) r t e)));
-  few = s.few;
+  within_cap = s.within_cap;
 }
 
 -- a key's records last
@@ -224,13 +224,13 @@ IsGood-put cap key records h w a g m = record {
       g.rising;
   apart = put_cases key records h (λ k l. StartsAreSpaced (duration_of k.duration) 0 l)
       (apart_joined (duration_of key.duration) 0 (h key) records (g.apart key) a m.free) g.apart;
-  few = put_cases key records h (λ k l. length l ≤ cap) (elim m.within_cap [
+  within_cap = put_cases key records h (λ k l. length l ≤ cap) (elim m.within_cap [
     | inl i ↦ subst (λ (l : List DataRecord). length l ≤ cap)
         (sym (joined_held (duration_of key.duration) 0 (h key) records (lasting key w)
-        (g.apart key) i)) (g.few key)
+        (g.apart key) i)) (g.within_cap key)
     | inr l ↦ l
   ])
-      g.few;
+      g.within_cap;
 }
 
 -- the holdings only grow
@@ -258,7 +258,7 @@ MayJoin-smaller cap key records h h' w a g g' up m =
     held : Within records (h' key) → length (union (h key) records) ≤ cap
     held i = omega (
       arith,
-      g'.few key,
+      g'.within_cap key,
       within_shorter (duration_of key.duration) 0 0 (union (h key) records) (h' key)
           (lasting key w) apart (g'.apart key)
           (λ y n. elim (in_joined y (h key) records n) [ inl k ↦ up key y k | inr k ↦ i y k ]),

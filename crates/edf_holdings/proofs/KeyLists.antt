@@ -5,7 +5,7 @@ use Rattle.std.specs.List.{AllByRecursion}
 use Rattle.std.specs.List.Sorted.{IsStrictlySortedBy}
 use Rattle.std.proofs.lemmas.Cmp.{nat_list_cmp_total, tied_itself}
 use Rattle.edf_header.specs.Key.{Key, key_bytes}
-use Rattle.edf_holdings.specs.Keys.{key_cmp, KeysAreOne}
+use Rattle.edf_holdings.specs.Keys.{key_cmp, KeyListIsUnique}
 
 abbrev InKeys : Key → List Key → Type 0
 InKeys k [] = ⊥
@@ -68,7 +68,7 @@ same_keys (x ∷ xs) (y ∷ ys) a b f g =
           ∙ sym p) (below y k ys b.0 h)))
     ]
 
-pub keys_are_one : KeysAreOne
+pub keys_are_one : KeyListIsUnique
 keys_are_one h ks ls a b =
     same_keys ks ls a.rising b.rising
     (λ k m. from_contains ls k ((b.held k).1 ((a.held k).0 (to_contains ks k m))))

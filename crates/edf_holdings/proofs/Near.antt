@@ -7,7 +7,7 @@ use Rattle.std.proofs.lemmas.Bool.{and_parts, and_from, and_right, ltb-true, lt-
 use Rattle.std.specs.Option.{option_or}
 use Rattle.edf_fragment.specs.Fragment.{DataRecord}
 use Rattle.edf_holdings.specs.Same.{same_record}
-use Rattle.edf_holdings.specs.Clash.{clashes, intervals_overlap, near_of, first_other}
+use Rattle.edf_holdings.specs.Clash.{clashes, intervals_overlap, overlapping, first_other}
 use Rattle.edf_holdings.specs.Rising.{contains_record, insert, union, count_new, StartsAreSpaced}
 use Rattle.edf_holdings.specs.Reply.{clash_or, first_clash}
 use Rattle.edf_holdings.proofs.Same.{same_record-true, same_record-refl, same_record_no}
@@ -17,29 +17,29 @@ use Rattle.edf_holdings.proofs.Members.{same_Bool}
 -- at most two
 
 near_none : (d low start : ℕ) (xs : List DataRecord) → start + d ≤ low → StartsAreSpaced d low xs →
-    length (near_of d start xs) ≤ 0
+    length (overlapping d start xs) ≤ 0
 near_none d low start [] l a = omega arith
 near_none d low start (x ∷ xs) l a =
-    cond_both (intervals_overlap d start x) (x ∷ near_of d start xs) (near_of d start xs)
+    cond_both (intervals_overlap d start x) (x ∷ overlapping d start xs) (overlapping d start xs)
     (λ (z : List DataRecord). length z ≤ 0)
     (λ e. let p = and_parts (nat_lt start (x.start + d)) (nat_lt x.start (start + d)) e in let q =
     ltb-true _ _ p.1 in absurd (omega (arith, a.0, q)))
     (λ e. near_none d (x.start + d) start xs (omega (arith, a.0)) a.1)
 
 near_one : (d low start : ℕ) (xs : List DataRecord) → start ≤ low → StartsAreSpaced d low xs →
-    length (near_of d start xs) ≤ 1
+    length (overlapping d start xs) ≤ 1
 near_one d low start [] l a = omega arith
 near_one d low start (x ∷ xs) l a =
-    cond_both (intervals_overlap d start x) (x ∷ near_of d start xs) (near_of d start xs)
+    cond_both (intervals_overlap d start x) (x ∷ overlapping d start xs) (overlapping d start xs)
     (λ (z : List DataRecord). length z ≤ 1)
     (λ e. omega (arith, near_none d (x.start + d) start xs (omega (arith, a.0)) a.1))
     (λ e. near_one d (x.start + d) start xs (omega (arith, a.0)) a.1)
 
 pub near_two : (d low start : ℕ) (xs : List DataRecord) → StartsAreSpaced d low xs →
-    length (near_of d start xs) ≤ 2
+    length (overlapping d start xs) ≤ 2
 near_two d low start [] a = omega arith
 near_two d low start (x ∷ xs) a =
-    cond_both (intervals_overlap d start x) (x ∷ near_of d start xs) (near_of d start xs)
+    cond_both (intervals_overlap d start x) (x ∷ overlapping d start xs) (overlapping d start xs)
     (λ (z : List DataRecord). length z ≤ 2)
     (λ e. let p = and_parts (nat_lt start (x.start + d)) (nat_lt x.start (start + d)) e in let q =
     ltb-true _ _ p.0 in
@@ -67,23 +67,23 @@ find_both p q (x ∷ xs) =
     kept e = ap (find p) (cond-true (q x) (x ∷ filter q xs) (filter q xs) e)
 
 pub earliest_near : (d : ℕ) (r : DataRecord) (xs : List DataRecord) →
-    find (clashes d r) xs ≡ first_other r (near_of d r.start xs)
+    find (clashes d r) xs ≡ first_other r (overlapping d r.start xs)
 unfolding clashes
 earliest_near d r xs = find_both (λ s. not (same_record r s)) (intervals_overlap d r.start) xs
 
 -- a record is held where it is near
 
 pub held_near : (d : ℕ) (r : DataRecord) (xs : List DataRecord) → 0 < d →
-    contains_record (near_of d r.start xs) r ≡ contains_record xs r
+    contains_record (overlapping d r.start xs) r ≡ contains_record xs r
 held_near d r [] z = refl
 held_near d r (x ∷ xs) z =
     elim (cases_Bool (intervals_overlap d r.start x)) [
       | inl e ↦ ap (λ (l : List DataRecord). contains_record l r)
-          (cond-true (intervals_overlap d r.start x) (x ∷ near_of d r.start xs)
-          (near_of d r.start xs) e) ∙ ap (λ b. same_record x r || b) (held_near d r xs z)
+          (cond-true (intervals_overlap d r.start x) (x ∷ overlapping d r.start xs)
+          (overlapping d r.start xs) e) ∙ ap (λ b. same_record x r || b) (held_near d r xs z)
       | inr e ↦ ap (λ (l : List DataRecord). contains_record l r)
-          (cond-false (intervals_overlap d r.start x) (x ∷ near_of d r.start xs)
-          (near_of d r.start xs) e) ∙ (held_near d r xs z ∙ ap (λ b. b || contains_record xs r)
+          (cond-false (intervals_overlap d r.start x) (x ∷ overlapping d r.start xs)
+          (overlapping d r.start xs) e) ∙ (held_near d r xs z ∙ ap (λ b. b || contains_record xs r)
           (sym (same_record_no x r (apart e))))
     ]
   where

@@ -9,7 +9,7 @@ use Rattle.edf_fragment.specs.Parsed.{Parsed, Fragment}
 use Rattle.edf_holdings.specs.Holdings.{Holdings, with_records}
 use Rattle.edf_holdings.specs.Reply.{IsWellFormed, fits, after_one, after, reply, replies}
 use Rattle.edf_holdings.specs.Laws.{HeldIsKnown, AcceptedAgain, RefusedAgain, RepeatsChangeNothing}
-use Rattle.edf_holdings.specs.Laws.{ResentFromStart, with_member}
+use Rattle.edf_holdings.specs.Laws.{ResentFromStart, up_to_repeat}
 use Rattle.edf_holdings.proofs.Members.{Within}
 use Rattle.edf_holdings.proofs.Joining.{IsGood, Grows, IsGood-from_sound, In-from_Contains}
 use Rattle.edf_holdings.proofs.Joining.{put_held}
@@ -36,7 +36,7 @@ held_is_known cap h key records s w a =
 
 -- the holdings after a member and what follows are larger than those after it
 grows_from : (cap : ℕ) (h : Holdings) (ts : List Parsed) (t : Parsed) (us : List Parsed) →
-    Grows (after_one cap (after cap h ts) t) (after cap h (with_member ts t us))
+    Grows (after_one cap (after cap h ts) t) (after cap h (up_to_repeat ts t us))
 grows_from cap h ts t us =
     subst (λ (z : Holdings). Grows (after_one cap (after cap h ts) t) z)
     (sym (after-append cap h ts (t ∷ us)))
@@ -45,42 +45,42 @@ grows_from cap h ts t us =
 pub accepted_again_law : AcceptedAgain
 accepted_again_law cap h ts t us s w =
     let g = IsGood-from_sound cap h s in
-    accepted_again cap (after cap h ts) (after cap h (with_member ts t us)) t
+    accepted_again cap (after cap h ts) (after cap h (up_to_repeat ts t us)) t
     (sound_back ts (t ∷ us) w).0
     (IsGood-after cap h ts (sound_front ts (t ∷ us) w) g)
-    (IsGood-after cap h (with_member ts t us) w g) (grows_from cap h ts t us)
+    (IsGood-after cap h (up_to_repeat ts t us) w g) (grows_from cap h ts t us)
 
 pub refused_again_law : RefusedAgain
 refused_again_law cap h ts t us s w not_then =
     let g = IsGood-from_sound cap h s in (
-      (λ i. not_then (accepted_before cap (after cap h ts) (after cap h (with_member ts t us)) t
+      (λ i. not_then (accepted_before cap (after cap h ts) (after cap h (up_to_repeat ts t us)) t
           (sound_back ts (t ∷ us) w).0
           (IsGood-after cap h ts (sound_front ts (t ∷ us) w) g)
-          (IsGood-after cap h (with_member ts t us) w g)
+          (IsGood-after cap h (up_to_repeat ts t us) w g)
           (λ k y m. grows_from cap h ts t us k y (one_grows cap (after cap h ts) t k y m)) i)),
-      λ e q. fault_again cap (after cap h ts) (after cap h (with_member ts t us)) t e q,
+      λ e q. fault_again cap (after cap h ts) (after cap h (up_to_repeat ts t us)) t e q,
     )
 
 pub repeat_taken_out : RepeatsChangeNothing
 repeat_taken_out cap h ts t us vs s w = (
-  after-append cap h (with_member ts t us) (t ∷ vs)
+  after-append cap h (up_to_repeat ts t us) (t ∷ vs)
       ∙ (ap (λ (z : Holdings). after cap z vs) still
-      ∙ sym (after-append cap h (with_member ts t us) vs)),
-  ap (λ l. remove l n) (replies-append cap h (with_member ts t us) (t ∷ vs))
-      ∙ (remove-append_right (replies cap h (with_member ts t us))
+      ∙ sym (after-append cap h (up_to_repeat ts t us) vs)),
+  ap (λ l. remove l n) (replies-append cap h (up_to_repeat ts t us) (t ∷ vs))
+      ∙ (remove-append_right (replies cap h (up_to_repeat ts t us))
       (reply cap x t ∷ replies cap (after_one cap x t) vs) n n
-      (length-replies cap h (with_member ts t us)) (omega arith)
-      ∙ (ap (λ m. replies cap h (with_member ts t us)
+      (length-replies cap h (up_to_repeat ts t us)) (omega arith)
+      ∙ (ap (λ m. replies cap h (up_to_repeat ts t us)
       ++ remove (reply cap x t ∷ replies cap (after_one cap x t) vs) m) none
-      ∙ (ap (λ (z : Holdings). replies cap h (with_member ts t us) ++ replies cap z vs) still
-      ∙ sym (replies-append cap h (with_member ts t us) vs)))),
+      ∙ (ap (λ (z : Holdings). replies cap h (up_to_repeat ts t us) ++ replies cap z vs) still
+      ∙ sym (replies-append cap h (up_to_repeat ts t us) vs)))),
 )
   where
     n : ℕ
-    n = length (with_member ts t us)
+    n = length (up_to_repeat ts t us)
 
     x : Holdings
-    x = after cap h (with_member ts t us)
+    x = after cap h (up_to_repeat ts t us)
 
     still : after_one cap x t ≡ x
     still = repeat_settled cap h ts t us w (IsGood-from_sound cap h s)

@@ -11,7 +11,7 @@ use Rattle.edf_header.specs.Key.{Key, IsKey}
 use Rattle.edf_fragment.specs.Fragment.{DataRecord}
 use Rattle.edf_fragment.specs.Parsed.{Fragment}
 use Rattle.edf_holdings.specs.Same.{same_key}
-use Rattle.edf_holdings.specs.Clash.{clashes, near_of, first_other}
+use Rattle.edf_holdings.specs.Clash.{clashes, overlapping, first_other}
 use Rattle.edf_holdings.specs.Rising.{contains_record, insert, union, count_new, StartsAreSpaced}
 use Rattle.edf_holdings.specs.Holdings.{Holdings, with_records}
 use Rattle.edf_holdings.specs.Reply.{IsWellFormed, after_one, Conflicts, conflict_of_clash}
@@ -170,13 +170,13 @@ module _ (cap : ℕ) (key : Key) (h : Holdings) (is_key : IsKey key)
   )
 
   -- what the records near it say is what those say that were held at the start
-  pub near_other : first_other r (near_of (duration_of key.duration) r.start (t key)) ≡ find
+  pub near_other : first_other r (overlapping (duration_of key.duration) r.start (t key)) ≡ find
       (clashes (duration_of key.duration) r) (h key)
   near_other = sym (earliest_near (duration_of key.duration) r (t key))
       ∙ (ap (find (clashes (duration_of key.duration) r)) here
       ∙ earliest_joined (duration_of key.duration) r (h key) k.put_in no_clash_with)
 
-  pub near_holds : contains_record (near_of (duration_of key.duration) r.start (t key))
+  pub near_holds : contains_record (overlapping (duration_of key.duration) r.start (t key))
       r ≡ contains_record (h key) r
   near_holds = held_near (duration_of key.duration) r (t key) (lasting key is_key)
       ∙ (ap (λ (l : List DataRecord). contains_record l r) here
@@ -188,13 +188,13 @@ module _ (cap : ℕ) (key : Key) (h : Holdings) (is_key : IsKey key)
       ∙ ap (λ (o : Option (DataRecord × DataRecord)).
       option_or o (first_clash (duration_of key.duration) (h key) (r ∷ []))) k.free
 
-  none_next : first_other r (near_of (duration_of key.duration) r.start (t key)) ≡ None →
+  none_next : first_other r (overlapping (duration_of key.duration) r.start (t key)) ≡ None →
       first_clash (duration_of key.duration) (h key) (rs ++ r ∷ []) ≡ None
   none_next e = first_next ∙ ap (λ (o : Option DataRecord). clash_or r o None) (sym near_other ∙ e)
 
   -- another record is near it
   pub after_clash : (s : DataRecord) →
-      first_other r (near_of (duration_of key.duration) r.start (t key)) ≡ Some s →
+      first_other r (overlapping (duration_of key.duration) r.start (t key)) ≡ Some s →
       Stopped key h (rs ++ r ∷ []) (r.start, s.start)
   after_clash s e = record {
     pair = (r, s);
@@ -204,8 +204,8 @@ module _ (cap : ℕ) (key : Key) (h : Holdings) (is_key : IsKey key)
   }
 
   -- it is there itself
-  pub after_known : first_other r (near_of (duration_of key.duration) r.start (t key)) ≡ None →
-      contains_record (near_of (duration_of key.duration) r.start (t key)) r ≡ true →
+  pub after_known : first_other r (overlapping (duration_of key.duration) r.start (t key)) ≡ None →
+      contains_record (overlapping (duration_of key.duration) r.start (t key)) r ≡ true →
       Taken cap key h (rs ++ r ∷ []) t new (known + 1)
   after_known e there_near = record {
     free = none_next e;
@@ -233,11 +233,11 @@ module _ (cap : ℕ) (key : Key) (h : Holdings) (is_key : IsKey key)
           ∙ inserted_held (duration_of key.duration) 0 r (union (h key) rs) (lasting key is_key)
           all_apart (joined_keeps (h key) rs r (In-from_holds (h key) r there))))
 
-  is_new : near_of (duration_of key.duration) r.start (t key) ≡ [] →
+  is_new : overlapping (duration_of key.duration) r.start (t key) ≡ [] →
       contains_record (h key) r ≡ false
   is_new e = sym near_holds ∙ ap (λ (l : List DataRecord). contains_record l r) e
 
-  new_next : near_of (duration_of key.duration) r.start (t key) ≡ [] →
+  new_next : overlapping (duration_of key.duration) r.start (t key) ≡ [] →
       new + 1 ≡ count_new (h key) (rs ++ r ∷ [])
   new_next e = ap (λ n. n + 1) k.new_is
       ∙ sym (new_of-append (h key) rs r
@@ -245,7 +245,7 @@ module _ (cap : ℕ) (key : Key) (h : Holdings) (is_key : IsKey key)
       (is_new e))
 
   -- nothing is near it, and it is put in
-  pub after_added : (t' : Holdings) → near_of (duration_of key.duration) r.start (t key) ≡ [] →
+  pub after_added : (t' : Holdings) → overlapping (duration_of key.duration) r.start (t key) ≡ [] →
       length (h key) + new < cap → t' ≡ with_records key (r ∷ []) t →
       Taken cap key h (rs ++ r ∷ []) t' (new + 1) known
   after_added t' e l f = record {
@@ -260,7 +260,7 @@ module _ (cap : ℕ) (key : Key) (h : Holdings) (is_key : IsKey key)
   }
 
   -- nothing is near it, and there is no room
-  pub after_full : near_of (duration_of key.duration) r.start (t key) ≡ [] →
+  pub after_full : overlapping (duration_of key.duration) r.start (t key) ≡ [] →
       cap ≤ length (h key) + new → Taken cap key h (rs ++ r ∷ []) t (new + 1) known
   after_full e l = record {
     free = none_next (ap (first_other r) e);

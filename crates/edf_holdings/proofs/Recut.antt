@@ -13,7 +13,7 @@ use Rattle.edf_holdings.specs.Rising.{union, StartsAreSpaced, IsRising}
 use Rattle.edf_holdings.specs.Holdings.{Holdings, IsSound, with_records, nothing_held}
 use Rattle.edf_holdings.specs.Reply.{IsWellFormed}
 use Rattle.edf_holdings.specs.ConflictFree.{IsFragment, union_with, union_with_all, IsConflictFree}
-use Rattle.edf_holdings.specs.ConflictFree.{Has, SameRecords}
+use Rattle.edf_holdings.specs.ConflictFree.{HasRecordUnder, SameRecords}
 use Rattle.edf_holdings.specs.Laws.{AreWellFormed, Reordered, SameRecordsStayConflictFree}
 use Rattle.edf_holdings.specs.Laws.{OneIsConflictFree}
 use Rattle.edf_holdings.proofs.Same.{Clash-from_test, test_from_Clash}
@@ -96,8 +96,8 @@ module _ (cap : ℕ) (h : Holdings) (ts us : List Parsed) (s : IsSound cap h) (w
   free_again f = record {
     fragments = f;
     no_clash = no_clash;
-    few =
-        λ k. subst (λ (z : Holdings). length (z k) ≤ cap) (sym same_all) (i.few k);
+    within_cap =
+        λ k. subst (λ (z : Holdings). length (z k) ≤ cap) (sym same_all) (i.within_cap k);
   }
 
 pub free_of_same : SameRecordsStayConflictFree
@@ -138,8 +138,8 @@ reordered cap h ts us s w i same =
     let v = each-moved IsWellFormed ts us w (λ t. (same t).1) in
     let f = each-moved IsFragment ts us i.fragments (λ t. (same t).1) in
     let r : SameRecords ts us = λ k y. (
-      any-moved (Has k y) ts us (λ t. (same t).0),
-      any-moved (Has k y) us ts (λ t. (same t).1),
+      any-moved (HasRecordUnder k y) ts us (λ t. (same t).0),
+      any-moved (HasRecordUnder k y) us ts (λ t. (same t).1),
     ) in
     let j = free_again cap h ts us s w v i r f in (
       j,
@@ -155,7 +155,7 @@ alone_is_free cap key records w few = record {
       apart r s (In-from_Contains (union [] records) r m) (In-from_Contains (union [] records) s n))
       (test_from_Clash (duration_of key.duration) r s c))
       (λ k r s m n c. absurd (In-from_Contains [] r m));
-  few = put_cases key records nothing_held (λ k l. length l ≤ cap)
+  within_cap = put_cases key records nothing_held (λ k l. length l ≤ cap)
       (omega (arith, few, ap (λ (l : List DataRecord). length l) whole)) (λ k. omega arith);
 }
   where

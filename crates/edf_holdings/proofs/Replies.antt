@@ -15,7 +15,7 @@ use Rattle.edf_holdings.specs.Holdings.{Holdings, with_records}
 use Rattle.edf_holdings.specs.Reply.{IsWellFormed, fits, after_one, after, Reply, Form, Conflicts}
 use Rattle.edf_holdings.specs.Reply.{Full, Accepted, IsAccepted, clash_or, first_clash}
 use Rattle.edf_holdings.specs.Reply.{exceeds_cap, reply_to_counts, reply_to_clash, reply, replies}
-use Rattle.edf_holdings.specs.Meaning.{AreCountsNamed}
+use Rattle.edf_holdings.specs.Meaning.{ReplyNamesCounts}
 use Rattle.edf_holdings.proofs.Members.{In, Within, AreFree, joined_has, length_joined, none_new}
 use Rattle.edf_holdings.proofs.Members.{within_from_none_new}
 use Rattle.edf_holdings.proofs.Joining.{IsGood, Grows, MayJoin, fits_from_MayJoin, MayJoin-smaller}
@@ -96,7 +96,8 @@ accepted-by-counts cap key held new all fits =
     ])
 
 pub counts-named : (cap : ℕ) (h : Holdings) (key : Key) (records : List DataRecord) →
-    first_clash (duration_of key.duration) (h key) records ≡ None → AreCountsNamed cap h key records
+    first_clash (duration_of key.duration) (h key) records ≡ None →
+    ReplyNamesCounts cap h key records
 counts-named cap h key records none = (
   (λ some past. by-counts cap h key records none
       ∙ full-by-counts cap key (length (h key)) (count_new (h key) records) (length records) some

@@ -5,9 +5,9 @@ use Rattle.std.proofs.lemmas.Bool.{cond_both, cond-true, cond-false, cases_Bool,
 use Rattle.std.proofs.lemmas.Bool.{and_from, ltb-true, lt-ltb}
 use Rattle.edf_field.specs.Number.{duration_of}
 use Rattle.edf_fragment.specs.Fragment.{DataRecord}
-use Rattle.edf_holdings.specs.Clash.{intervals_overlap, near_of}
+use Rattle.edf_holdings.specs.Clash.{intervals_overlap, overlapping}
 use Rattle.edf_holdings.specs.Rising.{StartsAreSpaced}
-use Rattle.edf_holdings.specs.Meaning.{NearIsSelected}
+use Rattle.edf_holdings.specs.Meaning.{OverlappingIsDetermined}
 use Rattle.edf_holdings.proofs.Members.{In, apart_weaker, same_lists}
 use Rattle.edf_holdings.proofs.Joining.{In-from_Contains, Contains-from_In}
 
@@ -48,9 +48,9 @@ filter_has p y (x ∷ xs) (inr m) e =
     cond_both (p x) (x ∷ filter p xs) (filter p xs) (In y) (λ _. inr (filter_has p y xs m e))
     (λ _. filter_has p y xs m e)
 
-pub near_is_selected : NearIsSelected
+pub near_is_selected : OverlappingIsDetermined
 near_is_selected cap h k start ys s a m =
-    same_lists 1 0 0 ys (near_of d start (h k)) (omega arith) a
+    same_lists 1 0 0 ys (overlapping d start (h k)) (omega arith) a
     (apart_filter (intervals_overlap d start) 1 0 (h k) (s.rising k))
     (λ y n. let t = (m y).0 (Contains-from_In ys y n) in
     filter_has (intervals_overlap d start) y (h k) (In-from_Contains (h k) y t.0)

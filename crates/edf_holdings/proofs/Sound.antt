@@ -108,7 +108,7 @@ IsSound-from cap h good kept = record {
       (free_from_apart (duration_of k.duration) 0 (h k) (good.apart k) r t
       (In-from_Contains (h k) r m) (In-from_Contains (h k) t n))
       (test_from_Clash (duration_of k.duration) r t c);
-  few = good.few;
+  within_cap = good.within_cap;
   records = λ k. All-from_Each (IsSoundRecord k) (h k) (kept.records k);
   begins = kept.begins;
   keys = kept.holders;

@@ -27,8 +27,8 @@ unfoldable pub clashes : ℕ → DataRecord → DataRecord → Bool
 clashes d r s = not (same_record r s) && intervals_overlap d r.start s
 
 -- selects the records whose intervals overlap the one that begins at this start, in their order
-abbrev pub near_of : ℕ → ℕ → List DataRecord → List DataRecord
-near_of d start xs = filter (intervals_overlap d start) xs
+abbrev pub overlapping : ℕ → ℕ → List DataRecord → List DataRecord
+overlapping d start xs = filter (intervals_overlap d start) xs
 
 -- finds the first of them that is not the record itself
 abbrev pub first_other : DataRecord → List DataRecord → Option DataRecord

@@ -26,14 +26,14 @@ union_with_all h (submission ∷ submissions) = union_with_all (union_with h sub
 pub record IsConflictFree (cap : ℕ) (h : Holdings) (submissions : List Parsed) : Type 0 where
   pub fragments : AllByRecursion IsFragment submissions
   pub no_clash : (k : Key) → NoClash (duration_of k.duration) (union_with_all h submissions k)
-  pub few : (k : Key) → length (union_with_all h submissions k) ≤ cap
+  pub within_cap : (k : Key) → length (union_with_all h submissions k) ≤ cap
 
 -- the submission has the record under this key
-abbrev pub Has : Key → DataRecord → Parsed → Type 0
-Has k r (Fragment key records) = (key ≡ k) × Contains records r
-Has k r (Fault fault) = ⊥
+abbrev pub HasRecordUnder : Key → DataRecord → Parsed → Type 0
+HasRecordUnder k r (Fragment key records) = (key ≡ k) × Contains records r
+HasRecordUnder k r (Fault fault) = ⊥
 
 -- both lists have the same records under the same keys, however cut, ordered or repeated
 abbrev pub SameRecords : List Parsed → List Parsed → Type 0
 SameRecords submissions others = (k : Key) (r : DataRecord) →
-    Any (Has k r) submissions ↔ Any (Has k r) others
+    Any (HasRecordUnder k r) submissions ↔ Any (HasRecordUnder k r) others

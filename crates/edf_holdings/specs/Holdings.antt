@@ -20,7 +20,7 @@ nothing_held = λ k. []
 pub record IsSound (cap : ℕ) (h : Holdings) : Type 0 where
   pub rising : (k : Key) → IsRising (h k)
   pub no_clash : (k : Key) → NoClash (duration_of k.duration) (h k)
-  pub few : (k : Key) → length (h k) ≤ cap
+  pub within_cap : (k : Key) → length (h k) ≤ cap
   pub records : (k : Key) → All (IsSoundRecord k) (h k)
   pub begins : (k : Key) → FirstMayStart k (h k)
   pub keys : (k : Key) → h k ≢ [] → IsKey k

@@ -17,6 +17,6 @@ pub record AreKeysOf (h : Holdings) (keys : List Key) : Type 0 where
   pub held : (k : Key) → Contains keys k ↔ (h k ≢ [])
 
 -- there is at most one such list
-abbrev pub KeysAreOne : Type 0
-KeysAreOne = (h : Holdings) (keys others : List Key) → AreKeysOf h keys → AreKeysOf h others →
+abbrev pub KeyListIsUnique : Type 0
+KeyListIsUnique = (h : Holdings) (keys others : List Key) → AreKeysOf h keys → AreKeysOf h others →
     keys ≡ others

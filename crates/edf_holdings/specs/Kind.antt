@@ -6,6 +6,6 @@ use Rattle.edf_holdings.specs.declared.kind.Clash.{Clash as ClashKind}
 use Rattle.edf_holdings.specs.declared.kind.Clash.TheVariants.{Overlap, Differs}
 
 -- the records clash, and their starts differ or are the same
-abbrev pub IsKind : ℕ → DataRecord → DataRecord → ClashKind → Type 0
-IsKind d r s Overlap = Clash d r s × (r.start ≢ s.start)
-IsKind d r s Differs = Clash d r s × (r.start ≡ s.start)
+abbrev pub IsClashOfKind : ℕ → DataRecord → DataRecord → ClashKind → Type 0
+IsClashOfKind d r s Overlap = Clash d r s × (r.start ≢ s.start)
+IsClashOfKind d r s Differs = Clash d r s × (r.start ≡ s.start)

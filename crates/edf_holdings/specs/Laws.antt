@@ -7,7 +7,7 @@ use Rattle.edf_header.specs.Key.{Key, IsKey, MayStart}
 use Rattle.edf_fragment.specs.Fragment.{DataRecord}
 use Rattle.edf_fragment.specs.declared.fault.FragmentFault.{FragmentFault}
 use Rattle.edf_fragment.specs.Parsed.{Parsed, Fragment, ParsesTo}
-use Rattle.edf_holdings.specs.Clash.{near_of}
+use Rattle.edf_holdings.specs.Clash.{overlapping}
 use Rattle.edf_fragment.specs.Sound.{IsSoundRecord}
 use Rattle.edf_holdings.specs.Holdings.{Holdings, IsSound, nothing_held, with_records}
 use Rattle.edf_holdings.specs.Reply.{IsWellFormed, after_one, after, Form, Accepted, IsAccepted}
@@ -28,14 +28,14 @@ ParsedIsWellFormed = (bytes : List ℕ) (submission : Parsed) →
     ParsesTo bytes submission → IsWellFormed submission
 
 -- holdings of nothing are sound
-abbrev pub NothingIsSound : Type 0
-NothingIsSound = (cap : ℕ) → IsSound cap nothing_held
+abbrev pub NothingHeldIsSound : Type 0
+NothingHeldIsSound = (cap : ℕ) → IsSound cap nothing_held
 
 -- holdings below the cap stay sound with one record more that overlaps none; if it is the key's
 -- first, a recording may start with it
 abbrev pub AddStaysSound : Type 0
 AddStaysSound = (cap : ℕ) (h : Holdings) (key : Key) (r : DataRecord) → IsSound cap h → IsKey key →
-    IsSoundRecord key r → near_of (duration_of key.duration) r.start (h key) ≡ [] →
+    IsSoundRecord key r → overlapping (duration_of key.duration) r.start (h key) ≡ [] →
     length (h key) < cap → (h key ≡ [] → MayStart key r.start) →
     IsSound cap (with_records key (r ∷ []) h)
 
@@ -47,39 +47,39 @@ HeldIsKnown = (cap : ℕ) (h : Holdings) (key : Key) (records : List DataRecord)
     × (after_one cap h (Fragment key records) ≡ h)
 
 -- the list has the earlier members, this member, and those between it and its repeat
-abbrev pub with_member : List Parsed → Parsed → List Parsed → List Parsed
-with_member earlier submission between = earlier ++ (submission ∷ between)
+abbrev pub up_to_repeat : List Parsed → Parsed → List Parsed → List Parsed
+up_to_repeat earlier submission between = earlier ++ (submission ∷ between)
 
 -- a later repeat of an accepted member is accepted with nothing new
 abbrev pub AcceptedAgain : Type 0
 AcceptedAgain = (cap : ℕ) (h : Holdings) (earlier : List Parsed) (submission : Parsed)
     (between : List Parsed) →
-    IsSound cap h → AreWellFormed (with_member earlier submission between) →
+    IsSound cap h → AreWellFormed (up_to_repeat earlier submission between) →
     (key : Key) (new known : ℕ) →
     reply cap (after cap h earlier) submission ≡ Accepted key new known →
-    reply cap (after cap h (with_member earlier submission between)) submission
+    reply cap (after cap h (up_to_repeat earlier submission between)) submission
     ≡ Accepted key 0 (new + known)
 
 -- a later repeat of a refused member is refused again, for the same fault of form if it had one
 abbrev pub RefusedAgain : Type 0
 RefusedAgain = (cap : ℕ) (h : Holdings) (earlier : List Parsed) (submission : Parsed)
     (between : List Parsed) →
-    IsSound cap h → AreWellFormed (with_member earlier submission between) →
+    IsSound cap h → AreWellFormed (up_to_repeat earlier submission between) →
     ¬ IsAccepted (reply cap (after cap h earlier) submission) →
-    (¬ IsAccepted (reply cap (after cap h (with_member earlier submission between)) submission)) ×
+    (¬ IsAccepted (reply cap (after cap h (up_to_repeat earlier submission between)) submission)) ×
     ((fault : FragmentFault) → reply cap (after cap h earlier) submission ≡ Form fault →
-    reply cap (after cap h (with_member earlier submission between)) submission ≡ Form fault)
+    reply cap (after cap h (up_to_repeat earlier submission between)) submission ≡ Form fault)
 
 -- without the repeat the holdings after the list and all other replies are the same
 abbrev pub RepeatsChangeNothing : Type 0
 RepeatsChangeNothing = (cap : ℕ) (h : Holdings) (earlier : List Parsed) (submission : Parsed)
     (between later : List Parsed) →
-    IsSound cap h → AreWellFormed (with_member earlier submission between) →
-    (after cap h (with_member earlier submission between ++ (submission ∷ later))
-    ≡ after cap h (with_member earlier submission between ++ later)) ×
-    (remove (replies cap h (with_member earlier submission between ++ (submission ∷ later)))
-    (length (with_member earlier submission between))
-    ≡ replies cap h (with_member earlier submission between ++ later))
+    IsSound cap h → AreWellFormed (up_to_repeat earlier submission between) →
+    (after cap h (up_to_repeat earlier submission between ++ (submission ∷ later))
+    ≡ after cap h (up_to_repeat earlier submission between ++ later)) ×
+    (remove (replies cap h (up_to_repeat earlier submission between ++ (submission ∷ later)))
+    (length (up_to_repeat earlier submission between))
+    ≡ replies cap h (up_to_repeat earlier submission between ++ later))
 
 -- a list broken off after `prefix` and sent again whole gives the same holdings as the list once
 abbrev pub ResentFromStart : Type 0
@@ -88,8 +88,8 @@ ResentFromStart = (cap : ℕ) (h : Holdings) (prefix rest : List Parsed) → IsS
     after cap (after cap h prefix) (prefix ++ rest) ≡ after cap h (prefix ++ rest)
 
 -- each member of a list without conflicts is accepted, and the holdings get all its records
-abbrev pub AnyOrder : Type 0
-AnyOrder = (cap : ℕ) (h : Holdings) (submissions : List Parsed) → IsSound cap h →
+abbrev pub ConflictFreeIsAccepted : Type 0
+ConflictFreeIsAccepted = (cap : ℕ) (h : Holdings) (submissions : List Parsed) → IsSound cap h →
     AreWellFormed submissions → IsConflictFree cap h submissions →
     All IsAccepted (replies cap h submissions)
     × (after cap h submissions ≡ union_with_all h submissions)

@@ -6,12 +6,12 @@ use Rattle.edf_header.specs.Key.{Key}
 use Rattle.edf_fragment.specs.Fragment.{DataRecord}
 use Rattle.edf_fragment.specs.Parsed.{Parsed, Fragment}
 use Rattle.edf_holdings.specs.Same.{same_key, same_record}
-use Rattle.edf_holdings.specs.Clash.{Clash, clashes, near_of}
+use Rattle.edf_holdings.specs.Clash.{Clash, clashes, overlapping}
 use Rattle.edf_holdings.specs.Rising.{IsRising, contains_record, union, count_new}
 use Rattle.edf_holdings.specs.Holdings.{Holdings, IsSound, nothing_held}
 use Rattle.edf_holdings.specs.Reply.{IsWellFormed, fits, after_one, after, Overlap, Differs, Full}
 use Rattle.edf_holdings.specs.Reply.{Conflicts, Accepted, reply, IsAccepted}
-use Rattle.edf_holdings.specs.ConflictFree.{union_with_all, Has}
+use Rattle.edf_holdings.specs.ConflictFree.{union_with_all, HasRecordUnder}
 use Rattle.edf_holdings.specs.Laws.{AreWellFormed}
 
 -- the tests are what they are named for
@@ -42,29 +42,29 @@ HoldingsAreSets = (cap : ℕ) (h other : Holdings) → IsSound cap h → IsSound
     ((k : Key) → SameMembers (h k) (other k)) → h ≡ other
 
 -- a union has the records of both lists, and no others
-abbrev pub JoinedHasBoth : Type 0
-JoinedHasBoth = (xs records : List DataRecord) (r : DataRecord) →
+abbrev pub UnionHasBoth : Type 0
+UnionHasBoth = (xs records : List DataRecord) (r : DataRecord) →
     Contains (union xs records) r ↔ (Contains xs r ⊎ Contains records r)
 
 -- the union with all submissions has what was held and what they have, and nothing else
-abbrev pub AllHasBoth : Type 0
-AllHasBoth = (h : Holdings) (submissions : List Parsed) (k : Key) (r : DataRecord) →
-    Contains (union_with_all h submissions k) r ↔ (Contains (h k) r ⊎ Any (Has k r) submissions)
+abbrev pub UnionWithAllHasBoth : Type 0
+UnionWithAllHasBoth = (h : Holdings) (submissions : List Parsed) (k : Key) (r : DataRecord) →
+    Contains (union_with_all h submissions k) r
+    ↔ (Contains (h k) r ⊎ Any (HasRecordUnder k r) submissions)
 
 -- none of the records clashes with one of the key
-abbrev pub IsClear : Holdings → Key → List DataRecord → Type 0
-IsClear h key records = (r s : DataRecord) → Contains records r → Contains (h key) s →
+abbrev pub NoneClashesWithHeld : Holdings → Key → List DataRecord → Type 0
+NoneClashesWithHeld h key records = (r s : DataRecord) → Contains records r → Contains (h key) s →
     ¬ Clash (duration_of key.duration) r s
 
 -- none clashes, and with them the key has what it had, or at most the cap
 pub record Fits (cap : ℕ) (key : Key) (records : List DataRecord) (h : Holdings) : Type 0 where
-  pub clear : IsClear h key records
+  pub none_clashes : NoneClashesWithHeld h key records
   pub within_cap : (union (h key) records ≡ h key) ⊎ (length (union (h key) records) ≤ cap)
 
 abbrev pub TestIsFits : Type 0
 TestIsFits = (cap : ℕ) (h : Holdings) (key : Key) (records : List DataRecord) → IsSound cap h →
-    IsWellFormed (Fragment key records) →
-    IsTrue (fits cap key records h) ↔ Fits cap key records h
+    IsWellFormed (Fragment key records) → IsTrue (fits cap key records h) ↔ Fits cap key records h
 
 -- a fragment is accepted exactly where it fits
 abbrev pub AcceptedWhereFits : Type 0
@@ -98,8 +98,8 @@ FirstClashExists = (cap : ℕ) (h : Holdings) (key : Key) (records : List DataRe
     IsFirstClash (duration_of key.duration) (h key) records q x
 
 -- the reply is `Full` if some records are new and are too many, else `Accepted`
-abbrev pub AreCountsNamed : ℕ → Holdings → Key → List DataRecord → Type 0
-AreCountsNamed cap h key records =
+abbrev pub ReplyNamesCounts : ℕ → Holdings → Key → List DataRecord → Type 0
+ReplyNamesCounts cap h key records =
     (0 < count_new (h key) records → cap < length (h key) + count_new (h key) records →
     reply cap h (Fragment key records)
     ≡ Conflicts (Full (length (h key)) (count_new (h key) records) cap)) ×
@@ -108,14 +108,14 @@ AreCountsNamed cap h key records =
     (length records - count_new (h key) records))
 
 -- the reply goes by the counts where nothing clashes
-abbrev pub CountsAreNamed : Type 0
-CountsAreNamed = (cap : ℕ) (h : Holdings) (key : Key) (records : List DataRecord) →
-    IsClear h key records → AreCountsNamed cap h key records
+abbrev pub RepliesNameTheCounts : Type 0
+RepliesNameTheCounts = (cap : ℕ) (h : Holdings) (key : Key) (records : List DataRecord) →
+    NoneClashesWithHeld h key records → ReplyNamesCounts cap h key records
 
 -- the count of new records is that by which the recording grows
 abbrev pub NewRecordsAreCounted : Type 0
 NewRecordsAreCounted = (cap : ℕ) (h : Holdings) (key : Key) (records : List DataRecord) →
-    IsSound cap h → IsWellFormed (Fragment key records) → IsClear h key records →
+    IsSound cap h → IsWellFormed (Fragment key records) → NoneClashesWithHeld h key records →
     length (union (h key) records) ≡ length (h key) + count_new (h key) records
 
 -- a member of the list that was accepted when it came has the record under the key
@@ -126,7 +126,7 @@ pub record FromAccepted (cap : ℕ) (h : Holdings) (submissions : List Parsed) (
   pub later : List Parsed
   pub splits : submissions ≡ before ++ (member ∷ later)
   pub accepted : IsAccepted (reply cap (after cap h before) member)
-  pub has : Has k r member
+  pub has : HasRecordUnder k r member
 
 -- a list adds every record of its accepted members to what was held, and nothing else
 abbrev pub AfterHasAccepted : Type 0
@@ -147,15 +147,15 @@ OwnRecordsAreKnown = (cap : ℕ) (h : Holdings) (k : Key) → IsSound cap h → 
     (after_one cap nothing_held (Fragment k (h k)) ≡ (λ q. cond (same_key k q) (h k) []))
 
 -- at most two held records overlap one that begins at this start
-abbrev pub NearTwo : Type 0
-NearTwo = (cap : ℕ) (h : Holdings) (k : Key) (start : ℕ) → IsSound cap h →
-    length (near_of (duration_of k.duration) start (h k)) ≤ 2
+abbrev pub AtMostTwoOverlap : Type 0
+AtMostTwoOverlap = (cap : ℕ) (h : Holdings) (k : Key) (start : ℕ) → IsSound cap h →
+    length (overlapping (duration_of k.duration) start (h k)) ≤ 2
 
--- a rising list of exactly the held records that overlap one with this start is `near_of`
-abbrev pub NearIsSelected : Type 0
-NearIsSelected = (cap : ℕ) (h : Holdings) (k : Key) (start : ℕ) (ys : List DataRecord) →
+-- a rising list of exactly the held records that overlap one with this start is `overlapping`
+abbrev pub OverlappingIsDetermined : Type 0
+OverlappingIsDetermined = (cap : ℕ) (h : Holdings) (k : Key) (start : ℕ) (ys : List DataRecord) →
     IsSound cap h → IsRising ys →
     ((r : DataRecord) → Contains ys r
     ↔ (Contains (h k) r × (r.start < start + duration_of k.duration)
     × (start < r.start + duration_of k.duration))) →
-    ys ≡ near_of (duration_of k.duration) start (h k)
+    ys ≡ overlapping (duration_of k.duration) start (h k)

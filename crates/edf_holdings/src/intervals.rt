@@ -1,6 +1,6 @@
 ghost use Rattle.std.specs.Prelude.{◌<◌, MatchOption};
 ghost use Rattle.edf_holdings.specs.Clash.{Clash as DoClash};
-ghost use Rattle.edf_holdings.specs.Kind.{IsKind};
+ghost use Rattle.edf_holdings.specs.Kind.{IsClashOfKind};
 
 use crate::kind::Clash;
 use edf_fragment::Record;
@@ -10,7 +10,8 @@ use edf_fragment::Record;
 /// They don't where they are the same, or one starts no earlier than the other ends.
 pub fn clash(a: &Record, b: &Record, duration: u64) -> Option<Clash>
     requires { 0 < duration }
-    ensures { MatchOption result (¬ DoClash duration a.now b.now) (IsKind duration a.now b.now) }
+    ensures { MatchOption result (¬ DoClash duration a.now b.now)
+        (IsClashOfKind duration a.now b.now) }
 {
     if a.start() == b.start() {
         if a.same(b) {

@@ -1,15 +1,16 @@
 //! Lists of submissions have these laws: each function's contract is laws, and its body is empty.
 
 ghost use Rattle.edf_holdings.specs.Laws.{ParsedIsWellFormed, ResentFromStart, OneIsConflictFree};
-ghost use Rattle.edf_holdings.specs.Laws.{NothingIsSound, StaysSound, AddStaysSound, AcceptedAgain};
-ghost use Rattle.edf_holdings.specs.Laws.{HeldIsKnown, RefusedAgain, AnyOrder, Reordered};
-ghost use Rattle.edf_holdings.specs.Laws.{RepeatsChangeNothing, Recut, SameRecordsStayConflictFree};
+ghost use Rattle.edf_holdings.specs.Laws.{NothingHeldIsSound, StaysSound, AddStaysSound};
+ghost use Rattle.edf_holdings.specs.Laws.{AcceptedAgain, HeldIsKnown, RefusedAgain};
+ghost use Rattle.edf_holdings.specs.Laws.{ConflictFreeIsAccepted, Reordered, RepeatsChangeNothing};
+ghost use Rattle.edf_holdings.specs.Laws.{Recut, SameRecordsStayConflictFree};
 
 /// Bytes parse to what is well-formed, and holdings of nothing are sound. Sound holdings stay so
 /// after any list of submissions, and with one data record more that overlaps none.
 pub fn stays_sound()
     ensures well_formed { ParsedIsWellFormed }
-    ensures none { NothingIsSound }
+    ensures none { NothingHeldIsSound }
     ensures after { StaysSound }
     ensures add { AddStaysSound }
 {}
@@ -20,12 +21,12 @@ pub fn once()
     ensures accepted { AcceptedAgain }
     ensures refused { RefusedAgain }
     ensures taken_out { RepeatsChangeNothing }
-    ensures front { ResentFromStart }
+    ensures resent { ResentFromStart }
 {}
 
 /// A list without conflicts is accepted whole; reordered or repeated it gives the same holdings.
 pub fn any_order()
-    ensures accepted { AnyOrder }
+    ensures accepted { ConflictFreeIsAccepted }
     ensures reordered { Reordered }
     ensures alone { OneIsConflictFree }
 {}
@@ -33,5 +34,5 @@ pub fn any_order()
 /// Lists with the same records have no conflicts if one has none, and give the same holdings.
 pub fn recut()
     ensures same { Recut }
-    ensures free { SameRecordsStayConflictFree }
+    ensures conflict_free { SameRecordsStayConflictFree }
 {}

@@ -3,10 +3,11 @@
 ghost use Rattle.edf_holdings.specs.Meaning.{SameKeyIsEqual, FirstClashExists, AfterHasAccepted};
 ghost use Rattle.edf_holdings.specs.Meaning.{SameRecordIsEqual, HoldingsAreSets, AcceptedWhereFits};
 ghost use Rattle.edf_holdings.specs.Meaning.{TestIsClash, RepliesNameTheClash, OwnRecordsAreKnown};
-ghost use Rattle.edf_holdings.specs.Meaning.{TestIsContains, CountsAreNamed, NearIsSelected};
-ghost use Rattle.edf_holdings.specs.Meaning.{ListIsSet, JoinedHasBoth, AllHasBoth, TestIsFits};
-ghost use Rattle.edf_holdings.specs.Meaning.{NewRecordsAreCounted, RefusedChangesNothing, NearTwo};
-ghost use Rattle.edf_holdings.specs.Keys.{KeysAreOne};
+ghost use Rattle.edf_holdings.specs.Meaning.{TestIsContains, RepliesNameTheCounts};
+ghost use Rattle.edf_holdings.specs.Meaning.{OverlappingIsDetermined, ListIsSet, UnionHasBoth};
+ghost use Rattle.edf_holdings.specs.Meaning.{UnionWithAllHasBoth, TestIsFits, NewRecordsAreCounted};
+ghost use Rattle.edf_holdings.specs.Meaning.{RefusedChangesNothing, AtMostTwoOverlap};
+ghost use Rattle.edf_holdings.specs.Keys.{KeyListIsUnique};
 
 /// Each test is true exactly where the definition that it is named for is.
 pub fn tests()
@@ -20,9 +21,9 @@ pub fn tests()
 pub fn sets()
     ensures list { ListIsSet }
     ensures holdings { HoldingsAreSets }
-    ensures united { JoinedHasBoth }
-    ensures all { AllHasBoth }
-    ensures keys { KeysAreOne }
+    ensures union { UnionHasBoth }
+    ensures all { UnionWithAllHasBoth }
+    ensures keys { KeyListIsUnique }
 {}
 
 /// A fragment is accepted where it fits; a refusal names why, and changes nothing.
@@ -31,7 +32,7 @@ pub fn intake()
     ensures accepted { AcceptedWhereFits }
     ensures named { RepliesNameTheClash }
     ensures there { FirstClashExists }
-    ensures counts { CountsAreNamed }
+    ensures counts { RepliesNameTheCounts }
     ensures new { NewRecordsAreCounted }
     ensures after { AfterHasAccepted }
     ensures refused { RefusedChangesNothing }
@@ -40,6 +41,6 @@ pub fn intake()
 
 /// At most two records overlap one with a given start, and their starts select them.
 pub fn near()
-    ensures two { NearTwo }
-    ensures selected { NearIsSelected }
+    ensures two { AtMostTwoOverlap }
+    ensures selected { OverlappingIsDetermined }
 {}

@@ -44,7 +44,7 @@ module _ {S : Type 0} (g : Ghosts S) (old new : StoreTx S) (id : ℤ) (key : Key
   room_left asked cap held spare capped counts is clean h seen =
       let count : held ≡ length (h key) =
       counts clean h key (seen_first clean h seen) running.recording in
-      let few : length (h key) ≤ new.store.now.cap = (seen clean).sound.few key in
+      let few : length (h key) ≤ new.store.now.cap = (seen clean).sound.within_cap key in
       record {
         fits = omega (arith, count, few, is, capped, read.stays.cap);
         enough = inl (omega (arith, count, few, is, capped, read.stays.cap));

@@ -8,7 +8,7 @@ use Rattle.std.proofs.lemmas.List.Elements.{All-cons, All-head, All-tail, All-we
 use Rattle.edf_header.specs.Key.{Key}
 use Rattle.edf_fragment.specs.Fragment.{DataRecord}
 use Rattle.edf_holdings.specs.Same.{same_record}
-use Rattle.edf_holdings.specs.Clash.{intervals_overlap, near_of}
+use Rattle.edf_holdings.specs.Clash.{intervals_overlap, overlapping}
 use Rattle.edf_holdings.specs.Rising.{insert}
 use Rattle.edf_holdings.specs.Holdings.{Holdings, with_records}
 use Rattle.edf_holdings.proofs.Joining.{put_here}
@@ -28,11 +28,11 @@ misses d start from (Some u) x late early (inr later) =
     (le-ltb x.start (start + d) (omega (arith, early, later)))
 
 pub none_near : (d start : ℕ) (gap : Gap) (records : List DataRecord) → gap.from + d ≤ start →
-    IfSome gap.until (λ u. start + d ≤ u) → IsGap records gap → near_of d start records ≡ []
+    IfSome gap.until (λ u. start + d ≤ u) → IsGap records gap → overlapping d start records ≡ []
 none_near d start gap [] late early all = refl
 none_near d start gap (x ∷ xs) late early all =
     let out = λ (r : DataRecord). IsOutside gap r.start in
-    cond-false (intervals_overlap d start x) (x ∷ near_of d start xs) (near_of d start xs)
+    cond-false (intervals_overlap d start x) (x ∷ overlapping d start xs) (overlapping d start xs)
     (misses d start gap.from gap.until x late early (All-head out x xs all))
     ∙ none_near d start gap xs late early (All-tail out x xs all)
 

@@ -10,7 +10,7 @@ use Rattle.edf_header.specs.Header.{Layout}
 use Rattle.edf_fragment.specs.Fragment.{DataRecord}
 use Rattle.edf_fragment.specs.Whole.{HasReadRecords}
 use Rattle.edf_fragment.specs.declared.advance.Progress.{Progress}
-use Rattle.edf_holdings.specs.Clash.{near_of}
+use Rattle.edf_holdings.specs.Clash.{overlapping}
 use Rattle.edf_holdings.specs.Rising.{StartsAreSpaced}
 use Rattle.edf_holdings.specs.Holdings.{Holdings}
 use Rattle.edf_holdings.proofs.OneByOne.{Taken, Stopped, TakenOrStopped, still_stopped, after_clash}
@@ -69,7 +69,7 @@ next_wider spare full asked key r h new known None t to low enough below (verdic
   verdict,
   is,
   counts_wider spare full asked key r
-      (near_of (duration_of key.duration) r.start (h key)) h
+      (overlapping (duration_of key.duration) r.start (h key)) h
       (record { new = new; known = known; clash = None }) t to verdict low enough below counts,
 )
 next_wider spare full asked key r h new known (Some s) t to low enough below same = same
@@ -92,8 +92,8 @@ module _ (cap spare : ℕ) (key : Key) (h : Holdings) (is_key : IsKey key)
     (a : StartsAreSpaced (duration_of key.duration) 0 (rs ++ r ∷ [])) (t : Holdings) where
   counted_next : (new known : ℕ) (t' : Holdings) (to : Findings) (verdict : Verdict) →
       Taken cap key h rs t new known
-      → IsVerdict r (near_of (duration_of key.duration) r.start (t key)) verdict
-      → CountsVerdict spare key r (near_of (duration_of key.duration) r.start (t key)) t
+      → IsVerdict r (overlapping (duration_of key.duration) r.start (t key)) verdict
+      → CountsVerdict spare key r (overlapping (duration_of key.duration) r.start (t key)) t
       (record { new = new; known = known; clash = None }) t' to verdict
       → Met cap key h (rs ++ r ∷ []) t' to
   counted_next new known t' to (Clashes stored) k (s, e, q) (same, is) =

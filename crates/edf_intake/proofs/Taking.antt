@@ -7,7 +7,7 @@ use Rattle.sqlite.specs.State.{HasCleanDisk}
 use Rattle.edf_field.specs.Number.{duration_of}
 use Rattle.edf_header.specs.Key.{Key}
 use Rattle.edf_fragment.specs.Fragment.{DataRecord}
-use Rattle.edf_holdings.specs.Clash.{near_of}
+use Rattle.edf_holdings.specs.Clash.{overlapping}
 use Rattle.edf_holdings.specs.Holdings.{Holdings, with_records}
 use Rattle.edf_store.specs.Held.{StoreModel, at, KeepsHoldings}
 use Rattle.edf_store.specs.Transaction.{AreSeen, Sees, SeesHoldings, IsOf, StillSees, SeesAsBefore}
@@ -81,10 +81,10 @@ sees_then g a b c cap p q = sees_twice c.cap (at g a) (at g b) (at g c)
 
 -- what is near a data record, at its start and of its duration
 pub near_there : (d d' start start' : ℕ) (near records : List DataRecord) → d ≡ d' →
-    start ≡ start' → near ≡ near_of d start records → near ≡ near_of d' start' records
+    start ≡ start' → near ≡ overlapping d start records → near ≡ overlapping d' start' records
 near_there d d' start start' near records same is e =
-    subst (λ (n : ℕ). near ≡ near_of d' n records) is
-    (subst (λ (n : ℕ). near ≡ near_of n start records) same e)
+    subst (λ (n : ℕ). near ≡ overlapping d' n records) is
+    (subst (λ (n : ℕ). near ≡ overlapping n start records) same e)
 
 pub verdict_near : {S : Type 0} (g : Ghosts S) (s : StoreModel S) (id : ℤ) (key : Key)
     (r : DataRecord)
@@ -107,13 +107,14 @@ gap_found g s u id key start until cap same under next h seen =
 -- what one verdict makes of the findings and the holdings
 verdict_next : (spare : ℕ) (key : Key) (r : DataRecord) (from to : Findings) (verdict : Verdict) →
     from.clash ≡ None → (h t : Holdings) →
-    IsVerdict r (near_of (duration_of key.duration) r.start (h key)) verdict →
-    CountsVerdict spare key r (near_of (duration_of key.duration) r.start (h key)) h from t to
+    IsVerdict r (overlapping (duration_of key.duration) r.start (h key)) verdict →
+    CountsVerdict spare key r (overlapping (duration_of key.duration) r.start (h key)) h from t to
     verdict → CountsNext spare key r h from t to
 verdict_next spare key r from to verdict none h t said counts =
     subst (λ (o : Option Starts). MatchOption o
-    ((v : Verdict) × IsVerdict r (near_of (duration_of key.duration) r.start (h key)) v
-    × CountsVerdict spare key r (near_of (duration_of key.duration) r.start (h key)) h from t to v)
+    ((v : Verdict) × IsVerdict r (overlapping (duration_of key.duration) r.start (h key)) v
+    × CountsVerdict spare key r (overlapping (duration_of key.duration) r.start (h key)) h from t to
+    v)
     (λ starts. to ≡ from)) (sym none) (verdict, said, counts)
 
 -- s is the transaction before the record, and u the one after the store was asked for those near it
@@ -238,7 +239,7 @@ module _ {S : Type 0} (g : Ghosts S) (id : ℤ) (key : Key) (r : DataRecord) (sp
               let before = seen_first clean h seen in
               record {
                 none_near = verdict_is New same clean h before;
-                few = omega (arith, read.stays.cap, may.few was (none, low) h before);
+                below_cap = omega (arith, read.stays.cap, may.below_cap was (none, low) h before);
                 first = may.first was (none, low) h before;
               };
         }

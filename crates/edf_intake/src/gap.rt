@@ -2,7 +2,7 @@
 
 ghost use Rattle.std.specs.Prelude.{◌≡◌, ◌+◌, ◌≤◌, ◌↔◌, List, [], IsTrue, IfSome, OnSome};
 ghost use Rattle.edf_fragment.specs.Fragment.{DataRecord};
-ghost use Rattle.edf_holdings.specs.Clash.{near_of};
+ghost use Rattle.edf_holdings.specs.Clash.{overlapping};
 ghost use Rattle.edf_intake.specs.Inside.Gap.{IsGap};
 
 use edf_field::MOST_DURATION;
@@ -22,7 +22,7 @@ pub(crate) fn gap_after(gap: Option<Gap>, start: Instant, duration: u64) -> Opti
     requires duration { duration ≤ MOST_DURATION }
     ensures from { IfSome result (λ rest. rest.from ≡ start) }
     ensures none_near { OnSome result ((records : List DataRecord) →
-        IfSome gap (IsGap records) → near_of duration start records ≡ []) }
+        IfSome gap (IsGap records) → overlapping duration start records ≡ []) }
     ensures rest { IfSome result (λ rest. (records : List DataRecord) →
         IfSome gap (IsGap records) → IsGap records rest) }
 {

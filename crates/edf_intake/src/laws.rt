@@ -1,9 +1,9 @@
 //! Laws about lists of submissions. Each function has laws as its contract, and does nothing.
 
 ghost use Rattle.edf_holdings.specs.Laws.{HeldIsKnown, AcceptedAgain, RefusedAgain};
-ghost use Rattle.edf_holdings.specs.Laws.{RepeatsChangeNothing, ResentFromStart, AnyOrder};
-ghost use Rattle.edf_holdings.specs.Laws.{Reordered, OneIsConflictFree, Recut};
-ghost use Rattle.edf_holdings.specs.Laws.{SameRecordsStayConflictFree};
+ghost use Rattle.edf_holdings.specs.Laws.{RepeatsChangeNothing, ResentFromStart};
+ghost use Rattle.edf_holdings.specs.Laws.{ConflictFreeIsAccepted, Reordered, OneIsConflictFree};
+ghost use Rattle.edf_holdings.specs.Laws.{Recut, SameRecordsStayConflictFree};
 ghost use Rattle.edf_holdings.specs.Meaning.{OwnRecordsAreKnown};
 ghost use Rattle.edf_intake.specs.Batch.{InTurnIsAsList};
 
@@ -17,7 +17,7 @@ pub fn once()
     ensures accepted { AcceptedAgain }
     ensures refused { RefusedAgain }
     ensures taken_out { RepeatsChangeNothing }
-    ensures front { ResentFromStart }
+    ensures resent { ResentFromStart }
 {
     edf_holdings::laws::once();
 }
@@ -25,7 +25,7 @@ pub fn once()
 /// A conflict-free list is accepted whole. Reordered, or with repeats, it is still conflict-free
 /// and gives the same holdings.
 pub fn any_order()
-    ensures accepted { AnyOrder }
+    ensures accepted { ConflictFreeIsAccepted }
     ensures reordered { Reordered }
     ensures alone { OneIsConflictFree }
 {
@@ -37,7 +37,7 @@ pub fn any_order()
 /// new where they are held; where nothing is held, just that recording is held after them.
 pub fn recut()
     ensures same { Recut }
-    ensures free { SameRecordsStayConflictFree }
+    ensures conflict_free { SameRecordsStayConflictFree }
     ensures own { OwnRecordsAreKnown }
 {
     edf_holdings::laws::recut();

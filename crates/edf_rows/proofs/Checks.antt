@@ -75,7 +75,7 @@ told cap trees row id k (Some count) first second key has = λ c.
         begins = has.begins;
         shown = has.shown;
         some = has.some;
-        few = has.few;
+        within_cap = has.within_cap;
       },
       has.count_is ∙ sym (ap length has.shown ∙ length-map has.records _),
     )

@@ -129,7 +129,7 @@ record HasGood (cap : ℕ) (k : Key) (rows : List Row) : Type 0 where
   begins : FirstMayStart k records
   shown : rows ≡ map record_cells records
   some : rows ≢ []
-  few : length records ≤ cap
+  within_cap : length records ≤ cap
 
 some_rows : (row : Row) (rows all : List Row) → all ≡ row ∷ rows → all ≢ []
 some_rows row rows all is none = absurd (let n : ◌≡◌ {A = ℕ} (length (row ∷ rows)) 0 =
@@ -164,7 +164,7 @@ records_or cap trees id k =
                     is;
                 some = some_rows (record_cells r) (map record_cells rs) (records_in trees id)
                     is;
-                few = few;
+                within_cap = few;
               })
             ]
           ]
@@ -205,7 +205,7 @@ module _ (cap : ℕ) (trees : Trees) where
                 shown =
                     good.shown;
                 some = good.some;
-                few = good.few;
+                within_cap = good.within_cap;
               },
               more,
             )

@@ -273,7 +273,8 @@ not-foreign cap trees h kept (bad_records id k is bad) =
     let rows = kept.stand.held id k is in
     let good = IsGood-from_sound cap h kept.sound in
     not-bad-records cap k (h k) (recursion_from_All (IsSoundRecord k) (h k) (kept.sound.records k))
-    (good.apart k) (kept.sound.begins k) (good.few k) (λ none. kept.each id k is (rows ∙ none))
+    (good.apart k) (kept.sound.begins k) (good.within_cap k)
+    (λ none. kept.each id k is (rows ∙ none))
     (subst (AreBadRecords cap k) rows bad)
 not-foreign cap trees h kept (without_recording row c none) =
     let own : BelongsToRecording trees row =

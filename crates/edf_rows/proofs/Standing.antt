@@ -206,6 +206,6 @@ module _ {S : Type 0} (g : Ghosts S) (recording : ℤ) (k : Key) (long : 0 < dur
             length-map stands.records record_cells in
             let z : length (map record_cells stands.records) ≡ 0 = e in
             omega (arith, z, n, size, some));
-        few = omega (arith, size, few);
+        within_cap = omega (arith, size, few);
         count_is = sym size;
       }

@@ -13,7 +13,7 @@ use Rattle.edf_holdings.specs.Clash.{NoClash}
 use Rattle.edf_holdings.specs.Rising.{union}
 use Rattle.edf_holdings.specs.Holdings.{Holdings, IsSound, with_records, nothing_held}
 use Rattle.edf_holdings.specs.Reply.{IsWellFormed, IsAccepted, after, replies}
-use Rattle.edf_holdings.specs.ConflictFree.{IsFragment, IsConflictFree, Has, SameRecords}
+use Rattle.edf_holdings.specs.ConflictFree.{IsFragment, IsConflictFree, HasRecordUnder, SameRecords}
 use Rattle.edf_holdings.specs.Laws.{AreWellFormed}
 use Rattle.edf_holdings.proofs.Joining.{put_cases, put_here, lasting, apart-sound}
 use Rattle.edf_holdings.proofs.ConflictFree.{IsAmong, IsAmong-from_Any, Any-from_IsAmong}
@@ -92,7 +92,8 @@ module _ (k : Key) (runs : List (List DataRecord)) where
       × Contains (all_of runs) r
   told-in-runs [] q r tell has = absurd has
   told-in-runs (told ∷ tolds) q r tell (inl here) =
-      let has : Has q r (Fragment k tell.0.run) = subst (Has q r) tell.0.is here in
+      let has : HasRecordUnder q r (Fragment k tell.0.run) =
+      subst (HasRecordUnder q r) tell.0.is here in
       (has.0, in-all runs tell.0.run r tell.0.is_run has.1)
   told-in-runs (told ∷ tolds) q r tell (inr later) = told-in-runs tolds q r tell.1 later
 
@@ -107,7 +108,7 @@ told-sound (file ∷ files) (told ∷ tolds) tell =
 -- what a file of the list tells is told
 pub file-told : (files : List (List ℕ)) (tolds : List Parsed) (file : List ℕ) (k q : Key)
     (run : List DataRecord) (r : DataRecord) → AllZip ParsesTo files tolds → Contains files file
-    → IsFragmentFile file k run → Has q r (Fragment k run) → IsAmong q r tolds
+    → IsFragmentFile file k run → HasRecordUnder q r (Fragment k run) → IsAmong q r tolds
 file-told [] tolds file k q run r tell c spells has = absurd (omega (arith, c.1))
 file-told (first ∷ files) [] file k q run r tell c spells has = absurd tell
 file-told (first ∷ files) (told ∷ tolds) file k q run r tell c spells has =
@@ -115,7 +116,7 @@ file-told (first ∷ files) (told ∷ tolds) file k q run r tell c spells has =
       | inl same ↦
           let is = one-parse first told (Fragment k run) tell.0
           (subst (λ (l : List ℕ). IsFragmentFile l k run) (sym same) spells) in
-          inl (subst (Has q r) (sym is) has)
+          inl (subst (HasRecordUnder q r) (sym is) has)
       | inr later ↦ inr (file-told files tolds file k q run r tell.1 later spells has)
     ]
 
@@ -139,9 +140,9 @@ module _ (cap : ℕ) (h : Holdings) (k : Key) (records : List DataRecord) (sound
         no_clash = put_cases k records h (λ q l. NoClash (duration_of q.duration) l)
             (subst (λ (l : List DataRecord). NoClash (duration_of k.duration) l) as-from-nothing
             (alone.no_clash k)) sound.no_clash;
-        few = put_cases k records h (λ q l. length l ≤ cap)
-            (subst (λ (l : List DataRecord). length l ≤ cap) as-from-nothing (alone.few k))
-            sound.few;
+        within_cap = put_cases k records h (λ q l. length l ≤ cap)
+            (subst (λ (l : List DataRecord). length l ≤ cap) as-from-nothing (alone.within_cap k))
+            sound.within_cap;
       }
 
   alone-leaves : length records ≤ cap → after cap h (whole k records) k ≡ records

@@ -13,7 +13,7 @@ use Rattle.edf_fragment.specs.Parsed.{Parsed, Fragment, ParsesTo}
 use Rattle.edf_fragment.proofs.Parsed.{one-parse}
 use Rattle.edf_canonical.specs.File.{IsCanonicalFile}
 use Rattle.edf_canonical.proofs.Files.{its-own}
-use Rattle.edf_holdings.specs.ConflictFree.{IsFragment, Has, SameRecords}
+use Rattle.edf_holdings.specs.ConflictFree.{IsFragment, HasRecordUnder, SameRecords}
 use Rattle.edf_holdings.specs.Holdings.{Holdings}
 use Rattle.edf_holdings.specs.Reply.{IsAccepted, IsWellFormed, reply, replies, after_one}
 use Rattle.edf_holdings.proofs.ConflictFree.{IsAmong, IsAmong-from_Any, Any-from_IsAmong}
@@ -64,15 +64,15 @@ module _ (k : Key) (rs : List DataRecord) where
       AllByRecursion (TellsPart k rs) tolds → IsAmong q r tolds → (k ≡ q) × Contains rs r
   told-in [] q r tell has = absurd has
   told-in (told ∷ tolds) q r tell (inl here) =
-      let has : Has q r (Fragment k tell.0.part) = subst (Has q r) tell.0.is here in
+      let has : HasRecordUnder q r (Fragment k tell.0.part) =
+      subst (HasRecordUnder q r) tell.0.is here in
       (has.0, All-contains (Contains rs) tell.0.part r tell.0.among has.1)
   told-in (told ∷ tolds) q r tell (inr later) = told-in tolds q r tell.1 later
 
 -- where one of the files spells them all
 same-as-whole : (k : Key) (rs : List DataRecord) (file : List ℕ) (files : List (List ℕ))
     (tolds : List Parsed) → IsFragmentFile file k rs → Contains files file →
-    All (IsPart k rs) files →
-    AllZip ParsesTo files tolds → SameRecords (whole k rs) tolds
+    All (IsPart k rs) files → AllZip ParsesTo files tolds → SameRecords (whole k rs) tolds
 same-as-whole k rs file files tolds spells is-one are tell q r = (
   (λ any. Any-from_IsAmong q r tolds (forth (IsAmong-from_Any q r (whole k rs) any))),
   (λ any. Any-from_IsAmong q r (whole k rs) (back (IsAmong-from_Any q r tolds any))),

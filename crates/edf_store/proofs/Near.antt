@@ -12,7 +12,7 @@ use Rattle.sqlite_value.proofs.OrderLemmas.{value_cmp-Int}
 use Rattle.sqlite_trees.specs.Tree.{Trees}
 use Rattle.edf_header.specs.Key.{Key}
 use Rattle.edf_fragment.specs.Fragment.{DataRecord}
-use Rattle.edf_holdings.specs.Clash.{intervals_overlap, near_of}
+use Rattle.edf_holdings.specs.Clash.{intervals_overlap, overlapping}
 use Rattle.edf_holdings.specs.Rising.{StartsAreSpaced}
 use Rattle.edf_holdings.specs.Holdings.{Holdings, IsSound}
 use Rattle.edf_tables.specs.Records.{records_of, shown_record, starts_between, starts_after}
@@ -63,7 +63,7 @@ near_test start d row x e =
 pub near_shown : (trees : Trees) (h : Holdings) (id : ℤ) (k : Key) (start d : ℕ) →
     Represent trees h → HasRecordingRow trees id k
     → map shown_record (filter (starts_between (pos start -ℤ pos d) (pos start +ℤ pos d))
-    (records_of id (trees 2))) ≡ map record_cells (near_of d start (h k))
+    (records_of id (trees 2))) ≡ map record_cells (overlapping d start (h k))
 near_shown trees h id k start d stand there =
     from_show _ _ (show_filter _ (intervals_overlap d start) (near_test start d)
     (records_of id (trees 2)) (h k) (shown_of trees h stand id k there))

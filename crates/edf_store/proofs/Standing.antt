@@ -20,7 +20,7 @@ use Rattle.edf_header.specs.Key.{Key}
 use Rattle.edf_tal.specs.Canonical.{tals_text}
 use Rattle.edf_fragment.specs.Fragment.{DataRecord}
 use Rattle.edf_holdings.specs.Same.{same_key}
-use Rattle.edf_holdings.specs.Clash.{near_of}
+use Rattle.edf_holdings.specs.Clash.{overlapping}
 use Rattle.edf_holdings.specs.Rising.{insert, union}
 use Rattle.edf_holdings.specs.Holdings.{Holdings, with_records}
 use Rattle.edf_holdings.proofs.Same.{same_key-true, same_key-Decides}
@@ -94,7 +94,7 @@ module _ (old new : State) (id : ℤ) (k : Key) (r : DataRecord) (h : Holdings)
     (has : HasRecord old new (cells id (pos r.start) r.samples
     (tals_text 0 r.start r.annotations)))
     (stand : Represent old.now.trees h) (there : HasRecordingRow old.now.trees id k)
-    (none : near_of (duration_of k.duration) r.start (h k) ≡ []) where
+    (none : overlapping (duration_of k.duration) r.start (h k) ≡ []) where
   pub there_same : (m : ℤ) (q : Key) → HasRecordingRow new.now.trees m q →
       HasRecordingRow old.now.trees m q
   there_same m q it = record {

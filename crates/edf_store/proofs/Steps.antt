@@ -13,7 +13,7 @@ use Rattle.edf_header.specs.Key.{Key, IsKey, key_bytes}
 use Rattle.edf_tal.specs.Canonical.{tals_text}
 use Rattle.edf_fragment.specs.Fragment.{DataRecord}
 use Rattle.edf_holdings.specs.Holdings.{Holdings, IsSound, with_records}
-use Rattle.edf_holdings.specs.Clash.{near_of, intervals_overlap}
+use Rattle.edf_holdings.specs.Clash.{overlapping, intervals_overlap}
 use Rattle.edf_fragment.specs.Sound.{IsSoundRecord}
 use Rattle.edf_holdings.proofs.Near.{near_two}
 use Rattle.edf_holdings.proofs.Joining.{IsGood-from_sound}
@@ -65,7 +65,7 @@ module _ (cap : ℕ) (old new : State) (P : Trees → Type 0) (s : Survives old 
   count_is id count n clean small is same h k seen under =
       let it = seen (was_clean clean) in
       let rows = count_shown old.now.trees h id k it.stand (under.there (was_clean clean)) in
-      let few = it.sound.few k in
+      let few = it.sound.within_cap k in
       omega (arith, small, is, same, rows, few)
 
   -- the rows near are those of the records near
@@ -73,16 +73,16 @@ module _ (cap : ℕ) (old new : State) (P : Trees → Type 0) (s : Survives old 
       HasRowId old id k → d ≡ duration_of k.duration
       → ((h : Holdings) → IsTransactionOf cap old h → IsKey k →
       map shown_record (filter (starts_between (pos start -ℤ pos d) (pos start +ℤ pos d))
-      (records_of id (old.now.trees 2))) ≡ map record_cells (near_of d start (h k)) →
-      records ≡ near_of d start (h k)) → AreNearIn cap old id start records
+      (records_of id (old.now.trees 2))) ≡ map record_cells (overlapping d start (h k)) →
+      records ≡ overlapping d start (h k)) → AreNearIn cap old id start records
   near_is id start d k records clean mine same read h q seen under =
       let it = seen (was_clean clean) in
       let key : k ≡ q = one_key old.now.trees h it.stand id k q (mine.there (was_clean clean))
       (under.there (was_clean clean)) in
       let answer = read h it mine.key (near_shown old.now.trees h id k start d it.stand
       (mine.there (was_clean clean))) in
-      subst (λ (p : Key). records ≡ near_of (duration_of p.duration) start (h p)) key
-      (subst (λ n. records ≡ near_of n start (h k)) same answer)
+      subst (λ (p : Key). records ≡ overlapping (duration_of p.duration) start (h p)) key
+      (subst (λ n. records ≡ overlapping n start (h k)) same answer)
 
   pub added_in : (id : ℤ) (r : DataRecord) → (HasCleanDisk new → HasRecord old new
       (cells id (pos r.start) r.samples (tals_text 0 r.start r.annotations))) →
@@ -119,7 +119,7 @@ module _ (cap : ℕ) (old new : State) (P : Trees → Type 0) (s : Survives old 
             inside = record_inside old new _ (has clean);
             stand = stand_more old new id may.key r h (has clean) it.stand mine spare.none_near;
             sound = add_stays_sound cap h may.key r it.sound may.is_under.key may.sound
-                spare.none_near spare.few spare.first;
+                spare.none_near spare.below_cap spare.first;
             others = others_on old new (has clean).others (has clean).shown.committed_is it.others;
           })
 
@@ -283,7 +283,7 @@ two_near cap s id k start records under running clean near =
     omega (arith, most, ap length (near it.0 k (λ _. it.1) under))
 
 pub sound_near : (cap : ℕ) (h : Holdings) (k : Key) (d start : ℕ) → IsSound cap h →
-    AllByRecursion (IsSoundRecord k) (near_of d start (h k))
+    AllByRecursion (IsSoundRecord k) (overlapping d start (h k))
 sound_near cap h k d start sound =
     all-filter (IsSoundRecord k) (intervals_overlap d start) (h k)
     (recursion_from_All (IsSoundRecord k) (h k) (sound.records k))

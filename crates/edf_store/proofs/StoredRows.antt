@@ -17,7 +17,7 @@ use Rattle.sqlite_keyed.specs.Lists.{insert_sorted}
 use Rattle.edf_fragment.specs.Fragment.{DataRecord}
 use Rattle.edf_holdings.specs.Same.{same_record}
 use Rattle.edf_holdings.specs.Rising.{insert, StartsAreSpaced}
-use Rattle.edf_holdings.specs.Clash.{intervals_overlap, near_of}
+use Rattle.edf_holdings.specs.Clash.{intervals_overlap, overlapping}
 use Rattle.edf_holdings.proofs.Same.{same_record_no}
 use Rattle.edf_tables.specs.Records.{shown_record}
 use Rattle.edf_tables.specs.Columns.{by_column}
@@ -93,17 +93,18 @@ met : (d start : ℕ) (x : DataRecord) → 0 < d → x.start ≡ start → inter
 met d start x some e = and_from (nat_lt start (x.start + d)) (nat_lt x.start (start + d))
     (lt-ltb _ _ (omega (arith, some, e))) (lt-ltb _ _ (omega (arith, some, e)))
 
-pub not_at : (d start : ℕ) (xs : List DataRecord) → 0 < d → near_of d start xs ≡ [] → NotAt start xs
+pub not_at : (d start : ℕ) (xs : List DataRecord) → 0 < d → overlapping d start xs ≡ [] →
+    NotAt start xs
 not_at d start [] some none = tt
 not_at d start (x ∷ xs) some none =
     go (intervals_overlap d start x) refl none (not_at d start xs some)
   where
-    go : (b : Bool) → intervals_overlap d start x ≡ b → near_of d start (x ∷ xs) ≡ [] →
-        (near_of d start xs ≡ [] → NotAt start xs) → NotAt start (x ∷ xs)
-    go true e none more = absurd (let n : ◌≡◌ {A = ℕ} (length (near_of d start (x ∷ xs))) 0 =
+    go : (b : Bool) → intervals_overlap d start x ≡ b → overlapping d start (x ∷ xs) ≡ [] →
+        (overlapping d start xs ≡ [] → NotAt start xs) → NotAt start (x ∷ xs)
+    go true e none more = absurd (let n : ◌≡◌ {A = ℕ} (length (overlapping d start (x ∷ xs))) 0 =
         ap length none in let c =
-        ap length (cond-true (intervals_overlap d start x) (x ∷ near_of d start xs)
-        (near_of d start xs) e) in
+        ap length (cond-true (intervals_overlap d start x) (x ∷ overlapping d start xs)
+        (overlapping d start xs) e) in
         omega (arith, n, c))
     go false e none more = (
       (λ same. true≢false (sym (met d start x some same) ∙ e)),

@@ -80,7 +80,7 @@ module _ (cap : ℕ) (trees : Trees) (h : Holdings) (id : ℤ) (k : Key)
       (count ≡ length (h k)) × (count ≤ MOST_RECORDS)
   count_of count e =
       let rows = count_shown trees h id k kept.stand there in
-      let few = kept.sound.few k in
+      let few = kept.sound.within_cap k in
       (omega (arith, e, rows, few, small), omega (arith, e, rows, few, small))
 
   pub first_of : (start : Option ℤ) → option_map Int start ≡ option_map (λ row. column row 2)

@@ -7,7 +7,7 @@ use Rattle.sqlite.specs.State.{State, HasCleanDisk}
 use Rattle.edf_field.specs.Number.{duration_of}
 use Rattle.edf_header.specs.Key.{Key, IsKey, MayStart}
 use Rattle.edf_fragment.specs.Fragment.{DataRecord}
-use Rattle.edf_holdings.specs.Clash.{near_of}
+use Rattle.edf_holdings.specs.Clash.{overlapping}
 use Rattle.edf_fragment.specs.Sound.{IsSoundRecord}
 use Rattle.edf_holdings.specs.Holdings.{Holdings, IsSound, with_records}
 use Rattle.edf_tables.specs.Row.{IsInside}
@@ -54,7 +54,7 @@ AddsOnlyRecordingIn made old new = HasCleanDisk new → (id : ℤ) (k : Key) →
 -- these are the recording's records whose intervals overlap the one that begins at the start
 abbrev pub AreNearIn : ℕ → State → ℤ → ℕ → List DataRecord → Type 0
 AreNearIn cap s id start records = (h : Holdings) (k : Key) → AreSeen cap s h → HasRowId s id k →
-    records ≡ near_of (duration_of k.duration) start (h k)
+    records ≡ overlapping (duration_of k.duration) start (h k)
 
 -- this is the earliest start of the records that is `from` or later, or None where there is none
 abbrev pub IsNextStart : ℕ → List DataRecord → Option ℕ → Type 0
@@ -80,8 +80,8 @@ IsCapacityAnswerIn cap s id more answer = (h : Holdings) (k : Key) → AreSeen c
 -- the record can be added: none overlaps it, there are fewer than the cap, and a recording that has
 -- none may start with it (one that has some has a date or began before 2085, as sound holdings do)
 pub record CanAdd (cap : ℕ) (k : Key) (r : DataRecord) (h : Holdings) : Type 0 where
-  pub none_near : near_of (duration_of k.duration) r.start (h k) ≡ []
-  pub few : length (h k) < cap
+  pub none_near : overlapping (duration_of k.duration) r.start (h k) ≡ []
+  pub below_cap : length (h k) < cap
   pub first : h k ≡ [] → MayStart k r.start
 
 -- the record is a sound one of the recording's key, and can be added to it

@@ -28,7 +28,7 @@ may_take cap a b c was_a was_b running ab bc id k r count records under counts n
           let in_a = seen_before cap a b was_a running ab (was_b clean) h in_b in
           record {
             none_near = sym (near clean h k in_b (ab.ids id k under)) ∙ none;
-            few = let n = counts (was_b clean) h k in_a under in omega (arith, n, few);
+            below_cap = let n = counts (was_b clean) h k in_a under in omega (arith, n, few);
             first = λ empty. begins (counts (was_b clean) h k in_a under
                 ∙ ap (λ (l : List DataRecord). length l) empty);
           };

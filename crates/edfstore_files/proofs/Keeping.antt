@@ -195,7 +195,7 @@ wider_kept cap more wide trees h kept =
       sound = record {
         rising = s.rising;
         no_clash = s.no_clash;
-        few = λ k. let few = s.few k in omega (arith, few, wide);
+        within_cap = λ k. let few = s.within_cap k in omega (arith, few, wide);
         records = s.records;
         begins = s.begins;
         keys = s.keys;

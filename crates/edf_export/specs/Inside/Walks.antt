@@ -25,7 +25,7 @@ pub record IsSoundRecording (cap : ℕ) (k : Key) (records : List DataRecord) : 
   pub key : IsKey k
   pub sound : AreSoundFrom k 0 records
   pub begins : FirstMayStart k records
-  pub few : length records ≤ cap
+  pub within_cap : length records ≤ cap
 
 -- the plan is that of the records' file
 pub record IsPlanOf (k : Key) (records : List DataRecord) (plan : Measure) : Type 0 where

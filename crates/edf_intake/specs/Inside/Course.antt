@@ -25,7 +25,7 @@ module _ {S : Type 0} (g : Ghosts S) where
   pub record MayBeNext (tx : StoreTx S) (key : Key) (r : DataRecord) (spare : ℕ)
       (course : Course) : Type 0 where
     pub sound : IsSoundRecord key r
-    pub few : HasCleanDisk (at g tx.store.now) → MayAdd spare course → (h : Holdings) →
+    pub below_cap : HasCleanDisk (at g tx.store.now) → MayAdd spare course → (h : Holdings) →
         Sees g tx.store.now h → length (h key) < tx.store.now.cap
     pub first : HasCleanDisk (at g tx.store.now) → MayAdd spare course → (h : Holdings) →
         Sees g tx.store.now h → h key ≡ [] → MayStart key r.start

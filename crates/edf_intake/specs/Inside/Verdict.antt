@@ -7,7 +7,7 @@ use Rattle.sqlite.specs.State.{HasCleanDisk}
 use Rattle.edf_field.specs.Number.{duration_of}
 use Rattle.edf_header.specs.Key.{Key}
 use Rattle.edf_fragment.specs.Fragment.{DataRecord}
-use Rattle.edf_holdings.specs.Clash.{near_of, first_other}
+use Rattle.edf_holdings.specs.Clash.{overlapping, first_other}
 use Rattle.edf_holdings.specs.Rising.{contains_record, count_new}
 use Rattle.edf_holdings.specs.Holdings.{Holdings, with_records}
 use Rattle.edf_holdings.specs.Reply.{first_clash}
@@ -42,7 +42,7 @@ IsVerdict r near New = near ≡ []
 abbrev pub IsVerdictIn : {S : Type 0} → Ghosts S → StoreModel S → Key → DataRecord → Verdict →
     Type 0
 IsVerdictIn g store key r verdict = (h : Holdings) → Sees g store h →
-    IsVerdict r (near_of (duration_of key.duration) r.start (h key)) verdict
+    IsVerdict r (overlapping (duration_of key.duration) r.start (h key)) verdict
 
 -- a record with this verdict changes the findings and the holdings so
 abbrev pub CountsVerdict : ℕ → Key → DataRecord → List DataRecord → Holdings → Findings → Holdings →
@@ -58,8 +58,9 @@ CountsVerdict spare key r near h from t to New =
 -- after a clash nothing counts
 abbrev pub CountsNext : ℕ → Key → DataRecord → Holdings → Findings → Holdings → Findings → Type 0
 CountsNext spare key r h from t to = MatchOption from.clash
-    ((verdict : Verdict) × IsVerdict r (near_of (duration_of key.duration) r.start (h key)) verdict
-    × CountsVerdict spare key r (near_of (duration_of key.duration) r.start (h key)) h from t to
+    ((verdict : Verdict) × IsVerdict r
+    (overlapping (duration_of key.duration) r.start (h key)) verdict
+    × CountsVerdict spare key r (overlapping (duration_of key.duration) r.start (h key)) h from t to
     verdict)
     (λ starts. to ≡ from)
 

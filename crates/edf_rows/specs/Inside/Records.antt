@@ -72,7 +72,7 @@ pub record HasSound (cap : ℕ) (k : Key) (rows : List Row) (count : ℕ) : Type
   pub sound : AreSoundFrom k 0 records
   pub begins : FirstMayStart k records
   pub some : rows ≢ []
-  pub few : length records ≤ cap
+  pub within_cap : length records ≤ cap
   pub count_is : count ≡ length records
 
 -- `Some count`: the rows are `count` sound records of the recording; `None`: they are bad

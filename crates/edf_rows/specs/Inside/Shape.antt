@@ -36,4 +36,4 @@ pub record HasRecords (cap : ℕ) (trees : Trees) (row : Row) : Type 0 where
   pub begins : FirstMayStart key records
   pub shown : records_in trees id ≡ map record_cells records
   pub some : records_in trees id ≢ []
-  pub few : length records ≤ cap
+  pub within_cap : length records ≤ cap

@@ -50,7 +50,7 @@ returns-then-plan-cap-clause-planned g c clean h held =
           absurd (omega (
             arith,
             it.0.count,
-            it.1.few,
+            it.1.within_cap,
             same,
             c.cap-cap.ensures.value,
             w.if-plan-cap.true,
@@ -76,9 +76,9 @@ returns-clause-planned g c clean h held =
         key = sound.key;
         sound = sound.sound;
         begins = sound.begins;
-        few = omega (
+        within_cap = omega (
           arith,
-          sound.few,
+          sound.within_cap,
           c.in_ok-plan.ensures.leaves.stays.cap,
           c.cap-cap.ensures.value,
           c.cap-cap.ensures.bound.1,

@@ -14,5 +14,5 @@ returns-clause-refused c = refused_again_law
 pub returns-clause-taken_out : goal.returns-clause-taken_out
 returns-clause-taken_out c = repeat_taken_out
 
-pub returns-clause-front : goal.returns-clause-front
-returns-clause-front c = from_the_front
+pub returns-clause-resent : goal.returns-clause-resent
+returns-clause-resent c = from_the_front

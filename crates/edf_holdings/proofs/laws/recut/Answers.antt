@@ -5,5 +5,5 @@ use Rattle.edf_holdings.proofs.laws.recut.Goals as goal
 pub returns-clause-same : goal.returns-clause-same
 returns-clause-same c = recut_law
 
-pub returns-clause-free : goal.returns-clause-free
-returns-clause-free c = free_of_same
+pub returns-clause-conflict_free : goal.returns-clause-conflict_free
+returns-clause-conflict_free c = free_of_same

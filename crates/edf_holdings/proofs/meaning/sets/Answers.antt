@@ -9,8 +9,8 @@ returns-clause-list c = list_is_set
 pub returns-clause-holdings : goal.returns-clause-holdings
 returns-clause-holdings c = holdings_are_sets
 
-pub returns-clause-united : goal.returns-clause-united
-returns-clause-united c = joined_has_both
+pub returns-clause-union : goal.returns-clause-union
+returns-clause-union c = joined_has_both
 
 pub returns-clause-all : goal.returns-clause-all
 returns-clause-all c = all_has_both

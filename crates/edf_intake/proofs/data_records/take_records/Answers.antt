@@ -80,7 +80,7 @@ take_record-requires-clause-next g c =
     let sees = c.requires.running.running.sees in
     record {
       sound = search rules;
-      few = λ clean may h seen. subst (λ (k : Key). length (h k) < now.cap) (sym same)
+      below_cap = λ clean may h seen. subst (λ (k : Key). length (h k) < now.cap) (sym same)
           (few_seen g.S.Store first l c.requires.header.before left head c.args.destination.spare
           c.requires.spare now mid from c.records.course.findings inv.so_far sees was inv.stays.cap
           clean may.0 may.1 h seen);

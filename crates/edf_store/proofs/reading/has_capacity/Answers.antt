@@ -52,4 +52,4 @@ returns-clause-spare g c clean h k seen under =
     (subst (λ (n : ℕ). AreSeen n (at g.S.Store old) h) (sym reads.stays.cap) seen))
     (reads.same.ids c.args.id k under) in
     room_counted old.cap c.args.more c.saturating_sub-2.result c.in_ok-held.held _
-    (omega (arith, c.saturating_sub-2.ensures, same_cap)) held ((seen clean_old).sound.few k)
+    (omega (arith, c.saturating_sub-2.ensures, same_cap)) held ((seen clean_old).sound.within_cap k)

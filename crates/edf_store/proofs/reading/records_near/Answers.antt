@@ -2,7 +2,7 @@ use Rattle.std.proofs.Common.{w64, pos, ◌-ℤ◌, ◌+ℤ◌, FitsSigned, arit
 use Rattle.std.proofs.lemmas.Int.{to_z-of_z, ints}
 use Rattle.sqlite.specs.Held.{state}
 use Rattle.sqlite.specs.State.{HasCleanDisk}
-use Rattle.edf_holdings.specs.Clash.{near_of}
+use Rattle.edf_holdings.specs.Clash.{overlapping}
 use Rattle.edf_header.proofs.Cited.{key-duration-bound}
 use Rattle.edf_store.proofs.Decoding.{nat_fits, fits_sub}
 use Rattle.edf_store.proofs.Faults.{match_cases, ok_of_match, if_ok}
@@ -102,9 +102,9 @@ returns-clause-near g c clean =
     (match_cases _ _ c.records_in.result
     (λ records is. near_is cap old new _ c.near_rows.ensures.survives c.args.id start d k
     records.items clean mine.is_of same
-    (λ h seen key shown. rw is at (c.records_in.ensures k (near_of d start (h k)) key
+    (λ h seen key shown. rw is at (c.records_in.ensures k (overlapping d start (h k)) key
     (sound_near cap h k d start seen.sound) (rows ∙ shown))))
-    (λ e is. rw is at (c.records_in.ensures k (near_of d start (it.0 k)) mine.is_of.key
+    (λ e is. rw is at (c.records_in.ensures k (overlapping d start (it.0 k)) mine.is_of.key
     (sound_near cap it.0 k d start it.1.sound) (rows
     ∙ near_shown old.now.trees it.0 c.args.id k start d it.1.stand (mine.is_of.there was)))))
 
