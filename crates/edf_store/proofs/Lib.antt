@@ -14,6 +14,6 @@ pub mod StoredRows
 pub mod Short
 pub mod Standing
 pub mod Steps
-pub mod Summaries
+pub mod SummaryReads
 pub mod Walks
 pub mod Whole

@@ -26,7 +26,7 @@ use Rattle.edf_store.proofs.StoredRows.{show_filter, cell_less, cell_more, cell_
 use Rattle.edf_store.proofs.StoredRows.{Three, below, level, above, three}
 use Rattle.edf_store.proofs.Standing.{shown_of}
 use Rattle.edf_store.proofs.Keys.{first_is}
-use Rattle.edf_store.proofs.Summaries.{number_at}
+use Rattle.edf_store.proofs.SummaryReads.{number_at}
 
 abbrev is_from : ℕ → DataRecord → Bool
 is_from from x = is_ge (int_cmp (pos x.start) (pos from))

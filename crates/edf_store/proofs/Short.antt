@@ -20,7 +20,7 @@ use Rattle.edf_tables.specs.Records.{records_of}
 use Rattle.edf_store.specs.Transaction.{AreSeen, HasRowId, StillSees, AddsNoRecordingIn}
 use Rattle.edf_store.proofs.Keys.{first_is}
 use Rattle.edf_store.proofs.Standing.{shown_of, one_key}
-use Rattle.edf_store.proofs.Summaries.{show_reverse, number_at, FirstAt, LastAt}
+use Rattle.edf_store.proofs.SummaryReads.{show_reverse, number_at, FirstAt, LastAt}
 
 step : (p q n d m : ℕ) → p + d ≤ q → q + m ≤ n → p + (d + m) ≤ n
 step p q n d m a b = omega (arith, a, b)

@@ -9,7 +9,7 @@ use Rattle.edf_store.proofs.Held.{still_sound}
 use Rattle.edf_store.proofs.Steps.{ready_in}
 use Rattle.edf_store.proofs.Readiness.{stays_so, stays_then}
 use Rattle.edf_store.proofs.RowReads.{reads_refused, reads_rows, reads_then}
-use Rattle.edf_store.proofs.Summaries.{still_ready}
+use Rattle.edf_store.proofs.SummaryReads.{still_ready}
 use Rattle.edf_store.proofs.Short.{short_read}
 use Rattle.edf_store.proofs.reading.is_short.Goals as goal
 

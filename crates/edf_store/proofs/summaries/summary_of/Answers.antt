@@ -6,7 +6,7 @@ use Rattle.edf_tables.proofs.Commits.{quiet_then}
 use Rattle.edf_tables.proofs.Keeping.{keeps_then}
 use Rattle.edf_store.proofs.Held.{still_sound}
 use Rattle.edf_store.proofs.Readiness.{stays_so, three_survive, three_keep}
-use Rattle.edf_store.proofs.Summaries.{ready_at, still_ready, summary_read, bounds_read}
+use Rattle.edf_store.proofs.SummaryReads.{ready_at, still_ready, summary_read, bounds_read}
 use Rattle.edf_store.proofs.Faults.{on_ok, on_refused, match_both}
 use Rattle.edf_store.proofs.summaries.summary_of.Goals as goal
 
