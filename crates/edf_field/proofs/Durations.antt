@@ -152,8 +152,7 @@ not-read field front at e few is front-is fault =
 
 pub not-lasting : (field front rest : List ℕ) (at other : ℕ) → at ≡ unpadded_len field →
     front ≡ take at field → rest ≡ drop at field → IsSeconds front other →
-    ¬ IsDurationInRange other →
-    AreSpaces rest → (n : ℕ) → ¬ IsDuration field n
+    ¬ IsDurationInRange other → AreSpaces rest → (n : ℕ) → ¬ IsDuration field n
 not-lasting field front rest at other is front-is rest-is s past r n d =
     past (subst IsDurationInRange (duration-value field n d
     ∙ sym (field-value field at other (subst (λ (t : List ℕ). IsSeconds t other) front-is s)

@@ -4,7 +4,6 @@ ghost use Rattle.std.specs.Char.{is_ascii_digit};
 ghost use Rattle.std.specs.Str.Parse.{digits_value};
 ghost use Rattle.edf_field.specs.Number.{AreSpaces, digits_len, digits, after_digits, IsWhole};
 ghost use Rattle.edf_field.specs.Number.{whole_value, unsigned, IsSigned, signed_value, IsDuration};
-ghost use Rattle.edf_field.specs.Number.{IsDurationInRange};
 
 use crate::identification::unpadded_len;
 use edf_time::read_seconds;
@@ -104,13 +103,6 @@ pub fn read_signed(field: &[u8]) -> Option<i32>
     Some(size)
 }
 
-/// Is true where so many nanoseconds are in the range of a duration: above 0.
-fn is_duration_in_range(nanos: u64) -> bool
-    ensures { IsTrue result ↔ IsDurationInRange nanos }
-{
-    nanos > 0
-}
-
 /// Reads a field of at most eight bytes as the duration of a data record, in nanoseconds: a decimal
 /// of seconds above 0, and then only spaces. Any other text gives `None`, and so does 0.
 ///
@@ -119,21 +111,13 @@ pub fn read_duration(field: &[u8]) -> Option<u64>
     requires { length field.now ≤ 8 }
     ensures { MatchOption result ((n : ℕ) → ¬ IsDuration field.now n) (IsDuration field.now) }
 {
-    let (front, rest) = field.split_at(unpadded_len(field));
+    let (seconds, rest) = field.split_at(unpadded_len(field));
     if !are_spaces(rest) {
         return None;
     }
-    match read_seconds(front) {
-        Ok(nanos) => {
-            if is_duration_in_range(nanos) {
-                Some(nanos)
-            } else {
-                None
-            }
-        }
-        Err(fault) => {
-            let _ = fault;
-            None
-        }
+    match read_seconds(seconds) {
+        Ok(nanos) if nanos > 0 => Some(nanos),
+        Ok(_) => None,
+        Err(_) => None,
     }
 }
