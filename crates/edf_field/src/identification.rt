@@ -39,7 +39,7 @@ pub(crate) fn unpadded_len(text: &[u8]) -> usize
 pub fn next_subfield(text: &[u8]) -> Option<(&[u8], &[u8])>
     ensures { MatchOption result
         (subfields text.now ≡ [])
-        (λ found. subfields text.now ≡ found.0.now ∷ subfields found.1.now) }
+        (λ split. subfields text.now ≡ split.0.now ∷ subfields split.1.now) }
 {
     let (_, text) = text.split_at(spaces_len(text));
     if text.is_empty() {
@@ -128,7 +128,7 @@ pub fn follows_startdate(after: &[u8]) -> bool
 fn read_startdate(text: &[u8]) -> Result<(Option<Day>, &[u8]), RecordingFault>
     requires { length text.now ≡ 80 }
     ensures { MatchResult result
-        (λ found. IsStartdate text.now found.0 found.1.now) (IsStartdateFault text.now) }
+        (λ read. IsStartdate text.now read.0 read.1.now) (IsStartdateFault text.now) }
 {
     if &text[..10] != b"Startdate ".as_slice() {
         return Err(RecordingFault::NoStartdate);
@@ -152,7 +152,7 @@ fn read_startdate(text: &[u8]) -> Result<(Option<Day>, &[u8]), RecordingFault>
 pub fn read_recording(text: &[u8]) -> Result<(Option<Day>, &[u8]), RecordingFault>
     requires { length text.now ≡ 80 }
     ensures { MatchResult result
-        (λ found. IsRecording text.now found.0 found.1.now) (IsRecordingFault text.now) }
+        (λ read. IsRecording text.now read.0 read.1.now) (IsRecordingFault text.now) }
 {
     match read_startdate(text) {
         Ok((startdate, after)) => {

@@ -9,7 +9,7 @@ use Rattle.std.proofs.lemmas.List.{take_at, take_all, drop_all}
 use Rattle.edf_time.specs.Civil.{HasDateForm, IsIdDate}
 use Rattle.edf_time.specs.Decimal.{IsDecimal, IsFine, fraction_value as places}
 use Rattle.edf_field.specs.Number.{field, AreSpaces, IsDuration, IsDurationInRange, unpadded_len}
-use Rattle.edf_field.proofs.Cited.{lasts-or-not}
+use Rattle.edf_field.proofs.Cited.{lasts-or-not, recording-no-fault}
 use Rattle.edf_field.specs.Text.{FollowsStartdate, IsBirthdate, IsPatient, IsRecording, IsSex}
 use Rattle.edf_field.specs.Text.{IsStartdate, subfields}
 use Rattle.edf_field.specs.Fault.{IsPatientFault, IsRecordingFault, IsStartdateFault}
@@ -19,7 +19,6 @@ use Rattle.edf_field.specs.declared.fault.PatientFault.TheVariants.{NoSex, NoBir
 use Rattle.edf_field.specs.declared.fault.RecordingFault.{RecordingFault}
 use Rattle.edf_field.specs.declared.fault.RecordingFault.TheVariants.{NoStartdate, NoDate}
 use Rattle.edf_field.specs.declared.fault.RecordingFault.TheVariants.{Few as FewCodes}
-use Rattle.edf_field.proofs.Cited.{recording-no-fault}
 use Rattle.edf_header.proofs.Decided.{Decided, like, both, either, less, same, same-bytes, every}
 use Rattle.edf_header.proofs.Decided.{some-below}
 use Rattle.edf_header.proofs.DecidedFields.{spaces, follows-startdate}
@@ -110,14 +109,10 @@ to-worth : (text : List ℕ) → ((nanos : ℕ) × IsDuration text nanos)
     → ((at : ℕ) × (at < suc (length (take (unpadded_len text) text)))
     × IsWorthAt (take (unpadded_len text) text) at) × AreSpaces (drop (unpadded_len text) text)
 to-worth text (nanos, d) =
-    let s = d.seconds in (
+    let s = d.seconds in
+    let lasts = subst IsDurationInRange s.value d.lasts in (
       worth-at (take (unpadded_len text) text) s.whole s.fraction
-          (record {
-            parts = s.parts;
-            fine = s.fine;
-            lasts =
-                subst IsDurationInRange s.value d.lasts;
-          }),
+          (record { parts = s.parts; fine = s.fine; lasts = lasts }),
       d.spaces,
     )
 

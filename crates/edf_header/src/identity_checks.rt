@@ -66,7 +66,7 @@ pub(crate) struct KeyNumbers {
 }
 
 /// Checks what comes before the signals, and reads the duration of a data record in nanoseconds.
-fn check_front(bytes: &[u8]) -> Result<u64, IdentityFault>
+fn check_key_prefix(bytes: &[u8]) -> Result<u64, IdentityFault>
     ensures { MatchResult result
         (λ nanos. IsKeyPrefix bytes.now × (nanos ≡ duration_of (key_at bytes.now).duration))
         (IsFirstKeyFault bytes.now) }
@@ -133,10 +133,11 @@ fn check_size(bytes: &[u8]) -> Result<usize, IdentityFault>
 /// Checks bytes that may be an identity's, and reads their numbers.
 pub(crate) fn check_key(bytes: &[u8]) -> Result<KeyNumbers, IdentityFault>
     ensures { MatchResult result
-        (λ kept. IsIdentity bytes.now kept.duration kept.ordinary_bytes × IsCleanKey bytes.now 11)
+        (λ numbers. IsIdentity bytes.now numbers.duration numbers.ordinary_bytes
+        × IsCleanKey bytes.now 11)
         (IsFirstKeyFault bytes.now) }
 {
-    let duration = check_front(bytes)?;
+    let duration = check_key_prefix(bytes)?;
     check_signals(Check::Label, bytes)?;
     check_signals(Check::Physical, bytes)?;
     check_signals(Check::Digital, bytes)?;

@@ -2,6 +2,7 @@
 //!
 //! ```rust
 //! use edf_header::{Header, HeaderFault, read_fixed, read_signals};
+//! use std::alloc::Global;
 //!
 //! /// Reads the header of a file in memory.
 //! fn header_of(alloc: Global, file: &[u8]) -> Result<Header, HeaderFault> {

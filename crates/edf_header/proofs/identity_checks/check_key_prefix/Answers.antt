@@ -2,7 +2,7 @@ use Rattle.edf_field.proofs.Cited.{duration-value}
 use Rattle.edf_field.specs.Number.{field}
 use Rattle.std.proofs.lemmas.Bool.{iff_false}
 use Rattle.edf_header.proofs.Faults.{clean-4, clean-5}
-use Rattle.edf_header.proofs.identity_checks.check_front.Goals as goal
+use Rattle.edf_header.proofs.identity_checks.check_key_prefix.Goals as goal
 
 pub returns-then-not-has_recording : goal.returns-then-not-has_recording
 returns-then-not-has_recording c = (
