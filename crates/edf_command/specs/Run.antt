@@ -6,7 +6,7 @@ use Rattle.edf_fragment.specs.Call.{InputState}
 use Rattle.edf_holdings.specs.Holdings.{Holdings}
 use Rattle.edf_store.specs.Held.{StoreModel, at, Holds, KeepsHoldings}
 use Rattle.edf_intake.specs.Refusal.{refusal_number}
-use Rattle.edf_intake.specs.Submitted.{IsSubmitted}
+use Rattle.edf_intake.specs.Submitted.{IsSubmitAnswer}
 use Rattle.edf_intake.specs.declared.answer.Receipt.{Receipt}
 use Rattle.edf_intake.specs.declared.answer.Refusal.{Refusal}
 use Rattle.edf_command.specs.Arguments.{Request}
@@ -38,7 +38,7 @@ module _ {S : Type 0} (g : Ghosts S) (old new : StoreModel S) (out err : OutputC
     pub to : InputState
     pub refusal : Refusal
     pub opened : from.remaining ≡ bytes
-    pub submitted : IsSubmitted g old new from to (Err refusal)
+    pub submitted : IsSubmitAnswer g old new from to (Err refusal)
     pub said : (spell : ℕ → List ℕ) → IsInstantFormat spell →
         Gets out [] × IsLinePrinted err (refused_file_line spell name refusal)
         (status_of_number (refusal_number refusal)) status
@@ -50,7 +50,7 @@ module _ {S : Type 0} (g : Ghosts S) (old new : StoreModel S) (out err : OutputC
     pub receipt : Receipt
     pub mid : StoreModel S
     pub opened : from.remaining ≡ bytes
-    pub submitted : IsSubmitted g old mid from to (Ok receipt)
+    pub submitted : IsSubmitAnswer g old mid from to (Ok receipt)
     pub stays : KeepsHoldings g mid new
     pub printed : ReportsExport out err status
     pub exported : HasCleanDisk (at g new) → (h : Holdings) → Holds g mid h →

@@ -4,7 +4,7 @@ use Rattle.sqlite_trees.specs.declared.store.Store.{Ghosts}
 use Rattle.edf_fragment.specs.Call.{InputState}
 use Rattle.edf_store.specs.Held.{StoreModel}
 use Rattle.edf_intake.specs.Refusal.{Answer}
-use Rattle.edf_intake.specs.Batch.{AreSubmitted, AnswersAll}
+use Rattle.edf_intake.specs.Batch.{AreSubmitted, AnswersAreReplies}
 use Rattle.edf_cli.specs.Text.{IsInstantFormat}
 use Rattle.edf_command.specs.Lines.{first_take_lines, take_status, take_memory_line}
 use Rattle.edf_cli.specs.Output.{OutputChange, Gets, AreLinesPrinted, Explains}
@@ -32,7 +32,7 @@ module _ {S : Type 0} (g : Ghosts S) (old new : StoreModel S) (out err : OutputC
     pub answers : List Answer
     pub opened : map (λ (f : InputState). f.remaining) froms ≡ map bytes names
     pub submitted : AreSubmitted g old new froms tos answers
-    pub answered : AnswersAll g old new froms answers
+    pub answered : AnswersAreReplies g old new froms answers
     pub said : (spell : ℕ → List ℕ) → IsInstantFormat spell →
         AreLinesPrinted out (first_take_lines spell names answers) (length answers)
         (take_status answers)

@@ -57,7 +57,7 @@ fragment_read left mid rest l rs a b =
       bytes = a.bytes ++ b.bytes;
       read = Consumes-trans left mid rest a.bytes b.bytes a.read b.read;
       end = b.end;
-      spells = spells;
+      is_file = spells;
       layout_is = a.layout_is;
     }
 
@@ -262,7 +262,7 @@ fragment_of_all all None l rs f = absurd f.read
 fragment_of_all all (Some rest) l rs f =
     let same : all ≡ f.bytes = f.read ∙ ap (λ (x : List ℕ). f.bytes ++ x) f.end
     ∙ append-nil f.bytes in
-    subst (λ (x : List ℕ). IsFragmentFile x l.key rs) (sym same) f.spells
+    subst (λ (x : List ℕ). IsFragmentFile x l.key rs) (sym same) f.is_file
 
 told_of_all : (all : List ℕ) (e : FragmentFault) → IsFirstFaultIfKnown (Some all) e → (e ≡ Read)
     ⊎ ((e ≡ Memory) ⊎ IsFirstFault all e)

@@ -16,8 +16,8 @@ pub record ReadsFragment (input rest : Option (List ℕ)) (layout : Layout)
   pub bytes : List ℕ
   pub read : Consumes input rest bytes
   pub end : IsAtEnd rest
-  pub spells : IsFragmentFile bytes layout.key records
-  pub layout_is : layout ≡ layout_of spells.header
+  pub is_file : IsFragmentFile bytes layout.key records
+  pub layout_is : layout ≡ layout_of is_file.header
 
 -- these data records were read, and this progress has their number and the next one's place
 pub record HasReadRecords (l : Layout) (input rest : Option (List ℕ)) (records : List DataRecord)

@@ -31,28 +31,31 @@ use Rattle.edf_store.specs.declared.fault.StoreFault.{StoreFault}
 use Rattle.edf_store.specs.declared.fault.StoreFault.TheVariants.{Store, Foreign}
 use Rattle.edf_store.specs.declared.fault.StoreFault.TheVariants.{Memory as NoMemory}
 use Rattle.edf_store.specs.declared.fault.StoreFault.TheVariants.{Failed as FailedBefore}
-use Rattle.edf_intake.specs.Submitted.{IsRefusal, IsSubmitted, IsEnded}
+use Rattle.edf_intake.specs.Submitted.{StoreMayRefuse, IsSubmitAnswer}
+use Rattle.edf_intake.specs.Submitted.{IsOutsideTransactionAfterSubmit}
 use Rattle.edf_intake.specs.Batch.{Turn, some_values, submissions_in, replies_in, IsPossibleReply}
-use Rattle.edf_intake.specs.Batch.{IsTurn, MayHaveCommittedNext, IsOwnCause, IsOwnRefusal}
-use Rattle.edf_intake.specs.Batch.{MayRemainAfterCrash, AreEnded, SubmitsOne, AreSubmitted}
-use Rattle.edf_intake.specs.Batch.{AreSubmittedAsList, InTurnIsAsList, AnswersAll}
+use Rattle.edf_intake.specs.Batch.{IsConsistentTurn, MayHaveCommittedNext, StoreCauseIsPossible}
+use Rattle.edf_intake.specs.Batch.{StoreRefusalIsPossible, MayRemainAfterCrash}
+use Rattle.edf_intake.specs.Batch.{IsOutsideTransactionAfterLast, SubmitsOne, AreSubmitted}
+use Rattle.edf_intake.specs.Batch.{AreSubmittedAsList, OneByOneIsAsList, AnswersAreReplies}
 use Rattle.edf_intake.proofs.Turns.{IsMade, told-next, replies-next, map-next, all-next, turn_of}
 
 -- what was no refusal of a clean disk is none later
 own-one : {S : Type 0} (g : Ghosts S) (mid new : StoreModel S) →
     (HasCleanDisk (at g new) → HasCleanDisk (at g mid)) → (answer : Answer) →
-    IsOwnRefusal g mid answer → IsOwnRefusal g new answer
+    StoreRefusalIsPossible g mid answer → StoreRefusalIsPossible g new answer
 own-one g mid new was (Ok receipt) own = tt
 own-one g mid new was (Err refused) own = of (cause refused) own
   where
-    by : (fault : StoreFault) → IsRefusal g (Unit {0}) mid fault → IsRefusal g (Unit {0}) new fault
+    by : (fault : StoreFault) → StoreMayRefuse g (Unit {0}) mid fault →
+        StoreMayRefuse g (Unit {0}) new fault
     by NoMemory own = own
     by (Store (Some error)) own = tt
     by (Store None) own = tt
     by Foreign own = λ clean. own (was clean)
     by FailedBefore own = own
 
-    of : (c : Cause) → IsOwnCause g mid c → IsOwnCause g new c
+    of : (c : Cause) → StoreCauseIsPossible g mid c → StoreCauseIsPossible g new c
     of (OfForm fault) own = tt
     of (OfConflict conflict) own = tt
     of OfRead own = tt
@@ -61,7 +64,8 @@ own-one g mid new was (Err refused) own = of (cause refused) own
 
 pub own-later : {S : Type 0} (g : Ghosts S) (mid new : StoreModel S) →
     (HasCleanDisk (at g new) → HasCleanDisk (at g mid)) → (answers : List Answer) →
-    AllByRecursion (IsOwnRefusal g mid) answers → AllByRecursion (IsOwnRefusal g new) answers
+    AllByRecursion (StoreRefusalIsPossible g mid) answers →
+    AllByRecursion (StoreRefusalIsPossible g new) answers
 own-later g mid new was [] all = tt
 own-later g mid new was (a ∷ rest) all =
     (own-one g mid new was a all.0, own-later g mid new was rest all.1)
@@ -108,7 +112,8 @@ left-last cap h turns t rows (inr unended) =
 
 -- the last of the list is the one that was added
 pub ended-next : {S : Type 0} (g : Ghosts S) (old new : StoreModel S) (answers : List Answer)
-    (last : Answer) → IsEnded g new last → AreEnded g old new (answers ++ last ∷ [])
+    (last : Answer) → IsOutsideTransactionAfterSubmit g new last →
+    IsOutsideTransactionAfterLast g old new (answers ++ last ∷ [])
 ended-next g old new [] last ended = ended
 ended-next g old new (a ∷ []) last ended = ended
 ended-next g old new (a ∷ b ∷ more) last ended = ended-next g old new (b ∷ more) last ended
@@ -143,8 +148,8 @@ module _ {S : Type 0} (g : Ghosts S) where
           ∙ ap (λ (l : List InputState). l ++ t.to ∷ []) all.tos_are;
       answers_are = map-next (λ (u : Turn). u.answer) all.turns t
           ∙ ap (λ (l : List Answer). l ++ t.answer ∷ []) all.answers_are;
-      each = all-next IsTurn all.turns t all.each m.is_turn;
-      refusals = all-next (IsOwnRefusal g new) answers t.answer
+      each = all-next IsConsistentTurn all.turns t all.each m.is_turn;
+      refusals = all-next (StoreRefusalIsPossible g new) answers t.answer
           (own-later g mid new (λ clean. omega (arith, m.crash.clean)) answers all.refusals) m.own;
       replies_are = λ clean h held.
           let was : HasCleanDisk (at g mid) = omega (arith, m.crash.clean) in
@@ -178,7 +183,7 @@ module _ {S : Type 0} (g : Ghosts S) where
     }
 
     pub next_submitted : (from to : InputState) (answer : Answer) →
-        IsSubmitted g mid new from to answer →
+        IsSubmitAnswer g mid new from to answer →
         AreSubmittedAsList g old new (froms ++ from ∷ []) (tos ++ to ∷ []) (answers ++ answer ∷ [])
     next_submitted from to answer is =
         let t = turn_of g mid new from to answer is in
@@ -228,7 +233,7 @@ list_then g old mid new froms tos answers (f ∷ fs) (t ∷ ts) (r ∷ rs) cappe
     (subst (λ (l : List Answer). AreSubmittedAsList g old new ((froms ++ f ∷ []) ++ fs)
     ((tos ++ t ∷ []) ++ ts) l) (append_assoc answers (r ∷ []) rs) more))
 
-pub in_turn : {S : Type 0} (g : Ghosts S) → InTurnIsAsList g
+pub in_turn : {S : Type 0} (g : Ghosts S) → OneByOneIsAsList g
 in_turn g old new froms tos answers all = list_then g old old new [] [] [] froms tos answers refl
     (none_submitted g old (stays_same g old)) all
 
@@ -247,14 +252,13 @@ all_read bytes b None read end = absurd read
 all_read bytes b (Some ys) read end = sym (read ∙ (ap (λ (l : List ℕ). b ++ l) end ∙ append-nil b))
 
 heard_tells : (from to : InputState) (bytes : List ℕ) (told : Parsed) →
-    from.remaining ≡ Some bytes →
-    ReadsAs from to told → ParsesTo bytes told
+    from.remaining ≡ Some bytes → ReadsAs from to told → ParsesTo bytes told
 heard_tells from to bytes (Fragment key records) known r =
     let read : Consumes (Some bytes) to.remaining r.bytes =
     subst (λ (o : Option (List ℕ)). Consumes o to.remaining r.bytes) known r.read in
     subst (λ (l : List ℕ). IsFragmentFile l key records)
     (all_read bytes r.bytes to.remaining read r.end)
-    r.spells
+    r.is_file
 heard_tells from to bytes (Fault fault) known r =
     first_known bytes fault r.of_form (subst (λ (o : Option (List ℕ)). IsFirstFaultIfKnown o fault)
     known r.is_fault.first)
@@ -262,7 +266,7 @@ heard_tells from to bytes (Fault fault) known r =
 abbrev IsKnown : InputState → Parsed → Type 0
 IsKnown from told = (bytes : List ℕ) × (from.remaining ≡ Some bytes) × ParsesTo bytes told
 
-same_told : (t : Turn) (x : Parsed) (y : Reply) → IsTurn t → IsKnown t.from x →
+same_told : (t : Turn) (x : Parsed) (y : Reply) → IsConsistentTurn t → IsKnown t.from x →
     reply_of t.answer ≡ Some y → t.submission ≡ Some x
 same_told t x y is (bytes, known, tells) given = go t.submission refl
   where
@@ -274,7 +278,7 @@ same_told t x y is (bytes, known, tells) given = go t.submission refl
     go None e = absurd (rw (e, given) at is)
 
 all_told : (turns : List Turn) (tolds : List Parsed) (given : List Reply) →
-    AllByRecursion IsTurn turns → AllZip IsKnown (map (λ (t : Turn). t.from) turns) tolds
+    AllByRecursion IsConsistentTurn turns → AllZip IsKnown (map (λ (t : Turn). t.from) turns) tolds
     → map reply_of (map (λ (t : Turn). t.answer) turns) ≡ map (λ (r : Reply). Some r) given →
     (submissions_in turns ≡ tolds) × (replies_in turns ≡ given)
 all_told [] [] [] each known e = (refl, refl)
@@ -296,7 +300,7 @@ all_told (t ∷ ts) (x ∷ xs) (y ∷ ys) each known e =
 
 pub answers_all : {S : Type 0} (g : Ghosts S) (old new : StoreModel S) (froms tos : List InputState)
     (answers : List Answer) → AreSubmittedAsList g old new froms tos answers →
-    AnswersAll g old new froms answers
+    AnswersAreReplies g old new froms answers
 answers_all g old new froms tos answers all tolds given known e h held =
     let said = all_told all.turns tolds given all.each
     (subst (λ (l : List InputState). AllZip IsKnown l tolds) (sym all.froms_are) known)

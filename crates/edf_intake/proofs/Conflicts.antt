@@ -19,7 +19,7 @@ use Rattle.edf_store.specs.declared.fault.StoreFault.{StoreFault}
 use Rattle.edf_intake.specs.Refusal.{reply_of, OfConflict, cause}
 use Rattle.edf_intake.specs.declared.answer.Refusal.{Refusal}
 use Rattle.edf_intake.specs.declared.answer.Refusal.TheVariants as refusal
-use Rattle.edf_intake.specs.Inside.Verdict.{IsSpare, CountsAll, NamesClash, AreFindings}
+use Rattle.edf_intake.specs.Inside.Verdict.{IsSpare, CountsWithoutClash, NamesClash, AreFindings}
 use Rattle.edf_intake.specs.declared.data_records.Starts.{Starts}
 use Rattle.edf_intake.specs.declared.data_records.Findings.{Findings}
 
@@ -41,24 +41,24 @@ by_cause P form conflicts read memory store (refusal.Store fault) = store fault
 
 -- where no clash was met
 pub counts_all : (key : Key) (h : Holdings) (records : List DataRecord) (findings : Findings) →
-    findings.clash ≡ None → AreFindings key h records findings → CountsAll key h records findings
+    findings.clash ≡ None → AreFindings key h records findings →
+    CountsWithoutClash key h records findings
 counts_all key h records findings none met =
-    subst (λ (o : Option Starts). MatchOption o (CountsAll key h records findings)
+    subst (λ (o : Option Starts). MatchOption o (CountsWithoutClash key h records findings)
     (NamesClash key h records)) none met
 
 pub names_clash : (key : Key) (h : Holdings) (records : List DataRecord) (findings : Findings)
     (starts : Starts) → findings.clash ≡ Some starts → AreFindings key h records findings →
     NamesClash key h records starts
 names_clash key h records findings starts some met =
-    subst (λ (o : Option Starts). MatchOption o (CountsAll key h records findings)
+    subst (λ (o : Option Starts). MatchOption o (CountsWithoutClash key h records findings)
     (NamesClash key h records)) some met
 
 pub taken_of : (cap : ℕ) (key : Key) (h : Holdings) (records : List DataRecord)
-    (findings : Findings) →
-    CountsAll key h records findings →
+    (findings : Findings) → CountsWithoutClash key h records findings →
     Taken cap key h records (with_records key records h) findings.new findings.known
 taken_of cap key h records findings k = record {
-  free = k.free;
+  free = k.no_clash;
   new_is = k.new_is;
   all = k.all;
   put_in = records;
@@ -104,7 +104,7 @@ clash_told cap key h records starts told differs overlaps k =
 -- `Full` where a fragment has more new records than there is room for: no less room was found than
 -- there is
 pub full_here : (cap spare : ℕ) (key : Key) (h : Holdings) (records : List DataRecord)
-    (findings : Findings) → CountsAll key h records findings
+    (findings : Findings) → CountsWithoutClash key h records findings
     → IsSpare cap (length (h key)) (length records) spare → spare < findings.new →
     reply cap h (Fragment key records) ≡ Conflicts (Full (cap - spare) findings.new cap)
 full_here cap spare key h records findings k it past =
@@ -118,7 +118,7 @@ full_here cap spare key h records findings k it past =
     ∙ ap (λ (n : ℕ). Conflicts (Full n findings.new cap)) same
 
 pub accepted_here : (cap spare : ℕ) (key : Key) (h : Holdings) (records : List DataRecord)
-    (findings : Findings) → CountsAll key h records findings
+    (findings : Findings) → CountsWithoutClash key h records findings
     → length (h key) + spare ≤ cap → findings.new ≤ spare →
     reply cap h (Fragment key records) ≡ Accepted key findings.new findings.known
 accepted_here cap spare key h records findings k all low =
@@ -131,7 +131,7 @@ accepted_here cap spare key h records findings k all low =
 
 pub left_here : (cap spare : ℕ) (key : Key) (h : Holdings) (records : List DataRecord)
     (findings : Findings) → IsWellFormed (Fragment key records) → IsGood cap h →
-    CountsAll key h records findings
+    CountsWithoutClash key h records findings
     → length (h key) + spare ≤ cap → findings.new ≤ spare →
     with_records key records h ≡ after_one cap h (Fragment key records)
 left_here cap spare key h records findings sound good k all low =

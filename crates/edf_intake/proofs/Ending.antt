@@ -22,13 +22,14 @@ use Rattle.edf_store.specs.declared.fault.StoreFault.TheVariants.{Memory, Store,
 use Rattle.edf_store.specs.declared.transaction.StoreTx.{StoreTx}
 use Rattle.edf_store.proofs.Readiness.{stays_then}
 use Rattle.edf_intake.specs.Refusal.{Cause, OfForm, OfConflict, OfRead, OfMemory, OfStore}
-use Rattle.edf_intake.specs.Refusal.{Answer, IsStopped, IsInDoubt, cause}
+use Rattle.edf_intake.specs.Refusal.{Answer, IsMemoryOrStoreRefusal, IsInDoubt, cause}
 use Rattle.edf_fragment.specs.Call.{InputState}
-use Rattle.edf_intake.specs.Input.{ReadsPrefix}
+use Rattle.edf_intake.specs.Input.{ReadsUntilInterrupted}
 use Rattle.edf_intake.specs.Submitted.{RemainAfterCrash, Accepts, Refuses, IsInterrupted}
-use Rattle.edf_intake.specs.Submitted.{IsRefusedFor, IsSubmitted}
-use Rattle.edf_intake.specs.Inside.Halt.{store_refusal}
-use Rattle.edf_intake.specs.Inside.Taken.{IsAcceptedInside, StopsFor, IsStop, IsConflictInside}
+use Rattle.edf_intake.specs.Submitted.{IsRefusedFor, IsSubmitAnswer}
+use Rattle.edf_intake.specs.Inside.Halt.{refusal_of_store_fault}
+use Rattle.edf_intake.specs.Inside.Taken.{IsAcceptedInTransaction, StopsFor, StopsWith}
+use Rattle.edf_intake.specs.Inside.Taken.{IsConflictInTransaction}
 use Rattle.edf_intake.specs.declared.answer.Receipt.{Receipt}
 use Rattle.edf_intake.specs.declared.answer.Refusal.{Refusal}
 use Rattle.edf_intake.specs.declared.answer.Stop.TheVariants.{Input}
@@ -36,15 +37,16 @@ use Rattle.edf_holdings.proofs.Replies.{form_reply}
 
 -- the refusal for a fault of the store
 pub refused_by : {S : Type 0} (g : Ghosts S) (old new : StoreModel S) (from to : InputState)
-    (fault : StoreFault) (refused : Refusal) → refused ≡ store_refusal fault →
-    IsInterrupted g old new from to (Err (store_refusal fault)) →
-    MayRefuse (IsBusy g old) (IsUnclean g new) ⊥ fault → IsSubmitted g old new from to (Err refused)
+    (fault : StoreFault) (refused : Refusal) → refused ≡ refusal_of_store_fault fault →
+    IsInterrupted g old new from to (Err (refusal_of_store_fault fault)) →
+    MayRefuse (IsBusy g old) (IsUnclean g new) ⊥ fault →
+    IsSubmitAnswer g old new from to (Err refused)
 refused_by g old new from to fault refused is stops why =
-    subst (λ (r : Refusal). IsSubmitted g old new from to (Err r)) (sym is) (by fault stops why)
+    subst (λ (r : Refusal). IsSubmitAnswer g old new from to (Err r)) (sym is) (by fault stops why)
   where
-    by : (fault : StoreFault) → IsInterrupted g old new from to (Err (store_refusal fault)) →
-        MayRefuse (IsBusy g old) (IsUnclean g new) ⊥ fault →
-        IsSubmitted g old new from to (Err (store_refusal fault))
+    by : (fault : StoreFault) → IsInterrupted g old new from to
+        (Err (refusal_of_store_fault fault)) → MayRefuse (IsBusy g old) (IsUnclean g new) ⊥ fault →
+        IsSubmitAnswer g old new from to (Err (refusal_of_store_fault fault))
     by Memory stops why = stops
     by (Store (Some error)) stops why = (stops, why)
     by (Store None) stops why = (stops, why)
@@ -54,26 +56,27 @@ refused_by g old new from to fault refused is stops why =
 -- the same of what the question mark makes of the fault
 pub refused_on : {S : Type 0} (g : Ghosts S) (old new : StoreModel S) (from to : InputState)
     (fault : StoreFault) (answer : Answer) →
-    IsErrAnd answer (λ refused. refused ≡ store_refusal fault) →
-    IsInterrupted g old new from to (Err (store_refusal fault)) →
-    MayRefuse (IsBusy g old) (IsUnclean g new) ⊥ fault → IsSubmitted g old new from to answer
+    IsErrAnd answer (λ refused. refused ≡ refusal_of_store_fault fault) →
+    IsInterrupted g old new from to (Err (refusal_of_store_fault fault)) →
+    MayRefuse (IsBusy g old) (IsUnclean g new) ⊥ fault → IsSubmitAnswer g old new from to answer
 refused_on g old new from to fault (Ok receipt) is stops why = absurd is
 refused_on g old new from to fault (Err refused) is stops why =
     refused_by g old new from to fault refused is stops why
 
-pub is_stopped : (fault : StoreFault) → IsStopped (Err (store_refusal fault))
+pub is_stopped : (fault : StoreFault) → IsMemoryOrStoreRefusal (Err (refusal_of_store_fault fault))
 is_stopped Memory = tt
 is_stopped (Store cause) = tt
 is_stopped Foreign = tt
 is_stopped Failed = tt
 
 pub stopped_on : (fault : StoreFault) (answer : Answer) →
-    IsErrAnd answer (λ refused. refused ≡ store_refusal fault) → IsStopped answer
+    IsErrAnd answer (λ refused. refused ≡ refusal_of_store_fault fault) →
+    IsMemoryOrStoreRefusal answer
 stopped_on fault (Ok receipt) is = absurd is
 stopped_on fault (Err refused) is =
-    subst (λ (r : Refusal). IsStopped (Err r)) (sym is) (is_stopped fault)
+    subst (λ (r : Refusal). IsMemoryOrStoreRefusal (Err r)) (sym is) (is_stopped fault)
 
-in_doubt : (fault : StoreFault) → HasCause fault → IsInDoubt (Err (store_refusal fault))
+in_doubt : (fault : StoreFault) → HasCause fault → IsInDoubt (Err (refusal_of_store_fault fault))
 in_doubt Memory cause = tt
 in_doubt (Store (Some error)) cause = tt
 in_doubt (Store None) cause = tt
@@ -100,8 +103,7 @@ module _ {S : Type 0} (g : Ghosts S) (old : StoreModel S) (first last : StoreTx 
 
   left : (told : Parsed) → ((h : Holdings) → Sees g first.store.now h →
       Sees g last.store.now (after_one first.store.now.cap h told)) → (h : Holdings) →
-      Holds g old h →
-      Sees g last.store.now (after_one old.cap h told)
+      Holds g old h → Sees g last.store.now (after_one old.cap h told)
   left told is h held = subst (λ (n : ℕ). Sees g last.store.now (after_one n h told)) capped
       (is h (begun.sees h held))
 
@@ -121,14 +123,14 @@ module _ {S : Type 0} (g : Ghosts S) (old : StoreModel S) (first last : StoreTx 
         stays.cap (seen (after_one old.cap h told) (left told is h held))) survives)
 
     pub accepts : {X E : Type 0} (x : X) (receipt : Receipt) →
-        IsAcceptedInside g first last from to receipt →
+        IsAcceptedInTransaction g first last from to receipt →
         Commits g {E = E} last.store.now new (Ok x) → Accepts g old new from to receipt
     accepts x receipt t done = record {
       records = t.records;
       read = t.read;
       reply_is = λ clean h held. replied (Fragment receipt.identity t.records) _ t.reply_is
           (omega (arith, done.survives.clean)) h held;
-      leaves = record {
+      commits = record {
         cap = done.cap ∙ stays.cap;
         holdings = λ h held. done.committed
             (after_one old.cap h (Fragment receipt.identity t.records))
@@ -142,9 +144,9 @@ module _ {S : Type 0} (g : Ghosts S) (old : StoreModel S) (first last : StoreTx 
 
     -- the commit was refused
     pub stops_at_commit : {X : Type 0} (receipt : Receipt) →
-        IsAcceptedInside g first last from to receipt → (fault : StoreFault) →
+        IsAcceptedInTransaction g first last from to receipt → (fault : StoreFault) →
         Commits g {X = X} last.store.now new (Err fault) → HasCause fault →
-        IsInterrupted g old new from to (Err (store_refusal fault))
+        IsInterrupted g old new from to (Err (refusal_of_store_fault fault))
     stops_at_commit receipt t fault refused cause = inr (
       in_doubt fault cause,
       (
@@ -169,7 +171,7 @@ module _ {S : Type 0} (g : Ghosts S) (old : StoreModel S) (first last : StoreTx 
       was : HasCleanDisk (at g new) → HasCleanDisk (at g last.store.now)
       was clean = omega (arith, undone.crash.clean)
 
-      refuses : (answer : Reply) → IsConflictInside g first last from to answer → (key : Key)
+      refuses : (answer : Reply) → IsConflictInTransaction g first last from to answer → (key : Key)
           × (records : List DataRecord) × Refuses g old new from to (Fragment key records) answer
       refuses answer r = (
         r.key,
@@ -196,11 +198,11 @@ module _ {S : Type 0} (g : Ghosts S) (old : StoreModel S) (first last : StoreTx 
       refused OfMemory r = inl (all_stays, inr (inr (inl r)))
       refused (OfStore fault) r = absurd r
 
-      pub submitted : (told : Refusal) → IsStop g first last from to (Input told) →
-          IsSubmitted g old new from to (Err told)
+      pub submitted : (told : Refusal) → StopsWith g first last from to (Input told) →
+          IsSubmitAnswer g old new from to (Err told)
       submitted told r = refused (cause told) r
 
-      front_of : (c : Cause) → StopsFor g first last from to c → ReadsPrefix from to
+      front_of : (c : Cause) → StopsFor g first last from to c → ReadsUntilInterrupted from to
       front_of (OfForm fault) r = inr (inr (inr (inr (Fault fault, r))))
       front_of (OfConflict conflict) r =
           inr (inr (inr (inr (Fragment r.key r.records, r.read))))
@@ -209,11 +211,12 @@ module _ {S : Type 0} (g : Ghosts S) (old : StoreModel S) (first last : StoreTx 
       front_of (OfStore fault) r = absurd r
 
       -- and that was refused
-      pub stops_at_undo : (told : Refusal) → IsStop g first last from to (Input told) →
-          (fault : StoreFault) → IsInterrupted g old new from to (Err (store_refusal fault))
+      pub stops_at_undo : (told : Refusal) → StopsWith g first last from to (Input told) →
+          (fault : StoreFault) → IsInterrupted g old new from to
+          (Err (refusal_of_store_fault fault))
       stops_at_undo told r fault = inl (all_stays, front_of (cause told) r)
 
       -- or a call before it
-      pub stops_before : ReadsPrefix from to → (fault : StoreFault) →
-          IsInterrupted g old new from to (Err (store_refusal fault))
+      pub stops_before : ReadsUntilInterrupted from to → (fault : StoreFault) →
+          IsInterrupted g old new from to (Err (refusal_of_store_fault fault))
       stops_before front fault = inl (all_stays, front)

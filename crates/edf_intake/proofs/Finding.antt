@@ -12,7 +12,7 @@ use Rattle.edf_store.specs.StoreTx.{ReadsInTransaction}
 use Rattle.edf_store.specs.declared.fault.StoreFault.{StoreFault}
 use Rattle.edf_store.specs.declared.transaction.StoreTx.{StoreTx}
 use Rattle.edf_intake.specs.Inside.Transaction.{IsRunningFor}
-use Rattle.edf_intake.specs.Inside.Verdict.{IsSpareInside}
+use Rattle.edf_intake.specs.Inside.Verdict.{IsSpareInTransaction}
 use Rattle.edf_intake.proofs.Taking.{seen_before}
 
 pub at_most : {S : Type 0} (g : Ghosts S) (key : Key) (a b c : StoreModel S) → KeepsHoldings g b c →
@@ -30,7 +30,7 @@ module _ {S : Type 0} (g : Ghosts S) (old new : StoreTx S) (id : ℤ) (key : Key
 
   -- room for the number that was asked for
   pub room_now : (more : ℕ) → (HasCleanDisk (at g new.store.now) →
-      IsCapacityAnswer g old.store.now id more true) → IsSpareInside g new key more more
+      IsCapacityAnswer g old.store.now id more true) → IsSpareInTransaction g new key more more
   room_now more tells clean h seen =
       let fits : length (h key) + more ≤ old.store.now.cap =
       leb-true (length (h key) + more) old.store.now.cap
@@ -40,7 +40,7 @@ module _ {S : Type 0} (g : Ghosts S) (old new : StoreTx S) (id : ℤ) (key : Key
   -- or all that there is
   pub room_left : (asked cap held spare : ℕ) → cap ≡ old.store.now.cap →
       (HasCleanDisk (at g new.store.now) → IsCountOf g old.store.now id held) →
-      spare ≡ cap - held → IsSpareInside g new key asked spare
+      spare ≡ cap - held → IsSpareInTransaction g new key asked spare
   room_left asked cap held spare capped counts is clean h seen =
       let count : held ≡ length (h key) =
       counts clean h key (seen_first clean h seen) running.recording in

@@ -12,9 +12,9 @@ use Rattle.edf_fragment.proofs.OneFragment.{spelled-no-fault}
 use Rattle.sqlite_trees.specs.declared.store.Store.{Ghosts}
 use Rattle.edf_store.specs.declared.transaction.StoreTx.{StoreTx}
 use Rattle.edf_fragment.specs.Call.{InputState}
-use Rattle.edf_intake.specs.Input.{IsNoFragmentFile, ReadsWhole, ReadsSome}
-use Rattle.edf_intake.specs.Inside.Halt.{fragment_refusal, HaltsReading}
-use Rattle.edf_intake.specs.Inside.Taken.{IsStop}
+use Rattle.edf_intake.specs.Input.{IsNoFragmentFile, ReadsWhole, ReadsHeaderAndRecords}
+use Rattle.edf_intake.specs.Inside.Halt.{refusal_of_fragment_fault, HaltsReading}
+use Rattle.edf_intake.specs.Inside.Taken.{StopsWith}
 use Rattle.edf_intake.specs.declared.answer.Refusal.{Refusal}
 use Rattle.edf_intake.specs.declared.answer.Stop.{Stop}
 use Rattle.edf_intake.specs.declared.answer.Stop.TheVariants.{Input, Store}
@@ -28,7 +28,7 @@ spells_none (Some all) fault first = λ k rs s. spelled-no-fault all k rs fault 
 pub stopped_by : {S : Type 0} (g : Ghosts S) (old new : StoreTx S) (from to : InputState)
     (fault : FragmentFault) → ReadsFragmentFault from.remaining to.remaining fault →
     CountsReadFault from.failed to.failed fault
-    → IsStop g old new from to (Input (fragment_refusal fault))
+    → StopsWith g old new from to (Input (refusal_of_fragment_fault fault))
 stopped_by g old new from to Read is n = record { is_fault = is; counted = n }
 stopped_by g old new from to Memory is n = record { is_fault = is; counted = n }
 stopped_by g old new from to Failed is n = absurd is.first
@@ -43,7 +43,7 @@ stopped_by g old new from to fault is n =
 -- a header that was read, and no data record
 pub reads_header_alone : (from to : InputState) (l : Layout) →
     ReadsHeader from.remaining to.remaining l →
-    to.failed ≡ from.failed → ReadsSome from to
+    to.failed ≡ from.failed → ReadsHeaderAndRecords from to
 reads_header_alone from to l header n =
     record {
       layout = l;
@@ -62,15 +62,15 @@ reads_whole from to l records r n = record {
   bytes = r.bytes;
   read = r.read;
   end = r.end;
-  spells =
-      r.spells;
+  is_file =
+      r.is_file;
   counted = n;
 }
 
 -- why the data records stopped, said of the whole submission
 pub halted : {S : Type 0} (g : Ghosts S) (old new : StoreTx S) (from to : InputState)
-    (stop : Stop) → HaltsReading g new from to stop → IsStop g old new from to stop
+    (stop : Stop) → HaltsReading g new from to stop → StopsWith g old new from to stop
 halted g old new from to (Input answer) (fault, is, reads, n) =
-    subst (λ (r : Refusal). IsStop g old new from to (Input r)) (sym is)
+    subst (λ (r : Refusal). StopsWith g old new from to (Input r)) (sym is)
     (stopped_by g old new from to fault reads n)
 halted g old new from to (Store fault) stops = stops

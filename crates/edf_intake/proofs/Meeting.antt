@@ -17,7 +17,7 @@ use Rattle.edf_holdings.proofs.OneByOne.{Taken, Stopped, TakenOrStopped, still_s
 use Rattle.edf_holdings.proofs.OneByOne.{after_known, after_added, after_full}
 use Rattle.edf_store.specs.Held.{StoreModel, at}
 use Rattle.edf_store.specs.Transaction.{Sees}
-use Rattle.edf_intake.specs.Inside.Verdict.{IsVerdict, IsSpare, CountsVerdict, CountsNext}
+use Rattle.edf_intake.specs.Inside.Verdict.{IsVerdict, IsSpare, TakesVerdict, TakesNext}
 use Rattle.edf_intake.specs.declared.data_records.Verdict.{Verdict}
 use Rattle.edf_intake.specs.declared.data_records.Verdict.TheVariants.{Clashes, Known, New}
 use Rattle.edf_intake.specs.declared.data_records.Starts.{Starts}
@@ -46,8 +46,8 @@ counts_wider : (spare full asked : ℕ) (key : Key) (r : DataRecord) (near : Lis
     (h : Holdings) (from : Findings) (t : Holdings) (to : Findings) (verdict : Verdict) →
     spare ≤ full →
     (spare ≡ full) ⊎ (asked ≤ spare) → from.new < asked
-    → CountsVerdict spare key r near h from t to verdict →
-    CountsVerdict full key r near h from t to verdict
+    → TakesVerdict spare key r near h from t to verdict →
+    TakesVerdict full key r near h from t to verdict
 counts_wider spare full asked key r near h from t to (Clashes stored) low enough below c = c
 counts_wider spare full asked key r near h from t to Known low enough below c = c
 counts_wider spare full asked key r near h from t to New low enough below (added, past, is) = (
@@ -63,8 +63,8 @@ counts_wider spare full asked key r near h from t to New low enough below (added
 next_wider : (spare full asked : ℕ) (key : Key) (r : DataRecord) (h : Holdings) (new known : ℕ)
     (clash : Option Starts) (t : Holdings) (to : Findings) → spare ≤ full → (spare ≡ full)
     ⊎ (asked ≤ spare) → new < asked
-    → CountsNext spare key r h (record { new = new; known = known; clash = clash }) t to →
-    CountsNext full key r h (record { new = new; known = known; clash = clash }) t to
+    → TakesNext spare key r h (record { new = new; known = known; clash = clash }) t to →
+    TakesNext full key r h (record { new = new; known = known; clash = clash }) t to
 next_wider spare full asked key r h new known None t to low enough below (verdict, is, counts) = (
   verdict,
   is,
@@ -78,7 +78,7 @@ next_wider spare full asked key r h new known (Some s) t to low enough below sam
 pub next_in_all : (cap held asked spare : ℕ) (key : Key) (r : DataRecord) (h : Holdings)
     (from : Findings) (t : Holdings) (to : Findings) → IsSpare cap held asked spare →
     from.new < asked →
-    CountsNext spare key r h from t to → CountsNext (cap - held) key r h from t to
+    TakesNext spare key r h from t to → TakesNext (cap - held) key r h from t to
 next_in_all cap held asked spare key r h from t to it below next =
     next_wider spare (cap - held) asked key r h from.new from.known from.clash t to
     (omega (arith, it.fits))
@@ -93,7 +93,7 @@ module _ (cap spare : ℕ) (key : Key) (h : Holdings) (is_key : IsKey key)
   counted_next : (new known : ℕ) (t' : Holdings) (to : Findings) (verdict : Verdict) →
       Taken cap key h rs t new known
       → IsVerdict r (overlapping (duration_of key.duration) r.start (t key)) verdict
-      → CountsVerdict spare key r (overlapping (duration_of key.duration) r.start (t key)) t
+      → TakesVerdict spare key r (overlapping (duration_of key.duration) r.start (t key)) t
       (record { new = new; known = known; clash = None }) t' to verdict
       → Met cap key h (rs ++ r ∷ []) t' to
   counted_next new known t' to (Clashes stored) k (s, e, q) (same, is) =
@@ -117,7 +117,7 @@ module _ (cap spare : ℕ) (key : Key) (h : Holdings) (is_key : IsKey key)
 
   next_of : (new known : ℕ) (clash : Option Starts) (t' : Holdings) (to : Findings) →
       TakenOrStopped cap key h rs t new known (starts_of clash)
-      → CountsNext spare key r t (record { new = new; known = known; clash = clash }) t' to →
+      → TakesNext spare key r t (record { new = new; known = known; clash = clash }) t' to →
       Met cap key h (rs ++ r ∷ []) t' to
   next_of new known None t' to k (verdict, is, counts) =
       counted_next new known t' to verdict k is counts
@@ -126,5 +126,5 @@ module _ (cap spare : ℕ) (key : Key) (h : Holdings) (is_key : IsKey key)
       (still_stopped key h rs r (s.start, s.stored) k)
 
   pub met_next : (from : Findings) (t' : Holdings) (to : Findings) → Met cap key h rs t from →
-      CountsNext spare key r t from t' to → Met cap key h (rs ++ r ∷ []) t' to
+      TakesNext spare key r t from t' to → Met cap key h (rs ++ r ∷ []) t' to
   met_next from t' to k next = next_of from.new from.known from.clash t' to k next

@@ -22,7 +22,7 @@ use Rattle.edf_holdings.proofs.OneByOne.{Taken, TakenOrStopped, nothing_read, ta
 use Rattle.edf_rows.proofs.Rows.{one-holdings}
 use Rattle.edf_store.specs.Held.{StoreModel, at}
 use Rattle.edf_store.specs.Transaction.{Sees, SeesHoldings}
-use Rattle.edf_intake.specs.Inside.Verdict.{CountsNext, IsSpare, AreFindings}
+use Rattle.edf_intake.specs.Inside.Verdict.{TakesNext, IsSpare, AreFindings}
 use Rattle.edf_intake.specs.Inside.Taken.{MayBeAccepted}
 use Rattle.edf_intake.specs.declared.data_records.Starts.{Starts}
 use Rattle.edf_intake.specs.declared.data_records.Findings.{Findings}
@@ -122,7 +122,7 @@ module _ {S : Type 0} (g : Ghosts S) (first : StoreModel S) (l : Layout)
       → (HasCleanDisk (at g next) → HasCleanDisk (at g now)) →
       (HasCleanDisk (at g now) → HasCleanDisk (at g first))
       → (HasCleanDisk (at g next) → (h : Holdings) → Sees g now h → (t : Holdings) × Sees g next t
-      × CountsNext spare l.key r h from t to)
+      × TakesNext spare l.key r h from t to)
       → to.new + to.known ≤ from.new + from.known + 1
       → MetSoFar g first next l left rest q to
   one_more_met now next mid rest p q from to r w going answer given may_come was first_was step
@@ -153,7 +153,7 @@ module _ {S : Type 0} (g : Ghosts S) (first : StoreModel S) (l : Layout)
       TakenOrStopped first.cap l.key h records t new known (starts_of clash)
       → AreFindings l.key h records (record { new = new; known = known; clash = clash })
   findings_of h t records new known None k =
-      record { free = k.free; new_is = k.new_is; all = k.all }
+      record { no_clash = k.free; new_is = k.new_is; all = k.all }
   findings_of h t records new known (Some s) k =
       record { pair = k.pair; first = k.first; start = k.start; stored = k.stored }
 

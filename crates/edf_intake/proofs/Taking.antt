@@ -17,11 +17,11 @@ use Rattle.edf_store.specs.declared.fault.StoreFault.{StoreFault}
 use Rattle.edf_store.specs.declared.transaction.StoreTx.{StoreTx}
 use Rattle.edf_store.proofs.Short.{sees_twice}
 use Rattle.edf_intake.specs.Inside.Transaction.{IsRunningFor}
-use Rattle.edf_intake.specs.Inside.Gap.{IsGap, IsGapIn, IsGapInside}
-use Rattle.edf_intake.specs.Inside.Verdict.{IsVerdict, IsVerdictIn, CountsVerdict, CountsNext}
-use Rattle.edf_intake.specs.Inside.Course.{MayBeNext, IsFoundFor, IsRecordTaken}
+use Rattle.edf_intake.specs.Inside.Gap.{IsGap, IsGapIn, IsGapInTransaction}
+use Rattle.edf_intake.specs.Inside.Verdict.{IsVerdict, IsVerdictIn, TakesVerdict, TakesNext}
+use Rattle.edf_intake.specs.Inside.Course.{MayBeNext, IsLookupFor, IsRecordTaken}
 use Rattle.edf_intake.specs.declared.data_records.Course.{Course}
-use Rattle.edf_intake.specs.declared.data_records.Found.{Found}
+use Rattle.edf_intake.specs.declared.data_records.Lookup.{Lookup}
 use Rattle.edf_intake.specs.declared.data_records.Verdict.{Verdict}
 use Rattle.edf_intake.specs.declared.data_records.Verdict.TheVariants.{Clashes, Known, New}
 use Rattle.edf_intake.specs.declared.data_records.Starts.{Starts}
@@ -35,11 +35,11 @@ none_of (Some x) e = cc
 
 -- after a clash nothing is counted
 pub still_next : (spare : ℕ) (key : Key) (r : DataRecord) (h : Holdings) (from : Findings) →
-    is_some from.clash ≡ true → CountsNext spare key r h from h from
+    is_some from.clash ≡ true → TakesNext spare key r h from h from
 still_next spare key r h from some = go from.new from.known from.clash some
   where
     go : (new known : ℕ) (clash : Option Starts) → is_some clash ≡ true →
-        CountsNext spare key r h (record { new = new; known = known; clash = clash }) h
+        TakesNext spare key r h (record { new = new; known = known; clash = clash }) h
         (record { new = new; known = known; clash = clash })
     go new known None e = cc
     go new known (Some starts) e = refl
@@ -108,12 +108,12 @@ gap_found g s u id key start until cap same under next h seen =
 verdict_next : (spare : ℕ) (key : Key) (r : DataRecord) (from to : Findings) (verdict : Verdict) →
     from.clash ≡ None → (h t : Holdings) →
     IsVerdict r (overlapping (duration_of key.duration) r.start (h key)) verdict →
-    CountsVerdict spare key r (overlapping (duration_of key.duration) r.start (h key)) h from t to
-    verdict → CountsNext spare key r h from t to
+    TakesVerdict spare key r (overlapping (duration_of key.duration) r.start (h key)) h from t to
+    verdict → TakesNext spare key r h from t to
 verdict_next spare key r from to verdict none h t said counts =
     subst (λ (o : Option Starts). MatchOption o
     ((v : Verdict) × IsVerdict r (overlapping (duration_of key.duration) r.start (h key)) v
-    × CountsVerdict spare key r (overlapping (duration_of key.duration) r.start (h key)) h from t to
+    × TakesVerdict spare key r (overlapping (duration_of key.duration) r.start (h key)) h from t to
     v)
     (λ starts. to ≡ from)) (sym none) (verdict, said, counts)
 
@@ -121,7 +121,7 @@ verdict_next spare key r from to verdict none h t said counts =
 module _ {S : Type 0} (g : Ghosts S) (id : ℤ) (key : Key) (r : DataRecord) (spare : ℕ)
     (from : Course) (s : StoreTx S) (running : IsRunningFor g s id key) where
   -- nothing is asked after a clash
-  pub clashed_before : is_some from.findings.clash ≡ true → IsGapInside g s key from.gap →
+  pub clashed_before : is_some from.findings.clash ≡ true → IsGapInTransaction g s key from.gap →
       IsRecordTaken g s s key r id spare from from
   clashed_before some gap = record {
     recording = running.recording;
@@ -131,8 +131,8 @@ module _ {S : Type 0} (g : Ghosts S) (id : ℤ) (key : Key) (r : DataRecord) (sp
     gap = gap;
   }
 
-  module _ (u : StoreTx S) (Why : StoreFault → Type 0) (found : Found)
-      (read : ReadsInTransaction g s u (Ok found) Why) (is : IsFoundFor g s u key r found)
+  module _ (u : StoreTx S) (Why : StoreFault → Type 0) (found : Lookup)
+      (read : ReadsInTransaction g s u (Ok found) Why) (is : IsLookupFor g s u key r found)
       (none : from.findings.clash ≡ None) where
     there : IsOf g u.store.now id key
     there = read.same.ids id key running.recording
@@ -151,7 +151,7 @@ module _ {S : Type 0} (g : Ghosts S) (id : ℤ) (key : Key) (r : DataRecord) (sp
         subst (IsVerdictIn g s.store.now key r) same (is.verdict clean)
 
     -- a gap stays one where nothing was added
-    gap_stays : IsGapInside g u key found.gap
+    gap_stays : IsGapInTransaction g u key found.gap
     gap_stays clean h seen = is.gap clean h (seen_first clean h seen)
 
     pub clash_met : (start stored : ℕ) → start ≡ r.start → found.verdict ≡ Clashes stored →
@@ -256,7 +256,7 @@ module _ {S : Type 0} (g : Ghosts S) (id : ℤ) (key : Key) (r : DataRecord) (sp
               added.holdings h key seen_then there
 
           -- a gap stays one where the record was added that it begins with
-          gap_added : IsGapInside g w key found.gap
+          gap_added : IsGapInTransaction g w key found.gap
           gap_added clean t seen =
               let was : HasCleanDisk (at g u.store.now) = omega (arith, stayed.crash.clean) in
               let some = running.running.sees (omega (arith, read.stays.crash.clean, was)) in

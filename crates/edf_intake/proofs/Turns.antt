@@ -17,16 +17,16 @@ use Rattle.edf_store.specs.Held.{StoreModel, at, Holds, KeepsHoldings, KeepsOthe
 use Rattle.edf_store.specs.Call.{IsBusy}
 use Rattle.edf_store.specs.declared.fault.StoreFault.{StoreFault}
 use Rattle.edf_store.specs.declared.fault.StoreFault.TheVariants.{Memory, Store, Foreign, Failed}
-use Rattle.edf_intake.specs.Refusal.{Answer, reply_of, IsStopped, IsInDoubt, cause}
+use Rattle.edf_intake.specs.Refusal.{Answer, reply_of, IsMemoryOrStoreRefusal, IsInDoubt, cause}
 use Rattle.edf_intake.specs.Refusal.{Cause, OfConflict, reply_of_cause}
 use Rattle.edf_fragment.specs.Call.{InputState}
-use Rattle.edf_intake.specs.Input.{ReadsAs, FailsToRead, ReadsPrefix}
-use Rattle.edf_intake.specs.Submitted.{IsRefusal, RemainAfterCrash, CommitsSubmission}
+use Rattle.edf_intake.specs.Input.{ReadsAs, FailsToRead, ReadsUntilInterrupted}
+use Rattle.edf_intake.specs.Submitted.{StoreMayRefuse, RemainAfterCrash, CommitsSubmission}
 use Rattle.edf_intake.specs.Submitted.{MayHaveCommitted, Refuses}
-use Rattle.edf_intake.specs.Submitted.{IsInterrupted, IsRefusedFor, IsSubmitted}
+use Rattle.edf_intake.specs.Submitted.{IsInterrupted, IsRefusedFor, IsSubmitAnswer}
 use Rattle.edf_intake.specs.Batch.{Turn, some_values, submissions_in, replies_in, AgreesWith}
-use Rattle.edf_intake.specs.Batch.{IsTurn}
-use Rattle.edf_intake.specs.Batch.{IsPossibleReply, MayHaveCommittedNext, IsOwnCause, IsOwnRefusal}
+use Rattle.edf_intake.specs.Batch.{IsConsistentTurn, IsPossibleReply, MayHaveCommittedNext}
+use Rattle.edf_intake.specs.Batch.{StoreCauseIsPossible, StoreRefusalIsPossible}
 use Rattle.edf_intake.specs.declared.answer.Refusal.{Refusal}
 use Rattle.edf_intake.specs.declared.answer.Refusal.TheVariants as refusal
 use Rattle.edf_intake.proofs.Conflicts.{by_cause}
@@ -64,8 +64,8 @@ replies-next turns t = ap some_values (map-next (λ (u : Turn). reply_of u.answe
 
 -- one submission, as the turn of a list
 pub record IsMade {S : Type 0} (g : Ghosts S) (old new : StoreModel S) (t : Turn) : Type 0 where
-  pub is_turn : IsTurn t
-  pub own : IsOwnRefusal g new t.answer
+  pub is_turn : IsConsistentTurn t
+  pub own : StoreRefusalIsPossible g new t.answer
   pub cap : new.cap ≡ old.cap
   pub replied : HasCleanDisk (at g new) → (h : Holdings) → Holds g old h →
       some_values (reply_of t.answer ∷ []) ≡ replies old.cap h (some_values (t.submission ∷ []))
@@ -78,14 +78,15 @@ pub record IsMade {S : Type 0} (g : Ghosts S) (old new : StoreModel S) (t : Turn
 
 pub sound_told : (from to : InputState) (told : Parsed) → ReadsAs from to told → IsWellFormed told
 sound_told from to (Fragment key records) r = (
-  spelled-key r.bytes key records r.spells,
-  spelled-sound r.bytes key records r.spells,
-  spelled-begins r.bytes key records r.spells,
+  spelled-key r.bytes key records r.is_file,
+  spelled-sound r.bytes key records r.is_file,
+  spelled-begins r.bytes key records r.is_file,
 )
 sound_told from to (Fault fault) r = tt
 
 module _ {S : Type 0} (g : Ghosts S) (old new : StoreModel S) (from to : InputState) where
-  accepted_turn : (answer : Answer) (told : Parsed) (given : Reply) → IsOwnRefusal g new answer →
+  accepted_turn : (answer : Answer) (told : Parsed) (given : Reply) →
+      StoreRefusalIsPossible g new answer →
       reply_of answer ≡ Some given → IsPossibleReply told given → ReadsAs from to told
       → (HasCleanDisk (at g new) → (h : Holdings) → Holds g old h → reply old.cap h told ≡ given) →
       CommitsSubmission g old new told
@@ -105,7 +106,8 @@ module _ {S : Type 0} (g : Ghosts S) (old new : StoreModel S) (from to : InputSt
   }
 
   -- a refused one changes nothing
-  refused_turn : (answer : Answer) (told : Parsed) (given : Reply) → IsOwnRefusal g new answer →
+  refused_turn : (answer : Answer) (told : Parsed) (given : Reply) →
+      StoreRefusalIsPossible g new answer →
       reply_of answer ≡ Some given → IsPossibleReply told given → ¬ IsAccepted given →
       Refuses g old new from to told given
       → IsMade g old new (record { from = from; to = to; answer = answer; submission = Some told })
@@ -129,8 +131,9 @@ module _ {S : Type 0} (g : Ghosts S) (old new : StoreModel S) (from to : InputSt
         r.stays.crash;
   }
 
-  silent_turn : (answer : Answer) → IsOwnRefusal g new answer → reply_of answer ≡ None →
-      (FailsToRead from to ⊎ IsStopped answer) → ReadsPrefix from to → KeepsHoldings g old new
+  silent_turn : (answer : Answer) → StoreRefusalIsPossible g new answer → reply_of answer ≡ None →
+      (FailsToRead from to ⊎ IsMemoryOrStoreRefusal answer) → ReadsUntilInterrupted from to →
+      KeepsHoldings g old new
       → IsMade g old new (record { from = from; to = to; answer = answer; submission = None })
   silent_turn answer own tells why front stays = record {
     own = own;
@@ -145,9 +148,9 @@ module _ {S : Type 0} (g : Ghosts S) (old new : StoreModel S) (from to : InputSt
         stays.crash;
   }
 
-  unended_turn : (answer : Answer) (told : Parsed) → IsOwnRefusal g new answer →
-      reply_of answer ≡ None → IsStopped answer → IsInDoubt answer → ReadsAs from to told →
-      MayHaveCommitted g old new told
+  unended_turn : (answer : Answer) (told : Parsed) → StoreRefusalIsPossible g new answer →
+      reply_of answer ≡ None → IsMemoryOrStoreRefusal answer → IsInDoubt answer →
+      ReadsAs from to told → MayHaveCommitted g old new told
       → IsMade g old new (record { from = from; to = to; answer = answer; submission = None })
   unended_turn answer told own tells why doubt heard may = record {
     own = own;
@@ -162,8 +165,8 @@ module _ {S : Type 0} (g : Ghosts S) (old new : StoreModel S) (from to : InputSt
         (λ clean rows left h held. inr (doubt, (told, heard, left h held))) may.crash;
   }
 
-  stopped_turn : (answer : Answer) → IsOwnRefusal g new answer → reply_of answer ≡ None →
-      IsStopped answer → IsInterrupted g old new from to answer
+  stopped_turn : (answer : Answer) → StoreRefusalIsPossible g new answer → reply_of answer ≡ None →
+      IsMemoryOrStoreRefusal answer → IsInterrupted g old new from to answer
       → (told : Option Parsed) × IsMade g old new
       (record { from = from; to = to; answer = answer; submission = told })
   stopped_turn answer own tells why (inl (stays, front)) =
@@ -171,8 +174,8 @@ module _ {S : Type 0} (g : Ghosts S) (old new : StoreModel S) (from to : InputSt
   stopped_turn answer own tells why (inr (doubt, (key, records, read, may))) =
       (None, unended_turn answer (Fragment key records) own tells why doubt read may)
 
-  own_refusal : (fault : StoreFault) → IsRefusal g (IsBusy g old) new fault →
-      IsRefusal g (Unit {0}) new fault
+  own_refusal : (fault : StoreFault) → StoreMayRefuse g (IsBusy g old) new fault →
+      StoreMayRefuse g (Unit {0}) new fault
   own_refusal Memory own = own
   own_refusal (Store (Some error)) own = tt
   own_refusal (Store None) own = tt
@@ -180,7 +183,7 @@ module _ {S : Type 0} (g : Ghosts S) (old new : StoreModel S) (from to : InputSt
   own_refusal Failed own = own
 
   abbrev HasTurn : Refusal → Type 0
-  HasTurn refused = IsSubmitted g old new from to (Err refused) → (told : Option Parsed)
+  HasTurn refused = IsSubmitAnswer g old new from to (Err refused) → (told : Option Parsed)
       × IsMade g old new (record { from = from; to = to; answer = Err refused; submission = told })
 
   form_turn : (fault : FragmentFault) → HasTurn (refusal.Form fault)
@@ -196,7 +199,7 @@ module _ {S : Type 0} (g : Ghosts S) (old new : StoreModel S) (from to : InputSt
       let (key, records, r) = subst (λ (c : Cause). IsRefusedFor g old new from to c) of s in (
         Some (Fragment key records),
         refused_turn (Err refused) (Fragment key records) (Conflicts conflict)
-            (subst (λ (c : Cause). IsOwnCause g new c) (sym of) tt)
+            (subst (λ (c : Cause). StoreCauseIsPossible g new c) (sym of) tt)
             (ap reply_of_cause of) tt (λ yes. yes) r,
       )
 
@@ -207,13 +210,13 @@ module _ {S : Type 0} (g : Ghosts S) (old new : StoreModel S) (from to : InputSt
         f.stays,
   )
 
-  pub turn_of : (answer : Answer) → IsSubmitted g old new from to answer → (told : Option Parsed)
+  pub turn_of : (answer : Answer) → IsSubmitAnswer g old new from to answer → (told : Option Parsed)
       × IsMade g old new (record { from = from; to = to; answer = answer; submission = told })
   turn_of (Ok receipt) a = (
     Some (Fragment receipt.identity a.records),
     accepted_turn (Ok receipt) (Fragment receipt.identity a.records)
         (Accepted receipt.identity receipt.new receipt.known) tt refl refl a.read a.reply_is
-        a.leaves,
+        a.commits,
   )
   turn_of (Err refused) s = by_cause HasTurn form_turn conflict_turn read_turn
       (λ s. stopped_turn (Err refusal.Memory) tt refl tt s)

@@ -24,8 +24,9 @@ use Rattle.edf_intake.specs.Refusal.{reply_of_cause, reply_of, cause}
 use Rattle.edf_fragment.specs.Call.{InputState}
 use Rattle.edf_intake.specs.Input.{ReadsWhole}
 use Rattle.edf_intake.specs.Inside.Verdict.{IsSpare, AreFindings}
-use Rattle.edf_intake.specs.Inside.Taken.{IsConflict, MayBeAccepted, IsDestination, AreTaken}
-use Rattle.edf_intake.specs.Inside.Taken.{IsOfConflict, IsAcceptedInside, StopsFor, IsStop}
+use Rattle.edf_intake.specs.Inside.Taken.{IsConflict, MayBeAccepted, IsDestination, RecordsAreTaken}
+use Rattle.edf_intake.specs.Inside.Taken.{IsOfConflict, IsAcceptedInTransaction, StopsFor}
+use Rattle.edf_intake.specs.Inside.Taken.{StopsWith}
 use Rattle.edf_intake.specs.declared.data_records.Destination.{Destination}
 use Rattle.edf_intake.specs.declared.data_records.Findings.{Findings}
 use Rattle.edf_intake.specs.declared.answer.Refusal.{Refusal}
@@ -66,8 +67,7 @@ still_whole g first made last key records some whole running most none was_made 
 
 -- room for more than there are is room for those
 fewer : (cap held asked fewer_asked spare : ℕ) → fewer_asked ≤ asked →
-    IsSpare cap held asked spare →
-    IsSpare cap held fewer_asked spare
+    IsSpare cap held asked spare → IsSpare cap held fewer_asked spare
 fewer cap held asked fewer_asked spare few found = record {
   fits = found.fits;
   enough = elim found.enough [
@@ -81,7 +81,7 @@ few_records : (left rest : Option (List ℕ)) (l : Layout) (records : List DataR
     ReadsFragment left rest l records → length records ≤ most_records l.count
 few_records left rest l records read =
     subst (λ (x : Layout). length records ≤ most_records x.count) (sym read.layout_is)
-    read.spells.most
+    read.is_file.most
 
 -- the transaction saw `first`, its recording was found or made in `made`, and `last` is what it
 -- sees after the data records; the input was read from `from` to `mid` for its header, and then to
@@ -92,7 +92,7 @@ module _ {S : Type 0} (g : Ghosts S) (first made last : StoreTx S) (from mid to 
     (begun : KeepsHoldings g first.store.now made.store.now)
     (stayed : KeepsHoldings g made.store.now last.store.now)
     (there : IsDestination g first made l.key (most_records l.count) d)
-    (taken : AreTaken g made last l d.spare mid to findings) where
+    (taken : RecordsAreTaken g made last l d.spare mid to findings) where
   was_made : HasCleanDisk (at g last.store.now) → HasCleanDisk (at g made.store.now)
   was_made clean = omega (arith, stayed.crash.clean)
 
@@ -107,9 +107,9 @@ module _ {S : Type 0} (g : Ghosts S) (first made last : StoreTx S) (from mid to 
 
   sound : IsWellFormed (Fragment l.key taken.records)
   sound = (
-    spelled-key whole.bytes l.key taken.records whole.spells,
-    spelled-sound whole.bytes l.key taken.records whole.spells,
-    spelled-begins whole.bytes l.key taken.records whole.spells,
+    spelled-key whole.bytes l.key taken.records whole.is_file,
+    spelled-sound whole.bytes l.key taken.records whole.is_file,
+    spelled-begins whole.bytes l.key taken.records whole.is_file,
   )
 
   space : HasCleanDisk (at g made.store.now) → (h : Holdings) → Sees g made.store.now h →
@@ -122,23 +122,23 @@ module _ {S : Type 0} (g : Ghosts S) (first made last : StoreTx S) (from mid to 
 
   put_seen : MayBeAccepted d.spare findings → HasCleanDisk (at g last.store.now) → (h : Holdings) →
       Sees g first.store.now h → Sees g last.store.now (with_records l.key taken.records h)
-  put_seen may clean h seen = (taken.found clean h (there.same h seen)).1 may
+  put_seen may clean h seen = (taken.findings_are clean h (there.same h seen)).1 may
 
   pub is_accepted : MayBeAccepted d.spare findings → EachHasRecord g first.store.now →
       SeesHoldings g first.store.now →
-      IsAcceptedInside g first last from to
+      IsAcceptedInTransaction g first last from to
       (record { identity = l.key; new = findings.new; known = findings.known })
   is_accepted may each running = record {
     records = taken.records;
     read = whole;
     reply_is = λ clean h seen.
         let k = counts_all l.key h taken.records findings may.0
-        (taken.found clean h (there.same h seen)).0 in
+        (taken.findings_are clean h (there.same h seen)).0 in
         accepted_here first.store.now.cap d.spare l.key h taken.records findings k
         (space (was_made clean) h (there.same h seen)).fits may.1;
     sees = λ h seen clean.
         let k = counts_all l.key h taken.records findings may.0
-        (taken.found clean h (there.same h seen)).0 in
+        (taken.findings_are clean h (there.same h seen)).0 in
         let good = IsGood-from_sound first.store.now.cap h
         (seen (was_first (was_made clean))).sound in
         subst (Sees g last.store.now) (left_here first.store.now.cap d.spare l.key h taken.records
@@ -146,7 +146,7 @@ module _ {S : Type 0} (g : Ghosts S) (first made last : StoreTx S) (from mid to 
         (space (was_made clean) h (there.same h seen)).fits may.1) (put_seen may clean h seen)
         clean;
     whole = still_whole g first.store.now made.store.now last.store.now l.key taken.records
-        (spelled-some whole.bytes l.key taken.records whole.spells) each running there.only
+        (spelled-some whole.bytes l.key taken.records whole.is_file) each running there.only
         taken.only was_made was_first (put_seen may);
   }
 
@@ -156,10 +156,10 @@ module _ {S : Type 0} (g : Ghosts S) (first made last : StoreTx S) (from mid to 
       d.spare →
       AreFindings l.key h taken.records findings →
       reply_of (Err answer) ≡ Some (reply first.store.now.cap h (Fragment l.key taken.records)))
-      → IsStop g first last from to (Input answer)
+      → StopsWith g first last from to (Input answer)
   is_refused answer conflict told =
       by (cause answer) conflict (λ clean h seen. told h (space (was_made clean) h (there.same h seen))
-      (taken.found clean h (there.same h seen)).0)
+      (taken.findings_are clean h (there.same h seen)).0)
     where
       by : (c : Cause) → IsOfConflict c →
           (HasCleanDisk (at g last.store.now) → (h : Holdings) → Sees g first.store.now h →

@@ -11,17 +11,19 @@ use Rattle.edf_holdings.specs.Reply.{Reply, Form, Accepted, after_one, after, re
 use Rattle.edf_rows.specs.Rows.{RepresentCommitted}
 use Rattle.edf_store.specs.Call.{IsBusy}
 use Rattle.edf_store.specs.Held.{StoreModel, at, Holds, KeepsOtherTables}
-use Rattle.edf_intake.specs.Refusal.{Answer, reply_of, IsStopped, IsInDoubt, cause, Cause, OfStore}
-use Rattle.edf_intake.specs.Submitted.{IsRefusal, IsSubmitted, IsEnded, found_busy}
+use Rattle.edf_intake.specs.Refusal.{Answer, reply_of, IsMemoryOrStoreRefusal, IsInDoubt, cause}
+use Rattle.edf_intake.specs.Refusal.{Cause, OfStore}
+use Rattle.edf_intake.specs.Submitted.{StoreMayRefuse, IsSubmitAnswer}
+use Rattle.edf_intake.specs.Submitted.{IsOutsideTransactionAfterSubmit, busy_answer}
 use Rattle.edf_fragment.specs.Call.{InputState}
-use Rattle.edf_intake.specs.Input.{ReadsAs, FailsToRead, ReadsPrefix}
+use Rattle.edf_intake.specs.Input.{ReadsAs, FailsToRead, ReadsUntilInterrupted}
 
 -- one call of `submit` gave this answer; if a transaction was open before it, it read no input
 pub record SubmitsOne {S : Type 0} (g : Ghosts S) (old new : StoreModel S) (from to : InputState)
     (answer : Answer) : Type 0 where
-  pub submitted : IsSubmitted g old new from to answer
-  pub ended : IsEnded g new answer
-  pub busy : IsBusy g old → (to ≡ from) × (answer ≡ found_busy)
+  pub submitted : IsSubmitAnswer g old new from to answer
+  pub ended : IsOutsideTransactionAfterSubmit g new answer
+  pub busy : IsBusy g old → (to ≡ from) × (answer ≡ busy_answer)
 
 -- The inputs were submitted one after another, each to the store as it was after the one before. So
 -- when an accepted one was answered, the store was open and held it, even if it is closed later.
@@ -40,8 +42,8 @@ WillParseTo from submission = (bytes : List ℕ) × (from.remaining ≡ Some byt
 module _ {S : Type 0} (g : Ghosts S) (old new : StoreModel S) where
   -- The plain case: the inputs parse to these submissions, and each answer stands for a reply. Then
   -- these are the replies to the list, and the store holds what is held after the list.
-  abbrev pub AnswersAll : List InputState → List Answer → Type 0
-  AnswersAll froms answers = (submissions : List Parsed) (given : List Reply) →
+  abbrev pub AnswersAreReplies : List InputState → List Answer → Type 0
+  AnswersAreReplies froms answers = (submissions : List Parsed) (given : List Reply) →
       AllZip WillParseTo froms submissions →
       map reply_of answers ≡ map Some given → (h : Holdings) → Holds g old h →
       (HasCleanDisk (at g new) → given ≡ replies old.cap h submissions)
@@ -81,20 +83,21 @@ IsPossibleReply (Fragment key records) answer = Unit {0}
 abbrev pub AgreesWith : Turn → Option Parsed → Option Reply → Type 0
 AgreesWith t (Some submission) (Some answer) = ReadsAs t.from t.to submission
     × IsPossibleReply submission answer
-AgreesWith t None None = (FailsToRead t.from t.to ⊎ IsStopped t.answer) × ReadsPrefix t.from t.to
+AgreesWith t None None = (FailsToRead t.from t.to ⊎ IsMemoryOrStoreRefusal t.answer)
+    × ReadsUntilInterrupted t.from t.to
 AgreesWith t submission answer = ⊥
 
-abbrev pub IsTurn : Turn → Type 0
-IsTurn t = AgreesWith t t.submission (reply_of t.answer)
+abbrev pub IsConsistentTurn : Turn → Type 0
+IsConsistentTurn t = AgreesWith t t.submission (reply_of t.answer)
 
 -- where the store refused, its fault is one that `submit` may answer
-abbrev pub IsOwnCause : {S : Type 0} → Ghosts S → StoreModel S → Cause → Type 0
-IsOwnCause g new (OfStore fault) = IsRefusal g (Unit {0}) new fault
-IsOwnCause g new other = Unit {0}
+abbrev pub StoreCauseIsPossible : {S : Type 0} → Ghosts S → StoreModel S → Cause → Type 0
+StoreCauseIsPossible g new (OfStore fault) = StoreMayRefuse g (Unit {0}) new fault
+StoreCauseIsPossible g new other = Unit {0}
 
-abbrev pub IsOwnRefusal : {S : Type 0} → Ghosts S → StoreModel S → Answer → Type 0
-IsOwnRefusal g new (Ok receipt) = Unit {0}
-IsOwnRefusal g new (Err refused) = IsOwnCause g new (cause refused)
+abbrev pub StoreRefusalIsPossible : {S : Type 0} → Ghosts S → StoreModel S → Answer → Type 0
+StoreRefusalIsPossible g new (Ok receipt) = Unit {0}
+StoreRefusalIsPossible g new (Err refused) = StoreCauseIsPossible g new (cause refused)
 
 -- the next input was answered E41 or E42, and the rows represent what is held after its submission
 abbrev pub MayHaveCommittedNext : ℕ → Holdings → List Turn → Trees → Type 0
@@ -122,8 +125,8 @@ module _ {S : Type 0} (g : Ghosts S) (old new : StoreModel S) where
       pub froms_are : map (λ (t : Turn). t.from) turns ≡ froms
       pub tos_are : map (λ (t : Turn). t.to) turns ≡ tos
       pub answers_are : map (λ (t : Turn). t.answer) turns ≡ answers
-      pub each : AllByRecursion IsTurn turns
-      pub refusals : AllByRecursion (IsOwnRefusal g new) answers
+      pub each : AllByRecursion IsConsistentTurn turns
+      pub refusals : AllByRecursion (StoreRefusalIsPossible g new) answers
       pub replies_are : HasCleanDisk (at g new) → (h : Holdings) → Holds g old h →
           replies_in turns ≡ replies old.cap h (submissions_in turns)
       pub holdings : (h : Holdings) → Holds g old h →
@@ -133,14 +136,16 @@ module _ {S : Type 0} (g : Ghosts S) (old new : StoreModel S) where
           MayRemainAfterCrash old.cap h turns rows)
 
 -- submissions one after another are one list
-abbrev pub InTurnIsAsList : {S : Type 0} → Ghosts S → Type 0
-InTurnIsAsList {S} g = (old new : StoreModel S) (froms tos : List InputState)
+abbrev pub OneByOneIsAsList : {S : Type 0} → Ghosts S → Type 0
+OneByOneIsAsList {S} g = (old new : StoreModel S) (froms tos : List InputState)
     (answers : List Answer) → AreSubmitted g old new froms tos answers →
     AreSubmittedAsList g old new froms tos answers
 
--- after the last answer no transaction is open, as `IsEnded` says; without inputs the store is as
--- it was
-abbrev pub AreEnded : {S : Type 0} → Ghosts S → StoreModel S → StoreModel S → List Answer → Type 0
-AreEnded g old new [] = new ≡ old
-AreEnded g old new (answer ∷ []) = IsEnded g new answer
-AreEnded g old new (answer ∷ next ∷ more) = AreEnded g old new (next ∷ more)
+-- after the last answer no transaction is open, as `IsOutsideTransactionAfterSubmit` says; without
+-- inputs the store is as it was
+abbrev pub IsOutsideTransactionAfterLast : {S : Type 0} → Ghosts S → StoreModel S → StoreModel S →
+    List Answer → Type 0
+IsOutsideTransactionAfterLast g old new [] = new ≡ old
+IsOutsideTransactionAfterLast g old new (answer ∷ []) = IsOutsideTransactionAfterSubmit g new answer
+IsOutsideTransactionAfterLast g old new (answer ∷ next ∷ more) =
+    IsOutsideTransactionAfterLast g old new (next ∷ more)

@@ -32,7 +32,7 @@ module _ (from to : InputState) where
     pub bytes : List ℕ
     pub read : Consumes from.remaining to.remaining bytes
     pub end : IsAtEnd to.remaining
-    pub spells : IsFragmentFile bytes key records
+    pub is_file : IsFragmentFile bytes key records
     pub counted : NoReadFailed
 
   -- the input has this fault and is no fragment; no more was read than shows it, and no read failed
@@ -53,7 +53,7 @@ module _ (from to : InputState) where
     pub counted : CountsReadFault from.failed to.failed Read
 
   -- a header and some data records were read, and nothing more
-  pub record ReadsSome : Type 0 where
+  pub record ReadsHeaderAndRecords : Type 0 where
     pub layout : Layout
     pub mid : Option (List ℕ)
     pub records : List DataRecord
@@ -70,7 +70,7 @@ module _ (from to : InputState) where
   -- Where memory ran out or the store refused, the input was read so far: not at all; a header and
   -- some data records; until memory ran out; until a read failed; or as far as the reply needed
   -- that the store's refusal replaces.
-  abbrev pub ReadsPrefix : Type 0
-  ReadsPrefix = (to ≡ from)
-      ⊎ (ReadsSome ⊎ (RunsOutOfMemory
+  abbrev pub ReadsUntilInterrupted : Type 0
+  ReadsUntilInterrupted = (to ≡ from)
+      ⊎ (ReadsHeaderAndRecords ⊎ (RunsOutOfMemory
       ⊎ (FailsToRead ⊎ ((submission : Parsed) × ReadsAs submission))))

@@ -65,10 +65,10 @@ reply_of (Ok receipt) = Some (Accepted receipt.identity receipt.new receipt.know
 reply_of (Err refused) = reply_of_cause (cause refused)
 
 -- memory ran out, or the store refused
-abbrev pub IsStopped : Answer → Type 0
-IsStopped (Err refusal.Memory) = Unit {0}
-IsStopped (Err (refusal.Store fault)) = Unit {0}
-IsStopped answer = ⊥
+abbrev pub IsMemoryOrStoreRefusal : Answer → Type 0
+IsMemoryOrStoreRefusal (Err refusal.Memory) = Unit {0}
+IsMemoryOrStoreRefusal (Err (refusal.Store fault)) = Unit {0}
+IsMemoryOrStoreRefusal answer = ⊥
 
 -- E41 or E42: after a crash the submission may be committed
 abbrev pub IsInDoubt : Answer → Type 0

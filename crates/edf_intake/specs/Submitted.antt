@@ -15,20 +15,20 @@ use Rattle.edf_store.specs.Fault.{MayRefuse}
 use Rattle.edf_store.specs.Call.{IsBusy, IsUnclean}
 use Rattle.edf_store.specs.declared.fault.StoreFault.{StoreFault}
 use Rattle.edf_store.specs.declared.fault.StoreFault.TheVariants as store
-use Rattle.edf_intake.specs.Refusal.{Answer, IsStopped, IsInDoubt, cause}
+use Rattle.edf_intake.specs.Refusal.{Answer, IsMemoryOrStoreRefusal, IsInDoubt, cause}
 use Rattle.edf_intake.specs.Refusal.{Cause, OfForm, OfConflict, OfRead, OfMemory, OfStore}
 use Rattle.edf_fragment.specs.Call.{InputState}
-use Rattle.edf_intake.specs.Input.{ReadsAs, ReadsWhole, FailsToRead, ReadsPrefix}
+use Rattle.edf_intake.specs.Input.{ReadsAs, ReadsWhole, FailsToRead, ReadsUntilInterrupted}
 use Rattle.edf_intake.specs.declared.answer.Receipt.{Receipt}
 use Rattle.edf_intake.specs.declared.answer.Refusal.TheVariants as refusal
 
 -- The store refused, with E42 or E45: `sqlite` gave an error; or the connection was in a
 -- transaction, only where `IfBusy` holds; or rows are foreign, only where the disk did not return
 -- what was written. Where memory ran out, the refusal is E41 and not this one.
-abbrev pub IsRefusal : {S : Type 0} → Ghosts S → (IfBusy : Type 0) → StoreModel S → StoreFault →
-    Type 0
-IsRefusal g IfBusy new store.Memory = ⊥
-IsRefusal g IfBusy new fault = MayRefuse IfBusy (IsUnclean g new) ⊥ fault
+abbrev pub StoreMayRefuse : {S : Type 0} → Ghosts S → (IfBusy : Type 0) → StoreModel S →
+    StoreFault → Type 0
+StoreMayRefuse g IfBusy new store.Memory = ⊥
+StoreMayRefuse g IfBusy new fault = MayRefuse IfBusy (IsUnclean g new) ⊥ fault
 
 module _ {S : Type 0} (g : Ghosts S) (old new : StoreModel S) where
   -- whatever was held, this is the reply to the submission
@@ -65,7 +65,7 @@ module _ {S : Type 0} (g : Ghosts S) (old new : StoreModel S) where
       pub read : ReadsWhole from to receipt.identity records
       pub reply_is : RepliesWith (Fragment receipt.identity records)
           (Accepted receipt.identity receipt.new receipt.known)
-      pub leaves : CommitsSubmission (Fragment receipt.identity records)
+      pub commits : CommitsSubmission (Fragment receipt.identity records)
 
     -- the input parses to this, and is refused with this reply; what is held is unchanged, and the
     -- rows after a crash are what they could be before
@@ -86,7 +86,7 @@ module _ {S : Type 0} (g : Ghosts S) (old new : StoreModel S) where
     -- memory ran out or the store refused; what is held is unchanged. Only after E41 or E42, and if
     -- the whole input was read and is a fragment, may it be committed after a crash
     abbrev pub IsInterrupted : Answer → Type 0
-    IsInterrupted answer = (KeepsHoldings g old new × ReadsPrefix from to)
+    IsInterrupted answer = (KeepsHoldings g old new × ReadsUntilInterrupted from to)
         ⊎ (IsInDoubt answer × ((key : Key) × (records : List DataRecord)
         × ReadsWhole from to key records × MayHaveCommitted (Fragment key records)))
 
@@ -98,18 +98,20 @@ module _ {S : Type 0} (g : Ghosts S) (old new : StoreModel S) where
     IsRefusedFor OfMemory = IsInterrupted (Err refusal.Memory)  -- E41
     -- E42, E45
     IsRefusedFor (OfStore fault) = IsInterrupted (Err (refusal.Store fault))
-        × IsRefusal g (IsBusy g old) new fault
+        × StoreMayRefuse g (IsBusy g old) new fault
 
     -- each answer says how the input was read, and what the store holds then
-    abbrev pub IsSubmitted : Answer → Type 0
-    IsSubmitted (Ok receipt) = Accepts receipt
-    IsSubmitted (Err refused) = IsRefusedFor (cause refused)
+    abbrev pub IsSubmitAnswer : Answer → Type 0
+    IsSubmitAnswer (Ok receipt) = Accepts receipt
+    IsSubmitAnswer (Err refused) = IsRefusedFor (cause refused)
 
 -- no transaction is open after it, except where memory ran out or the store refused
-abbrev pub IsEnded : {S : Type 0} → Ghosts S → StoreModel S → Answer → Type 0
-IsEnded g new answer = HasCleanDisk (at g new) → IsStopped answer
+abbrev pub IsOutsideTransactionAfterSubmit : {S : Type 0} → Ghosts S → StoreModel S → Answer →
+    Type 0
+IsOutsideTransactionAfterSubmit g new answer = HasCleanDisk (at g new) →
+    IsMemoryOrStoreRefusal answer
     ⊎ ((at g new).in_transaction ≡ false)
 
 -- the answer if the connection was in a transaction before the call: E42 without a cause
-abbrev pub found_busy : Answer
-found_busy = Err (refusal.Store (store.Store None))
+abbrev pub busy_answer : Answer
+busy_answer = Err (refusal.Store (store.Store None))

@@ -6,7 +6,7 @@ ghost use Rattle.edf_fragment.specs.Fragment.{DataRecord};
 ghost use Rattle.edf_fragment.specs.Parsed.{Fragment};
 ghost use Rattle.edf_holdings.specs.Holdings.{Holdings};
 ghost use Rattle.edf_holdings.specs.Reply.{reply};
-ghost use Rattle.edf_intake.specs.Inside.Halt.{fragment_refusal};
+ghost use Rattle.edf_intake.specs.Inside.Halt.{refusal_of_fragment_fault};
 ghost use Rattle.edf_intake.specs.Inside.Taken.{IsConflict, MayBeAccepted};
 ghost use Rattle.edf_intake.specs.Inside.Verdict.{IsSpare, AreFindings};
 ghost use Rattle.edf_intake.specs.Refusal.{refusal_number, refusal_name, reply_of};
@@ -91,9 +91,9 @@ impl Refusal {
 
 /// If memory ran out, the refusal is `Memory`, and not `Store`.
 impl From<StoreFault> for Refusal {
-    ghost use Rattle.edf_intake.specs.Inside.Halt.{store_refusal};
+    ghost use Rattle.edf_intake.specs.Inside.Halt.{refusal_of_store_fault};
 
-    ghost from_gives = { λ fault refusal. refusal ≡ store_refusal fault };
+    ghost from_gives = { λ fault refusal. refusal ≡ refusal_of_store_fault fault };
 
     fn from(fault: StoreFault) -> Refusal {
         match fault {
@@ -123,19 +123,19 @@ impl From<StoreFault> for Stop {
 }
 
 impl From<FragmentFault> for Stop {
-    ghost use Rattle.edf_intake.specs.Inside.Halt.{fragment_refusal};
+    ghost use Rattle.edf_intake.specs.Inside.Halt.{refusal_of_fragment_fault};
     ghost use Rattle.edf_intake.specs.declared.answer.Stop.TheVariants.{Input};
 
-    ghost from_gives = { λ fault stop. stop ≡ Input (fragment_refusal fault) };
+    ghost from_gives = { λ fault stop. stop ≡ Input (refusal_of_fragment_fault fault) };
 
     fn from(fault: FragmentFault) -> Stop {
-        Stop::Input(fragment_refusal(fault))
+        Stop::Input(refusal_of_fragment_fault(fault))
     }
 }
 
 /// Returns the refusal for a fault. A failed read and want of memory have their own.
-pub(crate) fn fragment_refusal(fault: FragmentFault) -> Refusal
-    ensures { result ≡ fragment_refusal fault }
+pub(crate) fn refusal_of_fragment_fault(fault: FragmentFault) -> Refusal
+    ensures { result ≡ refusal_of_fragment_fault fault }
 {
     match fault {
         FragmentFault::Read => Refusal::Read,

@@ -5,13 +5,13 @@ ghost use Rattle.edf_header.specs.Header.{most_records};
 ghost use Rattle.edf_store.specs.StoreTx.{HasCauseOrIsUnclean, ReadsInTransaction};
 ghost use Rattle.edf_fragment.specs.Call.{input_state};
 ghost use Rattle.edf_intake.specs.Inside.Transaction.{IsRunningFor, KeepsRunning};
-ghost use Rattle.edf_intake.specs.Inside.Gap.{IsGapInside};
-ghost use Rattle.edf_intake.specs.Inside.Verdict.{IsVerdict, IsSpareInside};
-ghost use Rattle.edf_intake.specs.Inside.Course.{IsFoundFor, MayBeNext, IsRecordTaken};
+ghost use Rattle.edf_intake.specs.Inside.Gap.{IsGapInTransaction};
+ghost use Rattle.edf_intake.specs.Inside.Verdict.{IsVerdict, IsSpareInTransaction};
+ghost use Rattle.edf_intake.specs.Inside.Course.{IsLookupFor, MayBeNext, IsRecordTaken};
 ghost use Rattle.edf_intake.specs.Inside.Halt.{HaltsAfterHeader};
-ghost use Rattle.edf_intake.specs.Inside.Taken.{HasReadHeader, AreTaken};
+ghost use Rattle.edf_intake.specs.Inside.Taken.{HasReadHeader, RecordsAreTaken};
 
-use crate::answer::{Stop, fragment_refusal};
+use crate::answer::{Stop, refusal_of_fragment_fault};
 use crate::gap::{Gap, gap_after};
 use edf_fragment::{Input, OpenFragment, Record};
 use edf_header::Identity;
@@ -72,7 +72,7 @@ pub(crate) struct Destination {
 
 /// The verdict on a data record, and the gap that begins where it starts, if one is known.
 #[derive(Clone, Copy)]
-struct Found {
+struct Lookup {
     verdict: Verdict,
     gap: Option<Gap>,
 }
@@ -92,19 +92,19 @@ fn find_verdict<S: Alter>(
     identity: &Identity,
     gap: Option<Gap>,
     data_record: &Record,
-) -> Result<Found, StoreFault>
+) -> Result<Lookup, StoreFault>
     requires running { IsRunningFor S.Store transaction.old id.row identity.now }
-    requires gap { IsGapInside S.Store transaction.old identity.now gap }
+    requires gap { IsGapInTransaction S.Store transaction.old identity.now gap }
     // Nothing is added, so the verdict still holds of what the transaction sees after it.
     ensures leaves { ReadsInTransaction S.Store transaction.old transaction.new result
         (HasCauseOrIsUnclean S.Store transaction.new) }
-    ensures found { IfOk result
-        (IsFoundFor S.Store transaction.old transaction.new identity.now data_record.now) }
+    ensures lookup { IfOk result
+        (IsLookupFor S.Store transaction.old transaction.new identity.now data_record.now) }
 {
     let start = data_record.start();
     let duration = identity.duration();
     if let Some(rest) = gap_after(gap, start, duration) {
-        return Ok(Found {
+        return Ok(Lookup {
             verdict: Verdict::New,
             gap: Some(rest),
         });
@@ -113,12 +113,12 @@ fn find_verdict<S: Alter>(
     match verdict_of(data_record, near.as_slice()) {
         Verdict::New => {
             let until = transaction.next_start(id, start)?;
-            Ok(Found {
+            Ok(Lookup {
                 verdict: Verdict::New,
                 gap: Some(Gap { from: start, until }),
             })
         }
-        verdict => Ok(Found { verdict, gap: None }),
+        verdict => Ok(Lookup { verdict, gap: None }),
     }
 }
 
@@ -146,8 +146,8 @@ fn take_record<S: Alter>(
     }
     let Destination { id, spare } = destination;
     let start = data_record.start();
-    let found = find_verdict(transaction, id, identity, course.gap, data_record)?;
-    let Found { verdict, gap } = found;
+    let lookup = find_verdict(transaction, id, identity, course.gap, data_record)?;
+    let Lookup { verdict, gap } = lookup;
     match verdict {
         Verdict::Clashes { stored } => Ok(Course {
             findings: Findings {
@@ -188,14 +188,14 @@ pub(crate) fn take_records<S: Alter, R: Input>(
     requires running { IsRunningFor S.Store transaction.old destination.id.row
         fragment.old.header.key }
     // As many as `spare` may be added, so the cap must allow them.
-    requires spare { IsSpareInside S.Store transaction.old fragment.old.header.key
+    requires spare { IsSpareInTransaction S.Store transaction.old fragment.old.header.key
         (most_records fragment.old.header.count) destination.spare }
     requires header { HasReadHeader (R.remaining input.old) fragment.old.header
         fragment.old.progress }
     ensures leaves { KeepsRunning S.Store transaction.old transaction.new result }
     // The identity is taken from the header after this call.
     ensures header { fragment.new.header ≡ fragment.old.header }
-    ensures taken { IfOk result (AreTaken S.Store transaction.old transaction.new
+    ensures taken { IfOk result (RecordsAreTaken S.Store transaction.old transaction.new
         fragment.old.header destination.spare
         (input_state R.Input input.old) (input_state R.Input input.new)) }
     ensures halted { IfErr result (HaltsAfterHeader S.Store transaction.new fragment.old.header
@@ -219,7 +219,7 @@ pub(crate) fn take_records<S: Alter, R: Input>(
                 }
             }
             Ok(None) => return Ok(course.findings),
-            Err(fault) => return Err(Stop::Input(fragment_refusal(fault))),
+            Err(fault) => return Err(Stop::Input(refusal_of_fragment_fault(fault))),
         }
     }
 }

@@ -7,8 +7,8 @@ ghost use Rattle.edf_store.specs.Transaction.{EachHasRecord};
 ghost use Rattle.edf_store.specs.StoreTx.{IsRunning, ReadsInTransaction, KeepsTransaction};
 ghost use Rattle.edf_fragment.specs.Call.{input_state};
 ghost use Rattle.edf_intake.specs.Inside.Transaction.{IsRunningFor, KeepsRunning};
-ghost use Rattle.edf_intake.specs.Inside.Verdict.{IsSpareInside};
-ghost use Rattle.edf_intake.specs.Inside.Taken.{IsDestination, IsAcceptedInside, IsStop};
+ghost use Rattle.edf_intake.specs.Inside.Verdict.{IsSpareInTransaction};
+ghost use Rattle.edf_intake.specs.Inside.Taken.{IsDestination, IsAcceptedInTransaction, StopsWith};
 
 use crate::answer::{Receipt, Stop, conflict};
 use crate::data_records::{Destination, Findings, take_records};
@@ -28,7 +28,7 @@ fn known_spare<S: Alter>(
     requires running { IsRunningFor S.Store transaction.old id.row identity.now }
     ensures leaves { ReadsInTransaction S.Store transaction.old transaction.new result HasCause }
     ensures spare { IfOk result (λ found. IfSome found
-        (IsSpareInside S.Store transaction.new identity.now (most_records count))) }
+        (IsSpareInTransaction S.Store transaction.new identity.now (most_records count))) }
 {
     let Some(count) = count else {
         return Ok(None);
@@ -74,9 +74,9 @@ pub(crate) fn take_fragment<S: Alter, R: Input>(
     // The caller reads the cap before the transaction borrows the store.
     requires cap { cap ≡ transaction.old.store.now.cap }
     ensures leaves { KeepsRunning S.Store transaction.old transaction.new result }
-    ensures accepted { IfOk result (IsAcceptedInside S.Store transaction.old transaction.new
+    ensures accepted { IfOk result (IsAcceptedInTransaction S.Store transaction.old transaction.new
         (input_state R.Input input.old) (input_state R.Input input.new)) }
-    ensures stopped { IfErr result (IsStop S.Store transaction.old transaction.new
+    ensures stopped { IfErr result (StopsWith S.Store transaction.old transaction.new
         (input_state R.Input input.old) (input_state R.Input input.new)) }
 {
     let mut fragment = OpenFragment::read(alloc, input)?;

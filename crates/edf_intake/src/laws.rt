@@ -5,7 +5,7 @@ ghost use Rattle.edf_holdings.specs.Laws.{RepeatsChangeNothing, ResentFromStart}
 ghost use Rattle.edf_holdings.specs.Laws.{ConflictFreeIsAccepted, Reordered, OneIsConflictFree};
 ghost use Rattle.edf_holdings.specs.Laws.{Recut, SameRecordsStayConflictFree};
 ghost use Rattle.edf_holdings.specs.Meaning.{OwnRecordsAreKnown};
-ghost use Rattle.edf_intake.specs.Batch.{InTurnIsAsList};
+ghost use Rattle.edf_intake.specs.Batch.{OneByOneIsAsList};
 
 use sqlite::Alter;
 
@@ -48,5 +48,5 @@ pub fn recut()
 /// and the answers are the replies to it. Members for which memory ran out, or a read or the store
 /// failed, add nothing. After a crash some first members are held, perhaps with the next.
 pub fn as_one_list<S: Alter>()
-    ensures { InTurnIsAsList S.Store }
+    ensures { OneByOneIsAsList S.Store }
 {}

@@ -1,9 +1,11 @@
 //! One submission, and a list of them.
 
 ghost use Rattle.std.specs.Prelude.{◌≡◌, map, IfOk, IfErr};
-ghost use Rattle.edf_intake.specs.Submitted.{IsSubmitted, IsEnded, found_busy};
+ghost use Rattle.edf_intake.specs.Submitted.{IsSubmitAnswer, IsOutsideTransactionAfterSubmit};
+ghost use Rattle.edf_intake.specs.Submitted.{busy_answer};
 ghost use Rattle.edf_fragment.specs.Call.{input_state};
-ghost use Rattle.edf_intake.specs.Batch.{AreSubmitted, AnswersAll, AreEnded};
+ghost use Rattle.edf_intake.specs.Batch.{AreSubmitted, AnswersAreReplies};
+ghost use Rattle.edf_intake.specs.Batch.{IsOutsideTransactionAfterLast};
 ghost use Rattle.edf_store.specs.Call.{IsBusy};
 
 use crate::answer::{Receipt, Refusal, Stop};
@@ -35,10 +37,10 @@ pub fn submit<S: Alter, R: Input>(
     input: &mut R,
 ) -> Result<Receipt, Refusal>
     ensures cap { store.new.cap ≡ store.old.cap }
-    ensures submitted { IsSubmitted S.Store store.old store.new
+    ensures submitted { IsSubmitAnswer S.Store store.old store.new
         (input_state R.Input input.old) (input_state R.Input input.new) result }
-    ensures ended { IsEnded S.Store store.new result }
-    ensures busy { IsBusy S.Store store.old → (input.new ≡ input.old) × (result ≡ found_busy) }
+    ensures ended { IsOutsideTransactionAfterSubmit S.Store store.new result }
+    ensures busy { IsBusy S.Store store.old → (input.new ≡ input.old) × (result ≡ busy_answer) }
 {
     let cap = store.cap();
     let mut transaction = store.transaction()?;
@@ -73,8 +75,9 @@ pub fn submit_all<S: Alter, R: Input>(
     ensures submitted { IfOk result (λ answers.
         AreSubmitted S.Store store.old store.new (map (input_state R.Input) inputs.old)
         (map (input_state R.Input) inputs.new) answers.items) }
-    ensures ended { IfOk result (λ answers. AreEnded S.Store store.old store.new answers.items) }
-    ensures answered { IfOk result (λ answers. AnswersAll S.Store store.old store.new
+    ensures ended { IfOk result (λ answers. IsOutsideTransactionAfterLast S.Store store.old
+        store.new answers.items) }
+    ensures answered { IfOk result (λ answers. AnswersAreReplies S.Store store.old store.new
         (map (input_state R.Input) inputs.old) answers.items) }
 {
     let mut answers = Vec::with_capacity(alloc, inputs.len())?;

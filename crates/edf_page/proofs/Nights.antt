@@ -26,7 +26,7 @@ use Rattle.edf_store.specs.Held.{StoreModel}
 use Rattle.edf_store.specs.declared.fault.StoreFault.TheVariants as store
 use Rattle.edf_intake.specs.Batch.{AreSubmitted, WillParseTo}
 use Rattle.edf_intake.specs.Refusal.{Answer, reply_of}
-use Rattle.edf_intake.specs.Submitted.{IsSubmitted}
+use Rattle.edf_intake.specs.Submitted.{IsSubmitAnswer}
 use Rattle.edf_intake.specs.declared.answer.Refusal.TheVariants as refusal
 use Rattle.edf_export.specs.Headline.{IsOnlyFile}
 use Rattle.edf_export.proofs.Headline.{tells-one}
@@ -292,7 +292,7 @@ all-calm (a ∷ answers) status calm = (
 
 -- an answer that is no trouble tells a reply
 calm-reply : (old new : StoreModel MemStore) (from to : InputState) (answer : Answer) →
-    IsSubmitted over_memory old new from to answer → answer_status answer ≢ Trouble →
+    IsSubmitAnswer over_memory old new from to answer → answer_status answer ≢ Trouble →
     (r : Reply) × (reply_of answer ≡ Some r)
 calm-reply old new from to (Ok receipt) s calm = (_, refl)
 calm-reply old new from to (Err (refusal.Form fault)) s calm = (_, refl)

@@ -99,8 +99,8 @@ pub of-read : (l : Layout) (records : List DataRecord) (left rest : Option (List
 of-read l records left rest P d read is told =
     subst P is (told
     (subst (λ n. Spaced n 0 records) (sym is)
-    (spaced-sound l.key 0 records (spelled-sound read.bytes l.key records read.spells)))
-    (spelled-few read.bytes l.key records read.spells))
+    (spaced-sound l.key 0 records (spelled-sound read.bytes l.key records read.is_file)))
+    (spelled-few read.bytes l.key records read.is_file))
 
 begins-by-onset : (k : Key) (records : List DataRecord) → FirstMayStart k records →
     FirstMayStart k (by_onset records)
@@ -117,10 +117,10 @@ module _ (l : Layout) (records kept : List DataRecord) (left rest : Option (List
   kept-length = ap (λ (l : List DataRecord). length l) all.same ∙ by-onset-length records
 
   pub kept-few : length kept ≤ MOST_RECORDS
-  kept-few = omega (arith, kept-length, spelled-few read.bytes l.key records read.spells)
+  kept-few = omega (arith, kept-length, spelled-few read.bytes l.key records read.is_file)
 
   pub kept-some : 1 ≤ length kept
-  kept-some = omega (arith, kept-length, spelled-some read.bytes l.key records read.spells)
+  kept-some = omega (arith, kept-length, spelled-some read.bytes l.key records read.is_file)
 
   pub kept-bare : All (λ r. r.samples ≡ []) kept
   kept-bare = subst (All (λ (r : DataRecord). r.samples ≡ [])) (sym all.same)
@@ -133,7 +133,7 @@ module _ (l : Layout) (records kept : List DataRecord) (left rest : Option (List
   kept-starts m is =
       let whole = kept-measured m is in
       let begins : FirstMayStart l.key (by_onset records) = begins-by-onset l.key records
-      (spelled-begins read.bytes l.key records read.spells) in
+      (spelled-begins read.bytes l.key records read.is_file) in
       subst (MayStart l.key) (sym whole.start) (subst (FirstMayStart l.key) whole.parts begins)
 
   pub planned : (plan : CanonicalPlan) → plan.identity ≡ l.key → plan.kept.items ≡ kept →
@@ -148,5 +148,5 @@ module _ (l : Layout) (records kept : List DataRecord) (left rest : Option (List
     kept = same ∙ all.same;
     outside = outside ∙ ap (sum_by (outside_here d)) all.same
         ∙ outside-is d records (spaced-sound l.key 0 records
-        (spelled-sound read.bytes l.key records read.spells));
+        (spelled-sound read.bytes l.key records read.is_file));
   }

@@ -246,7 +246,7 @@ module _ {R : Type 0} {g : Ghosts R} {l : Layout} {left file : Option (List ℕ)
       let rs = annotated plan.kept.items s.records in
       let sound : AreSoundFrom l.key 0 rs =
       annotated-sound l.key 0 plan.kept.items s.records so.alike
-      (spelled-sound read.bytes l.key s.records read.spells) (s.sound l.key so.sound) in
+      (spelled-sound read.bytes l.key s.records read.is_file) (s.sound l.key so.sound) in
       planned_written file (g.remaining to.input) before after plan l s.records header len read
       (record {
         alike = so.alike;

@@ -125,7 +125,7 @@ planned_written left rest before after plan l records header len read is sound i
     let rs = annotated plan.kept.items records in
     let text = planned_text header plan.measure rs in
     let file = planned_file l.key records plan header
-    (spelled-key read.bytes l.key records read.spells) sound is is-header in
+    (spelled-key read.bytes l.key records read.is_file) sound is is-header in
     record {
       layout = l;
       records = records;

@@ -3,7 +3,7 @@ use Rattle.std.proofs.Common.{◌≡◌, ℕ, List, Option, Some, None, Ok, Err,
 use Rattle.sqlite_trees.specs.declared.store.Store.{Ghosts}
 use Rattle.edf_store.specs.Held.{StoreModel}
 use Rattle.edf_intake.specs.Refusal.{Answer}
-use Rattle.edf_intake.specs.Submitted.{IsSubmitted, IsEnded}
+use Rattle.edf_intake.specs.Submitted.{IsSubmitAnswer, IsOutsideTransactionAfterSubmit}
 use Rattle.edf_intake.specs.declared.answer.Receipt.{Receipt}
 use Rattle.edf_cli.specs.Output.{OutputChange}
 use Rattle.edf_serve.specs.Client.{HasAccepted, IsIdle}
@@ -27,9 +27,9 @@ module _ {S : Type 0} (g : Ghosts S) (folder : Option (List ℕ)) (old new : Poi
   done o = record { old = old; new = new; submission = submission; outcome = o }
 
   by-answer : (it : Submission) (answer : Answer) (out : OutputChange) (name : List ℕ) (given : _)
-      (receipt : Receipt) → IsSubmitted g old.store new.store it.from it.to answer →
-      IsEnded g new.store answer → IsAnswerSaid out name answer (outcome.Accepted given receipt) →
-      MayBeTold g new.store receipt
+      (receipt : Receipt) → IsSubmitAnswer g old.store new.store it.from it.to answer →
+      IsOutsideTransactionAfterSubmit g new.store answer →
+      IsAnswerSaid out name answer (outcome.Accepted given receipt) → MayBeTold g new.store receipt
   by-answer it (Ok r) out name given receipt submitted ended said = record {
     idle = λ clean. elim (ended clean) [ inl n ↦ absurd n | inr i ↦ i ];
     accepted = subst (HasAccepted g new.store) (sym said.1) (record {

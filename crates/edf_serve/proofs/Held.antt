@@ -22,9 +22,9 @@ module _ {S : Type 0} (g : Ghosts S) (old new : StoreModel S) (from to : InputSt
     (accepts : Accepts g old new from to receipt) where
   told-sound : IsWellFormed (Fragment receipt.identity accepts.records)
   told-sound = (
-    spelled-key accepts.read.bytes receipt.identity accepts.records accepts.read.spells,
-    spelled-sound accepts.read.bytes receipt.identity accepts.records accepts.read.spells,
-    spelled-begins accepts.read.bytes receipt.identity accepts.records accepts.read.spells,
+    spelled-key accepts.read.bytes receipt.identity accepts.records accepts.read.is_file,
+    spelled-sound accepts.read.bytes receipt.identity accepts.records accepts.read.is_file,
+    spelled-begins accepts.read.bytes receipt.identity accepts.records accepts.read.is_file,
   )
 
   all-held : (h : Holdings) → IsSound old.cap h →
@@ -74,10 +74,10 @@ module _ {S : Type 0} (g : Ghosts S) (old new : StoreModel S) (from to : InputSt
         records = accepts.records;
         read = accepts.read;
         counted = all-counted h sound after answer;
-        is_open = accepts.leaves.is_open clean;
+        is_open = accepts.commits.is_open clean;
         held = after_one old.cap h told;
         held_is = refl;
-        holds = accepts.leaves.holdings h held;
+        holds = accepts.commits.holdings h held;
         each = all-held h sound answer;
       }
 

@@ -3,7 +3,7 @@ use Rattle.std.proofs.Common.{◌≡◌, ◌⊎◌, ◌∙◌, ℕ, List, Option
 use Rattle.sqlite_trees.specs.declared.store.Store.{Ghosts}
 use Rattle.edf_store.specs.Held.{KeepsHoldings}
 use Rattle.edf_store.proofs.Begun.{stays_same}
-use Rattle.edf_intake.specs.Submitted.{IsSubmitted}
+use Rattle.edf_intake.specs.Submitted.{IsSubmitAnswer}
 use Rattle.edf_serve.specs.Exchange.{IsWorked}
 use Rattle.edf_serve.specs.Files.{Paths, opens, IsPlace, LiesBelow}
 use Rattle.edf_serve.specs.Line.{LineAsked}
@@ -22,7 +22,7 @@ module _ {S : Type 0} (g : Ghosts S) (folder : Option (List ℕ)) (w : Work S) w
   pub record SubmitsOne : Type 0 where
     pub it : Submission
     pub is_it : w.submission ≡ Some it
-    pub submitted : IsSubmitted g w.old.store w.new.store it.from it.to it.answer
+    pub submitted : IsSubmitAnswer g w.old.store w.new.store it.from it.to it.answer
     pub given : it.from.remaining ≡ w.old.paths.bytes it.path
     pub below : LiesBelow folder it.path
     pub paths : w.new.paths ≡ opens w.old.paths it.path

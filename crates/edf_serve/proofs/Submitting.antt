@@ -7,7 +7,7 @@ use Rattle.edf_fragment.specs.Call.{InputState}
 use Rattle.edf_store.specs.Held.{StoreModel, at, KeepsHoldings}
 use Rattle.edf_store.proofs.Held.{others_committed_then}
 use Rattle.edf_intake.specs.Refusal.{Answer}
-use Rattle.edf_intake.specs.Submitted.{IsSubmitted}
+use Rattle.edf_intake.specs.Submitted.{IsSubmitAnswer}
 use Rattle.edf_intake.specs.Batch.{AreSubmittedAsList}
 use Rattle.edf_intake.proofs.Batches.{next_submitted, own-later}
 use Rattle.edf_intake.proofs.Turns.{map-next}
@@ -52,7 +52,7 @@ module _ {S : Type 0} (g : Ghosts S) (old mid new : StoreModel S) where
 
   -- one more
   pub more-in_turn : (all : List Submission) (s : Submission) → new.cap ≡ mid.cap →
-      AreSubmittedInTurn g old mid all → IsSubmitted g mid new s.from s.to s.answer →
+      AreSubmittedInTurn g old mid all → IsSubmitAnswer g mid new s.from s.to s.answer →
       AreSubmittedInTurn g old new (all ++ (s ∷ []))
   more-in_turn all s capped before is =
       let it = next_submitted g old mid new (froms all) (tos all) (answers all) before.cap

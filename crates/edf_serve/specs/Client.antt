@@ -5,7 +5,7 @@ use Rattle.sqlite.specs.State.{HasCleanDisk}
 use Rattle.edf_fragment.specs.Call.{InputState}
 use Rattle.edf_fragment.specs.Failures.{saturating_increment}
 use Rattle.edf_store.specs.Held.{StoreModel, at}
-use Rattle.edf_intake.specs.Submitted.{IsSubmitted}
+use Rattle.edf_intake.specs.Submitted.{IsSubmitAnswer}
 use Rattle.edf_intake.specs.declared.answer.Receipt.{Receipt}
 use Rattle.edf_cli.specs.Output.{IsPut}
 use Rattle.edf_cli.specs.Status.{exit_code}
@@ -49,4 +49,4 @@ module _ {S : Type 0} (g : Ghosts S) where
     pub old : StoreModel S
     pub from : InputState
     pub to : InputState
-    pub submitted : IsSubmitted g old store from to (Ok receipt)
+    pub submitted : IsSubmitAnswer g old store from to (Ok receipt)

@@ -2,8 +2,8 @@
 use Rattle.std.specs.Prelude.{◌≡◌, ◌⊎◌, ◌↔◌, ℕ, true, List, [], ◌∷◌, ◌++◌, codes, Option, Some, None}
 use Rattle.std.specs.Prelude.{Ok, Err}
 use Rattle.sqlite_trees.specs.declared.store.Store.{Ghosts}
-use Rattle.edf_intake.specs.Refusal.{Answer, IsStopped, refusal_number}
-use Rattle.edf_intake.specs.Submitted.{IsSubmitted, IsEnded}
+use Rattle.edf_intake.specs.Refusal.{Answer, IsMemoryOrStoreRefusal, refusal_number}
+use Rattle.edf_intake.specs.Submitted.{IsSubmitAnswer, IsOutsideTransactionAfterSubmit}
 use Rattle.edf_command.specs.Lines.{refused_file_line, take_memory_line}
 use Rattle.edf_cli.specs.Text.{IsInstantFormat}
 use Rattle.edf_cli.specs.Output.{OutputChange, Gets, IsWritten, IsLinePrinted}
@@ -33,7 +33,7 @@ IsAnswerSaid out name (Ok receipt) (outcome.Accepted given told) = (given.now �
 IsAnswerSaid out name (Err refusal) (outcome.Told status is_stopped) = ((spell : ℕ → List ℕ) →
     IsInstantFormat spell → IsLinePrinted out (refused_file_line spell name refusal)
     (status_of_number (refusal_number refusal)) status)
-    × ((is_stopped ≡ true) ↔ IsStopped (Err refusal))
+    × ((is_stopped ≡ true) ↔ IsMemoryOrStoreRefusal (Err refusal))
 IsAnswerSaid out name answer outcome = ⊥
 
 module _ {S : Type 0} (g : Ghosts S) (w : Work S) (name : List ℕ) where
@@ -42,8 +42,8 @@ module _ {S : Type 0} (g : Ghosts S) (w : Work S) (name : List ℕ) where
     pub it : Submission
     pub is_it : (w.submission ≡ Some it) × (it.name ≡ name) × (it.path ≡ path)
     pub given : it.from.remaining ≡ w.old.paths.bytes path
-    pub submitted : IsSubmitted g w.old.store w.new.store it.from it.to it.answer
-    pub ended : IsEnded g w.new.store it.answer
+    pub submitted : IsSubmitAnswer g w.old.store w.new.store it.from it.to it.answer
+    pub ended : IsOutsideTransactionAfterSubmit g w.new.store it.answer
     pub said : IsAnswerSaid (grown w.old.out w.new.out) name it.answer w.outcome
     pub same : w.new ≡ record w.old {
       store = w.new.store;

@@ -2,7 +2,7 @@
 
 ghost use Rattle.std.specs.Prelude.{◌≡◌, ◌⊎◌, ◌↔◌, ℕ, true, List, Option, Err, option_map};
 ghost use Rattle.edf_command.specs.Lines.{refused_file_line, take_memory_line};
-ghost use Rattle.edf_intake.specs.Refusal.{IsStopped, refusal_number};
+ghost use Rattle.edf_intake.specs.Refusal.{IsMemoryOrStoreRefusal, refusal_number};
 ghost use Rattle.edf_cli.specs.Output.{output_change, IsWritten, IsLinePrinted};
 ghost use Rattle.edf_cli.specs.Status.{status_of_number};
 ghost use Rattle.edf_cli.specs.Text.{IsInstantFormat};
@@ -46,7 +46,7 @@ fn print_refusal<O: Output>(alloc: Global, name: &str, refusal: Refusal, out: &m
 
 /// Whether memory ran out or the store refused, so that a transaction may be open.
 fn is_stopped(refusal: &Refusal) -> bool
-    ensures { (result ≡ true) ↔ IsStopped (Err refusal.now) }
+    ensures { (result ≡ true) ↔ IsMemoryOrStoreRefusal (Err refusal.now) }
 {
     matches!(refusal, Refusal::Memory | Refusal::Store(_))
 }

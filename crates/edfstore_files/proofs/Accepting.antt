@@ -15,7 +15,7 @@ use Rattle.edf_holdings.proofs.Accepted.{after_has_accepted}
 use Rattle.edf_holdings.proofs.Added.{nothing_is_sound}
 use Rattle.edf_holdings.proofs.Settled.{after-append}
 use Rattle.edf_intake.specs.Refusal.{reply_of}
-use Rattle.edf_intake.specs.Batch.{Turn, IsTurn, some_values, submissions_in, replies_in}
+use Rattle.edf_intake.specs.Batch.{Turn, IsConsistentTurn, some_values, submissions_in, replies_in}
 use Rattle.edf_intake.specs.Batch.{AgreesWith, IsPossibleReply}
 use Rattle.edf_intake.specs.declared.answer.Receipt.{Receipt}
 use Rattle.edfstore_files.specs.Files.{DatabaseHolds, no_table, one_table, both_tables, FilesHold}
@@ -43,8 +43,7 @@ same_told o k key records is told = told ∙ ap (λ (q : Key). Some (Fragment q 
 met_first : (cap : ℕ) (h : Holdings) (t : Turn) (o : Option Parsed) (p : Option Reply) (key : Key)
     (new known : ℕ) (os : List (Option Parsed)) (ps : List (Option Reply)) → AgreesWith t o p →
     p ≡ Some (Accepted key new known) →
-    some_values (p ∷ ps) ≡ replies cap h (some_values (o ∷ os)) →
-    Met cap h o key new known
+    some_values (p ∷ ps) ≡ replies cap h (some_values (o ∷ os)) → Met cap h o key new known
 met_first cap h t (Some (Fragment k records)) (Some answer) key new known os ps goes is same =
     let answered : answer ≡ Accepted key new known = cc in
     let head : answer ≡ reply cap h (Fragment k records) = cc in
@@ -73,7 +72,7 @@ past_first cap h t None (Some answer) os ps goes same = absurd goes
 past_first cap h t None None os ps goes same = same
 
 met_at : (cap : ℕ) (h : Holdings) (before behind : List Turn) (t : Turn) (key : Key)
-    (new known : ℕ) → AllByRecursion IsTurn (before ++ t ∷ behind) →
+    (new known : ℕ) → AllByRecursion IsConsistentTurn (before ++ t ∷ behind) →
     some_values (replies_of (before ++ t ∷ behind))
     ≡ replies cap h (some_values (tolds_of (before ++ t ∷ behind))) →
     reply_of t.answer ≡ Some (Accepted key new known) →
@@ -112,11 +111,12 @@ HasAccepted turns k = (before behind : List Turn) (t : Turn) (receipt : Receipt)
     × ((r : DataRecord) → Contains records r → Contains (k receipt.identity) r)
 
 has_accepted : (cap : ℕ) (h : Holdings) (turns : List Turn) → IsSound cap h →
-    AllByRecursion IsTurn turns → replies_in turns ≡ replies cap h (submissions_in turns) →
+    AllByRecursion IsConsistentTurn turns →
+    replies_in turns ≡ replies cap h (submissions_in turns) →
     HasAccepted turns (after cap h (submissions_in turns))
 has_accepted cap h turns sound each same before behind t receipt splits is =
     let key = receipt.identity in
-    let all = subst (AllByRecursion IsTurn) splits each in
+    let all = subst (AllByRecursion IsConsistentTurn) splits each in
     let same' = subst (λ (ts : List Turn). replies_in ts ≡ replies cap h (submissions_in ts)) splits
     same
     in

@@ -12,7 +12,7 @@ use Rattle.edf_holdings.specs.Laws.{AreWellFormed}
 use Rattle.edf_holdings.proofs.Settled.{after-append}
 use Rattle.edf_intake.specs.Refusal.{Answer, reply_of}
 use Rattle.edf_intake.specs.Input.{ReadsAs}
-use Rattle.edf_intake.specs.Batch.{Turn, some_values, submissions_in, AgreesWith, IsTurn}
+use Rattle.edf_intake.specs.Batch.{Turn, some_values, submissions_in, AgreesWith, IsConsistentTurn}
 use Rattle.edf_intake.specs.declared.answer.Refusal.TheVariants as refusal
 use Rattle.edf_intake.proofs.Turns.{told-next, all-next, sound_told}
 use Rattle.edf_export.proofs.Headline.{headline}
@@ -39,7 +39,7 @@ pub somes_first : (o : Option Parsed) (os : List (Option Parsed)) →
 somes_first (Some x) os = refl
 somes_first None os = refl
 
-pub sound_turns : (turns : List Turn) → AllByRecursion IsTurn turns →
+pub sound_turns : (turns : List Turn) → AllByRecursion IsConsistentTurn turns →
     AreWellFormed (submissions_in turns)
 sound_turns [] all = tt
 sound_turns (t ∷ ts) all =
@@ -109,17 +109,19 @@ answered t told = record {
   submission = Some told;
 }
 
-answered_turn : (t : Turn) (told : Parsed) → ReadsAs t.from t.to told → IsTurn (answered t told)
+answered_turn : (t : Turn) (told : Parsed) → ReadsAs t.from t.to told →
+    IsConsistentTurn (answered t told)
 answered_turn t (Fragment key records) heard = (heard, refl)
 answered_turn t (Fault fault) heard = (heard, refl)
 
-first_turns : (xs ys : List Turn) → AllByRecursion IsTurn (xs ++ ys) → AllByRecursion IsTurn xs
+first_turns : (xs ys : List Turn) → AllByRecursion IsConsistentTurn (xs ++ ys) →
+    AllByRecursion IsConsistentTurn xs
 first_turns [] ys all = tt
 first_turns (x ∷ xs) ys all = (all.0, first_turns xs ys all.1)
 
 with_next : (cap : ℕ) (h : Holdings) (given rest : List (Option (List ℕ))) (first : List Turn)
     (t : Turn) (later : List Turn) (told : Parsed) (tolds : List Parsed) →
-    AllByRecursion IsTurn first → given ≡ given_in (first ++ t ∷ later) ++ rest →
+    AllByRecursion IsConsistentTurn first → given ≡ given_in (first ++ t ∷ later) ++ rest →
     ReadsAs t.from t.to told → tolds ≡ submissions_in first ++ told ∷ [] →
     MaySubmit cap (interrupted given) h tolds
 with_next cap h given rest first t later told tolds each gave heard are =
@@ -133,15 +135,16 @@ with_next cap h given rest first t later told tolds each gave heard are =
       given_in later ++ rest,
       gave ∙ ap (λ (l : List (Option (List ℕ))). l ++ rest) same
           ∙ append_assoc (given_in (first ++ last ∷ [])) (given_in later) rest,
-      all-next IsTurn first last each (answered_turn t told heard),
+      all-next IsConsistentTurn first last each (answered_turn t told heard),
       are ∙ sym (told-next first last),
     )
 
 front_may : (cap : ℕ) (h : Holdings) (given rest : List (Option (List ℕ))) (turns : List Turn)
-    (tolds : List Parsed) → AllByRecursion IsTurn turns → given ≡ given_in turns ++ rest →
+    (tolds : List Parsed) → AllByRecursion IsConsistentTurn turns → given ≡ given_in turns ++ rest →
     IsSubmittedPrefix turns tolds → MaySubmit cap (interrupted given) h tolds
 front_may cap h given rest turns tolds all gave it =
-    let each = first_turns it.first it.rest (subst (AllByRecursion IsTurn) it.splits all) in
+    let each = first_turns it.first it.rest
+    (subst (AllByRecursion IsConsistentTurn) it.splits all) in
     let gave' : given ≡ given_in (it.first ++ it.rest) ++ rest = gave
     ∙ ap (λ (ts : List Turn). given_in ts ++ rest) it.splits in
     elim it.are [
@@ -159,7 +162,7 @@ front_may cap h given rest turns tolds all gave it =
     ]
 
 pub unclosed : (cap : ℕ) (turns : List Turn) (given rest : List (Option (List ℕ)))
-    (start end : Image) → AllByRecursion IsTurn turns → given ≡ given_in turns ++ rest →
+    (start end : Image) → AllByRecursion IsConsistentTurn turns → given ≡ given_in turns ++ rest →
     LeadsTo cap (λ h. IsSubmittedPrefix turns) start end → StepsBy cap (interrupted given) start end
 unclosed cap turns given rest start end all gave it h keep =
     ∥∥₁_map (it h keep) (λ (tolds, front, kept).

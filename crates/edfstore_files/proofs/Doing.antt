@@ -18,7 +18,7 @@ use Rattle.edf_store.specs.Held.{StoreModel, at, KeepsOtherTables, KeepsHoldings
 use Rattle.edf_store.proofs.Held.{others_committed_then}
 use Rattle.edf_intake.specs.Refusal.{Answer}
 use Rattle.edf_fragment.specs.Call.{InputState}
-use Rattle.edf_intake.specs.Submitted.{IsSubmitted}
+use Rattle.edf_intake.specs.Submitted.{IsSubmitAnswer}
 use Rattle.edf_intake.specs.Batch.{Turn, some_values, MayHaveCommittedNext, MayRemainAfterCrash}
 use Rattle.edf_intake.proofs.Turns.{IsMade, turn_of}
 use Rattle.edf_intake.proofs.Batches.{in_turn}
@@ -183,7 +183,7 @@ module _ {D : Type 0} {g : disk.Ghosts D} (bytes : List ℕ → Option (List ℕ
       (from to : InputState) (answer : Answer) →
       IsDone over_files old new out err bytes (convert name) status →
       HasOpened before after (name ∷ []) status → from.remaining ≡ bytes name →
-      IsSubmitted over_files old mid from to answer →
+      IsSubmitAnswer over_files old mid from to answer →
       ((turns : List Turn) → TakesTurns over_files old mid turns →
       TakesTurns over_files old new turns) →
       Turned (convert name, bytes, before, after, out) old new err status

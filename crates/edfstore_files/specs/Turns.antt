@@ -12,7 +12,8 @@ use Rattle.edf_holdings.specs.Laws.{AreWellFormed}
 use Rattle.edf_store.specs.Held.{StoreModel, at, Holds, KeepsOtherTables}
 use Rattle.edf_intake.specs.Refusal.{IsInDoubt}
 use Rattle.edf_intake.specs.Input.{ReadsAs}
-use Rattle.edf_intake.specs.Batch.{Turn, IsTurn, submissions_in, replies_in, MayRemainAfterCrash}
+use Rattle.edf_intake.specs.Batch.{Turn, IsConsistentTurn, submissions_in, replies_in}
+use Rattle.edf_intake.specs.Batch.{MayRemainAfterCrash}
 use Rattle.edf_export.specs.Headline.{Headline}
 use Rattle.edfstore_files.specs.Files.{FilesHold}
 
@@ -22,7 +23,7 @@ use Rattle.edfstore_files.specs.Files.{FilesHold}
 pub record TakesTurns {S : Type 0} (g : Ghosts S) (old new : StoreModel S) (turns : List Turn) :
     Type 0 where
   pub cap : new.cap ≡ old.cap
-  pub each : AllByRecursion IsTurn turns
+  pub each : AllByRecursion IsConsistentTurn turns
   pub replies_are : HasCleanDisk (at g new) → (h : Holdings) → Holds g old h →
       replies_in turns ≡ replies old.cap h (submissions_in turns)
   pub holdings : (h : Holdings) → Holds g old h →
@@ -57,12 +58,12 @@ pub data PastRun : Type 0 where
 -- What it submitted, over files that hold h: all that its files parse to, and its replies are those
 -- to this list; nothing; or what a prefix of them parses to, without those answered from E40 on.
 abbrev pub MaySubmit : ℕ → PastRun → Holdings → List Parsed → Type 0
-MaySubmit cap (ended turns) h submissions = AllByRecursion IsTurn turns
+MaySubmit cap (ended turns) h submissions = AllByRecursion IsConsistentTurn turns
     × (submissions ≡ submissions_in turns) × (replies_in turns ≡ replies cap h submissions)
 MaySubmit cap idle h submissions = submissions ≡ []
 MaySubmit cap (interrupted given) h submissions = (turns : List Turn)
     × (rest : List (Option (List ℕ))) × (given ≡ given_in turns ++ rest)
-    × AllByRecursion IsTurn turns × (submissions ≡ submissions_in turns)
+    × AllByRecursion IsConsistentTurn turns × (submissions ≡ submissions_in turns)
 
 -- the files then hold the result of such submissions to what they held
 abbrev pub LeadsTo : ℕ → (Holdings → List Parsed → Type 0) → Image → Image → Type 0

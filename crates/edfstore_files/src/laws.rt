@@ -15,7 +15,7 @@ ghost use Rattle.sqlite.specs.declared.file.Leftover.TheVariants as left;
 ghost use Rattle.edf_fragment.specs.Fragment.{DataRecord};
 ghost use Rattle.edf_fragment.specs.Parsed.{Fragment};
 ghost use Rattle.edf_holdings.specs.Holdings.{Holdings, IsSound, nothing_held};
-ghost use Rattle.edf_intake.specs.Batch.{Turn, IsTurn};
+ghost use Rattle.edf_intake.specs.Batch.{Turn, IsConsistentTurn};
 ghost use Rattle.edf_intake.specs.declared.answer.Receipt.{Receipt};
 ghost use Rattle.edfstore_files.specs.Files.{FilesHold};
 ghost use Rattle.edfstore_files.specs.ProgramRun.{IsLeftover};
@@ -47,8 +47,8 @@ pub fn across_runs()
     ensures first { (cap : ℕ) (start : Image) → IsNothing start →
         FilesHold cap start nothing_held }
     ensures unclosed { (cap : ℕ) (turns : List Turn) (given rest : List (Option (List ℕ)))
-        (start end : Image) → AllByRecursion IsTurn turns → given ≡ given_in turns ++ rest →
-        LeadsTo cap (λ h. IsSubmittedPrefix turns) start end →
+        (start end : Image) → AllByRecursion IsConsistentTurn turns →
+        given ≡ given_in turns ++ rest → LeadsTo cap (λ h. IsSubmittedPrefix turns) start end →
         StepsBy cap (interrupted given) start end }
     ensures wider { (cap more : ℕ) (image : Image) (h : Holdings) → cap ≤ more →
         FilesHold cap image h → FilesHold more image h }

@@ -9,10 +9,10 @@ use Rattle.edf_holdings.specs.Holdings.{Holdings}
 use Rattle.edf_store.specs.Held.{at}
 use Rattle.edf_store.specs.Transaction.{Sees, IsOf, AddsNoRecording}
 use Rattle.edf_store.specs.declared.transaction.StoreTx.{StoreTx}
-use Rattle.edf_intake.specs.Inside.Gap.{IsGapIn, IsGapInside}
-use Rattle.edf_intake.specs.Inside.Verdict.{IsVerdictIn, CountsNext}
+use Rattle.edf_intake.specs.Inside.Gap.{IsGapIn, IsGapInTransaction}
+use Rattle.edf_intake.specs.Inside.Verdict.{IsVerdictIn, TakesNext}
 use Rattle.edf_intake.specs.declared.data_records.Course.{Course}
-use Rattle.edf_intake.specs.declared.data_records.Found.{Found}
+use Rattle.edf_intake.specs.declared.data_records.Lookup.{Lookup}
 
 -- no clash was met so far, and fewer than `spare` are new
 abbrev pub MayAdd : ℕ → Course → Type 0
@@ -30,15 +30,15 @@ module _ {S : Type 0} (g : Ghosts S) where
     pub first : HasCleanDisk (at g tx.store.now) → MayAdd spare course → (h : Holdings) →
         Sees g tx.store.now h → h key ≡ [] → MayStart key r.start
     pub countable : course.findings.new + course.findings.known < 2 ^ 32 - 1
-    pub gap : IsGapInside g tx key course.gap
+    pub gap : IsGapInTransaction g tx key course.gap
 
   module _ (old new : StoreTx S) (key : Key) (r : DataRecord) where
     -- the stored records near it give this verdict, and the gap begins where it starts
-    pub record IsFoundFor (found : Found) : Type 0 where
+    pub record IsLookupFor (lookup : Lookup) : Type 0 where
       pub verdict : HasCleanDisk (at g new.store.now) →
-          IsVerdictIn g old.store.now key r found.verdict
-      pub gap : HasCleanDisk (at g new.store.now) → IsGapIn g old.store.now key found.gap
-      pub from : IfSome found.gap (λ gap. gap.from ≡ r.start)
+          IsVerdictIn g old.store.now key r lookup.verdict
+      pub gap : HasCleanDisk (at g new.store.now) → IsGapIn g old.store.now key lookup.gap
+      pub from : IfSome lookup.gap (λ gap. gap.from ≡ r.start)
 
     -- it was taken: the transaction sees the holdings after it; the recording is there under its
     -- id, and none was added; it is counted, and the gap is one
@@ -47,7 +47,7 @@ module _ {S : Type 0} (g : Ghosts S) where
       pub only : AddsNoRecording g old.store.now new.store.now
       pub counts : HasCleanDisk (at g new.store.now) → (h : Holdings) → Sees g old.store.now h →
           (t : Holdings) × Sees g new.store.now t
-          × CountsNext spare key r h from.findings t to.findings
+          × TakesNext spare key r h from.findings t to.findings
       pub counted : to.findings.new + to.findings.known
           ≤ from.findings.new + from.findings.known + 1
-      pub gap : IsGapInside g new key to.gap
+      pub gap : IsGapInTransaction g new key to.gap

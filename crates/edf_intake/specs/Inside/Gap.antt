@@ -25,5 +25,5 @@ module _ {S : Type 0} (g : Ghosts S) where
   IsGapIn store key gap = (h : Holdings) → Sees g store h → IfSome gap (IsGap (h key))
 
   -- on a disk that returns what was written, none of those that the transaction sees does
-  abbrev pub IsGapInside : StoreTx S → Key → Option Gap → Type 0
-  IsGapInside tx key gap = HasCleanDisk (at g tx.store.now) → IsGapIn tx.store.now key gap
+  abbrev pub IsGapInTransaction : StoreTx S → Key → Option Gap → Type 0
+  IsGapInTransaction tx key gap = HasCleanDisk (at g tx.store.now) → IsGapIn tx.store.now key gap

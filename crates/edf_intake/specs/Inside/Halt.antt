@@ -12,7 +12,7 @@ use Rattle.edf_store.specs.declared.fault.StoreFault.{StoreFault}
 use Rattle.edf_store.specs.declared.fault.StoreFault.TheVariants as store
 use Rattle.edf_store.specs.declared.transaction.StoreTx.{StoreTx}
 use Rattle.edf_fragment.specs.Call.{InputState}
-use Rattle.edf_intake.specs.Input.{ReadsSome}
+use Rattle.edf_intake.specs.Input.{ReadsHeaderAndRecords}
 use Rattle.edf_intake.specs.declared.answer.Refusal.{Refusal}
 use Rattle.edf_intake.specs.declared.answer.Refusal.TheVariants.{Form, Read, Memory}
 use Rattle.edf_intake.specs.declared.answer.Refusal.TheVariants.{Store as Refused}
@@ -20,23 +20,25 @@ use Rattle.edf_intake.specs.declared.answer.Stop.{Stop}
 use Rattle.edf_intake.specs.declared.answer.Stop.TheVariants.{Input, Store}
 
 -- a failed read gives `Read`, want of memory `Memory`, and any other fault `Form` with that fault
-abbrev pub fragment_refusal : FragmentFault → Refusal
-fragment_refusal NoRead = Read
-fragment_refusal NoMemory = Memory
-fragment_refusal fault = Form fault
+abbrev pub refusal_of_fragment_fault : FragmentFault → Refusal
+refusal_of_fragment_fault NoRead = Read
+refusal_of_fragment_fault NoMemory = Memory
+refusal_of_fragment_fault fault = Form fault
 
 -- want of memory gives `Memory`, and any other fault of the store `Store` with that fault
-abbrev pub store_refusal : StoreFault → Refusal
-store_refusal store.Memory = Memory
-store_refusal fault = Refused fault
+abbrev pub refusal_of_store_fault : StoreFault → Refusal
+refusal_of_store_fault store.Memory = Memory
+refusal_of_store_fault fault = Refused fault
 
 -- the input has a fault, or reading it failed; or the store refused after some data records
 abbrev pub HaltsReading : {S : Type 0} → Ghosts S → StoreTx S → InputState → InputState → Stop →
     Type 0
 HaltsReading g tx from to (Input refusal) = (fault : FragmentFault)
-    × (refusal ≡ fragment_refusal fault) × ReadsFragmentFault from.remaining to.remaining fault
+    × (refusal ≡ refusal_of_fragment_fault fault)
+    × ReadsFragmentFault from.remaining to.remaining fault
     × CountsReadFault from.failed to.failed fault
-HaltsReading g tx from to (Store fault) = ReadsSome from to × HasCauseOrIsUnclean g tx fault
+HaltsReading g tx from to (Store fault) = ReadsHeaderAndRecords from to
+    × HasCauseOrIsUnclean g tx fault
 
 -- reading halts so, if `from` is taken as it was before the header was read
 abbrev pub HaltsAfterHeader : {S : Type 0} → Ghosts S → StoreTx S → Layout → InputState →

@@ -27,8 +27,8 @@ pub record IsSpare (cap held asked spare : ℕ) : Type 0 where
 
 -- the key's recording may get so many more, as the transaction sees it on a disk that returns what
 -- was written
-abbrev pub IsSpareInside : {S : Type 0} → Ghosts S → StoreTx S → Key → ℕ → ℕ → Type 0
-IsSpareInside g tx key asked spare = HasCleanDisk (at g tx.store.now) → (h : Holdings) →
+abbrev pub IsSpareInTransaction : {S : Type 0} → Ghosts S → StoreTx S → Key → ℕ → ℕ → Type 0
+IsSpareInTransaction g tx key asked spare = HasCleanDisk (at g tx.store.now) → (h : Holdings) →
     Sees g tx.store.now h → IsSpare tx.store.now.cap (length (h key)) asked spare
 
 -- the stored records near it give this verdict on the record
@@ -45,30 +45,30 @@ IsVerdictIn g store key r verdict = (h : Holdings) → Sees g store h →
     IsVerdict r (overlapping (duration_of key.duration) r.start (h key)) verdict
 
 -- a record with this verdict changes the findings and the holdings so
-abbrev pub CountsVerdict : ℕ → Key → DataRecord → List DataRecord → Holdings → Findings → Holdings →
+abbrev pub TakesVerdict : ℕ → Key → DataRecord → List DataRecord → Holdings → Findings → Holdings →
     Findings → Verdict → Type 0
-CountsVerdict spare key r near h from t to (Clashes stored) = (t ≡ h)
+TakesVerdict spare key r near h from t to (Clashes stored) = (t ≡ h)
     × (to ≡ record from { clash = Some (record { start = r.start; stored = stored }) })
-CountsVerdict spare key r near h from t to Known = (t ≡ h)
+TakesVerdict spare key r near h from t to Known = (t ≡ h)
     × (to ≡ record from { known = from.known + 1 })
-CountsVerdict spare key r near h from t to New =
+TakesVerdict spare key r near h from t to New =
     (from.new < spare → t ≡ with_records key (r ∷ []) h) × (spare ≤ from.new → t ≡ h)
     × (to ≡ record from { new = from.new + 1 })
 
 -- after a clash nothing counts
-abbrev pub CountsNext : ℕ → Key → DataRecord → Holdings → Findings → Holdings → Findings → Type 0
-CountsNext spare key r h from t to = MatchOption from.clash
+abbrev pub TakesNext : ℕ → Key → DataRecord → Holdings → Findings → Holdings → Findings → Type 0
+TakesNext spare key r h from t to = MatchOption from.clash
     ((verdict : Verdict) × IsVerdict r
     (overlapping (duration_of key.duration) r.start (h key)) verdict
-    × CountsVerdict spare key r (overlapping (duration_of key.duration) r.start (h key)) h from t to
+    × TakesVerdict spare key r (overlapping (duration_of key.duration) r.start (h key)) h from t to
     verdict)
     (λ starts. to ≡ from)
 
 -- no record clashes with one of the key, and the findings count the new and the known
-pub record CountsAll (key : Key) (h : Holdings) (records : List DataRecord)
+pub record CountsWithoutClash (key : Key) (h : Holdings) (records : List DataRecord)
     (findings : Findings) : Type 0
   where
-    pub free : first_clash (duration_of key.duration) (h key) records ≡ None
+    pub no_clash : first_clash (duration_of key.duration) (h key) records ≡ None
     pub new_is : findings.new ≡ count_new (h key) records
     pub all : findings.known + findings.new ≡ length records
 
@@ -81,5 +81,6 @@ pub record NamesClash (key : Key) (h : Holdings) (records : List DataRecord)
   pub stored : starts.stored ≡ pair.1.start
 
 abbrev pub AreFindings : Key → Holdings → List DataRecord → Findings → Type 0
-AreFindings key h records findings = MatchOption findings.clash (CountsAll key h records findings)
+AreFindings key h records findings =
+    MatchOption findings.clash (CountsWithoutClash key h records findings)
     (NamesClash key h records)

@@ -4,7 +4,7 @@ use Rattle.edf_fragment.specs.Fragment.{DataRecord}
 use Rattle.edf_store.specs.StoreTx.{HasCauseOrIsUnclean, ReadsInTransaction}
 use Rattle.edf_store.specs.declared.fault.StoreFault.{StoreFault}
 use Rattle.edf_intake.specs.Inside.Verdict.{IsVerdict}
-use Rattle.edf_intake.specs.declared.data_records.Found.{Found}
+use Rattle.edf_intake.specs.declared.data_records.Lookup.{Lookup}
 use Rattle.edf_intake.specs.declared.data_records.Verdict.TheVariants.{New}
 use Rattle.edf_intake.proofs.Taking.{near_there, verdict_near, gap_found}
 use Rattle.edf_intake.proofs.Transactions.{passed_on, reads_none, reads_as, reads_refused}
@@ -13,12 +13,12 @@ use Rattle.edf_intake.proofs.data_records.find_verdict.Goals as goal
 
 pub returns-in-Some-clause-leaves : goal.returns-in-Some-clause-leaves
 returns-in-Some-clause-leaves g c =
-    let found : Found = record { verdict = New; gap = Some c.in-Some.rest } in
+    let lookup : Lookup = record { verdict = New; gap = Some c.in-Some.rest } in
     reads_none g.S.Store c.args.transaction.now
-    (HasCauseOrIsUnclean g.S.Store c.args.transaction.now) found c.requires.running.running
+    (HasCauseOrIsUnclean g.S.Store c.args.transaction.now) lookup c.requires.running.running
 
-pub returns-in-Some-clause-found : goal.returns-in-Some-clause-found
-returns-in-Some-clause-found g c =
+pub returns-in-Some-clause-lookup : goal.returns-in-Some-clause-lookup
+returns-in-Some-clause-lookup g c =
     let key = c.args.identity.now in
     record {
       verdict = λ clean h seen.
@@ -40,7 +40,7 @@ returns-in_err-near-clause-leaves g c =
     let last = c.near.new.self in
     let Why = HasCauseOrIsUnclean g.S.Store last in
     passed_on c.from_residual.result c.in_err-near.field-0.0
-    (λ (r : Result Found StoreFault). ReadsInTransaction g.S.Store first last r Why)
+    (λ (r : Result Lookup StoreFault). ReadsInTransaction g.S.Store first last r Why)
     c.from_residual.ensures.1
     (reads_refused g.S.Store first last Why c.in_err-near.field-0.0 c.in_err-near.ensures.leaves)
 
@@ -59,7 +59,7 @@ returns-in_err-until-in-New-clause-leaves g c =
     let Why = HasCauseOrIsUnclean g.S.Store last in
     let fault = c.in_err-until-in-New.field-0.0 in
     passed_on c.from_residual-in_err-until-in-New.result fault
-    (λ (r : Result Found StoreFault). ReadsInTransaction g.S.Store first last r Why)
+    (λ (r : Result Lookup StoreFault). ReadsInTransaction g.S.Store first last r Why)
     c.from_residual-in_err-until-in-New.ensures.1
     (reads_then_refused g.S.Store first mid last (HasCauseOrIsUnclean g.S.Store mid) Why
     c.in_ok-near.near c.in_ok-near.ensures.leaves fault c.in_err-until-in-New.ensures.leaves)
@@ -70,16 +70,16 @@ returns-in-New-clause-leaves g c =
     let mid = c.near.new.self in
     let last = c.next_start.new.self in
     let until = c.in_ok-until-in-New.until in
-    let found : Found = record {
+    let lookup : Lookup = record {
       verdict = New;
       gap = Some (record { from = c.start-start.result; until = until });
     } in
     reads_then g.S.Store first mid last (HasCauseOrIsUnclean g.S.Store mid)
-    (HasCauseOrIsUnclean g.S.Store last) c.in_ok-near.near c.in_ok-near.ensures.leaves until found
+    (HasCauseOrIsUnclean g.S.Store last) c.in_ok-near.near c.in_ok-near.ensures.leaves until lookup
     c.in_ok-until-in-New.ensures.leaves
 
-pub returns-in-New-clause-found : goal.returns-in-New-clause-found
-returns-in-New-clause-found g c =
+pub returns-in-New-clause-lookup : goal.returns-in-New-clause-lookup
+returns-in-New-clause-lookup g c =
     let first = c.args.transaction.now.store.now in
     let mid = c.near.new.self.store.now in
     let key = c.args.identity.now in
@@ -101,12 +101,12 @@ returns-in-New-clause-found g c =
 pub returns-clause-leaves : goal.returns-clause-leaves
 returns-clause-leaves g c =
     let last = c.near.new.self in
-    let found : Found = record { verdict = c.verdict_of.result; gap = None } in
+    let lookup : Lookup = record { verdict = c.verdict_of.result; gap = None } in
     reads_as g.S.Store c.args.transaction.now last (HasCauseOrIsUnclean g.S.Store last)
-    c.in_ok-near.near found c.in_ok-near.ensures.leaves
+    c.in_ok-near.near lookup c.in_ok-near.ensures.leaves
 
-pub returns-clause-found : goal.returns-clause-found
-returns-clause-found g c = record {
+pub returns-clause-lookup : goal.returns-clause-lookup
+returns-clause-lookup g c = record {
   verdict = λ clean. verdict_near g.S.Store c.args.transaction.now.store.now c.args.id.row
       c.args.identity.now c.args.data_record.now c.start-start.result c.in_ok-near.near.items
       c.verdict_of.result c.start-start.ensures.value c.requires.running.recording

@@ -21,17 +21,17 @@ returns-then-is_some-clause-taken g c =
     c.args.destination.spare c.args.course c.args.transaction.now c.requires.running
     (sym c.is_some.ensures ∙ c.if-is_some.true) c.requires.next.gap
 
-pub returns-in_err-found-clause-leaves : goal.returns-in_err-found-clause-leaves
-returns-in_err-found-clause-leaves g c =
-    let p = c.in_err-found.ensures.leaves in
-    passed_on c.from_residual.result c.in_err-found.field-0.0 (λ (r : Result Course StoreFault).
+pub returns-in_err-lookup-clause-leaves : goal.returns-in_err-lookup-clause-leaves
+returns-in_err-lookup-clause-leaves g c =
+    let p = c.in_err-lookup.ensures.leaves in
+    passed_on c.from_residual.result c.in_err-lookup.field-0.0 (λ (r : Result Course StoreFault).
     KeepsRunning g.S.Store c.args.transaction.now c.find_verdict.new.transaction r)
     c.from_residual.ensures.1
     (record { same_reference = p.same_reference; stays = p.stays; running = tt })
 
 pub returns-in-Clashes-clause-leaves : goal.returns-in-Clashes-clause-leaves
 returns-in-Clashes-clause-leaves g c =
-    let p = c.in_ok-found.ensures.leaves in
+    let p = c.in_ok-lookup.ensures.leaves in
     record { same_reference = p.same_reference; stays = p.stays; running = p.running }
 
 pub returns-in-Clashes-clause-taken : goal.returns-in-Clashes-clause-taken
@@ -39,14 +39,14 @@ returns-in-Clashes-clause-taken g c =
     let mid = c.find_verdict.new.transaction in
     clash_met g.S.Store c.args.destination.id.row c.args.identity.now c.args.data_record.now
     c.args.destination.spare c.args.course c.args.transaction.now c.requires.running mid
-    (HasCauseOrIsUnclean g.S.Store mid) c.in_ok-found.found c.in_ok-found.ensures.leaves
-    c.in_ok-found.ensures.found
+    (HasCauseOrIsUnclean g.S.Store mid) c.in_ok-lookup.lookup c.in_ok-lookup.ensures.leaves
+    c.in_ok-lookup.ensures.lookup
     (none_of c.args.course.findings.clash (sym c.is_some.ensures ∙ c.if-is_some.false))
     c.start-start.result c.in-Clashes.stored c.start-start.ensures.value c.in-Clashes.is
 
 pub returns-in-Known-clause-leaves : goal.returns-in-Known-clause-leaves
 returns-in-Known-clause-leaves g c =
-    let p = c.in_ok-found.ensures.leaves in
+    let p = c.in_ok-lookup.ensures.leaves in
     record { same_reference = p.same_reference; stays = p.stays; running = p.running }
 
 pub returns-in-Known-clause-taken : goal.returns-in-Known-clause-taken
@@ -54,8 +54,8 @@ returns-in-Known-clause-taken g c =
     let mid = c.find_verdict.new.transaction in
     known_met g.S.Store c.args.destination.id.row c.args.identity.now c.args.data_record.now
     c.args.destination.spare c.args.course c.args.transaction.now c.requires.running mid
-    (HasCauseOrIsUnclean g.S.Store mid) c.in_ok-found.found c.in_ok-found.ensures.leaves
-    c.in_ok-found.ensures.found
+    (HasCauseOrIsUnclean g.S.Store mid) c.in_ok-lookup.lookup c.in_ok-lookup.ensures.leaves
+    c.in_ok-lookup.ensures.lookup
     (none_of c.args.course.findings.clash (sym c.is_some.ensures ∙ c.if-is_some.false))
     c.in-Known.is
 
@@ -64,8 +64,8 @@ add-requires-clause-spare g c =
     let mid = c.find_verdict.new.transaction in
     may_take g.S.Store c.args.destination.id.row c.args.identity.now c.args.data_record.now
     c.args.destination.spare c.args.course c.args.transaction.now c.requires.running mid
-    (HasCauseOrIsUnclean g.S.Store mid) c.in_ok-found.found c.in_ok-found.ensures.leaves
-    c.in_ok-found.ensures.found
+    (HasCauseOrIsUnclean g.S.Store mid) c.in_ok-lookup.lookup c.in_ok-lookup.ensures.leaves
+    c.in_ok-lookup.ensures.lookup
     (none_of c.args.course.findings.clash (sym c.is_some.ensures ∙ c.if-is_some.false))
     c.in-New.is c.if-findings-spare.true c.requires.next
 
@@ -74,7 +74,7 @@ returns-in_err-add-in-New-clause-leaves g c =
     let first = c.args.transaction.now in
     let mid = c.find_verdict.new.transaction in
     let last = c.add.new.self in
-    let p = c.in_ok-found.ensures.leaves in
+    let p = c.in_ok-lookup.ensures.leaves in
     let q = c.in_err-add-in-New.ensures.leaves in
     passed_on c.from_residual-in_err-add-in-New.result c.in_err-add-in-New.field-0.0
     (λ (r : Result Course StoreFault). KeepsRunning g.S.Store first last r)
@@ -89,7 +89,7 @@ pub returns-after-findings-spare-clause-leaves :
 returns-after-findings-spare-clause-leaves g c =
     let first = c.args.transaction.now.store.now in
     let mid = c.find_verdict.new.transaction.store.now in
-    let p = c.in_ok-found.ensures.leaves in
+    let p = c.in_ok-lookup.ensures.leaves in
     elim c.if-findings-spare.branch [
       | then-findings-room+in_ok-add-in-New w ↦
           let q = w.in_ok-add-in-New.ensures.leaves in
@@ -116,16 +116,16 @@ returns-after-findings-spare-clause-taken g c =
     let first = c.args.transaction.now in
     let mid = c.find_verdict.new.transaction in
     let Why = HasCauseOrIsUnclean g.S.Store mid in
-    let found = c.in_ok-found.found in
-    let read = c.in_ok-found.ensures.leaves in
-    let is = c.in_ok-found.ensures.found in
+    let lookup = c.in_ok-lookup.lookup in
+    let read = c.in_ok-lookup.ensures.leaves in
+    let is = c.in_ok-lookup.ensures.lookup in
     let none = none_of course.findings.clash (sym c.is_some.ensures ∙ c.if-is_some.false) in
     elim c.if-findings-spare.branch [
       | then-findings-room+in_ok-add-in-New w ↦ rw w.transaction-is
-          (added_met g.S.Store id key r spare course first c.requires.running mid Why found read is
+          (added_met g.S.Store id key r spare course first c.requires.running mid Why lookup read is
           none c.in-New.is w.if-findings-spare.true w.add.new.self
           w.in_ok-add-in-New.ensures.leaves.stays w.in_ok-add-in-New.ensures.added)
       | else-findings-spare w ↦ rw w.transaction-is
-          (full_met g.S.Store id key r spare course first c.requires.running mid Why found read is
+          (full_met g.S.Store id key r spare course first c.requires.running mid Why lookup read is
           none c.in-New.is w.if-findings-spare.false)
     ]

@@ -12,7 +12,7 @@ use Rattle.edf_fragment.proofs.Fragments.{one_more_read, refused_then}
 use Rattle.edf_store.specs.Held.{at}
 use Rattle.edf_store.proofs.Readiness.{stays_then}
 use Rattle.edf_intake.specs.Inside.Transaction.{IsRunningFor}
-use Rattle.edf_intake.specs.Inside.Gap.{IsGapInside}
+use Rattle.edf_intake.specs.Inside.Gap.{IsGapInTransaction}
 use Rattle.edf_intake.specs.Inside.Course.{IsRecordTaken}
 use Rattle.edf_intake.specs.declared.data_records.Findings.{Findings}
 use Rattle.edf_intake.proofs.Meeting.{MetSoFar}
@@ -89,7 +89,8 @@ take_record-requires-clause-next g c =
           c.args.destination.spare c.requires.spare now mid rest from to c.records.course.findings r
           inv.so_far inv.reading answer sees was clean may.0 may.1 h seen);
       countable = omega (arith, inv.so_far.counted, step.1.may_come, layout.count.1);
-      gap = subst (λ (k : Key). IsGapInside g.S.Store c.records.transaction k c.records.course.gap)
+      gap = subst (λ (k : Key). IsGapInTransaction g.S.Store c.records.transaction k
+          c.records.course.gap)
           (sym same) inv.gap;
     }
 
@@ -210,7 +211,7 @@ returns-in-Ok-None-clause-taken g c =
       counted = c.in-Ok-None.ensures.counted ∙ inv.counted;
       records = inv.so_far.records;
       read = end.0;
-      found = end.1;
+      findings_are = end.1;
     }
 
 pub returns-in-Err-clause-leaves : goal.returns-in-Err-clause-leaves
@@ -231,7 +232,7 @@ returns-in-Err-clause-halted g c left head =
     inv.header
     c.in-Err.ensures.answer in (
       c.in-Err.fault,
-      c.fragment_refusal.ensures,
+      c.refusal_of_fragment_fault.ensures,
       refused_then l left first mid rest inv.so_far.records from to c.in-Err.fault head
           inv.so_far.read inv.reading answer,
       subst (λ (n : ℕ). CountsReadFault n (g.R.Input.failures c.next.new.input) c.in-Err.fault)

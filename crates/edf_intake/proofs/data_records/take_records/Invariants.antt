@@ -4,7 +4,7 @@ use Rattle.edf_fragment.specs.declared.advance.ReaderState.TheVariants.{Reading}
 use Rattle.edf_store.specs.Held.{KeepsHoldings}
 use Rattle.edf_store.specs.Transaction.{AddsNoRecording}
 use Rattle.edf_intake.specs.Inside.Transaction.{IsRunningFor}
-use Rattle.edf_intake.specs.Inside.Gap.{IsGapInside}
+use Rattle.edf_intake.specs.Inside.Gap.{IsGapInTransaction}
 use Rattle.edf_intake.proofs.Meeting.{MetSoFar}
 use Rattle.edf_intake.proofs.data_records.take_records.Given as goal
 
@@ -22,7 +22,7 @@ invariant-records g l = record {
       l.initial.fragment.header
       (g.R.Input.remaining l.initial.input) (g.R.Input.remaining l.input) l.fragment.progress
       l.course.findings;
-  gap : IsGapInside g.S.Store l.transaction l.initial.fragment.header.key l.course.gap;
+  gap : IsGapInTransaction g.S.Store l.transaction l.initial.fragment.header.key l.course.gap;
 }
 
 abbrev pub decreases-records : goal.decreases-records

@@ -3,7 +3,7 @@ use Rattle.edf_header.specs.Header.{most_records}
 use Rattle.edf_store.specs.Fault.{HasCause}
 use Rattle.edf_store.specs.StoreTx.{KeepsTransaction}
 use Rattle.edf_store.specs.declared.fault.StoreFault.{StoreFault}
-use Rattle.edf_intake.specs.Inside.Verdict.{IsSpareInside}
+use Rattle.edf_intake.specs.Inside.Verdict.{IsSpareInTransaction}
 use Rattle.edf_intake.specs.declared.data_records.Destination.{Destination}
 use Rattle.edf_intake.proofs.Taking.{sees_as}
 use Rattle.edf_intake.proofs.Finding.{at_most, room_left}
@@ -61,7 +61,7 @@ returns-in-Some-clause-found g c =
           (sees_as g.S.Store first made c.in_ok-id.ensures.leaves.stays.cap found.same h seen);
       only = at_most g.S.Store key first made asked.store.now read.stays found.only read.only;
       spare = subst (λ (o : Option ℕ). IfSome o
-          (IsSpareInside g.S.Store asked key (most_records c.args.count))) c.in-Some.is
+          (IsSpareInTransaction g.S.Store asked key (most_records c.args.count))) c.in-Some.is
           c.in_ok-spare.ensures.spare;
     }
 

@@ -2,7 +2,7 @@ use Rattle.std.proofs.Common.{Option, sym, subst, ℕ}
 use Rattle.edf_header.specs.Header.{most_records}
 use Rattle.edf_store.specs.Fault.{HasCause}
 use Rattle.edf_store.specs.Transaction.{IsCapacityAnswer}
-use Rattle.edf_intake.specs.Inside.Verdict.{IsSpareInside}
+use Rattle.edf_intake.specs.Inside.Verdict.{IsSpareInTransaction}
 use Rattle.edf_intake.proofs.Finding.{room_now}
 use Rattle.edf_intake.proofs.fragment.known_spare.Goals as goal
 
@@ -17,7 +17,7 @@ returns-then-fits-clause-spare g c =
     let id = c.args.id.row in
     let key = c.args.identity.now in
     let count = c.in-Some.count in
-    subst (λ (o : Option ℕ). IsSpareInside g.S.Store new key (most_records o) count)
+    subst (λ (o : Option ℕ). IsSpareInTransaction g.S.Store new key (most_records o) count)
     (sym c.in-Some.is)
     (room_now g.S.Store old new id key c.requires.running c.in_ok-fits.fits HasCause
     c.in_ok-fits.ensures.leaves count (λ clean. subst

@@ -16,8 +16,8 @@ use Rattle.edf_fragment.specs.Call.{input_state}
 use Rattle.edf_intake.specs.Refusal.{reply_of}
 use Rattle.edf_intake.specs.Inside.Verdict.{IsSpare, AreFindings}
 use Rattle.edf_intake.specs.Inside.Transaction.{IsRunningFor, KeepsRunning}
-use Rattle.edf_intake.specs.Inside.Halt.{fragment_refusal, HaltsReading}
-use Rattle.edf_intake.specs.Inside.Taken.{IsDestination, IsAcceptedInside, IsStop}
+use Rattle.edf_intake.specs.Inside.Halt.{refusal_of_fragment_fault, HaltsReading}
+use Rattle.edf_intake.specs.Inside.Taken.{IsDestination, IsAcceptedInTransaction, StopsWith}
 use Rattle.edf_intake.specs.declared.data_records.Destination.{Destination}
 use Rattle.edf_intake.specs.declared.data_records.Findings.{Findings}
 use Rattle.edf_intake.specs.declared.answer.Receipt.{Receipt}
@@ -65,8 +65,8 @@ returns-in_err-fragment-clause-stopped g c =
     let from = input_state g.R.Input c.args.input.now in
     let to = input_state g.R.Input c.read.new.input in
     let fault = c.in_err-fragment.field-0.0 in
-    passed_on c.from_residual.result (Input (fragment_refusal fault))
-    (λ (r : Result Receipt Stop). IfErr r (IsStop g.S.Store tx tx from to))
+    passed_on c.from_residual.result (Input (refusal_of_fragment_fault fault))
+    (λ (r : Result Receipt Stop). IfErr r (StopsWith g.S.Store tx tx from to))
     c.from_residual.ensures.1
     (stopped_by g.S.Store tx tx from to fault
     (open_refused from.remaining to.remaining fault c.in_err-fragment.ensures.step)
@@ -89,7 +89,7 @@ returns-in_err-destination-clause-stopped g c =
     let to = input_state g.R.Input c.read.new.input in
     let fault = c.in_err-destination.field-0.0 in
     passed_on c.from_residual-in_err-destination.result (Store fault)
-    (λ (r : Result Receipt Stop). IfErr r (IsStop g.S.Store first made from to))
+    (λ (r : Result Receipt Stop). IfErr r (StopsWith g.S.Store first made from to))
     c.from_residual-in_err-destination.ensures.1 (
       reads_header_alone from to c.in_ok-fragment.fragment.header c.in_ok-fragment.ensures.step.0
           c.in_ok-fragment.ensures.counted,
@@ -156,7 +156,7 @@ returns-in-None-clause-accepted g c =
     counted c.in_ok-destination.ensures.found in
     let identity : c.into_identity-identity.result ≡ l.key = c.into_identity-identity.ensures
     ∙ ap (λ (x : Layout). x.key) (c.into_header.ensures ∙ c.in_ok-findings.ensures.header) in
-    subst (λ (k : Key). IsAcceptedInside g.S.Store first last from to
+    subst (λ (k : Key). IsAcceptedInTransaction g.S.Store first last from to
     (receipt_of k findings.new findings.known)) (sym identity)
     (is_accepted g.S.Store first made last from mid to l d findings
     c.in_ok-fragment.ensures.step.0 c.in_ok-fragment.ensures.counted
@@ -224,7 +224,7 @@ returns-in_err-findings-clause-stopped g c =
     let to = input_state g.R.Input c.take_records.new.input in
     let stop = c.in_err-findings.field-0.0 in
     passed_on c.from_residual-in_err-findings.result stop
-    (λ (r : Result Receipt Stop). IfErr r (IsStop g.S.Store first last from to))
+    (λ (r : Result Receipt Stop). IfErr r (StopsWith g.S.Store first last from to))
     c.from_residual-in_err-findings.ensures.1
     (halted g.S.Store first last from to stop
     (subst (λ (n : ℕ). HaltsReading g.S.Store last

@@ -2,9 +2,9 @@ use Rattle.std.proofs.Common.{◌≡◌, ◌∙◌, inl, inr, sym, subst, rules,
 use Rattle.edf_store.specs.Call.{IsBusy, IsUnclean}
 use Rattle.edf_store.specs.Held.{StoreModel}
 use Rattle.edf_store.proofs.Faults.{with_cause, may_more}
-use Rattle.edf_intake.specs.Refusal.{IsStopped}
+use Rattle.edf_intake.specs.Refusal.{IsMemoryOrStoreRefusal}
 use Rattle.edf_fragment.specs.Call.{input_state}
-use Rattle.edf_intake.specs.Submitted.{Accepts, IsSubmitted, IsEnded}
+use Rattle.edf_intake.specs.Submitted.{Accepts, IsSubmitAnswer, IsOutsideTransactionAfterSubmit}
 use Rattle.edf_intake.specs.declared.answer.Refusal.{Refusal}
 use Rattle.edf_intake.proofs.Ending.{refused_by, refused_on, is_stopped, stopped_on, accepts}
 use Rattle.edf_intake.proofs.Ending.{stops_at_commit, submitted, stops_at_undo, stops_before}
@@ -54,7 +54,7 @@ returns-in_err-commit-in-Ok-clause-submitted g c =
     let fault = c.in_err-commit-in-Ok.field-0.0 in
     let answer = c.from_residual-in_err-commit-in-Ok.result in
     let cause = c.in_err-commit-in-Ok.ensures.why in
-    subst (λ (s : StoreModel g.row.S.Denot). IsSubmitted g.S.Store old s from to answer) same
+    subst (λ (s : StoreModel g.row.S.Denot). IsSubmitAnswer g.S.Store old s from to answer) same
     (refused_on g.S.Store old new from to fault answer
     c.from_residual-in_err-commit-in-Ok.ensures.1
     (stops_at_commit g.S.Store old c.in_ok-transaction.transaction c.take_fragment.new.transaction
@@ -74,7 +74,7 @@ returns-in_ok-give_up-in-Err-Input-clause-submitted g c =
     let to = input_state g.R.Input c.take_fragment.new.input in
     let stop = rw c.in-Err-Input.field-0-is at c.in-Err-Input.ensures.stopped in
     subst (λ (s : StoreModel g.row.S.Denot).
-    IsSubmitted g.S.Store c.args.store.now s from to (Err c.in-Err-Input.refusal)) same
+    IsSubmitAnswer g.S.Store c.args.store.now s from to (Err c.in-Err-Input.refusal)) same
     (submitted g.S.Store c.args.store.now c.in_ok-transaction.transaction
     c.take_fragment.new.transaction from to c.in_ok-transaction.ensures.begun
     c.in-Err-Input.ensures.leaves.stays c.give_up.new.self.0
@@ -91,7 +91,7 @@ returns-in_err-give_up-in-Err-Input-clause-submitted g c =
     let stop = rw c.in-Err-Input.field-0-is at c.in-Err-Input.ensures.stopped in
     let fault = c.in_err-give_up-in-Err-Input.field-0.0 in
     let answer = c.from_residual-in_err-give_up-in-Err-Input.result in
-    subst (λ (s : StoreModel g.row.S.Denot). IsSubmitted g.S.Store old s from to answer) same
+    subst (λ (s : StoreModel g.row.S.Denot). IsSubmitAnswer g.S.Store old s from to answer) same
     (refused_on g.S.Store old new from to fault answer
     c.from_residual-in_err-give_up-in-Err-Input.ensures.1
     (stops_at_undo g.S.Store old c.in_ok-transaction.transaction c.take_fragment.new.transaction
@@ -111,7 +111,7 @@ returns-in-Err-Store-clause-submitted g c =
     let stop = rw c.in-Err-Store.field-0-is at c.in-Err-Store.ensures.stopped in
     let fault = c.in-Err-Store.fault in
     let undone = c.give_up-in-Err-Store.ensures.gives_up.stays in
-    subst (λ (s : StoreModel g.row.S.Denot). IsSubmitted g.S.Store old s from to
+    subst (λ (s : StoreModel g.row.S.Denot). IsSubmitAnswer g.S.Store old s from to
     (Err c.from.result)) same
     (refused_by g.S.Store old new from to fault c.from.result c.from.ensures
     (stops_before g.S.Store old c.in_ok-transaction.transaction last from to
@@ -126,7 +126,8 @@ returns-in_ok-commit-in-Ok-clause-ended g c =
     let same : c.commit.new.self.0 ≡ c.store-in-Ok-1.given.0 =
     sym (c.store-in-Ok-1.given.1 (sym (c.in-Ok.ensures.leaves.same_reference
     ∙ c.in_ok-transaction.ensures.same_reference))) in
-    subst (λ (s : StoreModel g.row.S.Denot). IsEnded g.S.Store s (Ok c.in-Ok.receipt)) same
+    subst (λ (s : StoreModel g.row.S.Denot). IsOutsideTransactionAfterSubmit g.S.Store s
+    (Ok c.in-Ok.receipt)) same
     (λ clean. inr (c.commit.ensures.commits.ended clean))
 
 pub returns-in_err-commit-in-Ok-clause-ended : goal.returns-in_err-commit-in-Ok-clause-ended
@@ -136,5 +137,5 @@ returns-in_err-commit-in-Ok-clause-ended g c clean =
 
 pub returns-in-Err-Store-clause-ended : goal.returns-in-Err-Store-clause-ended
 returns-in-Err-Store-clause-ended g c clean =
-    inl (subst (λ (r : Refusal). IsStopped (Err r)) (sym c.from.ensures)
+    inl (subst (λ (r : Refusal). IsMemoryOrStoreRefusal (Err r)) (sym c.from.ensures)
     (is_stopped c.in-Err-Store.fault))

@@ -6,7 +6,7 @@ use Rattle.sqlite_trees.specs.declared.store.Store.{Ghosts}
 use Rattle.edf_store.specs.Held.{StoreModel}
 use Rattle.edf_intake.specs.Refusal.{Answer}
 use Rattle.edf_fragment.specs.Call.{InputState, input_state}
-use Rattle.edf_intake.specs.Batch.{SubmitsOne, AreSubmitted, AreEnded}
+use Rattle.edf_intake.specs.Batch.{SubmitsOne, AreSubmitted, IsOutsideTransactionAfterLast}
 use Rattle.edf_intake.proofs.Fronts.{olds_more, nows_more, others_same}
 use Rattle.edf_intake.proofs.Batches.{submitted_next, ended-next, in_turn, answers_all}
 use Rattle.edf_intake.proofs.submission.submit_all.Goals as goal
@@ -31,7 +31,8 @@ loop-input-init g c =
       submitted = subst (λ (l : List Answer).
           AreSubmitted g.S.Store c.args.store.now c.args.store.now [] [] l) (sym none)
           refl;
-      ended = subst (λ (l : List Answer). AreEnded g.S.Store c.args.store.now c.args.store.now l)
+      ended = subst (λ (l : List Answer). IsOutsideTransactionAfterLast g.S.Store c.args.store.now
+          c.args.store.now l)
           (sym none) refl;
       others = refl;
       counted = search rules;
@@ -79,7 +80,7 @@ loop-input-preserved g c =
           ++ state new ∷ []) (c.loop-input.answers.items ++ c.submit-answer.result ∷ []))
           (sym more) step));
       ended = subst (λ (l : List Answer).
-          AreEnded g.S.Store c.args.store.now c.submit-answer.new.store l)
+          IsOutsideTransactionAfterLast g.S.Store c.args.store.now c.submit-answer.new.store l)
           (sym c.push_reserved.ensures.items)
           (ended-next g.S.Store c.args.store.now c.submit-answer.new.store
           c.loop-input.answers.items c.submit-answer.result c.submit-answer.ensures.ended);

@@ -33,7 +33,7 @@ invariant_of-result g c =
     subst (IsMeasuredSoFar answer.0) c.in-Some.is answer.2 in
     record {
       may_start = subst (λ (k : Key). MayStart k c.in-Some.measure.first) (sym key)
-          (measured_starts read.bytes l.key answer.0 c.in-Some.measure read.spells is);
+          (measured_starts read.bytes l.key answer.0 c.in-Some.measure read.is_file is);
       bare = subst (All (λ (r : DataRecord). r.samples ≡ [])) (sym c.new.ensures.items)
           (All-nil (λ (r : DataRecord). r.samples ≡ []));
     }
