@@ -9,7 +9,7 @@ use Rattle.edf_store.specs.Fault.{IsStoreRefusal}
 use Rattle.edf_store.specs.Held.{StoreModel, at, Holds, KeepsHoldings}
 use Rattle.edf_store.specs.declared.fault.StoreFault.{StoreFault}
 use Rattle.edf_store.specs.declared.fault.StoreFault.TheVariants.{Failed}
-use Rattle.edf_export.specs.Export.{IsExported, IsNotExported, CountsExportFault}
+use Rattle.edf_export.specs.Export.{IsExported, IsNotExported, CountsWriteFault}
 use Rattle.edf_export.specs.declared.fault.ExportFault.{ExportFault}
 use Rattle.edf_export.specs.declared.fault.ExportFault.TheVariants.{Store}
 use Rattle.edf_command.specs.Lines.{no_recording_line, export_refused_line, export_status}
@@ -30,7 +30,7 @@ module _ (out err : OutputChange) where
       (((len : ℕ) × IsExported out.before out.after k (h k) len)
       × (out.failed_after ≡ out.failed_before) × Gets err [] × (status ≡ Done))
       ⊎ ((fault : ExportFault) × IsNotExported out.before out.after k (h k) fault
-      × CountsExportFault out.failed_before out.failed_after fault
+      × CountsWriteFault out.failed_before out.failed_after fault
       × IsWritten err (export_refused_line fault) (export_status fault) status)
 
   -- on any disk: it is done, nothing is printed on `err` and no write failed; or why not is
@@ -39,7 +39,7 @@ module _ (out err : OutputChange) where
   ReportsExport status =
       ((out.failed_after ≡ out.failed_before) × Gets err [] × (status ≡ Done))
       ⊎ ((fault : ExportFault) × (fault ≢ Store Failed)
-      × CountsExportFault out.failed_before out.failed_after fault
+      × CountsWriteFault out.failed_before out.failed_after fault
       × IsWritten err (export_refused_line fault) (export_status fault) status)
 
   -- the recording at this place of the list is exported; places count from 1

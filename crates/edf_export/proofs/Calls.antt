@@ -12,7 +12,7 @@ use Rattle.edf_store.specs.declared.fault.StoreFault.{StoreFault}
 use Rattle.edf_store.specs.declared.fault.StoreFault.TheVariants.{Failed}
 use Rattle.edf_store.proofs.Readiness.{stays_then}
 use Rattle.edf_export.specs.Export.{ReportsWriteFailures}
-use Rattle.edf_export.specs.Inside.Calls.{EndsWalk, CountsWriting, CountsWritingFault}
+use Rattle.edf_export.specs.Inside.Calls.{EndsWalk, WritesOnAnyDisk, IsWritingFaultOnAnyDisk}
 use Rattle.edf_export.specs.declared.fault.ExportFault.{ExportFault}
 use Rattle.edf_export.specs.declared.fault.ExportFault.TheVariants.{NoRecording, Store as Refused}
 use Rattle.edf_export.specs.declared.fault.ExportFault.TheVariants.{Memory, Write}
@@ -31,7 +31,7 @@ leaves_on g Left a b c result same stays step left = record {
 
 -- the same where it is busy for another reason
 pub counts_weaker : (Busy More : Type 0) (old new : ℕ) (fault : ExportFault) → (Busy → More) →
-    CountsWritingFault Busy old new fault → CountsWritingFault More old new fault
+    IsWritingFaultOnAnyDisk Busy old new fault → IsWritingFaultOnAnyDisk More old new fault
 counts_weaker Busy More old new (Refused fault) more counts =
     (counts.0, refusal_why Busy ⊤ ⊥ More fault counts.1 more (λ no. no))
 counts_weaker Busy More old new fault more counts = counts
@@ -53,7 +53,7 @@ module _ (before after : Option (List ℕ)) (old new : ℕ) (Busy : Type 0) wher
   }
 
   -- what is counted while a file is written
-  pub written_truly : (result : Result ℕ ExportFault) → CountsWriting Busy old new result →
+  pub written_truly : (result : Result ℕ ExportFault) → WritesOnAnyDisk Busy old new result →
       ReportsWriteFailures before after old new result
   written_truly (Ok len) counts = record {
     counted = counts;

@@ -29,8 +29,8 @@ use Rattle.edf_canonical.proofs.MeasuredFiles.{front_more, planned_more}
 use Rattle.edf_canonical.proofs.Measures.{front_first}
 use Rattle.edf_canonical.proofs.Sourced.{gives-all, asked, keeps}
 use Rattle.edf_export.specs.Export.{IsOutsideTransactionAfterFault}
-use Rattle.edf_export.specs.Inside.Calls.{EndsWalk, CountsWritingFault}
-use Rattle.edf_export.specs.Inside.Steps.{Steps}
+use Rattle.edf_export.specs.Inside.Calls.{EndsWalk, IsWritingFaultOnAnyDisk}
+use Rattle.edf_export.specs.Inside.Steps.{IsSourceStep}
 use Rattle.edf_export.specs.Inside.Walks.{IsWritingFault, export_fault_of}
 use Rattle.edf_export.specs.declared.walked.Walked.{Walked}
 use Rattle.edf_export.proofs.Calls.{leaves_on}
@@ -57,20 +57,21 @@ module _ {S : Type 0} (g : Ghosts S) (from : At Walked (Records S Cursor) (Unit 
         HasYielded g from.file h k 0 → records ≡ take (length records) (h k)
 
   one-more : (mid to : At Walked (Records S Cursor) (Unit {0})) (rs : List DataRecord)
-      (r : DataRecord) → HasGivenThese mid rs → Answers (Steps g) mid to (Ok (Some r)) →
+      (r : DataRecord) → HasGivenThese mid rs → Answers (IsSourceStep g) mid to (Ok (Some r)) →
       HasGivenThese to (rs ++ r ∷ [])
   one-more mid to rs r so step =
       let more : length (rs ++ r ∷ []) ≡ length rs + 1 = length-append rs (r ∷ []) in
       record {
-        going = step.leaves.going;
-        walking = step.leaves.walking;
-        same_reference = step.leaves.same_reference ∙ so.same_reference;
+        going = step.walk_step.going;
+        walking = step.walk_step.walking;
+        same_reference = step.walk_step.same_reference ∙ so.same_reference;
         stays = stays_then g from.file.store.now mid.file.store.now to.file.store.now so.stays
-            step.leaves.stays;
+            step.walk_step.stays;
         moved = λ h k walked. subst (λ n. HasYielded g to.file h k n) (sym more)
             (step.moved h k (length rs) (so.moved h k walked));
         first = λ clean h k walked.
-            let was = clean_before g mid.file.store.now to.file.store.now step.leaves.stays clean in
+            let was = clean_before g mid.file.store.now to.file.store.now step.walk_step.stays clean
+            in
             ap (λ x. x ++ r ∷ []) (so.first was h k walked)
             ∙ sym (take-next (h k) (length rs) r
             (step.step clean h k (length rs) (so.moved h k walked)))
@@ -79,36 +80,37 @@ module _ {S : Type 0} (g : Ghosts S) (from : At Walked (Records S Cursor) (Unit 
 
   module _ (going : from.file.failed ≡ false) (walking : IsWalking g from.file) where
     all-given : (mid : At Walked (Records S Cursor) (Unit {0})) (rs : List DataRecord) →
-        Gives (Steps g) from mid rs → HasGivenThese mid rs
-    all-given mid rs gave = gives-all (Steps g) HasGivenThese one-more from mid [] rs (record {
-      going = going;
-      walking = walking;
-      same_reference = refl;
-      stays = stays_same g from.file.store.now;
-      moved = λ h k walked. walked;
-      first = λ clean h k walked. refl;
-    }) gave
+        Gives (IsSourceStep g) from mid rs → HasGivenThese mid rs
+    all-given mid rs gave = gives-all (IsSourceStep g) HasGivenThese one-more from mid [] rs
+        (record {
+          going = going;
+          walking = walking;
+          same_reference = refl;
+          stays = stays_same g from.file.store.now;
+          moved = λ h k walked. walked;
+          first = λ clean h k walked. refl;
+        }) gave
 
     module _ (to : At Walked (Records S Cursor) (Unit {0})) (whole : Measure) where
       at-end : (mid : At Walked (Records S Cursor) (Unit {0})) (rs : List DataRecord) →
-          HasGivenThese mid rs → Answers (Steps g) mid to (Ok None) →
+          HasGivenThese mid rs → Answers (IsSourceStep g) mid to (Ok None) →
           HasCleanDisk (at g to.file.store.now) → (h : Holdings) (k : Key) →
           HasYielded g from.file h k 0 → rs ≡ h k
       at-end mid rs so end clean h k walked =
-          let was = clean_before g mid.file.store.now to.file.store.now end.leaves.stays clean in
+          let was = clean_before g mid.file.store.now to.file.store.now end.walk_step.stays clean in
           let all : length rs ≡ length (h k) = end.step clean h k (length rs) (so.moved h k walked)
           in
           so.first was h k walked ∙ take_all (length rs) (h k) (omega (arith, all))
 
       -- all were given, and went out
       module _ (Text : List DataRecord → Type 0)
-          (s : SendsAll (Steps g) from to whole [] Text) where
+          (s : SendsAll (IsSourceStep g) from to whole [] Text) where
         so-all : HasGivenThese s.mid s.records
         so-all = all-given s.mid s.records s.gave
 
         pub sent-leaves : EndsWalk g from.file to.file (λ state. state.in_transaction ≡ false)
         sent-leaves = leaves_on g _ from.file s.mid.file to.file _ so-all.same_reference
-            so-all.stays s.end.leaves (λ clean. (s.end.leaves.walking clean).3.idle)
+            so-all.stays s.end.walk_step (λ clean. (s.end.walk_step.walking clean).3.idle)
 
         pub sent-text : HasCleanDisk (at g to.file.store.now) → (h : Holdings) (k : Key) →
             HasYielded g from.file h k 0 → Text (h k)
@@ -118,15 +120,17 @@ module _ {S : Type 0} (g : Ghosts S) (from : At Walked (Records S Cursor) (Unit 
       -- some were given, and no more went out
       module _ (mid : At Walked (Records S Cursor) (Unit {0})) (rs : List DataRecord)
           (so : HasGivenThese mid rs) where
-        stays-on : (fault : SendFault StoreFault) → StopsFor (Steps g) from to whole [] mid rs fault →
+        stays-on : (fault : SendFault StoreFault) →
+            StopsFor (IsSourceStep g) from to whole [] mid rs fault →
             KeepsHoldings g mid.file.store.now to.file.store.now
-        stays-on fault why = elim (asked (Steps g) from to whole [] mid rs fault why) [
+        stays-on fault why = elim (asked (IsSourceStep g) from to whole [] mid rs fault why) [
           | inl same ↦ subst (λ x. KeepsHoldings g mid.file.store.now x.file.store.now) (sym same)
               (stays_same g mid.file.store.now)
-          | inr (answer, is) ↦ is.leaves.stays
+          | inr (answer, is) ↦ is.walk_step.stays
         ]
 
-        idle : (fault : SendFault StoreFault) → StopsFor (Steps g) from to whole [] mid rs fault →
+        idle : (fault : SendFault StoreFault) →
+            StopsFor (IsSourceStep g) from to whole [] mid rs fault →
             HasCleanDisk (at g to.file.store.now) →
             IsOutsideTransactionAfterFault (at g to.file.store.now) (export_fault_of fault)
         idle (Source fault) why clean = tt
@@ -135,14 +139,15 @@ module _ {S : Type 0} (g : Ghosts S) (from : At Walked (Records S Cursor) (Unit 
             (export_fault_of (Output fault))
             (subst (λ x. IsWalking g x.file) (sym same) so.walking clean).3.idle
         idle (Output fault) (inr end) clean = idle_after (at g to.file.store.now)
-            (export_fault_of (Output fault)) (end.0.leaves.walking clean).3.idle
+            (export_fault_of (Output fault)) (end.0.walk_step.walking clean).3.idle
 
         counts : (old new : ℕ) (fault : SendFault StoreFault) →
-            StopsFor (Steps g) from to whole [] mid rs fault → CountsSendFault old new fault →
-            CountsWritingFault ⊥ old new (export_fault_of fault)
+            StopsFor (IsSourceStep g) from to whole [] mid rs fault →
+            CountsSendFault old new fault →
+            IsWritingFaultOnAnyDisk ⊥ old new (export_fault_of fault)
         counts old new (Source fault) why counted = (
           counted,
-          refusal_why _ _ _ ⊥ fault why.leaves.why (λ busy. busy)
+          refusal_why _ _ _ ⊥ fault why.walk_step.why (λ busy. busy)
               (not_failed _ so.going),
         )
         counts old new Unlike why counted = (counted, tt)
@@ -151,7 +156,7 @@ module _ {S : Type 0} (g : Ghosts S) (from : At Walked (Records S Cursor) (Unit 
 
         module _ (clean : HasCleanDisk (at g to.file.store.now)) (h : Holdings) (k : Key)
             (walked : HasYielded g from.file h k 0) (measured : IsMeasured (h k) whole) where
-          unlike : StopsFor (Steps g) from to whole [] mid rs Unlike → ⊥
+          unlike : StopsFor (IsSourceStep g) from to whole [] mid rs Unlike → ⊥
           unlike (inl (r, step, not)) =
               let all = (one-more mid to rs r so step).first clean h k walked in
               let n : ℕ = length (rs ++ r ∷ []) in
@@ -161,16 +166,16 @@ module _ {S : Type 0} (g : Ghosts S) (from : At Walked (Records S Cursor) (Unit 
               (sym (at-end mid rs so end clean h k walked)) measured)
 
           writing : (fault : SendFault StoreFault) →
-              StopsFor (Steps g) from to whole [] mid rs fault →
+              StopsFor (IsSourceStep g) from to whole [] mid rs fault →
               IsWritingFault (export_fault_of fault)
-          writing (Source fault) why = is_store_refusal _ _ _ fault why.leaves.why
+          writing (Source fault) why = is_store_refusal _ _ _ fault why.walk_step.why
               (λ unclean. unclean clean) (not_failed _ so.going)
           writing Unlike why = absurd (unlike why)
           writing (Output Write) why = tt
           writing (Output Memory) why = tt
 
           front-of : (fault : SendFault StoreFault) →
-              StopsFor (Steps g) from to whole [] mid rs fault →
+              StopsFor (IsSourceStep g) from to whole [] mid rs fault →
               (before after : Option (List ℕ)) (header : List ℕ) →
               WritesPrefix before after (planned_text header whole rs) →
               WritesPrefix before after (planned_text header whole (h k))
@@ -186,15 +191,15 @@ module _ {S : Type 0} (g : Ghosts S) (from : At Walked (Records S Cursor) (Unit 
               ∙ planned_more header whole rs more) w
 
       module _ (Front : List DataRecord → Type 0) (fault : SendFault StoreFault)
-          (s : StopsAfter (Steps g) from to whole [] Front fault) where
+          (s : StopsAfter (IsSourceStep g) from to whole [] Front fault) where
         so-some : HasGivenThese s.mid s.records
         so-some = all-given s.mid s.records s.gave
 
         pub stopped-leaves : EndsWalk g from.file to.file
             (λ state. IsOutsideTransactionAfterFault state (export_fault_of fault))
         stopped-leaves = record {
-          same_reference = keeps (Steps g) from to whole [] s.mid s.records
-              (λ x. x.file.store.ghost_name) (λ answer is. is.leaves.same_reference) fault s.why
+          same_reference = keeps (IsSourceStep g) from to whole [] s.mid s.records
+              (λ x. x.file.store.ghost_name) (λ answer is. is.walk_step.same_reference) fault s.why
               ∙ so-some.same_reference;
           stays = stays_then g from.file.store.now s.mid.file.store.now to.file.store.now
               so-some.stays (stays-on s.mid s.records so-some fault s.why);
@@ -202,12 +207,12 @@ module _ {S : Type 0} (g : Ghosts S) (from : At Walked (Records S Cursor) (Unit 
         }
 
         pub stopped-counts : (old new : ℕ) → CountsSendFault old new fault →
-            CountsWritingFault ⊥ old new (export_fault_of fault)
+            IsWritingFaultOnAnyDisk ⊥ old new (export_fault_of fault)
         stopped-counts old new counted =
             counts s.mid s.records so-some old new fault s.why counted
 
       pub stopped-text : (fault : SendFault StoreFault) (before after : Option (List ℕ))
-          (header : List ℕ) → StopsAfter (Steps g) from to whole []
+          (header : List ℕ) → StopsAfter (IsSourceStep g) from to whole []
           (λ rs. WritesPrefix before after (planned_text header whole rs)) fault →
           HasCleanDisk (at g to.file.store.now) → (h : Holdings) (k : Key) →
           HasYielded g from.file h k 0 → IsMeasured (h k) whole →

@@ -19,7 +19,8 @@ use Rattle.edf_holdings.proofs.Settled.{sound_front, sound_back}
 use Rattle.edf_holdings.proofs.Sound.{stays_sound}
 use Rattle.edf_holdings.proofs.ParsedIsWellFormed.{parsed_is_well_formed}
 use Rattle.edf_canonical.specs.File.{IsCanonicalFile}
-use Rattle.edf_export.specs.Headline.{IsOnlyFile, ExportSameFiles, Headline, ParseToOneList}
+use Rattle.edf_export.specs.Headline.{IsOnlyCanonicalFile, ExportSameFiles, Headline}
+use Rattle.edf_export.specs.Headline.{ParseToOneList}
 use Rattle.edf_canonical.proofs.Files.{one-file}
 use Rattle.edf_canonical.proofs.SomeFile.{some-file}
 
@@ -29,7 +30,7 @@ some-long (r ∷ rs) some = omega arith
 
 -- what sound holdings hold has a file since it is sound, and is not too long for one by the cap
 only-file : (cap : ℕ) (h : Holdings) (k : Key) → IsSound cap h → cap ≤ MOST_RECORDS → h k ≢ []
-    → (file : List ℕ) × IsOnlyFile file k (h k)
+    → (file : List ℕ) × IsOnlyCanonicalFile file k (h k)
 only-file cap h k sound low some =
     let told : IsWellFormed (Fragment k (h k)) = held-sound cap h k sound some in
     let few : length (h k) ≤ cap = sound.within_cap k in

@@ -11,7 +11,7 @@ use Rattle.edf_canonical.specs.Output.{WritesPrefix}
 use Rattle.edf_canonical.specs.declared.measure.Measure.{Measure}
 use Rattle.edf_canonical.proofs.Files.{one-file}
 use Rattle.edf_canonical.proofs.MeasuredFiles.{file_of, length_of}
-use Rattle.edf_export.specs.Export.{IsExported, WritesAtMostFile, IsNotExported}
+use Rattle.edf_export.specs.Export.{IsExported, WritesPrefixIfFile, IsNotExported}
 use Rattle.edf_export.specs.Inside.Walks.{IsPlanOf, IsWritingFault}
 use Rattle.edf_export.specs.declared.fault.ExportFault.{ExportFault}
 use Rattle.edf_export.specs.declared.fault.ExportFault.TheVariants.{NoRecording, Store, Memory}
@@ -46,7 +46,7 @@ exported before after k records plan header len p is wrote len-is =
 -- a front of the file goes no further than each canonical file
 stays_in : (before after : Option (List ℕ)) (k : Key) (records : List DataRecord) (file : List ℕ) →
     IsCanonicalFile file k records → WritesPrefix before after file
-    → WritesAtMostFile before after k records
+    → WritesPrefixIfFile before after k records
 stays_in before after k [] file c w = absurd c
 stays_in before after k (r ∷ rs) file c w =
     λ other o. subst (WritesPrefix before after) (one-file file other k (r ∷ rs) c o) w

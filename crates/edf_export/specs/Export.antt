@@ -36,9 +36,9 @@ pub record WritesPrefixOfFile (before after : Option (List ℕ)) (k : Key)
   pub wrote : WritesPrefix before after file
 
 -- a prefix of the records' canonical file was written, and nothing where there is no record
-abbrev pub WritesAtMostFile : Option (List ℕ) → Option (List ℕ) → Key → List DataRecord → Type 0
-WritesAtMostFile before after k [] = Keeps before after
-WritesAtMostFile before after k (r ∷ rs) = (file : List ℕ) → IsCanonicalFile file k (r ∷ rs) →
+abbrev pub WritesPrefixIfFile : Option (List ℕ) → Option (List ℕ) → Key → List DataRecord → Type 0
+WritesPrefixIfFile before after k [] = Keeps before after
+WritesPrefixIfFile before after k (r ∷ rs) = (file : List ℕ) → IsCanonicalFile file k (r ∷ rs) →
     WritesPrefix before after file
 
 -- Each fault says what was written, and of which records: there are none at `NoRecording`, and some
@@ -46,28 +46,29 @@ WritesAtMostFile before after k (r ∷ rs) = (file : List ℕ) → IsCanonicalFi
 abbrev pub IsNotExported : Option (List ℕ) → Option (List ℕ) → Key → List DataRecord → ExportFault →
     Type 0
 IsNotExported before after k records NoRecording = (records ≡ []) × Keeps before after
-IsNotExported before after k records (Store fault) = WritesAtMostFile before after k records
+IsNotExported before after k records (Store fault) = WritesPrefixIfFile before after k records
     × IsStoreRefusal fault
-IsNotExported before after k records Memory = WritesAtMostFile before after k records
+IsNotExported before after k records Memory = WritesPrefixIfFile before after k records
 IsNotExported before after k records Write = WritesPrefixOfFile before after k records
 
 -- ---- the answer, on any disk
 
 -- one write failed, or took none of some bytes, where the fault is `Write`, and else none did
-abbrev pub CountsExportFault : ℕ → ℕ → ExportFault → Type 0
-CountsExportFault old new NoRecording = new ≡ old
-CountsExportFault old new (Store fault) = new ≡ old
-CountsExportFault old new Memory = new ≡ old
-CountsExportFault old new Write = new ≡ saturating_increment old
+abbrev pub CountsWriteFault : ℕ → ℕ → ExportFault → Type 0
+CountsWriteFault old new NoRecording = new ≡ old
+CountsWriteFault old new (Store fault) = new ≡ old
+CountsWriteFault old new Memory = new ≡ old
+CountsWriteFault old new Write = new ≡ saturating_increment old
 
-abbrev pub CountsExport : ℕ → ℕ → Result ℕ ExportFault → Type 0
-CountsExport old new result = MatchResult result (λ len. new ≡ old) (CountsExportFault old new)
+abbrev pub CountsWriteFailures : ℕ → ℕ → Result ℕ ExportFault → Type 0
+CountsWriteFailures old new result =
+    MatchResult result (λ len. new ≡ old) (CountsWriteFault old new)
 
 -- a write failed exactly where that is the answer, `NoRecording` wrote nothing, and no refusal is
 -- for the fault of an earlier call
 pub record ReportsWriteFailures (before after : Option (List ℕ)) (failed_before failed_after : ℕ)
     (result : Result ℕ ExportFault) : Type 0 where
-  pub counted : CountsExport failed_before failed_after result
+  pub counted : CountsWriteFailures failed_before failed_after result
   pub nothing : result ≡ Err NoRecording → Keeps before after
   pub unfailed : result ≢ Err (Store store.Failed)
 
@@ -94,7 +95,7 @@ module _ {S A : Type 0} (g : Ghosts S) (old new : StoreModel S) (result : Result
 
     -- the answer is E42 without a cause where the connection was in a transaction, on any disk; and
     -- only there, where the disk returned what was written
-    pub record ExportsUnlessBusy : Type 0 where
+    pub record ReportsBusy : Type 0 where
       pub busy : IsBusy g old → result ≡ Err (Store (store.Store None))
       pub caused : HasCleanDisk (at g new) → result ≡ Err (Store (store.Store None)) → IsBusy g old
 

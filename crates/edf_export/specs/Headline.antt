@@ -14,7 +14,7 @@ use Rattle.edf_holdings.specs.Meaning.{FromAccepted}
 use Rattle.edf_canonical.specs.File.{IsCanonicalFile}
 
 -- these bytes are the canonical file of the key's records, and no other bytes are
-pub record IsOnlyFile (file : List ℕ) (k : Key) (records : List DataRecord) : Type 0 where
+pub record IsOnlyCanonicalFile (file : List ℕ) (k : Key) (records : List DataRecord) : Type 0 where
   pub canonical : IsCanonicalFile file k records
   pub only : (other : List ℕ) → IsCanonicalFile other k records → other ≡ file
 
@@ -40,7 +40,7 @@ module _ (cap : ℕ) (h : Holdings) where
     -- each key that holds something after the list has exactly one canonical file, under every cap
     -- that a store may have
     pub one_file : cap ≤ MOST_RECORDS → (k : Key) → after cap h submissions k ≢ [] →
-        (file : List ℕ) × IsOnlyFile file k (after cap h submissions k)
+        (file : List ℕ) × IsOnlyCanonicalFile file k (after cap h submissions k)
     -- its records are those that h held and those of the accepted members, each once, rising
     pub its_records : (k : Key) → AreHeldOrAccepted submissions k (after cap h submissions k)
     -- after a member that is refused the holdings are those before it

@@ -5,7 +5,7 @@ ghost use Rattle.sqlite.specs.State.{HasCleanDisk};
 ghost use Rattle.edf_holdings.specs.Holdings.{Holdings};
 ghost use Rattle.edf_store.specs.Held.{at, Holds};
 ghost use Rattle.edf_export.specs.Export.{IsExported, IsNotExported, KeepsStore};
-ghost use Rattle.edf_export.specs.Export.{ReportsWriteFailures, ExportsUnlessBusy};
+ghost use Rattle.edf_export.specs.Export.{ReportsWriteFailures, ReportsBusy};
 
 use crate::fault::ExportFault;
 use crate::planning::plan_file;
@@ -45,7 +45,7 @@ pub fn export<S: Alter, W: Output>(
     // This is true on any disk.
     ensures truly { ReportsWriteFailures (W.contents out.old) (W.contents out.new)
         (W.failures out.old) (W.failures out.new) result }
-    ensures busy { ExportsUnlessBusy S.Store store.old store.new result }
+    ensures busy { ReportsBusy S.Store store.old store.new result }
 {
     let Some(plan) = plan_file(store, identity)? else {
         return Err(ExportFault::NoRecording);

@@ -13,13 +13,13 @@ pub(crate) struct Walked;
 
 impl<'s, S: Alter> Source<Records<'s, S>, ()> for Walked {
     ghost use Rattle.edf_store.specs.Walk.{IsWalking};
-    ghost use Rattle.edf_export.specs.Inside.Steps.{Steps};
+    ghost use Rattle.edf_export.specs.Inside.Steps.{IsSourceStep};
 
     type Fault = StoreFault;
 
     ghost ready = { λ source walk input. walk.failed ≡ false → IsWalking S.Store walk };
 
-    ghost answers = { Steps S.Store };
+    ghost answers = { IsSourceStep S.Store };
 
     fn next(
         &mut self,

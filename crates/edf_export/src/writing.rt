@@ -10,7 +10,7 @@ ghost use Rattle.edf_store.specs.Walk.{HasYielded, IsWalking};
 ghost use Rattle.edf_canonical.specs.Measure.{planned_text};
 ghost use Rattle.edf_export.specs.Export.{IsExported, IsNotExported};
 ghost use Rattle.edf_export.specs.Export.{IsOutsideTransactionAfterExport, KeepsStore};
-ghost use Rattle.edf_export.specs.Inside.Calls.{EndsWalk, CountsWriting};
+ghost use Rattle.edf_export.specs.Inside.Calls.{EndsWalk, WritesOnAnyDisk};
 ghost use Rattle.edf_export.specs.Inside.Walks.{IsPlanOf, IsSentOut};
 
 use crate::fault::ExportFault;
@@ -37,7 +37,7 @@ fn send_walk<S: Alter, W: Output>(
         HasYielded S.Store walk.old h k 0 →
         IsPlanOf k (h k) plan → IsSentOut (W.contents out.old) (W.contents out.new)
         (planned_text header.now plan (h k)) result }
-    ensures counted { CountsWriting ⊥ (W.failures out.old) (W.failures out.new) result }
+    ensures counted { WritesOnAnyDisk ⊥ (W.failures out.old) (W.failures out.new) result }
 {
     let mut source = Walked;
     let mut nothing = ();
@@ -68,7 +68,7 @@ fn send_recording<S: Alter, W: Output>(
         Holds S.Store store.old h → IsPlanOf identity.now (h identity.now) plan →
         IsSentOut (W.contents out.old) (W.contents out.new)
         (planned_text header.now plan (h identity.now)) result }
-    ensures counted { CountsWriting (IsBusy S.Store store.old)
+    ensures counted { WritesOnAnyDisk (IsBusy S.Store store.old)
         (W.failures out.old) (W.failures out.new) result }
 {
     let mut walk = store.records(identity)?;
@@ -92,7 +92,7 @@ pub(crate) fn write_planned<S: Alter, W: Output>(
         MatchResult result
         (IsExported (W.contents out.old) (W.contents out.new) identity.now (h identity.now))
         (IsNotExported (W.contents out.old) (W.contents out.new) identity.now (h identity.now)) }
-    ensures counted { CountsWriting (IsBusy S.Store store.old)
+    ensures counted { WritesOnAnyDisk (IsBusy S.Store store.old)
         (W.failures out.old) (W.failures out.new) result }
 {
     let Measure {

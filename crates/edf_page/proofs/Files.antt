@@ -18,7 +18,7 @@ use Rattle.edf_canonical.proofs.Files.{its-own}
 use Rattle.edf_cli.specs.Making.{Making}
 use Rattle.edf_canonical.specs.File.{IsCanonicalFile}
 use Rattle.edf_export.specs.Export.{IsExported}
-use Rattle.edf_export.specs.Headline.{IsOnlyFile}
+use Rattle.edf_export.specs.Headline.{IsOnlyCanonicalFile}
 use Rattle.edf_runs.specs.ByOnset.{annotations_of}
 use Rattle.edf_runs.specs.Runs.{AreListed}
 use Rattle.edf_runs.specs.declared.run_list.Listing.{Listing}
@@ -69,8 +69,7 @@ refusing false is = cc
 
 -- nor what is a refusal
 pub not-refused : (w : OutputChange) (text : List ℕ) (number : ℕ) (status : Status) →
-    status ≡ Done →
-    IsWritten w text (status_of_number number) status → ⊥
+    status ≡ Done → IsWritten w text (status_of_number number) status → ⊥
 not-refused w text number status done (inl p) = refusing (is_trouble number) (sym done ∙ p.1)
 not-refused w text number status done (inr p) = not-trouble (sym done ∙ p.1)
 
@@ -92,8 +91,7 @@ holds_still old new stays h has = record {
 
 -- what a writer holds that got these bytes, and held nothing before
 pub gets-whole : (w : OutputChange) (text bytes : List ℕ) → w.before ≡ Some [] →
-    w.after ≡ Some text →
-    Gets w bytes → text ≡ bytes
+    w.after ≡ Some text → Gets w bytes → text ≡ bytes
 gets-whole w text bytes from to got =
     subst (λ (a : Option (List ℕ)). Appends (Some []) a bytes) to
     (subst (λ (b : Option (List ℕ)). Appends b w.after bytes) from got.0)
@@ -114,7 +112,7 @@ lists-all out err text h from to (inl all) = record {
 -- the one canonical file, in a writer that held nothing before
 pub only-file : (before : Option (List ℕ)) (file : List ℕ) (k : Key) (records : List DataRecord)
     (len : ℕ) → before ≡ Some [] → IsExported before (Some file) k records len →
-    IsOnlyFile file k records
+    IsOnlyCanonicalFile file k records
 only-file before file k records len from out =
     let same : file ≡ out.file =
     subst (λ (b : Option (List ℕ)). Appends b (Some file) out.file) from out.wrote in
@@ -185,7 +183,7 @@ module _ (out err : OutputChange) (file text name : List ℕ) (from : out.before
 
 -- the runs of a canonical file are those of its data records
 runs-of : (file : List ℕ) (k : Key) (records : List DataRecord) (listing : Listing) →
-    IsOnlyFile file k records → HasRuns (Some file) listing →
+    IsOnlyCanonicalFile file k records → HasRuns (Some file) listing →
     (listing.identity ≡ k) × AreListed (duration_of k.duration) records listing.runs.items
 runs-of file k records listing is has =
     let read = has.read in
@@ -200,7 +198,8 @@ runs-of file k records listing is has =
 
 -- and so are its annotations
 notes-of : (file : List ℕ) (k : Key) (records : List DataRecord) (notes : List Note) →
-    IsOnlyFile file k records → HasNotes (Some file) notes → AreNoted (annotations_of records) notes
+    IsOnlyCanonicalFile file k records → HasNotes (Some file) notes →
+    AreNoted (annotations_of records) notes
 notes-of file k records notes is has =
     let same = one-fragment file k has.read.layout.key records has.read.records
     (its-own file k records is.canonical) (fragment_of_all file has.rest has.read.layout
@@ -209,7 +208,7 @@ notes-of file k records notes is has =
     has.read.noted
 
 pub run-lines-are : (file : List ℕ) (k : Key) (records : List DataRecord) (text : List ℕ) →
-    IsOnlyFile file k records → ListsFile file text →
+    IsOnlyCanonicalFile file k records → ListsFile file text →
     AreRunLines (duration_of k.duration) records text
 run-lines-are file k records text is lists =
     let listed = runs-of file k records lists.listing is lists.has in
@@ -221,7 +220,8 @@ run-lines-are file k records text is lists =
           (lists.lines spell sp);
     }
 
-pub recording-is : (h : Holdings) (k : Key) (r : Recording) → IsOnlyFile r.file.items k (h k) →
+pub recording-is : (h : Holdings) (k : Key) (r : Recording) →
+    IsOnlyCanonicalFile r.file.items k (h k) →
     ListsFile r.file.items r.runs.items → DrawsFile r.file.items r.picture.items → IsRecording h k r
 recording-is h k r is lists draws =
     let drawn = runs-of r.file.items k (h k) draws.listing is draws.has in

@@ -28,7 +28,7 @@ use Rattle.edf_intake.specs.Batch.{AreSubmitted, WillParseTo}
 use Rattle.edf_intake.specs.Refusal.{Answer, reply_of}
 use Rattle.edf_intake.specs.Submitted.{IsSubmitAnswer}
 use Rattle.edf_intake.specs.declared.answer.Refusal.TheVariants as refusal
-use Rattle.edf_export.specs.Headline.{IsOnlyFile}
+use Rattle.edf_export.specs.Headline.{IsOnlyCanonicalFile}
 use Rattle.edf_export.proofs.Headline.{tells-one}
 use Rattle.edf_runs.specs.Runs.{StartFrom, IsListed, IsRuns, AreListed}
 use Rattle.edf_runs.specs.declared.run.Run.{Run}

@@ -20,7 +20,7 @@ use Rattle.edf_cli.specs.Output.{OutputChange}
 use Rattle.edf_cli.specs.Text.{IsInstantFormat}
 use Rattle.edf_cli.specs.declared.status.Status.TheVariants.{Done}
 use Rattle.edf_command.specs.Lines.{list_lines}
-use Rattle.edf_export.specs.Headline.{IsOnlyFile}
+use Rattle.edf_export.specs.Headline.{IsOnlyCanonicalFile}
 use Rattle.edf_runs.specs.declared.run_list.Listing.{Listing}
 use Rattle.edf_sleep.specs.declared.note.Note.{Note}
 use Rattle.edfruns_command.specs.Lines.{each_line}
@@ -94,7 +94,7 @@ pub record ListsHeld (h : Holdings) (text : List ℕ) : Type 0 where
 pub record ExportsHeld (h : Holdings) (files : List (List ℕ)) : Type 0 where
   pub keys : List Key
   pub are_keys : AreKeysOf h keys
-  pub each : AllZip (λ k file. IsOnlyFile file k (h k)) keys files
+  pub each : AllZip (λ k file. IsOnlyCanonicalFile file k (h k)) keys files
 
 -- what lines call it where a command stops
 abbrev pub recording_name : List ℕ

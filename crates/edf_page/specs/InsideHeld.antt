@@ -4,7 +4,7 @@ use Rattle.std.specs.List.{AllZip}
 use Rattle.edf_header.specs.Key.{Key}
 use Rattle.edf_fragment.specs.Parsed.{Parsed, ParsesTo}
 use Rattle.edf_holdings.specs.Holdings.{Holdings}
-use Rattle.edf_export.specs.Headline.{IsOnlyFile}
+use Rattle.edf_export.specs.Headline.{IsOnlyCanonicalFile}
 use Rattle.edf_page.specs.Night.{AreTaken, held_after, IsRecording}
 use Rattle.edf_page.specs.Inside.{ListsHeld, ExportsHeld}
 use Rattle.edf_page.specs.declared.night.Held.{Held}
@@ -20,4 +20,4 @@ pub record IsHeldOf (names files : List (List ℕ)) (held : Held) : Type 0 where
 
 -- where this is the one file of what is held under a key, that is its recording
 abbrev pub IsOfFile : List ℕ → Recording → Type 0
-IsOfFile file r = (h : Holdings) (k : Key) → IsOnlyFile file k (h k) → IsRecording h k r
+IsOfFile file r = (h : Holdings) (k : Key) → IsOnlyCanonicalFile file k (h k) → IsRecording h k r

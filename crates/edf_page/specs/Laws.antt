@@ -16,7 +16,7 @@ use Rattle.edf_cli.specs.declared.status.Status.{Status}
 use Rattle.edf_cli.specs.declared.status.Status.TheVariants.{Done, Trouble}
 use Rattle.edf_command.specs.Lines.{store_refused_line}
 use Rattle.edf_command.specs.Taking.{IsTaken}
-use Rattle.edf_export.specs.Headline.{IsOnlyFile}
+use Rattle.edf_export.specs.Headline.{IsOnlyCanonicalFile}
 use Rattle.edf_runs.specs.declared.run_list.Listing.{Listing}
 use Rattle.edf_sleep.specs.Night.{AreOfFile}
 use Rattle.edf_sleep.specs.declared.note.Note.{Note}
@@ -64,7 +64,7 @@ TakeWritesLines = (old new : StoreModel MemStore) (out err : OutputChange)
 -- runs
 abbrev pub ListWritesRuns : Type 0
 ListWritesRuns = (out err : OutputChange) (file name text lines : List ℕ) (k : Key)
-    (records : List DataRecord) → IsOnlyFile file k records →
+    (records : List DataRecord) → IsOnlyCanonicalFile file k records →
     AreRunLines (duration_of k.duration) records lines → IsText out text →
     IsListOut (λ _. Some file) out err (name ∷ []) Done → text ≡ lines
 

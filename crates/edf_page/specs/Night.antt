@@ -14,7 +14,7 @@ use Rattle.edf_holdings.specs.Reply.{after, replies}
 use Rattle.edf_intake.specs.Refusal.{Answer, reply_of}
 use Rattle.edf_cli.specs.Text.{IsInstantFormat}
 use Rattle.edf_command.specs.Lines.{take_line, list_lines}
-use Rattle.edf_export.specs.Headline.{IsOnlyFile}
+use Rattle.edf_export.specs.Headline.{IsOnlyCanonicalFile}
 use Rattle.edf_runs.specs.ByOnset.{annotations_of}
 use Rattle.edf_runs.specs.Runs.{AreListed}
 use Rattle.edf_runs.specs.declared.run.Run.{Run}
@@ -71,7 +71,7 @@ pub record IsPictured (k : Key) (records : List DataRecord) (picture : List ℕ)
 
 -- the recording of a key: the one file of what is held, its runs and its picture
 pub record IsRecording (h : Holdings) (k : Key) (r : Recording) : Type 0 where
-  pub is_file : IsOnlyFile r.file.items k (h k)
+  pub is_file : IsOnlyCanonicalFile r.file.items k (h k)
   pub runs : AreRunLines (duration_of k.duration) (h k) r.runs.items
   pub picture : IsPictured k (h k) r.picture.items
 

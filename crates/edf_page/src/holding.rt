@@ -5,7 +5,7 @@ ghost use Rattle.edf_holdings.specs.Holdings.{Holdings, nothing_held};
 ghost use Rattle.edf_holdings.specs.Keys.{AreKeysOf};
 ghost use Rattle.edf_command.specs.Lines.{accepted_line, take_line};
 ghost use Rattle.edf_cli.specs.Text.{IsInstantFormat};
-ghost use Rattle.edf_export.specs.Headline.{IsOnlyFile};
+ghost use Rattle.edf_export.specs.Headline.{IsOnlyCanonicalFile};
 ghost use Rattle.edf_page.specs.Inside.{HasIn, HoldsStill, Submits, Takes, TakesGiven};
 ghost use Rattle.edf_page.specs.Inside.{ListsHeld, ExportsHeld, stop_in};
 
@@ -148,7 +148,7 @@ fn export_one(
     identity: &Identity,
 ) -> Result<Vec<u8>, Stopped>
     ensures exports { IfOk result (λ file. (h : Holdings) → HasIn store.old h →
-        IsOnlyFile file.items identity.now (h identity.now)) }
+        IsOnlyCanonicalFile file.items identity.now (h identity.now)) }
     ensures stays { HoldsStill store.old store.new }
 {
     let mut out = Text::new(alloc);

@@ -22,12 +22,13 @@ pub record EndsWalk {S : Type 0} (g : Ghosts S) (old new : Records S Cursor)
 -- A file was not written, or not to its end. A read was refused, because of an open transaction
 -- only where `IfBusy` holds; or memory ran out; or a write failed, and none failed before another
 -- fault. `NoRecording` is never the fault.
-abbrev pub CountsWritingFault : (IfBusy : Type 0) → ℕ → ℕ → ExportFault → Type 0
-CountsWritingFault IfBusy old new NoRecording = ⊥
-CountsWritingFault IfBusy old new (Store fault) = (new ≡ old) × MayRefuse IfBusy ⊤ ⊥ fault
-CountsWritingFault IfBusy old new Memory = new ≡ old
-CountsWritingFault IfBusy old new Write = new ≡ saturating_increment old
+abbrev pub IsWritingFaultOnAnyDisk : (IfBusy : Type 0) → ℕ → ℕ → ExportFault → Type 0
+IsWritingFaultOnAnyDisk IfBusy old new NoRecording = ⊥
+IsWritingFaultOnAnyDisk IfBusy old new (Store fault) = (new ≡ old) × MayRefuse IfBusy ⊤ ⊥ fault
+IsWritingFaultOnAnyDisk IfBusy old new Memory = new ≡ old
+IsWritingFaultOnAnyDisk IfBusy old new Write = new ≡ saturating_increment old
 
-abbrev pub CountsWriting : {A : Type 0} → (IfBusy : Type 0) → ℕ → ℕ → Result A ExportFault → Type 0
-CountsWriting IfBusy old new result =
-    MatchResult result (λ _. new ≡ old) (CountsWritingFault IfBusy old new)
+abbrev pub WritesOnAnyDisk : {A : Type 0} → (IfBusy : Type 0) → ℕ → ℕ → Result A ExportFault →
+    Type 0
+WritesOnAnyDisk IfBusy old new result =
+    MatchResult result (λ _. new ≡ old) (IsWritingFaultOnAnyDisk IfBusy old new)

@@ -11,10 +11,10 @@ use Rattle.edf_store.specs.declared.fault.StoreFault.{StoreFault}
 use Rattle.edf_store.specs.declared.records.Records.{Records}
 use Rattle.edf_export.specs.declared.walked.Walked.{Walked}
 
-pub record Steps {S : Type 0} (g : Ghosts S) (source : Walked) (old : Records S Cursor)
+pub record IsSourceStep {S : Type 0} (g : Ghosts S) (source : Walked) (old : Records S Cursor)
     (input : Unit {0}) (source' : Walked) (new : Records S Cursor) (input' : Unit {0})
     (answer : Result (Option DataRecord) StoreFault) : Type 0 where
-  pub leaves : IsWalkStep g old new answer
+  pub walk_step : IsWalkStep g old new answer
   pub step : AnswersWith g new.store.now answer (λ o. (h : Holdings) (k : Key) (n : ℕ) →
       HasYielded g old h k n → IsNextRecord (h k) n o)
   pub moved : IfOk answer (λ o. (h : Holdings) (k : Key) (n : ℕ) →

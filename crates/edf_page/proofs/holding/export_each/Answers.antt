@@ -5,7 +5,7 @@ use Rattle.std.proofs.lemmas.Slice.Zip.{all_zipped_more}
 use Rattle.std.proofs.lemmas.Grind.{common_steps}
 use Rattle.edf_header.specs.Key.{Key}
 use Rattle.edf_holdings.specs.Keys.{AreKeysOf}
-use Rattle.edf_export.specs.Headline.{IsOnlyFile}
+use Rattle.edf_export.specs.Headline.{IsOnlyCanonicalFile}
 use Rattle.edf_page.proofs.holding.export_each.Goals as goal
 
 pub returns-in_err-file-clause-stays : goal.returns-in_err-file-clause-stays
@@ -19,7 +19,7 @@ returns-then-is_err-clause-stays c h has =
 pub loop-identity-preserved : goal.loop-identity-preserved
 loop-identity-preserved c = record {
   each = λ h has.
-      let Fits : Key → List ℕ → Type 0 = λ k file. IsOnlyFile file k (h k) in
+      let Fits : Key → List ℕ → Type 0 = λ k file. IsOnlyCanonicalFile file k (h k) in
       let keys : take (c.loop-identity.identity-index + 1) c.as_slice-identity-items.result.now
       ≡ take c.loop-identity.identity-index c.as_slice-identity-items.result.now ++ c.identity-item.result ∷ []
       = grind (arith, common_steps) in
@@ -39,7 +39,7 @@ returns-clause-exports c h has = record {
   keys = c.as_slice-identity-items.result.now;
   are_keys = subst (AreKeysOf h) (sym c.as_slice-identity-items.ensures.value)
       (c.in_ok-recordings.ensures.keys h has);
-  each = subst (λ (ks : List Key). AllZip (λ k file. IsOnlyFile file k (h k)) ks
+  each = subst (λ (ks : List Key). AllZip (λ k file. IsOnlyCanonicalFile file k (h k)) ks
       (map (λ file. file.items) c.loop-identity.files.items))
       (take_all c.loop-identity.identity-index c.as_slice-identity-items.result.now
       c.loop-identity-test.false) (c.loop-identity.invariant.each h has);
