@@ -45,7 +45,7 @@ abbrev pub BlockParsesTo : List ℕ → ℕ → Place → ℕ → List Annotatio
 BlockParsesTo block file_start place start list =
     BlocksParseTo (block ∷ []) file_start place start list
 
--- faults are ordered by their numbers
+-- the number of a fault; of the faults that are true the lowest is named
 abbrev pub tal_fault_number : TalFault → ℕ
 tal_fault_number (NotTals offset) = 22
 tal_fault_number (Text offset) = 23
@@ -102,7 +102,7 @@ pub record BlocksHaveFirstFault (bs : List (List ℕ)) (s : ℕ) (place : Place)
 abbrev pub BlockHasFirstFault : List ℕ → ℕ → Place → TalFault → Type 0
 BlockHasFirstFault block s place fault = BlocksHaveFirstFault (block ∷ []) s place fault
 
--- blocks are refused for their first fault, or for want of memory where they have none
+-- blocks are refused for their first fault; or for want of memory, only where they parse
 abbrev pub BlocksAreRefused : List (List ℕ) → ℕ → Place → TalFault → Type 0
 BlocksAreRefused bs s place Memory = (start : ℕ) × (list : List Annotation)
     × BlocksParseTo bs s place start list

@@ -29,7 +29,7 @@ abbrev pub IsDurationPart : List ℕ → Option ℕ → Type 0
 IsDurationPart bytes None = bytes ≡ []
 IsDurationPart bytes (Some n) = (text : List ℕ) × (bytes ≡ 21 ∷ text) × IsSeconds text n
 
--- any bytes but 0 and 20
+-- any bytes but 0 and 20; that they are UTF-8 is a condition apart, `HaveUtf8Texts`
 abbrev pub IsText : List ℕ → Type 0
 IsText text = AllByRecursion (λ b. (b ≢ 0) × (b ≢ 20)) text
 
@@ -64,11 +64,12 @@ AreTalBlocks [] [] = Unit {0}
 AreTalBlocks (block ∷ blocks) (ts ∷ tss) = AreTalsAndZeros block ts × AreTalBlocks blocks tss
 AreTalBlocks blocks tss = ⊥
 
--- the TALs of the first block, and those of all blocks, in the order of the blocks
+-- the TALs of the first block
 abbrev pub first_block_tals : List (List Tal) → List Tal
 first_block_tals [] = []
 first_block_tals (ts ∷ tss) = ts
 
+-- the TALs of all blocks, in their order
 abbrev pub all_tals : List (List Tal) → List Tal
 all_tals tss = flat_map (λ ts. ts) tss
 
@@ -76,8 +77,7 @@ all_tals tss = flat_map (λ ts. ts) tss
 abbrev pub HaveUtf8Texts : List Tal → Type 0
 HaveUtf8Texts ts = AllByRecursion (λ t. AllByRecursion IsUtf8 t.texts) ts
 
--- the instant of an onset, which counts from the file's start; it has a meaning only inside the
--- window
+-- the instant of an onset, counted from the file's start; it is that only inside the window
 abbrev pub instant : ℕ → ℤ → ℕ
 instant file_start onset = unsigned_abs (pos file_start +ℤ onset)
 

@@ -12,9 +12,9 @@ use Rattle.edf_tal.specs.declared.blocks.Form.{Form}
 use Rattle.edf_tal.specs.declared.blocks.Form.TheVariants.{Good, BadText}
 
 -- sizes of one block or more, whose sum is the number of bytes
-pub record AreBlockSizes (sizes block : List ℕ) : Type 0 where
+pub record AreBlockSizes (sizes joined : List ℕ) : Type 0 where
   pub some : 1 ≤ length sizes
-  pub sum_is : sum sizes ≡ length block
+  pub sum_is : sum sizes ≡ length joined
 
 -- blocks of TALs with UTF-8 texts have these totals
 pub record HaveSums (blocks : List (List ℕ)) (file_start : ℕ) (sums : Sums) : Type 0 where
@@ -26,7 +26,7 @@ pub record HaveSums (blocks : List (List ℕ)) (file_start : ℕ) (sums : Sums) 
   pub bytes_is : sums.text_bytes ≡ sum_by (λ a. length a.text)
       (flat_map (tal_annotations file_start) (all_tals tals))
 
--- blocks that are TALs and zeros have this form
+-- blocks of TALs and zeros: all texts are UTF-8, with these sums; or one is not, at this offset
 abbrev pub HasForm : List (List ℕ) → ℕ → Form → Type 0
 HasForm blocks file_start (Good sums) = HaveSums blocks file_start sums
 HasForm blocks file_start (BadText offset) = ((tss : List (List Tal)) × AreTalBlocks blocks tss)

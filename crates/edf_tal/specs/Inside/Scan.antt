@@ -21,7 +21,7 @@ AreZeros bytes = AllByRecursion (λ b. b ≡ 0) bytes
 abbrev pub NoTal : List ℕ → Type 0
 NoTal bytes = (prefix rest : List ℕ) (t : Tal) → bytes ≡ prefix ++ rest → ¬ IsTal prefix t
 
--- greater numbers count as 2 ^ 63
+-- n, or 2 ^ 63 where n is greater
 abbrev pub capped : ℕ → ℕ
 capped n = min n (2 ^ 63)
 
@@ -65,7 +65,7 @@ pub record IsLeadingTal (bytes texts rest : List ℕ) (t : Tal) : Type 0 where
   pub tal : IsTal prefix t
   pub texts_are : texts ≡ terminated t.texts
 
--- the first of the texts that is not UTF-8
+-- the first of the terminated texts that is not UTF-8 begins at `at`
 pub record HasNonUtf8TextAmong (texts : List ℕ) (at : ℕ) : Type 0 where
   pub good : List (List ℕ)
   pub text : List ℕ
@@ -76,7 +76,7 @@ pub record HasNonUtf8TextAmong (texts : List ℕ) (at : ℕ) : Type 0 where
   pub bad : ¬ IsUtf8 text
   pub at_is : at ≡ length (terminated good)
 
--- this many texts, all of them UTF-8
+-- this many terminated texts, all UTF-8, and then a rest without byte 20
 pub record BeginWithUtf8Texts (texts : List ℕ) (count : ℕ) : Type 0 where
   pub list : List (List ℕ)
   pub rest : List ℕ
