@@ -15,23 +15,22 @@ pub record InputState : Type 0 where
 abbrev pub input_state : {R : Type 0} → Ghosts R → R → InputState
 input_state g input = record { remaining = g.remaining input; failed = g.failures input }
 
--- the answer says this of the bytes that were read for it, and one more read failed only where that
--- is the answer
+-- `Says` holds of the input before and after, and of the answer; and the count of failed reads is
+-- one more where the answer is `Err Read`, else the same
 pub record ReadsInput {X : Type 0}
     (Says : Option (List ℕ) → Option (List ℕ) → Result X FragmentFault → Type 0)
     (before after : InputState) (result : Result X FragmentFault) : Type 0 where
   pub step : Says before.remaining after.remaining result
   pub counted : CountsReadFailures before.failed after.failed result
 
--- `Value` holds of an answer that is a value, and `Fault` of one that is a fault
+-- of an answer `Ok x` the first holds, of `Err fault` the second
 abbrev pub ValueOrFault : {X : Type 0} → (Option (List ℕ) → Option (List ℕ) → X → Type 0) →
     (Option (List ℕ) → Option (List ℕ) → FragmentFault → Type 0) →
     Option (List ℕ) → Option (List ℕ) → Result X FragmentFault → Type 0
 ValueOrFault Value Fault input rest result =
     MatchResult result (Value input rest) (Fault input rest)
 
--- a call for the next data record has this answer; the header is unchanged, and a data record that
--- is returned is one of the header's recording
+-- the answer of `next`; the header is unchanged, and a record that is returned is one of its key
 pub record ReadsNext (old new : OpenFragment) (before after : InputState)
     (result : Result (Option DataRecord) FragmentFault) : Type 0 where
   pub header : new.header ≡ old.header

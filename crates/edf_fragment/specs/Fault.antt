@@ -33,8 +33,8 @@ layout u = layout_of u.header
 abbrev pub next_number : {bytes : List ℕ} → ParsedPrefix bytes → ℕ
 next_number u = length u.records + 1
 
--- the bytes end inside a record, or before one that must come: each that the header counts, or,
--- where its count is -1, the first; any byte after it begins another
+-- where a record may come, fewer bytes remain than it has: some; or none, and one must come (each
+-- that the header counts, or the first where its count is -1)
 pub record IsCutRecord (bytes : List ℕ) (nth : ℕ) : Type 0 where
   pub up_to : ParsedPrefix bytes
   pub is_nth : nth ≡ next_number up_to

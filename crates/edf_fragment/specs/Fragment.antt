@@ -11,8 +11,7 @@ use Rattle.edf_tal.specs.Block.{BlocksParseTo, IsWithinLimits}
 use Rattle.edf_tal.specs.declared.place.Place.{Place}
 use Rattle.edf_tal.specs.declared.place.Place.TheVariants.{First, After}
 
--- a data record: its start in nanoseconds, its ordinary sample bytes in signal order, its list of
--- annotations
+-- a data record: its start in nanoseconds, ordinary sample bytes in signal order, and annotations
 pub record DataRecord : Type 0 where
   pub start : ℕ
   pub samples : List ℕ

@@ -56,13 +56,11 @@ progress_after l from (Ok (Some r)) =
 progress_after l from (Ok None) = record from { state = Ended }
 progress_after l from (Err fault) = record from { state = Stopped }
 
--- memory ran out where a record may come: before a byte of it was read, or after a record without a
--- fault
+-- memory ran out where a record may come: before a byte of it was read, or after a good one
 pub record RunsOutOfMemoryAtRecord (l : Layout) (from : Progress)
-    (input rest : Option (List ℕ)) : Type 0
-  where
-    pub may_come : from.given < most_records l.count
-    pub read : Consumes input rest [] ⊎ ((r : DataRecord) × ReadsRecord l from input rest r)
+    (input rest : Option (List ℕ)) : Type 0 where
+  pub may_come : from.given < most_records l.count
+  pub read : Consumes input rest [] ⊎ ((r : DataRecord) × ReadsRecord l from input rest r)
 
 -- the count of failed reads is one more where the fault is `Read`, and else the same
 abbrev pub CountsReadFault : ℕ → ℕ → FragmentFault → Type 0
@@ -72,7 +70,7 @@ CountsReadFault old new fault = new ≡ old
 abbrev pub CountsReadFailures : {X : Type 0} → ℕ → ℕ → Result X FragmentFault → Type 0
 CountsReadFailures old new result = MatchResult result (λ x. new ≡ old) (CountsReadFault old new)
 
--- The answers of both calls: opening, and the next record.
+-- The faults of both calls, opening and `next`; then the answers of `next`.
 
 -- there is no header, for a fault of the bytes, a failed read, or want of memory
 abbrev pub IsOpenFault : Option (List ℕ) → Option (List ℕ) → FragmentFault → Type 0

@@ -9,27 +9,26 @@ use Rattle.edf_tal.specs.Tal.{IsValidAnnotation}
 use Rattle.edf_tal.specs.Block.{IsWithinLimits}
 use Rattle.edf_fragment.specs.Fragment.{DataRecord, IsRecordWithinLimits}
 
--- a data record in memory: within the limits, with a start in the window, and annotations that each
--- have an onset and a duration in the window and a text of UTF-8 that a TAL can hold
+-- a data record in memory: within the limits, with a start in the window, and valid annotations
 pub record IsValidRecord (r : DataRecord) : Type 0 where
   pub size : IsRecordWithinLimits r
   pub start : r.start < window
   pub notes : AllByRecursion IsValidAnnotation r.annotations
 
--- a data record of a recording is valid, and has as many samples as the recording's key says
+-- the key's number of samples, a start in the window, and valid annotations within the limits
 pub record IsSoundRecord (k : Key) (r : DataRecord) : Type 0 where
   pub samples_len : length r.samples ≡ 2 * samples_in_all k.signals
   pub start : r.start < window
   pub limits : IsWithinLimits r.annotations
   pub notes : AllByRecursion IsValidAnnotation r.annotations
 
--- records that start from `low` on, each at least a duration of a data record after the one before
+-- sound records, the first from `low` on, each other at least a duration after the one before
 abbrev pub AreSoundFrom : Key → ℕ → List DataRecord → Type 0
 AreSoundFrom k low [] = Unit {0}
 AreSoundFrom k low (r ∷ rs) = IsSoundRecord k r × (low ≤ r.start)
     × AreSoundFrom k (r.start + duration_of k.duration) rs
 
--- the key's recording may start with the first of the records, which rise in time
+-- the first record, if there is one, starts when a recording of the key may start
 abbrev pub FirstMayStart : Key → List DataRecord → Type 0
 FirstMayStart k [] = Unit {0}
 FirstMayStart k (r ∷ rs) = MayStart k r.start

@@ -14,8 +14,9 @@ use Rattle.edf_fragment.specs.declared.advance.Progress.{Progress}
 
 -- Faults of the bytes: in the header, in a record, after the last record.
 
--- the bytes that were read have this fault of a header; where they are too few, the input ends
--- there; and no more were read than the fixed part, and where that has no fault the signals
+-- the bytes that were read have this header fault, and no more were read than shows it: for E1 to
+-- E13 the 256 bytes of the fixed part, else at most the header; where the fault is that bytes are
+-- missing, the input is at its end
 pub record ReadsHeaderFault (input rest : Option (List ℕ)) (fault : HeaderFault) : Type 0 where
   pub bytes : List ℕ
   pub read : Consumes input rest bytes
@@ -69,15 +70,14 @@ pub record StopsInSignalHeaders (input rest : Option (List ℕ)) : Type 0 where
   pub is_fixed : IsFixedHeader first fixed
   pub fewer : length second < 256 * fixed.signal_count
 
--- a read failed before the last byte of the next record; or, where no more may come, before any
--- byte
+-- a read failed before the next record's last byte; or, where no more may come, before any byte
 abbrev pub ReadFailsAtRecord : Layout → Progress → Option (List ℕ) → Option (List ℕ) → Type 0
 ReadFailsAtRecord l from input rest =
     ((from.given < most_records l.count) × ReadsFewerBytes l.record_bytes input rest)
     ⊎ ((from.given ≡ most_records l.count) × Consumes input rest [])
 
 -- memory ran out after a fixed part without a fault: before a byte of its signals was read, or
--- after signals without a fault
+-- after signals without a fault (E14 to E20)
 pub record RunsOutOfMemoryInHeader (input rest : Option (List ℕ)) : Type 0 where
   pub fixed : FixedPart
   pub first : List ℕ

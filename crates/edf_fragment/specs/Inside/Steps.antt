@@ -22,14 +22,13 @@ pub record ReadsFixed (input rest : Option (List ℕ)) (fixed : FixedPart) : Typ
 
 -- the bytes that were read are the signal headers after this fixed part
 pub record ReadsSignalHeaders (input rest : Option (List ℕ)) (fixed : FixedPart)
-    (layout : Layout) : Type 0
-  where
-    pub bytes : List ℕ
-    pub header : HeaderRecord
-    pub read : Consumes input rest bytes
-    pub are_signals : AreSignals bytes header
-    pub same : header.fixed ≡ fixed
-    pub layout_is : layout ≡ layout_of header
+    (layout : Layout) : Type 0 where
+  pub bytes : List ℕ
+  pub header : HeaderRecord
+  pub read : Consumes input rest bytes
+  pub are_signals : AreSignals bytes header
+  pub same : header.fixed ≡ fixed
+  pub layout_is : layout ≡ layout_of header
 
 -- the bytes that were read have this fault as n signals; where they are too few, no more follow
 pub record ReadsSignalHeadersFault (input rest : Option (List ℕ)) (n : ℕ)
@@ -41,7 +40,7 @@ pub record ReadsSignalHeadersFault (input rest : Option (List ℕ)) (n : ℕ)
     pub is_fault : IsFirst (SignalsFail bytes n) fault
     pub ended : fault ≡ CutSignals → IsAtEnd rest
 
--- memory ran out before a byte of n signals was read, or after signals that have no fault
+-- memory ran out before a byte of n signals was read, or after signals without a fault (E14 to E20)
 pub record RunsOutOfMemoryInSignalHeaders (input rest : Option (List ℕ)) (n : ℕ) : Type 0 where
   pub bytes : List ℕ
   pub read : Consumes input rest bytes
