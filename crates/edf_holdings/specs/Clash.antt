@@ -30,6 +30,6 @@ clashes d r s = not (same_record r s) && intervals_overlap d r.start s
 abbrev pub overlapping : ℕ → ℕ → List DataRecord → List DataRecord
 overlapping d start xs = filter (intervals_overlap d start) xs
 
--- finds the first of them that is not the record itself
+-- finds the first record of the list that is not r
 abbrev pub first_other : DataRecord → List DataRecord → Option DataRecord
 first_other r xs = find (λ s. not (same_record r s)) xs

@@ -27,7 +27,7 @@ abbrev pub ParsedIsWellFormed : Type 0
 ParsedIsWellFormed = (bytes : List ℕ) (submission : Parsed) →
     ParsesTo bytes submission → IsWellFormed submission
 
--- holdings of nothing are sound
+-- holdings with no records are sound
 abbrev pub NothingHeldIsSound : Type 0
 NothingHeldIsSound = (cap : ℕ) → IsSound cap nothing_held
 
@@ -46,11 +46,11 @@ HeldIsKnown = (cap : ℕ) (h : Holdings) (key : Key) (records : List DataRecord)
     (reply cap h (Fragment key records) ≡ Accepted key 0 (length records))
     × (after_one cap h (Fragment key records) ≡ h)
 
--- the list has the earlier members, this member, and those between it and its repeat
+-- the list up to a repeat: those earlier, the submission, and those between it and its repeat
 abbrev pub up_to_repeat : List Parsed → Parsed → List Parsed → List Parsed
 up_to_repeat earlier submission between = earlier ++ (submission ∷ between)
 
--- a later repeat of an accepted member is accepted with nothing new
+-- a later repeat of an accepted submission is accepted with nothing new
 abbrev pub AcceptedAgain : Type 0
 AcceptedAgain = (cap : ℕ) (h : Holdings) (earlier : List Parsed) (submission : Parsed)
     (between : List Parsed) →
@@ -60,7 +60,7 @@ AcceptedAgain = (cap : ℕ) (h : Holdings) (earlier : List Parsed) (submission :
     reply cap (after cap h (up_to_repeat earlier submission between)) submission
     ≡ Accepted key 0 (new + known)
 
--- a later repeat of a refused member is refused again, for the same fault of form if it had one
+-- a later repeat of a refused submission is refused again, for the same fault of form if it had one
 abbrev pub RefusedAgain : Type 0
 RefusedAgain = (cap : ℕ) (h : Holdings) (earlier : List Parsed) (submission : Parsed)
     (between : List Parsed) →

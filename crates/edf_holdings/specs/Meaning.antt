@@ -57,7 +57,7 @@ abbrev pub NoneClashesWithHeld : Holdings → Key → List DataRecord → Type 0
 NoneClashesWithHeld h key records = (r s : DataRecord) → Contains records r → Contains (h key) s →
     ¬ Clash (duration_of key.duration) r s
 
--- none clashes, and with them the key has what it had, or at most the cap
+-- none clashes with a held one, and with them the key has what it had, or at most the cap
 pub record Fits (cap : ℕ) (key : Key) (records : List DataRecord) (h : Holdings) : Type 0 where
   pub none_clashes : NoneClashesWithHeld h key records
   pub within_cap : (union (h key) records ≡ h key) ⊎ (length (union (h key) records) ≤ cap)
@@ -107,7 +107,7 @@ ReplyNamesCounts cap h key records =
     reply cap h (Fragment key records) ≡ Accepted key (count_new (h key) records)
     (length records - count_new (h key) records))
 
--- the reply goes by the counts where nothing clashes
+-- where nothing clashes the reply is by the counts
 abbrev pub RepliesNameTheCounts : Type 0
 RepliesNameTheCounts = (cap : ℕ) (h : Holdings) (key : Key) (records : List DataRecord) →
     NoneClashesWithHeld h key records → ReplyNamesCounts cap h key records
@@ -151,7 +151,7 @@ abbrev pub AtMostTwoOverlap : Type 0
 AtMostTwoOverlap = (cap : ℕ) (h : Holdings) (k : Key) (start : ℕ) → IsSound cap h →
     length (overlapping (duration_of k.duration) start (h k)) ≤ 2
 
--- a rising list of exactly the held records that overlap one with this start is `overlapping`
+-- only `overlapping` is a rising list of exactly the held records that overlap one with this start
 abbrev pub OverlappingIsDetermined : Type 0
 OverlappingIsDetermined = (cap : ℕ) (h : Holdings) (k : Key) (start : ℕ) (ys : List DataRecord) →
     IsSound cap h → IsRising ys →

@@ -13,7 +13,8 @@ use Rattle.edf_holdings.specs.Clash.{clashes}
 use Rattle.edf_holdings.specs.Rising.{union, count_new}
 use Rattle.edf_holdings.specs.Holdings.{Holdings, with_records}
 
--- a fragment has a key of a header and sound records; a law says that bytes parse to nothing else
+-- any fault; or a valid key, and sound records with the first of which its recording may start: by
+-- a law bytes parse to nothing else
 abbrev pub IsWellFormed : Parsed → Type 0
 IsWellFormed (Fragment key records) = IsKey key × AreSoundFrom key 0 records
     × FirstMayStart key records
@@ -59,6 +60,7 @@ IsAccepted (Form fault) = ⊥
 IsAccepted (Conflicts conflict) = ⊥
 IsAccepted (Accepted key new known) = Unit {0}
 
+-- the clash of r, if it has one, and else the later one
 abbrev pub clash_or : DataRecord → Option DataRecord → Option (DataRecord × DataRecord) →
     Option (DataRecord × DataRecord)
 clash_or r None later = later
