@@ -26,7 +26,7 @@ pub record SubmitsOne {S : Type 0} (g : Ghosts S) (old new : StoreModel S) (from
   pub busy : IsBusy g old → (to ≡ from) × (answer ≡ busy_answer)
 
 -- The inputs were submitted one after another, each to the store as it was after the one before. So
--- when an accepted one was answered, the store was open and held it, even if it is closed later.
+-- at each `Accepted` the store was open and held the records, even if it was closed later.
 abbrev pub AreSubmitted : {S : Type 0} → Ghosts S → StoreModel S → StoreModel S →
     List InputState → List InputState → List Answer → Type 0
 AreSubmitted g old new [] [] [] = new ≡ old
@@ -49,8 +49,7 @@ module _ {S : Type 0} (g : Ghosts S) (old new : StoreModel S) where
       (HasCleanDisk (at g new) → given ≡ replies old.cap h submissions)
       × Holds g new (after old.cap h submissions)
 
--- one input's turn: the input before and after it, the answer, and the submission that was parsed,
--- which is `None` where the answer is E40 to E42 or E45
+-- one input's turn; `submission` is what it parses to, and `None` where the answer is from E40 on
 pub record Turn : Type 0 where
   pub from : InputState
   pub to : InputState
@@ -70,16 +69,15 @@ submissions_in turns = some_values (map (λ (t : Turn). t.submission) turns)
 abbrev pub replies_in : List Turn → List Reply
 replies_in turns = some_values (map (λ (t : Turn). reply_of t.answer) turns)
 
--- the reply to a faulty file is `Form`, and that to a good one never is; `Accepted` has the file's
--- own key
+-- a faulty file's reply is `Form`, and a good one's never is; `Accepted` has the file's own key
 abbrev pub IsPossibleReply : Parsed → Reply → Type 0
 IsPossibleReply (Fault fault) answer = answer ≡ Form fault
 IsPossibleReply (Fragment key records) (Form fault) = ⊥
 IsPossibleReply (Fragment key records) (Accepted k new known) = k ≡ key
 IsPossibleReply (Fragment key records) answer = Unit {0}
 
--- the input was read as its answer says: it parses to this submission, and this reply to it is
--- possible; or there is neither
+-- submission and reply agree: the input reads as the one, and the other is a possible reply to it;
+-- or there is neither, for a failed read, want of memory or the store's refusal
 abbrev pub AgreesWith : Turn → Option Parsed → Option Reply → Type 0
 AgreesWith t (Some submission) (Some answer) = ReadsAs t.from t.to submission
     × IsPossibleReply submission answer

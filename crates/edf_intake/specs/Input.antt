@@ -71,6 +71,5 @@ module _ (from to : InputState) where
   -- some data records; until memory ran out; until a read failed; or as far as the reply needed
   -- that the store's refusal replaces.
   abbrev pub ReadsUntilInterrupted : Type 0
-  ReadsUntilInterrupted = (to ≡ from)
-      ⊎ (ReadsHeaderAndRecords ⊎ (RunsOutOfMemory
+  ReadsUntilInterrupted = (to ≡ from) ⊎ (ReadsHeaderAndRecords ⊎ (RunsOutOfMemory
       ⊎ (FailsToRead ⊎ ((submission : Parsed) × ReadsAs submission))))

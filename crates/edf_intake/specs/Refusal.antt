@@ -10,6 +10,7 @@ use Rattle.edf_intake.specs.declared.answer.Receipt.{Receipt}
 use Rattle.edf_intake.specs.declared.answer.Refusal.{Refusal}
 use Rattle.edf_intake.specs.declared.answer.Refusal.TheVariants as refusal
 
+-- E1 to E29 are of form, E30 to E32 conflicts, E40 a failed read, E41 memory, E42 and E45 the store
 abbrev pub refusal_number : Refusal → ℕ
 refusal_number (refusal.Form fault) = fragment_fault_number fault
 refusal_number (refusal.Overlap start stored) = 30
@@ -29,8 +30,7 @@ refusal_name refusal.Read = codes "Read"
 refusal_name refusal.Memory = codes "Memory"
 refusal_name (refusal.Store fault) = store_fault_name fault
 
--- the cause of a refusal: a fault of form, a conflict with what is held, a failed read, want of
--- memory, or a fault of the store
+-- the cause of a refusal
 pub data Cause : Type 0 where
   OfForm : FragmentFault → Cause
   OfConflict : Conflict → Cause

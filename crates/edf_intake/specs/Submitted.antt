@@ -22,7 +22,7 @@ use Rattle.edf_intake.specs.Input.{ReadsAs, ReadsWhole, FailsToRead, ReadsUntilI
 use Rattle.edf_intake.specs.declared.answer.Receipt.{Receipt}
 use Rattle.edf_intake.specs.declared.answer.Refusal.TheVariants as refusal
 
--- The store refused, with E42 or E45: `sqlite` gave an error; or the connection was in a
+-- The store may refuse so, with E42 or E45: `sqlite` gave an error; or the connection was in a
 -- transaction, only where `IfBusy` holds; or rows are foreign, only where the disk did not return
 -- what was written. Where memory ran out, the refusal is E41 and not this one.
 abbrev pub StoreMayRefuse : {S : Type 0} → Ghosts S → (IfBusy : Type 0) → StoreModel S →
@@ -41,8 +41,8 @@ module _ {S : Type 0} (g : Ghosts S) (old new : StoreModel S) where
   RemainAfterCrash submission rows = (h : Holdings) → Holds g old h →
       RepresentCommitted old.cap rows (after_one old.cap h submission)
 
-  -- the submission is committed: the store is open and holds what is held after it, and the other
-  -- tables are unchanged; the rows after a crash are what they could be before, or those after it
+  -- the submission is committed: it is held, and other tables are unchanged; on a clean disk the
+  -- store is open; the rows after a crash are what they could be before, or those after it
   pub record CommitsSubmission (submission : Parsed) : Type 0 where
     pub cap : new.cap ≡ old.cap
     pub holdings : (h : Holdings) → Holds g old h → Holds g new (after_one old.cap h submission)
@@ -50,8 +50,7 @@ module _ {S : Type 0} (g : Ghosts S) (old new : StoreModel S) where
     pub is_open : HasCleanDisk (at g new) → IsTrue (at g new).is_open
     pub crash : Survives (at g old) (at g new) (RemainAfterCrash submission)
 
-  -- what is held is unchanged, and so are the other tables; yet after a crash the store may hold
-  -- the submission too
+  -- holdings and other tables are unchanged; yet after a crash the store may hold the submission
   pub record MayHaveCommitted (submission : Parsed) : Type 0 where
     pub cap : new.cap ≡ old.cap
     pub holdings : (h : Holdings) → Holds g old h → Holds g new h
@@ -67,8 +66,7 @@ module _ {S : Type 0} (g : Ghosts S) (old new : StoreModel S) where
           (Accepted receipt.identity receipt.new receipt.known)
       pub commits : CommitsSubmission (Fragment receipt.identity records)
 
-    -- the input parses to this, and is refused with this reply; what is held is unchanged, and the
-    -- rows after a crash are what they could be before
+    -- the input parses to this, and is refused with this reply; the holdings are unchanged
     pub record Refuses (submission : Parsed) (answer : Reply) : Type 0 where
       pub read : ReadsAs from to submission
       pub reply_is : RepliesWith submission answer
@@ -109,8 +107,7 @@ module _ {S : Type 0} (g : Ghosts S) (old new : StoreModel S) where
 abbrev pub IsOutsideTransactionAfterSubmit : {S : Type 0} → Ghosts S → StoreModel S → Answer →
     Type 0
 IsOutsideTransactionAfterSubmit g new answer = HasCleanDisk (at g new) →
-    IsMemoryOrStoreRefusal answer
-    ⊎ ((at g new).in_transaction ≡ false)
+    IsMemoryOrStoreRefusal answer ⊎ ((at g new).in_transaction ≡ false)
 
 -- the answer if the connection was in a transaction before the call: E42 without a cause
 abbrev pub busy_answer : Answer

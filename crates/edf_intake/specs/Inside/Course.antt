@@ -19,12 +19,11 @@ abbrev pub MayAdd : ℕ → Course → Type 0
 MayAdd spare course = (course.findings.clash ≡ None) × (course.findings.new < spare)
 
 module _ {S : Type 0} (g : Ghosts S) where
-  -- the record may come next: it is a sound one of its key; where it may be added, the recording
-  -- has fewer than the cap, and may start with it if it holds none; it can be counted, and the gap
-  -- is one
+  -- the record may come next
   pub record MayBeNext (tx : StoreTx S) (key : Key) (r : DataRecord) (spare : ℕ)
       (course : Course) : Type 0 where
     pub sound : IsSoundRecord key r
+    -- if it may be added, the recording has fewer than the cap, and may start with it if it has none
     pub below_cap : HasCleanDisk (at g tx.store.now) → MayAdd spare course → (h : Holdings) →
         Sees g tx.store.now h → length (h key) < tx.store.now.cap
     pub first : HasCleanDisk (at g tx.store.now) → MayAdd spare course → (h : Holdings) →
@@ -40,8 +39,8 @@ module _ {S : Type 0} (g : Ghosts S) where
       pub gap : HasCleanDisk (at g new.store.now) → IsGapIn g old.store.now key lookup.gap
       pub from : IfSome lookup.gap (λ gap. gap.from ≡ r.start)
 
-    -- it was taken: the transaction sees the holdings after it; the recording is there under its
-    -- id, and none was added; it is counted, and the gap is one
+    -- it was taken: what the transaction sees then, and the findings, are as `TakesNext` says; the
+    -- recording is there under its id, and none was added; at most one more is counted
     pub record IsRecordTaken (id : ℤ) (spare : ℕ) (from to : Course) : Type 0 where
       pub recording : IsOf g new.store.now id key
       pub only : AddsNoRecording g old.store.now new.store.now

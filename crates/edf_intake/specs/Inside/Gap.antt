@@ -10,8 +10,7 @@ use Rattle.edf_store.specs.Transaction.{Sees}
 use Rattle.edf_store.specs.declared.transaction.StoreTx.{StoreTx}
 use Rattle.edf_intake.specs.declared.gap.Gap.{Gap}
 
--- the start is not between the gap's ends: it is the first or earlier, or the second or later.
--- Without a second the gap does not end
+-- the start is where the gap begins or earlier, or where it ends or later; a gap may have no end
 abbrev pub IsOutside : Gap → ℕ → Type 0
 IsOutside gap start = (start ≤ gap.from) ⊎ IsSomeAnd gap.until (λ until. until ≤ start)
 

@@ -1,5 +1,4 @@
--- The verdict on a data record by the stored ones near it, and the findings on all data records of
--- a fragment that were read so far.
+-- The verdict on a data record by the stored ones near it, and the findings on all that were read.
 use Rattle.std.specs.Prelude.{◌≡◌, ◌⊎◌, ℕ, ◌+◌, ◌<◌, ◌≤◌, true, List, [], ◌∷◌, length, Some, None}
 use Rattle.std.specs.Prelude.{MatchOption}
 use Rattle.sqlite_trees.specs.declared.store.Store.{Ghosts}
@@ -19,14 +18,13 @@ use Rattle.edf_intake.specs.declared.data_records.Verdict.TheVariants.{Clashes, 
 use Rattle.edf_intake.specs.declared.data_records.Starts.{Starts}
 use Rattle.edf_intake.specs.declared.data_records.Findings.{Findings}
 
--- a recording that holds `held` may get `spare` more, never past the cap: all that the cap allows,
--- or at least `asked`
+-- a recording with `held` may get `spare` more within the cap: all that it allows, or at least
+-- `asked`
 pub record IsSpare (cap held asked spare : ℕ) : Type 0 where
   pub fits : held + spare ≤ cap
   pub enough : (held + spare ≡ cap) ⊎ (asked ≤ spare)
 
--- the key's recording may get so many more, as the transaction sees it on a disk that returns what
--- was written
+-- the key's recording may get so many more, as the transaction sees it on a clean disk
 abbrev pub IsSpareInTransaction : {S : Type 0} → Ghosts S → StoreTx S → Key → ℕ → ℕ → Type 0
 IsSpareInTransaction g tx key asked spare = HasCleanDisk (at g tx.store.now) → (h : Holdings) →
     Sees g tx.store.now h → IsSpare tx.store.now.cap (length (h key)) asked spare
@@ -55,7 +53,7 @@ TakesVerdict spare key r near h from t to New =
     (from.new < spare → t ≡ with_records key (r ∷ []) h) × (spare ≤ from.new → t ≡ h)
     × (to ≡ record from { new = from.new + 1 })
 
--- after a clash nothing counts
+-- the next record is taken by its verdict; after a clash the findings stay, and t may be any
 abbrev pub TakesNext : ℕ → Key → DataRecord → Holdings → Findings → Holdings → Findings → Type 0
 TakesNext spare key r h from t to = MatchOption from.clash
     ((verdict : Verdict) × IsVerdict r
