@@ -17,7 +17,7 @@ use Rattle.edf_export.specs.declared.fault.ExportFault.{ExportFault}
 use Rattle.edf_export.specs.declared.fault.ExportFault.TheVariants.{NoRecording, Store, Memory}
 use Rattle.edf_export.specs.declared.fault.ExportFault.TheVariants.{Write}
 
--- ---- the answer, on a disk that returns what was written
+-- ---- the answer, for use where the disk returned what was written
 
 -- the canonical file of the records was written, the only one that they have, with this length
 pub record IsExported (before after : Option (List ℕ)) (k : Key) (records : List DataRecord)
@@ -35,7 +35,7 @@ pub record WritesPrefixOfFile (before after : Option (List ℕ)) (k : Key)
   pub canonical : IsCanonicalFile file k records
   pub wrote : WritesPrefix before after file
 
--- a prefix of the records' canonical file was written, and nothing where there is no record
+-- if the records have a canonical file, a prefix of it was written; without records nothing was
 abbrev pub WritesPrefixIfFile : Option (List ℕ) → Option (List ℕ) → Key → List DataRecord → Type 0
 WritesPrefixIfFile before after k [] = Keeps before after
 WritesPrefixIfFile before after k (r ∷ rs) = (file : List ℕ) → IsCanonicalFile file k (r ∷ rs) →
@@ -51,9 +51,9 @@ IsNotExported before after k records (Store fault) = WritesPrefixIfFile before a
 IsNotExported before after k records Memory = WritesPrefixIfFile before after k records
 IsNotExported before after k records Write = WritesPrefixOfFile before after k records
 
--- ---- the answer, on any disk
+-- ---- the answer, for use on any disk
 
--- one write failed, or took none of some bytes, where the fault is `Write`, and else none did
+-- the count of failed writes is one more where the fault is `Write`, and else the same
 abbrev pub CountsWriteFault : ℕ → ℕ → ExportFault → Type 0
 CountsWriteFault old new NoRecording = new ≡ old
 CountsWriteFault old new (Store fault) = new ≡ old
@@ -64,8 +64,7 @@ abbrev pub CountsWriteFailures : ℕ → ℕ → Result ℕ ExportFault → Type
 CountsWriteFailures old new result =
     MatchResult result (λ len. new ≡ old) (CountsWriteFault old new)
 
--- a write failed exactly where that is the answer, `NoRecording` wrote nothing, and no refusal is
--- for the fault of an earlier call
+-- failed writes are counted, `NoRecording` wrote nothing, and the fault is none of an earlier call
 pub record ReportsWriteFailures (before after : Option (List ℕ)) (failed_before failed_after : ℕ)
     (result : Result ℕ ExportFault) : Type 0 where
   pub counted : CountsWriteFailures failed_before failed_after result
@@ -87,8 +86,8 @@ IsOutsideTransactionAfterExport s result =
 
 module _ {S A : Type 0} (g : Ghosts S) (old new : StoreModel S) (result : Result A ExportFault)
   where
-    -- what is held is unchanged; where the disk returned what was written, no transaction is open,
-    -- except after a refusal of the store
+    -- holdings are unchanged; on a clean disk no transaction is open, except after the store's
+    -- refusal
     pub record KeepsStore : Type 0 where
       pub stays : KeepsHoldings g old new
       pub idle : HasCleanDisk (at g new) → IsOutsideTransactionAfterExport (at g new) result

@@ -35,7 +35,7 @@ module _ (cap : ℕ) (h : Holdings) where
         IsCanonicalFile file k (after cap h submissions k)
         ↔ IsCanonicalFile file k (after cap h others k)
 
-  -- of sound holdings h, and of a list of submissions that byte strings parse to:
+  -- of sound holdings h and well-formed submissions, as the law `headline` asks:
   pub record Headline (submissions : List Parsed) : Type 0 where
     -- each key that holds something after the list has exactly one canonical file, under every cap
     -- that a store may have

@@ -11,17 +11,16 @@ use Rattle.edf_export.specs.declared.fault.ExportFault.{ExportFault}
 use Rattle.edf_export.specs.declared.fault.ExportFault.TheVariants.{NoRecording, Store, Memory}
 use Rattle.edf_export.specs.declared.fault.ExportFault.TheVariants.{Write}
 
--- after a function the walk still borrows its store, whose holdings are unchanged; and `After` is
--- true of the connection where the disk returned what was written
+-- the walk still borrows its store, whose holdings are unchanged; on a clean disk `After` is true
 pub record EndsWalk {S : Type 0} (g : Ghosts S) (old new : Records S Cursor)
     (After : State → Type 0) : Type 0 where
   pub same_reference : new.store.ghost_name ≡ old.store.ghost_name
   pub stays : KeepsHoldings g old.store.now new.store.now
   pub after : HasCleanDisk (at g new.store.now) → After (at g new.store.now)
 
--- A file was not written, or not to its end. A read was refused, because of an open transaction
--- only where `IfBusy` holds; or memory ran out; or a write failed, and none failed before another
--- fault. `NoRecording` is never the fault.
+-- Why a file is not written to its end, and the count of failed writes: a read was refused, because
+-- of an open transaction only where `IfBusy` holds; or memory ran out; or a write failed, and only
+-- that counts. `NoRecording` is never the fault.
 abbrev pub IsWritingFaultOnAnyDisk : (IfBusy : Type 0) → ℕ → ℕ → ExportFault → Type 0
 IsWritingFaultOnAnyDisk IfBusy old new NoRecording = ⊥
 IsWritingFaultOnAnyDisk IfBusy old new (Store fault) = (new ≡ old) × MayRefuse IfBusy ⊤ ⊥ fault

@@ -11,6 +11,7 @@ use Rattle.edf_store.specs.declared.fault.StoreFault.{StoreFault}
 use Rattle.edf_store.specs.declared.records.Records.{Records}
 use Rattle.edf_export.specs.declared.walked.Walked.{Walked}
 
+-- a step: what it does to the walk, the next record that it gives, and how far the walk is then
 pub record IsSourceStep {S : Type 0} (g : Ghosts S) (source : Walked) (old : Records S Cursor)
     (input : Unit {0}) (source' : Walked) (new : Records S Cursor) (input' : Unit {0})
     (answer : Result (Option DataRecord) StoreFault) : Type 0 where

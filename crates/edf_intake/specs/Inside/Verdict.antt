@@ -18,8 +18,7 @@ use Rattle.edf_intake.specs.declared.data_records.Verdict.TheVariants.{Clashes, 
 use Rattle.edf_intake.specs.declared.data_records.Starts.{Starts}
 use Rattle.edf_intake.specs.declared.data_records.Findings.{Findings}
 
--- a recording with `held` may get `spare` more within the cap: all that it allows, or at least
--- `asked`
+-- a recording that has `held` may get `spare` more within the cap: up to it, or at least `asked`
 pub record IsSpare (cap held asked spare : ℕ) : Type 0 where
   pub fits : held + spare ≤ cap
   pub enough : (held + spare ≡ cap) ⊎ (asked ≤ spare)
