@@ -8,7 +8,7 @@ use Rattle.edf_intake.proofs.Taking.{none_of, clashed_before, clash_met, known_m
 use Rattle.edf_intake.proofs.Taking.{may_take, added_met}
 use Rattle.edf_intake.proofs.Transactions.{passed_on, keeps_none}
 use Rattle.edf_intake.proofs.data_records.take_record.Goals as goal
-use Rattle.edf_intake.proofs.data_records.take_record.Goals.{then-findings-room+in_ok-add-in-New}
+use Rattle.edf_intake.proofs.data_records.take_record.Goals.{then-findings-spare+in_ok-add-in-New}
 use Rattle.edf_intake.proofs.data_records.take_record.Goals.{else-findings-spare}
 
 pub returns-then-is_some-clause-leaves : goal.returns-then-is_some-clause-leaves
@@ -91,7 +91,7 @@ returns-after-findings-spare-clause-leaves g c =
     let mid = c.find_verdict.new.transaction.store.now in
     let p = c.in_ok-lookup.ensures.leaves in
     elim c.if-findings-spare.branch [
-      | then-findings-room+in_ok-add-in-New w ↦
+      | then-findings-spare+in_ok-add-in-New w ↦
           let q = w.in_ok-add-in-New.ensures.leaves in
           rw w.transaction-is (record {
             same_reference = q.same_reference ∙ p.same_reference;
@@ -121,7 +121,7 @@ returns-after-findings-spare-clause-taken g c =
     let is = c.in_ok-lookup.ensures.lookup in
     let none = none_of course.findings.clash (sym c.is_some.ensures ∙ c.if-is_some.false) in
     elim c.if-findings-spare.branch [
-      | then-findings-room+in_ok-add-in-New w ↦ rw w.transaction-is
+      | then-findings-spare+in_ok-add-in-New w ↦ rw w.transaction-is
           (added_met g.S.Store id key r spare course first c.requires.running mid Why lookup read is
           none c.in-New.is w.if-findings-spare.true w.add.new.self
           w.in_ok-add-in-New.ensures.leaves.stays w.in_ok-add-in-New.ensures.added)
