@@ -175,14 +175,14 @@ of-seconds text rest nanos s blank lasts =
           ++ x) * 10 ^ 9) (sym (unpoint s.fraction))
           (exact s.whole s.fraction nanos (fraction-digits text s.whole s.fraction s.parts) s.fine
           s.value);
-      lasts = lasts;
+      in_range = lasts;
     }
 
 to : (text : List ℕ) (nanos : ℕ) → IsDuration text nanos → IsDurationText text nanos
 to text nanos d =
     let at = unpadded_len text in
     subst (λ (x : List ℕ). IsDurationText x nanos) (take-append-drop at text)
-    (of-seconds (take at text) (drop at text) nanos d.seconds d.spaces d.lasts)
+    (of-seconds (take at text) (drop at text) nanos d.seconds d.spaces d.in_range)
 
 abbrev NoSpaces : List ℕ → Type 0
 NoSpaces text = AllByRecursion (λ b. (b == 32) ≡ false) text
@@ -239,7 +239,7 @@ from text nanos t =
       });
       spaces = subst AreSpaces (sym rest)
           (All-replicate (λ (b : ℕ). b ≡ 32) t.number.spaces 32 refl);
-      lasts = t.lasts;
+      in_range = t.in_range;
     }
 
 pub duration-texts : (text : List ℕ) (nanos : ℕ) →

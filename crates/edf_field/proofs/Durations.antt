@@ -156,4 +156,4 @@ pub not-lasting : (field front rest : List ℕ) (at other : ℕ) → at ≡ unpa
 not-lasting field front rest at other is front-is rest-is s past r n d =
     past (subst IsDurationInRange (duration-value field n d
     ∙ sym (field-value field at other (subst (λ (t : List ℕ). IsSeconds t other) front-is s)
-    (subst AreSpaces rest-is r))) d.lasts)
+    (subst AreSpaces rest-is r))) d.in_range)

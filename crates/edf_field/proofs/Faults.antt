@@ -55,8 +55,9 @@ one-patient-fault text fault other p q = one-of fault other (subfields text) p q
 -- an identification has no fault
 pub recording-no-fault : (text : List ℕ) (s : Option ℤ) (after : List ℕ) (fault : RecordingFault) →
     IsRecording text s after → ¬ IsRecordingFault text fault
-recording-no-fault text s after NoStartdate is fails = other-front text fails s after is.front
-recording-no-fault text s after NoDate is fails = fails.1 s after is.front
+recording-no-fault text s after NoStartdate is fails =
+    other-front text fails s after is.is_startdate
+recording-no-fault text s after NoDate is fails = fails.1 s after is.is_startdate
 recording-no-fault text s after FewCodes is fails =
     not-following text fails.0 fails.1 fails.2 fails.3 s after is
 

@@ -45,4 +45,4 @@ no-day f other none (Some day) after p = none day p.1
 pub not-following : (f : List ℕ) (s : Option ℤ) (after : List ℕ) → IsStartdate f s after →
     ¬ FollowsStartdate after → (r : Option ℤ) (rest : List ℕ) → ¬ IsRecording f r rest
 not-following f s after front none r rest p =
-    none (subst FollowsStartdate (one-after f r s rest after p.front front).1 p.rest)
+    none (subst FollowsStartdate (one-after f r s rest after p.is_startdate front).1 p.rest)

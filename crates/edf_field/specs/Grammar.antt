@@ -78,7 +78,7 @@ pub record IsDurationText (text : List ℕ) (nanos : ℕ) : Type 0 where
   pub after_dot : point ≢ Some []
   pub value : nanos * 10 ^ length (unwrap_or point []) ≡ digits_value 10 (whole
       ++ unwrap_or point []) * 10 ^ 9
-  pub lasts : IsDurationInRange nanos
+  pub in_range : IsDurationInRange nanos
 
 -- A decimal has these digits, at most `wide` before its dot, and at most `at` after it.
 pub record AreDecimalDigits (whole part : List ℕ) (wide at : ℕ) : Type 0 where

@@ -93,7 +93,7 @@ IsDurationInRange nanos = 0 < nanos
 pub record IsDuration (text : List ℕ) (nanos : ℕ) : Type 0 where
   pub seconds : IsSeconds (take (unpadded_len text) text) nanos
   pub spaces : AreSpaces (drop (unpadded_len text) text)
-  pub lasts : IsDurationInRange nanos
+  pub in_range : IsDurationInRange nanos
 
 -- The digits of a duration write this many nanoseconds; a law says that it has no other value.
 abbrev pub duration_of : List ℕ → ℕ

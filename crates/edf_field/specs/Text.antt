@@ -56,5 +56,5 @@ after_startdate_of (Some day) recording = drop 21 recording
 
 -- The text is a recording identification, with this Startdate subfield and what follows it.
 pub record IsRecording (text : List ℕ) (startdate : Option ℤ) (after : List ℕ) : Type 0 where
-  pub front : IsStartdate text startdate after
+  pub is_startdate : IsStartdate text startdate after
   pub rest : FollowsStartdate after

@@ -44,14 +44,14 @@ value w f = digits_value 10 w * 10 ^ 9 + places (10 ^ 8) f
 record IsWorth (text w f : List ℕ) : Type 0 where
   parts : IsDecimal text w f
   fine : IsFine f
-  lasts : IsDurationInRange (value w f)
+  in_range : IsDurationInRange (value w f)
 
 worth : (text w f : List ℕ) → Decided (IsWorth text w f)
 worth text w f =
     like (both (decimal text w f) (both (every (λ d. d ≡ 48) 0 (λ d. same d 48) (drop 9 f))
     (lasts-or-not (value w f))))
-    (λ p. record { parts = p.0; fine = p.1.0; lasts = p.1.1 })
-    (λ p. (p.parts, (p.fine, p.lasts)))
+    (λ p. record { parts = p.0; fine = p.1.0; in_range = p.1.1 })
+    (λ p. (p.parts, (p.fine, p.in_range)))
 
 -- its parts are those on the two sides of some offset
 abbrev IsWorthAt : List ℕ → ℕ → Type 0
@@ -101,7 +101,7 @@ from-worth text ((at, lt, is), blank) =
           value = refl;
         };
         spaces = blank;
-        lasts = is.lasts;
+        in_range = is.in_range;
       },
     )
 
@@ -110,9 +110,9 @@ to-worth : (text : List ℕ) → ((nanos : ℕ) × IsDuration text nanos)
     × IsWorthAt (take (unpadded_len text) text) at) × AreSpaces (drop (unpadded_len text) text)
 to-worth text (nanos, d) =
     let s = d.seconds in
-    let lasts = subst IsDurationInRange s.value d.lasts in (
+    let lasts = subst IsDurationInRange s.value d.in_range in (
       worth-at (take (unpadded_len text) text) s.whole s.fraction
-          (record { parts = s.parts; fine = s.fine; lasts = lasts }),
+          (record { parts = s.parts; fine = s.fine; in_range = lasts }),
       d.spaces,
     )
 
@@ -214,7 +214,7 @@ pub recording-or-fault : (text : List ℕ) → HasRecording text ⊎ HasRecordin
 recording-or-fault text =
     elim (startdate text) [
       | inl s ↦ elim (follows-startdate s.1) [
-        | inl follows ↦ inl (s.0, s.1, record { front = s.2; rest = follows })
+        | inl follows ↦ inl (s.0, s.1, record { is_startdate = s.2; rest = follows })
         | inr none ↦ inr (FewCodes, (s.0, s.1, s.2, none))
       ]
       | inr f ↦ inr (f.0, of-startdate text f.0 f.1)
@@ -231,8 +231,8 @@ recording text =
 pub undated : (text : List ℕ) → Decided ((after : List ℕ) × IsRecording text None after)
 undated text =
     like (both (same-bytes (take 11 text) (codes "Startdate X")) (follows-startdate (drop 11 text)))
-    (λ p. (drop 11 text, record { front = (p.0, refl); rest = p.1 }))
-    (λ r. (r.1.front.0, subst FollowsStartdate r.1.front.1 r.1.rest))
+    (λ p. (drop 11 text, record { is_startdate = (p.0, refl); rest = p.1 }))
+    (λ r. (r.1.is_startdate.0, subst FollowsStartdate r.1.is_startdate.1 r.1.rest))
 
 -- the startdate
 pub date-form : (text : List ℕ) (id : Option ℤ) → Decided (HasDateForm text id)

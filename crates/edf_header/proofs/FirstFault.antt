@@ -179,7 +179,7 @@ other-by b s after is =
       ]
       | inr never ↦ inr (λ differ.
           let same = (one-after (field b 88 80) (Some differ.day) s differ.after after
-          differ.recording.front is.front).0 in
+          differ.recording.is_startdate is.is_startdate).0 in
           never (subst (HasDateForm date) same differ.form))
     ]
 

@@ -86,7 +86,7 @@ fixed-clean b h f e lt = no-fault b h f e
 pub one-fixed : (b : List ℕ) (h g : FixedPart) → IsFixedHeader b h → IsFixedHeader b g → h ≡ g
 one-fixed b h g p q =
     let recording = one-after (field b 88 80) h.startdate g.startdate h.after g.after
-    p.recording.front q.recording.front in
+    p.recording.is_startdate q.recording.is_startdate in
     let patient = p.patient ∙ sym q.patient in
     let start = one-start (field b 168 8) (field b 176 8) g.startdate h.start g.start
     (subst (λ (s : Option ℤ). IsCivil (field b 168 8) (field b 176 8) s h.start) recording.0
@@ -230,9 +230,9 @@ is-fixed b h f = record {
   patient_printable = rw f.patient (All-field IsPrintable b 8 80 f.printable);
   is_patient = f.is_patient;
   after_len = after-len (field b 88 80) h.startdate h.after
-      (length-field b 88 80 (omega (arith, f.len))) f.recording.front;
+      (length-field b 88 80 (omega (arith, f.len))) f.recording.is_startdate;
   after_printable = after-printable (field b 88 80) h.startdate h.after
-      (All-field IsPrintable b 88 80 f.printable) f.recording.front;
+      (All-field IsPrintable b 88 80 f.printable) f.recording.is_startdate;
   is_after = f.recording.rest;
   in_window = (start-parts (field b 168 8) (field b 176 8) h.startdate h.start f.start).in_window;
   may_start = undated-start (field b 168 8) (field b 176 8) h.startdate h.start f.start;

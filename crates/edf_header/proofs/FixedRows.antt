@@ -56,7 +56,7 @@ pub recording-in : (b : List ℕ) (s : Option ℤ) (after : List ℕ) → IsClea
     × IsClean (FixedPartFails b) 6
 recording-in b s after clean is = (
   subst (λ (l : List ℕ). IsRecording (field b 88 80) s l)
-      (after-is (field b 88 80) s after is.front) is,
+      (after-is (field b 88 80) s after is.is_startdate) is,
   clean-more (FixedPartFails b) 5 clean (past-recording b s after is),
 )
 

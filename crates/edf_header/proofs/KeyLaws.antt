@@ -12,7 +12,7 @@ one-key k other p q same = sym (key-back k p.sized) ∙ ap key_at same ∙ key-b
 pub key-duration-some : (k : Key) → IsKey k → 0 < duration_of k.duration
 key-duration-some k i = subst (λ (n : ℕ). 0 < n)
     (duration-value k.duration i.duration.0 i.duration.1)
-    (lasts-some i.duration.0 i.duration.1.lasts)
+    (lasts-some i.duration.0 i.duration.1.in_range)
 
 pub key-duration-bound : (k : Key) → IsKey k → duration_of k.duration ≤ MOST_DURATION
 key-duration-bound k i =

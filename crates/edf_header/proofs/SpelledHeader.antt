@@ -68,7 +68,7 @@ is-recording : (dated : Bool) (id_date after : List ℕ) (days : ℕ) → length
     IsIdDate id_date (pos days) → FollowsStartdate after
     → IsRecording (recording dated id_date after) (startdate_day dated days) after
 is-recording true id_date after days li is follows = record {
-  front = (
+  is_startdate = (
     refl,
     subst (λ (t : List ℕ). IsIdDate t (pos days)) (sym (take_at id_date after 11 li))
         is,
@@ -77,7 +77,7 @@ is-recording true id_date after days li is follows = record {
   rest = follows;
 }
 is-recording false id_date after days li is follows =
-    record { front = (refl, refl); rest = follows }
+    record { is_startdate = (refl, refl); rest = follows }
 
 dated-back : (dated : Bool) (days : ℕ) → is_dated (startdate_day dated days) ≡ dated
 dated-back true days = refl

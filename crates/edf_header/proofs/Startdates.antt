@@ -19,7 +19,7 @@ has-startdate b None after is form (inr undated) =
 has-startdate b (Some day) after is (inl date) (inl none) = none.0 date.0 date.1
 has-startdate b (Some day) after is (inr yearless) (inl none) = none.1 yearless
 has-startdate b (Some day) after is form (inr undated) =
-    x-no-date (field b 88 80) day undated.1.1.front.0 is.front.1
+    x-no-date (field b 88 80) day undated.1.1.is_startdate.0 is.is_startdate.1
 
 pub no-startdate : (b : List ℕ) (s : Option ℤ) (after : List ℕ) →
     IsRecording (field b 88 80) s after → ¬ HasDateForm (field b 168 8) s →
@@ -37,8 +37,8 @@ pub same-startdates : (b : List ℕ) (s : Option ℤ) (after : List ℕ) (days :
     IsRecording (field b 88 80) s after → AreStartdates (field b 168 8) s days →
     ¬ FixedPartFails b DatesDiffer
 same-startdates b s after days is are differ =
-    let same = (one-after (field b 88 80) s (Some differ.day) after differ.after is.front
-    differ.recording.front).0 in
+    let same = (one-after (field b 88 80) s (Some differ.day) after differ.after is.is_startdate
+    differ.recording.is_startdate).0 in
     differ.other days (subst (λ (r : Option ℤ). AreStartdates (field b 168 8) r days) same are)
 
 pub other-startdates : (b : List ℕ) (s : Option ℤ) (after : List ℕ) →

@@ -123,22 +123,22 @@ marked-startdate : (old new : List ℕ) (date : Option ℤ) (after front more : 
     IsRecording old date after → (later : List ℕ) × IsRecording new date later
 marked-startdate old new None after front more n e len is r =
     let s = word-behind 11 old after front more n e (omega (arith, len))
-    (record { is = r.front.1; follows = r.rest }) in (
+    (record { is = r.is_startdate.1; follows = r.rest }) in (
       s.after,
       record {
-        front = (ap (take 11) is ∙ s.front ∙ r.front.0, s.is ∙ ap (drop 11) (sym is));
+        is_startdate = (ap (take 11) is ∙ s.front ∙ r.is_startdate.0, s.is ∙ ap (drop 11) (sym is));
         rest = s.follows;
       },
     )
 marked-startdate old new (Some day) after front more n e len is r =
     let s = word-behind 21 old after front more n e (omega (arith, len))
-    (record { is = r.front.2; follows = r.rest }) in
+    (record { is = r.is_startdate.2; follows = r.rest }) in
     let same = ap (take 21) is ∙ s.front in (
       s.after,
       record {
-        front = (
-          ten-of new old same ∙ r.front.0,
-          subst (λ (x : List ℕ). IsIdDate x day) (sym (field-of new old same)) r.front.1,
+        is_startdate = (
+          ten-of new old same ∙ r.is_startdate.0,
+          subst (λ (x : List ℕ). IsIdDate x day) (sym (field-of new old same)) r.is_startdate.1,
           s.is ∙ ap (drop 21) (sym is),
         );
         rest = s.follows;
@@ -214,19 +214,20 @@ in-parts text None after r =
       word = codes "X";
       rest = s.0;
       clean = x-part;
-      is = eleven-and text r.front.0 ∙ ap (λ (x : List ℕ). codes "Startdate" ++ 32 ∷ (codes "X" ++ x))
-          (sym r.front.1 ∙ s.1);
+      is = eleven-and text r.is_startdate.0
+          ∙ ap (λ (x : List ℕ). codes "Startdate" ++ 32 ∷ (codes "X" ++ x))
+          (sym r.is_startdate.1 ∙ s.1);
       codes_in = three-behind after s.0 s.1 r.rest.codes_in;
       says = λ other space three. record {
-        front = (refl, refl);
+        is_startdate = (refl, refl);
         rest = record { space = space; codes_in = three };
       };
     }
 in-parts text (Some day) after r =
     let s = space-first after r.rest.space in
     let word = field text 10 11 in
-    let len = id_date-length word day r.front.1 in
-    let visible = all-of IsVisible word (id_date-visible word day r.front.1) in
+    let len = id_date-length word day r.is_startdate.1 in
+    let visible = all-of IsVisible word (id_date-visible word day r.is_startdate.1) in
     record {
       word = word;
       rest = s.0;
@@ -234,14 +235,14 @@ in-parts text (Some day) after r =
         clean = All-weaker IsVisible (λ b. is_space b ≡ false) visible-clean word visible;
         some = omega (arith, len);
       };
-      is = ten-and text r.front.0 ∙ ap (λ (x : List ℕ). codes "Startdate" ++ 32 ∷ x)
+      is = ten-and text r.is_startdate.0 ∙ ap (λ (x : List ℕ). codes "Startdate" ++ 32 ∷ x)
           (sym (take-append-drop 11 (drop 10 text))
-          ∙ ap (λ (x : List ℕ). word ++ x) (drop-drop 11 10 text ∙ sym r.front.2 ∙ s.1));
+          ∙ ap (λ (x : List ℕ). word ++ x) (drop-drop 11 10 text ∙ sym r.is_startdate.2 ∙ s.1));
       codes_in = three-behind after s.0 s.1 r.rest.codes_in;
       says = λ other space three. record {
-        front = (
+        is_startdate = (
           refl,
-          subst (λ (x : List ℕ). IsIdDate x day) (sym (take_at word other 11 len)) r.front.1,
+          subst (λ (x : List ℕ). IsIdDate x day) (sym (take_at word other 11 len)) r.is_startdate.1,
           sym (drop_at word other 11 len),
         );
         rest = record { space = space; codes_in = three };

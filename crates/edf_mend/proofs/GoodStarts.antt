@@ -42,8 +42,8 @@ begins text None after r =
     let a = spaced-after after r.rest.space in
     record {
       date = codes "X";
-      is = sym (take-append-drop 11 text) ∙ ap (λ (x : List ℕ). x ++ drop 11 text) r.front.0
-          ∙ ap (λ (x : List ℕ). codes "Startdate X" ++ x) (sym r.front.1 ∙ a);
+      is = sym (take-append-drop 11 text) ∙ ap (λ (x : List ℕ). x ++ drop 11 text) r.is_startdate.0
+          ∙ ap (λ (x : List ℕ). codes "Startdate X" ++ x) (sym r.is_startdate.1 ∙ a);
       second = refl;
     }
 begins text (Some day) after r =
@@ -51,12 +51,12 @@ begins text (Some day) after r =
     let back : drop 10 text ≡ field text 10 11 ++ 32 ∷ drop 1 after =
     sym (take-append-drop 11 (drop 10 text))
     ∙ ap (λ (x : List ℕ). field text 10 11 ++ x)
-    (drop-drop 11 10 text ∙ sym r.front.2 ∙ a) in
+    (drop-drop 11 10 text ∙ sym r.is_startdate.2 ∙ a) in
     record {
       date = field text 10 11;
-      is = sym (take-append-drop 10 text) ∙ ap (λ (x : List ℕ). x ++ drop 10 text) r.front.0
+      is = sym (take-append-drop 10 text) ∙ ap (λ (x : List ℕ). x ++ drop 10 text) r.is_startdate.0
           ∙ ap (λ (x : List ℕ). codes "Startdate " ++ x) back;
-      second = r.front.1;
+      second = r.is_startdate.1;
     }
 
 x-clean : IsClean (codes "X")
