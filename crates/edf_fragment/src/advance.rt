@@ -105,7 +105,7 @@ fn fill_record<R: Input>(
 ) -> Result<bool, FragmentFault>
     requires may_come { progress.given < most_records header.now.count }
     requires countable { progress.given < 2 ^ 32 - 1 }
-    requires room { length whole.old ≡ header.now.record_bytes }
+    requires fits { length whole.old ≡ header.now.record_bytes }
     ensures { ReadsInput
         (ValueOrFault (λ before rest there. MatchBool there
         (Consumes before rest whole.new) (IsEndOfRecords header.now progress before rest))
@@ -137,8 +137,8 @@ fn read_record<R: Input>(
 ) -> Result<Option<Record>, FragmentFault>
     requires may_come { progress.given < most_records header.now.count }
     requires countable { progress.given < 2 ^ 32 - 1 }
-    requires room { FitOneRecord header.now buffers.old }
-    ensures room { FitOneRecord header.now buffers.new }
+    requires fits { FitOneRecord header.now buffers.old }
+    ensures fits { FitOneRecord header.now buffers.new }
     ensures read { ReadsInput (IsNextResult header.now progress)
         (input_state R.Input input.old) (input_state R.Input input.new) result }
 {
@@ -189,8 +189,8 @@ pub(crate) fn record_or_end<R: Input>(
     buffers: &mut Buffers,
 ) -> Result<Option<Record>, FragmentFault>
     requires within { progress.given ≤ most_records header.now.count }
-    requires room { FitOneRecord header.now buffers.old }
-    ensures room { FitOneRecord header.now buffers.new }
+    requires fits { FitOneRecord header.now buffers.old }
+    ensures fits { FitOneRecord header.now buffers.new }
     ensures read { ReadsInput (IsNextResult header.now progress)
         (input_state R.Input input.old) (input_state R.Input input.new) result }
 {

@@ -86,7 +86,7 @@ pub fn records_so_far()
     ensures begins { (input one two : Option (List ℕ)) (l : Layout) (records : List DataRecord)
         (p : Progress) → ReadsHeader input one l → HasReadRecords l one two records p →
         FirstMayStart l.key records }
-    ensures front { (bytes : List ℕ) (one two : Option (List ℕ)) (l : Layout)
+    ensures prefix { (bytes : List ℕ) (one two : Option (List ℕ)) (l : Layout)
         (records : List DataRecord) (p : Progress)
         (key : Key) (spelled : List DataRecord) →
         ReadsHeader (Some bytes) one l → HasReadRecords l one two records p →

@@ -26,7 +26,7 @@ pub struct OpenFragment {
     header: Header,
     buffers: Buffers,
     progress: Progress,
-    ghost room: { FitOneRecord header buffers },
+    ghost fits: { FitOneRecord header buffers },
     ghost within: { progress.given ≤ most_records header.count },
 }
 

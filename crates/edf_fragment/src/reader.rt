@@ -35,7 +35,7 @@ impl<'a, R: Input> FragmentReader<'a, R> {
     /// Joins a fragment with the input that it was read from so far.
     pub fn of(input: &'a mut R, fragment: OpenFragment) -> FragmentReader<'a, R>
         ensures same_reference { result.input.ghost_name ≡ input.entry.ghost_name }
-        ensures left { R.remaining result.input.now ≡ R.remaining input.old }
+        ensures remaining { R.remaining result.input.now ≡ R.remaining input.old }
         ensures counted { R.failures result.input.now ≡ R.failures input.old }
         ensures fragment { result.fragment ≡ fragment }
     {

@@ -89,7 +89,7 @@ impl Record {
     /// Returns the start: the onset of the time-keeping annotation.
     pub fn start(&self) -> Instant
         ensures value { result ≡ self.now.start }
-        ensures kept { IsValidRecord self.now }
+        ensures valid { IsValidRecord self.now }
     {
         self.start
     }
@@ -98,7 +98,7 @@ impl Record {
     pub fn samples(&self) -> &[u8]
         ensures value { result.now ≡ self.now.samples }
         ensures limit { length result.now ≤ MOST_BLOCK_BYTES }
-        ensures kept { IsValidRecord self.now }
+        ensures valid { IsValidRecord self.now }
     {
         self.samples.as_slice()
     }
@@ -107,7 +107,7 @@ impl Record {
     pub fn notes(&self) -> &[Note]
         ensures value { result.now ≡ self.now.annotations }
         ensures limits { IsWithinLimits result.now }
-        ensures kept { IsValidRecord self.now }
+        ensures valid { IsValidRecord self.now }
     {
         self.notes.as_slice()
     }

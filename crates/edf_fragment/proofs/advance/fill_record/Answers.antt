@@ -37,7 +37,7 @@ returns-else-at-eq0 g c =
         may_come = c.requires.may_come;
         read = cut.1;
         there = there;
-        cut = omega (arith, cut.0, len, c.requires.room);
+        cut = omega (arith, cut.0, len, c.requires.fits);
         end = cut.2;
       };
       counted = search rules;

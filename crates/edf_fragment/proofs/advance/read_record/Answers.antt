@@ -8,7 +8,7 @@ use Rattle.edf_fragment.proofs.advance.read_record.Goals as goal
 pub read_blocks-requires-clause-some : goal.read_blocks-requires-clause-some
 read_blocks-requires-clause-some g c =
     sizes-some c.args.header.now c.as_slice-2.result.now c.sample_bytes.ensures.layout
-    (c.as_slice-2.ensures.value ∙ c.requires.room.sizes)
+    (c.as_slice-2.ensures.value ∙ c.requires.fits.sizes)
 
 pub within_limits-requires : goal.within_limits-requires
 within_limits-requires g c =
@@ -33,10 +33,10 @@ returns-in-Ok-read_blocks-clause-read g c =
     let cut = was_cut l from left rest c.in_ok-fill_record.field-0 whole filled
     c.cut_record.new.samples c.as_slice-joined.result.now c.as_slice-2.result.now
     c.sample_bytes.ensures.layout c.requires.may_come c.in_ok-fill_record.ensures.step
-    c.if-not-branch.false (omega (arith, c.requires.room.whole))
+    c.if-not-branch.false (omega (arith, c.requires.fits.whole))
     (c.as_slice.ensures.value ∙ take_at filled _ _ (omega arith)) c.cut_record.ensures.samples
     (c.as_slice-joined.ensures.value ∙ take_at c.cut_record.new.joined _ _ (omega arith)
-    ∙ c.cut_record.ensures.joined) (c.as_slice-2.ensures.value ∙ c.requires.room.sizes) in
+    ∙ c.cut_record.ensures.joined) (c.as_slice-2.ensures.value ∙ c.requires.fits.sizes) in
     record {
       step = given_record l from left rest whole c.cut_record.new.samples _ c.start.result
           c.within_limits.result _ cut c.start.ensures c.in-Ok-read_blocks.ensures
@@ -56,10 +56,10 @@ returns-in-Err-clause-read g c =
     let cut = was_cut l from left rest c.in_ok-fill_record.field-0 whole filled
     c.cut_record.new.samples c.as_slice-joined.result.now c.as_slice-2.result.now
     c.sample_bytes.ensures.layout c.requires.may_come c.in_ok-fill_record.ensures.step
-    c.if-not-branch.false (omega (arith, c.requires.room.whole))
+    c.if-not-branch.false (omega (arith, c.requires.fits.whole))
     (c.as_slice.ensures.value ∙ take_at filled _ _ (omega arith)) c.cut_record.ensures.samples
     (c.as_slice-joined.ensures.value ∙ take_at c.cut_record.new.joined _ _ (omega arith)
-    ∙ c.cut_record.ensures.joined) (c.as_slice-2.ensures.value ∙ c.requires.room.sizes) in
+    ∙ c.cut_record.ensures.joined) (c.as_slice-2.ensures.value ∙ c.requires.fits.sizes) in
     record {
       step = told_cut l from left rest whole c.cut_record.new.samples _ c.start.result
           (from.given + 1) c.in-Err.fault c.block_refusal.result cut c.start.ensures refl

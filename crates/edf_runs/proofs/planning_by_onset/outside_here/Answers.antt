@@ -23,5 +23,5 @@ returns-clause-few c =
       arith,
       returns-clause-count c,
       count_by-le-length p r.annotations,
-      c.notes.ensures.kept.size.annotations.count,
+      c.notes.ensures.valid.size.annotations.count,
     )

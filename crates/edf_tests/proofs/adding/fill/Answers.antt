@@ -37,7 +37,7 @@ add-requires-clause-spare g c =
     let few : c.in_ok-before.before < cap = omega (arith, c.if-before-cap.false, c.requires.cap) in
     let empty : length records ≡ 0 = search rules in
     let none : records ≡ [] = nil_from_length records empty in
-    let kept = c.start-start.ensures.kept in
+    let kept = c.start-start.ensures.valid in
     subst (λ n. MayAddIn n d id r) (sym cap_d)
     (may_take cap a b d (λ clean. omega (arith, c.count.ensures.leaves.stays.crash.clean, clean))
     (λ clean. omega (arith, c.near.ensures.leaves.stays.crash.clean, clean)) oa.running ab bd id k r
