@@ -11,8 +11,7 @@ use Rattle.edf_cli.proofs.Puts.{grown, gets-after, front-after}
 
 pub four-parts : (a b c d rest : List ℕ) → (a ++ (b ++ (c ++ d))) ++ rest ≡ a
     ++ (b ++ (c ++ (d ++ rest)))
-four-parts a b c d rest =
-    append_assoc a (b ++ (c ++ d)) rest
+four-parts a b c d rest = append_assoc a (b ++ (c ++ d)) rest
     ∙ ap (λ (t : List ℕ). a ++ t) (append_assoc b (c ++ d) rest
     ∙ ap (λ (t : List ℕ). b ++ t) (append_assoc c d rest))
 
@@ -23,8 +22,7 @@ lines-more f xs i d lt = ap (flat_map f) (take_more xs i d lt)
 
 pub lines-split : {X : Type 0} (f : X → List ℕ) (xs : List X) (i : ℕ) (d : X) → i < length xs
     → flat_map f xs ≡ flat_map f (take i xs) ++ (f (get_or xs i d) ++ flat_map f (drop (i + 1) xs))
-lines-split f xs i d lt =
-    ap (flat_map f) (sym (take-append-drop (i + 1) xs))
+lines-split f xs i d lt = ap (flat_map f) (sym (take-append-drop (i + 1) xs))
     ∙ flat_map-append f (take (i + 1) xs) (drop (i + 1) xs)
     ∙ ap (λ (l : List ℕ). l ++ flat_map f (drop (i + 1) xs)) (lines-more f xs i d lt)
     ∙ append_assoc (flat_map f (take i xs)) (f (get_or xs i d)) (flat_map f (drop (i + 1) xs))

@@ -23,8 +23,7 @@ grown before failed_before after failed_after =
       before = before;
       failed_before = failed_before;
       after = after;
-      failed_after =
-          failed_after;
+      failed_after = failed_after;
     }
 
 abbrev pub IsSentBy : Option (List ℕ) → ℕ → Option (List ℕ) → ℕ → List ℕ → Bool → Type 0
@@ -131,8 +130,7 @@ module _ (a : Option (List ℕ)) (old : ℕ) (b : Option (List ℕ)) (mid : ℕ)
       Gets (grown b mid c new) more → Gets (grown a old c new) (done ++ more)
   gets-after done more first then = (
     Appends-trans a b c done more first.0 then.0,
-    then.1
-        ∙ first.1,
+    then.1 ∙ first.1,
   )
 
   pub gets-no_more : (done : List ℕ) → Gets (grown a old b mid) done → Gets (grown b mid c new) [] →
