@@ -45,22 +45,21 @@ own-one : {S : Type 0} (g : Ghosts S) (mid new : StoreModel S) →
     (HasCleanDisk (at g new) → HasCleanDisk (at g mid)) → (answer : Answer) →
     StoreRefusalIsPossible g mid answer → StoreRefusalIsPossible g new answer
 own-one g mid new was (Ok receipt) own = tt
-own-one g mid new was (Err refused) own = of (cause refused) own
-  where
-    by : (fault : StoreFault) → StoreMayRefuse g (Unit {0}) mid fault →
-        StoreMayRefuse g (Unit {0}) new fault
-    by NoMemory own = own
-    by (Store (Some error)) own = tt
-    by (Store None) own = tt
-    by Foreign own = λ clean. own (was clean)
-    by FailedBefore own = own
+own-one g mid new was (Err refused) own = of (cause refused) own where
+  by : (fault : StoreFault) → StoreMayRefuse g (Unit {0}) mid fault →
+      StoreMayRefuse g (Unit {0}) new fault
+  by NoMemory own = own
+  by (Store (Some error)) own = tt
+  by (Store None) own = tt
+  by Foreign own = λ clean. own (was clean)
+  by FailedBefore own = own
 
-    of : (c : Cause) → StoreCauseIsPossible g mid c → StoreCauseIsPossible g new c
-    of (OfForm fault) own = tt
-    of (OfConflict conflict) own = tt
-    of OfRead own = tt
-    of OfMemory own = tt
-    of (OfStore fault) own = by fault own
+  of : (c : Cause) → StoreCauseIsPossible g mid c → StoreCauseIsPossible g new c
+  of (OfForm fault) own = tt
+  of (OfConflict conflict) own = tt
+  of OfRead own = tt
+  of OfMemory own = tt
+  of (OfStore fault) own = by fault own
 
 pub own-later : {S : Type 0} (g : Ghosts S) (mid new : StoreModel S) →
     (HasCleanDisk (at g new) → HasCleanDisk (at g mid)) → (answers : List Answer) →
@@ -166,10 +165,8 @@ module _ {S : Type 0} (g : Ghosts S) where
       holdings = λ h held.
           let step = m.holdings (after old.cap h (submissions_in all.turns))
           (all.holdings h held) in
-          subst (Holds g new) (ap (λ (n : ℕ).
-          after n (after old.cap h (submissions_in all.turns))
-          (some_values (t.submission ∷ []))) capped
-          ∙ after-next old.cap h all.turns t) step;
+          subst (Holds g new) (ap (λ (n : ℕ). after n (after old.cap h (submissions_in all.turns))
+          (some_values (t.submission ∷ []))) capped ∙ after-next old.cap h all.turns t) step;
       others = others_committed_then (at g old) (at g mid) (at g new) all.others m.others;
       crash = survives_then (at g old) (at g mid) (at g new) _ _ _
           (λ clean rows left h held. left-more old.cap h all.turns t rows (left h held))
@@ -268,14 +265,13 @@ IsKnown from told = (bytes : List ℕ) × (from.remaining ≡ Some bytes) × Par
 
 same_told : (t : Turn) (x : Parsed) (y : Reply) → IsConsistentTurn t → IsKnown t.from x →
     reply_of t.answer ≡ Some y → t.submission ≡ Some x
-same_told t x y is (bytes, known, tells) given = go t.submission refl
-  where
-    go : (o : Option Parsed) → t.submission ≡ o → t.submission ≡ Some x
-    go (Some told) e =
-        let heard : ReadsAs t.from t.to told × IsPossibleReply told y = rw (e, given) at is in
-        e ∙ ap (λ (z : Parsed). Some z) (one-parse bytes told x
-        (heard_tells t.from t.to bytes told known heard.0) tells)
-    go None e = absurd (rw (e, given) at is)
+same_told t x y is (bytes, known, tells) given = go t.submission refl where
+  go : (o : Option Parsed) → t.submission ≡ o → t.submission ≡ Some x
+  go (Some told) e =
+      let heard : ReadsAs t.from t.to told × IsPossibleReply told y = rw (e, given) at is in
+      e ∙ ap (λ (z : Parsed). Some z) (one-parse bytes told x
+      (heard_tells t.from t.to bytes told known heard.0) tells)
+  go None e = absurd (rw (e, given) at is)
 
 all_told : (turns : List Turn) (tolds : List Parsed) (given : List Reply) →
     AllByRecursion IsConsistentTurn turns → AllZip IsKnown (map (λ (t : Turn). t.from) turns) tolds

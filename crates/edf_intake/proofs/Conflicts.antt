@@ -126,15 +126,13 @@ accepted_here cap spare key h records findings k all low =
     reply_counted cap key h records (with_records key records h) findings.new findings.known
     (taken_of cap key h records findings k)
     ∙ accepted-by-counts cap key (length (h key)) findings.new (findings.known + findings.new)
-    (inr (omega (arith, low, all)))
-    ∙ ap (λ (n : ℕ). Accepted key findings.new n) known
+    (inr (omega (arith, low, all))) ∙ ap (λ (n : ℕ). Accepted key findings.new n) known
 
 pub left_here : (cap spare : ℕ) (key : Key) (h : Holdings) (records : List DataRecord)
     (findings : Findings) → IsWellFormed (Fragment key records) → IsGood cap h →
     CountsWithoutClash key h records findings
     → length (h key) + spare ≤ cap → findings.new ≤ spare →
     with_records key records h ≡ after_one cap h (Fragment key records)
-left_here cap spare key h records findings sound good k all low =
-    after_accepted cap key h records
+left_here cap spare key h records findings sound good k all low = after_accepted cap key h records
     (with_records key records h) findings.new findings.known sound good
     (taken_of cap key h records findings k) (omega (arith, low, all))

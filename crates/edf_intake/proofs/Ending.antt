@@ -113,8 +113,7 @@ module _ {S : Type 0} (g : Ghosts S) (old : StoreModel S) (first last : StoreTx 
         Sees g last.store.now (after_one first.store.now.cap h told)) →
         Survives (at g last.store.now) (at g new) (IsSeen g last.store.now) →
         Survives (at g old) (at g new) (RemainAfterCrash g old new told)
-    crash_left told is survives =
-        quiet_then (at g old) (at g last.store.now) (at g new)
+    crash_left told is survives = quiet_then (at g old) (at g last.store.now) (at g new)
         (RemainAfterCrash g old new told) stays.crash
         (survives_weaker (at g last.store.now) (at g new) (IsSeen g last.store.now)
         (RemainAfterCrash g old new told)
@@ -180,8 +179,7 @@ module _ {S : Type 0} (g : Ghosts S) (old : StoreModel S) (first last : StoreTx 
           read = r.read;
           reply_is = λ clean h held.
               replied (Fragment r.key r.records) answer r.reply_is (was clean) h held;
-          stays =
-              all_stays;
+          stays = all_stays;
         },
       )
 
@@ -190,8 +188,7 @@ module _ {S : Type 0} (g : Ghosts S) (old : StoreModel S) (first last : StoreTx 
           record {
             read = r;
             reply_is = λ clean h held. form_reply old.cap h fault;
-            stays =
-                all_stays;
+            stays = all_stays;
           }
       refused (OfConflict conflict) r = refuses _ r
       refused OfRead r = record { read = r; stays = all_stays }
@@ -204,8 +201,7 @@ module _ {S : Type 0} (g : Ghosts S) (old : StoreModel S) (first last : StoreTx 
 
       front_of : (c : Cause) → StopsFor g first last from to c → ReadsUntilInterrupted from to
       front_of (OfForm fault) r = inr (inr (inr (inr (Fault fault, r))))
-      front_of (OfConflict conflict) r =
-          inr (inr (inr (inr (Fragment r.key r.records, r.read))))
+      front_of (OfConflict conflict) r = inr (inr (inr (inr (Fragment r.key r.records, r.read))))
       front_of OfRead r = inr (inr (inr (inl r)))
       front_of OfMemory r = inr (inr (inl r))
       front_of (OfStore fault) r = absurd r

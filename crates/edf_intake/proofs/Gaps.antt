@@ -53,8 +53,7 @@ next_gap start records (Some u) (later, there, all) =
 inserted_all : (P : DataRecord → Type 0) (r : DataRecord) (xs : List DataRecord) → P r → All P xs →
     All P (insert r xs)
 inserted_all P r [] it all = All-cons P r [] it all
-inserted_all P r (x ∷ xs) it all =
-    cond_both (same_record x r) (x ∷ xs)
+inserted_all P r (x ∷ xs) it all = cond_both (same_record x r) (x ∷ xs)
     (cond (nat_lt r.start x.start) (r ∷ x ∷ xs) (x ∷ insert r xs)) (λ (l : List DataRecord).
     All P l)
     (λ _. all)

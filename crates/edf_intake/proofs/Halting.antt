@@ -62,8 +62,7 @@ reads_whole from to l records r n = record {
   bytes = r.bytes;
   read = r.read;
   end = r.end;
-  is_file =
-      r.is_file;
+  is_file = r.is_file;
   counted = n;
 }
 

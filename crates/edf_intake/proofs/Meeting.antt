@@ -44,8 +44,7 @@ pub record MetSoFar {S : Type 0} (g : Ghosts S) (first now : StoreModel S) (l : 
 -- less room than there is makes no difference, if it is more than was needed so far
 counts_wider : (spare full asked : ℕ) (key : Key) (r : DataRecord) (near : List DataRecord)
     (h : Holdings) (from : Findings) (t : Holdings) (to : Findings) (verdict : Verdict) →
-    spare ≤ full →
-    (spare ≡ full) ⊎ (asked ≤ spare) → from.new < asked
+    spare ≤ full → (spare ≡ full) ⊎ (asked ≤ spare) → from.new < asked
     → TakesVerdict spare key r near h from t to verdict →
     TakesVerdict full key r near h from t to verdict
 counts_wider spare full asked key r near h from t to (Clashes stored) low enough below c = c
@@ -53,8 +52,7 @@ counts_wider spare full asked key r near h from t to Known low enough below c = 
 counts_wider spare full asked key r near h from t to New low enough below (added, past, is) = (
   (λ l. added (elim enough [
     | inl same ↦ omega (arith, l, same)
-    | inr many ↦
-        omega (arith, below, many)
+    | inr many ↦ omega (arith, below, many)
   ])),
   (λ l. past (omega (arith, low, l))),
   is,
@@ -68,8 +66,7 @@ next_wider : (spare full asked : ℕ) (key : Key) (r : DataRecord) (h : Holdings
 next_wider spare full asked key r h new known None t to low enough below (verdict, is, counts) = (
   verdict,
   is,
-  counts_wider spare full asked key r
-      (overlapping (duration_of key.duration) r.start (h key)) h
+  counts_wider spare full asked key r (overlapping (duration_of key.duration) r.start (h key)) h
       (record { new = new; known = known; clash = None }) t to verdict low enough below counts,
 )
 next_wider spare full asked key r h new known (Some s) t to low enough below same = same
@@ -77,8 +74,7 @@ next_wider spare full asked key r h new known (Some s) t to low enough below sam
 -- the same for all the room that there is, where what was found is enough
 pub next_in_all : (cap held asked spare : ℕ) (key : Key) (r : DataRecord) (h : Holdings)
     (from : Findings) (t : Holdings) (to : Findings) → IsSpare cap held asked spare →
-    from.new < asked →
-    TakesNext spare key r h from t to → TakesNext (cap - held) key r h from t to
+    from.new < asked → TakesNext spare key r h from t to → TakesNext (cap - held) key r h from t to
 next_in_all cap held asked spare key r h from t to it below next =
     next_wider spare (cap - held) asked key r h from.new from.known from.clash t to
     (omega (arith, it.fits))
@@ -121,8 +117,7 @@ module _ (cap spare : ℕ) (key : Key) (h : Holdings) (is_key : IsKey key)
       Met cap key h (rs ++ r ∷ []) t' to
   next_of new known None t' to k (verdict, is, counts) =
       counted_next new known t' to verdict k is counts
-  next_of new known (Some s) t' to k same =
-      subst (Met cap key h (rs ++ r ∷ []) t') (sym same)
+  next_of new known (Some s) t' to k same = subst (Met cap key h (rs ++ r ∷ []) t') (sym same)
       (still_stopped key h rs r (s.start, s.stored) k)
 
   pub met_next : (from : Findings) (t' : Holdings) (to : Findings) → Met cap key h rs t from →

@@ -32,7 +32,6 @@ none_left r (n ∷ ns) zero l = absurd (omega arith)
 none_left r (n ∷ ns) (suc i) l = none_left r ns i (omega arith)
 
 pub held_of_near : (r : DataRecord) (ns : List DataRecord) → 0 < length ns →
-    first_other r ns ≡ None →
-    contains_record ns r ≡ true
+    first_other r ns ≡ None → contains_record ns r ≡ true
 held_of_near r [] l o = absurd (omega arith)
 held_of_near r (n ∷ ns) l o = held_where_near r n ns o

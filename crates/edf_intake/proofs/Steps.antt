@@ -64,8 +64,7 @@ module _ {S : Type 0} (g : Ghosts S) (first : StoreModel S) (l : Layout)
 
   -- while no clash was met and there is room, the recording has fewer than the cap
   pub few_seen : (now : StoreModel S) (rest : Option (List ℕ)) (p : Progress)
-      (findings : Findings) →
-      MetSoFar g first now l left rest p findings → SeesHoldings g first
+      (findings : Findings) → MetSoFar g first now l left rest p findings → SeesHoldings g first
       → (HasCleanDisk (at g now) → HasCleanDisk (at g first)) → now.cap ≡ first.cap →
       HasCleanDisk (at g now) → findings.clash ≡ None → findings.new < spare
       → (h : Holdings) → Sees g now h → length (h l.key) < now.cap
@@ -89,8 +88,7 @@ module _ {S : Type 0} (g : Ghosts S) (first : StoreModel S) (l : Layout)
   -- before it was put in
   pub first_seen : (now : StoreModel S) (mid rest : Option (List ℕ)) (p q : Progress)
       (findings : Findings) (r : DataRecord) → MetSoFar g first now l left mid p findings →
-      p.state ≡ Reading
-      → IsNextAnswer l p q mid rest (Ok (Some r)) → SeesHoldings g first →
+      p.state ≡ Reading → IsNextAnswer l p q mid rest (Ok (Some r)) → SeesHoldings g first →
       (HasCleanDisk (at g now) → HasCleanDisk (at g first)) → HasCleanDisk (at g now) →
       findings.clash ≡ None → findings.new < spare
       → (h : Holdings) → Sees g now h → h l.key ≡ [] → MayStart l.key r.start
@@ -118,12 +116,10 @@ module _ {S : Type 0} (g : Ghosts S) (first : StoreModel S) (l : Layout)
   pub one_more_met : (now next : StoreModel S) (mid rest : Option (List ℕ)) (p q : Progress)
       (from to : Findings) (r : DataRecord) → MetSoFar g first now l left mid p from
       → p.state ≡ Reading → IsNextAnswer l p q mid rest (Ok (Some r)) → q.given ≡ p.given + 1 →
-      p.given < most_records l.count
-      → (HasCleanDisk (at g next) → HasCleanDisk (at g now)) →
+      p.given < most_records l.count → (HasCleanDisk (at g next) → HasCleanDisk (at g now)) →
       (HasCleanDisk (at g now) → HasCleanDisk (at g first))
       → (HasCleanDisk (at g next) → (h : Holdings) → Sees g now h → (t : Holdings) × Sees g next t
-      × TakesNext spare l.key r h from t to)
-      → to.new + to.known ≤ from.new + from.known + 1
+      × TakesNext spare l.key r h from t to) → to.new + to.known ≤ from.new + from.known + 1
       → MetSoFar g first next l left rest q to
   one_more_met now next mid rest p q from to r w going answer given may_come was first_was step
       counted =
@@ -162,8 +158,7 @@ module _ {S : Type 0} (g : Ghosts S) (first : StoreModel S) (l : Layout)
       (findings : Findings) → (w : MetSoFar g first now l left mid p findings) →
       p.state ≡ Reading → IsNextAnswer l p q mid rest (Ok None) →
       (HasCleanDisk (at g now) → HasCleanDisk (at g first)) →
-      ((other : Option (List ℕ)) → ReadsHeader other left l →
-      ReadsFragment other rest l w.records)
+      ((other : Option (List ℕ)) → ReadsHeader other left l → ReadsFragment other rest l w.records)
       × (HasCleanDisk (at g now) → (h : Holdings) → Sees g first h →
       AreFindings l.key h w.records findings
       × (MayBeAccepted spare findings → Sees g now (with_records l.key w.records h)))

@@ -36,13 +36,12 @@ none_of (Some x) e = cc
 -- after a clash nothing is counted
 pub still_next : (spare : ℕ) (key : Key) (r : DataRecord) (h : Holdings) (from : Findings) →
     is_some from.clash ≡ true → TakesNext spare key r h from h from
-still_next spare key r h from some = go from.new from.known from.clash some
-  where
-    go : (new known : ℕ) (clash : Option Starts) → is_some clash ≡ true →
-        TakesNext spare key r h (record { new = new; known = known; clash = clash }) h
-        (record { new = new; known = known; clash = clash })
-    go new known None e = cc
-    go new known (Some starts) e = refl
+still_next spare key r h from some = go from.new from.known from.clash some where
+  go : (new known : ℕ) (clash : Option Starts) → is_some clash ≡ true →
+      TakesNext spare key r h (record { new = new; known = known; clash = clash }) h
+      (record { new = new; known = known; clash = clash })
+  go new known None e = cc
+  go new known (Some starts) e = refl
 
 -- no recording is made by two calls
 pub no_more : {S : Type 0} (g : Ghosts S) (a b c : StoreModel S) → KeepsHoldings g b c →
@@ -70,8 +69,7 @@ pub sees_on : {S : Type 0} (g : Ghosts S) (s : StoreModel S) → SeesHoldings g 
 sees_on g s running = record {
   running = running;
   holdings = λ h seen. seen;
-  ids =
-      λ id k there. there;
+  ids = λ id k there. there;
 }
 
 pub sees_then : {S : Type 0} (g : Ghosts S) (a b c : StoreModel S) → c.cap ≡ b.cap →
@@ -142,13 +140,11 @@ module _ {S : Type 0} (g : Ghosts S) (id : ℤ) (key : Key) (r : DataRecord) (sp
 
     seen_first : HasCleanDisk (at g u.store.now) → (h : Holdings) → Sees g u.store.now h →
         Sees g s.store.now h
-    seen_first =
-        seen_before g s.store.now u.store.now read.stays running.running.sees read.same
+    seen_first = seen_before g s.store.now u.store.now read.stays running.running.sees read.same
 
     verdict_is : (verdict : Verdict) → found.verdict ≡ verdict → HasCleanDisk (at g u.store.now) →
         IsVerdictIn g s.store.now key r verdict
-    verdict_is verdict same clean =
-        subst (IsVerdictIn g s.store.now key r) same (is.verdict clean)
+    verdict_is verdict same clean = subst (IsVerdictIn g s.store.now key r) same (is.verdict clean)
 
     -- a gap stays one where nothing was added
     gap_stays : IsGapInTransaction g u key found.gap
@@ -219,8 +215,7 @@ module _ {S : Type 0} (g : Ghosts S) (id : ℤ) (key : Key) (r : DataRecord) (sp
         counts = λ clean h seen. (
           h,
           seen_still h seen,
-          verdict_next spare key r from.findings _ New none h h
-              (verdict_is New same clean h seen)
+          verdict_next spare key r from.findings _ New none h h (verdict_is New same clean h seen)
               ((λ low. absurd (omega (arith, low, full))), (λ _. refl), refl),
         );
         counted = omega arith;

@@ -189,8 +189,7 @@ module _ {S : Type 0} (g : Ghosts S) (old new : StoreModel S) (from to : InputSt
   form_turn : (fault : FragmentFault) → HasTurn (refusal.Form fault)
   form_turn fault r = (
     Some (Fault fault),
-    refused_turn (Err (refusal.Form fault)) (Fault fault) (Form fault) tt
-        refl refl (λ yes. yes) r,
+    refused_turn (Err (refusal.Form fault)) (Fault fault) (Form fault) tt refl refl (λ yes. yes) r,
   )
 
   conflict_turn : (refused : Refusal) (conflict : Conflict) → cause refused ≡ OfConflict conflict →
@@ -206,8 +205,7 @@ module _ {S : Type 0} (g : Ghosts S) (old new : StoreModel S) (from to : InputSt
   read_turn : HasTurn refusal.Read
   read_turn f = (
     None,
-    silent_turn (Err refusal.Read) tt refl (inl f.read) (inr (inr (inr (inl f.read))))
-        f.stays,
+    silent_turn (Err refusal.Read) tt refl (inl f.read) (inr (inr (inr (inl f.read)))) f.stays,
   )
 
   pub turn_of : (answer : Answer) → IsSubmitAnswer g old new from to answer → (told : Option Parsed)

@@ -42,8 +42,7 @@ none_there xs some e = absurd (omega (arith, some, ap (λ (l : List DataRecord).
 pub still_whole : {S : Type 0} (g : Ghosts S) (first made last : StoreModel S) (key : Key)
     (records : List DataRecord) → 1 ≤ length records
     → EachHasRecord g first → SeesHoldings g first → AddsOnlyRecording g key first made →
-    AddsNoRecording g made last
-    → (HasCleanDisk (at g last) → HasCleanDisk (at g made)) →
+    AddsNoRecording g made last → (HasCleanDisk (at g last) → HasCleanDisk (at g made)) →
     (HasCleanDisk (at g made) → HasCleanDisk (at g first))
     → (HasCleanDisk (at g last) → (h : Holdings) → Sees g first h →
     Sees g last (with_records key records h)) → EachHasRecord g last
@@ -125,8 +124,7 @@ module _ {S : Type 0} (g : Ghosts S) (first made last : StoreTx S) (from mid to 
   put_seen may clean h seen = (taken.findings_are clean h (there.same h seen)).1 may
 
   pub is_accepted : MayBeAccepted d.spare findings → EachHasRecord g first.store.now →
-      SeesHoldings g first.store.now →
-      IsAcceptedInTransaction g first last from to
+      SeesHoldings g first.store.now → IsAcceptedInTransaction g first last from to
       (record { identity = l.key; new = findings.new; known = findings.known })
   is_accepted may each running = record {
     records = taken.records;
@@ -153,8 +151,7 @@ module _ {S : Type 0} (g : Ghosts S) (first made last : StoreTx S) (from mid to 
   -- and where it is refused
   pub is_refused : (answer : Refusal) → IsConflict answer
       → ((h : Holdings) → IsSpare first.store.now.cap (length (h l.key)) (length taken.records)
-      d.spare →
-      AreFindings l.key h taken.records findings →
+      d.spare → AreFindings l.key h taken.records findings →
       reply_of (Err answer) ≡ Some (reply first.store.now.cap h (Fragment l.key taken.records)))
       → StopsWith g first last from to (Input answer)
   is_refused answer conflict told =

@@ -84,8 +84,7 @@ returns-in_err-add-in-New-clause-leaves g c =
       running = tt;
     })
 
-pub returns-after-findings-spare-clause-leaves :
-    goal.returns-after-findings-spare-clause-leaves
+pub returns-after-findings-spare-clause-leaves : goal.returns-after-findings-spare-clause-leaves
 returns-after-findings-spare-clause-leaves g c =
     let first = c.args.transaction.now.store.now in
     let mid = c.find_verdict.new.transaction.store.now in
@@ -105,8 +104,7 @@ returns-after-findings-spare-clause-leaves g c =
       })
     ]
 
-pub returns-after-findings-spare-clause-taken :
-    goal.returns-after-findings-spare-clause-taken
+pub returns-after-findings-spare-clause-taken : goal.returns-after-findings-spare-clause-taken
 returns-after-findings-spare-clause-taken g c =
     let id = c.args.destination.id.row in
     let key = c.args.identity.now in

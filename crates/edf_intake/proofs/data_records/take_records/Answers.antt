@@ -66,8 +66,7 @@ take_record-requires-clause-next g c =
     let r = c.in-Ok-Some.data_record in
     let head = c.requires.header.header in
     let same : c.identity-identity.result.now ≡ l.key = c.identity-identity.ensures
-    ∙ ap (λ (x : Layout). x.key) (c.header.ensures
-    ∙ (c.in-Ok-Some.ensures.header ∙ inv.header)) in
+    ∙ ap (λ (x : Layout). x.key) (c.header.ensures ∙ (c.in-Ok-Some.ensures.header ∙ inv.header)) in
     let answer = subst (λ (o : Option DataRecord). IsNextAnswer l from to mid rest (Ok o))
     c.in-Ok-Some.field-0-is
     (subst (λ (x : Layout). IsNextAnswer x from to mid rest (Ok c.in-Ok-Some.field-0)) inv.header
@@ -150,8 +149,7 @@ records-preserved g c =
     let id = c.args.destination.id.row in
     let spare = c.args.destination.spare in
     let same : c.identity-identity.result.now ≡ l.key = c.identity-identity.ensures
-    ∙ ap (λ (x : Layout). x.key) (c.header.ensures
-    ∙ (c.in-Ok-Some.ensures.header ∙ inv.header)) in
+    ∙ ap (λ (x : Layout). x.key) (c.header.ensures ∙ (c.in-Ok-Some.ensures.header ∙ inv.header)) in
     let taken = subst (λ (k : Key). IsRecordTaken g.S.Store c.records.transaction
     c.take_record.new.transaction k r id spare c.records.course c.in-Ok.next) same
     c.in-Ok.ensures.taken in

@@ -12,8 +12,7 @@ abbrev pub invariant-records : goal.invariant-records
 invariant-records g l = record {
   same_reference : l.transaction.store.ghost_name ≡ l.initial.transaction.store.ghost_name;
   stays : KeepsHoldings g.S.Store l.initial.transaction.store.now l.transaction.store.now;
-  running : IsRunningFor g.S.Store l.transaction l.destination.id.row
-      l.initial.fragment.header.key;
+  running : IsRunningFor g.S.Store l.transaction l.destination.id.row l.initial.fragment.header.key;
   only : AddsNoRecording g.S.Store l.initial.transaction.store.now l.transaction.store.now;
   header : l.fragment.header ≡ l.initial.fragment.header;
   reading : l.fragment.progress.state ≡ Reading;

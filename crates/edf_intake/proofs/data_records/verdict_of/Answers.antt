@@ -16,14 +16,12 @@ returns-then-not-same c =
     )
 
 pub loop-stored-preserved : goal.loop-stored-preserved
-loop-stored-preserved c =
-    sym (same_here _ _ _ _ c.loop-stored-test.true c.stored-item.is
+loop-stored-preserved c = sym (same_here _ _ _ _ c.loop-stored-test.true c.stored-item.is
     (c.same.ensures.0 c.if-not-same.false)) ∙ c.loop-stored.invariant
 
 pub returns-else-is_empty : goal.returns-else-is_empty
 returns-else-is_empty c =
     let none : first_other c.args.data_record.now c.args.near.now
-    ≡ None = sym c.loop-stored.invariant
-    ∙ none_left _ _ _ c.loop-stored-test.false in
+    ≡ None = sym c.loop-stored.invariant ∙ none_left _ _ _ c.loop-stored-test.false in
     let some : 0 < length c.args.near.now = grind (arith, nat_tests) in
     (none, held_of_near _ _ some none)

@@ -226,8 +226,7 @@ returns-in_err-findings-clause-stopped g c =
     passed_on c.from_residual-in_err-findings.result stop
     (λ (r : Result Receipt Stop). IfErr r (StopsWith g.S.Store first last from to))
     c.from_residual-in_err-findings.ensures.1
-    (halted g.S.Store first last from to stop
-    (subst (λ (n : ℕ). HaltsReading g.S.Store last
+    (halted g.S.Store first last from to stop (subst (λ (n : ℕ). HaltsReading g.S.Store last
     (record { remaining = from.remaining; failed = n }) to stop)
     c.in_ok-fragment.ensures.counted
     (c.in_err-findings.ensures.halted from.remaining c.in_ok-fragment.ensures.step.0)))

@@ -55,8 +55,7 @@ returns-in_err-commit-in-Ok-clause-submitted g c =
     let answer = c.from_residual-in_err-commit-in-Ok.result in
     let cause = c.in_err-commit-in-Ok.ensures.why in
     subst (λ (s : StoreModel g.row.S.Denot). IsSubmitAnswer g.S.Store old s from to answer) same
-    (refused_on g.S.Store old new from to fault answer
-    c.from_residual-in_err-commit-in-Ok.ensures.1
+    (refused_on g.S.Store old new from to fault answer c.from_residual-in_err-commit-in-Ok.ensures.1
     (stops_at_commit g.S.Store old c.in_ok-transaction.transaction c.take_fragment.new.transaction
     from to c.in_ok-transaction.ensures.begun c.in-Ok.ensures.leaves.stays new c.in-Ok.receipt
     c.in-Ok.ensures.accepted fault c.in_err-commit-in-Ok.ensures.commits cause)
