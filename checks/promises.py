@@ -4,9 +4,9 @@
 
 `crate::function`, or `crate::Type::function`, is in that crate; and what brackets behind it name,
 in the same point of a list, are its clauses. A word, as `FilesHold`, is one of `specs/`, or a type
-that the sources know, and `IsRunDone.closed` a clause of a word. `some_name` and `Type::function` are in
-some crate, and a path names a file. Whether what the page says of them is so, it can't tell. With
---control each name has another letter in its turn: it must be missed then, and nothing else.
+that the sources know, and `IsRunDone.closed` a clause of a word. `some_name` and `Type::function`
+are in some crate, and a path names a file. Whether what the page says of them is so, it can't tell.
+With --control each name has another letter in its turn: it must be missed then, and nothing else.
 """
 import re
 from dataclasses import dataclass, field

@@ -18,7 +18,7 @@ pub record OpensPrefix (before after names : List (List ℕ)) : Type 0 where
   pub parts : names ≡ prefix ++ remaining
   pub opened : after ≡ before ++ prefix
 
--- all these names were opened, each once, in their order; or, where memory ran out, the first ones
+-- just these names were opened, each once, in their order; or, with status 3, the first of them
 abbrev pub HasOpened : List (List ℕ) → List (List ℕ) → List (List ℕ) → Status → Type 0
 HasOpened before after names status = (after ≡ before ++ names)
     ⊎ (OpensPrefix before after names × (status ≡ Trouble))

@@ -37,7 +37,7 @@ after_one cap h (Fragment key records) =
     cond (fits cap key records h) (with_records key records h) h
 after_one cap h (Fault fault) = h
 
--- each submission of a list is added to the holdings after those before it
+-- the holdings after a list: each submission is applied to those after the ones before it
 abbrev pub after : ℕ → Holdings → List Parsed → Holdings
 after cap h [] = h
 after cap h (submission ∷ submissions) = after cap (after_one cap h submission) submissions

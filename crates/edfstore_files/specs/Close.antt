@@ -120,8 +120,8 @@ module _ {D : Type 0} {g : Ghosts D} (r : ProgramRun g) (s : EndedRun D) where
         × IsSubmittedPrefix turns submissions × TreesHold r.cap rows (after r.cap h submissions)
 
   -- Or the store was refused. The fault has a cause; or it is E45, and the files held a database
-  -- that is the result of no submissions. There is no failure to close. The files hold what they
-  -- held, and their rows are as they were; missing tables of ours may have been made.
+  -- that is not the result of any submissions. There is no failure to close. The files hold what
+  -- they held, and their rows are as they were; missing tables of ours may have been made.
   pub record IsRefused : Type 0 where
     pub db : Database
     pub fault : StoreFault

@@ -27,7 +27,7 @@ use std::alloc::Global;
 /// Where the disk returns what was written (`ran`):
 /// - The files held no database, or the result of some submissions. Then the store held just that,
 ///   and the command was run over it. Or the store was refused, for a cause, or with E45 where the
-///   files held the result of no submissions.
+///   files held what is not the result of any submissions.
 /// - After any runs and sessions that follow one another it held the result of all that they
 ///   submitted, in order, of which the headline is true.
 /// - Once closed, the files hold what the store held in the end, also after a crash and without the
