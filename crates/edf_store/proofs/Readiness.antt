@@ -18,7 +18,7 @@ use Rattle.edf_tables.proofs.Commits.{commits_as, quiet_then}
 use Rattle.edf_tables.proofs.Keeping.{keeps_then}
 use Rattle.edf_rows.specs.Rows.{RepresentCommitted}
 use Rattle.edf_store.specs.Held.{StoreModel, AreHeld, IsSoundStore, KeepsHoldings}
-use Rattle.edf_store.specs.Inside.Settled.{IsSettled, IsFoundIn}
+use Rattle.edf_store.specs.Inside.Settled.{IsSettled, IsSelectedIn}
 use Rattle.sqlite_trees.specs.declared.store.Store.{Ghosts}
 use Rattle.sqlite.specs.Held.{Held, state}
 use Rattle.edf_tables.specs.Schema.{HasBoth}
@@ -98,12 +98,13 @@ still_settled cap old new same it = record {
 pub found_now : (cap : ℕ) (old new : State) (k : Key) (bytes : List ℕ) (id : Option ℤ)
     (h : Holdings) → bytes ≡ key_bytes k → IsKey k → IsUnchanged old new →
     IsIdIn (named bytes (old.now.trees 0)) id → RepresentCommitted cap new.now.trees h →
-    IsFoundIn new k h id
+    IsSelectedIn new k h id
 found_now cap old new k bytes id h is key same found_there kept =
     go id (subst (λ (d : Database). IsIdIn (named (key_bytes k) (d.trees 0)) id) (sym same.0.now_is)
     (subst (λ (l : List ℕ). IsIdIn (named l (old.now.trees 0)) id) is found_there))
   where
-    go : (id : Option ℤ) → IsIdIn (named (key_bytes k) (new.now.trees 0)) id → IsFoundIn new k h id
+    go : (id : Option ℤ) → IsIdIn (named (key_bytes k) (new.now.trees 0)) id →
+        IsSelectedIn new k h id
     go None none = kept.stand.others k (absent new.now.trees k none)
     go (Some id) one = found new.now.trees h id k kept.stand key one
 

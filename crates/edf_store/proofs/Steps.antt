@@ -33,8 +33,8 @@ use Rattle.edf_rows.proofs.Rows.{same-recordings}
 use Rattle.edf_store.specs.Held.{AreHeld, IsSoundStore}
 use Rattle.edf_store.specs.Transaction.{AreSeen, SeesSome, IsTransactionOf, HasRowId, StillSees}
 use Rattle.edf_store.specs.Transaction.{IsCountIn, AreNearIn, AddsNoRecordingIn}
-use Rattle.edf_store.specs.Transaction.{AddsOnlyRecordingIn, MayAddIn}
-use Rattle.edf_store.specs.Transaction.{IsAddedIn, IsFoundOrMadeIn, EachHasRecordIn, AreSeenRows}
+use Rattle.edf_store.specs.Transaction.{AddsOnlyRecordingIn, MayAddIn, IsAddedIn}
+use Rattle.edf_store.specs.Transaction.{IsSelectedOrInsertedIn, EachHasRecordIn, AreSeenRows}
 use Rattle.edf_tables.specs.Schema.{HasBoth}
 use Rattle.edf_store.proofs.Held.{still_inside, still_under, others_on, sees_on}
 use Rattle.edf_store.proofs.Standing.{one_key, stand_more, there_too}
@@ -179,9 +179,9 @@ module _ (cap : ℕ) (a b : State) (id : ℤ) (k : Key) (bytes : List ℕ) (is :
   }
 
   pub is_found : (HasCleanDisk b → IsIdIn (named bytes (a.now.trees 0)) (Some id)) →
-      IsFoundOrMadeIn cap a b k id
+      IsSelectedOrInsertedIn cap a b k id
   is_found has = record {
-    found = found_in has;
+    has_row_id = found_in has;
     same = sees_on cap a b _ one same running;
     only = λ clean m q it. inl (none_made a b same clean m q it);
   }
@@ -254,8 +254,8 @@ module _ (cap : ℕ) (a b : State) (id : ℤ) (k : Key) (bytes : List ℕ) (is :
               (same (clean_b clean)).0.now_is was)
         ]
 
-    pub is_made : IsFoundOrMadeIn cap a c k id
-    is_made = record { found = made_under; same = made_sees; only = made_only }
+    pub is_made : IsSelectedOrInsertedIn cap a c k id
+    is_made = record { has_row_id = made_under; same = made_sees; only = made_only }
 
     pub made_keeps : HasCleanDisk c → KeepsCommit a c
     made_keeps clean = keeps_then a b c (same_left a b (same (clean_b clean)))

@@ -19,7 +19,7 @@ use Rattle.edf_store.specs.Walk.{starts_later, IsCursorAfter, IsSomeWalk}
 use Rattle.edf_store.specs.declared.cursor.Cursor.{Cursor}
 use Rattle.edf_store.proofs.Near.{later_shown, later_place, later_start, rows_rising}
 use Rattle.edf_store.proofs.KeysRead.{all_place}
-use Rattle.edf_store.specs.Inside.Settled.{IsSettled, IsFoundIn}
+use Rattle.edf_store.specs.Inside.Settled.{IsSettled, IsSelectedIn}
 
 -- these rows show the first of these records
 abbrev pub ShowFirst : List RecordRow → List DataRecord → Type 0
@@ -221,7 +221,7 @@ module _ (cap : ℕ) (s : State) (id : ℤ) (cursor : Cursor) (h : Holdings) (k 
 -- where a walk begins
 pub at_start : (cap : ℕ) (s : State) (id : Option ℤ) (cursor : Cursor) (h : Holdings) (k : Key) →
     cursor.start <ℤ pos 0 → 1 ≤ cursor.limit → cursor.rows.items ≡ [] → IsSettled cap s →
-    RepresentCommitted cap s.now.trees h → IsKey k → IsFoundIn s k h id
+    RepresentCommitted cap s.now.trees h → IsKey k → IsSelectedIn s k h id
     → IsCursorAfter cap s id cursor h k 0
 at_start cap s id cursor h k low some none it kept key found = record {
   is_open = it.is_open;
@@ -237,7 +237,7 @@ at_start cap s id cursor h k low some none it kept key found = record {
   ahead = none_shown cursor.rows.items (h k) none;
 }
   where
-    go : (id : Option ℤ) → IsFoundIn s k h id →
+    go : (id : Option ℤ) → IsSelectedIn s k h id →
         MatchOption id (0 ≡ length (h k)) (λ m. HasRecordingRow s.now.trees m k)
     go None none = sym (ap length none)
     go (Some m) there = there

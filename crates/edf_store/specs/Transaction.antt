@@ -100,8 +100,8 @@ pub record IsAddedIn (cap : ℕ) (old new : State) (id : ℤ) (r : DataRecord) :
   pub only : AddsNoRecordingIn old new
 
 -- the key's recording has this id, and no other is added
-pub record IsFoundOrMadeIn (cap : ℕ) (old new : State) (k : Key) (id : ℤ) : Type 0 where
-  pub found : HasRowId new id k
+pub record IsSelectedOrInsertedIn (cap : ℕ) (old new : State) (k : Key) (id : ℤ) : Type 0 where
+  pub has_row_id : HasRowId new id k
   pub same : StillSees cap old new
   pub only : AddsOnlyRecordingIn k old new
 
@@ -154,8 +154,8 @@ module _ {S : Type 0} (g : Ghosts S) where
   abbrev pub IsAdded : StoreModel S → StoreModel S → ℤ → DataRecord → Type 0
   IsAdded old new = IsAddedIn new.cap (at g old) (at g new)
 
-  abbrev pub IsFoundOrMade : StoreModel S → StoreModel S → Key → ℤ → Type 0
-  IsFoundOrMade old new = IsFoundOrMadeIn new.cap (at g old) (at g new)
+  abbrev pub IsSelectedOrInserted : StoreModel S → StoreModel S → Key → ℤ → Type 0
+  IsSelectedOrInserted old new = IsSelectedOrInsertedIn new.cap (at g old) (at g new)
 
   abbrev pub EachHasRecord : StoreModel S → Type 0
   EachHasRecord store = EachHasRecordIn store.cap (at g store)

@@ -2,7 +2,8 @@
 
 ghost use Rattle.std.specs.Prelude.{IfOk};
 ghost use Rattle.edf_store.specs.Held.{KeepsHoldings};
-ghost use Rattle.edf_store.specs.Transaction.{SeesHoldings, IsFoundOrMade, MayAddTo, IsAdded};
+ghost use Rattle.edf_store.specs.Transaction.{SeesHoldings, IsSelectedOrInserted, MayAddTo};
+ghost use Rattle.edf_store.specs.Transaction.{IsAdded};
 
 use crate::store::Store;
 use edf_fragment::Record;
@@ -18,7 +19,7 @@ pub(crate) fn find_or_make<S: Alter>(
 ) -> Result<i64, Error>
     requires sees { SeesHoldings S.Store store.old }
     ensures stays { KeepsHoldings S.Store store.old store.new }
-    ensures found { IfOk result (IsFoundOrMade S.Store store.old store.new identity.now) }
+    ensures row_id { IfOk result (IsSelectedOrInserted S.Store store.old store.new identity.now) }
 {
     let bytes = identity.to_bytes(store.alloc)?;
     if let Some(id) = select_recording(&mut store.conn, bytes.as_slice())? {

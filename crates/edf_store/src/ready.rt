@@ -4,7 +4,7 @@ ghost use Rattle.edf_header.specs.Key.{IsKey};
 ghost use Rattle.edf_holdings.specs.Holdings.{Holdings};
 ghost use Rattle.edf_rows.specs.Rows.{RepresentCommitted};
 ghost use Rattle.edf_store.specs.Held.{at};
-ghost use Rattle.edf_store.specs.Inside.Settled.{IsFoundIn, IsAtRest, Settles};
+ghost use Rattle.edf_store.specs.Inside.Settled.{IsSelectedIn, IsAtRest, Settles};
 ghost use Rattle.edf_store.specs.Call.{AnswersWith, IsRefusedIfBusy};
 ghost use Rattle.edf_tables.specs.Statement.{OnlyReads, KeepsCommitted, IsCrashSafe};
 
@@ -17,7 +17,7 @@ use sqlite::{Alter, Connection, Error};
 /// Runs an empty statement, which succeeds on an open connection alone.
 fn run_nothing<S: Alter>(conn: &mut Connection<S>) -> Result<(), Error>
     ensures same { OnlyReads S.Store conn.old conn.new result }
-    ensures kept { KeepsCommitted S.Store conn.old conn.new }
+    ensures committed { KeepsCommitted S.Store conn.old conn.new }
     ensures survives { IsCrashSafe S.Store conn.old conn.new }
 {
     conn.execute("", &[])?;
@@ -44,9 +44,9 @@ pub(crate) fn find<S: Alter>(
     requires settled { IsAtRest S.Store store.old }
     ensures key { IsKey identity.now }
     ensures settles { Settles S.Store store.old store.new result }
-    ensures found { AnswersWith S.Store store.new result (λ id.
+    ensures answer { AnswersWith S.Store store.new result (λ id.
         (h : Holdings) → RepresentCommitted store.new.cap (at S.Store store.new).now.trees h →
-        IsFoundIn (at S.Store store.new) identity.now h id) }
+        IsSelectedIn (at S.Store store.new) identity.now h id) }
 {
     let bytes = identity.to_bytes(store.alloc)?;
     let id = select_recording(&mut store.conn, bytes.as_slice())?;

@@ -82,8 +82,9 @@ fn list<S: Alter>(store: &mut Store<S>) -> Result<Vec<Identity>, RowFault>
 
 /// Parses the identities of these bytes.
 fn identities_in(alloc: Global, all: Vec<Vec<u8>>) -> Result<Vec<Identity>, RowFault>
-    ensures read { IfOk result (λ found. map key_bytes found.items ≡ map (λ b. b.items) all.items) }
-    ensures keys { IfOk result (λ found. AllByRecursion IsKey found.items) }
+    ensures read { IfOk result (λ identities.
+        map key_bytes identities.items ≡ map (λ b. b.items) all.items) }
+    ensures keys { IfOk result (λ identities. AllByRecursion IsKey identities.items) }
     ensures ours { IfErr result (λ e.
         AllByRecursion (λ b. (k : Key) × IsKey k × (b.items ≡ key_bytes k)) all.items →
         e ≢ RowFault.Foreign) }

@@ -5,7 +5,7 @@ ghost use Rattle.edf_field.specs.Number.{duration_of};
 ghost use Rattle.edf_header.specs.Key.{Key};
 ghost use Rattle.edf_store.specs.Fault.{HasCause};
 ghost use Rattle.edf_store.specs.Call.{AnswersWith};
-ghost use Rattle.edf_store.specs.Transaction.{IsOf, IsFoundOrMade, AreNear, IsNextStartOf};
+ghost use Rattle.edf_store.specs.Transaction.{IsOf, IsSelectedOrInserted, AreNear, IsNextStartOf};
 ghost use Rattle.edf_store.specs.Transaction.{IsCountOf, IsCapacityAnswer, MayAddTo, IsAdded};
 ghost use Rattle.edf_store.specs.Transaction.{EachHasRecord};
 ghost use Rattle.edf_store.specs.StoreTx.{IsRunning, KeepsTransaction, ReadsInTransaction, Commits};
@@ -43,8 +43,8 @@ impl<S: Alter> StoreTx<'_, S> {
     pub fn recording(&mut self, identity: &Identity) -> Result<RecordingId, StoreFault>
         requires running { IsRunning S.Store self.old }
         ensures leaves { KeepsTransaction S.Store self.old self.new result }
-        ensures found { IfOk result (λ id.
-            IsFoundOrMade S.Store self.old.store.now self.new.store.now identity.now id.row) }
+        ensures row_id { IfOk result (λ id. IsSelectedOrInserted S.Store
+            self.old.store.now self.new.store.now identity.now id.row) }
     {
         let answer = find_or_make(self.store, identity);
         self.refused = answer.is_err();

@@ -15,7 +15,7 @@ use Rattle.sqlite.specs.Effect.{Database, IsDatabase}
 use Rattle.sqlite.specs.State.{State, mode_of, Executes, Writes, MayCommit, CommitsBy}
 use Rattle.sqlite.proofs.Callers.{statement_of, runs_as}
 use Rattle.edf_tables.specs.Schema.{recording, records, no_schema, one_schema, both_schema}
-use Rattle.edf_tables.specs.Made.{AreOf, HasFirst, made_first, kept_first, HasTables, from_one}
+use Rattle.edf_tables.specs.Made.{AreOf, HasFirst, made_first, had_first, HasTables, from_one}
 use Rattle.edf_tables.proofs.Commits.{commits_as}
 use Rattle.edf_tables.proofs.Texts.{create_recording_text, create_records_text, create_recording_is}
 use Rattle.edf_tables.proofs.Texts.{recording_there, create_records_is, created_one, created_both}
@@ -78,7 +78,7 @@ first_made old new count has h =
 pub first_there : (old new : State) (count : ℕ) → old.now.schema ≡ one_schema →
     Executes create_recording_text [] old new (Ok count) → HasFirst old.now new.now
 first_there old new count has h =
-    kept_first has (runs_as create_recording_text [] old new one_schema has Nothing
+    had_first has (runs_as create_recording_text [] old new one_schema has Nothing
     recording_there.0 recording_there.1 count h).0.0.now_is
 
 pub second_made : (old new : State) (count : ℕ) → old.now.schema ≡ one_schema →

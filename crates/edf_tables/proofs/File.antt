@@ -9,7 +9,7 @@ use Rattle.sqlite.specs.State.{State, Executes, Shows, Writes, IsUnchanged}
 use Rattle.sqlite.proofs.Callers.{runs_as}
 use Rattle.edf_tables.specs.Schema.{no_schema, one_schema, HasBoth}
 use Rattle.edf_tables.specs.Refused.{IsUnchangedOrRolledBack}
-use Rattle.edf_tables.specs.Made.{HasFirst, made_first, kept_first, HasTables, from_none, from_one}
+use Rattle.edf_tables.specs.Made.{HasFirst, made_first, had_first, HasTables, from_none, from_one}
 use Rattle.edf_tables.specs.Made.{from_both, KeepsTables, KeepsFile}
 use Rattle.edf_tables.proofs.Texts.{create_recording_text, create_records_text, create_recording_is}
 use Rattle.edf_tables.proofs.Texts.{recording_there, create_records_is}
@@ -128,7 +128,7 @@ tables_then : (a b c : Database) → HasBoth b.schema → KeepsTables b c → c 
 tables_then a b c has (inl same) = same
 tables_then a b c has (inr (inl (made_first none one empty))) =
     absurd (none_not_both b.schema none has)
-tables_then a b c has (inr (inl (kept_first one same))) = same
+tables_then a b c has (inr (inl (had_first one same))) = same
 tables_then a b c has (inr (inr (from_none none both first second))) =
     absurd (none_not_both b.schema none has)
 tables_then a b c has (inr (inr (from_one one both first second))) =
@@ -143,7 +143,7 @@ keeps_tables_then a b c (inr (inl first)) (inl same) =
     inr (inl (subst (HasFirst a) (sym same) first))
 keeps_tables_then a b c (inr (inl first)) (inr (inl (made_first none one empty))) =
     absurd (none_not_one b.schema none (after_first a b first))
-keeps_tables_then a b c (inr (inl first)) (inr (inl (kept_first one same))) =
+keeps_tables_then a b c (inr (inl first)) (inr (inl (had_first one same))) =
     inr (inl (subst (HasFirst a) (sym same) first))
 keeps_tables_then a b c (inr (inl first)) (inr (inr tables)) =
     inr (inr (both_made a b c first tables))

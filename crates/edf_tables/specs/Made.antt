@@ -15,7 +15,7 @@ IsOurs db = AreOurs db.schema
 pub data HasFirst (old new : Database) : Type 0 where
   made_first : old.schema ≡ no_schema → new.schema ≡ one_schema → stored_recordings new.trees ≡ [] →
       HasFirst old new
-  kept_first : old.schema ≡ one_schema → new ≡ old → HasFirst old new
+  had_first : old.schema ≡ one_schema → new ≡ old → HasFirst old new
 
 -- both tables are there, with the rows that they had, and what comes after them
 pub data HasTables (old new : Database) : Type 0 where
@@ -47,9 +47,9 @@ AreOf schema db = IsDatabase (record { schema = schema; trees = db })
 
 -- a crash may come after the first missing table is made, or after both are; the rows are the same
 pub data IsMadeOf (old : Database) (db : Trees) : Type 0 where
-  left_first : old.schema ≡ no_schema → AreOf one_schema db → stored_recordings db ≡ [] →
+  crash_after_first : old.schema ≡ no_schema → AreOf one_schema db → stored_recordings db ≡ [] →
       IsMadeOf old db
-  left_both : old.schema ≡ no_schema → AreOf both_schema db → stored_recordings db ≡ [] →
+  crash_after_both : old.schema ≡ no_schema → AreOf both_schema db → stored_recordings db ≡ [] →
       stored_records db ≡ [] → IsMadeOf old db
-  left_second : old.schema ≡ one_schema → AreOf both_schema db →
+  crash_after_second : old.schema ≡ one_schema → AreOf both_schema db →
       stored_recordings db ≡ stored_recordings old.trees → stored_records db ≡ [] → IsMadeOf old db

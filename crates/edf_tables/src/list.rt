@@ -25,7 +25,7 @@ pub fn select_recording<S: Alter>(
     ensures id { Gives S.Store conn.new result
         (IsIdIn (named identity.now (stored_recordings (tables S.Store conn.old)))) }
     ensures same { OnlyReads S.Store conn.old conn.new result }
-    ensures kept { KeepsCommitted S.Store conn.old conn.new }
+    ensures committed { KeepsCommitted S.Store conn.old conn.new }
     ensures survives { IsCrashSafe S.Store conn.old conn.new }
 {
     let rows = rows_shown(
@@ -47,7 +47,7 @@ pub fn identities<S: Alter>(conn: &mut Connection<S>) -> Result<Vec<Vec<u8>>, Er
         map (λ row. stored_identity row)
         (by_identity (stored_recordings (tables S.Store conn.old)))) }
     ensures same { OnlyReads S.Store conn.old conn.new result }
-    ensures kept { KeepsCommitted S.Store conn.old conn.new }
+    ensures committed { KeepsCommitted S.Store conn.old conn.new }
     ensures survives { IsCrashSafe S.Store conn.old conn.new }
 {
     let rows = rows_shown(
@@ -70,7 +70,7 @@ pub fn recordings<S: Alter>(conn: &mut Connection<S>) -> Result<Vec<Row>, Error>
         (stored_recordings (tables S.Store conn.old))) rows.items) }
     ensures ordered { Gives S.Store conn.new result (λ rows. IsSorted id_order rows.items) }
     ensures same { OnlyReads S.Store conn.old conn.new result }
-    ensures kept { KeepsCommitted S.Store conn.old conn.new }
+    ensures committed { KeepsCommitted S.Store conn.old conn.new }
     ensures refused { ChangesOnErr S.Store conn.old conn.new result IsUnchangedOrRolledBack }
     ensures survives { IsCrashSafe S.Store conn.old conn.new }
 {
@@ -86,7 +86,7 @@ pub fn count_all_rows<S: Alter>(conn: &mut Connection<S>) -> Result<u64, Error>
     ensures count { Gives S.Store conn.new result (λ count.
         count ≡ min (length (stored_records (tables S.Store conn.old))) MOST_COUNTED) }
     ensures same { OnlyReads S.Store conn.old conn.new result }
-    ensures kept { KeepsCommitted S.Store conn.old conn.new }
+    ensures committed { KeepsCommitted S.Store conn.old conn.new }
     ensures refused { ChangesOnErr S.Store conn.old conn.new result IsUnchangedOrRolledBack }
     ensures survives { IsCrashSafe S.Store conn.old conn.new }
 {

@@ -31,7 +31,7 @@ pub fn near_rows<S: Alter>(
         (filter (starts_between after before)
         (records_of recording (stored_records (tables S.Store conn.old))))) }
     ensures same { OnlyReads S.Store conn.old conn.new result }
-    ensures kept { KeepsCommitted S.Store conn.old conn.new }
+    ensures committed { KeepsCommitted S.Store conn.old conn.new }
     ensures survives { IsCrashSafe S.Store conn.old conn.new }
 {
     records_shown(
@@ -60,7 +60,7 @@ pub fn page_rows<S: Alter>(
         (take limit (filter (starts_after after)
         (records_of recording (stored_records (tables S.Store conn.old)))))) }
     ensures same { OnlyReads S.Store conn.old conn.new result }
-    ensures kept { KeepsCommitted S.Store conn.old conn.new }
+    ensures committed { KeepsCommitted S.Store conn.old conn.new }
     ensures survives { IsCrashSafe S.Store conn.old conn.new }
 {
     records_shown(
@@ -82,7 +82,7 @@ pub fn count_rows<S: Alter>(conn: &mut Connection<S>, recording: i64) -> Result<
         count ≡ min (length (records_of recording (stored_records (tables S.Store conn.old))))
         MOST_COUNTED) }
     ensures same { OnlyReads S.Store conn.old conn.new result }
-    ensures kept { KeepsCommitted S.Store conn.old conn.new }
+    ensures committed { KeepsCommitted S.Store conn.old conn.new }
     ensures survives { IsCrashSafe S.Store conn.old conn.new }
 {
     let rows = rows_shown(
@@ -103,7 +103,7 @@ pub fn first_start<S: Alter>(conn: &mut Connection<S>, recording: i64) -> Result
         option_map Int start ≡ option_map (λ row. stored_start row)
         (slice_get (records_of recording (stored_records (tables S.Store conn.old))) 0)) }
     ensures same { OnlyReads S.Store conn.old conn.new result }
-    ensures kept { KeepsCommitted S.Store conn.old conn.new }
+    ensures committed { KeepsCommitted S.Store conn.old conn.new }
     ensures survives { IsCrashSafe S.Store conn.old conn.new }
 {
     let rows = rows_shown(
@@ -129,7 +129,7 @@ pub fn next_start<S: Alter>(
         (slice_get (filter (starts_from from)
         (records_of recording (stored_records (tables S.Store conn.old)))) 0)) }
     ensures same { OnlyReads S.Store conn.old conn.new result }
-    ensures kept { KeepsCommitted S.Store conn.old conn.new }
+    ensures committed { KeepsCommitted S.Store conn.old conn.new }
     ensures survives { IsCrashSafe S.Store conn.old conn.new }
 {
     let rows = rows_shown(
@@ -150,7 +150,7 @@ pub fn last_start<S: Alter>(conn: &mut Connection<S>, recording: i64) -> Result<
         option_map Int start ≡ option_map (λ row. stored_start row)
         (slice_get (reverse (records_of recording (stored_records (tables S.Store conn.old)))) 0)) }
     ensures same { OnlyReads S.Store conn.old conn.new result }
-    ensures kept { KeepsCommitted S.Store conn.old conn.new }
+    ensures committed { KeepsCommitted S.Store conn.old conn.new }
     ensures survives { IsCrashSafe S.Store conn.old conn.new }
 {
     let rows = rows_shown(

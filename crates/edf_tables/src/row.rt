@@ -45,8 +45,8 @@ fn record_row(row: &Row) -> Result<RecordRow, Error>
 
 /// Reads the bytes in the first column of each row.
 pub(crate) fn identities_in(rows: Vec<Row>) -> Result<Vec<Vec<u8>>, Error>
-    ensures value { IfOk result (λ found.
-        map (λ b. Blob b.items) found.items ≡ map (λ row. column row 0) rows.items) }
+    ensures value { IfOk result (λ values.
+        map (λ b. Blob b.items) values.items ≡ map (λ row. column row 0) rows.items) }
 {
     let mut found: Vec<Vec<u8>> = Vec::new(*rows.allocator());
     for row in &rows {
@@ -57,8 +57,8 @@ pub(crate) fn identities_in(rows: Vec<Row>) -> Result<Vec<Vec<u8>>, Error>
 
 /// Reads the number in the first column of the first row, if there is a row.
 pub(crate) fn first_number(rows: Vec<Row>) -> Result<Option<i64>, Error>
-    ensures value { IfOk result (λ found.
-        option_map Int found ≡ option_map (λ row. column row 0) (slice_get rows.items 0)) }
+    ensures value { IfOk result (λ value.
+        option_map Int value ≡ option_map (λ row. column row 0) (slice_get rows.items 0)) }
 {
     match rows.first() {
         Some(row) => Ok(Some(row.get(0)?)),
@@ -68,8 +68,8 @@ pub(crate) fn first_number(rows: Vec<Row>) -> Result<Option<i64>, Error>
 
 /// Reads the count in the first column of the first row.
 pub(crate) fn first_count(rows: Vec<Row>) -> Result<u64, Error>
-    ensures value { IfOk result (λ found.
-        option_map (λ row. column row 0) (slice_get rows.items 0) ≡ Some (Int (pos found))) }
+    ensures value { IfOk result (λ count.
+        option_map (λ row. column row 0) (slice_get rows.items 0) ≡ Some (Int (pos count))) }
 {
     match rows.first() {
         Some(row) => row.get(0),
@@ -96,7 +96,7 @@ pub(crate) fn rows_shown<S: Alter>(
         Shown sql.now (bound params.now) (state S.Store conn.old)
         (state S.Store conn.new) rows.items) }
     ensures same { OnlyReads S.Store conn.old conn.new result }
-    ensures kept { KeepsCommitted S.Store conn.old conn.new }
+    ensures committed { KeepsCommitted S.Store conn.old conn.new }
     ensures refused { ChangesOnErr S.Store conn.old conn.new result IsUnchangedOrRolledBack }
     ensures survives { IsCrashSafe S.Store conn.old conn.new }
 {
@@ -112,11 +112,11 @@ pub(crate) fn records_shown<S: Alter>(
     params: &[ValueRef<'_>],
 ) -> Result<Vec<RecordRow>, Error>
     requires { IfClean S.Store conn.old (λ s. IsPlain (understood s.now.schema sql.now)) }
-    ensures shown { Gives S.Store conn.new result (λ found.
+    ensures shown { Gives S.Store conn.new result (λ records.
         (rows : _) × Shown sql.now (bound params.now) (state S.Store conn.old)
-        (state S.Store conn.new) rows × (map cells_of found.items ≡ map first_three rows)) }
+        (state S.Store conn.new) rows × (map cells_of records.items ≡ map first_three rows)) }
     ensures same { OnlyReads S.Store conn.old conn.new result }
-    ensures kept { KeepsCommitted S.Store conn.old conn.new }
+    ensures committed { KeepsCommitted S.Store conn.old conn.new }
     ensures survives { IsCrashSafe S.Store conn.old conn.new }
 {
     let mut found = Vec::new(alloc);

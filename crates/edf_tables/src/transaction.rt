@@ -45,7 +45,7 @@ pub fn commit<S: Alter>(conn: &mut Connection<S>) -> Result<(), Error>
 /// `sqlite`'s, also where no transaction is open; what is committed stays.
 pub fn roll_back<S: Alter>(conn: &mut Connection<S>) -> Result<(), Error>
     ensures undone { ChangesOnOk S.Store conn.old conn.new result IsRolledBack }
-    ensures kept { KeepsCommitted S.Store conn.old conn.new }
+    ensures committed { KeepsCommitted S.Store conn.old conn.new }
     ensures survives { IsCrashSafe S.Store conn.old conn.new }
 {
     conn.execute("ROLLBACK", &[])?;

@@ -57,7 +57,7 @@ impl Note {
     /// `duration` counts nanoseconds. A TAL can hold it where it is shorter than the window of
     /// instants, the years 1985 to 2184, and the text where it has no byte 0 or 20.
     pub fn new(onset: Instant, duration: Option<u64>, text: String) -> Option<Note>
-        ensures found { IsSome result
+        ensures valid { IsSome result
             ↔ (ForSome duration (λ d. d < window) × IsText (string_bytes text)) }
         ensures value { IfSome result
             (λ n. n ≡ record { onset = onset; duration = duration; text = string_bytes text }) }

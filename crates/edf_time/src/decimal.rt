@@ -73,7 +73,7 @@ fn fraction_nanos(digits: &[u8]) -> Result<u64, DecimalFault>
 fn first_dot(text: &[u8]) -> usize
     ensures within { result ≤ length text.now }
     ensures before { (k : ℕ) → k < result → slice_index text.now k ≢ 46 }
-    ensures found { result < length text.now → slice_index text.now result ≡ 46 }
+    ensures is_dot { result < length text.now → slice_index text.now result ≡ 46 }
 {
     for (i, b) in text.iter().enumerate() {
         if *b == b'.' {
@@ -87,7 +87,7 @@ fn first_dot(text: &[u8]) -> usize
 fn parts(text: &[u8]) -> Option<(&[u8], &[u8])>
     ensures { MatchOption result
         ((whole fraction : List ℕ) → ¬ IsDecimal text.now whole fraction)
-        (λ found. IsDecimal text.now found.0.now found.1.now) }
+        (λ p. IsDecimal text.now p.0.now p.1.now) }
 {
     let (whole, rest) = text.split_at(first_dot(text));
     if !are_digits(whole) {

@@ -15,8 +15,8 @@ use Rattle.sqlite.specs.Start.{FindsIn}
 use Rattle.sqlite.specs.Order.{Row}
 use Rattle.edf_tables.specs.Columns.{stored_recordings}
 use Rattle.edf_tables.specs.Schema.{no_schema, one_schema, both_schema, HasBoth}
-use Rattle.edf_tables.specs.Made.{HasTables, from_none, from_one, from_both, IsMadeOf, left_first}
-use Rattle.edf_tables.specs.Made.{left_both, left_second}
+use Rattle.edf_tables.specs.Made.{HasTables, from_none, from_one, from_both, IsMadeOf}
+use Rattle.edf_tables.specs.Made.{crash_after_first, crash_after_both, crash_after_second}
 use Rattle.edf_tables.specs.Others.{KeepsTrees}
 use Rattle.edf_tables.proofs.Schemas.{none_not_one, none_not_both, one_not_both, made_both}
 use Rattle.edf_holdings.specs.Holdings.{Holdings, nothing_held}
@@ -164,13 +164,13 @@ pub made_keeps : (cap : ℕ) (old : Database) (rows : Trees) (h : Holdings) →
     DatabaseHolds cap old h →
     IsMadeOf old rows → (schema : Schema) → IsDatabase (record { schema = schema; trees = rows }) →
     DatabaseHolds cap (record { schema = schema; trees = rows }) h
-made_keeps cap old rows h it (left_first none made empty) schema sound =
+made_keeps cap old rows h it (crash_after_first none made empty) schema sound =
     one_table (schema_once rows schema one_schema sound made) empty (nothing_of cap old h it none)
-made_keeps cap old rows h it (left_both none made first second) schema sound =
+made_keeps cap old rows h it (crash_after_both none made first second) schema sound =
     both_tables (made_both schema (schema_once rows schema both_schema sound made))
     (subst (RepresentCommitted cap rows) (sym (nothing_of cap old h it none))
     (nothing_kept cap rows first second))
-made_keeps cap old rows h it (left_second one made same second) schema sound =
+made_keeps cap old rows h it (crash_after_second one made same second) schema sound =
     let was = empty_of cap old h it one in
     both_tables (made_both schema (schema_once rows schema both_schema sound made))
     (subst (RepresentCommitted cap rows) (sym was.1) (nothing_kept cap rows (same ∙ was.0) second))

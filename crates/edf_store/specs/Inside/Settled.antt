@@ -26,5 +26,5 @@ pub record Settles {S X E : Type 0} (g : Ghosts S) (old new : StoreModel S)
   pub settled : HasCleanDisk (at g new) → OnOk result (IsSettled new.cap (at g new))
 
 -- the key's recording has this id, or the key has no records
-abbrev pub IsFoundIn : State → Key → Holdings → Option ℤ → Type 0
-IsFoundIn s k h id = MatchOption id (h k ≡ []) (λ id. HasRecordingRow s.now.trees id k)
+abbrev pub IsSelectedIn : State → Key → Holdings → Option ℤ → Type 0
+IsSelectedIn s k h id = MatchOption id (h k ≡ []) (λ id. HasRecordingRow s.now.trees id k)

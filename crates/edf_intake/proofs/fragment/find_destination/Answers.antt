@@ -25,7 +25,7 @@ pub known_spare-requires : goal.known_spare-requires
 known_spare-requires g c = record {
   running = record {
     running = c.in_ok-id.ensures.leaves.running;
-    recording = c.in_ok-id.ensures.found.found;
+    recording = c.in_ok-id.ensures.row_id.has_row_id;
   };
 }
 
@@ -53,10 +53,10 @@ returns-in-Some-clause-found g c =
     let made = c.recording.new.self.store.now in
     let asked = c.known_spare.new.transaction in
     let key = c.args.identity.now in
-    let found = c.in_ok-id.ensures.found in
+    let found = c.in_ok-id.ensures.row_id in
     let read = c.in_ok-spare.ensures.leaves in
     record {
-      recording = read.same.ids c.in_ok-id.id.row key found.found;
+      recording = read.same.ids c.in_ok-id.id.row key found.has_row_id;
       same = λ h seen. sees_as g.S.Store made asked.store.now read.stays.cap read.same h
           (sees_as g.S.Store first made c.in_ok-id.ensures.leaves.stays.cap found.same h seen);
       only = at_most g.S.Store key first made asked.store.now read.stays found.only read.only;
@@ -69,7 +69,7 @@ pub count-requires-clause-recording : goal.count-requires-clause-recording
 count-requires-clause-recording g c = (
   c.args.identity.now,
   c.in_ok-spare.ensures.leaves.same.ids c.in_ok-id.id.row c.args.identity.now
-      c.in_ok-id.ensures.found.found,
+      c.in_ok-id.ensures.row_id.has_row_id,
 )
 
 pub returns-in_err-held-clause-leaves : goal.returns-in_err-held-clause-leaves
@@ -106,20 +106,20 @@ returns-clause-found g c =
     let last = c.count.new.self in
     let id = c.in_ok-id.id.row in
     let key = c.args.identity.now in
-    let found = c.in_ok-id.ensures.found in
+    let found = c.in_ok-id.ensures.row_id in
     let spare = c.in_ok-spare.ensures.leaves in
     let held = c.in_ok-held.ensures.leaves in
     let read = reads_then g.S.Store made asked last HasCause HasCause c.in_ok-spare.field-0 spare
     c.in_ok-held.held c.in_ok-held.held held in
     record {
-      recording = read.same.ids id key found.found;
+      recording = read.same.ids id key found.has_row_id;
       same = λ h seen. sees_as g.S.Store made.store.now last.store.now read.stays.cap read.same h
           (sees_as g.S.Store first made.store.now c.in_ok-id.ensures.leaves.stays.cap found.same
           h seen);
       only = at_most g.S.Store key first made.store.now last.store.now read.stays found.only
           read.only;
       spare = room_left g.S.Store asked last id key
-          (record { running = spare.running; recording = spare.same.ids id key found.found })
+          (record { running = spare.running; recording = spare.same.ids id key found.has_row_id })
           c.in_ok-held.held HasCause held (most_records c.args.count) c.args.cap c.in_ok-held.held
           c.saturating_sub-spare.result
           (c.requires.cap ∙ sym c.in_ok-id.ensures.leaves.stays.cap ∙ sym spare.stays.cap)

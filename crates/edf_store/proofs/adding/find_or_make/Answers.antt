@@ -16,29 +16,31 @@ returns-in_err-bytes-clause-stays g c = rw (← c.store.view_is) (stays_same g.S
 pub returns-in_err-id-clause-stays : goal.returns-in_err-id-clause-stays
 returns-in_err-id-clause-stays g c =
     rw (← c.store.view_is) (stays_so g.S.Store c.store.inside.cap c.store.inside.conn
-    c.select_recording.new.conn c.select_recording.ensures.survives c.select_recording.ensures.kept)
+    c.select_recording.new.conn c.select_recording.ensures.survives
+    c.select_recording.ensures.committed)
 
 pub invariant_of-store : goal.invariant_of-store
 invariant_of-store g c =
     still_sound c.store.inside.cap (state g.S.Store c.store.inside.conn)
     (state g.S.Store c.select_recording.new.conn) _ c.select_recording.ensures.survives
-    c.select_recording.ensures.kept
+    c.select_recording.ensures.committed
     c.store.invariant
 
 pub invariant_of-store-in-Some : goal.invariant_of-store-in-Some
 invariant_of-store-in-Some g c =
     still_sound c.store.inside.cap (state g.S.Store c.store.inside.conn)
     (state g.S.Store c.select_recording.new.conn) _ c.select_recording.ensures.survives
-    c.select_recording.ensures.kept
+    c.select_recording.ensures.committed
     c.store.invariant
 
 pub returns-in-Some-clause-stays : goal.returns-in-Some-clause-stays
 returns-in-Some-clause-stays g c =
     rw (← c.store.view_is) (stays_so g.S.Store c.store.inside.cap c.store.inside.conn
-    c.select_recording.new.conn c.select_recording.ensures.survives c.select_recording.ensures.kept)
+    c.select_recording.new.conn c.select_recording.ensures.survives
+    c.select_recording.ensures.committed)
 
-pub returns-in-Some-clause-found : goal.returns-in-Some-clause-found
-returns-in-Some-clause-found g c =
+pub returns-in-Some-clause-row_id : goal.returns-in-Some-clause-row_id
+returns-in-Some-clause-row_id g c =
     let sees = rw (← c.store.view_is) at c.requires.sees in
     rw (to_z-of_z w64 c.in-Some.id (search rules), ← c.store.view_is)
     (is_found c.store.inside.cap (state g.S.Store c.store.inside.conn)
@@ -54,7 +56,7 @@ invariant_of-store-in_err-id-2 g c =
     let d = state g.S.Store c.insert_recording.new.conn in
     still_sound c.store.inside.cap a d _
     (quiet_then a b d _ c.select_recording.ensures.survives c.insert_recording.ensures.survives)
-    (λ clean. keeps_then a b d (c.select_recording.ensures.kept
+    (λ clean. keeps_then a b d (c.select_recording.ensures.committed
     (omega (arith, c.insert_recording.ensures.survives.clean)))
     (c.in_err-id-2.ensures.refused clean)) c.store.invariant
 
@@ -66,7 +68,7 @@ returns-in_err-id-2-clause-stays g c =
     rw (← c.store.view_is) (stays_so g.S.Store c.store.inside.cap c.store.inside.conn
     c.insert_recording.new.conn (quiet_then a b d _ c.select_recording.ensures.survives
     c.insert_recording.ensures.survives)
-    (λ clean. keeps_then a b d (c.select_recording.ensures.kept
+    (λ clean. keeps_then a b d (c.select_recording.ensures.committed
     (omega (arith, c.insert_recording.ensures.survives.clean)))
     (c.in_err-id-2.ensures.refused clean)))
 
@@ -106,8 +108,8 @@ returns-clause-stays g c =
     c.insert_recording.ensures.survives (λ clean. rw none at (c.in_ok-id.ensures.id clean))
     (λ clean. rw again at (c.in_ok-id-2.ensures.added clean))))
 
-pub returns-clause-found : goal.returns-clause-found
-returns-clause-found g c =
+pub returns-clause-row_id : goal.returns-clause-row_id
+returns-clause-row_id g c =
     let a = state g.S.Store c.store.inside.conn in
     let b = state g.S.Store c.select_recording.new.conn in
     let d = state g.S.Store c.insert_recording.new.conn in

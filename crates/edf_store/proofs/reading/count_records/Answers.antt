@@ -10,18 +10,18 @@ use Rattle.edf_store.proofs.reading.count_records.Goals as goal
 pub invariant_of-store : goal.invariant_of-store
 invariant_of-store g c = still_sound c.store.inside.cap (state g.S.Store c.store.inside.conn)
     (state g.S.Store c.count_rows.new.conn) _ c.count_rows.ensures.survives
-    c.count_rows.ensures.kept c.store.invariant
+    c.count_rows.ensures.committed c.store.invariant
 
 pub invariant_of-store-in_default : goal.invariant_of-store-in_default
 invariant_of-store-in_default g c =
     still_sound c.store.inside.cap (state g.S.Store c.store.inside.conn)
     (state g.S.Store c.count_rows.new.conn) _ c.count_rows.ensures.survives
-    c.count_rows.ensures.kept c.store.invariant
+    c.count_rows.ensures.committed c.store.invariant
 
 pub invariant_of-store-2 : goal.invariant_of-store-2
 invariant_of-store-2 g c = still_sound c.store.inside.cap (state g.S.Store c.store.inside.conn)
     (state g.S.Store c.count_rows.new.conn) _ c.count_rows.ensures.survives
-    c.count_rows.ensures.kept c.store.invariant
+    c.count_rows.ensures.committed c.store.invariant
 
 pub returns-clause-count : goal.returns-clause-count
 returns-clause-count g c clean =
@@ -34,12 +34,12 @@ pub returns-in_err-count-clause-reads : goal.returns-in_err-count-clause-reads
 returns-in_err-count-clause-reads g c =
     rw (← c.store.view_is) (reads_refused g.S.Store _ _ _ _ c.from_residual.ensures.1
     (stays_so g.S.Store c.store.inside.cap c.store.inside.conn c.count_rows.new.conn
-    c.count_rows.ensures.survives c.count_rows.ensures.kept))
+    c.count_rows.ensures.survives c.count_rows.ensures.committed))
 
 pub returns-in_default-clause-reads : goal.returns-in_default-clause-reads
 returns-in_default-clause-reads g c = rw (← c.store.view_is) (record {
   stays = stays_so g.S.Store c.store.inside.cap c.store.inside.conn c.count_rows.new.conn
-      c.count_rows.ensures.survives c.count_rows.ensures.kept;
+      c.count_rows.ensures.survives c.count_rows.ensures.committed;
   same = tt;
   only = tt;
 })
@@ -48,5 +48,5 @@ pub returns-clause-reads : goal.returns-clause-reads
 returns-clause-reads g c =
     let recording = rw (← c.store.view_is) at c.requires.recording in
     rw (← c.store.view_is) (reads_rows g.S.Store c.store.inside.cap c.store.inside.conn
-    c.count_rows.new.conn _ c.count_rows.ensures.survives c.count_rows.ensures.kept
+    c.count_rows.new.conn _ c.count_rows.ensures.survives c.count_rows.ensures.committed
     c.in_ok-count.ensures.same recording.sees)

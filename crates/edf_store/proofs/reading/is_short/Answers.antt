@@ -38,31 +38,31 @@ last_start-requires g c =
 pub invariant_of-store : goal.invariant_of-store
 invariant_of-store g c = still_sound c.store.inside.cap (state g.S.Store c.store.inside.conn)
     (state g.S.Store c.first_start.new.conn) _ c.first_start.ensures.survives
-    c.first_start.ensures.kept c.store.invariant
+    c.first_start.ensures.committed c.store.invariant
 
 pub invariant_of-store-in_err-last : goal.invariant_of-store-in_err-last
 invariant_of-store-in_err-last g c =
     still_sound c.store.inside.cap (state g.S.Store c.first_start.new.conn)
     (state g.S.Store c.last_start.new.conn) _ c.last_start.ensures.survives
-    c.last_start.ensures.kept
+    c.last_start.ensures.committed
     (still_sound c.store.inside.cap (state g.S.Store c.store.inside.conn)
     (state g.S.Store c.first_start.new.conn) _ c.first_start.ensures.survives
-    c.first_start.ensures.kept c.store.invariant)
+    c.first_start.ensures.committed c.store.invariant)
 
 pub invariant_of-store-2 : goal.invariant_of-store-2
 invariant_of-store-2 g c =
     still_sound c.store.inside.cap (state g.S.Store c.first_start.new.conn)
     (state g.S.Store c.last_start.new.conn) _ c.last_start.ensures.survives
-    c.last_start.ensures.kept
+    c.last_start.ensures.committed
     (still_sound c.store.inside.cap (state g.S.Store c.store.inside.conn)
     (state g.S.Store c.first_start.new.conn) _ c.first_start.ensures.survives
-    c.first_start.ensures.kept c.store.invariant)
+    c.first_start.ensures.committed c.store.invariant)
 
 pub returns-in_err-first-clause-reads : goal.returns-in_err-first-clause-reads
 returns-in_err-first-clause-reads g c =
     rw (← c.store.view_is) (reads_refused g.S.Store _ _ _ _ c.from_residual.ensures.1
     (stays_so g.S.Store c.store.inside.cap c.store.inside.conn c.first_start.new.conn
-    c.first_start.ensures.survives c.first_start.ensures.kept))
+    c.first_start.ensures.survives c.first_start.ensures.committed))
 
 pub returns-in_err-last-clause-reads : goal.returns-in_err-last-clause-reads
 returns-in_err-last-clause-reads g c =
@@ -72,9 +72,9 @@ returns-in_err-last-clause-reads g c =
     let d : StoreModel g.row.S.Denot = record { connection = c.last_start.new.conn; cap = cap } in
     rw (← c.store.view_is) (reads_refused g.S.Store _ _ _ _ c.from_residual-in_err-last.ensures.1
     (stays_then g.S.Store a b d (stays_so g.S.Store cap a.connection b.connection
-    c.first_start.ensures.survives c.first_start.ensures.kept)
+    c.first_start.ensures.survives c.first_start.ensures.committed)
     (stays_so g.S.Store cap b.connection d.connection c.last_start.ensures.survives
-    c.last_start.ensures.kept)))
+    c.last_start.ensures.committed)))
 
 pub returns-clause-reads : goal.returns-clause-reads
 returns-clause-reads g c =
@@ -85,10 +85,10 @@ returns-clause-reads g c =
     let mine = rw (← c.store.view_is) at c.requires.recording in
     let one : ReadsRows g.S.Store {E = Error} a b (Ok c.in_ok-first.first) =
     reads_rows g.S.Store cap a.connection b.connection _ c.first_start.ensures.survives
-    c.first_start.ensures.kept c.in_ok-first.ensures.same mine.sees in
+    c.first_start.ensures.committed c.in_ok-first.ensures.same mine.sees in
     let two : ReadsRows g.S.Store {E = Error} b d (Ok c.in_ok-last.last) =
     reads_rows g.S.Store cap b.connection d.connection _ c.last_start.ensures.survives
-    c.last_start.ensures.kept c.in_ok-last.ensures.same one.same.running in
+    c.last_start.ensures.committed c.in_ok-last.ensures.same one.same.running in
     rw (← c.store.view_is) (reads_then g.S.Store a b d _ _ _ one two)
 
 pub returns-clause-short : goal.returns-clause-short

@@ -22,25 +22,25 @@ next_start-requires g c =
 pub invariant_of-store : goal.invariant_of-store
 invariant_of-store g c = still_sound c.store.inside.cap (state g.S.Store c.store.inside.conn)
     (state g.S.Store c.next_start.new.conn) _ c.next_start.ensures.survives
-    c.next_start.ensures.kept c.store.invariant
+    c.next_start.ensures.committed c.store.invariant
 
 pub invariant_of-store-2 : goal.invariant_of-store-2
 invariant_of-store-2 g c = still_sound c.store.inside.cap (state g.S.Store c.store.inside.conn)
     (state g.S.Store c.next_start.new.conn) _ c.next_start.ensures.survives
-    c.next_start.ensures.kept c.store.invariant
+    c.next_start.ensures.committed c.store.invariant
 
 pub returns-in_err-next-clause-reads : goal.returns-in_err-next-clause-reads
 returns-in_err-next-clause-reads g c =
     rw (← c.store.view_is) (reads_refused g.S.Store _ _ _ _ c.from_residual.ensures.1
     (stays_so g.S.Store c.store.inside.cap c.store.inside.conn c.next_start.new.conn
-    c.next_start.ensures.survives c.next_start.ensures.kept))
+    c.next_start.ensures.survives c.next_start.ensures.committed))
 
 pub returns-clause-reads : goal.returns-clause-reads
 returns-clause-reads g c =
     let mine = rw (← c.store.view_is) at c.requires.recording in
     rw (← c.store.view_is) (reads_rows g.S.Store c.store.inside.cap c.store.inside.conn
     c.next_start.new.conn c.start_in.result c.next_start.ensures.survives
-    c.next_start.ensures.kept c.in_ok-next.ensures.same mine.sees)
+    c.next_start.ensures.committed c.in_ok-next.ensures.same mine.sees)
 
 pub returns-clause-next : goal.returns-clause-next
 returns-clause-next g c clean =

@@ -53,26 +53,28 @@ near_rows-requires g c =
 
 pub invariant_of-store : goal.invariant_of-store
 invariant_of-store g c = still_sound c.store.inside.cap (state g.S.Store c.store.inside.conn)
-    (state g.S.Store c.near_rows.new.conn) _ c.near_rows.ensures.survives c.near_rows.ensures.kept
+    (state g.S.Store c.near_rows.new.conn) _ c.near_rows.ensures.survives
+    c.near_rows.ensures.committed
     c.store.invariant
 
 pub invariant_of-store-2 : goal.invariant_of-store-2
 invariant_of-store-2 g c = still_sound c.store.inside.cap (state g.S.Store c.store.inside.conn)
-    (state g.S.Store c.near_rows.new.conn) _ c.near_rows.ensures.survives c.near_rows.ensures.kept
+    (state g.S.Store c.near_rows.new.conn) _ c.near_rows.ensures.survives
+    c.near_rows.ensures.committed
     c.store.invariant
 
 pub returns-in_err-rows-clause-reads : goal.returns-in_err-rows-clause-reads
 returns-in_err-rows-clause-reads g c =
     rw (← c.store.view_is) (reads_refused g.S.Store _ _ _ _ c.from_residual.ensures.1
     (stays_so g.S.Store c.store.inside.cap c.store.inside.conn c.near_rows.new.conn
-    c.near_rows.ensures.survives c.near_rows.ensures.kept))
+    c.near_rows.ensures.survives c.near_rows.ensures.committed))
 
 pub returns-clause-reads : goal.returns-clause-reads
 returns-clause-reads g c =
     let mine = rw (← c.store.view_is) at c.requires.recording in
     rw (← c.store.view_is) (reads_rows g.S.Store c.store.inside.cap c.store.inside.conn
     c.near_rows.new.conn c.records_in.result c.near_rows.ensures.survives
-    c.near_rows.ensures.kept c.in_ok-rows.ensures.same mine.sees)
+    c.near_rows.ensures.committed c.in_ok-rows.ensures.same mine.sees)
 
 pub returns-clause-near : goal.returns-clause-near
 returns-clause-near g c clean =

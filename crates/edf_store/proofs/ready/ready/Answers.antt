@@ -13,7 +13,7 @@ returns-then-not-is_autocommit-clause-settles g c =
 pub returns-in_err-run_nothing-clause-settles : goal.returns-in_err-run_nothing-clause-settles
 returns-in_err-run_nothing-clause-settles g c = rw (← c.store.view_is) (record {
   stays = stays_so g.S.Store c.store.inside.cap c.store.inside.conn c.run_nothing.new.conn
-      c.run_nothing.ensures.survives c.run_nothing.ensures.kept;
+      c.run_nothing.ensures.survives c.run_nothing.ensures.committed;
   settled = λ clean. on_refused _ _ c.from_residual.result c.from_residual.ensures.1;
 })
 
@@ -24,7 +24,7 @@ returns-in_err-run_nothing-clause-refuses g c =
 pub returns-clause-settles : goal.returns-clause-settles
 returns-clause-settles g c = rw (← c.store.view_is) (record {
   stays = stays_so g.S.Store c.store.inside.cap c.store.inside.conn c.run_nothing.new.conn
-      c.run_nothing.ensures.survives c.run_nothing.ensures.kept;
+      c.run_nothing.ensures.survives c.run_nothing.ensures.committed;
   settled = λ clean. settled_now c.store.inside.cap (state g.S.Store c.store.inside.conn)
       (state g.S.Store c.run_nothing.new.conn) _ c.run_nothing.ensures.survives clean
       (c.in_ok-run_nothing.ensures.same clean) (search rules)

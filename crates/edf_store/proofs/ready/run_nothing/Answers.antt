@@ -8,8 +8,8 @@ returns-clause-same g c clean =
     ran_nothing (state g.S.Store c.args.conn.now) (state g.S.Store c.execute.new.self) _
     (c.in_ok-execute.ensures.runs clean)
 
-pub returns-clause-kept : goal.returns-clause-kept
-returns-clause-kept g c clean =
+pub returns-clause-committed : goal.returns-clause-committed
+returns-clause-committed g c clean =
     same_left (state g.S.Store c.args.conn.now) (state g.S.Store c.execute.new.self)
     (ran_nothing (state g.S.Store c.args.conn.now) (state g.S.Store c.execute.new.self) _
     (c.in_ok-execute.ensures.runs clean))
@@ -18,8 +18,8 @@ pub returns-clause-survives : goal.returns-clause-survives
 returns-clause-survives g c = nothing_survives (state g.S.Store c.args.conn.now)
     (state g.S.Store c.execute.new.self) c.execute.ensures.survives
 
-pub returns-in_err-execute-clause-kept : goal.returns-in_err-execute-clause-kept
-returns-in_err-execute-clause-kept g c clean =
+pub returns-in_err-execute-clause-committed : goal.returns-in_err-execute-clause-committed
+returns-in_err-execute-clause-committed g c clean =
     write_refused _ _ (state g.S.Store c.args.conn.now) (state g.S.Store c.execute.new.self) _
     (c.in_err-execute.ensures.runs clean)
 

@@ -21,7 +21,7 @@ page_rows-requires g c =
 pub returns-clause-stays : goal.returns-clause-stays
 returns-clause-stays g c = rw (← c.store.view_is)
     (stays_so g.S.Store c.store.inside.cap c.store.inside.conn c.page_rows.new.conn
-    c.page_rows.ensures.survives c.page_rows.ensures.kept)
+    c.page_rows.ensures.survives c.page_rows.ensures.committed)
 
 pub returns-clause-ahead : goal.returns-clause-ahead
 returns-clause-ahead g c =
@@ -63,4 +63,4 @@ returns-clause-last g c clean =
 pub returns-in_err-rows-clause-stays : goal.returns-in_err-rows-clause-stays
 returns-in_err-rows-clause-stays g c =
     rw (← c.store.view_is) (stays_so g.S.Store c.store.inside.cap c.store.inside.conn
-    c.page_rows.new.conn c.page_rows.ensures.survives c.page_rows.ensures.kept)
+    c.page_rows.new.conn c.page_rows.ensures.survives c.page_rows.ensures.committed)

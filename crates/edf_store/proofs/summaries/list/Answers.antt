@@ -17,7 +17,7 @@ identities-requires g c =
 pub returns-in_err-all-clause-leaves : goal.returns-in_err-all-clause-leaves
 returns-in_err-all-clause-leaves g c = rw (← c.store.view_is) (record {
   stays = stays_so g.S.Store c.store.inside.cap c.store.inside.conn c.identities.new.conn
-      c.identities.ensures.survives c.identities.ensures.kept;
+      c.identities.ensures.survives c.identities.ensures.committed;
   idle = λ clean. on_refused _ _ c.from_residual.result c.from_residual.ensures.1;
 })
 
@@ -27,7 +27,7 @@ returns-clause-leaves g c =
     let settled = rw (← c.store.view_is) at c.requires.settled in
     rw (← c.store.view_is) (record {
       stays = stays_so g.S.Store c.store.inside.cap c.store.inside.conn c.identities.new.conn
-          c.identities.ensures.survives c.identities.ensures.kept;
+          c.identities.ensures.survives c.identities.ensures.committed;
       idle = λ clean.
           let was_clean : HasCleanDisk a = omega (arith, c.identities.ensures.survives.clean) in
           on_ok c.identities_in.result ((c.in_ok-all.ensures.same clean).0.mode

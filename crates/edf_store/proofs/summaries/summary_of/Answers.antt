@@ -50,7 +50,7 @@ last_start-requires g c =
 pub returns-in_err-count-clause-leaves : goal.returns-in_err-count-clause-leaves
 returns-in_err-count-clause-leaves g c = rw (← c.store.view_is) (record {
   stays = stays_so g.S.Store c.store.inside.cap c.store.inside.conn c.count_rows.new.conn
-      c.count_rows.ensures.survives c.count_rows.ensures.kept;
+      c.count_rows.ensures.survives c.count_rows.ensures.committed;
   idle = λ clean. on_refused _ _ c.from_residual.result c.from_residual.ensures.1;
 })
 
@@ -62,9 +62,9 @@ returns-in_err-first-clause-leaves g c =
     rw (← c.store.view_is) (record {
       stays = stays_so g.S.Store c.store.inside.cap c.store.inside.conn c.first_start.new.conn
           (quiet_then a b d _ c.count_rows.ensures.survives c.first_start.ensures.survives)
-          (λ clean. keeps_then a b d (c.count_rows.ensures.kept
+          (λ clean. keeps_then a b d (c.count_rows.ensures.committed
           (omega (arith, c.first_start.ensures.survives.clean)))
-          (c.first_start.ensures.kept clean));
+          (c.first_start.ensures.committed clean));
       idle = λ clean. on_refused _ _ c.from_residual-in_err-first.result
           c.from_residual-in_err-first.ensures.1;
     })
@@ -78,11 +78,13 @@ returns-in_err-last-clause-leaves g c =
     rw (← c.store.view_is) (record {
       stays = stays_so g.S.Store c.store.inside.cap c.store.inside.conn c.last_start.new.conn
           (three_survive a b d e c.count_rows.ensures.survives c.first_start.ensures.survives
-          c.last_start.ensures.survives c.count_rows.ensures.kept c.first_start.ensures.kept
-          c.last_start.ensures.kept)
+          c.last_start.ensures.survives c.count_rows.ensures.committed
+          c.first_start.ensures.committed
+          c.last_start.ensures.committed)
           (three_keep a b d e c.count_rows.ensures.survives c.first_start.ensures.survives
-          c.last_start.ensures.survives c.count_rows.ensures.kept c.first_start.ensures.kept
-          c.last_start.ensures.kept);
+          c.last_start.ensures.survives c.count_rows.ensures.committed
+          c.first_start.ensures.committed
+          c.last_start.ensures.committed);
       idle = λ clean. on_refused _ _ c.from_residual-in_err-last.result
           c.from_residual-in_err-last.ensures.1;
     })
@@ -97,11 +99,13 @@ returns-clause-leaves g c =
     rw (← c.store.view_is) (record {
       stays = stays_so g.S.Store c.store.inside.cap c.store.inside.conn c.last_start.new.conn
           (three_survive a b d e c.count_rows.ensures.survives c.first_start.ensures.survives
-          c.last_start.ensures.survives c.count_rows.ensures.kept c.first_start.ensures.kept
-          c.last_start.ensures.kept)
+          c.last_start.ensures.survives c.count_rows.ensures.committed
+          c.first_start.ensures.committed
+          c.last_start.ensures.committed)
           (three_keep a b d e c.count_rows.ensures.survives c.first_start.ensures.survives
-          c.last_start.ensures.survives c.count_rows.ensures.kept c.first_start.ensures.kept
-          c.last_start.ensures.kept);
+          c.last_start.ensures.survives c.count_rows.ensures.committed
+          c.first_start.ensures.committed
+          c.last_start.ensures.committed);
       idle = λ clean.
           let clean_d : HasCleanDisk d = omega (arith, c.last_start.ensures.survives.clean) in
           let clean_b : HasCleanDisk b = omega (
@@ -152,7 +156,7 @@ returns-clause-summary g c clean =
 pub invariant_of-store : goal.invariant_of-store
 invariant_of-store g c = still_sound c.store.inside.cap (state g.S.Store c.store.inside.conn)
     (state g.S.Store c.count_rows.new.conn) _ c.count_rows.ensures.survives
-    c.count_rows.ensures.kept c.store.invariant
+    c.count_rows.ensures.committed c.store.invariant
 
 pub invariant_of-store-in_err-first : goal.invariant_of-store-in_err-first
 invariant_of-store-in_err-first g c =
@@ -161,8 +165,8 @@ invariant_of-store-in_err-first g c =
     let d = state g.S.Store c.first_start.new.conn in
     still_sound c.store.inside.cap a d _
     (quiet_then a b d _ c.count_rows.ensures.survives c.first_start.ensures.survives)
-    (λ clean. keeps_then a b d (c.count_rows.ensures.kept
-    (omega (arith, c.first_start.ensures.survives.clean))) (c.first_start.ensures.kept clean))
+    (λ clean. keeps_then a b d (c.count_rows.ensures.committed
+    (omega (arith, c.first_start.ensures.survives.clean))) (c.first_start.ensures.committed clean))
     c.store.invariant
 
 pub invariant_of-store-in_err-last : goal.invariant_of-store-in_err-last
@@ -173,11 +177,11 @@ invariant_of-store-in_err-last g c =
     let e = state g.S.Store c.last_start.new.conn in
     still_sound c.store.inside.cap a e _
     (three_survive a b d e c.count_rows.ensures.survives c.first_start.ensures.survives
-    c.last_start.ensures.survives c.count_rows.ensures.kept c.first_start.ensures.kept
-    c.last_start.ensures.kept)
+    c.last_start.ensures.survives c.count_rows.ensures.committed c.first_start.ensures.committed
+    c.last_start.ensures.committed)
     (three_keep a b d e c.count_rows.ensures.survives c.first_start.ensures.survives
-    c.last_start.ensures.survives c.count_rows.ensures.kept c.first_start.ensures.kept
-    c.last_start.ensures.kept) c.store.invariant
+    c.last_start.ensures.survives c.count_rows.ensures.committed c.first_start.ensures.committed
+    c.last_start.ensures.committed) c.store.invariant
 
 pub invariant_of-store-2 : goal.invariant_of-store-2
 invariant_of-store-2 g c =
@@ -187,8 +191,8 @@ invariant_of-store-2 g c =
     let e = state g.S.Store c.last_start.new.conn in
     still_sound c.store.inside.cap a e _
     (three_survive a b d e c.count_rows.ensures.survives c.first_start.ensures.survives
-    c.last_start.ensures.survives c.count_rows.ensures.kept c.first_start.ensures.kept
-    c.last_start.ensures.kept)
+    c.last_start.ensures.survives c.count_rows.ensures.committed c.first_start.ensures.committed
+    c.last_start.ensures.committed)
     (three_keep a b d e c.count_rows.ensures.survives c.first_start.ensures.survives
-    c.last_start.ensures.survives c.count_rows.ensures.kept c.first_start.ensures.kept
-    c.last_start.ensures.kept) c.store.invariant
+    c.last_start.ensures.survives c.count_rows.ensures.committed c.first_start.ensures.committed
+    c.last_start.ensures.committed) c.store.invariant

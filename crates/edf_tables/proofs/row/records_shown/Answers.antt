@@ -12,8 +12,8 @@ use Rattle.edf_tables.proofs.Keeping.{left_keeps}
 use Rattle.edf_tables.proofs.Reading.{query_left, query_quiet, shown_since}
 use Rattle.edf_tables.proofs.row.records_shown.Goals as goal
 
-pub returns-in_err-rows-clause-kept : goal.returns-in_err-rows-clause-kept
-returns-in_err-rows-clause-kept g c clean =
+pub returns-in_err-rows-clause-committed : goal.returns-in_err-rows-clause-committed
+returns-in_err-rows-clause-committed g c clean =
     let old = state g.S.Store c.args.conn.now in
     let new = state g.S.Store c.query.follows.lender-at-none in
     let refused : IsRefused g.S.Store c.args.sql.now (bound c.args.params.now) c.args.conn.now

@@ -10,8 +10,8 @@ returns-clause-same g c clean =
     (c.requires (omega (arith, c.query_all.ensures.survives.clean))) c.query_all.result
     (c.query_all.ensures.ok clean)
 
-pub returns-clause-kept : goal.returns-clause-kept
-returns-clause-kept g c clean =
+pub returns-clause-committed : goal.returns-clause-committed
+returns-clause-committed g c clean =
     query_keeps c.args.sql.now _ (state g.S.Store c.args.conn.now)
     (state g.S.Store c.query_all.new.self)
     (c.requires (omega (arith, c.query_all.ensures.survives.clean))) c.query_all.result

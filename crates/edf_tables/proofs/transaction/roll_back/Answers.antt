@@ -19,13 +19,13 @@ returns-in_err-execute-clause-survives g c =
     rollback_survives (state g.S.Store c.args.conn.now) (state g.S.Store c.execute.new.self)
     (crash_of _ _ _ _ _ c.execute.ensures.survives refl)
 
-pub returns-in_err-execute-clause-kept : goal.returns-in_err-execute-clause-kept
-returns-in_err-execute-clause-kept g c clean =
+pub returns-in_err-execute-clause-committed : goal.returns-in_err-execute-clause-committed
+returns-in_err-execute-clause-committed g c clean =
     write_refused _ _ (state g.S.Store c.args.conn.now) (state g.S.Store c.execute.new.self) _
     (c.in_err-execute.ensures.runs clean)
 
-pub returns-clause-kept : goal.returns-clause-kept
-returns-clause-kept g c clean =
+pub returns-clause-committed : goal.returns-clause-committed
+returns-clause-committed g c clean =
     undone_keeps (state g.S.Store c.args.conn.now) (state g.S.Store c.execute.new.self)
     (rolled_back (state g.S.Store c.args.conn.now) (state g.S.Store c.execute.new.self) _
     (runs_of _ _ _ _ _ _ (c.in_ok-execute.ensures.runs clean) refl))

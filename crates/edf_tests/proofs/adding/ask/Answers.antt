@@ -4,7 +4,7 @@ pub next_start-requires-clause-recording : goal.next_start-requires-clause-recor
 next_start-requires-clause-recording g c = (
   c.args.identity.now,
   c.in_ok-has_capacity.ensures.leaves.same.ids c.in_ok-id.id.row c.args.identity.now
-      c.in_ok-id.ensures.found.found,
+      c.in_ok-id.ensures.row_id.has_row_id,
 )
 
 pub near-requires-clause-recording : goal.near-requires-clause-recording
@@ -12,6 +12,6 @@ near-requires-clause-recording g c = (
   c.args.identity.now,
   c.in_ok-next.ensures.leaves.same.ids c.in_ok-id.id.row c.args.identity.now
       (c.in_ok-has_capacity.ensures.leaves.same.ids c.in_ok-id.id.row c.args.identity.now
-      c.in_ok-id.ensures.found.found),
+      c.in_ok-id.ensures.row_id.has_row_id),
   c.duration-duration.ensures.value,
 )

@@ -13,7 +13,7 @@ pub near-requires-clause-recording : goal.near-requires-clause-recording
 near-requires-clause-recording g c = (
   c.args.identity.now,
   c.in_ok-before.ensures.leaves.same.ids c.in_ok-id.id.row c.args.identity.now
-      c.in_ok-id.ensures.found.found,
+      c.in_ok-id.ensures.row_id.has_row_id,
   c.duration.ensures.value,
 )
 
@@ -31,7 +31,7 @@ add-requires-clause-spare g c =
     let cap_b = c.count.ensures.leaves.stays.cap ∙ cap_a in
     let cap_d = c.near.ensures.leaves.stays.cap ∙ cap_b in
     let oa = subst (λ n. StillSees n (at g.S.Store c.args.tx.now.store.now) a) cap_a
-    c.in_ok-id.ensures.found.same in
+    c.in_ok-id.ensures.row_id.same in
     let ab = subst (λ n. StillSees n a b) cap_b c.in_ok-before.ensures.leaves.same in
     let bd = subst (λ n. StillSees n b d) cap_d c.in_ok-near.ensures.leaves.same in
     let few : c.in_ok-before.before < cap = omega (arith, c.if-before-cap.false, c.requires.cap) in
@@ -41,7 +41,7 @@ add-requires-clause-spare g c =
     subst (λ n. MayAddIn n d id r) (sym cap_d)
     (may_take cap a b d (λ clean. omega (arith, c.count.ensures.leaves.stays.crash.clean, clean))
     (λ clean. omega (arith, c.near.ensures.leaves.stays.crash.clean, clean)) oa.running ab bd id k r
-    c.in_ok-before.before records c.in_ok-id.ensures.found.found
+    c.in_ok-before.before records c.in_ok-id.ensures.row_id.has_row_id
     (λ clean. subst (λ n. IsCountIn n a id c.in_ok-before.before) cap_a
     (c.in_ok-before.ensures.count clean))
     (λ clean. subst (λ n. AreNearIn cap b id n records) c.start-start.ensures.value
@@ -73,16 +73,16 @@ look-requires-clause-whole g c =
     let cap_b = c.count.ensures.leaves.stays.cap ∙ cap_a in
     let cap_d = c.near.ensures.leaves.stays.cap ∙ cap_b in
     let cap_e = c.add.ensures.leaves.stays.cap ∙ cap_d in
-    let oa = subst (λ n. StillSees n o a) cap_a c.in_ok-id.ensures.found.same in
+    let oa = subst (λ n. StillSees n o a) cap_a c.in_ok-id.ensures.row_id.same in
     let ab = subst (λ n. StillSees n a b) cap_b c.in_ok-before.ensures.leaves.same in
     let bd = subst (λ n. StillSees n b d) cap_d c.in_ok-near.ensures.leaves.same in
     let added = subst (λ n. IsAddedIn n d e id r) cap_e c.in_ok-add.ensures.added in
-    let under = bd.ids id k (ab.ids id k c.in_ok-id.ensures.found.found) in
+    let under = bd.ids id k (ab.ids id k c.in_ok-id.ensures.row_id.has_row_id) in
     let but_a = whole_but cap o a (λ clean. omega (
       arith,
       c.recording.ensures.leaves.stays.crash.clean,
       clean,
-    )) c.requires.running.sees oa k c.in_ok-id.ensures.found.only c.requires.whole in
+    )) c.requires.running.sees oa k c.in_ok-id.ensures.row_id.only c.requires.whole in
     let but_b = still_but cap a b (λ clean. omega (
       arith,
       c.count.ensures.leaves.stays.crash.clean,
@@ -106,4 +106,4 @@ look-requires-clause-recording g c =
     let k = c.args.identity.now in
     c.in_ok-add.ensures.added.ids id k
     (c.in_ok-near.ensures.leaves.same.ids id k
-    (c.in_ok-before.ensures.leaves.same.ids id k c.in_ok-id.ensures.found.found))
+    (c.in_ok-before.ensures.leaves.same.ids id k c.in_ok-id.ensures.row_id.has_row_id))

@@ -70,14 +70,14 @@ returns g c =
                 k,
                 0,
                 start it.holdings.0 it it.holdings.1 c.find.ensures.key
-                    (c.in_ok-recording.ensures.found clean it.holdings.0 it.holdings.1),
+                    (c.in_ok-recording.ensures.answer clean it.holdings.0 it.holdings.1),
               );
           at_first = λ h held clean.
               let it = c.in_ok-recording.ensures.settles.settled clean in
               let kept = held_now cap s clean it h
               (c.find.ensures.settles.stays.holdings h
               (c.ready.ensures.settles.stays.holdings h held)) in
-              start h it kept c.find.ensures.key (c.in_ok-recording.ensures.found clean h kept);
+              start h it kept c.find.ensures.key (c.in_ok-recording.ensures.answer clean h kept);
         };
         refuses = refuses_done g.S.Store c.args.self.now ⊥ _
             (idle_done g.S.Store c.args.self.now _ _ c.in_ok-ready.ensures.refuses);

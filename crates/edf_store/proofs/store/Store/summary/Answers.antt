@@ -50,12 +50,12 @@ returns-in_default-clause-summary g c clean h held =
     let none : c.in_ok-id.field-0 ≡ None = search rules in
     let kept = held_now c.find.new.store.cap s clean (c.in_ok-id.ensures.settles.settled clean) h
     (c.find.ensures.settles.stays.holdings h (c.ready.ensures.settles.stays.holdings h held)) in
-    rw none at (c.in_ok-id.ensures.found clean h kept)
+    rw none at (c.in_ok-id.ensures.answer clean h kept)
 
 pub summary_of-requires-clause-there : goal.summary_of-requires-clause-there
 summary_of-requires-clause-there g c clean =
     let it = c.in_ok-id.ensures.settles.settled clean in
-    let there = rw c.in-Some.is at (c.in_ok-id.ensures.found clean it.holdings.0 it.holdings.1) in
+    let there = rw c.in-Some.is at (c.in_ok-id.ensures.answer clean it.holdings.0 it.holdings.1) in
     (c.args.identity.now, rw (to_z-of_z w64 c.in-Some.id (search rules)) there)
 
 pub returns-in_err-summary-clause-leaves : goal.returns-in_err-summary-clause-leaves
@@ -99,6 +99,6 @@ returns-clause-summary g c clean h held =
     (c.ready.ensures.settles.stays.holdings h held) in
     let kept = held_now c.find.new.store.cap s was_clean
     (c.in_ok-id.ensures.settles.settled was_clean) h now in
-    let there = rw c.in-Some.is at (c.in_ok-id.ensures.found was_clean h kept) in
+    let there = rw c.in-Some.is at (c.in_ok-id.ensures.answer was_clean h kept) in
     c.in_ok-summary.ensures.summary clean h c.args.identity.now now
     (rw (to_z-of_z w64 c.in-Some.id (search rules)) there)
