@@ -25,7 +25,7 @@ const MOST_STEPS: u32 = MOST_RECORDS + 1;
 fn plan_walk<S: Alter>(walk: &mut Records<'_, S>) -> Result<Option<Measure>, StoreFault>
     requires ready { (walk.old.failed ≡ false) × IsWalking S.Store walk.old }
     requires cap { walk.old.store.now.cap ≤ MOST_RECORDS }
-    ensures leaves { EndsWalk S.Store walk.old walk.new
+    ensures changes { EndsWalk S.Store walk.old walk.new
         (λ s. OnOk result (s.in_transaction ≡ false)) }
     ensures walked { HasCleanDisk (at S.Store walk.new.store.now) → (h : Holdings) (k : Key) →
         HasYielded S.Store walk.old h k 0 →
@@ -49,7 +49,7 @@ fn plan_held<S: Alter>(
     cap: u32,
 ) -> Result<Option<Measure>, StoreFault>
     requires { (cap ≡ store.old.cap) × (cap ≤ MOST_RECORDS) }
-    ensures leaves { ReadsOutsideTransaction S.Store store.old store.new result }
+    ensures changes { ReadsOutsideTransaction S.Store store.old store.new result }
     ensures walked { HasCleanDisk (at S.Store store.new) → (h : Holdings) →
         Holds S.Store store.old h →
         MatchResult result
@@ -68,7 +68,7 @@ pub(crate) fn plan_file<S: Alter>(
     store: &mut Store<S>,
     identity: &Identity,
 ) -> Result<Option<Measure>, StoreFault>
-    ensures leaves { ReadsOutsideTransaction S.Store store.old store.new result }
+    ensures changes { ReadsOutsideTransaction S.Store store.old store.new result }
     ensures planned { HasCleanDisk (at S.Store store.new) → (h : Holdings) →
         Holds S.Store store.old h →
         MatchResult result (IsPlanned identity.now (h identity.now)) IsStoreRefusal }

@@ -35,7 +35,7 @@ pub fn export<S: Alter, W: Output>(
     identity: &Identity,
     out: &mut W,
 ) -> Result<u64, ExportFault>
-    ensures leaves { KeepsStore S.Store store.old store.new result }
+    ensures changes { KeepsStore S.Store store.old store.new result }
     // The file is written, or a prefix of it, where the disk returned what was written.
     ensures answered { HasCleanDisk (at S.Store store.new) → (h : Holdings) →
         Holds S.Store store.old h →

@@ -31,7 +31,7 @@ fn send_walk<S: Alter, W: Output>(
     plan: Measure,
 ) -> Result<(), ExportFault>
     requires ready { (walk.old.failed ≡ false) × IsWalking S.Store walk.old }
-    ensures leaves { EndsWalk S.Store walk.old walk.new
+    ensures changes { EndsWalk S.Store walk.old walk.new
         (λ s. IsOutsideTransactionAfterExport s result) }
     ensures sent { HasCleanDisk (at S.Store walk.new.store.now) → (h : Holdings) (k : Key) →
         HasYielded S.Store walk.old h k 0 →
@@ -63,7 +63,7 @@ fn send_recording<S: Alter, W: Output>(
     header: &[u8],
     plan: Measure,
 ) -> Result<(), ExportFault>
-    ensures leaves { KeepsStore S.Store store.old store.new result }
+    ensures changes { KeepsStore S.Store store.old store.new result }
     ensures sent { HasCleanDisk (at S.Store store.new) → (h : Holdings) →
         Holds S.Store store.old h → IsPlanOf identity.now (h identity.now) plan →
         IsSentOut (W.contents out.old) (W.contents out.new)
@@ -86,7 +86,7 @@ pub(crate) fn write_planned<S: Alter, W: Output>(
     requires may_start { MayStart identity.now plan.first }
     requires idle { HasCleanDisk (at S.Store store.old) →
         (at S.Store store.old).in_transaction ≡ false }
-    ensures leaves { KeepsStore S.Store store.old store.new result }
+    ensures changes { KeepsStore S.Store store.old store.new result }
     ensures written { HasCleanDisk (at S.Store store.new) → (h : Holdings) →
         Holds S.Store store.old h → IsPlanOf identity.now (h identity.now) plan →
         MatchResult result

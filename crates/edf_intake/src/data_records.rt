@@ -96,7 +96,7 @@ fn find_verdict<S: Alter>(
     requires running { IsRunningFor S.Store transaction.old id.row identity.now }
     requires gap { IsGapInTransaction S.Store transaction.old identity.now gap }
     // Nothing is added, so the verdict still holds of what the transaction sees after it.
-    ensures leaves { ReadsInTransaction S.Store transaction.old transaction.new result
+    ensures changes { ReadsInTransaction S.Store transaction.old transaction.new result
         (HasCauseOrIsUnclean S.Store transaction.new) }
     ensures lookup { IfOk result
         (IsLookupFor S.Store transaction.old transaction.new identity.now data_record.now) }
@@ -135,7 +135,7 @@ fn take_record<S: Alter>(
     requires next { MayBeNext S.Store transaction.old identity.now data_record.now
         destination.spare course }
     // After a refusal the transaction can only be rolled back.
-    ensures leaves { KeepsRunning S.Store transaction.old transaction.new result }
+    ensures changes { KeepsRunning S.Store transaction.old transaction.new result }
     ensures taken { IfOk result (IsRecordTaken S.Store transaction.old transaction.new
         identity.now data_record.now destination.id.row destination.spare course) }
     ensures why { IfErr result (HasCauseOrIsUnclean S.Store transaction.new) }
@@ -192,7 +192,7 @@ pub(crate) fn take_records<S: Alter, R: Input>(
         (most_records fragment.old.header.count) destination.spare }
     requires header { HasReadHeader (R.remaining input.old) fragment.old.header
         fragment.old.progress }
-    ensures leaves { KeepsRunning S.Store transaction.old transaction.new result }
+    ensures changes { KeepsRunning S.Store transaction.old transaction.new result }
     // The identity is taken from the header after this call.
     ensures header { fragment.new.header ≡ fragment.old.header }
     ensures taken { IfOk result (RecordsAreTaken S.Store transaction.old transaction.new

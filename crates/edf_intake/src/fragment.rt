@@ -26,8 +26,8 @@ fn known_spare<S: Alter>(
     count: Option<u32>,
 ) -> Result<Option<u32>, StoreFault>
     requires running { IsRunningFor S.Store transaction.old id.row identity.now }
-    ensures leaves { ReadsInTransaction S.Store transaction.old transaction.new result HasCause }
-    ensures spare { IfOk result (λ found. IfSome found
+    ensures changes { ReadsInTransaction S.Store transaction.old transaction.new result HasCause }
+    ensures spare { IfOk result (λ spare. IfSome spare
         (IsSpareInTransaction S.Store transaction.new identity.now (most_records count))) }
 {
     let Some(count) = count else {
@@ -48,8 +48,8 @@ fn find_destination<S: Alter>(
     requires running { IsRunning S.Store transaction.old }
     requires cap { cap ≡ transaction.old.store.now.cap }
     // A recording that is added holds nothing yet, so the transaction sees the same holdings.
-    ensures leaves { KeepsTransaction S.Store transaction.old transaction.new result }
-    ensures found { IfOk result (IsDestination S.Store transaction.old transaction.new
+    ensures changes { KeepsTransaction S.Store transaction.old transaction.new result }
+    ensures is_destination { IfOk result (IsDestination S.Store transaction.old transaction.new
         identity.now (most_records count)) }
 {
     let id = transaction.recording(identity)?;
@@ -73,7 +73,7 @@ pub(crate) fn take_fragment<S: Alter, R: Input>(
     requires whole { EachHasRecord S.Store transaction.old.store.now }
     // The caller reads the cap before the transaction borrows the store.
     requires cap { cap ≡ transaction.old.store.now.cap }
-    ensures leaves { KeepsRunning S.Store transaction.old transaction.new result }
+    ensures changes { KeepsRunning S.Store transaction.old transaction.new result }
     ensures accepted { IfOk result (IsAcceptedInTransaction S.Store transaction.old transaction.new
         (input_state R.Input input.old) (input_state R.Input input.new)) }
     ensures stopped { IfErr result (StopsWith S.Store transaction.old transaction.new

@@ -142,7 +142,7 @@ impl<S: Alter> Records<'_, S> {
     /// written; and `Failed` at every later call.
     pub fn next(&mut self) -> Result<Option<Record>, StoreFault>
         requires ready { self.old.failed ≡ false → IsWalking S.Store self.old }
-        ensures leaves { IsWalkStep S.Store self.old self.new result }
+        ensures changes { IsWalkStep S.Store self.old self.new result }
         ensures step { AnswersWith S.Store self.new.store.now result (λ o.
             (h : Holdings) (k : Key) (n : ℕ) →
             HasYielded S.Store self.old h k n → IsNextRecord (h k) n o) }

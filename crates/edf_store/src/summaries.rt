@@ -39,7 +39,7 @@ impl<S: Alter> Store<S> {
     /// `Memory` (E41) or `Store` (E42), without a cause where the connection is in a transaction;
     /// or `Foreign` (E45) where the disk returned what was not written.
     pub fn identities(&mut self) -> Result<Vec<Identity>, StoreFault>
-        ensures leaves { ReadsOutsideTransaction S.Store self.old self.new result }
+        ensures changes { ReadsOutsideTransaction S.Store self.old self.new result }
         ensures refuses { IsRefusedIfBusy S.Store self.old result (IsUnclean S.Store self.new) }
         ensures keys { AnswersWith S.Store self.new result (λ all.
             AreKeysHeld S.Store self.old all.items) }
@@ -55,7 +55,7 @@ impl<S: Alter> Store<S> {
     /// `Memory` (E41) or `Store` (E42), without a cause where the connection is in a transaction;
     /// or `Foreign` (E45) where the disk returned what was not written.
     pub fn summary(&mut self, identity: &Identity) -> Result<Option<Summary>, StoreFault>
-        ensures leaves { ReadsOutsideTransaction S.Store self.old self.new result }
+        ensures changes { ReadsOutsideTransaction S.Store self.old self.new result }
         ensures refuses { IsRefusedIfBusy S.Store self.old result (IsUnclean S.Store self.new) }
         ensures summary { AnswersWith S.Store self.new result
             (IsSummaryOf S.Store self.old identity.now) }
@@ -72,7 +72,7 @@ impl<S: Alter> Store<S> {
 /// Reads the identities that the tables have.
 fn list<S: Alter>(store: &mut Store<S>) -> Result<Vec<Identity>, RowFault>
     requires settled { IsAtRest S.Store store.old }
-    ensures leaves { ReadsOutsideTransaction S.Store store.old store.new result }
+    ensures changes { ReadsOutsideTransaction S.Store store.old store.new result }
     ensures keys { ReadsOurRows S.Store store.new result (λ all.
         AreKeysHeld S.Store store.old all.items) }
 {
@@ -102,7 +102,7 @@ fn summary_of<S: Alter>(store: &mut Store<S>, id: i64) -> Result<Summary, RowFau
     requires settled { IsAtRest S.Store store.old }
     requires there { HasCleanDisk (at S.Store store.old) →
         (k : Key) × HasRecordingRow (at S.Store store.old).now.trees id k }
-    ensures leaves { ReadsOutsideTransaction S.Store store.old store.new result }
+    ensures changes { ReadsOutsideTransaction S.Store store.old store.new result }
     ensures summary { ReadsOurRows S.Store store.new result (λ summary.
         (h : Holdings) (k : Key) → Holds S.Store store.old h →
         HasRecordingRow (at S.Store store.old).now.trees id k → IsSummary (h k) (Some summary)) }

@@ -42,7 +42,7 @@ impl<S: Alter> StoreTx<'_, S> {
     /// `Memory` (E41) or `Store` (E42), and the transaction is to be given up.
     pub fn recording(&mut self, identity: &Identity) -> Result<RecordingId, StoreFault>
         requires running { IsRunning S.Store self.old }
-        ensures leaves { KeepsTransaction S.Store self.old self.new result }
+        ensures changes { KeepsTransaction S.Store self.old self.new result }
         ensures row_id { IfOk result (λ id. IsSelectedOrInserted S.Store
             self.old.store.now self.new.store.now identity.now id.row) }
     {
@@ -66,7 +66,7 @@ impl<S: Alter> StoreTx<'_, S> {
         requires running { IsRunning S.Store self.old }
         requires recording { (k : Key) × IsOf S.Store self.old.store.now id.row k
             × (duration ≡ duration_of k.duration) }
-        ensures leaves { ReadsInTransaction S.Store self.old self.new result
+        ensures changes { ReadsInTransaction S.Store self.old self.new result
             (HasCauseOrIsUnclean S.Store self.new) }
         ensures near { AnswersWith S.Store self.new.store.now result (λ records.
             AreNear S.Store self.old.store.now id.row start records.items) }
@@ -91,7 +91,7 @@ impl<S: Alter> StoreTx<'_, S> {
     ) -> Result<Option<Instant>, StoreFault>
         requires running { IsRunning S.Store self.old }
         requires recording { (k : Key) × IsOf S.Store self.old.store.now id.row k }
-        ensures leaves { ReadsInTransaction S.Store self.old self.new result
+        ensures changes { ReadsInTransaction S.Store self.old self.new result
             (HasCauseOrIsUnclean S.Store self.new) }
         ensures next { AnswersWith S.Store self.new.store.now result
             (IsNextStartOf S.Store self.old.store.now id.row from) }
@@ -108,7 +108,7 @@ impl<S: Alter> StoreTx<'_, S> {
     pub fn count(&mut self, id: RecordingId) -> Result<u32, StoreFault>
         requires running { IsRunning S.Store self.old }
         requires recording { (k : Key) × IsOf S.Store self.old.store.now id.row k }
-        ensures leaves { ReadsInTransaction S.Store self.old self.new result HasCause }
+        ensures changes { ReadsInTransaction S.Store self.old self.new result HasCause }
         ensures count { AnswersWith S.Store self.new.store.now result
             (IsCountOf S.Store self.old.store.now id.row) }
     {
@@ -134,7 +134,7 @@ impl<S: Alter> StoreTx<'_, S> {
         requires running { IsRunning S.Store self.old }
         requires recording { (k : Key) × IsOf S.Store self.old.store.now id.row k
             × (duration ≡ duration_of k.duration) }
-        ensures leaves { ReadsInTransaction S.Store self.old self.new result HasCause }
+        ensures changes { ReadsInTransaction S.Store self.old self.new result HasCause }
         ensures spare { AnswersWith S.Store self.new.store.now result
             (IsCapacityAnswer S.Store self.old.store.now id.row more) }
     {
@@ -151,7 +151,7 @@ impl<S: Alter> StoreTx<'_, S> {
     pub fn add(&mut self, id: RecordingId, data_record: &Record) -> Result<(), StoreFault>
         requires running { IsRunning S.Store self.old }
         requires spare { MayAddTo S.Store self.old.store.now id.row data_record.now }
-        ensures leaves { KeepsTransaction S.Store self.old self.new result }
+        ensures changes { KeepsTransaction S.Store self.old self.new result }
         ensures added { IfOk result (λ _.
             IsAdded S.Store self.old.store.now self.new.store.now id.row data_record.now) }
     {

@@ -12,7 +12,7 @@ use Rattle.edf_store.specs.declared.fault.StoreFault.TheVariants.{Foreign}
 use Rattle.edf_canonical.specs.Measure.{IsMeasured}
 use Rattle.edf_canonical.specs.Output.{WritesPrefix}
 use Rattle.edf_canonical.specs.declared.fault.OutputFault.TheVariants.{Write as Failed}
-use Rattle.edf_canonical.specs.declared.fault.OutputFault.TheVariants.{Memory as NoRoom}
+use Rattle.edf_canonical.specs.declared.fault.OutputFault.TheVariants.{Memory as OutOfMemory}
 use Rattle.edf_canonical.specs.declared.fault.SendFault.{SendFault}
 use Rattle.edf_canonical.specs.declared.fault.SendFault.TheVariants.{Source, Unlike, Output}
 use Rattle.edf_canonical.specs.declared.measure.Measure.{Measure}
@@ -42,7 +42,7 @@ abbrev pub export_fault_of : SendFault StoreFault → ExportFault
 export_fault_of (Source fault) = Store fault
 export_fault_of Unlike = Store Foreign
 export_fault_of (Output Failed) = Write
-export_fault_of (Output NoRoom) = Memory
+export_fault_of (Output OutOfMemory) = Memory
 
 -- a file that has a plan may fail so
 abbrev pub IsWritingFault : ExportFault → Type 0

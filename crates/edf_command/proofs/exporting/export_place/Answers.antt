@@ -15,7 +15,7 @@ use Rattle.edf_command.proofs.exporting.export_place.Goals as goal
 
 pub returns-in-Err : goal.returns-in-Err
 returns-in-Err g c = record {
-  stays = c.identities.ensures.leaves.stays;
+  stays = c.identities.ensures.changes.stays;
   printed = inl (inr (
     Store c.in-Err.fault,
     (λ is. not-failed _ _ c.in-Err.fault c.in-Err.ensures.refuses.why (let same : c.in-Err.fault
@@ -42,7 +42,7 @@ returns-in-Some g c =
     let new = c.export_recording.new.store in
     let at : List Key → Option Key = λ keys. at_place keys c.args.place in
     record {
-      stays = stays_then g.S.Store old mid new c.identities.ensures.leaves.stays
+      stays = stays_then g.S.Store old mid new c.identities.ensures.changes.stays
           c.export_recording.ensures.stays;
       printed = inl c.export_recording.ensures.printed;
       exported = λ clean h holds. inl (record {
@@ -53,7 +53,7 @@ returns-in-Some g c =
             clean) h holds;
         is_at = ap at (sym c.as_slice.ensures.value) ∙ sym c.in-Some.ensures;
         exported = c.export_recording.ensures.exported clean h
-            (c.identities.ensures.leaves.stays.holdings h holds);
+            (c.identities.ensures.changes.stays.holdings h holds);
       });
     }
 
@@ -68,7 +68,7 @@ returns g c =
       c.print_no_recording.ensures,
     ) in
     record {
-      stays = c.identities.ensures.leaves.stays;
+      stays = c.identities.ensures.changes.stays;
       printed = inr said;
       exported = λ clean h holds. inr (inl (record {
         keys = c.in-Ok.recordings.items;

@@ -14,7 +14,7 @@ use Rattle.edf_command.proofs.listing.list.Goals as goal
 
 pub returns-in-Err : goal.returns-in-Err
 returns-in-Err g c = record {
-  stays = c.identities.ensures.leaves.stays;
+  stays = c.identities.ensures.changes.stays;
   printed = inr (inr (
     c.in-Err.fault,
     not-failed _ _ c.in-Err.fault c.in-Err.ensures.refuses.why,
@@ -40,7 +40,7 @@ returns-in-Ok-true g c =
     let new = c.put_recordings.new.store in
     let keys = c.in-Ok.recordings.items in
     record {
-      stays = stays_then g.S.Store old mid new c.identities.ensures.leaves.stays
+      stays = stays_then g.S.Store old mid new c.identities.ensures.changes.stays
           c.in-Ok-true.ensures.stays;
       printed = inl (
         c.in-Ok-true.ensures.counted c.in-Ok-true.field-0-test,
@@ -60,7 +60,7 @@ returns-in-Ok-true g c =
                 let IsOut : Bool → List Key → Type 0 =
                 λ written ks. AreLinesWritten w (first_list_lines spell h ks) (length ks) written in
                 let put = c.in-Ok-true.ensures.put clean h spell
-                (c.identities.ensures.leaves.stays.holdings h holds) all is in
+                (c.identities.ensures.changes.stays.holdings h holds) all is in
                 let done = subst (IsOut true) c.as_slice.ensures.value
                 (subst (λ (b : Bool). IsOut b c.as_slice.result.now) c.in-Ok-true.field-0-test
                 put) in
@@ -77,7 +77,7 @@ returns-in-Ok-false g c =
     let new = c.put_recordings.new.store in
     let keys = c.in-Ok.recordings.items in
     record {
-      stays = stays_then g.S.Store old mid new c.identities.ensures.leaves.stays
+      stays = stays_then g.S.Store old mid new c.identities.ensures.changes.stays
           c.in-Ok-false.ensures.stays;
       printed = inr (inl (
         nothing-gets (g.F.Output.contents c.args.err.now)
@@ -97,7 +97,7 @@ returns-in-Ok-false g c =
                 let IsOut : Bool → List Key → Type 0 =
                 λ written ks. AreLinesWritten w (first_list_lines spell h ks) (length ks) written in
                 let put = c.in-Ok-false.ensures.put clean h spell
-                (c.identities.ensures.leaves.stays.holdings h holds) all is in
+                (c.identities.ensures.changes.stays.holdings h holds) all is in
                 let done = subst (IsOut false) c.as_slice.ensures.value
                 (subst (λ (b : Bool). IsOut b c.as_slice.result.now) c.in-Ok-false.field-0-test
                 put) in
@@ -114,7 +114,7 @@ returns g c =
     let new = c.put_recordings.new.store in
     let keys = c.in-Ok.recordings.items in
     record {
-      stays = stays_then g.S.Store old mid new c.identities.ensures.leaves.stays
+      stays = stays_then g.S.Store old mid new c.identities.ensures.changes.stays
           c.in-Err-put_recordings.ensures.stays;
       printed = inr (inr (
         c.in-Err-put_recordings.stop,
@@ -128,7 +128,7 @@ returns g c =
           let held : List Key → Type 0 = λ ks. AreHeldBy h ks in
           let all = subst held (sym c.as_slice.ensures.value) (λ k has. (are.held k).0 has) in
           let stop = c.in-Err-put_recordings.ensures.refused clean in
-          let then = stop.1 h (c.identities.ensures.leaves.stays.holdings h holds) all in
+          let then = stop.1 h (c.identities.ensures.changes.stays.holdings h holds) all in
           inr (record {
             given = take stop.0 keys;
             fault = c.in-Err-put_recordings.stop;

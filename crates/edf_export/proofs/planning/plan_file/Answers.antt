@@ -7,10 +7,10 @@ use Rattle.edf_export.proofs.planning.plan_file.Goals as goal
 
 -- ---- the walk is refused
 
-pub returns-in_err-plan-clause-leaves : goal.returns-in_err-plan-clause-leaves
-returns-in_err-plan-clause-leaves g c =
+pub returns-in_err-plan-clause-changes : goal.returns-in_err-plan-clause-changes
+returns-in_err-plan-clause-changes g c =
     let p = err_from_is_err_and c.from_residual.result c.from_residual.ensures.1 in
-    record { stays = c.in_err-plan.ensures.leaves.stays; idle = λ clean. rw (p.1) tt }
+    record { stays = c.in_err-plan.ensures.changes.stays; idle = λ clean. rw (p.1) tt }
 
 pub returns-in_err-plan-clause-planned : goal.returns-in_err-plan-clause-planned
 returns-in_err-plan-clause-planned g c clean h held =
@@ -25,9 +25,9 @@ returns-in_err-plan-clause-why g c =
 
 -- ---- nothing is held
 
-pub returns-in_default-clause-leaves : goal.returns-in_default-clause-leaves
-returns-in_default-clause-leaves g c =
-    let l = c.in_ok-plan.ensures.leaves in record { stays = l.stays; idle = l.idle }
+pub returns-in_default-clause-changes : goal.returns-in_default-clause-changes
+returns-in_default-clause-changes g c =
+    let l = c.in_ok-plan.ensures.changes in record { stays = l.stays; idle = l.idle }
 
 pub returns-in_default-clause-planned : goal.returns-in_default-clause-planned
 returns-in_default-clause-planned g c clean h held =
@@ -36,14 +36,14 @@ returns-in_default-clause-planned g c clean h held =
 
 -- ---- rows that no store has
 
-pub returns-then-plan-cap-clause-leaves : goal.returns-then-plan-cap-clause-leaves
-returns-then-plan-cap-clause-leaves g c =
-    let l = c.in_ok-plan.ensures.leaves in record { stays = l.stays; idle = λ clean. tt }
+pub returns-then-plan-cap-clause-changes : goal.returns-then-plan-cap-clause-changes
+returns-then-plan-cap-clause-changes g c =
+    let l = c.in_ok-plan.ensures.changes in record { stays = l.stays; idle = λ clean. tt }
 
 pub returns-then-plan-cap-clause-planned : goal.returns-then-plan-cap-clause-planned
 returns-then-plan-cap-clause-planned g c clean h held =
     let it = rw c.in-Some.is at (c.in_ok-plan.ensures.walked clean h held) in
-    let same = c.in_ok-plan.ensures.leaves.stays.cap in
+    let same = c.in_ok-plan.ensures.changes.stays.cap in
     let records = h c.args.identity.now in
     elim c.then-plan-cap.branch [
       | then-plan-cap-via-then-plan-cap w ↦
@@ -63,9 +63,9 @@ returns-then-plan-cap-clause-planned g c clean h held =
 
 -- ---- the plan
 
-pub returns-clause-leaves : goal.returns-clause-leaves
-returns-clause-leaves g c =
-    let l = c.in_ok-plan.ensures.leaves in record { stays = l.stays; idle = l.idle }
+pub returns-clause-changes : goal.returns-clause-changes
+returns-clause-changes g c =
+    let l = c.in_ok-plan.ensures.changes in record { stays = l.stays; idle = l.idle }
 
 pub returns-clause-planned : goal.returns-clause-planned
 returns-clause-planned g c clean h held =
@@ -79,7 +79,7 @@ returns-clause-planned g c clean h held =
         within_cap = omega (
           arith,
           sound.within_cap,
-          c.in_ok-plan.ensures.leaves.stays.cap,
+          c.in_ok-plan.ensures.changes.stays.cap,
           c.cap-cap.ensures.value,
           c.cap-cap.ensures.bound.1,
         );

@@ -10,8 +10,8 @@ use Rattle.edf_store.proofs.Faults.{is_store_refusal}
 use Rattle.edf_export.proofs.Walks.{clean_before, sound_recording, refusal_why}
 use Rattle.edf_export.proofs.planning.plan_held.Goals as goal
 
-pub returns-in_err-walk-clause-leaves : goal.returns-in_err-walk-clause-leaves
-returns-in_err-walk-clause-leaves g c =
+pub returns-in_err-walk-clause-changes : goal.returns-in_err-walk-clause-changes
+returns-in_err-walk-clause-changes g c =
     let p = err_from_is_err_and c.from_residual.result c.from_residual.ensures.1 in record {
       stays = search rules;
       idle = λ clean. rw (p.1) tt;
@@ -29,10 +29,10 @@ returns-in_err-walk-clause-why g c =
     rw (p.1, p.2) (refusal_why _ ⊥ ⊥ _ c.in_err-walk.field-0.0 c.in_err-walk.ensures.refuses.why
     (λ busy. busy) (λ no. no))
 
-pub returns-clause-leaves : goal.returns-clause-leaves
-returns-clause-leaves g c =
+pub returns-clause-changes : goal.returns-clause-changes
+returns-clause-changes g c =
     let same : c.drop-walk.new.self.0 ≡ c.store-2-1.given.0 = search rules in
-    let l = c.plan_walk.ensures.leaves in
+    let l = c.plan_walk.ensures.changes in
     rw (← (sym c.drop-walk.ensures ∙ same)) (record {
       stays = stays_then g.S.Store c.args.store.now c.in_ok-walk.walk.store.now
           c.plan_walk.new.walk.store.now c.in_ok-walk.ensures.begun.stays l.stays;
@@ -47,9 +47,9 @@ returns-clause-walked g c clean h held =
     rw left clean in
     let was = clean_before g.S.Store c.in_ok-walk.walk.store.now
     c.plan_walk.new.walk.store.now
-    c.plan_walk.ensures.leaves.stays is_clean in
+    c.plan_walk.ensures.changes.stays is_clean in
     let cap : c.in_ok-walk.walk.store.now.cap ≡ c.store-2-1.given.0.cap =
-    rw (← left) (sym c.plan_walk.ensures.leaves.stays.cap) in
+    rw (← left) (sym c.plan_walk.ensures.changes.stays.cap) in
     let k = c.args.identity.now in
     let begun = c.in_ok-walk.ensures.begun.at_first h held in
     let sound : IsSoundRecording c.store-2-1.given.0.cap k (h k) =

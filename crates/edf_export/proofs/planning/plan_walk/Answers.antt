@@ -29,15 +29,15 @@ loop-preserved g c =
     let moved = rw c.in-Some.is at c.in_ok-data_record.ensures.moved in
     let step = rw c.in-Some.is at c.in_ok-data_record.ensures.step in
     record {
-      going = c.in_ok-data_record.ensures.leaves.going;
-      ready = c.in_ok-data_record.ensures.leaves.walking;
-      same_reference = c.next.ensures.leaves.same_reference ∙ i.same_reference;
+      going = c.in_ok-data_record.ensures.changes.going;
+      ready = c.in_ok-data_record.ensures.changes.walking;
+      same_reference = c.next.ensures.changes.same_reference ∙ i.same_reference;
       stays = stays_then g.S.Store c.args.walk.now.store.now c.loop.walk.store.now
-          c.next.new.self.store.now i.stays c.next.ensures.leaves.stays;
+          c.next.new.self.store.now i.stays c.next.ensures.changes.stays;
       moved = λ h k walked. moved h k n (i.moved h k walked);
       told = λ clean h k walked.
           let was = clean_before g.S.Store c.loop.walk.store.now c.next.new.self.store.now
-          c.next.ensures.leaves.stays clean in
+          c.next.ensures.changes.stays clean in
           let gives = step clean h k n (i.moved h k walked) in
           let capped : c.loop.walk.store.now.cap ≤ MOST_RECORDS =
           rw i.stays.cap c.requires.cap in
@@ -54,11 +54,11 @@ loop-preserved g c =
     }
 
 -- all were given
-pub returns-in_default-clause-leaves : goal.returns-in_default-clause-leaves
-returns-in_default-clause-leaves g c =
+pub returns-in_default-clause-changes : goal.returns-in_default-clause-changes
+returns-in_default-clause-changes g c =
     let i = c.loop.invariant in
     leaves_on g.S.Store _ c.args.walk.now c.loop.walk c.next.new.self _ i.same_reference i.stays
-    c.next.ensures.leaves (λ clean. (c.in_ok-data_record.ensures.leaves.walking clean).3.idle)
+    c.next.ensures.changes (λ clean. (c.in_ok-data_record.ensures.changes.walking clean).3.idle)
 
 pub returns-in_default-clause-walked : goal.returns-in_default-clause-walked
 returns-in_default-clause-walked g c clean h k walked =
@@ -68,34 +68,34 @@ returns-in_default-clause-walked g c clean h k walked =
     let all : c.loop.counter ≡ length (h k) =
     step clean h k c.loop.counter (i.moved h k walked) in
     let was = clean_before g.S.Store c.loop.walk.store.now c.next.new.self.store.now
-    c.next.ensures.leaves.stays clean in
+    c.next.ensures.changes.stays clean in
     subst (λ (rs : List DataRecord). IsMeasuredSoFar rs c.loop.plan)
     (take_all c.loop.counter (h k) (omega (arith, all))) (i.told was h k walked)
 
-pub returns-in_err-data_record-clause-leaves : goal.returns-in_err-data_record-clause-leaves
-returns-in_err-data_record-clause-leaves g c =
+pub returns-in_err-data_record-clause-changes : goal.returns-in_err-data_record-clause-changes
+returns-in_err-data_record-clause-changes g c =
     let p = err_from_is_err_and c.from_residual.result c.from_residual.ensures.1 in
     leaves_on g.S.Store _ c.args.walk.now c.loop.walk c.next.new.self _
-    c.loop.invariant.same_reference c.loop.invariant.stays c.next.ensures.leaves
+    c.loop.invariant.same_reference c.loop.invariant.stays c.next.ensures.changes
     (λ clean. rw (p.1) tt)
 
 pub returns-in_err-data_record-clause-walked : goal.returns-in_err-data_record-clause-walked
 returns-in_err-data_record-clause-walked g c clean h k walked =
     let e = c.in_err-data_record.ensures in
     let p = err_from_is_err_and c.from_residual.result c.from_residual.ensures.1 in
-    rw (p.1, p.2) (is_store_refusal _ _ _ c.in_err-data_record.field-0.0 e.leaves.why
+    rw (p.1, p.2) (is_store_refusal _ _ _ c.in_err-data_record.field-0.0 e.changes.why
     (λ unclean. unclean clean) (not_failed _ c.loop.invariant.going))
 
 pub returns-in_err-data_record-clause-why : goal.returns-in_err-data_record-clause-why
 returns-in_err-data_record-clause-why g c =
     let e = c.in_err-data_record.ensures in
     let p = err_from_is_err_and c.from_residual.result c.from_residual.ensures.1 in
-    rw (p.1, p.2) (refusal_why _ _ _ ⊥ c.in_err-data_record.field-0.0 e.leaves.why (λ busy. busy)
+    rw (p.1, p.2) (refusal_why _ _ _ ⊥ c.in_err-data_record.field-0.0 e.changes.why (λ busy. busy)
     (not_failed _ c.loop.invariant.going))
 
 -- more came than a recording may have
-pub returns-clause-leaves : goal.returns-clause-leaves
-returns-clause-leaves g c = record {
+pub returns-clause-changes : goal.returns-clause-changes
+returns-clause-changes g c = record {
   same_reference = c.loop.invariant.same_reference;
   stays = c.loop.invariant.stays;
   after = λ clean. tt;

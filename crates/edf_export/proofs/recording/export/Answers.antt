@@ -8,10 +8,10 @@ use Rattle.edf_export.proofs.recording.export.Goals as goal
 
 -- ---- there is no plan since the store refuses
 
-pub returns-in_err-plan-clause-leaves : goal.returns-in_err-plan-clause-leaves
-returns-in_err-plan-clause-leaves g c =
+pub returns-in_err-plan-clause-changes : goal.returns-in_err-plan-clause-changes
+returns-in_err-plan-clause-changes g c =
     let p = err_from_is_err_and c.from_residual.result c.from_residual.ensures.1 in
-    record { stays = c.in_err-plan.ensures.leaves.stays; idle = λ clean. rw (p.1, p.2) tt }
+    record { stays = c.in_err-plan.ensures.changes.stays; idle = λ clean. rw (p.1, p.2) tt }
 
 pub returns-in_err-plan-clause-answered : goal.returns-in_err-plan-clause-answered
 returns-in_err-plan-clause-answered g c clean h held =
@@ -26,9 +26,9 @@ returns-in_err-plan-clause-truly g c =
 
 -- ---- there is none since nothing is held
 
-pub returns-in_default-clause-leaves : goal.returns-in_default-clause-leaves
-returns-in_default-clause-leaves g c =
-    let l = c.in_ok-plan.ensures.leaves in record { stays = l.stays; idle = l.idle }
+pub returns-in_default-clause-changes : goal.returns-in_default-clause-changes
+returns-in_default-clause-changes g c =
+    let l = c.in_ok-plan.ensures.changes in record { stays = l.stays; idle = l.idle }
 
 pub returns-in_default-clause-answered : goal.returns-in_default-clause-answered
 returns-in_default-clause-answered g c clean h held =
@@ -37,20 +37,20 @@ returns-in_default-clause-answered g c clean h held =
 
 -- ---- the file is written, or not to its end
 
-pub returns-clause-leaves : goal.returns-clause-leaves
-returns-clause-leaves g c =
-    let l = c.write_planned.ensures.leaves in record {
+pub returns-clause-changes : goal.returns-clause-changes
+returns-clause-changes g c =
+    let l = c.write_planned.ensures.changes in record {
       stays = stays_then g.S.Store c.args.store.now c.plan_file.new.store
-          c.write_planned.new.store c.plan_file.ensures.leaves.stays l.stays;
+          c.write_planned.new.store c.plan_file.ensures.changes.stays l.stays;
       idle = l.idle;
     }
 
 pub returns-clause-answered : goal.returns-clause-answered
 returns-clause-answered g c clean h held =
     let was = clean_before g.S.Store c.plan_file.new.store c.write_planned.new.store
-    c.write_planned.ensures.leaves.stays clean in
+    c.write_planned.ensures.changes.stays clean in
     let planned = rw c.in-Some.is at (c.in_ok-plan.ensures.planned was) in
-    c.write_planned.ensures.written clean h (c.plan_file.ensures.leaves.stays.holdings h held)
+    c.write_planned.ensures.written clean h (c.plan_file.ensures.changes.stays.holdings h held)
     (planned h held)
 
 pub returns-clause-truly : goal.returns-clause-truly

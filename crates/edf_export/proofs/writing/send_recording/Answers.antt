@@ -7,8 +7,8 @@ use Rattle.edf_store.proofs.Faults.{is_store_refusal}
 use Rattle.edf_export.proofs.Walks.{refusal_why}
 use Rattle.edf_export.proofs.writing.send_recording.Goals as goal
 
-pub returns-in_err-walk-clause-leaves : goal.returns-in_err-walk-clause-leaves
-returns-in_err-walk-clause-leaves g c =
+pub returns-in_err-walk-clause-changes : goal.returns-in_err-walk-clause-changes
+returns-in_err-walk-clause-changes g c =
     let p = err_from_is_err_and c.from_residual.result c.from_residual.ensures.1 in
     record { stays = search rules; idle = λ clean. rw (p.1, p.2) tt }
 
@@ -30,10 +30,10 @@ returns-in_err-walk-clause-counted g c =
           c.in_err-walk.ensures.refuses.why (λ busy. busy) (λ no. no),
     )
 
-pub returns-clause-leaves : goal.returns-clause-leaves
-returns-clause-leaves g c =
+pub returns-clause-changes : goal.returns-clause-changes
+returns-clause-changes g c =
     let same : c.drop-walk.new.self.0 ≡ c.store-2-1.given.0 = search rules in
-    let l = c.send_walk.ensures.leaves in
+    let l = c.send_walk.ensures.changes in
     rw (← (sym c.drop-walk.ensures ∙ same)) (record {
       stays = stays_then g.S.Store c.args.store.now c.in_ok-walk.walk.store.now
           c.send_walk.new.walk.store.now c.in_ok-walk.ensures.begun.stays l.stays;

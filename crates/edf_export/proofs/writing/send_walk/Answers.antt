@@ -3,8 +3,8 @@ use Rattle.edf_export.proofs.FromWalk.{sent-leaves, sent-text, stopped-leaves, s
 use Rattle.edf_export.proofs.FromWalk.{stopped-text}
 use Rattle.edf_export.proofs.writing.send_walk.Goals as goal
 
-pub returns-in_err-send-clause-leaves : goal.returns-in_err-send-clause-leaves
-returns-in_err-send-clause-leaves g c =
+pub returns-in_err-send-clause-changes : goal.returns-in_err-send-clause-changes
+returns-in_err-send-clause-changes g c =
     let p = err_from_is_err_and c.from_residual.result c.from_residual.ensures.1 in
     rw (p.1, p.2) (stopped-leaves g.S.Store _ c.requires.ready.0 c.requires.ready.1 _ c.args.plan _ _
     c.in_err-send.ensures.0)
@@ -21,8 +21,8 @@ returns-in_err-send-clause-counted g c =
     rw (p.1, p.2) (stopped-counts g.S.Store _ c.requires.ready.0 c.requires.ready.1 _ c.args.plan _ _
     c.in_err-send.ensures.0 _ _ c.in_err-send.ensures.1)
 
-pub returns-clause-leaves : goal.returns-clause-leaves
-returns-clause-leaves g c = sent-leaves g.S.Store _ c.requires.ready.0 c.requires.ready.1 _
+pub returns-clause-changes : goal.returns-clause-changes
+returns-clause-changes g c = sent-leaves g.S.Store _ c.requires.ready.0 c.requires.ready.1 _
     c.args.plan _ c.in_ok-send.ensures.0
 
 pub returns-clause-sent : goal.returns-clause-sent

@@ -9,8 +9,8 @@ use Rattle.edf_export.proofs.writing.write_planned.Goals as goal
 
 -- ---- there is no memory for the header
 
-pub returns-in_default-clause-leaves : goal.returns-in_default-clause-leaves
-returns-in_default-clause-leaves g c =
+pub returns-in_default-clause-changes : goal.returns-in_default-clause-changes
+returns-in_default-clause-changes g c =
     record { stays = stays_same g.S.Store c.args.store.now; idle = c.requires.idle }
 
 pub returns-in_default-clause-written : goal.returns-in_default-clause-written
@@ -18,9 +18,9 @@ returns-in_default-clause-written g c clean h held plan = none_out _ _ _
 
 -- ---- the file is not sent
 
-pub returns-in_err-send_recording-clause-leaves : goal.returns-in_err-send_recording-clause-leaves
-returns-in_err-send_recording-clause-leaves g c =
-    let l = c.in_err-send_recording.ensures.leaves in
+pub returns-in_err-send_recording-clause-changes : goal.returns-in_err-send_recording-clause-changes
+returns-in_err-send_recording-clause-changes g c =
+    let l = c.in_err-send_recording.ensures.changes in
     let p = err_from_is_err_and c.from_residual.result c.from_residual.ensures.1 in
     record { stays = l.stays; idle = λ clean. rw (p.1, p.2) (l.idle clean) }
 
@@ -44,9 +44,9 @@ returns-in_err-send_recording-clause-counted g c =
 
 -- ---- it is sent
 
-pub returns-clause-leaves : goal.returns-clause-leaves
-returns-clause-leaves g c =
-    let l = c.in_ok-send_recording.ensures.leaves in record { stays = l.stays; idle = l.idle }
+pub returns-clause-changes : goal.returns-clause-changes
+returns-clause-changes g c =
+    let l = c.in_ok-send_recording.ensures.changes in record { stays = l.stays; idle = l.idle }
 
 pub returns-clause-written : goal.returns-clause-written
 returns-clause-written g c clean h held plan =

@@ -11,8 +11,8 @@ use Rattle.edf_intake.proofs.Transactions.{passed_on, reads_none, reads_as, read
 use Rattle.edf_intake.proofs.Transactions.{reads_then, reads_then_refused}
 use Rattle.edf_intake.proofs.data_records.find_verdict.Goals as goal
 
-pub returns-in-Some-clause-leaves : goal.returns-in-Some-clause-leaves
-returns-in-Some-clause-leaves g c =
+pub returns-in-Some-clause-changes : goal.returns-in-Some-clause-changes
+returns-in-Some-clause-changes g c =
     let lookup : Lookup = record { verdict = New; gap = Some c.in-Some.rest } in
     reads_none g.S.Store c.args.transaction.now
     (HasCauseOrIsUnclean g.S.Store c.args.transaction.now) lookup c.requires.running.running
@@ -34,25 +34,25 @@ pub near-requires-clause-recording : goal.near-requires-clause-recording
 near-requires-clause-recording g c =
     (c.args.identity.now, c.requires.running.recording, c.duration-duration.ensures.value)
 
-pub returns-in_err-near-clause-leaves : goal.returns-in_err-near-clause-leaves
-returns-in_err-near-clause-leaves g c =
+pub returns-in_err-near-clause-changes : goal.returns-in_err-near-clause-changes
+returns-in_err-near-clause-changes g c =
     let first = c.args.transaction.now in
     let last = c.near.new.self in
     let Why = HasCauseOrIsUnclean g.S.Store last in
     passed_on c.from_residual.result c.in_err-near.field-0.0
     (λ (r : Result Lookup StoreFault). ReadsInTransaction g.S.Store first last r Why)
     c.from_residual.ensures.1
-    (reads_refused g.S.Store first last Why c.in_err-near.field-0.0 c.in_err-near.ensures.leaves)
+    (reads_refused g.S.Store first last Why c.in_err-near.field-0.0 c.in_err-near.ensures.changes)
 
 pub next_start-requires-clause-recording : goal.next_start-requires-clause-recording
 next_start-requires-clause-recording g c = (
   c.args.identity.now,
-  c.in_ok-near.ensures.leaves.same.ids c.args.id.row c.args.identity.now
+  c.in_ok-near.ensures.changes.same.ids c.args.id.row c.args.identity.now
       c.requires.running.recording,
 )
 
-pub returns-in_err-until-in-New-clause-leaves : goal.returns-in_err-until-in-New-clause-leaves
-returns-in_err-until-in-New-clause-leaves g c =
+pub returns-in_err-until-in-New-clause-changes : goal.returns-in_err-until-in-New-clause-changes
+returns-in_err-until-in-New-clause-changes g c =
     let first = c.args.transaction.now in
     let mid = c.near.new.self in
     let last = c.next_start.new.self in
@@ -62,10 +62,10 @@ returns-in_err-until-in-New-clause-leaves g c =
     (λ (r : Result Lookup StoreFault). ReadsInTransaction g.S.Store first last r Why)
     c.from_residual-in_err-until-in-New.ensures.1
     (reads_then_refused g.S.Store first mid last (HasCauseOrIsUnclean g.S.Store mid) Why
-    c.in_ok-near.near c.in_ok-near.ensures.leaves fault c.in_err-until-in-New.ensures.leaves)
+    c.in_ok-near.near c.in_ok-near.ensures.changes fault c.in_err-until-in-New.ensures.changes)
 
-pub returns-in-New-clause-leaves : goal.returns-in-New-clause-leaves
-returns-in-New-clause-leaves g c =
+pub returns-in-New-clause-changes : goal.returns-in-New-clause-changes
+returns-in-New-clause-changes g c =
     let first = c.args.transaction.now in
     let mid = c.near.new.self in
     let last = c.next_start.new.self in
@@ -75,21 +75,21 @@ returns-in-New-clause-leaves g c =
       gap = Some (record { from = c.start-start.result; until = until });
     } in
     reads_then g.S.Store first mid last (HasCauseOrIsUnclean g.S.Store mid)
-    (HasCauseOrIsUnclean g.S.Store last) c.in_ok-near.near c.in_ok-near.ensures.leaves until lookup
-    c.in_ok-until-in-New.ensures.leaves
+    (HasCauseOrIsUnclean g.S.Store last) c.in_ok-near.near c.in_ok-near.ensures.changes until lookup
+    c.in_ok-until-in-New.ensures.changes
 
 pub returns-in-New-clause-lookup : goal.returns-in-New-clause-lookup
 returns-in-New-clause-lookup g c =
     let first = c.args.transaction.now.store.now in
     let mid = c.near.new.self.store.now in
     let key = c.args.identity.now in
-    let read = c.in_ok-near.ensures.leaves in
+    let read = c.in_ok-near.ensures.changes in
     record {
       verdict = λ clean. verdict_near g.S.Store first c.args.id.row key c.args.data_record.now
           c.start-start.result c.in_ok-near.near.items New c.start-start.ensures.value
           c.requires.running.recording
           (c.in_ok-near.ensures.near
-          (omega (arith, c.in_ok-until-in-New.ensures.leaves.stays.crash.clean)))
+          (omega (arith, c.in_ok-until-in-New.ensures.changes.stays.crash.clean)))
           (subst (λ (ns : List DataRecord). IsVerdict c.args.data_record.now ns New)
           c.as_slice.ensures.value c.in-New.ensures);
       gap = λ clean. gap_found g.S.Store first mid c.args.id.row key c.start-start.result
@@ -98,12 +98,12 @@ returns-in-New-clause-lookup g c =
       from = c.start-start.ensures.value;
     }
 
-pub returns-clause-leaves : goal.returns-clause-leaves
-returns-clause-leaves g c =
+pub returns-clause-changes : goal.returns-clause-changes
+returns-clause-changes g c =
     let last = c.near.new.self in
     let lookup : Lookup = record { verdict = c.verdict_of.result; gap = None } in
     reads_as g.S.Store c.args.transaction.now last (HasCauseOrIsUnclean g.S.Store last)
-    c.in_ok-near.near lookup c.in_ok-near.ensures.leaves
+    c.in_ok-near.near lookup c.in_ok-near.ensures.changes
 
 pub returns-clause-lookup : goal.returns-clause-lookup
 returns-clause-lookup g c = record {

@@ -93,10 +93,10 @@ take_record-requires-clause-next g c =
           (sym same) inv.gap;
     }
 
-pub returns-in-Err-take_record-clause-leaves : goal.returns-in-Err-take_record-clause-leaves
-returns-in-Err-take_record-clause-leaves g c =
+pub returns-in-Err-take_record-clause-changes : goal.returns-in-Err-take_record-clause-changes
+returns-in-Err-take_record-clause-changes g c =
     let inv = c.records.invariant in
-    let e = c.in-Err-take_record.ensures.leaves in
+    let e = c.in-Err-take_record.ensures.changes in
     record {
       same_reference = e.same_reference ∙ inv.same_reference;
       stays = stays_then g.S.Store c.args.transaction.now.store.now
@@ -145,7 +145,7 @@ records-preserved g c =
     let from = c.records.fragment.progress in
     let to = c.next.new.self.progress in
     let r = c.in-Ok-Some.data_record in
-    let e = c.in-Ok.ensures.leaves in
+    let e = c.in-Ok.ensures.changes in
     let id = c.args.destination.id.row in
     let spare = c.args.destination.spare in
     let same : c.identity-identity.result.now ≡ l.key = c.identity-identity.ensures
@@ -178,8 +178,8 @@ records-preserved g c =
       gap = taken.gap;
     }
 
-pub returns-in-Ok-None-clause-leaves : goal.returns-in-Ok-None-clause-leaves
-returns-in-Ok-None-clause-leaves g c =
+pub returns-in-Ok-None-clause-changes : goal.returns-in-Ok-None-clause-changes
+returns-in-Ok-None-clause-changes g c =
     let inv = c.records.invariant in
     record {
       same_reference = inv.same_reference;
@@ -212,8 +212,8 @@ returns-in-Ok-None-clause-taken g c =
       findings_are = end.1;
     }
 
-pub returns-in-Err-clause-leaves : goal.returns-in-Err-clause-leaves
-returns-in-Err-clause-leaves g c =
+pub returns-in-Err-clause-changes : goal.returns-in-Err-clause-changes
+returns-in-Err-clause-changes g c =
     let inv = c.records.invariant in
     record { same_reference = inv.same_reference; stays = inv.stays; running = tt }
 

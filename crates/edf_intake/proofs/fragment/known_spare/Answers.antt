@@ -20,6 +20,6 @@ returns-then-fits-clause-spare g c =
     subst (λ (o : Option ℕ). IsSpareInTransaction g.S.Store new key (most_records o) count)
     (sym c.in-Some.is)
     (room_now g.S.Store old new id key c.requires.running c.in_ok-fits.fits HasCause
-    c.in_ok-fits.ensures.leaves count (λ clean. subst
+    c.in_ok-fits.ensures.changes count (λ clean. subst
     (IsCapacityAnswer g.S.Store old.store.now id count)
     c.if-fits.true (c.in_ok-fits.ensures.spare clean)))

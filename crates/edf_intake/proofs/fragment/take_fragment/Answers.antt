@@ -55,8 +55,8 @@ answered m n spare k records findings refusal capped answer =
     AreFindings k h records findings →
     reply_of (Err refusal) ≡ Some (reply x h (Fragment k records))) capped answer
 
-pub returns-in_err-fragment-clause-leaves : goal.returns-in_err-fragment-clause-leaves
-returns-in_err-fragment-clause-leaves g c =
+pub returns-in_err-fragment-clause-changes : goal.returns-in_err-fragment-clause-changes
+returns-in_err-fragment-clause-changes g c =
     keeps_none g.S.Store c.args.transaction.now c.from_residual.result c.requires.running
 
 pub returns-in_err-fragment-clause-stopped : goal.returns-in_err-fragment-clause-stopped
@@ -72,9 +72,9 @@ returns-in_err-fragment-clause-stopped g c =
     (open_refused from.remaining to.remaining fault c.in_err-fragment.ensures.step)
     c.in_err-fragment.ensures.counted)
 
-pub returns-in_err-destination-clause-leaves : goal.returns-in_err-destination-clause-leaves
-returns-in_err-destination-clause-leaves g c =
-    let p = c.in_err-destination.ensures.leaves in
+pub returns-in_err-destination-clause-changes : goal.returns-in_err-destination-clause-changes
+returns-in_err-destination-clause-changes g c =
+    let p = c.in_err-destination.ensures.changes in
     passed_on c.from_residual-in_err-destination.result (Store c.in_err-destination.field-0.0)
     (λ (r : Result Receipt Stop).
     KeepsRunning g.S.Store c.args.transaction.now c.find_destination.new.transaction r)
@@ -94,7 +94,7 @@ returns-in_err-destination-clause-stopped g c =
       reads_header_alone from to c.in_ok-fragment.fragment.header c.in_ok-fragment.ensures.step.0
           c.in_ok-fragment.ensures.counted,
       with_cause ⊥ (IsUnclean g.S.Store made.store.now) ⊥ fault
-          c.in_err-destination.ensures.leaves.why,
+          c.in_err-destination.ensures.changes.why,
     )
 
 pub take_records-requires-clause-running : goal.take_records-requires-clause-running
@@ -103,8 +103,8 @@ take_records-requires-clause-running g c =
     ∙ ap (λ (l : Layout). l.key) c.header-header.ensures in
     subst (IsRunningFor g.S.Store c.find_destination.new.transaction
     c.in_ok-destination.destination.id.row) named (record {
-      running = c.in_ok-destination.ensures.leaves.running;
-      recording = c.in_ok-destination.ensures.found.recording;
+      running = c.in_ok-destination.ensures.changes.running;
+      recording = c.in_ok-destination.ensures.is_destination.recording;
     })
 
 pub take_records-requires-clause-spare : goal.take_records-requires-clause-spare
@@ -116,7 +116,7 @@ take_records-requires-clause-spare g c =
     ∙ ap (λ (x : Layout). x.count) c.header-header.ensures in
     (destination_of g.S.Store c.args.transaction.now c.find_destination.new.transaction
     c.identity.result.now l c.count.result c.in_ok-destination.destination named counted
-    c.in_ok-destination.ensures.found).spare
+    c.in_ok-destination.ensures.is_destination).spare
 
 pub take_records-requires-clause-header : goal.take_records-requires-clause-header
 take_records-requires-clause-header g c = record {
@@ -125,10 +125,10 @@ take_records-requires-clause-header g c = record {
   none_read = c.in_ok-fragment.ensures.step.1;
 }
 
-pub returns-in-None-clause-leaves : goal.returns-in-None-clause-leaves
-returns-in-None-clause-leaves g c =
-    let p = c.in_ok-destination.ensures.leaves in
-    let q = c.in_ok-findings.ensures.leaves in
+pub returns-in-None-clause-changes : goal.returns-in-None-clause-changes
+returns-in-None-clause-changes g c =
+    let p = c.in_ok-destination.ensures.changes in
+    let q = c.in_ok-findings.ensures.changes in
     record {
       same_reference = q.same_reference ∙ p.same_reference;
       stays = stays_then g.S.Store c.args.transaction.now.store.now
@@ -153,21 +153,21 @@ returns-in-None-clause-accepted g c =
     let counted : c.count.result ≡ l.count = c.count.ensures.value
     ∙ ap (λ (x : Layout). x.count) c.header-header.ensures in
     let there = destination_of g.S.Store first made c.identity.result.now l c.count.result d named
-    counted c.in_ok-destination.ensures.found in
+    counted c.in_ok-destination.ensures.is_destination in
     let identity : c.into_identity-identity.result ≡ l.key = c.into_identity-identity.ensures
     ∙ ap (λ (x : Layout). x.key) (c.into_header.ensures ∙ c.in_ok-findings.ensures.header) in
     subst (λ (k : Key). IsAcceptedInTransaction g.S.Store first last from to
     (receipt_of k findings.new findings.known)) (sym identity)
     (is_accepted g.S.Store first made last from mid to l d findings
     c.in_ok-fragment.ensures.step.0 c.in_ok-fragment.ensures.counted
-    c.in_ok-destination.ensures.leaves.stays c.in_ok-findings.ensures.leaves.stays there
+    c.in_ok-destination.ensures.changes.stays c.in_ok-findings.ensures.changes.stays there
     c.in_ok-findings.ensures.taken (c.conflict.ensures.accepted c.in-None.is) c.requires.whole
     c.requires.running.sees)
 
-pub returns-in-Some-clause-leaves : goal.returns-in-Some-clause-leaves
-returns-in-Some-clause-leaves g c =
-    let p = c.in_ok-destination.ensures.leaves in
-    let q = c.in_ok-findings.ensures.leaves in
+pub returns-in-Some-clause-changes : goal.returns-in-Some-clause-changes
+returns-in-Some-clause-changes g c =
+    let p = c.in_ok-destination.ensures.changes in
+    let q = c.in_ok-findings.ensures.changes in
     record {
       same_reference = q.same_reference ∙ p.same_reference;
       stays = stays_then g.S.Store c.args.transaction.now.store.now
@@ -193,21 +193,21 @@ returns-in-Some-clause-stopped g c =
     let counted : c.count.result ≡ l.count = c.count.ensures.value
     ∙ ap (λ (x : Layout). x.count) c.header-header.ensures in
     let there = destination_of g.S.Store first made c.identity.result.now l c.count.result d named
-    counted c.in_ok-destination.ensures.found in
+    counted c.in_ok-destination.ensures.is_destination in
     is_refused g.S.Store first made last from mid to l d findings
     c.in_ok-fragment.ensures.step.0 c.in_ok-fragment.ensures.counted
-    c.in_ok-destination.ensures.leaves.stays c.in_ok-findings.ensures.leaves.stays there taken
+    c.in_ok-destination.ensures.changes.stays c.in_ok-findings.ensures.changes.stays there taken
     c.in-Some.refusal c.in-Some.ensures.refused
     (answered c.args.cap first.store.now.cap d.spare l.key taken.records findings
     c.in-Some.refusal c.requires.cap (λ h. c.in-Some.ensures.answer l.key h taken.records))
 
-pub returns-in_err-findings-clause-leaves : goal.returns-in_err-findings-clause-leaves
-returns-in_err-findings-clause-leaves g c =
+pub returns-in_err-findings-clause-changes : goal.returns-in_err-findings-clause-changes
+returns-in_err-findings-clause-changes g c =
     let first = c.args.transaction.now in
     let made = c.find_destination.new.transaction in
     let last = c.take_records.new.transaction in
-    let p = c.in_ok-destination.ensures.leaves in
-    let q = c.in_err-findings.ensures.leaves in
+    let p = c.in_ok-destination.ensures.changes in
+    let q = c.in_err-findings.ensures.changes in
     passed_on c.from_residual-in_err-findings.result c.in_err-findings.field-0.0
     (λ (r : Result Receipt Stop). KeepsRunning g.S.Store first last r)
     c.from_residual-in_err-findings.ensures.1 (record {

@@ -13,16 +13,16 @@ use Rattle.edf_intake.proofs.submission.submit.Goals as goal
 pub returns-in_ok-commit-in-Ok-clause-cap : goal.returns-in_ok-commit-in-Ok-clause-cap
 returns-in_ok-commit-in-Ok-clause-cap g c =
     let same : c.commit.new.self.0 ≡ c.store-in-Ok-1.given.0 =
-    sym (c.store-in-Ok-1.given.1 (sym (c.in-Ok.ensures.leaves.same_reference
+    sym (c.store-in-Ok-1.given.1 (sym (c.in-Ok.ensures.changes.same_reference
     ∙ c.in_ok-transaction.ensures.same_reference))) in
     subst (λ (s : StoreModel g.row.S.Denot). s.cap ≡ c.args.store.now.cap) same
-    (c.commit.ensures.commits.cap ∙ (c.in-Ok.ensures.leaves.stays.cap
+    (c.commit.ensures.commits.cap ∙ (c.in-Ok.ensures.changes.stays.cap
     ∙ c.in_ok-transaction.ensures.begun.stays.cap))
 
 pub returns-in_ok-commit-in-Ok-clause-submitted : goal.returns-in_ok-commit-in-Ok-clause-submitted
 returns-in_ok-commit-in-Ok-clause-submitted g c =
     let same : c.commit.new.self.0 ≡ c.store-in-Ok-1.given.0 =
-    sym (c.store-in-Ok-1.given.1 (sym (c.in-Ok.ensures.leaves.same_reference
+    sym (c.store-in-Ok-1.given.1 (sym (c.in-Ok.ensures.changes.same_reference
     ∙ c.in_ok-transaction.ensures.same_reference))) in
     let from = input_state g.R.Input c.args.input.now in
     let to = input_state g.R.Input c.take_fragment.new.input in
@@ -30,22 +30,22 @@ returns-in_ok-commit-in-Ok-clause-submitted g c =
     Accepts g.S.Store c.args.store.now s from to c.in-Ok.receipt) same
     (accepts g.S.Store c.args.store.now c.in_ok-transaction.transaction
     c.take_fragment.new.transaction from to c.in_ok-transaction.ensures.begun
-    c.in-Ok.ensures.leaves.stays c.commit.new.self.0 _ c.in-Ok.receipt c.in-Ok.ensures.accepted
+    c.in-Ok.ensures.changes.stays c.commit.new.self.0 _ c.in-Ok.receipt c.in-Ok.ensures.accepted
     c.in_ok-commit-in-Ok.ensures.commits)
 
 pub returns-in_err-commit-in-Ok-clause-cap : goal.returns-in_err-commit-in-Ok-clause-cap
 returns-in_err-commit-in-Ok-clause-cap g c =
     let same : c.commit.new.self.0 ≡ c.store-in-Ok-1.given.0 =
-    sym (c.store-in-Ok-1.given.1 (sym (c.in-Ok.ensures.leaves.same_reference
+    sym (c.store-in-Ok-1.given.1 (sym (c.in-Ok.ensures.changes.same_reference
     ∙ c.in_ok-transaction.ensures.same_reference))) in
     subst (λ (s : StoreModel g.row.S.Denot). s.cap ≡ c.args.store.now.cap) same
-    (c.commit.ensures.commits.cap ∙ (c.in-Ok.ensures.leaves.stays.cap
+    (c.commit.ensures.commits.cap ∙ (c.in-Ok.ensures.changes.stays.cap
     ∙ c.in_ok-transaction.ensures.begun.stays.cap))
 
 pub returns-in_err-commit-in-Ok-clause-submitted : goal.returns-in_err-commit-in-Ok-clause-submitted
 returns-in_err-commit-in-Ok-clause-submitted g c =
     let same : c.commit.new.self.0 ≡ c.store-in-Ok-1.given.0 =
-    sym (c.store-in-Ok-1.given.1 (sym (c.in-Ok.ensures.leaves.same_reference
+    sym (c.store-in-Ok-1.given.1 (sym (c.in-Ok.ensures.changes.same_reference
     ∙ c.in_ok-transaction.ensures.same_reference))) in
     let old = c.args.store.now in
     let new = c.commit.new.self.0 in
@@ -57,7 +57,7 @@ returns-in_err-commit-in-Ok-clause-submitted g c =
     subst (λ (s : StoreModel g.row.S.Denot). IsSubmitAnswer g.S.Store old s from to answer) same
     (refused_on g.S.Store old new from to fault answer c.from_residual-in_err-commit-in-Ok.ensures.1
     (stops_at_commit g.S.Store old c.in_ok-transaction.transaction c.take_fragment.new.transaction
-    from to c.in_ok-transaction.ensures.begun c.in-Ok.ensures.leaves.stays new c.in-Ok.receipt
+    from to c.in_ok-transaction.ensures.begun c.in-Ok.ensures.changes.stays new c.in-Ok.receipt
     c.in-Ok.ensures.accepted fault c.in_err-commit-in-Ok.ensures.commits cause)
     (with_cause (IsBusy g.S.Store old) (IsUnclean g.S.Store new) ⊥ fault cause))
 
@@ -76,7 +76,7 @@ returns-in_ok-give_up-in-Err-Input-clause-submitted g c =
     IsSubmitAnswer g.S.Store c.args.store.now s from to (Err c.in-Err-Input.refusal)) same
     (submitted g.S.Store c.args.store.now c.in_ok-transaction.transaction
     c.take_fragment.new.transaction from to c.in_ok-transaction.ensures.begun
-    c.in-Err-Input.ensures.leaves.stays c.give_up.new.self.0
+    c.in-Err-Input.ensures.changes.stays c.give_up.new.self.0
     c.in_ok-give_up-in-Err-Input.ensures.gives_up.stays c.in-Err-Input.refusal stop)
 
 pub returns-in_err-give_up-in-Err-Input-clause-submitted :
@@ -94,7 +94,7 @@ returns-in_err-give_up-in-Err-Input-clause-submitted g c =
     (refused_on g.S.Store old new from to fault answer
     c.from_residual-in_err-give_up-in-Err-Input.ensures.1
     (stops_at_undo g.S.Store old c.in_ok-transaction.transaction c.take_fragment.new.transaction
-    from to c.in_ok-transaction.ensures.begun c.in-Err-Input.ensures.leaves.stays new
+    from to c.in_ok-transaction.ensures.begun c.in-Err-Input.ensures.changes.stays new
     c.in_err-give_up-in-Err-Input.ensures.gives_up.stays c.in-Err-Input.refusal stop fault)
     (with_cause (IsBusy g.S.Store old) (IsUnclean g.S.Store new) ⊥ fault
     c.in_err-give_up-in-Err-Input.ensures.why))
@@ -114,7 +114,7 @@ returns-in-Err-Store-clause-submitted g c =
     (Err c.from.result)) same
     (refused_by g.S.Store old new from to fault c.from.result c.from.ensures
     (stops_before g.S.Store old c.in_ok-transaction.transaction last from to
-    c.in_ok-transaction.ensures.begun c.in-Err-Store.ensures.leaves.stays new undone
+    c.in_ok-transaction.ensures.begun c.in-Err-Store.ensures.changes.stays new undone
     (inr (inl stop.0)) fault)
     (may_more ⊥ (IsUnclean g.S.Store last.store.now) ⊥ (IsBusy g.S.Store old)
     (IsUnclean g.S.Store new) ⊥ (λ none. absurd none)
@@ -123,7 +123,7 @@ returns-in-Err-Store-clause-submitted g c =
 pub returns-in_ok-commit-in-Ok-clause-ended : goal.returns-in_ok-commit-in-Ok-clause-ended
 returns-in_ok-commit-in-Ok-clause-ended g c =
     let same : c.commit.new.self.0 ≡ c.store-in-Ok-1.given.0 =
-    sym (c.store-in-Ok-1.given.1 (sym (c.in-Ok.ensures.leaves.same_reference
+    sym (c.store-in-Ok-1.given.1 (sym (c.in-Ok.ensures.changes.same_reference
     ∙ c.in_ok-transaction.ensures.same_reference))) in
     subst (λ (s : StoreModel g.row.S.Denot). IsOutsideTransactionAfterSubmit g.S.Store s
     (Ok c.in-Ok.receipt)) same

@@ -14,15 +14,15 @@ identities-requires g c =
           (settled clean);
     }
 
-pub returns-in_err-all-clause-leaves : goal.returns-in_err-all-clause-leaves
-returns-in_err-all-clause-leaves g c = rw (← c.store.view_is) (record {
+pub returns-in_err-all-clause-changes : goal.returns-in_err-all-clause-changes
+returns-in_err-all-clause-changes g c = rw (← c.store.view_is) (record {
   stays = stays_so g.S.Store c.store.inside.cap c.store.inside.conn c.identities.new.conn
       c.identities.ensures.survives c.identities.ensures.committed;
   idle = λ clean. on_refused _ _ c.from_residual.result c.from_residual.ensures.1;
 })
 
-pub returns-clause-leaves : goal.returns-clause-leaves
-returns-clause-leaves g c =
+pub returns-clause-changes : goal.returns-clause-changes
+returns-clause-changes g c =
     let a = state g.S.Store c.store.inside.conn in
     let settled = rw (← c.store.view_is) at c.requires.settled in
     rw (← c.store.view_is) (record {

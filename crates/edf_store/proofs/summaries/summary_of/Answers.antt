@@ -47,15 +47,15 @@ last_start-requires g c =
           (there was_clean).1)));
     }
 
-pub returns-in_err-count-clause-leaves : goal.returns-in_err-count-clause-leaves
-returns-in_err-count-clause-leaves g c = rw (← c.store.view_is) (record {
+pub returns-in_err-count-clause-changes : goal.returns-in_err-count-clause-changes
+returns-in_err-count-clause-changes g c = rw (← c.store.view_is) (record {
   stays = stays_so g.S.Store c.store.inside.cap c.store.inside.conn c.count_rows.new.conn
       c.count_rows.ensures.survives c.count_rows.ensures.committed;
   idle = λ clean. on_refused _ _ c.from_residual.result c.from_residual.ensures.1;
 })
 
-pub returns-in_err-first-clause-leaves : goal.returns-in_err-first-clause-leaves
-returns-in_err-first-clause-leaves g c =
+pub returns-in_err-first-clause-changes : goal.returns-in_err-first-clause-changes
+returns-in_err-first-clause-changes g c =
     let a = state g.S.Store c.store.inside.conn in
     let b = state g.S.Store c.count_rows.new.conn in
     let d = state g.S.Store c.first_start.new.conn in
@@ -69,8 +69,8 @@ returns-in_err-first-clause-leaves g c =
           c.from_residual-in_err-first.ensures.1;
     })
 
-pub returns-in_err-last-clause-leaves : goal.returns-in_err-last-clause-leaves
-returns-in_err-last-clause-leaves g c =
+pub returns-in_err-last-clause-changes : goal.returns-in_err-last-clause-changes
+returns-in_err-last-clause-changes g c =
     let a = state g.S.Store c.store.inside.conn in
     let b = state g.S.Store c.count_rows.new.conn in
     let d = state g.S.Store c.first_start.new.conn in
@@ -89,8 +89,8 @@ returns-in_err-last-clause-leaves g c =
           c.from_residual-in_err-last.ensures.1;
     })
 
-pub returns-clause-leaves : goal.returns-clause-leaves
-returns-clause-leaves g c =
+pub returns-clause-changes : goal.returns-clause-changes
+returns-clause-changes g c =
     let a = state g.S.Store c.store.inside.conn in
     let b = state g.S.Store c.count_rows.new.conn in
     let d = state g.S.Store c.first_start.new.conn in

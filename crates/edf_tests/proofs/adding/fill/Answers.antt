@@ -12,7 +12,7 @@ use Rattle.edf_tests.proofs.adding.fill.Goals as goal
 pub near-requires-clause-recording : goal.near-requires-clause-recording
 near-requires-clause-recording g c = (
   c.args.identity.now,
-  c.in_ok-before.ensures.leaves.same.ids c.in_ok-id.id.row c.args.identity.now
+  c.in_ok-before.ensures.changes.same.ids c.in_ok-id.id.row c.args.identity.now
       c.in_ok-id.ensures.row_id.has_row_id,
   c.duration.ensures.value,
 )
@@ -27,20 +27,21 @@ add-requires-clause-spare g c =
     let r = c.args.data_record.now in
     let cap = c.args.tx.now.store.now.cap in
     let records = c.in_ok-near.near.items in
-    let cap_a = c.recording.ensures.leaves.stays.cap in
-    let cap_b = c.count.ensures.leaves.stays.cap ∙ cap_a in
-    let cap_d = c.near.ensures.leaves.stays.cap ∙ cap_b in
+    let cap_a = c.recording.ensures.changes.stays.cap in
+    let cap_b = c.count.ensures.changes.stays.cap ∙ cap_a in
+    let cap_d = c.near.ensures.changes.stays.cap ∙ cap_b in
     let oa = subst (λ n. StillSees n (at g.S.Store c.args.tx.now.store.now) a) cap_a
     c.in_ok-id.ensures.row_id.same in
-    let ab = subst (λ n. StillSees n a b) cap_b c.in_ok-before.ensures.leaves.same in
-    let bd = subst (λ n. StillSees n b d) cap_d c.in_ok-near.ensures.leaves.same in
+    let ab = subst (λ n. StillSees n a b) cap_b c.in_ok-before.ensures.changes.same in
+    let bd = subst (λ n. StillSees n b d) cap_d c.in_ok-near.ensures.changes.same in
     let few : c.in_ok-before.before < cap = omega (arith, c.if-before-cap.false, c.requires.cap) in
     let empty : length records ≡ 0 = search rules in
     let none : records ≡ [] = nil_from_length records empty in
     let kept = c.start-start.ensures.valid in
     subst (λ n. MayAddIn n d id r) (sym cap_d)
-    (may_take cap a b d (λ clean. omega (arith, c.count.ensures.leaves.stays.crash.clean, clean))
-    (λ clean. omega (arith, c.near.ensures.leaves.stays.crash.clean, clean)) oa.running ab bd id k r
+    (may_take cap a b d (λ clean. omega (arith, c.count.ensures.changes.stays.crash.clean, clean))
+    (λ clean. omega (arith, c.near.ensures.changes.stays.crash.clean, clean)) oa.running ab bd id k
+    r
     c.in_ok-before.before records c.in_ok-id.ensures.row_id.has_row_id
     (λ clean. subst (λ n. IsCountIn n a id c.in_ok-before.before) cap_a
     (c.in_ok-before.ensures.count clean))
@@ -69,34 +70,34 @@ look-requires-clause-whole g c =
     let k = c.args.identity.now in
     let r = c.args.data_record.now in
     let cap = c.args.tx.now.store.now.cap in
-    let cap_a = c.recording.ensures.leaves.stays.cap in
-    let cap_b = c.count.ensures.leaves.stays.cap ∙ cap_a in
-    let cap_d = c.near.ensures.leaves.stays.cap ∙ cap_b in
-    let cap_e = c.add.ensures.leaves.stays.cap ∙ cap_d in
+    let cap_a = c.recording.ensures.changes.stays.cap in
+    let cap_b = c.count.ensures.changes.stays.cap ∙ cap_a in
+    let cap_d = c.near.ensures.changes.stays.cap ∙ cap_b in
+    let cap_e = c.add.ensures.changes.stays.cap ∙ cap_d in
     let oa = subst (λ n. StillSees n o a) cap_a c.in_ok-id.ensures.row_id.same in
-    let ab = subst (λ n. StillSees n a b) cap_b c.in_ok-before.ensures.leaves.same in
-    let bd = subst (λ n. StillSees n b d) cap_d c.in_ok-near.ensures.leaves.same in
+    let ab = subst (λ n. StillSees n a b) cap_b c.in_ok-before.ensures.changes.same in
+    let bd = subst (λ n. StillSees n b d) cap_d c.in_ok-near.ensures.changes.same in
     let added = subst (λ n. IsAddedIn n d e id r) cap_e c.in_ok-add.ensures.added in
     let under = bd.ids id k (ab.ids id k c.in_ok-id.ensures.row_id.has_row_id) in
     let but_a = whole_but cap o a (λ clean. omega (
       arith,
-      c.recording.ensures.leaves.stays.crash.clean,
+      c.recording.ensures.changes.stays.crash.clean,
       clean,
     )) c.requires.running.sees oa k c.in_ok-id.ensures.row_id.only c.requires.whole in
     let but_b = still_but cap a b (λ clean. omega (
       arith,
-      c.count.ensures.leaves.stays.crash.clean,
+      c.count.ensures.changes.stays.crash.clean,
       clean,
     ))
-    oa.running ab k c.in_ok-before.ensures.leaves.only but_a in
+    oa.running ab k c.in_ok-before.ensures.changes.only but_a in
     let but_d = still_but cap b d (λ clean. omega (
       arith,
-      c.near.ensures.leaves.stays.crash.clean,
+      c.near.ensures.changes.stays.crash.clean,
       clean,
     ))
-    ab.running bd k c.in_ok-near.ensures.leaves.only but_b in
+    ab.running bd k c.in_ok-near.ensures.changes.only but_b in
     subst (λ n. EachHasRecordIn n e) (sym cap_e)
-    (whole_added cap d e (λ clean. omega (arith, c.add.ensures.leaves.stays.crash.clean, clean))
+    (whole_added cap d e (λ clean. omega (arith, c.add.ensures.changes.stays.crash.clean, clean))
     bd.running
     k id r added under but_d)
 
@@ -105,5 +106,5 @@ look-requires-clause-recording g c =
     let id = c.in_ok-id.id.row in
     let k = c.args.identity.now in
     c.in_ok-add.ensures.added.ids id k
-    (c.in_ok-near.ensures.leaves.same.ids id k
-    (c.in_ok-before.ensures.leaves.same.ids id k c.in_ok-id.ensures.row_id.has_row_id))
+    (c.in_ok-near.ensures.changes.same.ids id k
+    (c.in_ok-before.ensures.changes.same.ids id k c.in_ok-id.ensures.row_id.has_row_id))

@@ -2,8 +2,8 @@ use Rattle.edf_store.proofs.Faults.{idle_done, refuses_done, refuses_rows, refus
 use Rattle.edf_store.proofs.Readiness.{stays_then}
 use Rattle.edf_store.proofs.store.Store.identities.Goals as goal
 
-pub returns-in_err-ready-clause-leaves : goal.returns-in_err-ready-clause-leaves
-returns-in_err-ready-clause-leaves g c = record {
+pub returns-in_err-ready-clause-changes : goal.returns-in_err-ready-clause-changes
+returns-in_err-ready-clause-changes g c = record {
   stays = c.ready.ensures.settles.stays;
   idle = λ clean. on_refused _ _ c.from_residual.result c.from_residual.ensures.1;
 }
@@ -13,10 +13,10 @@ returns-in_err-ready-clause-refuses g c =
     refuses_on g.S.Store c.args.self.now _ c.in_err-ready.field-0.0 c.from_residual.result
     c.in_err-ready.ensures.refuses c.from_residual.ensures.1
 
-pub returns-in_err-list-clause-leaves : goal.returns-in_err-list-clause-leaves
-returns-in_err-list-clause-leaves g c = record {
+pub returns-in_err-list-clause-changes : goal.returns-in_err-list-clause-changes
+returns-in_err-list-clause-changes g c = record {
   stays = stays_then g.S.Store c.args.self.now c.ready.new.store c.list.new.store
-      c.ready.ensures.settles.stays c.list.ensures.leaves.stays;
+      c.ready.ensures.settles.stays c.list.ensures.changes.stays;
   idle = λ clean. on_refused _ _ c.from_residual-in_err-list.result
       c.from_residual-in_err-list.ensures.1;
 }
@@ -29,11 +29,11 @@ returns-in_err-list-clause-refuses g c =
     c.from_residual-in_err-list.ensures.1
     (λ is clean. c.in_err-list.ensures.keys clean is)
 
-pub returns-clause-leaves : goal.returns-clause-leaves
-returns-clause-leaves g c = record {
+pub returns-clause-changes : goal.returns-clause-changes
+returns-clause-changes g c = record {
   stays = stays_then g.S.Store c.args.self.now c.ready.new.store c.list.new.store
-      c.ready.ensures.settles.stays c.list.ensures.leaves.stays;
-  idle = c.in_ok-list.ensures.leaves.idle;
+      c.ready.ensures.settles.stays c.list.ensures.changes.stays;
+  idle = c.in_ok-list.ensures.changes.idle;
 }
 
 pub returns-clause-refuses : goal.returns-clause-refuses

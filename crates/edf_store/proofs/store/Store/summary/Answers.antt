@@ -7,8 +7,8 @@ use Rattle.edf_store.proofs.Faults.{refuses_on, on_refused}
 use Rattle.edf_store.proofs.Readiness.{stays_then, held_now}
 use Rattle.edf_store.proofs.store.Store.summary.Goals as goal
 
-pub returns-in_err-ready-clause-leaves : goal.returns-in_err-ready-clause-leaves
-returns-in_err-ready-clause-leaves g c = record {
+pub returns-in_err-ready-clause-changes : goal.returns-in_err-ready-clause-changes
+returns-in_err-ready-clause-changes g c = record {
   stays = c.ready.ensures.settles.stays;
   idle = λ clean. on_refused _ _ c.from_residual.result c.from_residual.ensures.1;
 }
@@ -18,8 +18,8 @@ returns-in_err-ready-clause-refuses g c =
     refuses_on g.S.Store c.args.self.now _ c.in_err-ready.field-0.0 c.from_residual.result
     c.in_err-ready.ensures.refuses c.from_residual.ensures.1
 
-pub returns-in_err-id-clause-leaves : goal.returns-in_err-id-clause-leaves
-returns-in_err-id-clause-leaves g c = record {
+pub returns-in_err-id-clause-changes : goal.returns-in_err-id-clause-changes
+returns-in_err-id-clause-changes g c = record {
   stays = stays_then g.S.Store c.args.self.now c.ready.new.store c.find.new.store
       c.ready.ensures.settles.stays c.find.ensures.settles.stays;
   idle = λ clean. on_refused _ _ c.from_residual-in_err-id.result
@@ -32,8 +32,8 @@ returns-in_err-id-clause-refuses g c =
     (idle_done g.S.Store c.args.self.now _ _ c.in_ok-ready.ensures.refuses)
     c.from_residual-in_err-id.ensures.1
 
-pub returns-in_default-clause-leaves : goal.returns-in_default-clause-leaves
-returns-in_default-clause-leaves g c = record {
+pub returns-in_default-clause-changes : goal.returns-in_default-clause-changes
+returns-in_default-clause-changes g c = record {
   stays = stays_then g.S.Store c.args.self.now c.ready.new.store c.find.new.store
       c.ready.ensures.settles.stays c.find.ensures.settles.stays;
   idle = λ clean. (c.in_ok-id.ensures.settles.settled clean).idle;
@@ -58,12 +58,12 @@ summary_of-requires-clause-there g c clean =
     let there = rw c.in-Some.is at (c.in_ok-id.ensures.answer clean it.holdings.0 it.holdings.1) in
     (c.args.identity.now, rw (to_z-of_z w64 c.in-Some.id (search rules)) there)
 
-pub returns-in_err-summary-clause-leaves : goal.returns-in_err-summary-clause-leaves
-returns-in_err-summary-clause-leaves g c = record {
+pub returns-in_err-summary-clause-changes : goal.returns-in_err-summary-clause-changes
+returns-in_err-summary-clause-changes g c = record {
   stays = stays_then g.S.Store c.args.self.now c.find.new.store c.summary_of.new.store
       (stays_then g.S.Store c.args.self.now c.ready.new.store c.find.new.store
       c.ready.ensures.settles.stays c.find.ensures.settles.stays)
-      c.summary_of.ensures.leaves.stays;
+      c.summary_of.ensures.changes.stays;
   idle = λ clean. on_refused _ _ c.from_residual-in_err-summary.result
       c.from_residual-in_err-summary.ensures.1;
 }
@@ -76,13 +76,13 @@ returns-in_err-summary-clause-refuses g c =
     c.from_residual-in_err-summary.ensures.1
     (λ is clean. c.in_err-summary.ensures.summary clean is)
 
-pub returns-clause-leaves : goal.returns-clause-leaves
-returns-clause-leaves g c = record {
+pub returns-clause-changes : goal.returns-clause-changes
+returns-clause-changes g c = record {
   stays = stays_then g.S.Store c.args.self.now c.find.new.store c.summary_of.new.store
       (stays_then g.S.Store c.args.self.now c.ready.new.store c.find.new.store
       c.ready.ensures.settles.stays c.find.ensures.settles.stays)
-      c.summary_of.ensures.leaves.stays;
-  idle = c.in_ok-summary.ensures.leaves.idle;
+      c.summary_of.ensures.changes.stays;
+  idle = c.in_ok-summary.ensures.changes.idle;
 }
 
 pub returns-clause-refuses : goal.returns-clause-refuses
@@ -94,7 +94,7 @@ pub returns-clause-summary : goal.returns-clause-summary
 returns-clause-summary g c clean h held =
     let s = at g.S.Store c.find.new.store in
     let was_clean : HasCleanDisk s =
-    omega (arith, c.summary_of.ensures.leaves.stays.crash.clean, clean) in
+    omega (arith, c.summary_of.ensures.changes.stays.crash.clean, clean) in
     let now = c.find.ensures.settles.stays.holdings h
     (c.ready.ensures.settles.stays.holdings h held) in
     let kept = held_now c.find.new.store.cap s was_clean
