@@ -16,11 +16,11 @@ pub record Buffered : Type 0 where
 abbrev pub buffered : {W : Type 0} → Ghosts W → W → List ℕ → Buffered
 buffered g out held = record { contents = g.contents out; failures = g.failures out; held = held }
 
--- of the held bytes and the bytes after them, a prefix was written, and `left` remain
-pub record Writes (before after : Buffered) (bytes left : List ℕ) : Type 0 where
+-- of the held bytes and the bytes after them, a prefix was written, and `rest` was not
+pub record Writes (before after : Buffered) (bytes rest : List ℕ) : Type 0 where
   pub prefix : List ℕ
   pub wrote : Appends before.contents after.contents prefix
-  pub parts : before.held ++ bytes ≡ prefix ++ left
+  pub parts : before.held ++ bytes ≡ prefix ++ rest
 
 -- one more write failed where a failed write is the fault, and none where memory ran out
 abbrev pub CountsOutputFault : ℕ → ℕ → OutputFault → Type 0
@@ -32,7 +32,7 @@ abbrev pub IsWrittenOrBuffered : Buffered → Buffered → List ℕ → Result U
 IsWrittenOrBuffered before after bytes result =
     MatchResult result
     (λ _. Writes before after bytes after.held × (after.failures ≡ before.failures))
-    (λ fault. ((left : List ℕ) × Writes before after bytes left)
+    (λ fault. ((rest : List ℕ) × Writes before after bytes rest)
     × CountsOutputFault before.failures after.failures fault)
 
 -- all that was held back is written; or a prefix of it
@@ -40,7 +40,7 @@ abbrev pub IsFlushed : Buffered → Buffered → Result Unit OutputFault → Typ
 IsFlushed before after result =
     MatchResult result
     (λ _. Writes before after [] [] × (after.held ≡ []) × (after.failures ≡ before.failures))
-    (λ fault. ((left : List ℕ) × Writes before after [] left) × (fault ≡ Write)
+    (λ fault. ((rest : List ℕ) × Writes before after [] rest) × (fault ≡ Write)
     × (after.failures ≡ saturating_increment before.failures))
 
 -- a prefix of some bytes was written

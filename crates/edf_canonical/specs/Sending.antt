@@ -77,7 +77,7 @@ module _ {S F R E : Type 0}
       (λ rs. Writes before after (records_text whole rs) after.held)
       × (after.failures ≡ before.failures))
       (λ fault. StopsAfter answers from to whole kept
-      (λ rs. (left : List ℕ) × Writes before after (records_text whole rs) left) fault
+      (λ rs. (rest : List ℕ) × Writes before after (records_text whole rs) rest) fault
       × CountsSendFault before.failures after.failures fault)
 
   -- a header and all of them were written, or a prefix of these; and so many writes failed before

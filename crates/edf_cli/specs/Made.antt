@@ -2,8 +2,9 @@
 use Rattle.std.specs.Prelude.{◌≡◌, ◌≢◌, ◌⊎◌, ℕ, zero, suc, ◌+◌, ◌-◌, ◌^◌, min, List, [], ◌∷◌, ◌++◌}
 use Rattle.std.specs.Prelude.{map, Bool, true, false, Option, Some, None, Result, Ok, Err}
 use Rattle.edf_cli.specs.declared.new_files.FileStage.{FileStage}
-use Rattle.edf_cli.specs.declared.new_files.FileStage.TheVariants.{Begun, Left, Finished, Removed}
-use Rattle.edf_cli.specs.declared.new_files.FileStage.TheVariants.{Kept}
+use Rattle.edf_cli.specs.declared.new_files.FileStage.TheVariants.{Begun, Abandoned, Finished}
+use Rattle.edf_cli.specs.declared.new_files.FileStage.TheVariants.{Removed}
+use Rattle.edf_cli.specs.declared.new_files.FileStage.TheVariants.{NotRemoved}
 use Rattle.edf_cli.specs.declared.new_files.Unfinished.{Unfinished}
 
 -- a file that was begun; `bytes` are what its writer held when it was given back, where known
@@ -24,7 +25,7 @@ begun name = made_file name Begun false None None
 
 -- its writer was given back before it was whole
 abbrev pub half : List ℕ → Option (List ℕ) → MadeFile
-half name bytes = made_file name Left false bytes None
+half name bytes = made_file name Abandoned false bytes None
 
 -- it is whole, and has its name
 abbrev pub finished : List ℕ → Option (List ℕ) → MadeFile
@@ -35,13 +36,13 @@ abbrev pub removed : MadeFile → MadeFile
 removed file = made_file file.name Removed file.whole file.bytes file.why
 
 -- it was to be removed, and could not be
-abbrev pub kept : MadeFile → MadeFile
-kept file = made_file file.name Kept file.whole file.bytes file.why
+abbrev pub not_removed : MadeFile → MadeFile
+not_removed file = made_file file.name NotRemoved file.whole file.bytes file.why
 
 -- the stage of one that was to be removed
 abbrev pub stage_after : Bool → FileStage
 stage_after true = Removed
-stage_after false = Kept
+stage_after false = NotRemoved
 
 -- it did not get its name for this reason, and is gone or not
 abbrev pub unnamed : List ℕ → Unfinished → Option (List ℕ) → Bool → MadeFile

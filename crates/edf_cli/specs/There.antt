@@ -15,16 +15,16 @@ There = List ℕ → Option Entry
 
 -- as far as is known, nothing has this name
 abbrev pub IsVacant : There → List ℕ → Type 0
-IsVacant there name = IfSome (there name) (λ found. found ≡ None)
+IsVacant there name = IfSome (there name) (λ entry. entry ≡ None)
 
 -- as far as is known, something has this name
 abbrev pub MayBeThere : There → List ℕ → Type 0
-MayBeThere there name = IfSome (there name) (λ found. found ≢ None)
+MayBeThere there name = IfSome (there name) (λ entry. entry ≢ None)
 
 -- the entry becomes this one; an entry that was not known may stay so
 abbrev pub Becomes : Option Entry → Option Entry → Entry → Type 0
 Becomes None new now = (new ≡ None) ⊎ (new ≡ Some now)
-Becomes (Some found) new now = new ≡ Some now
+Becomes (Some old) new now = new ≡ Some now
 
 -- the entries of all names are unchanged
 abbrev pub IsSame : There → There → Type 0

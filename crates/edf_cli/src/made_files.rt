@@ -5,7 +5,7 @@ ghost use Rattle.std.specs.Prelude.{length, option_map, slice_get};
 ghost use Rattle.std.specs.Bool.{MatchBool};
 ghost use Rattle.edf_fragment.specs.Failures.{saturating_increment};
 ghost use Rattle.edf_cli.specs.Made.{MadeFile, made_file, begun, half, finished, removed};
-ghost use Rattle.edf_cli.specs.Made.{kept, unnamed, stage_after, WritesNone, failed_with};
+ghost use Rattle.edf_cli.specs.Made.{not_removed, unnamed, stage_after, WritesNone, failed_with};
 
 use crate::new_files::{FileStage, Unfinished};
 use edf_fragment::saturating_increment;
@@ -53,7 +53,7 @@ fn stage_after(is_gone: bool) -> FileStage
     if is_gone {
         FileStage::Removed
     } else {
-        FileStage::Kept
+        FileStage::NotRemoved
     }
 }
 
@@ -219,7 +219,7 @@ impl MadeFiles {
     }
 
     /// Notes that the file that is being written was abandoned, after so many failures.
-    pub fn leave(&mut self, bytes: Option<Vec<u8>>, failures: u64)
+    pub fn abandon(&mut self, bytes: Option<Vec<u8>>, failures: u64)
         ensures files { (files : List MadeFile) (name : List ℕ) →
             self.old.files ≡ files ++ (begun name ∷ []) → self.new.files
             ≡ files ++ (half name (option_map (λ bytes. bytes.items) bytes) ∷ []) }
@@ -227,7 +227,7 @@ impl MadeFiles {
         ensures failed { self.new.failed ≡ failed_with self.old.failed failures }
         ensures begun_count { self.new.begun_count ≡ self.old.begun_count }
     {
-        self.give_back(FileStage::Left, false, bytes, None);
+        self.give_back(FileStage::Abandoned, false, bytes, None);
         self.failed = self.failed.saturating_add(failures);
     }
 
@@ -255,11 +255,11 @@ impl MadeFiles {
 
     /// Notes that the file at a place was to be removed, and whether it is gone.
     pub fn end(&mut self, place: usize, is_gone: bool)
-        ensures files { (front later : List MadeFile) (file : MadeFile) →
-            self.old.files ≡ front ++ (file ∷ later) → length front ≡ place →
+        ensures files { (before later : List MadeFile) (file : MadeFile) →
+            self.old.files ≡ before ++ (file ∷ later) → length before ≡ place →
             MatchBool is_gone
-            (self.new.files ≡ front ++ (removed file ∷ later))
-            (self.new.files ≡ front ++ (kept file ∷ later)) }
+            (self.new.files ≡ before ++ (removed file ∷ later))
+            (self.new.files ≡ before ++ (not_removed file ∷ later)) }
         ensures none { length self.old.files ≤ place → self.new.files ≡ self.old.files }
         ensures failed { self.new.failed ≡ self.old.failed }
         ensures begun_count { self.new.begun_count ≡ self.old.begun_count }

@@ -4,7 +4,7 @@ ghost use Rattle.std.specs.Prelude.{◌≡◌, ◌≤◌, ◌++◌, ◌∷◌, [
 ghost use Rattle.std.specs.Prelude.{IfOk, IfSome, MatchResult, length};
 ghost use Rattle.std.specs.Bool.{MatchBool};
 ghost use Rattle.edf_fragment.specs.Failures.{saturating_increment};
-ghost use Rattle.edf_cli.specs.Made.{MadeFile, begun, half, removed, kept};
+ghost use Rattle.edf_cli.specs.Made.{MadeFile, begun, half, removed, not_removed};
 ghost use Rattle.edf_cli.specs.Made.{IsEnded, WritesNone, failed_with};
 ghost use Rattle.edf_cli.specs.There.{There, IsVacant, MayBeThere, IsSame, IsNamed, IsTakenAway};
 
@@ -18,13 +18,13 @@ pub enum FileStage {
     /// It is being written, and does not have its name.
     Begun,
     /// It was abandoned, half written.
-    Left,
+    Abandoned,
     /// It is there under its name with all that was written.
     Finished,
     /// It was removed again.
     Removed,
     /// It was to be removed, and could not be.
-    Kept,
+    NotRemoved,
 }
 
 /// A file that was written did not get its name.
@@ -91,7 +91,7 @@ pub trait NewFiles {
         ensures empty { IfOk result (λ writer. known self.old ≡ true →
             Self.Writer.contents writer ≡ Some []) }
         ensures unfailed { IfOk result (λ writer. Self.Writer.failures writer ≡ 0) }
-        ensures free { IfOk result (λ _. IsVacant (there self.old) name.now) }
+        ensures vacant { IfOk result (λ _. IsVacant (there self.old) name.now) }
         ensures there { IsSame (there self.old) (there self.new) }
         ensures known { known self.new ≡ known self.old };
 
@@ -137,17 +137,17 @@ pub trait NewFiles {
     /// Removes the file at this place, from 0, of those that were begun here. Is true if there was
     /// one and it is gone.
     fn remove(&mut self, place: usize) -> bool
-        ensures made { (front later : List MadeFile) (file : MadeFile) →
-            made self.old ≡ front ++ (file ∷ later) → length front ≡ place →
+        ensures made { (before later : List MadeFile) (file : MadeFile) →
+            made self.old ≡ before ++ (file ∷ later) → length before ≡ place →
             MatchBool result
-            (made self.new ≡ front ++ (removed file ∷ later))
-            (made self.new ≡ front ++ (kept file ∷ later)) }
+            (made self.new ≡ before ++ (removed file ∷ later))
+            (made self.new ≡ before ++ (not_removed file ∷ later)) }
         ensures none { length (made self.old) ≤ place → (result ≡ false)
             × (made self.new ≡ made self.old) × IsSame (there self.old) (there self.new) }
         ensures begun_count { begun_count self.new ≡ begun_count self.old }
         ensures failed { failed self.new ≡ failed self.old }
-        ensures there { (front later : List MadeFile) (file : MadeFile) →
-            made self.old ≡ front ++ (file ∷ later) → length front ≡ place →
+        ensures there { (before later : List MadeFile) (file : MadeFile) →
+            made self.old ≡ before ++ (file ∷ later) → length before ≡ place →
             IsTakenAway (there self.old) (there self.new) file result }
         ensures known { known self.new ≡ known self.old };
 

@@ -147,7 +147,7 @@ impl NewFiles for Folder {
             room: _,
             failures,
         } = writer;
-        self.made.leave(Some(bytes), failures);
+        self.made.abandon(Some(bytes), failures);
     }
 
     fn count(&self) -> usize {

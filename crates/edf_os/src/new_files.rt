@@ -121,7 +121,7 @@ impl<'rt> NewFiles for PartFiles<'rt> {
     }
 
     fn abandon(&mut self, writer: NewFile<'rt>) {
-        self.made.leave(None, writer.failures());
+        self.made.abandon(None, writer.failures());
     }
 
     fn count(&self) -> usize {

@@ -149,7 +149,7 @@ impl<'a> NewFiles for Folder<'a> {
         let Text { bytes, failures } = writer;
         if !self.is_forgotten {
             self.files
-                .give_back(FileStage::Left, false, Some(bytes), None);
+                .give_back(FileStage::Abandoned, false, Some(bytes), None);
         }
         self.failed = self.failed.saturating_add(failures);
     }

@@ -12,7 +12,7 @@ use Rattle.edf_mend.specs.declared.fault.MendFault.TheVariants.{Write, Read, Mem
 use Rattle.edf_mend.specs.declared.ledger.Ledger.{Ledger}
 use Rattle.edf_mend.specs.declared.surveying.Survey.{Survey}
 use Rattle.edf_mend.specs.declared.wanted.Wanted.{Wanted}
-use Rattle.edf_cli.specs.Made.{MadeFile, finished, removed, kept, failed_with}
+use Rattle.edf_cli.specs.Made.{MadeFile, finished, removed, not_removed, failed_with}
 use Rattle.edf_cli.specs.Making.{Making}
 use Rattle.edf_cli.specs.There.{There}
 use Rattle.edfmend_command.specs.Run.{IsMendedFile, IsNotMended, CountsWrite, LeavesPart}
@@ -119,7 +119,7 @@ module _ (known known' : Bool) (there there' : There)
     part,
     named,
     half,
-    left ∙ ap (λ (l : List MadeFile). l ++ (kept part ∷ [])) b,
+    left ∙ ap (λ (l : List MadeFile). l ++ (not_removed part ∷ [])) b,
   )
   leaves-part false (inr (part, named, half, left)) = inr (
     part,

@@ -14,7 +14,7 @@ use Rattle.edf_cli.specs.Output.{OutputChange, Gets, GetsPrefix, IsWritten, Expl
 use Rattle.edf_cli.specs.Text.{there_line}
 use Rattle.edf_cli.specs.declared.status.Status.{Status}
 use Rattle.edf_cli.specs.declared.status.Status.TheVariants.{Done, Refused, Trouble}
-use Rattle.edf_cli.specs.Made.{MadeFile, finished, removed, kept as kept_file}
+use Rattle.edf_cli.specs.Made.{MadeFile, finished, removed, not_removed}
 use Rattle.edf_cli.specs.Making.{Making, MakesNothing}
 use Rattle.edf_cli.specs.There.{IsVacant, MayBeThere}
 use Rattle.edfmend_command.specs.Lines.{why_line, why_status, kept_line, kept_status}
@@ -80,7 +80,7 @@ abbrev pub LeavesPart : Making → List ℕ → Bool → Type 0
 LeavesPart m name is_left =
     ((m.after ≡ m.before) × (is_left ≡ false))
     ⊎ ((part : MadeFile) × (part.name ≡ name) × (part.whole ≡ false) × MatchBool is_left
-    (m.after ≡ m.before ++ (kept_file part ∷ []))
+    (m.after ≡ m.before ++ (not_removed part ∷ []))
     (m.after ≡ m.before ++ (removed part ∷ [])))
 
 -- the name of the file whose part is left, if it is

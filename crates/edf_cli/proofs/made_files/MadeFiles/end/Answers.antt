@@ -2,7 +2,7 @@ use Rattle.std.proofs.Common.{◌≡◌, ◌<◌, ◌++◌, ◌∷◌, List, Boo
 use Rattle.std.proofs.Common.{map, string_bytes, refl}
 use Rattle.std.specs.Prelude.{option_map}
 use Rattle.std.specs.Bool.{MatchBool}
-use Rattle.edf_cli.specs.Made.{Made, MadeFile, made_file, removed, kept, stage_after}
+use Rattle.edf_cli.specs.Made.{Made, MadeFile, made_file, removed, not_removed, stage_after}
 use Rattle.edf_cli.specs.declared.made_files.MadeEntry.{MadeEntry}
 use Rattle.edf_cli.specs.declared.new_files.FileStage.{FileStage}
 use Rattle.edf_cli.proofs.MadeLists.{replaced, was}
@@ -12,7 +12,8 @@ ends : (is_gone : Bool) (stage : FileStage) (front later now : List MadeFile) (o
     MadeFile)
     → stage ≡ stage_after is_gone → old ≡ file →
     new ≡ made_file old.name stage old.whole old.bytes old.why → now ≡ front ++ (new ∷ later) →
-    MatchBool is_gone (now ≡ front ++ (removed file ∷ later)) (now ≡ front ++ (kept file ∷ later))
+    MatchBool is_gone (now ≡ front ++ (removed file ∷ later))
+    (now ≡ front ++ (not_removed file ∷ later))
 ends true stage front later now old new file s was is so =
     so ∙ ap (λ (f : MadeFile). front ++ (f ∷ later)) (is
     ∙ ap (λ (t : FileStage). made_file old.name t old.whole old.bytes old.why) s
@@ -20,7 +21,7 @@ ends true stage front later now old new file s was is so =
 ends false stage front later now old new file s was is so =
     so ∙ ap (λ (f : MadeFile). front ++ (f ∷ later)) (is
     ∙ ap (λ (t : FileStage). made_file old.name t old.whole old.bytes old.why) s
-    ∙ ap (λ (f : MadeFile). kept f) was)
+    ∙ ap (λ (f : MadeFile). not_removed f) was)
 
 pub returns-then-place-len-clause-files : goal.returns-then-place-len-clause-files
 returns-then-place-len-clause-files c front later file now at =
