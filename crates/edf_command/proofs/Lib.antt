@@ -4,7 +4,6 @@ pub mod Staying
 pub mod Opened
 mod Answers
 mod FewValues
-mod Found
 mod Levels
 mod Made
 mod ManyValues

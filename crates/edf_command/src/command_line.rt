@@ -1,7 +1,6 @@
 //! The parsing of a command line.
 
 ghost use Rattle.std.specs.Prelude.{◌≢◌, ◌<◌, IfErr, IfOk, IsErrAnd, length};
-ghost use Rattle.edf_command.specs.Inside.Commands.{Reads, edfstore_app};
 ghost use Rattle.edf_command.specs.Inside.Read.{AreWordsRead};
 ghost use Rattle.edf_command.specs.Arguments.{AreValues, WordsParseTo, AskForHelp, AskForNoHelp};
 ghost use Rattle.edf_command.specs.Arguments.{WordsParseToNothing};
@@ -11,41 +10,20 @@ use crate::commands::{edfstore_command, export_command};
 use crate::help::BAD_PLACE;
 use crate::matches::order_in;
 use crate::order::Order;
-use clap::Command;
 use edf_cli::{CommandFault, fault_by, refuse_value};
-use std::alloc::{AllocError, Global};
+use std::alloc::Global;
 
 /// Parses the words. Returns `None` if only a PLACE is wrong, which `clap` takes as any text.
-fn read<'a>(
-    alloc: Global,
-    command: &mut Command<'a>,
-    words: &'a [String],
-) -> Result<Option<Order>, CommandFault>
-    requires command { Reads command.old edfstore_app }
+fn read(alloc: Global, words: &[String]) -> Result<Option<Order>, CommandFault>
     requires some { 0 < length words.now }
     ensures { AreWordsRead words.now result }
 {
+    let mut command = edfstore_command(alloc)?;
     let matches = match command.try_get_matches_from_mut(words) {
         Ok(matches) => matches,
         Err(error) => return Err(fault_by(alloc, &error)),
     };
     Ok(order_in(alloc, &matches)?)
-}
-
-/// Parses the words of `edfstore`. Returns `None` if only a PLACE is wrong.
-fn read_words(alloc: Global, words: &[String]) -> Result<Option<Order>, CommandFault>
-    requires some { 0 < length words.now }
-    ensures { AreWordsRead words.now result }
-{
-    let mut command = edfstore_command(alloc)?;
-    read(alloc, &mut command, words)
-}
-
-/// Returns the fault for a PLACE, with the usage of `export`.
-fn place_fault(alloc: Global) -> Result<CommandFault, AllocError>
-    ensures { IfOk result IsNoHelp }
-{
-    refuse_value(alloc, export_command(alloc)?, "edfstore export", BAD_PLACE)
 }
 
 /// Parses the words after the program's name.
@@ -73,8 +51,9 @@ pub fn parse(alloc: Global, words: &[String]) -> Result<Order, CommandFault>
         let file = String::from_str(alloc, "-")?;
         return Ok(Order::Convert { file });
     }
-    match read_words(alloc, words)? {
-        Some(parsed) => Ok(parsed),
-        None => Err(place_fault(alloc)?),
+    if let Some(order) = read(alloc, words)? {
+        return Ok(order);
     }
+    let export = export_command(alloc)?;
+    Err(refuse_value(alloc, export, "edfstore export", BAD_PLACE)?)
 }

@@ -1,7 +1,7 @@
 //! The order in the matches of `clap`.
 
 ghost use Rattle.std.specs.Prelude.{◌≡◌, IfOk, codes, map, option_map, string_bytes};
-ghost use Rattle.clap.specs.Words.{all_of, first_of, found_of, rows_of, subcommand_rows_of};
+ghost use Rattle.clap.specs.Words.{first_of, found_of, rows_of, subcommand_rows_of};
 ghost use Rattle.edf_command.specs.Inside.Matches.{asked_in, found_by};
 ghost use Rattle.edf_command.specs.Arguments.{meaning};
 
@@ -27,22 +27,6 @@ fn value_in<'a>(values: &ArgMatches<'a>, name: &str) -> Option<&'a str>
     values.get_str(name)
 }
 
-/// Returns all values of that name.
-fn values_in<'m, 'a>(values: &'m ArgMatches<'a>, name: &str) -> Option<&'m [&'a str]>
-    ensures { option_map (λ s. map (λ v. v.now) s.now) result
-        ≡ all_of name.now (rows_of (found_of values.now)) }
-{
-    values.get_strs(name)
-}
-
-/// Returns the command's word and the values after it.
-fn command_in<'m, 'a>(matches: &'m ArgMatches<'a>) -> Option<(&'a str, &'m ArgMatches<'a>)>
-    ensures { option_map (λ p. (p.0.now, rows_of (found_of p.1.now))) result
-        ≡ subcommand_rows_of matches.now }
-{
-    matches.subcommand()
-}
-
 fn take_in(alloc: Global, values: &ArgMatches<'_>) -> Result<Option<Order>, AllocError>
     ensures { IfOk result (λ r. option_map meaning r
         ≡ found_by (codes "take") (rows_of (found_of values.now))) }
@@ -50,7 +34,7 @@ fn take_in(alloc: Global, values: &ArgMatches<'_>) -> Result<Option<Order>, Allo
     let Some(store) = value_in(values, "STORE") else {
         return Ok(None);
     };
-    let Some(files) = values_in(values, "FILE") else {
+    let Some(files) = values.get_strs("FILE") else {
         return Ok(None);
     };
     let store = String::from_str(alloc, store)?;
@@ -101,7 +85,7 @@ fn convert_in(alloc: Global, values: &ArgMatches<'_>) -> Result<Option<Order>, A
 pub(crate) fn order_in(alloc: Global, matches: &ArgMatches<'_>) -> Result<Option<Order>, AllocError>
     ensures { IfOk result (λ r. option_map meaning r ≡ asked_in (subcommand_rows_of matches.now)) }
 {
-    let Some((word, values)) = command_in(matches) else {
+    let Some((word, values)) = matches.subcommand() else {
         return Ok(None);
     };
     if word == "take" {
