@@ -15,7 +15,7 @@ use Rattle.edf_time.proofs.OneDay.{in-bounds}
 use Rattle.edf_time.specs.Civil.{IsIdDate, two_digits, four_digits, month_name}
 use Rattle.edf_field.specs.Number.{IsWhole, whole_value, digits, after_digits, AreSpaces}
 use Rattle.edf_mend.specs.Recording.{IsMonthPart}
-use Rattle.edf_mend.specs.Inside.Recordings.{IsMonthWord, IsYearIn, IsDateBy, ReadsIn, ReadsAs}
+use Rattle.edf_mend.specs.Inside.Recordings.{IsMonthWord, IsYearIn, IsDateBy, ReadsIn, ReadsAsDate}
 use Rattle.edf_mend.specs.Inside.Recordings.{IsWanted, IsWantedDate, IsWantedReading, date_parts}
 use Rattle.edf_mend.proofs.Digits.{whole-some, whole-none, two-numeral, numeral-two}
 use Rattle.edf_mend.proofs.Months.{number-or-word}
@@ -232,7 +232,7 @@ reading-last century a b c w one two (text, inr (inr by), is) = (text, by, is)
 -- ---- both centuries
 
 abbrev IsFound : List ℕ → Option (List ℕ) → Type 0
-IsFound text w = (date : List ℕ) × ReadsAs text date × IsWanted w date
+IsFound text w = (date : List ℕ) × ReadsAsDate text date × IsWanted w date
 
 pub early-reads : (text a b c : List ℕ) (w : Option (List ℕ)) →
     date_parts text ≡ a ∷ b ∷ c ∷ [] → IsWantedReading 19 a b c w → IsFound text w

@@ -10,7 +10,7 @@ use Rattle.edf_time.specs.Civil.{AreStartdates}
 use Rattle.edf_time.specs.declared.civil.StartFault.{StartFault}
 use Rattle.edf_time.proofs.Cited.{start-parts, no-start_fault, one-date_day, one-id_text}
 use Rattle.edf_mend.specs.Recording.{IsOwnDate, Contradicts, IsDated, TakesHeadersDate}
-use Rattle.edf_mend.specs.Inside.Recordings.{HasNoDate, HasThisDate, ReadsAs}
+use Rattle.edf_mend.specs.Inside.Recordings.{HasNoDate, HasThisDate, ReadsAsDate}
 use Rattle.edf_mend.proofs.Readings.{reads-other, reads-header, header-reads, other-reads}
 
 abbrev pub midnight : List ℕ
@@ -136,7 +136,8 @@ abbrev IsNone : List ℕ → Type 0
 IsNone date = (own : List ℕ) → ¬ IsOwnDate date own
 
 abbrev Takes : Type 0 → List ℕ → List ℕ → Type 0
-Takes named date found = (named × ((other : List ℕ) × ReadsAs date other)) ⊎ ReadsAs date found
+Takes named date found = (named × ((other : List ℕ) × ReadsAsDate date other))
+    ⊎ ReadsAsDate date found
 
 pub other-none : (named : Type 0) (s date : List ℕ) → IsNone date → HasNoDate s →
     (new : List ℕ) → ¬ IsDated named s date new
@@ -168,7 +169,7 @@ pub other-nothing : (named : Type 0) (s date found : List ℕ) → IsNone date �
     HasThisDate s found → ¬ Takes named date found → (new : List ℕ) → ¬ IsDated named s date new
 other-nothing named s date found none has nay new (inl p) = none new p.0
 other-nothing named s date found none has nay new (inr t) = elim t.why [
-  | inl here ↦ nay (inr (subst (λ (l : List ℕ). ReadsAs date l)
+  | inl here ↦ nay (inr (subst (λ (l : List ℕ). ReadsAsDate date l)
       (has-date-one s new found (t.year, t.month, t.day, t.has_date) has)
       (header-reads s date new t.year t.month t.day t.has_date here.0)))
   | inr there ↦ elim there.1 [

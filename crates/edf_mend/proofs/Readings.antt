@@ -12,7 +12,7 @@ use Rattle.edf_time.specs.Civil.{IsDay, IsIdDate, two_digits, four_digits, month
 use Rattle.edf_field.specs.Number.{whole_value}
 use Rattle.edf_mend.specs.Recording.{IsDayPart, IsMonthPart, IsYearPart, IsDateOf, HasDate}
 use Rattle.edf_mend.specs.Recording.{IsOtherDate}
-use Rattle.edf_mend.specs.Inside.Recordings.{IsYearIn, IsDateBy, ReadsIn, ReadsAs, date_parts}
+use Rattle.edf_mend.specs.Inside.Recordings.{IsYearIn, IsDateBy, ReadsIn, ReadsAsDate, date_parts}
 use Rattle.edf_mend.proofs.Months.{month-one}
 
 -- ---- years
@@ -150,7 +150,7 @@ some-reading a b c y m d days is (inr (inl p)) =
 some-reading a b c y m d days is (inr (inr p)) =
     let found = some-date-by c b a y m d days p.2 p.1 p.0 is in (found.0, inr (inr found.1))
 
-pub other-reads : (date : List ℕ) → IsOtherDate date → (text : List ℕ) × ReadsAs date text
+pub other-reads : (date : List ℕ) → IsOtherDate date → (text : List ℕ) × ReadsAsDate date text
 other-reads date other =
     let is = other.is_date in
     let found = some-reading is.first is.second is.third other.year other.month other.day
@@ -225,13 +225,13 @@ read-in date a b c text century parts (inr (inr by)) = record {
   };
 }
 
-read-by : (date text : List ℕ) → ReadsAs date text → IsRead date text
+read-by : (date text : List ℕ) → ReadsAsDate date text → IsRead date text
 read-by date text reads = elim reads.reads [
   | inl in19 ↦ read-in date reads.first reads.second reads.third text 19 reads.parts in19
   | inr in20 ↦ read-in date reads.first reads.second reads.third text 20 reads.parts in20
 ]
 
-pub reads-other : (date text : List ℕ) → ReadsAs date text → IsOtherDate date
+pub reads-other : (date text : List ℕ) → ReadsAsDate date text → IsOtherDate date
 reads-other date text reads =
     let is = read-by date text reads in
     record {
@@ -251,7 +251,8 @@ date-of-same date y m d year month day ey em ed is =
     (subst (λ (k : ℕ). IsDateOf date y m k) ed is))
 
 -- the header's day in another spelling
-pub reads-header : (s date text : List ℕ) (y m d : ℕ) → HasDate s text y m d → ReadsAs date text →
+pub reads-header : (s date text : List ℕ) (y m d : ℕ) → HasDate s text y m d →
+    ReadsAsDate date text →
     IsDateOf date y m d
 reads-header s date text y m d has reads =
     let is = read-by date text reads in
@@ -291,7 +292,7 @@ reading-same century a b c text y m d days date ey em ed e (inr (inr p)) =
     inr (inr (by-same century c b a text y m d days date ey em ed e p.2 p.1 p.0))
 
 pub header-reads : (s date text : List ℕ) (y m d : ℕ) → HasDate s text y m d →
-    IsDateOf date y m d → ReadsAs date text
+    IsDateOf date y m d → ReadsAsDate date text
 header-reads s date text y m d has is =
     let f = has.in_field in
     let h = has.in_header in

@@ -12,7 +12,7 @@ use Rattle.edf_mend.proofs.FirstDay.{first-day}
 use Rattle.edf_mend.specs.Header.{spaced}
 use Rattle.edf_mend.specs.Letters.{spelling}
 use Rattle.edf_mend.specs.Recording.{BeginsWell, IsOwnDate}
-use Rattle.edf_mend.specs.Starts.{HasOwnDate, HasStartdate, HasStarttime, AgreesWith}
+use Rattle.edf_mend.specs.Starts.{HasOwnDate, HasStartdate, HasStarttime, RecordingHasDate}
 use Rattle.edf_mend.specs.Inside.Recordings.{BeginsWith, BeginsOtherwise, HasNoDate, HasThisDate}
 use Rattle.edf_mend.specs.Inside.Started.{HasDay}
 use Rattle.edf_mend.proofs.HeaderDates.{midnight, midnight-start, own-one}
@@ -118,7 +118,7 @@ startdate-of recording field found start is (days, seconds, d, t, e) =
 
 pub agrees-with : (recording dotted : List ℕ) (day : ℤ) (start : ℕ) →
     ((n : ℕ) × IsDateText dotted n) → HasDay recording day → IsCivil dotted midnight (Some day) start →
-    AgreesWith recording dotted
+    RecordingHasDate recording dotted
 agrees-with recording dotted day start dated (begins, own, is, d) (days, seconds, a, t, e) =
     elim a.1 [
       | inl digits ↦
@@ -133,7 +133,7 @@ one-begin field a b =
 
 pub agrees-not : (recording dotted : List ℕ) (day : ℤ) (fault : StartFault) →
     HasDay recording day → IsStartFault dotted midnight (Some day) fault →
-    ¬ AgreesWith recording dotted
+    ¬ RecordingHasDate recording dotted
 agrees-not recording dotted day fault (first, own, mine, d) is (begins, date, days, o, i, dated) =
     let same : own ≡ date = own-one begins.date own date
     (subst (λ (l : List ℕ). IsOwnDate l own) (one-begin recording first begins) mine) o in
@@ -143,7 +143,7 @@ agrees-not recording dotted day fault (first, own, mine, d) is (begins, date, da
     (midnight-start dotted (Some day) days (n, inl dated)) is
 
 pub agrees-none : (recording dotted : List ℕ) → ((day : ℤ) → ¬ HasDay recording day) →
-    ¬ AgreesWith recording dotted
+    ¬ RecordingHasDate recording dotted
 agrees-none recording dotted none (begins, date, days, is, d, dated) =
     none (pos days) (begins, date, is, d)
 

@@ -46,8 +46,8 @@ HasOneNumber dots = (dots.first ≡ dots.second)
     × (((dots.a ≡ 45) ⊎ (dots.b ≡ 45)) → dots.first ≡ dots.third)
 
 -- the recording field has that day, as a date of EDF+ in any letters
-abbrev pub AgreesWith : List ℕ → List ℕ → Type 0
-AgreesWith recording new = (begins : BeginsWell recording) × (date : List ℕ) × (days : ℕ)
+abbrev pub RecordingHasDate : List ℕ → List ℕ → Type 0
+RecordingHasDate recording new = (begins : BeginsWell recording) × (date : List ℕ) × (days : ℕ)
     × IsOwnDate begins.date date × IsIdDate date (pos days) × IsDateText new days
 
 -- a date is one that way only where nobody could read another: the recording field has it too, or
@@ -55,7 +55,7 @@ AgreesWith recording new = (begins : BeginsWell recording) × (date : List ℕ) 
 abbrev pub IsDateMade : List ℕ → List ℕ → List ℕ → Type 0
 IsDateMade recording old new = (HasStartdate recording old → ⊥)
     × ((dots : GetsDots old new) × ((days : ℕ) × IsDateText new days)
-    × (AgreesWith recording new ⊎ HasOneNumber dots))
+    × (RecordingHasDate recording new ⊎ HasOneNumber dots))
 
 -- what the rule `separators` makes of both
 abbrev pub IsStartdateMade : List ℕ → List ℕ → List ℕ → Type 0

@@ -8,7 +8,7 @@ ghost use Rattle.edf_time.specs.Civil.{month_name, two_digits, four_digits};
 ghost use Rattle.edf_field.specs.Number.{IsWhole, whole_value};
 ghost use Rattle.edf_mend.specs.Recording.{IsMonthPart, IsOwnDate, IsOtherDate, Contradicts};
 ghost use Rattle.edf_mend.specs.Recording.{IsDated};
-ghost use Rattle.edf_mend.specs.Inside.Recordings.{IsMonthWord, IsYearIn, IsDateBy, ReadsAs};
+ghost use Rattle.edf_mend.specs.Inside.Recordings.{IsMonthWord, IsYearIn, IsDateBy, ReadsAsDate};
 ghost use Rattle.edf_mend.specs.Inside.Recordings.{IsWantedDate, IsWantedReading};
 ghost use Rattle.edf_mend.specs.Inside.Recordings.{date_parts, IsWanted, HasNoDate, HasThisDate};
 
@@ -348,7 +348,7 @@ fn three_parts(text: &[u8]) -> Option<(&[u8], &[u8], &[u8])>
 /// digits may be of either century.
 fn reads_as(alloc: Global, text: &[u8], wanted: &Option<[u8; 11]>) -> Result<bool, AllocError>
     ensures { IfOk result (λ r. IsTrue r
-        ↔ ((date : List ℕ) × ReadsAs text.now date × IsWanted wanted.now date)) }
+        ↔ ((date : List ℕ) × ReadsAsDate text.now date × IsWanted wanted.now date)) }
 {
     let Some((a, b, c)) = three_parts(text) else {
         return Ok(false);
@@ -392,7 +392,7 @@ pub(crate) fn contradicts(startdate: &[u8], date: &[u8]) -> bool
 /// Whether the rule was named, and a text reads as a date.
 fn is_named_date(alloc: Global, is_named: bool, date: &[u8]) -> Result<bool, AllocError>
     ensures { IfOk result (λ r. IsTrue r
-        ↔ (IsTrue is_named × ((other : List ℕ) × ReadsAs date.now other))) }
+        ↔ (IsTrue is_named × ((other : List ℕ) × ReadsAsDate date.now other))) }
 {
     if !is_named {
         return Ok(false);
@@ -410,8 +410,8 @@ fn takes_headers(
     date: &[u8],
 ) -> Result<bool, AllocError>
     ensures { IfOk result (λ r. IsTrue r
-        ↔ ((IsTrue is_named × ((other : List ℕ) × ReadsAs date.now other))
-        ⊎ ReadsAs date.now found)) }
+        ↔ ((IsTrue is_named × ((other : List ℕ) × ReadsAsDate date.now other))
+        ⊎ ReadsAsDate date.now found)) }
 {
     let is_other = is_named_date(alloc, is_named, date)?;
     if is_other {

@@ -4,7 +4,7 @@ ghost use Rattle.std.specs.Prelude.{◌≡◌, ◌≢◌, ◌↔◌, ◌⊎◌, 
 ghost use Rattle.std.specs.Prelude.{IsTrue, IfOk, MatchOption, Any, All};
 ghost use Rattle.edf_mend.specs.Starts.{HasStartdate, HasStarttime, GetsDots, IsTimeMade};
 ghost use Rattle.edf_mend.specs.Starts.{IsDateMade, IsStartdateMade, IsStarttimeMade, IsOtherwise};
-ghost use Rattle.edf_mend.specs.Starts.{AgreesWith, HasOneNumber, IsSeparator};
+ghost use Rattle.edf_mend.specs.Starts.{RecordingHasDate, HasOneNumber, IsSeparator};
 ghost use Rattle.edf_time.specs.Civil.{IsDateText};
 ghost use Rattle.edf_mend.specs.Wanted.{If};
 ghost use Rattle.edf_mend.specs.Inside.Started.{HasDay};
@@ -140,7 +140,7 @@ fn has_one_number(field: &[u8], dotted: &[u8; 8]) -> bool
 /// Whether the recording field has that day.
 fn agrees(alloc: Global, recording: &[u8], dotted: &[u8; 8]) -> Result<bool, AllocError>
     ensures { IfOk result (λ r. ((days : ℕ) × IsDateText dotted.now days) →
-        (IsTrue r ↔ AgreesWith recording.now dotted.now)) }
+        (IsTrue r ↔ RecordingHasDate recording.now dotted.now)) }
 {
     match day_of(alloc, recording)? {
         Some(day) => match start_of(dotted, MIDNIGHT, Some(day)) {

@@ -63,7 +63,7 @@ abbrev pub date_parts : List ℕ → List (List ℕ)
 date_parts text = slice_split (λ b. (b == 45) || ((b == 46) || (b == 47))) text
 
 -- a text reads so, as a date of a year of two centuries where two digits name that
-pub record ReadsAs (text date : List ℕ) : Type 0 where
+pub record ReadsAsDate (text date : List ℕ) : Type 0 where
   pub first : List ℕ
   pub second : List ℕ
   pub third : List ℕ

@@ -1,6 +1,6 @@
 use Rattle.std.proofs.Common.{◌≡◌, ℕ, List, subst, inl, inr}
 use Rattle.edf_time.specs.Civil.{IsDateText}
-use Rattle.edf_mend.specs.Starts.{AgreesWith}
+use Rattle.edf_mend.specs.Starts.{RecordingHasDate}
 use Rattle.edf_mend.proofs.Dots.{dots-one, dots-length, one-moved}
 use Rattle.edf_mend.proofs.Tests.{not-told}
 use Rattle.edf_mend.proofs.starts.dotted_startdate.Goals as goal
@@ -50,7 +50,7 @@ returns c = λ text made.
     let dated = c.is_date.ensures.0 c.if-not-is_date.false in
     elim made.1.2 [
       | inl agree ↦ not-told _ _ c.if-is_told.false (c.in_ok-is_told.ensures dated)
-          (subst (λ (l : List ℕ). AgreesWith c.args.recording.now l) same agree)
+          (subst (λ (l : List ℕ). RecordingHasDate c.args.recording.now l) same agree)
       | inr one ↦ not-told _ _ c.if-has_one_number.false c.has_one_number.ensures
           (one-moved c.args.field.now text c.in-Some.dotted made.1.0 one same)
     ]
