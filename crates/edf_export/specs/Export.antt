@@ -86,8 +86,7 @@ IsOutsideTransactionAfterExport s result =
 
 module _ {S A : Type 0} (g : Ghosts S) (old new : StoreModel S) (result : Result A ExportFault)
   where
-    -- holdings are unchanged; on a clean disk no transaction is open, except after the store's
-    -- refusal
+    -- holdings are unchanged; on a clean disk no transaction is open, unless the store refused
     pub record KeepsStore : Type 0 where
       pub stays : KeepsHoldings g old new
       pub idle : HasCleanDisk (at g new) → IsOutsideTransactionAfterExport (at g new) result
