@@ -23,7 +23,7 @@ may_take cap a b c was_a was_b running ab bc id k r count records under counts n
       key = k;
       is_under = bc.ids id k (ab.ids id k under);
       sound = sound;
-      room = λ clean h seen.
+      spare = λ clean h seen.
           let in_b = seen_before cap b c was_b ab.running bc clean h seen in
           let in_a = seen_before cap a b was_a running ab (was_b clean) h in_b in
           record {
