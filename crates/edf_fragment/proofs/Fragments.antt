@@ -41,8 +41,7 @@ pub fragment_read : (left mid rest : Option (List ℕ)) (l : Layout) (rs : List 
     ReadsHeader left mid l → ReadsRecords l mid rest rs → ReadsFragment left rest l rs
 fragment_read left mid rest l rs a b =
     let are = subst (λ (x : Layout). BeginWithDataRecords x First b.bytes rs b.next_place [])
-    a.layout_is
-    b.are_records in
+    a.layout_is b.are_records in
     let spells : IsFragmentFile (a.bytes ++ b.bytes) l.key rs = record {
       header = a.header;
       rest = b.bytes;
@@ -96,8 +95,7 @@ up_to all one two a b h rs p first second is are = record {
   remaining = two;
   is_header = subst (λ (x : List ℕ). IsHeader x h one) (sym first) (IsHeader-more a one h is);
   are_records = subst (λ (x : List ℕ). BeginWithDataRecords (layout_of h) First x rs p two)
-      (sym second)
-      (AreDataRecords-more (layout_of h) First p b [] two rs are);
+      (sym second) (AreDataRecords-more (layout_of h) First p b [] two rs are);
 }
 
 cut_of_all : (left mid two rest : Option (List ℕ)) (a b : List ℕ) (h : HeaderRecord)

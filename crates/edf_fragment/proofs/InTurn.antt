@@ -74,9 +74,7 @@ outside-of from at (row ∷ rows) bytes le all =
     ∙ append_assoc (field bytes from (at - from)) (take size (drop at bytes)) others in
     elim (has_label row) as (λ b. bytes_outside from
     (cond b (record { at = at; bytes = size } ∷ blocks_from next rows) (blocks_from next rows))
-    bytes
-    ≡ field bytes from (at - from)
-    ++ flat_map (λ (p : List ℕ × List ℕ). p.1)
+    bytes ≡ field bytes from (at - from) ++ flat_map (λ (p : List ℕ × List ℕ). p.1)
     (cond (not b) ((row, take size (drop at bytes)) ∷ rest) rest)) [
       | true ↦ ap (λ (l : List ℕ). field bytes from (at - from) ++ l) closed
       | false ↦ apart

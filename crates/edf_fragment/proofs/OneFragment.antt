@@ -63,8 +63,7 @@ goes_on l f p q b x y (r ∷ rs) (s ∷ ss) few (front, back, parts, one, are) (
     (place_after l z.start) back rs p x)
     first are in
     let there = subst (λ (z : List ℕ). BeginWithDataRecords l (place_after l s.start) z rs p x)
-    same.back
-    here in
+    same.back here in
     let rest = goes_on l (place_after l s.start) p q back2 x y rs ss (omega arith) there are2 in
     let all : s ∷ ss ≡ (r ∷ rs) ++ rest.others = ap (λ (z : List DataRecord). s ∷ z) rest.all
     ∙ ap (λ (z : DataRecord). z ∷ (rs ++ rest.others)) (sym first) in
@@ -156,8 +155,7 @@ all-stuck l rs p x all = record {
 trailing-stuck : (b : List ℕ) (p : HasTrailingBytes b) →
     IsStuck (layout_of p.up_to.header) p.up_to.records p.up_to.next_place p.up_to.remaining
 trailing-stuck b p = all-stuck (layout_of p.up_to.header) p.up_to.records p.up_to.next_place
-    p.up_to.remaining
-    p.all
+    p.up_to.remaining p.all
 
 -- nothing is left for a data record
 none-stuck : (l : Layout) (rs : List DataRecord) (p : Place) → IsLayout l →
@@ -237,18 +235,14 @@ both : (b : List ℕ) (u v : ParsedPrefix b) →
     → SameEnd u.header v.header u.records v.records u.next_place v.next_place u.remaining
     v.remaining
 both b u v s t = same-end b u.rest v.rest u.header v.header u.records v.records u.next_place
-    v.next_place
-    u.remaining
-    v.remaining u.is_header v.is_header u.are_records v.are_records s t
+    v.next_place u.remaining v.remaining u.is_header v.is_header u.are_records v.are_records s t
 
 both-numbers : (b : List ℕ) (u v : ParsedPrefix b) →
     IsStuck (layout_of u.header) u.records u.next_place u.remaining →
     IsStuck (layout_of v.header) v.records v.next_place v.remaining
     → SameNumbers u.header v.header u.records v.records u.remaining v.remaining
 both-numbers b u v s t = numbers u.header v.header u.records v.records u.next_place v.next_place
-    u.remaining
-    v.remaining
-    (both b u v s t)
+    u.remaining v.remaining (both b u v s t)
 
 -- ---- the laws
 
@@ -303,14 +297,12 @@ one-refused b n m e f p q =
     let place = subst (λ (z : Place). BlocksHaveFirstFault (blocks (layout_of g) p.up_to.remaining)
     (layout_of g).start z e) s.run.place here in
     let there = subst (λ (z : List ℕ). BlocksHaveFirstFault (blocks (layout_of g) z)
-    (layout_of g).start
-    q.up_to.next_place e) s.run.rest place in
+    (layout_of g).start q.up_to.next_place e) s.run.rest place in
     record {
       nth = omega (arith, k.given, p.is_nth, q.is_nth);
       fault =
           blocks-one-fault (blocks (layout_of g) q.up_to.remaining)
-          (layout_of g).start q.up_to.next_place e f
-          there q.refused;
+          (layout_of g).start q.up_to.next_place e f there q.refused;
     }
 
 pub one-first-fault : (b : List ℕ) (e f : FragmentFault) → IsFirstFault b e → IsFirstFault b f →

@@ -124,8 +124,7 @@ module _ (b : List ℕ) (h : HeaderRecord) (rest : List ℕ) (is : IsHeader b h 
   next-record : (last : Place) (left : List ℕ) (start : ℕ) (list : List Annotation) →
       (layout_of h).record_bytes ≤ length left
       → BlocksParseTo (blocks (layout_of h) left) (layout_of h).start last start list
-      → IsDataRecord (layout_of h) last (take (layout_of h).record_bytes left)
-      (record {
+      → IsDataRecord (layout_of h) last (take (layout_of h).record_bytes left) (record {
         start = start;
         samples =
             ordinary_bytes (layout_of h) (take (layout_of h).record_bytes left);

@@ -156,8 +156,7 @@ reads_more l left mid rest rs p q r before is gives =
       bytes = before.bytes ++ gives.bytes;
       read = Consumes-trans left mid rest before.bytes gives.bytes before.read gives.read;
       are_records = subst (λ (x : Place). BeginWithDataRecords l First (before.bytes
-          ++ gives.bytes) (rs
-          ++ r ∷ []) x []) (sym place) more;
+          ++ gives.bytes) (rs ++ r ∷ []) x []) (sym place) more;
       given = omega (arith, before.given, length-append rs (r ∷ []));
       within = omega (arith, gives.may_come, given);
     }

@@ -253,6 +253,5 @@ read-front all (Some one) (Some two) l rs p k others h b s =
     b.are_records in
     let is = subst (λ (x : List ℕ). IsHeader x s.header s.rest) parts s.is_header in
     let front = front-of h.bytes b.bytes two h.header s.header s.rest rs others p.place s.next_place
-    is
-    h.is_header are s.are_records in
+    is h.is_header are s.are_records in
     (s.key ∙ front.0 ∙ ap (λ (x : Layout). x.key) (sym h.layout_is), front.1)

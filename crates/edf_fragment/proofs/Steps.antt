@@ -137,11 +137,9 @@ pub given_record : (l : Layout) (p : Progress) (left rest : Option (List ℕ))
     ReadsRecord l p left rest r
 given_record l p left rest whole samples bs s r t c from read same same-samples =
     let here = subst (λ (x : List (List ℕ)). BlocksParseTo x s p.place t.start t.annotations)
-    c.blocks_are
-    read in
+    c.blocks_are read in
     let there = subst (λ (n : ℕ). BlocksParseTo (blocks l whole) n p.place t.start t.annotations)
-    from
-    here in
+    from here in
     subst (ReadsRecord l p left rest) (sym same)
     (given_whole l p left rest whole t c.has there (same-samples ∙ c.samples_are))
 

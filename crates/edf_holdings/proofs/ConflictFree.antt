@@ -183,8 +183,7 @@ whole_of_free cap h (t ∷ ts) w g i =
     (record { fragments = i.fragments.1; no_clash = i.no_clash; within_cap = i.within_cap }) in
     record {
       accepted = All-cons IsAccepted (reply cap h t) (replies cap (after_one cap h t) ts)
-          one.accepted
-          (subst (λ (z : Holdings). All IsAccepted (replies cap z ts)) (sym one.joins)
+          one.accepted (subst (λ (z : Holdings). All IsAccepted (replies cap z ts)) (sym one.joins)
           rest.accepted);
       joins = ap (λ (z : Holdings). after cap z ts) one.joins ∙ rest.joins;
     }

@@ -44,8 +44,7 @@ in_inserted r y (x ∷ xs) h =
     (λ (l : List DataRecord). In y l → (r ≡ y) ⊎ In y (x ∷ xs))
     (λ e k. inr k) (λ e. cond_both (nat_lt r.start x.start) (r ∷ x ∷ xs) (x ∷ insert r xs)
     (λ (l : List DataRecord). In y l → (r ≡ y) ⊎ In y (x ∷ xs))
-    (λ _ k. k)
-    (λ _ k. elim k [
+    (λ _ k. k) (λ _ k. elim k [
       | inl p ↦ inr (inl p)
       | inr m ↦
           elim (in_inserted r y xs m) [ inl p ↦ inl p | inr n ↦ inr (inr n) ]
@@ -80,8 +79,7 @@ length_inserted_new r (x ∷ xs) e =
     (λ t. absurd (both_ways _ p.0 t))
     (λ _. cond_both (nat_lt r.start x.start) (r ∷ x ∷ xs) (x ∷ insert r xs)
     (λ (l : List DataRecord). length l ≡ length (x ∷ xs) + 1)
-    (λ _. omega arith)
-    (λ _. omega (arith, length_inserted_new r xs p.1)))
+    (λ _. omega arith) (λ _. omega (arith, length_inserted_new r xs p.1)))
 
 -- order
 

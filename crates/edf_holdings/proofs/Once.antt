@@ -39,23 +39,20 @@ grows_from : (cap : ℕ) (h : Holdings) (ts : List Parsed) (t : Parsed) (us : Li
     Grows (after_one cap (after cap h ts) t) (after cap h (up_to_repeat ts t us))
 grows_from cap h ts t us =
     subst (λ (z : Holdings). Grows (after_one cap (after cap h ts) t) z)
-    (sym (after-append cap h ts (t ∷ us)))
-    (after_grows cap (after_one cap (after cap h ts) t) us)
+    (sym (after-append cap h ts (t ∷ us))) (after_grows cap (after_one cap (after cap h ts) t) us)
 
 pub accepted_again_law : AcceptedAgain
 accepted_again_law cap h ts t us s w =
     let g = IsGood-from_sound cap h s in
     accepted_again cap (after cap h ts) (after cap h (up_to_repeat ts t us)) t
-    (sound_back ts (t ∷ us) w).0
-    (IsGood-after cap h ts (sound_front ts (t ∷ us) w) g)
+    (sound_back ts (t ∷ us) w).0 (IsGood-after cap h ts (sound_front ts (t ∷ us) w) g)
     (IsGood-after cap h (up_to_repeat ts t us) w g) (grows_from cap h ts t us)
 
 pub refused_again_law : RefusedAgain
 refused_again_law cap h ts t us s w not_then =
     let g = IsGood-from_sound cap h s in (
       (λ i. not_then (accepted_before cap (after cap h ts) (after cap h (up_to_repeat ts t us)) t
-          (sound_back ts (t ∷ us) w).0
-          (IsGood-after cap h ts (sound_front ts (t ∷ us) w) g)
+          (sound_back ts (t ∷ us) w).0 (IsGood-after cap h ts (sound_front ts (t ∷ us) w) g)
           (IsGood-after cap h (up_to_repeat ts t us) w g)
           (λ k y m. grows_from cap h ts t us k y (one_grows cap (after cap h ts) t k y m)) i)),
       λ e q. fault_again cap (after cap h ts) (after cap h (up_to_repeat ts t us)) t e q,

@@ -60,8 +60,7 @@ pub no_first : (d : ℕ) (xs rs : List DataRecord) → AreFree d xs rs → first
 no_first d xs [] f = refl
 no_first d xs (s ∷ rs) f =
     ap (λ (o : Option DataRecord). clash_or s o (first_clash d xs rs))
-    (none_found d s xs (λ x n. f s x (inl refl) n))
-    ∙ no_first d xs rs (λ r x m n. f r x (inr m) n)
+    (none_found d s xs (λ x n. f s x (inl refl) n)) ∙ no_first d xs rs (λ r x m n. f r x (inr m) n)
 
 -- what is answered to a fragment where nothing clashes and there is room
 abbrev pub answered : Key → List DataRecord → List DataRecord → Reply

@@ -34,8 +34,7 @@ pub same_key-Decides : (k q : Key) → Decides (same_key k q) (k ≡ q)
 unfolding same_key
 same_key-Decides k q =
     let parts = both_decide _ _ (both_decide _ _ (both_decide _ _ (both_decide _ _
-    (bytes_eq-Decides k.patient q.patient)
-    (booleans_Decides k.dated q.dated))
+    (bytes_eq-Decides k.patient q.patient) (booleans_Decides k.dated q.dated))
     (bytes_eq-Decides k.after q.after))
     (bytes_eq-Decides k.duration q.duration))
     (pointwise_decides bytes_eq-Decides k.signals q.signals) in (
@@ -66,8 +65,7 @@ same_annotation-Decides : (a b : Annotation) → Decides (same_annotation a b) (
 unfolding same_annotation
 same_annotation-Decides a b =
     let parts = both_decide _ _ (both_decide _ _
-    (Decides-eqb a.onset b.onset)
-    (option_decides ◌==◌ Decides-eqb a.duration b.duration))
+    (Decides-eqb a.onset b.onset) (option_decides ◌==◌ Decides-eqb a.duration b.duration))
     (bytes_eq-Decides a.text b.text) in (
       (λ e. let p = parts.0 e in λ i. record { onset = p.0.0 i; duration = p.0.1 i; text = p.1 i }),
       (λ e. parts.1 (((λ i. (e i).onset), (λ i. (e i).duration)), (λ i. (e i).text))),
@@ -77,8 +75,7 @@ pub same_record-Decides : (r s : DataRecord) → Decides (same_record r s) (r �
 unfolding same_record
 same_record-Decides r s =
     let parts = both_decide _ _ (both_decide _ _
-    (Decides-eqb r.start s.start)
-    (bytes_eq-Decides r.samples s.samples))
+    (Decides-eqb r.start s.start) (bytes_eq-Decides r.samples s.samples))
     (pointwise_decides same_annotation-Decides r.annotations s.annotations) in (
       (λ e. let p = parts.0 e in λ i. record {
         start = p.0.0 i;

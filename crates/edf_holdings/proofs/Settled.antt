@@ -91,8 +91,7 @@ repeat_settled cap h ts t us w g =
     let front = sound_front ts (t ∷ us) w in let back = sound_back ts (t ∷ us) w in
     subst (λ (z : Holdings). after_one cap z t ≡ z) (sym (after-append cap h ts (t ∷ us)))
     (one_settled cap (after cap h ts) (after cap (after_one cap (after cap h ts) t) us) t back.0
-    (IsGood-after cap h ts front g)
-    (IsGood-after cap (after_one cap (after cap h ts) t) us back.1
+    (IsGood-after cap h ts front g) (IsGood-after cap (after_one cap (after cap h ts) t) us back.1
     (IsGood-one cap (after cap h ts) t back.0 (IsGood-after cap h ts front g)))
     (after_grows cap (after_one cap (after cap h ts) t) us))
 

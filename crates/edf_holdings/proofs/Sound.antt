@@ -83,8 +83,7 @@ HasHolders-put key records h is_key sound first p = record {
       ])
       p.records;
   begins = put_cases key records h FirstMayStart
-      (joined-begins key (h key) records (p.begins key) first)
-      p.begins;
+      (joined-begins key (h key) records (p.begins key) first) p.begins;
   holders = put_cases key records h (λ q l. l ≢ [] → IsKey q) (λ _. is_key) p.holders;
   finite = key ∷ p.finite;
   all = λ k. cond_both (same_key key k) (union (h k) records) (h k) (λ (l : List DataRecord).

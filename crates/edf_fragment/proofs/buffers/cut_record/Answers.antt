@@ -85,8 +85,7 @@ returns c =
     IsCutTo l.blocks x whole c.loop-block.samples c.loop-block.joined c.loop-block.ordinary
     c.loop-block.copied) past c.loop-block.invariant in
     let up = cut-last l.blocks whole c.loop-block.samples c.loop-block.joined _
-    c.loop-block.ordinary c.loop-block.copied _ none
-    (c.copy_from_slice-2.ensures.after
+    c.loop-block.ordinary c.loop-block.copied _ none (c.copy_from_slice-2.ensures.after
     ∙ between_to_end whole (c.loop-block.ordinary + c.loop-block.copied) (length whole)
     (omega arith))
     (same_len_mid _ _ c.loop-block.samples c.copy_from_slice-2.new.self

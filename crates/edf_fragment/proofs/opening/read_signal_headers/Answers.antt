@@ -69,8 +69,7 @@ returns g c =
             let count : length (take there slice) ≡ length (take w.in-Cut.at buf) =
             ap (λ (x : List ℕ). length x) bytes in
             told (omega (arith, length-take w.in-Cut.at buf))
-            (subst (Consumes _ _) (sym bytes) cut.1)
-            (λ low. cut.2)
+            (subst (Consumes _ _) (sym bytes) cut.1) (λ low. cut.2)
             c.header_refusal.ensures.memory c.header_refusal.ensures.other c.in-Err.ensures
       ];
       counted = search rules;

@@ -20,8 +20,7 @@ returns g c =
     let rest = g.R.Input.remaining c.read_records.new.input in
     record {
       step = subst (λ (l : Layout). ReadsFragment left rest l c.in_ok-records.records.items)
-          (sym same)
-          (fragment_read _ _ _ c.in_ok-fragment.fragment.header _
+          (sym same) (fragment_read _ _ _ c.in_ok-fragment.fragment.header _
           c.in_ok-fragment.ensures.step.0 c.in_ok-records.ensures.read.step);
       counted = search rules;
     }
