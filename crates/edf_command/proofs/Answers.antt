@@ -17,7 +17,7 @@ use Rattle.std.proofs.lemmas.List.{length-map}
 use Rattle.edf_command.specs.Arguments.{AreValues, AskForHelp, AskForNoHelp, WordsParseToNothing}
 use Rattle.edf_command.specs.Arguments.{request, texts}
 use Rattle.edf_cli.specs.Words.{IsNoUsage}
-use Rattle.edf_command.specs.Inside.Matches.{asked_in}
+use Rattle.edf_command.specs.Inside.Matches.{request_of}
 use Rattle.edf_command.specs.Inside.Read.{AreWordsRead}
 use Rattle.edf_command.proofs.Levels.{simple}
 use Rattle.edf_command.proofs.Told.{told}
@@ -40,7 +40,7 @@ few values fits = rw (length-map values string_bytes) (omega (arith, fits))
 pub matches_asked : (a : App) (words : List (String Global)) (m : ArgMatches) → a ≡ edfstore_app →
     AreValues words → 0 < length words → length words ≤ usize_max
     → (is_simple_and_free a ≡ true → fault_of a (texts words) ≡ []) →
-    HasMatchesOf a (texts words) m → request (texts words) ≡ asked_in (subcommand_rows_of m)
+    HasMatchesOf a (texts words) m → request (texts words) ≡ request_of (subcommand_rows_of m)
 matches_asked a [] m is v some fits passes has = absurd (omega (arith, some))
 matches_asked a (name ∷ values) m is v some fits passes has =
     let none : fault_of edfstore_app (texts (name ∷ values)) ≡ [] =
@@ -49,7 +49,7 @@ matches_asked a (name ∷ values) m is v some fits passes has =
     let rows : subcommand_rows_of m ≡ subcommand_of edfstore_app (texts (name ∷ values)) =
     (subst (λ (x : App). HasMatchesOf x (texts (name ∷ values)) m) is has refl).1 in
     elim (told (string_bytes name) (texts values) v (few values fits)) [
-      | inl t ↦ t.1 ∙ ap asked_in (sym rows)
+      | inl t ↦ t.1 ∙ ap request_of (sym rows)
       | inr t ↦ absurd (t.0 none)
     ]
 

@@ -15,7 +15,7 @@ use Rattle.clap.specs.declared.error.kind.ErrorKind.TheVariants as kind
 use Rattle.edf_command.specs.Inside.Commands.{edfstore_app}
 use Rattle.edf_command.specs.Arguments.{request, begin_with_help, is_value}
 use Rattle.edf_cli.specs.Words.{is_mistake}
-use Rattle.edf_command.specs.Inside.Matches.{asked_in}
+use Rattle.edf_command.specs.Inside.Matches.{request_of}
 use Rattle.edf_command.proofs.Values.{and_left, and_right, is_value_is}
 use Rattle.edf_command.proofs.Levels.{level_by, top}
 use Rattle.edf_command.proofs.FewValues.{list_none, list_one, list_rows, list_many, convert_none}
@@ -69,7 +69,7 @@ module _ (name : Text) (values : List Text)
 -- where `help` is not the first
 abbrev pub IsTold : List Text → Type 0
 IsTold words = ((fault_of edfstore_app words ≡ [])
-    × (request words ≡ asked_in (subcommand_of edfstore_app words)))
+    × (request words ≡ request_of (subcommand_of edfstore_app words)))
     ⊎ ((fault_of edfstore_app words ≡ [] → ⊥) × (request words ≡ None)
     × (begin_with_help words ≡ false → list_all is_mistake (fault_of edfstore_app words) ≡ true))
 
@@ -92,7 +92,7 @@ list_told [] v = mistaken _ [] _ (named_fault (codes "list") [] refl refl
 list_told (a ∷ []) v = inl (
   named_fault (codes "list") (a ∷ []) refl refl
       ∙ ap (λ k. or_else k []) (list_one a (and_left _ _ v)),
-  sym (ap asked_in (named_matches (codes "list") (a ∷ []) refl refl
+  sym (ap request_of (named_matches (codes "list") (a ∷ []) refl refl
       ∙ ap (λ rows. Some (codes "list", rows)) (list_rows a (and_left _ _ v)))),
 )
 list_told (a ∷ b ∷ rest) v = mistaken _ [] _ (named_fault (codes "list") (a ∷ b ∷ rest) refl refl
@@ -107,7 +107,7 @@ convert_told [] v = mistaken _ [] _ (named_fault (codes "convert") [] refl refl
 convert_told (a ∷ []) v = inl (
   named_fault (codes "convert") (a ∷ []) refl refl
       ∙ ap (λ k. or_else k []) (convert_one a (and_left _ _ v)),
-  sym (ap asked_in (named_matches (codes "convert") (a ∷ []) refl refl
+  sym (ap request_of (named_matches (codes "convert") (a ∷ []) refl refl
       ∙ ap (λ rows. Some (codes "convert", rows)) (convert_rows a (and_left _ _ v)))),
 )
 convert_told (a ∷ b ∷ rest) v =
@@ -125,7 +125,7 @@ export_told (a ∷ []) v = mistaken _ [] _ (named_fault (codes "export") (a ∷ 
 export_told (a ∷ b ∷ []) v = inl (
   named_fault (codes "export") (a ∷ b ∷ []) refl refl
       ∙ ap (λ k. or_else k []) (export_two a b (and_left _ _ v) (and_left _ _ (and_right _ _ v))),
-  sym (ap asked_in (named_matches (codes "export") (a ∷ b ∷ []) refl refl
+  sym (ap request_of (named_matches (codes "export") (a ∷ b ∷ []) refl refl
       ∙ ap (λ rows. Some (codes "export", rows))
       (export_rows a b (and_left _ _ v) (and_left _ _ (and_right _ _ v))))),
 )
@@ -146,7 +146,7 @@ take_told (a ∷ f ∷ more) v fits = inl (
   named_fault (codes "take") (a ∷ f ∷ more) refl refl
       ∙ ap (λ k. or_else k []) (take_more a f more (and_left _ _ v) (and_left _ _ (and_right _ _ v))
       (and_right _ _ (and_right _ _ v)) (omega (arith, fits))),
-  sym (ap asked_in (named_matches (codes "take") (a ∷ f ∷ more) refl refl
+  sym (ap request_of (named_matches (codes "take") (a ∷ f ∷ more) refl refl
       ∙ ap (λ rows. Some (codes "take", rows))
       (take_rows a f more (and_left _ _ v) (and_left _ _ (and_right _ _ v))
       (and_right _ _ (and_right _ _ v))))),

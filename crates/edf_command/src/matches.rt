@@ -2,7 +2,7 @@
 
 ghost use Rattle.std.specs.Prelude.{◌≡◌, IfOk, codes, map, option_map, string_bytes};
 ghost use Rattle.clap.specs.Words.{first_of, found_of, rows_of, subcommand_rows_of};
-ghost use Rattle.edf_command.specs.Inside.Matches.{asked_in, found_by};
+ghost use Rattle.edf_command.specs.Inside.Matches.{request_of, parsed_by};
 ghost use Rattle.edf_command.specs.Arguments.{meaning};
 
 use crate::order::{Order, read_place};
@@ -29,7 +29,7 @@ fn value_in<'a>(values: &ArgMatches<'a>, name: &str) -> Option<&'a str>
 
 fn take_in(alloc: Global, values: &ArgMatches<'_>) -> Result<Option<Order>, AllocError>
     ensures { IfOk result (λ r. option_map meaning r
-        ≡ found_by (codes "take") (rows_of (found_of values.now))) }
+        ≡ parsed_by (codes "take") (rows_of (found_of values.now))) }
 {
     let Some(store) = value_in(values, "STORE") else {
         return Ok(None);
@@ -44,7 +44,7 @@ fn take_in(alloc: Global, values: &ArgMatches<'_>) -> Result<Option<Order>, Allo
 
 fn list_in(alloc: Global, values: &ArgMatches<'_>) -> Result<Option<Order>, AllocError>
     ensures { IfOk result (λ r. option_map meaning r
-        ≡ found_by (codes "list") (rows_of (found_of values.now))) }
+        ≡ parsed_by (codes "list") (rows_of (found_of values.now))) }
 {
     let Some(store) = value_in(values, "STORE") else {
         return Ok(None);
@@ -55,7 +55,7 @@ fn list_in(alloc: Global, values: &ArgMatches<'_>) -> Result<Option<Order>, Allo
 
 fn export_in(alloc: Global, values: &ArgMatches<'_>) -> Result<Option<Order>, AllocError>
     ensures { IfOk result (λ r. option_map meaning r
-        ≡ found_by (codes "export") (rows_of (found_of values.now))) }
+        ≡ parsed_by (codes "export") (rows_of (found_of values.now))) }
 {
     let Some(store) = value_in(values, "STORE") else {
         return Ok(None);
@@ -72,7 +72,7 @@ fn export_in(alloc: Global, values: &ArgMatches<'_>) -> Result<Option<Order>, Al
 
 fn convert_in(alloc: Global, values: &ArgMatches<'_>) -> Result<Option<Order>, AllocError>
     ensures { IfOk result (λ r. option_map meaning r
-        ≡ found_by (codes "convert") (rows_of (found_of values.now))) }
+        ≡ parsed_by (codes "convert") (rows_of (found_of values.now))) }
 {
     let Some(file) = value_in(values, "FILE") else {
         return Ok(None);
@@ -83,7 +83,8 @@ fn convert_in(alloc: Global, values: &ArgMatches<'_>) -> Result<Option<Order>, A
 
 /// Returns the order in the matches, or `None` where a PLACE names no place.
 pub(crate) fn order_in(alloc: Global, matches: &ArgMatches<'_>) -> Result<Option<Order>, AllocError>
-    ensures { IfOk result (λ r. option_map meaning r ≡ asked_in (subcommand_rows_of matches.now)) }
+    ensures { IfOk result (λ r.
+        option_map meaning r ≡ request_of (subcommand_rows_of matches.now)) }
 {
     let Some((word, values)) = matches.subcommand() else {
         return Ok(None);

@@ -197,7 +197,7 @@ module _ {D : Type 0} {g : Ghosts D} (stays : SeenMayStay g) (r : ProgramRun g) 
       noticed = it.noticed;
       does = it.does;
       takes = it.takes;
-      let_go = let_go;
+      released = let_go;
       printed = told;
       clean = late;
       read = read_first early;

@@ -70,13 +70,13 @@ module _ {D : Type 0} (g : Ghosts D) (cap : ℕ) (start : Image) where
       AreClean g now.log now.db → (image : Image) → outcomes g now.log now.db image →
       StepsBy cap idle start image
   read_idle error now it clean image may =
-      old_one cap start image (it.settled image ((it.leaves clean).1 image may))
+      old_one cap start image (it.settled image ((it.failed clean).1 image may))
 
   pub begun_idle : (error : Error) (now : Unopened D g) →
       IsLeftover {g = g} start error (left.Unopened now) → IsTrue (state_of now).is_clean →
       IsNothing start → (image : Image) → (state_of now).may_leave image →
       StepsBy cap idle start image
-  begun_idle error now it clean nothing image may = elim (it.leaves clean).1 [
+  begun_idle error now it clean nothing image may = elim (it.failed clean).1 [
     | inl some ↦ under_way it.files it.settled nothing image (some.1 image may)
     | inr some ↦ absurd (some.0 (subst IsNothing (sym it.held) nothing))
   ]

@@ -126,7 +126,7 @@ pub read_as : (image : Image) (s : State) → FindsIn image s → IsDatabase s.c
     AreReadAs image s.committed
 read_as image s found sound = record {
   is_database = sound;
-  found = found.reads;
+  recovered = found.reads;
   only = found.holds;
 }
 

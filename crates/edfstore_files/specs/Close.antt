@@ -98,7 +98,7 @@ module _ {D : Type 0} {g : Ghosts D} (r : ProgramRun g) (s : EndedRun D) where
     pub noticed : r.Noticed (was_opened r.output)
     pub does : r.Does old new turns (record r.err { after = mid; failed_after = failures }) status
     pub takes : TakesTurns over_files old new turns
-    pub let_go : AreReleased new.connection s.failure s.files
+    pub released : AreReleased new.connection s.failure s.files
     pub printed : IsClosePrinted (record r.err { before = mid; failed_before = failures }) s.failure
         status s.status
     pub clean : IsDiskClean → HasCleanDisk (at over_files new)
@@ -116,7 +116,7 @@ module _ {D : Type 0} {g : Ghosts D} (r : ProgramRun g) (s : EndedRun D) where
     pub leads : AreReleasedUnclosed → (image : Image) → MayHold image →
         LeadsTo r.cap (λ h. IsSubmittedPrefix turns) r.start image
     pub crash : IsDiskClean → (h : Holdings) → FilesHold r.cap r.start h → (rows : Trees) →
-        recovers let_go.store rows → (submissions : List Parsed)
+        recovers released.store rows → (submissions : List Parsed)
         × IsSubmittedPrefix turns submissions × TreesHold r.cap rows (after r.cap h submissions)
 
   -- Or the store was refused. The fault has a cause; or it is E45, and the files held a database

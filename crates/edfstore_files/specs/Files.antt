@@ -34,5 +34,5 @@ FilesHold cap image h = (IsNothing image × (h ≡ nothing_held))
 -- hold one; or there is none yet, and it is empty
 pub record AreReadAs (image : Image) (db : Database) : Type 0 where
   pub is_database : IsDatabase db
-  pub found : AreFoundIn image db.trees
+  pub recovered : AreFoundIn image db.trees
   pub only : (held : Trees) → HoldsDatabase image held → db.trees ≡ held

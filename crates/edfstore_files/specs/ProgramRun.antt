@@ -44,7 +44,7 @@ module _ {D : Type 0} {g : Ghosts D} (start : Image) where
     pub files : Files D
     pub held : image_of g files ≡ start
     pub settled : (image : Image) → outcomes g files.log files.db image → image ≡ start
-    pub leaves : IsCleanLeft rest → FailsToOpenFiles files rest error × LeavesFiles files rest
+    pub failed : IsCleanLeft rest → FailsToOpenFiles files rest error × LeavesFiles files rest
 
   -- A connection is open, as new, over files that were read as `start`; or this remains of them, or
   -- nothing, and no clause says what was done to the files before.

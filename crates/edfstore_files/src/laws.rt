@@ -11,7 +11,7 @@ ghost use Rattle.sqlite_store.specs.Unopened.{state_of};
 ghost use Rattle.sqlite_store.specs.declared.store.open.Unopened.{Unopened};
 ghost use Rattle.sqlite.specs.Files.{IsNothing};
 ghost use Rattle.sqlite.specs.declared.error.Error.{Error};
-ghost use Rattle.sqlite.specs.declared.file.Leftover.TheVariants as left;
+ghost use Rattle.sqlite.specs.declared.file.Leftover.TheVariants as leftover;
 ghost use Rattle.edf_fragment.specs.Fragment.{DataRecord};
 ghost use Rattle.edf_fragment.specs.Parsed.{Fragment};
 ghost use Rattle.edf_holdings.specs.Holdings.{Holdings, IsSound, nothing_held};
@@ -58,11 +58,11 @@ pub fn across_runs()
 /// where they were only read (`read`), or had no database and one was begun (`begun`).
 pub fn an_opening_that_failed<D: Disk>()
     ensures read { (cap : ℕ) (start : Image) (error : Error) (files : Files D) →
-        IsLeftover {g = D.Disk} start error (left.Files files) →
+        IsLeftover {g = D.Disk} start error (leftover.Files files) →
         AreClean D.Disk files.log files.db → (image : Image) →
         outcomes D.Disk files.log files.db image → StepsBy cap idle start image }
     ensures begun { (cap : ℕ) (start : Image) (error : Error) (it : Unopened D D.Disk) →
-        IsLeftover {g = D.Disk} start error (left.Unopened it) →
+        IsLeftover {g = D.Disk} start error (leftover.Unopened it) →
         IsTrue (state_of it).is_clean → IsNothing start → (image : Image) →
         (state_of it).may_leave image → StepsBy cap idle start image }
 {}

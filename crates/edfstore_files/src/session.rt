@@ -76,12 +76,12 @@ pub fn close<D: Disk + Drop, F: Output>(
 ) -> EndedRun<D>
     ensures copied { result.failure ≡ None → AreClean D.Disk result.files.log result.files.db →
         IsCopied conn result.files }
-    ensures shut { result.failure ≡ Some (Error.SqliteFailure ErrorCode.Closed) →
+    ensures closed { result.failure ≡ Some (Error.SqliteFailure ErrorCode.Closed) →
         AreClean D.Disk result.files.log result.files.db →
         HasCleanDisk (file_state conn) × ((image : Image) →
         outcomes D.Disk result.files.log result.files.db image →
         ∥ ((db : Trees) × (file_state conn).may_leave db × HoldsDatabase image db) ∥₁) }
-    ensures let_go { AreReleased conn result.failure result.files }
+    ensures released { AreReleased conn result.failure result.files }
     ensures printed { IsClosePrinted (output_change F.Output err.old err.new) result.failure status
         result.status }
 {
@@ -107,7 +107,7 @@ pub fn leave<D: Disk + Drop>(conn: Connection<FileStore<D>>, status: Status) -> 
         HasCleanDisk (file_state conn) × ((image : Image) →
         outcomes D.Disk result.files.log result.files.db image →
         ∥ ((db : Trees) × (file_state conn).may_leave db × HoldsDatabase image db) ∥₁) }
-    ensures let_go { AreReleased conn result.failure result.files }
+    ensures released { AreReleased conn result.failure result.files }
     ensures as_was { (result.status ≡ status) × (result.failure ≡ None) }
 {
     EndedRun {

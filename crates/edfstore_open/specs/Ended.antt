@@ -6,5 +6,5 @@ use Rattle.edfstore_open.specs.declared.ended.Ended.TheVariants.{Run, NotOpened,
 
 abbrev pub status_of : {D : Type 0} {g : Ghosts D} → Ended D g → Status
 status_of (Run session) = session.status
-status_of (NotOpened status left) = status
+status_of (NotOpened status rest) = status
 status_of (WithoutFiles status) = status

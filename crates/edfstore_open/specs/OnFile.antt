@@ -43,19 +43,20 @@ module _ {D : Type 0} {g : Ghosts D} (r : run.ProgramRun g) (asked : Request) wh
   -- and how they are read then is one of the outcomes of a crash. Or they were not opened, for this
   -- error, and what remains of them is what did. Or none were looked for, and it only reads.
   abbrev pub IsRunOn : Option (Opening D g) → Ended D g → Type 0
-  IsRunOn found (Run s) = (found ≢ None) × (IsRunDone r s ⊎ IsRefused r s)
+  IsRunOn opening (Run s) = (opening ≢ None) × (IsRunDone r s ⊎ IsRefused r s)
       × (s.status ≢ Trouble → s.failure ≡ None)
       × outcomes g s.files.log s.files.db (image_of g s.files)
-  IsRunOn found (NotOpened status left) = (error : Error) × (found ≡ Some (Err (error, left)))
+  IsRunOn opening (NotOpened status rest) = (error : Error) × (opening ≡ Some (Err (error, rest)))
       × run.NotOpened r error status
-  IsRunOn found (WithoutFiles status) = (found ≡ None) × r.Untouched
+  IsRunOn opening (WithoutFiles status) = (opening ≡ None) × r.Untouched
       × FindsNothing asked r.err status
 
   -- the files are opened, whatever they hold, or there is a reason why not; or none are, and the
   -- command only reads
-  abbrev pub IsFound : Option (Opening D g) → Type 0
-  IsFound found = MatchOption found (OnlyReads asked) (IsOpening r.start)
+  abbrev pub IsOpeningFor : Option (Opening D g) → Type 0
+  IsOpeningFor opening = MatchOption opening (OnlyReads asked) (IsOpening r.start)
 
   -- the command is run, whatever was found
   abbrev pub IsRunAtPath : Ended D g → Type 0
-  IsRunAtPath ended = (found : Option (Opening D g)) × IsFound found × IsRunOn found ended
+  IsRunAtPath ended = (opening : Option (Opening D g)) × IsOpeningFor opening
+      × IsRunOn opening ended

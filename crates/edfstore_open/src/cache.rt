@@ -17,12 +17,12 @@ const SHARE: u64 = 4;
 
 /// Returns the pages of a file of so many bytes, where a cache may have all of them; `None` stands
 /// for the port's own number, since a cache of a part of them spares no reading.
-pub(crate) fn pages_kept(bytes: u64, room: u64) -> Option<usize>
-    ensures { MatchOption result (¬ IsCacheSize (bytes / 4096) room)
-        (λ pages. (pages ≡ bytes / 4096) × IsCacheSize pages room) }
+pub(crate) fn cache_pages(bytes: u64, free: u64) -> Option<usize>
+    ensures { MatchOption result (¬ IsCacheSize (bytes / 4096) free)
+        (λ pages. (pages ≡ bytes / 4096) × IsCacheSize pages free) }
 {
     let pages = bytes / PAGE;
-    if OWN < pages && pages <= MOST && pages * (PAGE * SHARE) <= room {
+    if OWN < pages && pages <= MOST && pages * (PAGE * SHARE) <= free {
         Some(pages as usize)
     } else {
         None

@@ -1,6 +1,6 @@
 //! The size of the page cache for a store that is about to be opened.
 
-use crate::cache::{Group, free_bytes, group_of, has_own_pages, pages_kept};
+use crate::cache::{Group, cache_pages, free_bytes, group_of, has_own_pages};
 use std::fs;
 use std::io::{ErrorKind, Read};
 
@@ -58,7 +58,7 @@ fn left_of_limits(rt: &HostRuntime) -> Option<u64> {
 }
 
 /// Returns how many bytes the system says may be taken; `None` where it does not say.
-fn room(rt: &HostRuntime) -> Option<u64> {
+fn free_memory(rt: &HostRuntime) -> Option<u64> {
     let text = fs::read_to_string(rt, "/proc/meminfo").ok()?;
     let free = free_bytes(text.as_str())?;
     Some(free.min(left_of_limits(rt)?))
@@ -80,8 +80,8 @@ fn begins_as_ours(rt: &HostRuntime, path: &str) -> bool {
 pub(crate) fn pages_at(rt: &HostRuntime, path: &str) -> Option<usize> {
     let found = fs::metadata(rt, path).ok()?;
     let bytes = found.len();
-    if !found.is_file() || pages_kept(bytes, u64::MAX).is_none() || !begins_as_ours(rt, path) {
+    if !found.is_file() || cache_pages(bytes, u64::MAX).is_none() || !begins_as_ours(rt, path) {
         return None;
     }
-    pages_kept(bytes, room(rt)?)
+    cache_pages(bytes, free_memory(rt)?)
 }

@@ -38,7 +38,7 @@ fn find_nothing<F: Output>(command: &Order, err: &mut F) -> Status
 /// one that only reads, for which there are none. It has no other way to the files.
 fn run_on_file<S: Start, I: Inputs, O: Output, F: Output, W: Watch>(
     alloc: Global,
-    found: Option<
+    opening: Option<
         Result<Connection<FileStore<FileFrom<S>>>, (Error, Option<Leftover<FileFrom<S>>>)>,
     >,
     command: &Order,
@@ -47,7 +47,7 @@ fn run_on_file<S: Start, I: Inputs, O: Output, F: Output, W: Watch>(
     err: &mut F,
     watch: &mut W,
 ) -> Ended<FileFrom<S>>
-    requires { MatchOption found
+    requires { MatchOption opening
         (OnlyReads (meaning command.now)) (IsOpening (image_at S.Start)) }
     ensures run { let r = run_of ⟦<FileFrom<S> as Disk>⟧ MOST_RECORDS (image_at S.Start) (
       meaning command.now,
@@ -57,10 +57,10 @@ fn run_on_file<S: Start, I: Inputs, O: Output, F: Output, W: Watch>(
       output_change O.Output out.old out.new,
     ) (output_change F.Output err.old err.new)
         (IsNoticed (W.noticed watch.old) (W.noticed watch.new)) (inputs.new ≡ inputs.old) in
-        IsRunOn r (meaning command.now) found result }
-    ensures quiet { found ≡ None → watch.new ≡ watch.old }
+        IsRunOn r (meaning command.now) opening result }
+    ensures quiet { opening ≡ None → watch.new ≡ watch.old }
 {
-    let Some(opened) = found else {
+    let Some(opened) = opening else {
         return Ended::WithoutFiles(find_nothing(command, err));
     };
     let cap = Cap::most();
@@ -98,12 +98,12 @@ fn run_at_path<'x, S: Start + Again, I: Inputs, O: Output, F: Output>(
         ≡ inputs.old)) (meaning command.now) result }
 {
     let is_new = look_at(rt, path) == AtPath::Nothing;
-    let found = find(rt, path, is_new, start, command);
-    if found.is_none() {
+    let opening = find(rt, path, is_new, start, command);
+    if opening.is_none() {
         terminal.say(path, "no such file");
     }
     let mut teller = Teller::new(terminal, path, is_new);
-    let ended = run_on_file(rt.alloc(), found, command, inputs, out, err, &mut teller);
+    let ended = run_on_file(rt.alloc(), opening, command, inputs, out, err, &mut teller);
     teller.print_ended(rt, &ended);
     ended
 }

@@ -62,9 +62,9 @@ returns-in-Ok-clause-ran g c start opening =
     inl (ran_back stays r c.close.result c.args.conn
     (λ clean. (opening.1 clean).0) (λ clean. (opening.1 clean).1)
     worst mid.after mid.failed_after works c.into_connection-back.result
-    c.into_connection-back.ensures c.close.ensures.printed c.obey.ensures c.close.ensures.let_go
+    c.into_connection-back.ensures c.close.ensures.printed c.obey.ensures c.close.ensures.released
     (λ closed. c.close.ensures.copied closed.1 closed.0)
-    (λ lets. c.close.ensures.shut lets.1 lets.0))
+    (λ lets. c.close.ensures.closed lets.1 lets.0))
 
 pub returns-in-Ok-clause-closed : goal.returns-in-Ok-clause-closed
 returns-in-Ok-clause-closed g c never =
@@ -101,4 +101,4 @@ returns-in-Err-clause-ran g c start opening =
     } in
     inr (is_refused g.met.D.Disk.seen_may_stay r left.result c.args.conn
     (λ clean. (opening.1 clean).0) (λ clean. (opening.1 clean).1) c.in-Err.back back
-    left.ensures.as_was.1 left.ensures.let_go left.ensures.each)
+    left.ensures.as_was.1 left.ensures.released left.ensures.each)

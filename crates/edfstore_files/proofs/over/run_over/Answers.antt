@@ -41,9 +41,9 @@ returns-in-Ok-clause-ran g c start opening =
     inl (ran_back g.met.D.Disk.seen_may_stay r c.close.result c.args.conn
     (λ clean. (opening.1 clean).0) (λ clean. (opening.1 clean).1)
     c.run-status.result mid.after mid.failed_after works c.into_connection-back.result
-    c.into_connection-back.ensures c.close.ensures.printed c.obey.ensures c.close.ensures.let_go
+    c.into_connection-back.ensures c.close.ensures.printed c.obey.ensures c.close.ensures.released
     (λ closed. c.close.ensures.copied closed.1 closed.0)
-    (λ lets. c.close.ensures.shut lets.1 lets.0))
+    (λ lets. c.close.ensures.closed lets.1 lets.0))
 
 pub returns-in-Ok-clause-closed : goal.returns-in-Ok-clause-closed
 returns-in-Ok-clause-closed g c never =
@@ -81,4 +81,4 @@ returns-in-Err-clause-ran g c start opening =
     } in
     inr (is_refused g.met.D.Disk.seen_may_stay r c.leave.result c.args.conn
     (λ clean. (opening.1 clean).0) (λ clean. (opening.1 clean).1) c.in-Err.back it
-    c.leave.ensures.as_was.1 c.leave.ensures.let_go c.leave.ensures.each)
+    c.leave.ensures.as_was.1 c.leave.ensures.released c.leave.ensures.each)

@@ -37,7 +37,7 @@ returns-in-Err-open_files_with g c =
         settled = λ image may. ap₂ image_with
             (fresh_only first.is_mixing first.log first.db _ _ _ _ image.log log.0 log.1 may.0)
             (fresh_only first.is_mixing first.log first.db _ _ _ _ image.db db.0 db.1 may.1);
-        leaves = λ clean. (failed.cause clean, failed.unharmed clean);
+        failed = λ clean. (failed.cause clean, failed.unharmed clean);
       },
       λ is. absurd (none-some c.in-Err-open_files_with.left (sym is)),
     )

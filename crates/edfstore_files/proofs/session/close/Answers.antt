@@ -24,8 +24,8 @@ use Rattle.edfstore_files.proofs.session.close.Goals as goal
 
 -- ---- a store that was shut
 
-pub returns-then-is_broken-clause-shut : goal.returns-then-is_broken-clause-shut
-returns-then-is_broken-clause-shut g c is clean =
+pub returns-then-is_broken-clause-closed : goal.returns-then-is_broken-clause-closed
+returns-then-is_broken-clause-closed g c is clean =
     let q = c.rollback.ensures.quiet in
     leaves c.args.conn c.rollback.new.self c.give_up.result.files c.give_up.ensures.files
     (still_quiet c.into_store-store.ensures.quiet q)
@@ -34,8 +34,8 @@ returns-then-is_broken-clause-shut g c is clean =
     (λ none db may. c.into_store-store.ensures.sound (omega (arith, q.clean, none)) db
     (q.outcomes db may)) clean
 
-pub returns-then-is_broken-clause-let_go : goal.returns-then-is_broken-clause-let_go
-returns-then-is_broken-clause-let_go g c =
+pub returns-then-is_broken-clause-released : goal.returns-then-is_broken-clause-released
+returns-then-is_broken-clause-released g c =
     let before = c.rollback.new.self in
     let q = c.rollback.ensures.quiet in
     let first = still_quiet c.into_store-store.ensures.quiet q in
@@ -89,8 +89,8 @@ returns-in-Ok-clause-copied g c is honest =
       left = each;
     }
 
-pub returns-in-Ok-clause-let_go : goal.returns-in-Ok-clause-let_go
-returns-in-Ok-clause-let_go g c =
+pub returns-in-Ok-clause-released : goal.returns-in-Ok-clause-released
+returns-in-Ok-clause-released g c =
     let q = c.checkpoint.ensures.quiet in
     let r = c.rollback.ensures.quiet in
     record {
@@ -112,8 +112,8 @@ returns-in-Ok-clause-printed g c = (
 
 -- ---- one that can't be
 
-pub returns-in-Err-clause-let_go : goal.returns-in-Err-clause-let_go
-returns-in-Err-clause-let_go g c =
+pub returns-in-Err-clause-released : goal.returns-in-Err-clause-released
+returns-in-Err-clause-released g c =
     let before = c.rollback.new.self in
     let q = c.checkpoint.ensures.quiet in
     let r = c.rollback.ensures.quiet in
@@ -131,8 +131,8 @@ returns-in-Err-clause-let_go g c =
     (λ h. (c.rollback.ensures.undone.undone h).1) c.in-Err.error (c.in-Err.ensures.cause none))
     c.in-Err.ensures.told
 
-pub returns-in-Err-clause-shut : goal.returns-in-Err-clause-shut
-returns-in-Err-clause-shut g c is honest =
+pub returns-in-Err-clause-closed : goal.returns-in-Err-clause-closed
+returns-in-Err-clause-closed g c is honest =
     let before = c.rollback.new.self in
     let last = c.checkpoint.new.self in
     let q = c.checkpoint.ensures.quiet in
