@@ -83,12 +83,10 @@ cut-none all whole samples blocks apart room room2 =
 
 -- one more block is cut off
 pub cut-step : (all rest : List Block) (b : Block) (whole samples blocks new piece : List ℕ)
-    (m n k j : ℕ) → IsCutTo all (b ∷ rest) whole samples blocks m n
-    → new ≡ field whole (m + n) (b.at - (m + n)) → piece ≡ field whole b.at b.bytes →
-    length (put_mid m k samples new) ≡ length samples →
-    length (put_mid n j blocks piece) ≡ length blocks
-    → IsCutTo all rest whole (put_mid m k samples new) (put_mid n j blocks piece)
-    (m + (b.at - (m + n))) (n + b.bytes)
+    (m n k j : ℕ) → IsCutTo all (b ∷ rest) whole samples blocks m n → new ≡ field whole (m + n)
+    (b.at - (m + n)) → piece ≡ field whole b.at b.bytes → length (put_mid m k samples new) ≡ length
+    samples → length (put_mid n j blocks piece) ≡ length blocks → IsCutTo all rest whole (put_mid m
+    k samples new) (put_mid n j blocks piece) (m + (b.at - (m + n))) (n + b.bytes)
 cut-step all rest b whole samples blocks new piece m n k j c new-is piece-is len len2 =
     let within = apart-within (b.at + b.bytes) rest (length whole) c.apart.1 in
     let before = b.at - (m + n) in
@@ -110,17 +108,15 @@ cut-step all rest b whole samples blocks new piece m n k j c new-is piece-is len
       ordinary_within = omega (arith, room.ordinary_fits, len);
       copied_within = omega (arith, room.copied_fits, len2);
       samples_are =
-          ap (λ (x : ℕ). take (m + before) (put_mid m k samples new)
-          ++ bytes_outside x rest whole) (sym next) ∙ ap (λ (x : List ℕ). x ++ later) taken
-          ∙ append_assoc (take m samples) new later
-          ∙ ap (λ (x : List ℕ). take m samples ++ (x ++ later)) new-is ∙ c.samples_are;
+          ap (λ (x : ℕ). take (m + before) (put_mid m k samples new) ++ bytes_outside x rest whole)
+          (sym next) ∙ ap (λ (x : List ℕ). x ++ later) taken ∙ append_assoc (take m samples) new
+          later ∙ ap (λ (x : List ℕ). take m samples ++ (x ++ later)) new-is ∙ c.samples_are;
       blocks_are =
-          ap (λ (x : List ℕ). x ++ joined (pieces rest whole)) taken2
-          ∙ append_assoc (take n blocks) piece (joined (pieces rest whole))
-          ∙ ap (λ (x : List ℕ). take n blocks ++ (x ++ joined (pieces rest whole))) piece-is
-          ∙ ap (λ (x : List ℕ). take n blocks ++ x)
-          (sym (flat_map-cons (λ (x : List ℕ). x) (field whole b.at b.bytes)
-          (pieces rest whole))) ∙ c.blocks_are;
+          ap (λ (x : List ℕ). x ++ joined (pieces rest whole)) taken2 ∙ append_assoc (take n blocks)
+          piece (joined (pieces rest whole)) ∙ ap (λ (x : List ℕ). take n blocks ++ (x ++ joined
+          (pieces rest whole))) piece-is ∙ ap (λ (x : List ℕ). take n blocks ++ x) (sym
+          (flat_map-cons (λ (x : List ℕ). x) (field whole b.at b.bytes) (pieces rest whole))) ∙
+          c.blocks_are;
     }
 
 -- all blocks are cut off
@@ -129,9 +125,8 @@ pub record IsCutUp (all : List Block) (whole samples blocks : List ℕ) : Type 0
   pub blocks_are : blocks ≡ joined (pieces all whole)
 
 pub cut-last : (all : List Block) (whole samples blocks new : List ℕ) (m n k : ℕ) →
-    IsCutTo all [] whole samples blocks m n → new ≡ drop (m + n) whole
-    → length (put_mid m k samples new) ≡ length samples →
-    IsCutUp all whole (put_mid m k samples new) blocks
+    IsCutTo all [] whole samples blocks m n → new ≡ drop (m + n) whole → length (put_mid m k samples
+    new) ≡ length samples → IsCutUp all whole (put_mid m k samples new) blocks
 cut-last all whole samples blocks new m n k c new-is len =
     let rest : length (take m samples ++ new) ≡ length samples =
     ap (λ (x : List ℕ). length (take m samples ++ x)) new-is

@@ -99,10 +99,9 @@ up_to all one two a b h rs p first second is are = record {
 }
 
 cut_of_all : (left mid two rest : Option (List ℕ)) (a b : List ℕ) (h : HeaderRecord)
-    (rs : List DataRecord) (p : Progress) (nth : ℕ) → Consumes left mid a → Consumes mid two b
-    → IsHeader a h [] → BeginWithDataRecords (layout_of h) First b rs p.place [] →
-    p.given ≡ length rs →
-    EndsInRecord (layout_of h) p two rest nth → IfSome left (λ all. IsCutRecord all nth)
+    (rs : List DataRecord) (p : Progress) (nth : ℕ) → Consumes left mid a → Consumes mid two b →
+    IsHeader a h [] → BeginWithDataRecords (layout_of h) First b rs p.place [] → p.given ≡ length rs
+    → EndsInRecord (layout_of h) p two rest nth → IfSome left (λ all. IsCutRecord all nth)
 cut_of_all None mid two rest a b h rs p nth x y is are given f = tt
 cut_of_all (Some all) None two rest a b h rs p nth x y is are given f = absurd x
 cut_of_all (Some all) (Some one) None rest a b h rs p nth x y is are given f = absurd y
@@ -123,11 +122,10 @@ cut_of_all (Some all) (Some one) (Some two) (Some rest) a b h rs p nth x y is ar
     }
 
 block_of_all : (left mid two rest : Option (List ℕ)) (a b : List ℕ) (h : HeaderRecord)
-    (rs : List DataRecord) (p : Progress) (nth : ℕ) (e : TalFault) → Consumes left mid a →
-    Consumes mid two b
-    → IsHeader a h [] → BeginWithDataRecords (layout_of h) First b rs p.place [] →
-    p.given ≡ length rs →
-    RefusesRecord (layout_of h) p two rest nth e → IfSome left (λ all. IsRefusedRecord all nth e)
+    (rs : List DataRecord) (p : Progress) (nth : ℕ) (e : TalFault) → Consumes left mid a → Consumes
+    mid two b → IsHeader a h [] → BeginWithDataRecords (layout_of h) First b rs p.place [] → p.given
+    ≡ length rs → RefusesRecord (layout_of h) p two rest nth e → IfSome left (λ all. IsRefusedRecord
+    all nth e)
 block_of_all None mid two rest a b h rs p nth e x y is are given f = tt
 block_of_all (Some all) None two rest a b h rs p nth e x y is are given f = absurd x
 block_of_all (Some all) (Some one) None rest a b h rs p nth e x y is are given f = absurd y
@@ -149,9 +147,8 @@ block_of_all (Some all) (Some one) (Some two) (Some rest) a b h rs p nth e x y i
     }
 
 more_of_all : (left mid two rest : Option (List ℕ)) (a b : List ℕ) (h : HeaderRecord)
-    (rs : List DataRecord) (p : Progress) → Consumes left mid a → Consumes mid two b
-    → IsHeader a h [] → BeginWithDataRecords (layout_of h) First b rs p.place [] →
-    p.given ≡ length rs →
+    (rs : List DataRecord) (p : Progress) → Consumes left mid a → Consumes mid two b → IsHeader a h
+    [] → BeginWithDataRecords (layout_of h) First b rs p.place [] → p.given ≡ length rs →
     ReadsTrailingByte (layout_of h) p two rest → IfSome left (λ all. HasTrailingBytes all)
 more_of_all None mid two rest a b h rs p x y is are given f = tt
 more_of_all (Some all) None two rest a b h rs p x y is are given f = absurd x
@@ -167,10 +164,9 @@ more_of_all (Some all) (Some one) (Some two) (Some rest) a b h rs p x y is are g
     }
 
 after_header : (left mid two rest : Option (List ℕ)) (a b : List ℕ) (h : HeaderRecord)
-    (rs : List DataRecord) (p : Progress) (e : FragmentFault) → Consumes left mid a →
-    Consumes mid two b
-    → IsHeader a h [] → BeginWithDataRecords (layout_of h) First b rs p.place [] →
-    p.given ≡ length rs → IsNextFault (layout_of h) p two rest e → IsFirstFaultIfKnown left e
+    (rs : List DataRecord) (p : Progress) (e : FragmentFault) → Consumes left mid a → Consumes mid
+    two b → IsHeader a h [] → BeginWithDataRecords (layout_of h) First b rs p.place [] → p.given ≡
+    length rs → IsNextFault (layout_of h) p two rest e → IsFirstFaultIfKnown left e
 after_header left mid two rest a b h rs p (CutRecord nth) x y is are given f =
     cut_of_all left mid two rest a b h rs p nth x y is are given f
 after_header left mid two rest a b h rs p (Tal nth e) x y is are given f =
@@ -221,9 +217,8 @@ reads_end l left mid rest rs p before ends = record {
 
 -- what a reader answers that goes on
 going : (l : Layout) (p q : Progress) (mid rest : Option (List ℕ))
-    (result : Result (Option DataRecord) FragmentFault) → p.state ≡ Reading →
-    IsNextAnswer l p q mid rest result
-    → (q ≡ progress_after l p result) × IsNextResult l p mid rest result
+    (result : Result (Option DataRecord) FragmentFault) → p.state ≡ Reading → IsNextAnswer l p q mid
+    rest result → (q ≡ progress_after l p result) × IsNextResult l p mid rest result
 going l p q mid rest result on answer =
     subst (λ (s : ReaderState). IsNextAnswerInState s l p q mid rest result) on answer
 

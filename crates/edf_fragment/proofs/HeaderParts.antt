@@ -77,9 +77,8 @@ second_fault a b f e fixed within first =
 
 -- the fault of a whole fixed part
 pub told_first : (left rest : Option (List ℕ)) (b : List ℕ) (e : HeaderFault)
-    (told : FragmentFault) → length b ≡ 256 → Consumes left rest b
-    → ((e ≡ Memory → ⊥) → told ≡ BadHeader e) → IsFirst (FixedPartFails b) e →
-    IsOpenFault left rest told
+    (told : FragmentFault) → length b ≡ 256 → Consumes left rest b → ((e ≡ Memory → ⊥) → told ≡
+    BadHeader e) → IsFirst (FixedPartFails b) e → IsOpenFault left rest told
 told_first left rest b e told len read other first =
     let no : e ≡ Memory → ⊥ = λ is. subst (FixedPartFails b) is first.0 in
     let ended : (e ≡ Cut) ⊎ (e ≡ CutSignals) → IsAtEnd rest = elim [
@@ -100,10 +99,9 @@ told_first left rest b e told len read other first =
 
 -- the fault of the signals
 pub told_second : (left rest : Option (List ℕ)) (n : ℕ) (b : List ℕ) (e : HeaderFault)
-    (told : FragmentFault) → length b ≤ 256 * n → Consumes left rest b
-    → (length b < 256 * n → IsAtEnd rest)
-    → (e ≡ Memory → told ≡ NoMemory) → ((e ≡ Memory → ⊥) → told ≡ BadHeader e)
-    → IsSignalsRefusal b n e → IsSignalHeadersFault left rest n told
+    (told : FragmentFault) → length b ≤ 256 * n → Consumes left rest b → (length b < 256 * n →
+    IsAtEnd rest) → (e ≡ Memory → told ≡ NoMemory) → ((e ≡ Memory → ⊥) → told ≡ BadHeader e) →
+    IsSignalsRefusal b n e → IsSignalHeadersFault left rest n told
 told_second left rest n b e told within read short memory other (inl (is, clean)) =
     subst (IsSignalHeadersFault left rest n) (sym (memory is))
     (record { bytes = b; read = read; within = within; clean = inr clean })
@@ -250,10 +248,9 @@ header_fault left mid rest f Failed a b = b
 
 -- the answer of the second part, as that of the whole
 pub header_answer : (left mid rest : Option (List ℕ)) (f : FixedPart)
-    (result : Result Layout FragmentFault) → ReadsFixed left mid f
-    → MatchResult result (ReadsSignalHeaders mid rest f)
-    (IsSignalHeadersFault mid rest f.signal_count) →
-    MatchResult result (ReadsHeader left rest) (IsOpenFault left rest)
+    (result : Result Layout FragmentFault) → ReadsFixed left mid f → MatchResult result
+    (ReadsSignalHeaders mid rest f) (IsSignalHeadersFault mid rest f.signal_count) → MatchResult
+    result (ReadsHeader left rest) (IsOpenFault left rest)
 header_answer left mid rest f (Ok l) a b = whole_header left mid rest f l a b
 header_answer left mid rest f (Err e) a b = header_fault left mid rest f e a b
 

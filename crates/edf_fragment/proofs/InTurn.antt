@@ -35,9 +35,8 @@ blocks-from at (row ∷ rows) bytes =
     ]
 
 outside-of : (from at : ℕ) (rows : List (List ℕ)) (bytes : List ℕ) → from ≤ at →
-    at + 2 * samples_in_all rows ≡ length bytes
-    → bytes_outside from (blocks_from at rows) bytes ≡ field bytes from (at - from)
-    ++ ordinary_bytes_by_signal rows (drop at bytes)
+    at + 2 * samples_in_all rows ≡ length bytes → bytes_outside from (blocks_from at rows) bytes ≡
+    field bytes from (at - from) ++ ordinary_bytes_by_signal rows (drop at bytes)
 outside-of from at [] bytes le all =
     let short : length (drop from bytes) ≤ at - from = omega (arith, all, length-drop from bytes) in
     sym (take_all (at - from) (drop from bytes) short)
@@ -55,9 +54,8 @@ outside-of from at (row ∷ rows) bytes le all =
     ap (ordinary_bytes_by_signal rows) after in
     let none : next - next ≡ 0 = omega arith in
     let closed : bytes_outside next (blocks_from next rows) bytes ≡ others =
-    outside-of next next rows bytes (omega arith) end
-    ∙ ap (λ (n : ℕ). field bytes next n ++ ordinary_bytes_by_signal rows (drop next bytes)) none
-    ∙ later in
+    outside-of next next rows bytes (omega arith) end ∙ ap (λ (n : ℕ). field bytes next n ++
+    ordinary_bytes_by_signal rows (drop next bytes)) none ∙ later in
     let sum : next - from ≡ (at - from) + size = omega arith in
     let place : from + (at - from) ≡ at = omega arith in
     let here : drop (at - from) (drop from bytes) ≡ drop at bytes = drop-drop (at - from) from bytes

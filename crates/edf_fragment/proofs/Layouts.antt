@@ -88,9 +88,8 @@ pieces-front from [] a b apart = refl
 pieces-front from (x ∷ bs) a b (here, apart) =
     let first : field (a ++ b) x.at x.bytes ≡ field a x.at x.bytes =
     field_front a b x.at x.bytes (apart-within (x.at + x.bytes) bs (length a) apart) in
-    ap (λ (f : List ℕ). f ∷ pieces bs (a ++ b)) first
-    ∙ ap (λ (fs : List (List ℕ)). field a x.at x.bytes ∷ fs)
-    (pieces-front (x.at + x.bytes) bs a b apart)
+    ap (λ (f : List ℕ). f ∷ pieces bs (a ++ b)) first ∙ ap (λ (fs : List (List ℕ)). field a x.at
+    x.bytes ∷ fs) (pieces-front (x.at + x.bytes) bs a b apart)
 
 -- ---- layouts
 
@@ -137,9 +136,8 @@ pub cut-blocks : (l : Layout) (bytes sizes block : List ℕ) → IsLayout l →
 cut-blocks l bytes sizes block i len sizes-are block-is =
     let lengths : sizes ≡ map length (blocks l bytes) = sizes-are
     ∙ sym (length-pieces 0 l.blocks bytes (apart-in l bytes i len)) in
-    ap (λ (x : List ℕ). split_by_sizes x block) lengths
-    ∙ ap (λ (x : List ℕ). split_by_sizes (map length (blocks l bytes)) x) block-is
-    ∙ cut-joined (blocks l bytes)
+    ap (λ (x : List ℕ). split_by_sizes x block) lengths ∙ ap (λ (x : List ℕ). split_by_sizes (map
+    length (blocks l bytes)) x) block-is ∙ cut-joined (blocks l bytes)
 
 -- a data record has at least one block
 pub sizes-some : (l : Layout) (sizes : List ℕ) → IsLayout l → sizes ≡ map (λ b. b.bytes) l.blocks →

@@ -60,8 +60,7 @@ goes_on l f p q b x y (r ∷ rs) (s ∷ ss) few (front, back, parts, one, are) (
     let first : r ≡ s = one-record l f front2 r s
     (subst (λ (z : List ℕ). IsDataRecord l f z r) same.front one) one2 in
     let here = subst (λ (z : DataRecord). BeginWithDataRecords l
-    (place_after l z.start) back rs p x)
-    first are in
+    (place_after l z.start) back rs p x) first are in
     let there = subst (λ (z : List ℕ). BeginWithDataRecords l (place_after l s.start) z rs p x)
     same.back here in
     let rest = goes_on l (place_after l s.start) p q back2 x y rs ss (omega arith) there are2 in
@@ -139,9 +138,8 @@ block-stuck b nth e p =
           let same : blocks l p.up_to.remaining ≡ blocks l front = ap (blocks l) parts
           ∙ blocks-front l front back (layout-up-to b p.up_to) (omega (arith, is.len)) in
           blocks-read-no-fault (blocks l front) l.start p.up_to.next_place r.start r.annotations e
-          is.read
-          (subst (λ (z : List (List ℕ)). BlocksHaveFirstFault z l.start p.up_to.next_place e) same
-          p.refused);
+          is.read (subst (λ (z : List (List ℕ)). BlocksHaveFirstFault z l.start p.up_to.next_place
+          e) same p.refused);
     }
 
 all-stuck : (l : Layout) (rs : List DataRecord) (p : Place) (x : List ℕ) →
@@ -195,10 +193,9 @@ pub record SameEnd (h g : HeaderRecord) (rs ss : List DataRecord) (p q : Place)
   pub run : SameRun rs ss p q x y
 
 same-end : (b r s : List ℕ) (h g : HeaderRecord) (rs ss : List DataRecord) (p q : Place)
-    (x y : List ℕ) → IsHeader b h r → IsHeader b g s
-    → BeginWithDataRecords (layout_of h) First r rs p x →
-    BeginWithDataRecords (layout_of g) First s ss q y
-    → IsStuck (layout_of h) rs p x → IsStuck (layout_of g) ss q y → SameEnd h g rs ss p q x y
+    (x y : List ℕ) → IsHeader b h r → IsHeader b g s → BeginWithDataRecords (layout_of h) First r rs
+    p x → BeginWithDataRecords (layout_of g) First s ss q y → IsStuck (layout_of h) rs p x → IsStuck
+    (layout_of g) ss q y → SameEnd h g rs ss p q x y
 same-end b r s h g rs ss p q x y is is2 are are2 stuck stuck2 =
     let one = one-header b h g r s is is2 in
     let there = subst (λ (z : List ℕ). BeginWithDataRecords (layout_of g) First z rs p x) one.1
@@ -230,10 +227,9 @@ numbers h g rs ss p q x y e = record {
 
 -- two readings of the same bytes that both stop
 both : (b : List ℕ) (u v : ParsedPrefix b) →
-    IsStuck (layout_of u.header) u.records u.next_place u.remaining →
-    IsStuck (layout_of v.header) v.records v.next_place v.remaining
-    → SameEnd u.header v.header u.records v.records u.next_place v.next_place u.remaining
-    v.remaining
+    IsStuck (layout_of u.header) u.records u.next_place u.remaining → IsStuck (layout_of v.header)
+    v.records v.next_place v.remaining → SameEnd u.header v.header u.records v.records u.next_place
+    v.next_place u.remaining v.remaining
 both b u v s t = same-end b u.rest v.rest u.header v.header u.records v.records u.next_place
     v.next_place u.remaining v.remaining u.is_header v.is_header u.are_records v.are_records s t
 
@@ -292,8 +288,7 @@ one-refused b n m e f p q =
     let g = q.up_to.header in
     let here = subst (λ (z : HeaderRecord).
     BlocksHaveFirstFault (blocks (layout_of z) p.up_to.remaining)
-    (layout_of z).start p.up_to.next_place e)
-    s.header p.refused in
+    (layout_of z).start p.up_to.next_place e) s.header p.refused in
     let place = subst (λ (z : Place). BlocksHaveFirstFault (blocks (layout_of g) p.up_to.remaining)
     (layout_of g).start z e) s.run.place here in
     let there = subst (λ (z : List ℕ). BlocksHaveFirstFault (blocks (layout_of g) z)

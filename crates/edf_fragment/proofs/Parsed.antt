@@ -24,9 +24,8 @@ use Rattle.edf_fragment.proofs.OneFragment.{one-fragment, spelled-no-fault, one-
 
 -- one more data record, at the front of what is left
 AreDataRecords-next : (l : Layout) (p q : Place) (b left front back : List ℕ) (rs : List DataRecord)
-    (r : DataRecord)
-    → BeginWithDataRecords l p b rs q left → left ≡ front ++ back → IsDataRecord l q front r →
-    BeginWithDataRecords l p b (rs ++ r ∷ []) (place_after l r.start) back
+    (r : DataRecord) → BeginWithDataRecords l p b rs q left → left ≡ front ++ back → IsDataRecord l
+    q front r → BeginWithDataRecords l p b (rs ++ r ∷ []) (place_after l r.start) back
 AreDataRecords-next l p q b left front back [] r (place, rest) parts is = (
   front,
   back,
@@ -60,9 +59,8 @@ module _ (b : List ℕ) (h : HeaderRecord) (rest : List ℕ) (is : IsHeader b h 
 
   -- nothing is left, and no more data records must come
   ended : (rs : List DataRecord) (last : Place) →
-      BeginWithDataRecords (layout_of h) First rest rs last [] →
-      least_records (layout_of h).count ≤ length rs
-      → length rs ≤ most_records (layout_of h).count → HasAnswer b
+      BeginWithDataRecords (layout_of h) First rest rs last [] → least_records (layout_of h).count ≤
+      length rs → length rs ≤ most_records (layout_of h).count → HasAnswer b
   ended rs last are least most =
       inl (
         (layout_of h).key,
@@ -90,9 +88,8 @@ module _ (b : List ℕ) (h : HeaderRecord) (rest : List ℕ) (is : IsHeader b h 
 
   -- too few bytes are left for a data record
   at-cut : (rs : List DataRecord) (last : Place) (left : List ℕ) →
-      BeginWithDataRecords (layout_of h) First rest rs last left →
-      length rs < most_records (layout_of h).count
-      → length left < (layout_of h).record_bytes → HasAnswer b
+      BeginWithDataRecords (layout_of h) First rest rs last left → length rs < most_records
+      (layout_of h).count → length left < (layout_of h).record_bytes → HasAnswer b
   at-cut rs last [] are low cut =
       elim (cases_lt (length rs) (least_records (layout_of h).count)) [
         | inl wanted ↦

@@ -26,8 +26,7 @@ use Rattle.edf_fragment.proofs.HeaderParts.{field_front, signals-later}
 
 -- one more record at the end
 pub AreDataRecords-snoc : (l : Layout) (p q : Place) (b front : List ℕ) (rs : List DataRecord)
-    (r : DataRecord)
-    → BeginWithDataRecords l p b rs q [] → IsDataRecord l q front r →
+    (r : DataRecord) → BeginWithDataRecords l p b rs q [] → IsDataRecord l q front r →
     BeginWithDataRecords l p (b ++ front) (rs ++ r ∷ []) (place_after l r.start) []
 AreDataRecords-snoc l p q b front [] r (place, rest) is =
     let all : b ++ front ≡ front ++ [] = ap (λ (x : List ℕ). x ++ front) (sym rest)
@@ -135,18 +134,16 @@ IsHeaderFault-more b more e none (inr (n, clean, has, first)) =
 
 -- what a reader answers that goes on, with a record
 pub next_of : (l : Layout) (p q : Progress) (mid rest : Option (List ℕ)) (o : Option DataRecord)
-    (r : DataRecord) → p.state ≡ Reading
-    → IsNextAnswer l p q mid rest (Ok o) → o ≡ Some r → (q ≡ progress_after l p (Ok (Some r)))
-    × ReadsRecord l p mid rest r
+    (r : DataRecord) → p.state ≡ Reading → IsNextAnswer l p q mid rest (Ok o) → o ≡ Some r → (q ≡
+    progress_after l p (Ok (Some r))) × ReadsRecord l p mid rest r
 next_of l p q mid rest o r going answer is =
     subst (λ (x : Option DataRecord). IsNextAnswerInState Reading l p q mid rest (Ok x)) is
     (subst (λ (s : ReaderState). IsNextAnswerInState s l p q mid rest (Ok o)) going answer)
 
 -- one more record was read
 pub reads_more : (l : Layout) (left mid rest : Option (List ℕ)) (rs : List DataRecord)
-    (p q : Progress) (r : DataRecord) → HasReadRecords l left mid rs p
-    → q ≡ progress_after l p (Ok (Some r)) → ReadsRecord l p mid rest r →
-    HasReadRecords l left rest (rs ++ r ∷ []) q
+    (p q : Progress) (r : DataRecord) → HasReadRecords l left mid rs p → q ≡ progress_after l p (Ok
+    (Some r)) → ReadsRecord l p mid rest r → HasReadRecords l left rest (rs ++ r ∷ []) q
 reads_more l left mid rest rs p q r before is gives =
     let place : q.place ≡ place_after l r.start = ap (λ (x : Progress). x.place) is in
     let given : q.given ≡ p.given + 1 = ap (λ (x : Progress). x.given) is in

@@ -73,9 +73,8 @@ read-kept bs file_start place start samples list few read = record {
 
 -- the next record, where one is given
 pub sound-next : (l : Layout) (from : Progress) (left rest : Option (List ℕ))
-    (result : Result (Option DataRecord) FragmentFault) → IsLayout l →
-    IsNextResult l from left rest result
-    → IfOk result (λ next. IfSome next (λ r. IsSoundRecord l.key r))
+    (result : Result (Option DataRecord) FragmentFault) → IsLayout l → IsNextResult l from left rest
+    result → IfOk result (λ next. IfSome next (λ r. IsSoundRecord l.key r))
 sound-next l from left rest (Ok (Some r)) in_layout gives =
     sound-record l from.place gives.bytes r in_layout gives.is_record
 sound-next l from left rest (Ok None) in_layout ends = tt
@@ -152,16 +151,14 @@ spelled-few bytes k rs s = omega (arith, s.most, (spelled-layout bytes k rs s).c
 pub spelled-sound : (bytes : List ℕ) (k : Key) (rs : List DataRecord) → IsFragmentFile bytes k rs →
     AreSoundFrom k 0 rs
 spelled-sound bytes k rs s =
-    subst (λ (x : Key). AreSoundFrom x 0 rs) (sym s.key)
-    (are-sound (layout_of s.header) First s.rest rs s.next_place [] (spelled-layout bytes k rs s)
-    s.are_records)
+    subst (λ (x : Key). AreSoundFrom x 0 rs) (sym s.key) (are-sound (layout_of s.header) First
+    s.rest rs s.next_place [] (spelled-layout bytes k rs s) s.are_records)
 
 pub spelled-begins : (bytes : List ℕ) (k : Key) (rs : List DataRecord) → IsFragmentFile bytes k rs →
     FirstMayStart k rs
 spelled-begins bytes k rs s =
-    subst (λ (x : Key). FirstMayStart x rs) (sym s.key)
-    (may-begin (layout_of s.header) s.rest rs s.next_place [] (spelled-layout bytes k rs s)
-    s.are_records)
+    subst (λ (x : Key). FirstMayStart x rs) (sym s.key) (may-begin (layout_of s.header) s.rest rs
+    s.next_place [] (spelled-layout bytes k rs s) s.are_records)
 
 -- ---- those that were read so far
 
@@ -215,18 +212,16 @@ not-past l f p q b x rs all i read spelled =
 
 -- after the same header, in the same bytes
 front-of : (a b c : List ℕ) (h g : HeaderRecord) (rest : List ℕ) (rs all : List DataRecord)
-    (p q : Place) → IsHeader (a ++ (b ++ c)) g rest → IsHeader a h []
-    → BeginWithDataRecords (layout_of h) First b rs p [] →
-    BeginWithDataRecords (layout_of g) First rest all q [] → ((layout_of g).key ≡ (layout_of h).key)
-    × Begins all rs
+    (p q : Place) → IsHeader (a ++ (b ++ c)) g rest → IsHeader a h [] → BeginWithDataRecords
+    (layout_of h) First b rs p [] → BeginWithDataRecords (layout_of g) First rest all q [] →
+    ((layout_of g).key ≡ (layout_of h).key) × Begins all rs
 front-of a b c h g rest rs all p q is read are spelled =
     let one = one-header (a ++ (b ++ c)) g h rest (b ++ c) is (IsHeader-more a (b ++ c) h read) in
     let l = layout_of h in
     let here = AreDataRecords-more l First p b [] c rs are in
     let there = subst (λ (x : HeaderRecord). BeginWithDataRecords (layout_of x) First
-    (b ++ c) all q [])
-    one.0 (subst (λ (x : List ℕ). BeginWithDataRecords (layout_of g) First x all q []) one.1
-    spelled) in
+    (b ++ c) all q []) one.0 (subst (λ (x : List ℕ). BeginWithDataRecords (layout_of g) First x all
+    q []) one.1 spelled) in
     let few = not-past l First p q (b ++ c) c rs all (header-has-layout a h [] read) here there in
     let on = goes_on l First p q (b ++ c) c [] rs all few here there in
     (ap (λ (x : HeaderRecord). (layout_of x).key) one.0, (on.others, on.all))
@@ -240,10 +235,8 @@ sound_sizes k low (r ∷ rs) (one, lower, more) =
     (sound_sizes k (r.start + duration_of k.duration) rs more)
 
 pub read-front : (all : List ℕ) (one two : Option (List ℕ)) (l : Layout) (rs : List DataRecord)
-    (p : Progress) (k : Key) (others : List DataRecord)
-    → ReadsHeader (Some all) one l → HasReadRecords l one two rs p → IsFragmentFile all k others →
-    (k ≡ l.key)
-    × Begins others rs
+    (p : Progress) (k : Key) (others : List DataRecord) → ReadsHeader (Some all) one l →
+    HasReadRecords l one two rs p → IsFragmentFile all k others → (k ≡ l.key) × Begins others rs
 read-front all None two l rs p k others h b s = absurd h.read
 read-front all (Some one) None l rs p k others h b s = absurd b.read
 read-front all (Some one) (Some two) l rs p k others h b s =

@@ -54,18 +54,16 @@ pub record HasWhole (l : Layout) (p : Progress) (left rest : Option (List ℕ))
 
 -- its blocks have no fault
 given_whole : (l : Layout) (p : Progress) (left rest : Option (List ℕ)) (whole : List ℕ)
-    (r : DataRecord) → HasWhole l p left rest whole
-    → BlocksParseTo (blocks l whole) l.start p.place r.start r.annotations →
-    r.samples ≡ ordinary_bytes l whole → ReadsRecord l p left rest r
+    (r : DataRecord) → HasWhole l p left rest whole → BlocksParseTo (blocks l whole) l.start p.place
+    r.start r.annotations → r.samples ≡ ordinary_bytes l whole → ReadsRecord l p left rest r
 given_whole l p left rest whole r h read samples =
     let is : IsDataRecord l p.place whole r =
     record { len = h.len; read = read; samples_are = samples } in
     record { bytes = whole; may_come = h.may_come; read = h.read; is_record = is }
 
 refused_blocks : (l : Layout) (p : Progress) (left rest : Option (List ℕ)) (whole : List ℕ)
-    (nth : ℕ) (e : TalFault) → HasWhole l p left rest whole
-    → nth ≡ p.given + 1 → BlocksHaveFirstFault (blocks l whole) l.start p.place e →
-    RefusesRecord l p left rest nth e
+    (nth : ℕ) (e : TalFault) → HasWhole l p left rest whole → nth ≡ p.given + 1 →
+    BlocksHaveFirstFault (blocks l whole) l.start p.place e → RefusesRecord l p left rest nth e
 refused_blocks l p left rest whole nth e h is fault =
     record {
       bytes = whole;
@@ -78,10 +76,9 @@ refused_blocks l p left rest whole nth e h is fault =
 
 -- the fault where they have one, or where memory ran out
 told_blocks : (l : Layout) (p : Progress) (left rest : Option (List ℕ)) (whole : List ℕ) (nth : ℕ)
-    (e : TalFault) (told : FragmentFault)
-    → HasWhole l p left rest whole → nth ≡ p.given + 1 → (e ≡ TalMemory → told ≡ Memory) →
-    ((e ≡ TalMemory → ⊥) → told ≡ Tal nth e)
-    → BlocksAreRefused (blocks l whole) l.start p.place e → IsNextFault l p left rest told
+    (e : TalFault) (told : FragmentFault) → HasWhole l p left rest whole → nth ≡ p.given + 1 → (e ≡
+    TalMemory → told ≡ Memory) → ((e ≡ TalMemory → ⊥) → told ≡ Tal nth e) → BlocksAreRefused (blocks
+    l whole) l.start p.place e → IsNextFault l p left rest told
 told_blocks l p left rest whole nth TalMemory told h is memory other (start, list, read) =
     let r : DataRecord = record {
       start = start;
@@ -106,12 +103,11 @@ pub record WasCut (l : Layout) (p : Progress) (left rest : Option (List ℕ)) (w
 
 -- by the buffers: the whole data record, its samples, its joined blocks and their sizes
 pub was_cut : (l : Layout) (p : Progress) (left rest : Option (List ℕ)) (there : Bool)
-    (whole filled samples block sizes : List ℕ) → IsLayout l → p.given < most_records l.count
-    → MatchBool there (Consumes left rest filled) (IsEndOfRecords l p left rest) → there ≡ true →
-    length filled ≡ l.record_bytes → whole ≡ filled
-    → samples ≡ ordinary_bytes l whole → block ≡ joined (blocks l whole) →
-    sizes ≡ map (λ b. b.bytes) l.blocks →
-    WasCut l p left rest whole samples (split_by_sizes sizes block)
+    (whole filled samples block sizes : List ℕ) → IsLayout l → p.given < most_records l.count →
+    MatchBool there (Consumes left rest filled) (IsEndOfRecords l p left rest) → there ≡ true →
+    length filled ≡ l.record_bytes → whole ≡ filled → samples ≡ ordinary_bytes l whole → block ≡
+    joined (blocks l whole) → sizes ≡ map (λ b. b.bytes) l.blocks → WasCut l p left rest whole
+    samples (split_by_sizes sizes block)
 was_cut l p left rest there whole filled samples block sizes i wanted step is-there len same
     samples-are block-is sizes-are =
     let read : Consumes left rest filled =
@@ -131,10 +127,9 @@ was_cut l p left rest there whole filled samples block sizes i wanted step is-th
 
 -- the record that it is said to be
 pub given_record : (l : Layout) (p : Progress) (left rest : Option (List ℕ))
-    (whole samples : List ℕ) (bs : List (List ℕ)) (s : ℕ) (r t : DataRecord) →
-    WasCut l p left rest whole samples bs
-    → s ≡ l.start → BlocksParseTo bs s p.place t.start t.annotations → r ≡ t → t.samples ≡ samples →
-    ReadsRecord l p left rest r
+    (whole samples : List ℕ) (bs : List (List ℕ)) (s : ℕ) (r t : DataRecord) → WasCut l p left rest
+    whole samples bs → s ≡ l.start → BlocksParseTo bs s p.place t.start t.annotations → r ≡ t →
+    t.samples ≡ samples → ReadsRecord l p left rest r
 given_record l p left rest whole samples bs s r t c from read same same-samples =
     let here = subst (λ (x : List (List ℕ)). BlocksParseTo x s p.place t.start t.annotations)
     c.blocks_are read in

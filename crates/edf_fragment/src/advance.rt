@@ -3,7 +3,7 @@
 ghost use Rattle.std.specs.Prelude.{◌≡◌, ◌≢◌, ◌+◌, ◌-◌, ◌^◌, ◌<◌, ◌≤◌, length, IfOk, IfSome};
 ghost use Rattle.std.specs.Bool.{MatchBool};
 ghost use Rattle.std.specs.Io.KnownBytes.{Consumes};
-ghost use Rattle.edf_header.specs.Header.{IsLayout, least_records, most_records, block_bytes};
+ghost use Rattle.edf_header.specs.Header.{least_records, most_records};
 ghost use Rattle.edf_fragment.specs.Reading.{IsEndOfRecords, IsNextFault, IsNextResult};
 ghost use Rattle.edf_fragment.specs.Reading.{progress_after};
 ghost use Rattle.edf_fragment.specs.Call.{ReadsInput, ValueOrFault, input_state};
@@ -14,7 +14,7 @@ use crate::buffers::{Buffers, cut_record};
 use crate::fault::FragmentFault;
 use crate::record::Record;
 use crate::streams::{Filled, Input, fill};
-use edf_header::{Header, MOST_BLOCK_BYTES, MOST_RECORDS};
+use edf_header::{Header, MOST_RECORDS};
 use edf_tal::{Place, TalFault, read_blocks};
 use std::alloc::Global;
 
@@ -64,15 +64,6 @@ fn block_refusal(nth: u32, fault: TalFault) -> FragmentFault
         TalFault::Memory => FragmentFault::Memory,
         _ => FragmentFault::Tal { nth, fault },
     }
-}
-
-/// Returns the number of sample bytes in a data record.
-fn sample_bytes(header: &Header) -> usize
-    ensures total { result + block_bytes header.now ≡ header.now.record_bytes }
-    ensures limit { result ≤ MOST_BLOCK_BYTES }
-    ensures layout { IsLayout header.now }
-{
-    header.record_bytes() - header.block_bytes()
 }
 
 /// Returns the least number of data records that a fragment has.
@@ -142,7 +133,7 @@ fn read_record<R: Input>(
     ensures read { ReadsInput (IsNextResult header.now progress)
         (input_state R.Input input.old) (input_state R.Input input.new) result }
 {
-    let Ok(mut samples) = vec![in alloc; 0u8; sample_bytes(header)] else {
+    let Ok(mut samples) = vec![in alloc; 0u8; header.record_bytes() - header.block_bytes()] else {
         return Err(FragmentFault::Memory);
     };
     if !fill_record(input, header, progress, buffers.whole.as_mut_slice())? {

@@ -7,18 +7,17 @@ use Rattle.edf_fragment.proofs.advance.read_record.Goals as goal
 
 pub read_blocks-requires-clause-some : goal.read_blocks-requires-clause-some
 read_blocks-requires-clause-some g c =
-    sizes-some c.args.header.now c.as_slice-2.result.now c.sample_bytes.ensures.layout
+    sizes-some c.args.header.now c.as_slice-2.result.now c.record_bytes.ensures.layout
     (c.as_slice-2.ensures.value ∙ c.requires.fits.sizes)
 
 pub within_limits-requires : goal.within_limits-requires
 within_limits-requires g c =
-    read-kept _ _ _ _ _ _
-    (omega (
+    read-kept _ _ _ _ _ _ (omega (
       arith,
       length-take c.in-Ok.samples.len (c.cut_record.new.samples
           ++ drop (length c.cut_record.new.samples) c.in-Ok.samples.items),
       c.in-Ok.ensures.len,
-      c.sample_bytes.ensures.limit,
+      c.record_bytes.ensures.layout.ordinary_size,
     ))
     c.in-Ok-read_blocks.ensures
 
@@ -32,7 +31,7 @@ returns-in-Ok-read_blocks-clause-read g c =
     let filled = c.fill_record.new.whole in
     let cut = was_cut l from left rest c.in_ok-fill_record.field-0 whole filled
     c.cut_record.new.samples c.as_slice-joined.result.now c.as_slice-2.result.now
-    c.sample_bytes.ensures.layout c.requires.may_come c.in_ok-fill_record.ensures.step
+    c.record_bytes.ensures.layout c.requires.may_come c.in_ok-fill_record.ensures.step
     c.if-not-branch.false (omega (arith, c.requires.fits.whole))
     (c.as_slice.ensures.value ∙ take_at filled _ _ (omega arith)) c.cut_record.ensures.samples
     (c.as_slice-joined.ensures.value ∙ take_at c.cut_record.new.joined _ _ (omega arith)
@@ -55,7 +54,7 @@ returns-in-Err-clause-read g c =
     let filled = c.fill_record.new.whole in
     let cut = was_cut l from left rest c.in_ok-fill_record.field-0 whole filled
     c.cut_record.new.samples c.as_slice-joined.result.now c.as_slice-2.result.now
-    c.sample_bytes.ensures.layout c.requires.may_come c.in_ok-fill_record.ensures.step
+    c.record_bytes.ensures.layout c.requires.may_come c.in_ok-fill_record.ensures.step
     c.if-not-branch.false (omega (arith, c.requires.fits.whole))
     (c.as_slice.ensures.value ∙ take_at filled _ _ (omega arith)) c.cut_record.ensures.samples
     (c.as_slice-joined.ensures.value ∙ take_at c.cut_record.new.joined _ _ (omega arith)

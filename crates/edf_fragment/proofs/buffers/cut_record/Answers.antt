@@ -67,10 +67,9 @@ loop-block-preserved c =
     ∙ ap (λ (n : ℕ). take n (drop b.at c.args.whole.now)) size in
     cut-step l.blocks (drop (i + 1) l.blocks) b c.args.whole.now c.loop-block.samples
     c.loop-block.joined _ _ c.loop-block.ordinary c.loop-block.copied _ _ cut
-    c.copy_from_slice.ensures.after piece
-    (same_len_mid _ _ c.loop-block.samples c.copy_from_slice.new.self c.copy_from_slice.auto.self)
-    (same_len_mid _ _ c.loop-block.joined c.copy_from_slice-in-loop-block.new.self
-    c.copy_from_slice-in-loop-block.auto.self)
+    c.copy_from_slice.ensures.after piece (same_len_mid _ _ c.loop-block.samples
+    c.copy_from_slice.new.self c.copy_from_slice.auto.self) (same_len_mid _ _ c.loop-block.joined
+    c.copy_from_slice-in-loop-block.new.self c.copy_from_slice-in-loop-block.auto.self)
 
 pub returns : goal.returns
 returns c =
@@ -87,7 +86,6 @@ returns c =
     let up = cut-last l.blocks whole c.loop-block.samples c.loop-block.joined _
     c.loop-block.ordinary c.loop-block.copied _ none (c.copy_from_slice-2.ensures.after
     ∙ between_to_end whole (c.loop-block.ordinary + c.loop-block.copied) (length whole)
-    (omega arith))
-    (same_len_mid _ _ c.loop-block.samples c.copy_from_slice-2.new.self
+    (omega arith)) (same_len_mid _ _ c.loop-block.samples c.copy_from_slice-2.new.self
     c.copy_from_slice-2.auto.self) in
     record { samples = up.samples_are; joined = up.blocks_are }
