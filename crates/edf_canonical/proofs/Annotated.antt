@@ -37,15 +37,6 @@ annotated-more [] records r = refl
 annotated-more (k ∷ ks) [] r = ap (λ l. with_samples k r ∷ l) (annotated-none ks)
 annotated-more (k ∷ ks) (x ∷ xs) r = ap (λ l. with_samples k x ∷ l) (annotated-more ks xs r)
 
--- where so many were read
-pub annotated-nth : (kept records : List DataRecord) (r : DataRecord) (count : ℕ) →
-    length records ≡ count →
-    annotated kept (records ++ r ∷ [])
-    ≡ annotated kept records ++ annotated_one (slice_get kept count) r ∷ []
-annotated-nth kept records r count counted =
-    annotated-more kept records r
-    ∙ ap (λ (n : ℕ). annotated kept records ++ annotated_one (slice_get kept n) r ∷ []) counted
-
 -- ---- the block and the annotations that go out
 
 one-block : (o : Option DataRecord) (r a : DataRecord) (base : ℕ) → a ≡ unwrap_or o r →
@@ -70,6 +61,11 @@ one-sound (Some other) r a k is sound valid =
       notes = v.notes;
     }
 
+one-record : (o : Option DataRecord) (r a : DataRecord) → a ≡ unwrap_or o r →
+    with_samples a r ≡ annotated_one o r
+one-record None r a is = ap (λ (x : DataRecord). with_samples x r) is
+one-record (Some k) r a is = ap (λ (x : DataRecord). with_samples x r) is
+
 -- it starts as what is put
 one-start : (o : Option DataRecord) (r a : DataRecord) → a ≡ unwrap_or o r →
     (annotated_one o r).start ≡ a.start
@@ -83,25 +79,12 @@ module _ (o : Option DataRecord) (r a : DataRecord) (is : a ≡ unwrap_or o r) w
   pub start-same : (annotated_one o r).start ≡ a.start
   start-same = one-start o r a is
 
+  pub record-same : with_samples a r ≡ annotated_one o r
+  record-same = one-record o r a is
+
   pub notes-same : a.annotations ≡ (annotated_one o r).annotations
   notes-same = one-notes o r a is
 
   pub sound-one : (k : Key) → IsSoundRecord k r → IsValidRecord a →
       IsSoundRecord k (annotated_one o r)
   sound-one k sound valid = one-sound o r a k is sound valid
-
--- its samples, and then what was kept of it without samples, are the text
-pub text-with : (base size : ℕ) (r k : DataRecord) → k.samples ≡ [] →
-    r.samples ++ record_text base size k ≡ record_text base size (with_samples k r)
-text-with base size r k bare =
-    let filled : List ℕ = tals_text base k.start k.annotations
-    ++ replicate (size - length (tals_text base k.start k.annotations)) 0 in
-    ap (λ (l : List ℕ). r.samples ++ (l ++ filled)) bare
-
--- what was kept of the nth
-pub bare-of : (kept : List DataRecord) (nth : ℕ) → All (λ x. x.samples ≡ []) kept →
-    IfSome (slice_get kept nth) (λ k. k.samples ≡ [])
-bare-of [] nth bare = tt
-bare-of (x ∷ xs) zero bare = All-head (λ (y : DataRecord). y.samples ≡ []) x xs bare
-bare-of (x ∷ xs) (suc nth) bare =
-    bare-of xs nth (All-tail (λ (y : DataRecord). y.samples ≡ []) x xs bare)

@@ -9,7 +9,7 @@ use Rattle.edf_header.specs.Key.{Key}
 use Rattle.edf_fragment.specs.Fragment.{DataRecord}
 use Rattle.edf_fragment.specs.Sound.{IsSoundRecord, IsValidRecord}
 use Rattle.edf_canonical.specs.File.{second_of, block_of, record_text}
-use Rattle.edf_canonical.specs.Kept.{annotated, annotated_one}
+use Rattle.edf_canonical.specs.Kept.{annotated, annotated_one, with_samples}
 use Rattle.edf_canonical.specs.Measure.{IsMeasured, IsMeasuredSoFar, IsWithinMeasure, MayBePrefix}
 use Rattle.edf_canonical.specs.Measure.{HoldsBlock, records_text}
 use Rattle.edf_canonical.specs.Output.{Buffered, Writes}
@@ -20,7 +20,7 @@ use Rattle.edf_canonical.specs.declared.fault.SendFault.{SendFault}
 use Rattle.edf_canonical.specs.declared.fault.SendFault.TheVariants.{Unlike, Output}
 use Rattle.edf_canonical.specs.declared.measure.Measure.{Measure}
 use Rattle.edf_canonical.proofs.Annotated.{annotated-none, annotated-more, annotated-length}
-use Rattle.edf_canonical.proofs.Annotated.{block-same, start-same, sound-one}
+use Rattle.edf_canonical.proofs.Annotated.{block-same, record-same, start-same, sound-one}
 use Rattle.edf_canonical.proofs.Measures.{measured-other, may_come, none_first, put_one_more}
 use Rattle.edf_canonical.proofs.Measures.{whole_measured, same_measure}
 use Rattle.edf_canonical.proofs.Sourced.{gives-more}
@@ -31,18 +31,10 @@ module _ (whole : Measure) (kept : List DataRecord) (nth : ℕ) (r one : DataRec
     (is : one ≡ unwrap_or (slice_get kept nth) r) where
   -- its block is held
   pub block-held : (m : Measure) → HoldsBlock m one → IsWithinMeasure m whole →
-      length (block_of (second_of whole.first) (annotated_one (slice_get kept nth) r))
-      ≤ 2 * whole.block_samples
+      length (block_of (second_of whole.first) one) ≤ 2 * whole.block_samples
   block-held m holds few =
       let base : second_of m.first ≡ second_of whole.first = ap second_of few.first in
-      let same = block-same (slice_get kept nth) r one is (second_of whole.first) in
-      omega (
-        arith,
-        holds,
-        few.samples,
-        ap (λ n. length (block_of n one)) base,
-        ap (λ (l : List ℕ). length l) same,
-      )
+      omega (arith, holds, few.samples, ap (λ n. length (block_of n one)) base)
 
   -- it is measured by its start and its annotations
   pub one-measured : (records : List DataRecord) (m : Measure) → nth ≡ length records →
@@ -66,12 +58,13 @@ module _ (whole : Measure) (kept : List DataRecord) (nth : ℕ) (r one : DataRec
 
   pub one-text : (records : List DataRecord) (base : ℕ) → nth ≡ length records →
       base ≡ second_of whole.first →
-      record_text base (2 * whole.block_samples) (annotated_one (slice_get kept nth) r)
+      record_text base (2 * whole.block_samples) (with_samples one r)
       ≡ next_text whole kept records r
   one-text records base count same =
-      ap (λ n. record_text n (2 * whole.block_samples) (annotated_one (slice_get kept nth) r)) same
-      ∙ ap (λ n. record_text (second_of whole.first) (2 * whole.block_samples)
-      (annotated_one (slice_get kept n) r)) count
+      ap (λ n. record_text n (2 * whole.block_samples) (with_samples one r)) same
+      ∙ ap (λ x. record_text (second_of whole.first) (2 * whole.block_samples) x)
+      (record-same (slice_get kept nth) r one is
+      ∙ ap (λ n. annotated_one (slice_get kept n) r) count)
 
 -- ---- so far
 

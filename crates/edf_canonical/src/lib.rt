@@ -10,12 +10,12 @@
 //! }
 //! ```
 //!
-//! - [`send`] writes the data records that a [`Source`] returns, which must be those of a
-//!   [`Measure`]; a [`SendFault`] says why they were not written.
+//! - [`send`] writes a file by its [`FilePlan`]: the data records that a [`Source`] returns, which
+//!   must be those of a [`Measure`]. A [`SendFault`] says why they were not written.
+//! - [`kept_or`] returns the data record whose start and annotations are written.
 //! - [`samples_of`] returns how many samples the block of a data record takes there.
 //! - [`Buffer`] holds up to 64 KiB beside a writer; [`put`] and [`flush`] write through it, and an
-//!   [`OutputFault`] says why they could not. [`put_record`] puts a data record.
-//! - [`put_annotated`], [`kept_or`] take the start and annotations that were planned for it.
+//!   [`OutputFault`] says why they could not.
 //! - [`laws`] says that sound data records have one canonical file, which parses to them.
 #![tactic(auto)]
 
@@ -28,9 +28,9 @@ mod output;
 mod sending;
 mod source;
 
-pub use data_record::{put_record, samples_of};
+pub use data_record::samples_of;
 pub use fault::{OutputFault, SendFault};
-pub use kept::{kept_or, put_annotated};
+pub use kept::{FilePlan, kept_or};
 pub use measure::Measure;
 pub use output::{Buffer, flush, put};
 pub use sending::send;

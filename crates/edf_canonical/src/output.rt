@@ -14,6 +14,7 @@ const MOST_HELD: usize = 65_536;
 /// Bytes that are held back before they are written.
 #[derive(Drop)]
 pub struct Buffer {
+    pub(crate) alloc: Global,
     bytes: Vec<u8>,
     ghost within: { vec_len bytes ≤ MOST_HELD },
 }
@@ -24,6 +25,7 @@ impl Buffer {
         ensures { result.bytes.items ≡ [] }
     {
         Buffer {
+            alloc,
             bytes: Vec::new(alloc),
         }
     }

@@ -1,6 +1,6 @@
 //! The writer of a header and of the data records of a source.
 
-ghost use Rattle.std.specs.Prelude.{◌≡◌, List, [], All};
+ghost use Rattle.std.specs.Prelude.{List};
 ghost use Rattle.edf_fragment.specs.Fragment.{DataRecord};
 ghost use Rattle.edf_canonical.specs.Kept.{annotated};
 ghost use Rattle.edf_canonical.specs.Measure.{IsMeasuredSoFar};
@@ -8,8 +8,9 @@ ghost use Rattle.edf_canonical.specs.Output.{buffered};
 ghost use Rattle.edf_canonical.specs.Sending.{PutsNext, PutsAll, Sends};
 ghost use Rattle.edf_canonical.specs.Source.{at};
 
+use crate::data_record::put_record;
 use crate::fault::{OutputFault, SendFault};
-use crate::kept::{kept_or, put_annotated};
+use crate::kept::{FilePlan, kept_or};
 use crate::measure::Measure;
 use crate::output::{Buffer, flush, put};
 use crate::source::Source;
@@ -20,52 +21,47 @@ use std::alloc::Global;
 /// measure with it, or `None` where it can't be among the first of those that were measured; then it
 /// is not put.
 fn put_next<W: Output>(
-    alloc: Global,
     out: &mut W,
     held: &mut Buffer,
-    data_record: &Record,
-    kept: &[Record],
+    plan: FilePlan<'_>,
     so_far: Option<Measure>,
-    whole: Measure,
+    data_record: &Record,
 ) -> Result<Option<Measure>, OutputFault>
-    requires { All (λ r. r.samples ≡ []) kept.now }
     ensures { (records : List DataRecord) →
-        IsMeasuredSoFar (annotated kept.now records) so_far →
+        IsMeasuredSoFar (annotated plan.records.now records) so_far →
         PutsNext (buffered W.Output out.old held.old.bytes.items)
-        (buffered W.Output out.new held.new.bytes.items) whole kept.now records data_record.now
-        result }
+        (buffered W.Output out.new held.new.bytes.items) plan.measure plan.records.now records
+        data_record.now result }
 {
+    let whole = plan.measure;
     let nth = Measure::count(&so_far);
     if nth >= whole.records as usize {
         return Ok(None);
     }
-    let annotated = kept_or(kept, nth, data_record);
+    let annotated = kept_or(plan.records, nth, data_record);
     let measure = Measure::after(so_far, annotated);
     if !measure.is_within_measure(&whole) {
         return Ok(None);
     }
     let base = whole.first.second();
     let size = 2 * whole.block_samples as usize;
-    put_annotated(alloc, out, held, data_record, kept, nth, base, size)?;
+    put_record(out, held, data_record, annotated, base, size)?;
     Ok(Some(measure))
 }
 
 /// Puts all data records of a source, with their planned starts and annotations. They must be those
 /// that were measured.
 fn put_all<F, R, S: Source<F, R>, W: Output>(
-    alloc: Global,
     source: &mut S,
     file: &mut F,
     input: &mut R,
-    whole: Measure,
-    kept: &[Record],
+    plan: FilePlan<'_>,
     out: &mut W,
     held: &mut Buffer,
 ) -> Result<(), SendFault<S::Fault>>
-    requires ready { S.ready source.old file.old input.old }
-    requires bare { All (λ r. r.samples ≡ []) kept.now }
+    requires { S.ready source.old file.old input.old }
     ensures { PutsAll S.answers (at source.old file.old input.old)
-        (at source.new file.new input.new) whole kept.now
+        (at source.new file.new input.new) plan.measure plan.records.now
         (buffered W.Output out.old held.old.bytes.items)
         (buffered W.Output out.new held.new.bytes.items) result }
 {
@@ -73,7 +69,7 @@ fn put_all<F, R, S: Source<F, R>, W: Output>(
     'records: loop {
         match source.next(file, input) {
             Ok(Some(data_record)) => {
-                let put = put_next(alloc, out, held, &data_record, kept, so_far, whole)?;
+                let put = put_next(out, held, plan, so_far, &data_record)?;
                 let Some(measure) = put else {
                     return Err(SendFault::Unlike);
                 };
@@ -83,7 +79,7 @@ fn put_all<F, R, S: Source<F, R>, W: Output>(
                 let Some(measure) = so_far else {
                     return Err(SendFault::Unlike);
                 };
-                if !measure.is_whole(&whole) {
+                if !measure.is_whole(&plan.measure) {
                     return Err(SendFault::Unlike);
                 }
                 return Ok(());
@@ -96,10 +92,9 @@ fn put_all<F, R, S: Source<F, R>, W: Output>(
 /// Writes a header, and then all data records of a source, through a buffer of 64 KiB. The writer is
 /// not flushed. One data record is in memory at a time.
 ///
-/// `kept` has planned data records without samples. Where it has an nth, its start and annotations
-/// are written with the samples of the source's nth; that both are the same data record is for the
-/// source to see. Planned ones after the source's last are left out. What is written must be what
-/// was measured.
+/// Where the plan has an nth data record, its start and annotations are written with the samples of
+/// the source's nth; that both are the same data record is for the source to see. Planned ones after
+/// the source's last are left out. What is written must be what was measured.
 ///
 /// # Errors
 /// `Source` where the source has a fault; `Unlike` where a data record can't be among the first of
@@ -110,20 +105,18 @@ pub fn send<F, R, S: Source<F, R>, W: Output>(
     source: &mut S,
     file: &mut F,
     input: &mut R,
-    header: &[u8],
-    whole: Measure,
-    kept: &[Record],
+    plan: FilePlan<'_>,
     out: &mut W,
 ) -> Result<(), SendFault<S::Fault>>
-    requires ready { S.ready source.old file.old input.old }
-    requires bare { All (λ r. r.samples ≡ []) kept.now }
+    requires { S.ready source.old file.old input.old }
     ensures { Sends S.answers (at source.old file.old input.old)
-        (at source.new file.new input.new) whole kept.now (W.contents out.old) (W.contents out.new)
-        (W.failures out.old) (W.failures out.new) header.now result }
+        (at source.new file.new input.new) plan.measure plan.records.now
+        (W.contents out.old) (W.contents out.new)
+        (W.failures out.old) (W.failures out.new) plan.header.now result }
 {
     let mut held = Buffer::new(alloc);
-    put(out, &mut held, header)?;
-    put_all(alloc, source, file, input, whole, kept, out, &mut held)?;
+    put(out, &mut held, plan.header)?;
+    put_all(source, file, input, plan, out, &mut held)?;
     flush(out, &mut held)?;
     Ok(())
 }

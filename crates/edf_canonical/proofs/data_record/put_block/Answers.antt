@@ -21,7 +21,7 @@ returns g c =
     let fs = c.args.file_start in
     let block : List ℕ = block_of fs r in
     let items : c.in-Ok.block.items ≡ block =
-    c.in-Ok.ensures ∙ ap (λ (n : ℕ). tals_text fs n c.notes.result.now) c.start.ensures.value
+    c.in-Ok.ensures ∙ ap (λ (n : ℕ). tals_text fs n c.notes.result.now) c.start-start.ensures.value
     ∙ ap (λ (l : List Annotation). tals_text fs r.start l) c.notes.ensures.value in
     let text : c.as_slice.result.now ≡ block = c.as_slice.ensures.value ∙ items in
     let len : c.len.result ≡ length block =
@@ -36,7 +36,7 @@ returns-in_err-put g c =
     let fs = c.args.file_start in
     let block : List ℕ = block_of fs r in
     let items : c.in-Ok.block.items ≡ block =
-    c.in-Ok.ensures ∙ ap (λ (n : ℕ). tals_text fs n c.notes.result.now) c.start.ensures.value
+    c.in-Ok.ensures ∙ ap (λ (n : ℕ). tals_text fs n c.notes.result.now) c.start-start.ensures.value
     ∙ ap (λ (l : List Annotation). tals_text fs r.start l) c.notes.ensures.value in
     let text : c.as_slice.result.now ≡ block = c.as_slice.ensures.value ∙ items in
     let p = err_from_is_err_and c.from_residual.result c.from_residual.ensures.1 in

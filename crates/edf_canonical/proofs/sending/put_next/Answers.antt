@@ -6,25 +6,21 @@ use Rattle.edf_canonical.specs.File.{block_of}
 use Rattle.edf_canonical.specs.Kept.{annotated, annotated_one}
 use Rattle.edf_canonical.specs.Measure.{IsWithinMeasure}
 use Rattle.edf_canonical.specs.Output.{buffered, Writes}
-use Rattle.edf_canonical.proofs.Annotated.{annotated-length, bare-of}
+use Rattle.edf_canonical.proofs.Annotated.{annotated-length}
 use Rattle.edf_canonical.proofs.Measures.{may_come, first-no-more}
 use Rattle.edf_canonical.proofs.PutNext.{block-held, one-measured, one-sound, one-text}
 use Rattle.edf_canonical.proofs.sending.put_next.Goals as goal
 
-pub put_annotated-requires-clause-bare : goal.put_annotated-requires-clause-bare
-put_annotated-requires-clause-bare g c = bare-of c.args.kept.now c.count-nth.result c.requires
-
-pub put_annotated-requires-clause-fits : goal.put_annotated-requires-clause-fits
-put_annotated-requires-clause-fits g c =
-    let kept = c.args.kept.now in
-    let whole = c.args.whole in
+pub put_record-requires : goal.put_record-requires
+put_record-requires g c =
+    let kept = c.args.plan.records.now in
+    let whole = c.args.plan.measure in
+    let one = c.kept_or-annotated.result.now in
     let few : IsWithinMeasure c.after-measure.result whole =
     c.is_within_measure.ensures.0 c.if-not-is_within_measure.false in
-    let held = block-held whole kept c.count-nth.result c.args.data_record.now
-    c.kept_or-annotated.result.now c.kept_or-annotated.ensures c.after-measure.result
-    c.after-measure.ensures.holds few in
-    subst (λ n. length (block_of n (annotated_one (slice_get kept c.count-nth.result)
-    c.args.data_record.now)) ≤ 2 * whole.block_samples) (sym c.second-base.ensures) held
+    subst (λ n. length (block_of n one) ≤ 2 * whole.block_samples) (sym c.second-base.ensures)
+    (block-held whole kept c.count-nth.result c.args.data_record.now one c.kept_or-annotated.ensures
+    c.after-measure.result c.after-measure.ensures.holds few)
 
 pub returns-then-nth-whole : goal.returns-then-nth-whole
 returns-then-nth-whole g c records before = (
@@ -33,9 +29,9 @@ returns-then-nth-whole g c records before = (
     arith,
     c.if-nth-whole.true,
     may.within,
-    c.count-nth.ensures (annotated c.args.kept.now records) before,
-    annotated-length c.args.kept.now records,
-    annotated-length c.args.kept.now (records ++ c.args.data_record.now ∷ []),
+    c.count-nth.ensures (annotated c.args.plan.records.now records) before,
+    annotated-length c.args.plan.records.now records,
+    annotated-length c.args.plan.records.now (records ++ c.args.data_record.now ∷ []),
     length-append records (c.args.data_record.now ∷ []),
   ),
 )
@@ -44,37 +40,37 @@ pub returns-then-not-is_within_measure : goal.returns-then-not-is_within_measure
 returns-then-not-is_within_measure g c records before = (
   refl,
   λ may.
-      let kept = c.args.kept.now in
+      let kept = c.args.plan.records.now in
       let count = c.count-nth.ensures (annotated kept records) before
       ∙ annotated-length kept records in
-      let measured = one-measured c.args.whole kept c.count-nth.result c.args.data_record.now
+      let measured = one-measured c.args.plan.measure kept c.count-nth.result c.args.data_record.now
       c.kept_or-annotated.result.now c.kept_or-annotated.ensures records c.after-measure.result
       count (c.after-measure.ensures.measured (annotated kept records) before
-      (omega (arith, c.if-nth-whole.false, c.args.whole.records_few, count))) in
+      (omega (arith, c.if-nth-whole.false, c.args.plan.measure.records_few, count))) in
       let e : false ≡ true = sym c.if-not-is_within_measure.true
-      ∙ c.is_within_measure.ensures.1 (first-no-more _ c.after-measure.result c.args.whole measured
+      ∙ c.is_within_measure.ensures.1 (first-no-more _ c.after-measure.result c.args.plan.measure measured
       may) in
       absurd (let f = e in cc),
 )
 
-pub returns-in_err-put_annotated : goal.returns-in_err-put_annotated
-returns-in_err-put_annotated g c records before =
-    let kept = c.args.kept.now in
+pub returns-in_err-put_record : goal.returns-in_err-put_record
+returns-in_err-put_record g c records before =
+    let kept = c.args.plan.records.now in
     let r = c.args.data_record.now in
     let one = c.kept_or-annotated.result.now in
-    let whole = c.args.whole in
+    let whole = c.args.plan.measure in
     let nth = c.count-nth.result in
     let m = c.after-measure.result in
     let b = buffered g.W.Output c.args.out.now c.args.held.now.bytes.items in
-    let d = buffered g.W.Output c.put_annotated.new.out c.put_annotated.new.held.bytes.items in
+    let d = buffered g.W.Output c.put_record.new.out c.put_record.new.held.bytes.items in
     let count : nth ≡ length records = c.count-nth.ensures (annotated kept records) before
     ∙ annotated-length kept records in
     let measured = one-measured whole kept nth r one c.kept_or-annotated.ensures records m count
     (c.after-measure.ensures.measured (annotated kept records) before
-    (omega (arith, c.if-nth-whole.false, c.args.whole.records_few, count))) in
+    (omega (arith, c.if-nth-whole.false, c.args.plan.measure.records_few, count))) in
     let text = one-text whole kept nth r one c.kept_or-annotated.ensures records
     c.second-base.result count c.second-base.ensures in
-    let e = c.in_err-put_annotated.ensures in
+    let e = c.in_err-put_record.ensures in
     let err = err_from_is_err_and c.from_residual.result c.from_residual.ensures.1 in
     rw (err.1, err.2) (
       record {
@@ -88,14 +84,14 @@ returns-in_err-put_annotated g c records before =
 
 pub returns : goal.returns
 returns g c records before =
-    let kept = c.args.kept.now in
+    let kept = c.args.plan.records.now in
     let r = c.args.data_record.now in
     let one = c.kept_or-annotated.result.now in
-    let whole = c.args.whole in
+    let whole = c.args.plan.measure in
     let nth = c.count-nth.result in
     let m = c.after-measure.result in
     let b = buffered g.W.Output c.args.out.now c.args.held.now.bytes.items in
-    let d = buffered g.W.Output c.put_annotated.new.out c.put_annotated.new.held.bytes.items in
+    let d = buffered g.W.Output c.put_record.new.out c.put_record.new.held.bytes.items in
     let count : nth ≡ length records = c.count-nth.ensures (annotated kept records) before
     ∙ annotated-length kept records in
     let text = one-text whole kept nth r one c.kept_or-annotated.ensures records
@@ -103,10 +99,10 @@ returns g c records before =
     record {
       measured = one-measured whole kept nth r one c.kept_or-annotated.ensures records m count
           (c.after-measure.ensures.measured (annotated kept records) before
-          (omega (arith, c.if-nth-whole.false, c.args.whole.records_few, count)));
+          (omega (arith, c.if-nth-whole.false, c.args.plan.measure.records_few, count)));
       no_more = c.is_within_measure.ensures.0 c.if-not-is_within_measure.false;
       sound = λ k sound. one-sound whole kept nth r one c.kept_or-annotated.ensures records k count
           sound c.after-measure.ensures.valid;
-      wrote = subst (λ x. Writes b d x d.held) text c.in_ok-put_annotated.ensures.0;
-      counted = c.in_ok-put_annotated.ensures.1;
+      wrote = subst (λ x. Writes b d x d.held) text c.in_ok-put_record.ensures.0;
+      counted = c.in_ok-put_record.ensures.1;
     }
