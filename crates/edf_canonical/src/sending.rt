@@ -23,14 +23,14 @@ use std::alloc::Global;
 fn put_next<W: Output>(
     out: &mut W,
     held: &mut Buffer,
-    plan: FilePlan<'_>,
+    plan: &FilePlan<'_>,
     so_far: Option<Measure>,
     data_record: &Record,
 ) -> Result<Option<Measure>, OutputFault>
     ensures { (records : List DataRecord) →
-        IsMeasuredSoFar (annotated plan.records.now records) so_far →
+        IsMeasuredSoFar (annotated plan.now.records.now records) so_far →
         PutsNext (buffered W.Output out.old held.old.bytes.items)
-        (buffered W.Output out.new held.new.bytes.items) plan.measure plan.records.now records
+        (buffered W.Output out.new held.new.bytes.items) plan.now.measure plan.now.records.now records
         data_record.now result }
 {
     let whole = plan.measure;
@@ -55,13 +55,13 @@ fn put_all<F, R, S: Source<F, R>, W: Output>(
     source: &mut S,
     file: &mut F,
     input: &mut R,
-    plan: FilePlan<'_>,
+    plan: &FilePlan<'_>,
     out: &mut W,
     held: &mut Buffer,
 ) -> Result<(), SendFault<S::Fault>>
     requires { S.ready source.old file.old input.old }
     ensures { PutsAll S.answers (at source.old file.old input.old)
-        (at source.new file.new input.new) plan.measure plan.records.now
+        (at source.new file.new input.new) plan.now.measure plan.now.records.now
         (buffered W.Output out.old held.old.bytes.items)
         (buffered W.Output out.new held.new.bytes.items) result }
 {
@@ -105,14 +105,14 @@ pub fn send<F, R, S: Source<F, R>, W: Output>(
     source: &mut S,
     file: &mut F,
     input: &mut R,
-    plan: FilePlan<'_>,
+    plan: &FilePlan<'_>,
     out: &mut W,
 ) -> Result<(), SendFault<S::Fault>>
     requires { S.ready source.old file.old input.old }
     ensures { Sends S.answers (at source.old file.old input.old)
-        (at source.new file.new input.new) plan.measure plan.records.now
+        (at source.new file.new input.new) plan.now.measure plan.now.records.now
         (W.contents out.old) (W.contents out.new)
-        (W.failures out.old) (W.failures out.new) plan.header.now result }
+        (W.failures out.old) (W.failures out.new) plan.now.header.now result }
 {
     let mut held = Buffer::new(alloc);
     put(out, &mut held, plan.header)?;

@@ -15,7 +15,7 @@ ghost use Rattle.edf_export.specs.Inside.Walks.{IsPlanOf, IsSentOut};
 
 use crate::fault::ExportFault;
 use crate::walked::Walked;
-use edf_canonical::{Measure, send};
+use edf_canonical::{FilePlan, Measure, send};
 use edf_fragment::Output;
 use edf_header::{Identity, write_header};
 use edf_store::{Records, Store};
@@ -41,16 +41,12 @@ fn send_walk<S: Alter, W: Output>(
 {
     let mut source = Walked;
     let mut nothing = ();
-    send(
-        alloc,
-        &mut source,
-        walk,
-        &mut nothing,
+    let file = FilePlan {
         header,
-        plan,
-        &[],
-        out,
-    )?;
+        measure: plan,
+        records: &[],
+    };
+    send(alloc, &mut source, walk, &mut nothing, &file, out)?;
     Ok(())
 }
 

@@ -11,7 +11,7 @@ use crate::rereading::RunAgain;
 use crate::run::Run;
 use crate::tally::Tally;
 use crate::written::Written;
-use edf_canonical::{Measure, send};
+use edf_canonical::{FilePlan, Measure, send};
 use edf_fragment::{Input, OpenFragment, Output};
 use edf_header::laws::{header_is_layout, identity_is_key};
 use edf_header::{Identity, MOST_SIGNALS, write_header};
@@ -89,7 +89,6 @@ pub fn write_run<R: Input, W: Output>(
         return Err(WriteFault::Memory);
     };
     let record_bytes = identity.ordinary_bytes() + 2 * run.block_samples() as usize;
-    let header_bytes = header.as_slice();
     let mut source = RunAgain {
         run,
         nth: 0,
@@ -101,16 +100,12 @@ pub fn write_run<R: Input, W: Output>(
         records: run.records,
         block_samples: run.block_samples,
     };
-    send(
-        alloc,
-        &mut source,
-        fragment,
-        input,
-        header_bytes,
+    let file = FilePlan {
+        header: header.as_slice(),
         measure,
-        &[],
-        out,
-    )?;
+        records: &[],
+    };
+    send(alloc, &mut source, fragment, input, &file, out)?;
     Ok(Written {
         bytes: header.len() as u64 + run.records() as u64 * record_bytes as u64,
         annotations: source.tally.annotations,

@@ -8,7 +8,7 @@ use crate::canonical_plan::CanonicalPlan;
 use crate::fault::WriteFault;
 use crate::reading::open_again;
 use crate::rereading::WholeAgain;
-use edf_canonical::send;
+use edf_canonical::{FilePlan, send};
 use edf_fragment::{Input, Output};
 use edf_header::laws::header_is_layout;
 use edf_header::write_header;
@@ -60,16 +60,12 @@ pub fn write_canonical<R: Input, W: Output>(
     header_is_layout(fragment.header());
     let kept = kept.as_slice();
     let mut source = WholeAgain { kept, nth: 0 };
-    send(
-        alloc,
-        &mut source,
-        &mut fragment,
-        input,
-        header.as_slice(),
-        *measure,
-        kept,
-        out,
-    )?;
+    let file = FilePlan {
+        header: header.as_slice(),
+        measure: *measure,
+        records: kept,
+    };
+    send(alloc, &mut source, &mut fragment, input, &file, out)?;
     let record_bytes = identity.ordinary_bytes() + 2 * measure.block_samples as usize;
     Ok(header.len() as u64 + measure.records as u64 * record_bytes as u64)
 }

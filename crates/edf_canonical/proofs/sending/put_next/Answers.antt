@@ -13,8 +13,8 @@ use Rattle.edf_canonical.proofs.sending.put_next.Goals as goal
 
 pub put_record-requires : goal.put_record-requires
 put_record-requires g c =
-    let kept = c.args.plan.records.now in
-    let whole = c.args.plan.measure in
+    let kept = c.args.plan.now.records.now in
+    let whole = c.args.plan.now.measure in
     let one = c.kept_or-annotated.result.now in
     let few : IsWithinMeasure c.after-measure.result whole =
     c.is_within_measure.ensures.0 c.if-not-is_within_measure.false in
@@ -29,9 +29,9 @@ returns-then-nth-whole g c records before = (
     arith,
     c.if-nth-whole.true,
     may.within,
-    c.count-nth.ensures (annotated c.args.plan.records.now records) before,
-    annotated-length c.args.plan.records.now records,
-    annotated-length c.args.plan.records.now (records ++ c.args.data_record.now ∷ []),
+    c.count-nth.ensures (annotated c.args.plan.now.records.now records) before,
+    annotated-length c.args.plan.now.records.now records,
+    annotated-length c.args.plan.now.records.now (records ++ c.args.data_record.now ∷ []),
     length-append records (c.args.data_record.now ∷ []),
   ),
 )
@@ -40,25 +40,25 @@ pub returns-then-not-is_within_measure : goal.returns-then-not-is_within_measure
 returns-then-not-is_within_measure g c records before = (
   refl,
   λ may.
-      let kept = c.args.plan.records.now in
+      let kept = c.args.plan.now.records.now in
       let count = c.count-nth.ensures (annotated kept records) before
       ∙ annotated-length kept records in
-      let measured = one-measured c.args.plan.measure kept c.count-nth.result c.args.data_record.now
+      let measured = one-measured c.args.plan.now.measure kept c.count-nth.result c.args.data_record.now
       c.kept_or-annotated.result.now c.kept_or-annotated.ensures records c.after-measure.result
       count (c.after-measure.ensures.measured (annotated kept records) before
-      (omega (arith, c.if-nth-whole.false, c.args.plan.measure.records_few, count))) in
+      (omega (arith, c.if-nth-whole.false, c.args.plan.now.measure.records_few, count))) in
       let e : false ≡ true = sym c.if-not-is_within_measure.true
-      ∙ c.is_within_measure.ensures.1 (first-no-more _ c.after-measure.result c.args.plan.measure measured
+      ∙ c.is_within_measure.ensures.1 (first-no-more _ c.after-measure.result c.args.plan.now.measure measured
       may) in
       absurd (let f = e in cc),
 )
 
 pub returns-in_err-put_record : goal.returns-in_err-put_record
 returns-in_err-put_record g c records before =
-    let kept = c.args.plan.records.now in
+    let kept = c.args.plan.now.records.now in
     let r = c.args.data_record.now in
     let one = c.kept_or-annotated.result.now in
-    let whole = c.args.plan.measure in
+    let whole = c.args.plan.now.measure in
     let nth = c.count-nth.result in
     let m = c.after-measure.result in
     let b = buffered g.W.Output c.args.out.now c.args.held.now.bytes.items in
@@ -67,7 +67,7 @@ returns-in_err-put_record g c records before =
     ∙ annotated-length kept records in
     let measured = one-measured whole kept nth r one c.kept_or-annotated.ensures records m count
     (c.after-measure.ensures.measured (annotated kept records) before
-    (omega (arith, c.if-nth-whole.false, c.args.plan.measure.records_few, count))) in
+    (omega (arith, c.if-nth-whole.false, c.args.plan.now.measure.records_few, count))) in
     let text = one-text whole kept nth r one c.kept_or-annotated.ensures records
     c.second-base.result count c.second-base.ensures in
     let e = c.in_err-put_record.ensures in
@@ -84,10 +84,10 @@ returns-in_err-put_record g c records before =
 
 pub returns : goal.returns
 returns g c records before =
-    let kept = c.args.plan.records.now in
+    let kept = c.args.plan.now.records.now in
     let r = c.args.data_record.now in
     let one = c.kept_or-annotated.result.now in
-    let whole = c.args.plan.measure in
+    let whole = c.args.plan.now.measure in
     let nth = c.count-nth.result in
     let m = c.after-measure.result in
     let b = buffered g.W.Output c.args.out.now c.args.held.now.bytes.items in
@@ -99,7 +99,7 @@ returns g c records before =
     record {
       measured = one-measured whole kept nth r one c.kept_or-annotated.ensures records m count
           (c.after-measure.ensures.measured (annotated kept records) before
-          (omega (arith, c.if-nth-whole.false, c.args.plan.measure.records_few, count)));
+          (omega (arith, c.if-nth-whole.false, c.args.plan.now.measure.records_few, count)));
       no_more = c.is_within_measure.ensures.0 c.if-not-is_within_measure.false;
       sound = λ k sound. one-sound whole kept nth r one c.kept_or-annotated.ensures records k count
           sound c.after-measure.ensures.valid;

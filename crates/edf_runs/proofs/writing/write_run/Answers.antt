@@ -30,11 +30,11 @@ returns-in_err-send-clause-refused g c =
     ∙ ap (λ (x : Layout). x.key) c.header-2.ensures in
     let base = begins g.R.Input refl (c.nanos.ensures.value ∙ c.first-2.ensures) key
     c.duration.ensures.value c.of.ensures in
-    let text = c.as_slice-header_bytes.result.now in
+    let text = c.as_slice.result.now in
     let plain : IsRunHeader c.in-Ok.header.items c.identity-identity.result.now run =
     c.in-Ok.ensures.header in
     let header : IsRunHeader text l.key run =
-    subst (λ (t : List ℕ). IsRunHeader t l.key run) (sym c.as_slice-header_bytes.ensures.value)
+    subst (λ (t : List ℕ). IsRunHeader t l.key run) (sym c.as_slice.ensures.value)
     (subst (λ (k : Key). IsRunHeader c.in-Ok.header.items k run) key plain) in
     let e = c.in_err-send.ensures in
     let fault = send_fault c.in_err-send.field-0.0 in
@@ -49,7 +49,7 @@ returns-in_err-send-clause-counted g c =
     let run = c.args.run.now in
     let key : c.identity-identity.result.now ≡ l.key = c.identity-identity.ensures
     ∙ ap (λ (x : Layout). x.key) c.header-2.ensures in
-    let text = c.as_slice-header_bytes.result.now in
+    let text = c.as_slice.result.now in
     let base = begins g.R.Input refl (c.nanos.ensures.value ∙ c.first-2.ensures) key
     c.duration.ensures.value c.of.ensures in
     let e = c.in_err-send.ensures in
@@ -62,7 +62,7 @@ returns-in_err-send-clause-reread g c =
     let run = c.args.run.now in
     let key : c.identity-identity.result.now ≡ l.key = c.identity-identity.ensures
     ∙ ap (λ (x : Layout). x.key) c.header-2.ensures in
-    let text = c.as_slice-header_bytes.result.now in
+    let text = c.as_slice.result.now in
     let base = begins g.R.Input refl (c.nanos.ensures.value ∙ c.first-2.ensures) key
     c.duration.ensures.value c.of.ensures in
     let e = c.in_err-send.ensures in
@@ -96,11 +96,11 @@ returns-clause-written g c =
     ∙ ap (λ (x : Layout). x.key) c.header-2.ensures in
     let base = begins g.R.Input refl (c.nanos.ensures.value ∙ c.first-2.ensures) key
     c.duration.ensures.value c.of.ensures in
-    let text = c.as_slice-header_bytes.result.now in
+    let text = c.as_slice.result.now in
     let plain : IsRunHeader c.in-Ok.header.items c.identity-identity.result.now run =
     c.in-Ok.ensures.header in
     let header : IsRunHeader text l.key run =
-    subst (λ (t : List ℕ). IsRunHeader t l.key run) (sym c.as_slice-header_bytes.ensures.value)
+    subst (λ (t : List ℕ). IsRunHeader t l.key run) (sym c.as_slice.ensures.value)
     (subst (λ (k : Key). IsRunHeader c.in-Ok.header.items k run) key plain) in
     let is-key : IsKey l.key = subst IsKey key c.ordinary_bytes.ensures.key in
     let begins : MayStart l.key run.first = search rules in
@@ -109,7 +109,7 @@ returns-clause-written g c =
       arith,
       c.len.ensures,
       c.in-Ok.header.ok.0,
-      ap (λ (t : List ℕ). length t) c.as_slice-header_bytes.ensures.value,
+      ap (λ (t : List ℕ). length t) c.as_slice.ensures.value,
     ) in
     let ordinary : c.ordinary_bytes.result ≡ 2 * samples_in_all l.key.signals =
     c.ordinary_bytes.ensures.value ∙ ap (λ (k : Key). 2 * samples_in_all k.signals) key in
@@ -131,7 +131,7 @@ returns-clause-reread g c =
     let run = c.args.run.now in
     let key : c.identity-identity.result.now ≡ l.key = c.identity-identity.ensures
     ∙ ap (λ (x : Layout). x.key) c.header-2.ensures in
-    let text = c.as_slice-header_bytes.result.now in
+    let text = c.as_slice.result.now in
     let base = begins g.R.Input refl (c.nanos.ensures.value ∙ c.first-2.ensures) key
     c.duration.ensures.value c.of.ensures in
     record {
@@ -145,7 +145,7 @@ returns-clause-counted g c =
     let run = c.args.run.now in
     let key : c.identity-identity.result.now ≡ l.key = c.identity-identity.ensures
     ∙ ap (λ (x : Layout). x.key) c.header-2.ensures in
-    let text = c.as_slice-header_bytes.result.now in
+    let text = c.as_slice.result.now in
     let base = begins g.R.Input refl (c.nanos.ensures.value ∙ c.first-2.ensures) key
     c.duration.ensures.value c.of.ensures in
     (sent-counted base _ _ text _ _ refl refl refl c.in_ok-send.ensures.0, c.in_ok-send.ensures.1)
