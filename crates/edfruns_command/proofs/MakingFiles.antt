@@ -228,7 +228,7 @@ module _ (a b : Making) (known : b.known ≡ a.known) (before : b.before ≡ a.a
           start = one.listed.starts;
           within = omega (arith, one.listed.count);
           holds = one.listed.holds;
-          front = inl tt;
+          prefix = inl tt;
           more = inl (refl, refl);
         }) (λ next. memory-unchanged);
         failed = one.unfailed ∙ failed ∙ so_far.unfailed;
