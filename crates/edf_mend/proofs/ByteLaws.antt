@@ -481,7 +481,7 @@ each-byte-stays w a c l first after body rest pieces piece wanted x has has' cut
         let layout = header-has-layout c x.spells.header x.spells.rest i in
         let rows = rows-are c v.after v.body_after x.spells.header x.spells.rest again-has i in
         let size = size-is c v.after v.body_after x.spells.header x.spells.rest again-has i in
-        let fronts = are-cut lay First x.spells.rest x.records x.spells.last x.spells.are_records in
+        let fronts = are-cut lay First x.spells.rest x.records x.spells.next_place x.spells.are_records in
         let body-is = (same-header c v.after v.body_after
         x.spells.header x.spells.rest again-has i).body_is in
         let cut' = subst (λ (t : HeaderTexts). IsCut (record_size (own_signals first t)) body pieces

@@ -195,7 +195,7 @@ module _ (l : Layout) (shape : Shape) (moves : Bool) where
       are = (refl, refl);
       most = omega arith;
       as_many = refl;
-      wrote = record { front = []; wrote = Appends-nil a.contents; parts = append-nil a.held };
+      wrote = record { prefix = []; wrote = Appends-nil a.contents; parts = append-nil a.held };
       goes = subst (λ (x : Option MendFault). GoesOnFrom l 0 First [] p x)
           (sym (ap (λ (x : Told). x.fault) same ∙ none)) (refl, first);
       unread = ap (λ (x : Told). x.ledger.unread_texts) same

@@ -24,7 +24,7 @@ module _ (front : List ℕ) (h : HeaderRecord) (is_header : IsHeader front h [])
     header = h;
     rest = done ++ left;
     records = records;
-    last = last;
+    next_place = last;
     left = left;
     is_header = IsHeader-more front (done ++ left) h is_header;
     are_records = AreDataRecords-more (layout_of h) First last done [] left records are;

@@ -149,7 +149,7 @@ fragment w a t body key records has s =
     let sound = first-sound a t body has in
     let rows = rows-are a t body h s.rest has i in
     let layout = header-has-layout a h s.rest i in
-    let cut = are-cut l First s.rest records s.last s.are_records in
+    let cut = are-cut l First s.rest records s.next_place s.are_records in
     let same = same-header a t body h s.rest has i in
     let size : record_size (own_signals t t) ≡ l.record_bytes =
     ap (λ (u : HeaderTexts). record_size u) (own t) ∙ size-is a t body h s.rest has i in

@@ -204,7 +204,7 @@ anywhere bs start p m list r = record {
   lists = r.lists;
   good = r.good;
   timed = r.timed;
-  keeps = tt;
+  fits_place = tt;
   window = r.window;
   limits = r.limits;
   start_is = r.start_is;
@@ -219,7 +219,7 @@ starts l p x r start d s = (blocks-one-read (blocks l x) l.start Any start r.sta
 later : (l : Layout) (before : ℕ) (x : List ℕ) (r : DataRecord) →
     IsDataRecord l (After before (duration_of l.key.duration)) x r →
     before + duration_of l.key.duration ≤ r.start
-later l before x r d = omega (arith, d.read.keeps, d.read.start_is)
+later l before x r d = omega (arith, d.read.fits_place, d.read.start_is)
 
 apart : (l : Layout) (p : Place) (front : List (List ℕ)) (a b : List ℕ) (back : List (List ℕ))
     (start next : ℕ) → InOrder l p (front ++ a ∷ b ∷ back) → StartsAt l a start →

@@ -84,13 +84,13 @@ few-left t h widths i =
 
 pub put-grows : (a b : Buffered) (bytes : List ℕ) (r : Result Unit OutputFault) →
     IsWrittenOrBuffered a b bytes r → (front : List ℕ) × Appends a.contents b.contents front
-put-grows a b bytes (Ok u) p = (p.0.front, p.0.wrote)
-put-grows a b bytes (Err e) p = (p.0.1.front, p.0.1.wrote)
+put-grows a b bytes (Ok u) p = (p.0.prefix, p.0.wrote)
+put-grows a b bytes (Err e) p = (p.0.1.prefix, p.0.1.wrote)
 
 pub flush-grows : (a b : Buffered) (r : Result Unit OutputFault) → IsFlushed a b r →
     (front : List ℕ) × Appends a.contents b.contents front
-flush-grows a b (Ok u) p = (p.0.front, p.0.wrote)
-flush-grows a b (Err e) p = (p.0.1.front, p.0.1.wrote)
+flush-grows a b (Ok u) p = (p.0.prefix, p.0.wrote)
+flush-grows a b (Err e) p = (p.0.1.prefix, p.0.1.wrote)
 
 -- ---- faults of calls
 

@@ -258,7 +258,7 @@ module _ (l : Layout) (first : Block) (others : List Block) (to : ℕ)
             fill = gets.fill;
             fill' = gets.fill';
             behind = behind-front gets.rest gets.fill gets.has_onset.behind;
-            block_is = o.has.parts ∙ ap (λ (x : List ℕ). (o.sign ∷ o.text) ++ x) s.back;
+            block_is = o.has.parts ∙ ap (λ (x : List ℕ). (o.sign ∷ o.text) ++ x) s.suffix;
             block_is' = gets.new_is;
           };
           told = told;

@@ -265,7 +265,7 @@ found-records w a c l first body wanted x has =
         let layout = header-has-layout c x.spells.header x.spells.rest i in
         let rows = rows-are c v.after v.body_after x.spells.header x.spells.rest again-has i in
         let size = size-is c v.after v.body_after x.spells.header x.spells.rest again-has i in
-        let fronts = are-cut lay First x.spells.rest x.records x.spells.last x.spells.are_records in
+        let fronts = are-cut lay First x.spells.rest x.records x.spells.next_place x.spells.are_records in
         let body-is = (same-header c v.after v.body_after
         x.spells.header x.spells.rest again-has i).body_is in
         let leaves = subst (λ (z : HeaderRecord). LeavesRecords w first v.after (layout_of z) l body

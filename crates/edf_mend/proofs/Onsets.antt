@@ -44,7 +44,7 @@ begins (b ∷ rest) (inr is) = record {
 
 pub same-mark : (a b x y : List ℕ) (m n : ℕ) → NoMark a → NoMark b → IsMark m → IsMark n →
     a ++ m ∷ x ≡ b ++ n ∷ y → SameSides a b (m ∷ x) (n ∷ y)
-same-mark [] [] x y m n p q is also e = record { front = refl; back = e }
+same-mark [] [] x y m n p q is also e = record { prefix = refl; suffix = e }
 same-mark [] (d ∷ b) x y m n p q is also e =
     let first : m ≡ d = cc in
     absurd (mark-not d (subst IsMark first is) q.0)
@@ -55,8 +55,8 @@ same-mark (d ∷ a) (f ∷ b) x y m n p q is also e =
     let head : d ≡ f = cc in
     let rest : a ++ m ∷ x ≡ b ++ n ∷ y = cc in
     let s = same-mark a b x y m n p.1 q.1 is also rest in
-    let fronts : a ≡ b = s.front in
-    record { front = cc; back = s.back }
+    let fronts : a ≡ b = s.prefix in
+    record { prefix = cc; suffix = s.suffix }
 
 -- an onset is cut in one way
 pub one-onset : (block a x b y : List ℕ) → HasOnset block a x → HasOnset block b y →
@@ -67,7 +67,7 @@ one-onset block a x b y p q =
     let s = same-mark a b m.more n.more m.mark n.mark p.none q.none m.is_mark n.is_mark
     (ap (λ (w : List ℕ). a ++ w) (sym m.parts) ∙ sym p.parts ∙ q.parts
     ∙ ap (λ (w : List ℕ). b ++ w) n.parts) in
-    record { front = s.front; back = m.parts ∙ s.back ∙ sym n.parts }
+    record { prefix = s.prefix; suffix = m.parts ∙ s.suffix ∙ sym n.parts }
 
 -- the first mark of a block
 pub mark-at : (block onset rest : List ℕ) (i d : ℕ) → i < length block → NoMark (take i block) →
@@ -79,7 +79,7 @@ mark-at block onset rest i d within none is h =
     ∙ take-append-drop i block ∙ h.parts ∙ ap (λ (w : List ℕ). onset ++ w) m.parts in
     let s = same-mark (take i block) onset (drop (i + 1) block) m.more (get_or block i d) m.mark none
     h.none is m.is_mark whole in
-    sym (length-take-le i block (omega arith)) ∙ ap (λ (w : List ℕ). length w) s.front
+    sym (length-take-le i block (omega arith)) ∙ ap (λ (w : List ℕ). length w) s.prefix
 
 no-mark-in : (a x : List ℕ) (m : ℕ) → IsMark m → NoMark (a ++ m ∷ x) → ⊥
 no-mark-in [] x m is none = mark-not m is none.0
@@ -186,7 +186,7 @@ one-gets block onset a b p q =
       length-append onset (p.rest ++ replicate p.fill' 0),
       length-append onset (q.rest ++ replicate q.fill' 0),
     )) (λ j within. padded p.rest p.fill' j ∙ sym (padded p.rest p.fill j)
-    ∙ ap (λ (x : List ℕ). get_or x j 0) s.back ∙ padded q.rest q.fill j
+    ∙ ap (λ (x : List ℕ). get_or x j 0) s.suffix ∙ padded q.rest q.fill j
     ∙ sym (padded q.rest q.fill' j)) in
     p.new_is ∙ ap (λ (x : List ℕ). onset ++ x) back ∙ sym q.new_is
 
@@ -217,7 +217,7 @@ no-room block first rest behind kept onset new n k h n_is behind_is cut well ful
     sym (drop_at first rest n (sym n_is)) ∙ ap (drop n) (sym h.parts) ∙ sym behind_is in
     let s = one-onset block g.first (g.rest ++ replicate g.fill 0) first rest g.has_onset h in
     let both : kept ++ replicate k 0 ≡ g.rest ++ replicate g.fill 0 =
-    sym cut ∙ sym same ∙ sym s.back in
+    sym cut ∙ sym same ∙ sym s.suffix in
     let less = kept-less kept g.rest k g.fill both well in
     let size : length new ≡ length onset + (length g.rest + g.fill') = omega (
       arith,

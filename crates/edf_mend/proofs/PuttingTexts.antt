@@ -47,12 +47,12 @@ one-more done (x ∷ left) olds text more rest before now made after parts is ar
       done = done ++ x ∷ [];
       left = left;
       parts = parts ∙ sym (append_assoc done (x ∷ []) left);
-      rest_is = sym same.back;
+      rest_is = sym same.suffix;
       are = are.1;
       put = record {
         news = put.news ++ made ∷ [];
         same = AllZip-push IsTextSpelled done put.news x made put.same
-            (subst (λ (t : List ℕ). IsTextSpelled t made) (sym same.front) spelled);
+            (subst (λ (t : List ℕ). IsTextSpelled t made) (sym same.prefix) spelled);
         after_is = more_is ∙ ap (λ (t : List ℕ). (t ++ made) ++ 20 ∷ []) put.after_is
             ∙ append_assoc (before ++ terminated put.news) made (20 ∷ [])
             ∙ append_assoc before (terminated put.news) (made ++ 20 ∷ [])

@@ -23,7 +23,7 @@ digits-lack c (d ∷ ds) low p = (
 -- a byte that stands once parts a text in one way
 pub same-only : (c : ℕ) (a b x y : List ℕ) → Lacks c b → Lacks c y → a ++ c ∷ x ≡ b ++ c ∷ y →
     SameSides a b x y
-same-only c [] [] x y p q e = record { front = refl; back = cc }
+same-only c [] [] x y p q e = record { prefix = refl; suffix = cc }
 same-only c [] (d ∷ b) x y p q e = absurd (p.0 (let z : c ≡ d = cc in sym z))
 same-only c (d ∷ a) [] x y p q e =
     absurd (not-both c y a x q (let z : a ++ c ∷ x ≡ y = cc in sym z))
@@ -31,7 +31,7 @@ same-only c (d ∷ a) (f ∷ b) x y p q e =
     let head : d ≡ f = cc in
     let rest : a ++ c ∷ x ≡ b ++ c ∷ y = cc in
     let s = same-only c a b x y p.1 q rest in
-    record { front = let t : a ≡ b = s.front in cc; back = s.back }
+    record { prefix = let t : a ≡ b = s.prefix in cc; suffix = s.suffix }
 
 -- a decimal around its dot
 pub record Dotted (text whole fraction : List ℕ) : Type 0 where
@@ -63,13 +63,13 @@ rounded-whole old new r =
     r.value.parts in
     let s = same-only 46 r.whole r.value.whole r.nine r.value.fraction d.whole_lacks
     d.fraction_lacks d.parts in
-    subst (Lacks 46) (sym s.front) d.whole_lacks
+    subst (Lacks 46) (sym s.prefix) d.whole_lacks
 
 append-nine : (a b x y : List ℕ) → length a ≡ 9 → length b ≡ 9 → a ++ x ≡ b ++ y →
     SameSides a b x y
 append-nine a b x y p q e = record {
-  front = sym (take_at a x 9 p) ∙ ap (take 9) e ∙ take_at b y 9 q;
-  back = sym (drop_at a x 9 p) ∙ ap (drop 9) e ∙ drop_at b y 9 q;
+  prefix = sym (take_at a x 9 p) ∙ ap (take 9) e ∙ take_at b y 9 q;
+  suffix = sym (drop_at a x 9 p) ∙ ap (drop 9) e ∙ drop_at b y 9 q;
 }
 
 -- what is rounded has these parts
@@ -83,12 +83,12 @@ pub finer-parts : (whole nine finer old new : List ℕ) → Lacks 46 whole → l
 finer-parts whole nine finer old new lacks len e r =
     let sides = same-sides 46 whole r.whole (nine ++ finer) (r.nine ++ r.finer) lacks
     (rounded-whole old new r) (sym e ∙ r.old_is) in
-    let parts = append-nine nine r.nine finer r.finer len r.len sides.back in
+    let parts = append-nine nine r.nine finer r.finer len r.len sides.suffix in
     record {
       value = subst (λ (x : List ℕ). IsSeconds x r.nanos)
-          (ap (λ (x : List ℕ). x ++ 46 ∷ r.nine) (sym sides.front)
-          ∙ ap (λ (x : List ℕ). whole ++ 46 ∷ x) (sym parts.front)) r.value;
-      finer_is = parts.back;
+          (ap (λ (x : List ℕ). x ++ 46 ∷ r.nine) (sym sides.prefix)
+          ∙ ap (λ (x : List ℕ). whole ++ 46 ∷ x) (sym parts.prefix)) r.value;
+      finer_is = parts.suffix;
     }
 
 -- none is rounded where the front is not read, or is too large for one more
@@ -134,7 +134,7 @@ pub fine-long : (text whole fraction : List ℕ) → IsDecimalFault text TooFine
 fine-long text whole fraction (w, f, d, coarse) lacks e few =
     let p = dotted text w f d coarse in
     let s = same-sides 46 whole w fraction f lacks p.whole_lacks (sym e ∙ p.parts) in
-    coarse (short-fine f (omega (arith, ap (λ (x : List ℕ). length x) s.back)))
+    coarse (short-fine f (omega (arith, ap (λ (x : List ℕ). length x) s.suffix)))
 
 -- ---- in one way
 

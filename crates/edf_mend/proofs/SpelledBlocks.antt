@@ -212,8 +212,8 @@ same-lists (t ∷ ts) (u ∷ us) rest later p q none none' e =
     ≡ tal_bytes u ++ (flat_map tal_bytes us ++ later) = e ∙ regroup u us later in
     let sides = same-front (flat_map tal_bytes (t ∷ ts) ++ rest) (flat_map tal_bytes ts ++ rest)
     (flat_map tal_bytes us ++ later) t u p.0 q.0 (regroup t ts rest) whole in
-    let first : t ≡ u = same-tal t u p.0 q.0 sides.front in
-    let more = same-lists ts us rest later p.1 q.1 none none' sides.back in
+    let first : t ≡ u = same-tal t u p.0 q.0 sides.prefix in
+    let more = same-lists ts us rest later p.1 q.1 none none' sides.suffix in
     let others : ts ≡ us = more.tals in
     record { tals = cc; rest_is = more.rest_is }
 

@@ -29,7 +29,7 @@ use Rattle.edf_mend.specs.declared.tally.Tally.{Tally}
 use Rattle.edf_mend.specs.declared.wanted.Wanted.{Wanted}
 
 nothing : (b : Buffered) → Writes b b [] b.held
-nothing b = record { front = []; wrote = Appends-nil b.contents; parts = append-nil b.held }
+nothing b = record { prefix = []; wrote = Appends-nil b.contents; parts = append-nil b.held }
 
 module _ (w : Wanted) (first t : HeaderTexts) (added : ℕ) (o : OpenFragment) (shape : Shape)
     (moves : Bool) (left : Option (List ℕ)) (z : Buffered) (empty : z.held ≡ [])
@@ -40,7 +40,7 @@ module _ (w : Wanted) (first t : HeaderTexts) (added : ℕ) (o : OpenFragment) (
   -- in the header
   pub stops-first : (c : Buffered) → ((held : List ℕ) × Writes z c header held) → Stops c
   stops-first c x = record {
-    taken = x.1.front;
+    taken = x.1.prefix;
     wrote = x.1.wrote;
     front = inl (x.0, sym header_is ∙ ap (λ (y : List ℕ). y ++ header) (sym empty) ∙ x.1.parts);
   }
@@ -62,7 +62,7 @@ module _ (w : Wanted) (first t : HeaderTexts) (added : ℕ) (o : OpenFragment) (
     stops-at c mid olds news s ledger bytes more held read sizes remade wrote parts =
         let x = writes-then z a c header bytes held put wrote in
         record {
-          taken = x.front;
+          taken = x.prefix;
           wrote = x.wrote;
           front = inr (record {
             shape = shape;
@@ -79,7 +79,7 @@ module _ (w : Wanted) (first t : HeaderTexts) (added : ℕ) (o : OpenFragment) (
             back = held ++ more;
             front_is = (λ i. sym header_is i ++ parts i) ∙ sym (append_assoc header bytes more)
                 ∙ ap (λ (y : List ℕ). (y ++ (header ++ bytes)) ++ more) (sym empty)
-                ∙ ap (λ (y : List ℕ). y ++ more) x.parts ∙ append_assoc x.front held more;
+                ∙ ap (λ (y : List ℕ). y ++ more) x.parts ∙ append_assoc x.prefix held more;
           });
         }
 

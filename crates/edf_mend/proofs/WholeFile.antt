@@ -215,7 +215,7 @@ module _ (w : Wanted) (first t : HeaderTexts) (steps : List RuleEdits) (added : 
       spells o is_header same_layout = record {
         header = o;
         rest = concatenated u.carries.all.so.news;
-        last = put_of.last;
+        next_place = put_of.last;
         is_header = IsHeader-more (header_bytes t) (concatenated u.carries.all.so.news) o is_header;
         key = ap (λ (x : Layout). x.key) same_layout;
         are_records = subst (λ (x : Layout). BeginWithDataRecords x First (concatenated

@@ -70,8 +70,8 @@ from-both bytes o x onset (Some text) lacks e t =
     let same = same-sides 21 o onset x text lacks (time-lacks 21 onset (omega arith) t.is_onset)
     (sym e ∙ t.parts) in
     record {
-      onset = subst IsTime (sym same.front) t.is_onset;
-      duration = subst IsTime (sym same.back) t.is_duration;
+      onset = subst IsTime (sym same.prefix) t.is_onset;
+      duration = subst IsTime (sym same.suffix) t.is_duration;
     }
 
 -- ---- heads
@@ -128,7 +128,7 @@ pub front-sides : (bytes body rest head texts later : List ℕ) (t : WrittenTal)
 front-sides bytes body rest head texts later t lacks e lacks' f w g =
     same-sides 20 head (head_of t) texts (terminated t.texts) lacks'
     (head-lacks 20 t (omega arith) w)
-    (sym f ∙ (front-body bytes body rest later t lacks e w g).front)
+    (sym f ∙ (front-body bytes body rest later t lacks e w g).prefix)
 
 pub no-zero : (bytes : List ℕ) → Lacks 0 bytes → NoWrittenTal bytes
 no-zero bytes lacks t rest w e =
@@ -138,13 +138,13 @@ pub no-twenty : (bytes body rest : List ℕ) → Lacks 0 body → bytes ≡ body
     Lacks 20 body → NoWrittenTal bytes
 no-twenty bytes body rest lacks e none t later w f =
     not-both 20 body (head_of t) (terminated t.texts) none
-    (front-body bytes body rest later t lacks e w f).front
+    (front-body bytes body rest later t lacks e w f).prefix
 
 pub no-end : (bytes body rest head texts : List ℕ) → Lacks 0 body → bytes ≡ body ++ 0 ∷ rest →
     Lacks 20 head → body ≡ head ++ 20 ∷ texts → (IsEmptyOrEndsWith20 texts → ⊥) → NoWrittenTal bytes
 no-end bytes body rest head texts lacks e lacks' f bad t later w g =
     bad (subst IsEmptyOrEndsWith20
-    (sym (front-sides bytes body rest head texts later t lacks e lacks' f w g).back)
+    (sym (front-sides bytes body rest head texts later t lacks e lacks' f w g).suffix)
     (IsEnded-ended t.texts))
 
 pub no-head : (bytes body rest head texts : List ℕ) → Lacks 0 body → bytes ≡ body ++ 0 ∷ rest →
@@ -155,7 +155,7 @@ no-head bytes body rest head texts lacks e lacks' f bad t later w g =
     let same = front-sides bytes body rest head texts later t lacks e lacks' f w g in
     bad t.sign t.onset t.duration (record {
       times = t.onset ++ duration_part t.duration;
-      parts = same.front;
+      parts = same.prefix;
       is_sign = w.sign;
       are_times = record { parts = refl; is_onset = w.onset; is_duration = w.duration };
     })
@@ -230,8 +230,8 @@ same-texts (x ∷ xs) [] p q e =
 same-texts (x ∷ xs) (y ∷ ys) p q e =
     let s = same-sides 20 x y (terminated xs) (terminated ys) (Lacks-text x p.0) (Lacks-text y q.0)
     (sym (ended-more x xs) ∙ e ∙ ended-more y ys) in
-    let more = same-texts xs ys p.1 q.1 s.back in
-    let first : x ≡ y = s.front in
+    let more = same-texts xs ys p.1 q.1 s.suffix in
+    let first : x ≡ y = s.prefix in
     cc
 
 record SameTimes (o p : List ℕ) (d e : Option (List ℕ)) : Type 0 where
@@ -248,19 +248,19 @@ same-times o p (Some x) None a b e =
     absurd (not-both 21 p o x b (sym (append-nil p) ∙ sym e))
 same-times o p (Some x) (Some y) a b e =
     let s = same-sides 21 o p x y a b e in
-    record { onset = s.front; duration = ap (λ (t : List ℕ). Some t) s.back }
+    record { onset = s.prefix; duration = ap (λ (t : List ℕ). Some t) s.suffix }
 
 pub same-tal : (t u : WrittenTal) → IsWritten t → IsWritten u → body_of t ≡ body_of u → t ≡ u
 same-tal t u p q e =
     let heads = same-heads t u p q e in
     let whole : t.sign ∷ (t.onset ++ duration_part t.duration)
-    ≡ u.sign ∷ (u.onset ++ duration_part u.duration) = heads.front in
+    ≡ u.sign ∷ (u.onset ++ duration_part u.duration) = heads.prefix in
     let sign : t.sign ≡ u.sign = cc in
     let rest : t.onset ++ duration_part t.duration ≡ u.onset ++ duration_part u.duration = cc in
     let times = same-times t.onset u.onset t.duration u.duration
     (time-lacks 21 t.onset (omega arith) p.onset) (time-lacks 21 u.onset (omega arith) q.onset) rest
     in
-    let texts = same-texts t.texts u.texts p.texts q.texts heads.back in
+    let texts = same-texts t.texts u.texts p.texts q.texts heads.suffix in
     λ i. record {
       sign = sign i;
       onset = times.onset i;
