@@ -25,7 +25,7 @@ module _ (front : List ℕ) (h : HeaderRecord) (is_header : IsHeader front h [])
     rest = done ++ left;
     records = records;
     next_place = last;
-    left = left;
+    remaining = left;
     is_header = IsHeader-more front (done ++ left) h is_header;
     are_records = AreDataRecords-more (layout_of h) First last done [] left records are;
   }
