@@ -3,7 +3,7 @@
 ghost use Rattle.std.specs.Prelude.{◌≡◌, ◌≤◌, length};
 ghost use Rattle.edf_fragment.specs.Sound.{IsValidRecord};
 ghost use Rattle.edf_canonical.specs.File.{block_of, samples_of, filled_block, record_text};
-ghost use Rattle.edf_canonical.specs.Kept.{with_samples};
+ghost use Rattle.edf_canonical.specs.Planned.{with_samples};
 ghost use Rattle.edf_canonical.specs.Output.{buffered, IsWrittenOrBuffered};
 
 use crate::fault::OutputFault;

@@ -2,7 +2,7 @@
 
 ghost use Rattle.std.specs.Prelude.{List};
 ghost use Rattle.edf_fragment.specs.Fragment.{DataRecord};
-ghost use Rattle.edf_canonical.specs.Kept.{annotated};
+ghost use Rattle.edf_canonical.specs.Planned.{annotated};
 ghost use Rattle.edf_canonical.specs.Measure.{IsMeasuredSoFar};
 ghost use Rattle.edf_canonical.specs.Output.{buffered};
 ghost use Rattle.edf_canonical.specs.Sending.{PutsNext, PutsAll, Sends};
@@ -10,9 +10,9 @@ ghost use Rattle.edf_canonical.specs.Source.{at};
 
 use crate::data_record::put_record;
 use crate::fault::{OutputFault, SendFault};
-use crate::kept::{FilePlan, kept_or};
 use crate::measure::Measure;
 use crate::output::{Buffer, flush, put};
+use crate::plan::{FilePlan, planned_or};
 use crate::source::Source;
 use edf_fragment::{Output, Record};
 use std::alloc::Global;
@@ -38,7 +38,7 @@ fn put_next<W: Output>(
     if nth >= whole.records as usize {
         return Ok(None);
     }
-    let annotated = kept_or(plan.records, nth, data_record);
+    let annotated = planned_or(plan.records, nth, data_record);
     let measure = Measure::after(so_far, annotated);
     if !measure.is_within_measure(&whole) {
         return Ok(None);

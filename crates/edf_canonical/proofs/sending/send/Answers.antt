@@ -1,6 +1,6 @@
 use Rattle.std.proofs.Common.{[], refl, ◌∙◌, inl, inr}
 use Rattle.std.proofs.lemmas.Result.{err_from_is_err_and}
-use Rattle.edf_canonical.specs.Kept.{annotated}
+use Rattle.edf_canonical.specs.Planned.{annotated}
 use Rattle.edf_canonical.specs.Measure.{records_text}
 use Rattle.edf_canonical.proofs.Measures.{all_first}
 use Rattle.edf_canonical.proofs.PutNext.{none-first}
