@@ -42,8 +42,8 @@ module _ {S F R E : Type 0}
       × ¬ MayBePrefix (annotated planned (records ++ r ∷ [])) whole)
       ⊎ (Answers answers mid to (Ok None) × ¬ IsMeasured (annotated planned records) whole)
 
-  -- the fault after these data records: of the source, of one that is unlike, or of the output; where
-  -- the source had ended, they were all, and what was held back could not be written
+  -- the fault after these data records: of the source, of one that is unlike, or of the output;
+  -- where the source had ended, they were all, and what was held back could not be written
   abbrev pub StopsFor : At S F R → List DataRecord → SendFault E → Type 0
   StopsFor mid records (Source fault) = Answers answers mid to (Err fault)
   StopsFor mid records Unlike = IsUnlike mid records
@@ -112,8 +112,8 @@ pub record IsPutNext (before after : Buffered) (whole : Measure) (planned record
   pub counted : after.failures ≡ before.failures
 
 -- or a prefix of it
-pub record StopsInNext (before after : Buffered) (whole : Measure) (planned records : List DataRecord)
-    (r : DataRecord) : Type 0 where
+pub record StopsInNext (before after : Buffered) (whole : Measure)
+    (planned records : List DataRecord) (r : DataRecord) : Type 0 where
   pub first : MayBePrefix (annotated planned (records ++ r ∷ [])) whole
   pub remaining : List ℕ
   pub wrote : Writes before after (next_text whole planned records r) remaining

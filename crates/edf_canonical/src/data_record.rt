@@ -45,8 +45,8 @@ fn put_block<W: Output>(
     put_zeros(out, held, size - block.len())
 }
 
-/// Puts a data record as it is in a canonical file: its samples, the block of `annotated`, which has
-/// its start and annotations, and then zeros, `size` bytes from the block on.
+/// Puts a data record as it is in a canonical file: its samples, the block of `annotated`, and then
+/// zeros, `size` bytes from the block on. Its start and annotations are those of `annotated`.
 ///
 /// # Errors
 /// `Memory` where memory ran out, `Write` where a write failed; a prefix of the data record may

@@ -19,8 +19,8 @@ put_record-requires g c =
     let few : IsWithinMeasure c.after-measure.result whole =
     c.is_within_measure.ensures.0 c.if-not-is_within_measure.false in
     subst (λ n. length (block_of n one) ≤ 2 * whole.block_samples) (sym c.second-base.ensures)
-    (block-held whole kept c.count-nth.result c.args.data_record.now one c.planned_or-annotated.ensures
-    c.after-measure.result c.after-measure.ensures.holds few)
+    (block-held whole kept c.count-nth.result c.args.data_record.now one
+    c.planned_or-annotated.ensures c.after-measure.result c.after-measure.ensures.holds few)
 
 pub returns-then-nth-whole : goal.returns-then-nth-whole
 returns-then-nth-whole g c records before = (
@@ -41,14 +41,15 @@ returns-then-not-is_within_measure g c records before = (
   refl,
   λ may.
       let kept = c.args.plan.now.records.now in
+      let whole = c.args.plan.now.measure in
       let count = c.count-nth.ensures (annotated kept records) before
       ∙ annotated-length kept records in
-      let measured = one-measured c.args.plan.now.measure kept c.count-nth.result c.args.data_record.now
-      c.planned_or-annotated.result.now c.planned_or-annotated.ensures records c.after-measure.result
-      count (c.after-measure.ensures.measured (annotated kept records) before
-      (omega (arith, c.if-nth-whole.false, c.args.plan.now.measure.records_few, count))) in
+      let measured = one-measured whole kept c.count-nth.result c.args.data_record.now
+      c.planned_or-annotated.result.now c.planned_or-annotated.ensures records
+      c.after-measure.result count (c.after-measure.ensures.measured (annotated kept records) before
+      (omega (arith, c.if-nth-whole.false, whole.records_few, count))) in
       let e : false ≡ true = sym c.if-not-is_within_measure.true
-      ∙ c.is_within_measure.ensures.1 (first-no-more _ c.after-measure.result c.args.plan.now.measure measured
+      ∙ c.is_within_measure.ensures.1 (first-no-more _ c.after-measure.result whole measured
       may) in
       absurd (let f = e in cc),
 )
@@ -101,8 +102,8 @@ returns g c records before =
           (c.after-measure.ensures.measured (annotated kept records) before
           (omega (arith, c.if-nth-whole.false, c.args.plan.now.measure.records_few, count)));
       no_more = c.is_within_measure.ensures.0 c.if-not-is_within_measure.false;
-      sound = λ k sound. one-sound whole kept nth r one c.planned_or-annotated.ensures records k count
-          sound c.after-measure.ensures.valid;
+      sound = λ k sound. one-sound whole kept nth r one c.planned_or-annotated.ensures records k
+          count sound c.after-measure.ensures.valid;
       wrote = subst (λ x. Writes b d x d.held) text c.in_ok-put_record.ensures.0;
       counted = c.in_ok-put_record.ensures.1;
     }
