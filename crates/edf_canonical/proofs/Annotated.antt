@@ -9,7 +9,7 @@ use Rattle.edf_tal.specs.Canonical.{tals_text}
 use Rattle.edf_fragment.specs.Fragment.{DataRecord}
 use Rattle.edf_fragment.specs.Sound.{IsSoundRecord, IsValidRecord}
 use Rattle.edf_canonical.specs.File.{block_of, record_text}
-use Rattle.edf_canonical.specs.Kept.{annotated, with_samples, annotated_one}
+use Rattle.edf_canonical.specs.Planned.{annotated, with_samples, annotated_one}
 
 pub annotated-none : (kept : List DataRecord) → annotated kept [] ≡ []
 annotated-none [] = refl

@@ -9,7 +9,7 @@ use Rattle.edf_header.specs.Key.{Key}
 use Rattle.edf_fragment.specs.Fragment.{DataRecord}
 use Rattle.edf_fragment.specs.Sound.{IsSoundRecord, IsValidRecord}
 use Rattle.edf_canonical.specs.File.{second_of, block_of, record_text}
-use Rattle.edf_canonical.specs.Kept.{annotated, annotated_one, with_samples}
+use Rattle.edf_canonical.specs.Planned.{annotated, annotated_one, with_samples}
 use Rattle.edf_canonical.specs.Measure.{IsMeasured, IsMeasuredSoFar, IsWithinMeasure, MayBePrefix}
 use Rattle.edf_canonical.specs.Measure.{HoldsBlock, records_text}
 use Rattle.edf_canonical.specs.Output.{Buffered, Writes}

@@ -3,7 +3,7 @@ use Rattle.std.proofs.Common.{◌≡◌, ◌∙◌, ◌⊎◌, ℕ, List, [], �
 use Rattle.std.proofs.Common.{append_assoc, append-nil, inl, inr, Option, Some, None, Result}
 use Rattle.std.proofs.Common.{Ok, Err}
 use Rattle.edf_fragment.specs.Fragment.{DataRecord}
-use Rattle.edf_canonical.specs.Kept.{annotated}
+use Rattle.edf_canonical.specs.Planned.{annotated}
 use Rattle.edf_canonical.specs.Output.{CountsOutputFault}
 use Rattle.edf_canonical.specs.Sending.{SendsAll, StopsAfter, StopsFor, CountsSendFault}
 use Rattle.edf_canonical.specs.Source.{At, Answers, Gives}

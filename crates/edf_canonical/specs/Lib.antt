@@ -1,6 +1,6 @@
 pub mod File
 pub mod Output
-pub mod Kept
+pub mod Planned
 pub mod Measure
 pub mod Source
 pub mod Sending

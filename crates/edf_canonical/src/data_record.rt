@@ -3,7 +3,7 @@
 ghost use Rattle.std.specs.Prelude.{◌≡◌, ◌≤◌, length};
 ghost use Rattle.edf_fragment.specs.Sound.{IsValidRecord};
 ghost use Rattle.edf_canonical.specs.File.{block_of, samples_of, filled_block, record_text};
-ghost use Rattle.edf_canonical.specs.Kept.{with_samples};
+ghost use Rattle.edf_canonical.specs.Planned.{with_samples};
 ghost use Rattle.edf_canonical.specs.Output.{buffered, IsWrittenOrBuffered};
 
 use crate::fault::OutputFault;
@@ -45,8 +45,8 @@ fn put_block<W: Output>(
     put_zeros(out, held, size - block.len())
 }
 
-/// Puts a data record as it is in a canonical file: its samples, the block of `annotated`, which has
-/// its start and annotations, and then zeros, `size` bytes from the block on.
+/// Puts a data record as it is in a canonical file: its samples, the block of `annotated`, and then
+/// zeros, `size` bytes from the block on. Its start and annotations are those of `annotated`.
 ///
 /// # Errors
 /// `Memory` where memory ran out, `Write` where a write failed; a prefix of the data record may

@@ -2,7 +2,7 @@
 
 ghost use Rattle.std.specs.Prelude.{List};
 ghost use Rattle.edf_fragment.specs.Fragment.{DataRecord};
-ghost use Rattle.edf_canonical.specs.Kept.{annotated};
+ghost use Rattle.edf_canonical.specs.Planned.{annotated};
 ghost use Rattle.edf_canonical.specs.Measure.{IsMeasuredSoFar};
 ghost use Rattle.edf_canonical.specs.Output.{buffered};
 ghost use Rattle.edf_canonical.specs.Sending.{PutsNext, PutsAll, Sends};
@@ -10,16 +10,16 @@ ghost use Rattle.edf_canonical.specs.Source.{at};
 
 use crate::data_record::put_record;
 use crate::fault::{OutputFault, SendFault};
-use crate::kept::{FilePlan, kept_or};
 use crate::measure::Measure;
 use crate::output::{Buffer, flush, put};
+use crate::plan::{FilePlan, planned_or};
 use crate::source::Source;
 use edf_fragment::{Output, Record};
 use std::alloc::Global;
 
 /// Puts one data record more, with its planned start and annotations where it has such. Returns the
-/// measure with it, or `None` where it can't be among the first of those that were measured; then it
-/// is not put.
+/// measure with it, or `None`, and does not put it, where it can't be among the first of those that
+/// were measured.
 fn put_next<W: Output>(
     out: &mut W,
     held: &mut Buffer,
@@ -30,15 +30,15 @@ fn put_next<W: Output>(
     ensures { (records : List DataRecord) →
         IsMeasuredSoFar (annotated plan.now.records.now records) so_far →
         PutsNext (buffered W.Output out.old held.old.bytes.items)
-        (buffered W.Output out.new held.new.bytes.items) plan.now.measure plan.now.records.now records
-        data_record.now result }
+        (buffered W.Output out.new held.new.bytes.items) plan.now.measure plan.now.records.now
+        records data_record.now result }
 {
     let whole = plan.measure;
     let nth = Measure::count(&so_far);
     if nth >= whole.records as usize {
         return Ok(None);
     }
-    let annotated = kept_or(plan.records, nth, data_record);
+    let annotated = planned_or(plan.records, nth, data_record);
     let measure = Measure::after(so_far, annotated);
     if !measure.is_within_measure(&whole) {
         return Ok(None);
@@ -89,12 +89,12 @@ fn put_all<F, R, S: Source<F, R>, W: Output>(
     }
 }
 
-/// Writes a header, and then all data records of a source, through a buffer of 64 KiB. The writer is
-/// not flushed. One data record is in memory at a time.
+/// Writes a header, and then all data records of a source, through a buffer of 64 KiB. The writer
+/// is not flushed. One data record is in memory at a time.
 ///
 /// Where the plan has an nth data record, its start and annotations are written with the samples of
-/// the source's nth; that both are the same data record is for the source to see. Planned ones after
-/// the source's last are left out. What is written must be what was measured.
+/// the source's nth. That both are the same data record is for the source to check. Planned ones
+/// after the source's last are left out. What is written must be what was measured.
 ///
 /// # Errors
 /// `Source` where the source has a fault; `Unlike` where a data record can't be among the first of

@@ -5,8 +5,8 @@ ghost use Rattle.edf_fragment.specs.Fragment.{DataRecord};
 
 use edf_fragment::Record;
 
-/// An iterator over data records. What it reads is lent to each call: a file that was opened and its
-/// input, or two other things.
+/// An iterator over data records. What it reads is lent to each call: a file that was opened, and
+/// its input, or two other things.
 pub trait Source<F, R> {
     /// The reason why it stops early.
     type Fault;

@@ -44,7 +44,7 @@ pub record FailsAfterHeader (input rest : Option (List ℕ)) (fault : FragmentFa
   pub header : ReadsHeader input mid layout
   pub records : FailsAfterRecords layout mid rest fault
 
--- where the bytes are known, this is their first fault, unless it is a failed read or want of memory
+-- where the bytes are known, this is their first fault; `Read` and `Memory` say nothing of them
 abbrev pub IsFirstFaultIfKnown : Option (List ℕ) → FragmentFault → Type 0
 IsFirstFaultIfKnown input Read = Unit {0}
 IsFirstFaultIfKnown input Memory = Unit {0}

@@ -95,7 +95,7 @@ pub fn records_so_far()
 {}
 
 /// The answers of a reader join to that of the whole: the bytes begin with the data records that
-/// were read one by one, and after them `None` and each fault mean what they mean for all the input.
+/// were read one by one, and after them `None` and each fault mean what they mean for the whole.
 pub fn answers_join()
     ensures none { (l : Layout) (input : Option (List ℕ)) →
         HasReadRecords l input input [] initial_progress }
@@ -115,8 +115,8 @@ pub fn answers_join()
         IsOpenFault input rest fault → ReadsFragmentFault input rest fault }
 {}
 
-/// Where all the bytes are known, they are the file of the fragment that was read, or have the fault
-/// that was met as their first, unless a read failed or memory ran out.
+/// A fragment that was read from known bytes is theirs, and a fault that was met is their first,
+/// unless a read failed or memory ran out.
 pub fn known_bytes()
     ensures fragment { (bytes : List ℕ) (rest : Option (List ℕ)) (l : Layout)
         (records : List DataRecord) → ReadsFragment (Some bytes) rest l records →

@@ -20,7 +20,7 @@
 //! - [`Input`], [`Output`] are readers and writers that count the calls that failed, and
 //!   [`Counted`] is one of any reader or writer of std. [`saturating_increment`] counts one more.
 //! - [`Remark`] is the cause of a line of an output.
-//! - [`fill`] fills a buffer, with a [`Filled`] as the answer, and [`send`] writes all of some bytes.
+//! - [`fill`] fills a buffer and returns a [`Filled`], and [`send`] writes all of some bytes.
 //! - [`each_parses_to_one`], [`one_fragment`], [`one_fault`], [`no_fault_where_spelled`],
 //!   [`records_are_sound`], [`records_so_far`], [`answers_join`], [`known_bytes`] and
 //!   [`signals_in_turn`] are laws: functions that do nothing, each with a law for a contract.

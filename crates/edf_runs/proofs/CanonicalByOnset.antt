@@ -10,7 +10,7 @@ use Rattle.edf_canonical.specs.Measure.{IsMeasured}
 use Rattle.edf_runs.specs.Canonical.{StartAlike}
 use Rattle.edf_runs.specs.OnsetRead.{without_samples}
 use Rattle.edf_runs.specs.PlanByOnset.{StaysAsPlanned, WritesByOnset, WritesAlike}
-use Rattle.edf_canonical.specs.Kept.{annotated}
+use Rattle.edf_canonical.specs.Planned.{annotated}
 use Rattle.edf_runs.proofs.ByOnset.{stay-alike, are-one-however-spread}
 use Rattle.edf_runs.proofs.KeptByOnset.{bare-annotated}
 use Rattle.edf_runs.proofs.KeptWhole.{alike-bare}

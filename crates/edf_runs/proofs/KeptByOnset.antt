@@ -15,7 +15,7 @@ use Rattle.edf_runs.proofs.Order.{order-all}
 use Rattle.edf_runs.specs.ByOnset.{annotations_of, AreAlike, assigned, each_assigned, is_between}
 use Rattle.edf_runs.specs.ByOnset.{StaySound}
 use Rattle.edf_runs.specs.OnsetRead.{without_samples}
-use Rattle.edf_canonical.specs.Kept.{annotated, with_samples}
+use Rattle.edf_canonical.specs.Planned.{annotated, with_samples}
 
 -- ---- what was kept of data records
 

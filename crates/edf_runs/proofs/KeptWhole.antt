@@ -10,7 +10,7 @@ use Rattle.edf_fragment.specs.Sound.{AreSoundFrom, IsSoundRecord}
 use Rattle.edf_runs.specs.ByOnset.{AreAlike}
 use Rattle.edf_runs.specs.Canonical.{StartAlike}
 use Rattle.edf_runs.specs.OnsetRead.{without_samples}
-use Rattle.edf_canonical.specs.Kept.{annotated}
+use Rattle.edf_canonical.specs.Planned.{annotated}
 
 -- ---- starts
 

@@ -19,7 +19,7 @@ use Rattle.edf_fragment.specs.declared.open_fragment.OpenFragment.{OpenFragment}
 use Rattle.edf_fragment.specs.declared.streams.Input.{Ghosts}
 use Rattle.edf_fragment.proofs.Fragments.{one_more_read, all_read, reads_none}
 use Rattle.edf_fragment.proofs.Sound.{read-front, spelled-sound}
-use Rattle.edf_canonical.specs.Kept.{annotated}
+use Rattle.edf_canonical.specs.Planned.{annotated}
 use Rattle.edf_canonical.specs.Measure.{IsMeasured, MayBePrefix, planned_text}
 use Rattle.edf_canonical.specs.Output.{WritesPrefix}
 use Rattle.edf_canonical.specs.Sending.{SendsAll, StopsAfter, CountsSendFault}

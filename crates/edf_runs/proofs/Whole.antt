@@ -3,7 +3,7 @@ use Rattle.std.proofs.Common.{◌≡◌, ℕ, inl, inr, List, [], ◌∷◌, len
 use Rattle.std.proofs.Common.{Some, None, Ok, Err, Result, ◌⊎◌}
 use Rattle.edf_header.specs.Key.{Key, IsKey}
 use Rattle.edf_runs.specs.Canonical.{AreAsPlanned, StartAlike}
-use Rattle.edf_canonical.specs.Kept.{annotated}
+use Rattle.edf_canonical.specs.Planned.{annotated}
 use Rattle.edf_canonical.proofs.Annotated.{annotated-front}
 use Rattle.edf_header.specs.Header.{Layout}
 use Rattle.edf_fragment.specs.Fragment.{DataRecord, IsFragmentFile}

@@ -13,7 +13,7 @@ use Rattle.edf_canonical.specs.File.{IsCanonicalFile}
 use Rattle.edf_canonical.specs.Measure.{IsMeasured, MayBePrefix, planned_text}
 use Rattle.edf_canonical.specs.Output.{WritesPrefix}
 use Rattle.edf_runs.specs.Again.{IsNotReopened}
-use Rattle.edf_canonical.specs.Kept.{annotated}
+use Rattle.edf_canonical.specs.Planned.{annotated}
 use Rattle.edf_runs.specs.declared.canonical_plan.CanonicalPlan.{CanonicalPlan}
 use Rattle.edf_runs.specs.declared.fault.WriteFault.{WriteFault}
 use Rattle.edf_runs.specs.declared.fault.WriteFault.TheVariants.{Undated, Changed}

@@ -7,7 +7,7 @@ use crate::fault::WriteFault;
 use crate::reading::{fault_again, next_at};
 use crate::run::Run;
 use crate::tally::Tally;
-use edf_canonical::{Source, kept_or};
+use edf_canonical::{Source, planned_or};
 use edf_fragment::{Input, OpenFragment, Record};
 use edf_header::MOST_RECORDS;
 
@@ -37,7 +37,7 @@ impl<'k, R: Input> Source<OpenFragment, R> for WholeAgain<'k> {
     ) -> Result<Option<Record>, WriteFault> {
         match fragment.next(input) {
             Ok(Some(data_record)) => {
-                let kept = kept_or(self.kept, self.nth, &data_record);
+                let kept = planned_or(self.kept, self.nth, &data_record);
                 if kept.start().nanos() != data_record.start().nanos() {
                     return Err(WriteFault::Changed);
                 }

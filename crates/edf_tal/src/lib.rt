@@ -17,7 +17,7 @@
 //! - [`write_block`] writes a canonical block, and [`block_len`] returns its length.
 //! - [`same_notes`] compares two lists.
 //! - [`MOST_ANNOTATIONS`] and the other constants limit a data record and its canonical block.
-//! - [`laws`] says that blocks have one answer, and that a written block parses to what was written.
+//! - [`laws`] says that blocks have one answer, and that a written block parses to its source.
 #![tactic(auto)]
 
 mod blocks;

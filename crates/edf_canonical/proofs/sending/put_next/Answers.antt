@@ -3,7 +3,7 @@ use Rattle.std.proofs.Common.{refl, sym, ◌∙◌, subst, arith}
 use Rattle.std.specs.List.{slice_get}
 use Rattle.std.proofs.lemmas.Result.{err_from_is_err_and}
 use Rattle.edf_canonical.specs.File.{block_of}
-use Rattle.edf_canonical.specs.Kept.{annotated, annotated_one}
+use Rattle.edf_canonical.specs.Planned.{annotated, annotated_one}
 use Rattle.edf_canonical.specs.Measure.{IsWithinMeasure}
 use Rattle.edf_canonical.specs.Output.{buffered, Writes}
 use Rattle.edf_canonical.proofs.Annotated.{annotated-length}
@@ -15,12 +15,12 @@ pub put_record-requires : goal.put_record-requires
 put_record-requires g c =
     let kept = c.args.plan.now.records.now in
     let whole = c.args.plan.now.measure in
-    let one = c.kept_or-annotated.result.now in
+    let one = c.planned_or-annotated.result.now in
     let few : IsWithinMeasure c.after-measure.result whole =
     c.is_within_measure.ensures.0 c.if-not-is_within_measure.false in
     subst (λ n. length (block_of n one) ≤ 2 * whole.block_samples) (sym c.second-base.ensures)
-    (block-held whole kept c.count-nth.result c.args.data_record.now one c.kept_or-annotated.ensures
-    c.after-measure.result c.after-measure.ensures.holds few)
+    (block-held whole kept c.count-nth.result c.args.data_record.now one
+    c.planned_or-annotated.ensures c.after-measure.result c.after-measure.ensures.holds few)
 
 pub returns-then-nth-whole : goal.returns-then-nth-whole
 returns-then-nth-whole g c records before = (
@@ -41,14 +41,15 @@ returns-then-not-is_within_measure g c records before = (
   refl,
   λ may.
       let kept = c.args.plan.now.records.now in
+      let whole = c.args.plan.now.measure in
       let count = c.count-nth.ensures (annotated kept records) before
       ∙ annotated-length kept records in
-      let measured = one-measured c.args.plan.now.measure kept c.count-nth.result c.args.data_record.now
-      c.kept_or-annotated.result.now c.kept_or-annotated.ensures records c.after-measure.result
-      count (c.after-measure.ensures.measured (annotated kept records) before
-      (omega (arith, c.if-nth-whole.false, c.args.plan.now.measure.records_few, count))) in
+      let measured = one-measured whole kept c.count-nth.result c.args.data_record.now
+      c.planned_or-annotated.result.now c.planned_or-annotated.ensures records
+      c.after-measure.result count (c.after-measure.ensures.measured (annotated kept records) before
+      (omega (arith, c.if-nth-whole.false, whole.records_few, count))) in
       let e : false ≡ true = sym c.if-not-is_within_measure.true
-      ∙ c.is_within_measure.ensures.1 (first-no-more _ c.after-measure.result c.args.plan.now.measure measured
+      ∙ c.is_within_measure.ensures.1 (first-no-more _ c.after-measure.result whole measured
       may) in
       absurd (let f = e in cc),
 )
@@ -57,7 +58,7 @@ pub returns-in_err-put_record : goal.returns-in_err-put_record
 returns-in_err-put_record g c records before =
     let kept = c.args.plan.now.records.now in
     let r = c.args.data_record.now in
-    let one = c.kept_or-annotated.result.now in
+    let one = c.planned_or-annotated.result.now in
     let whole = c.args.plan.now.measure in
     let nth = c.count-nth.result in
     let m = c.after-measure.result in
@@ -65,10 +66,10 @@ returns-in_err-put_record g c records before =
     let d = buffered g.W.Output c.put_record.new.out c.put_record.new.held.bytes.items in
     let count : nth ≡ length records = c.count-nth.ensures (annotated kept records) before
     ∙ annotated-length kept records in
-    let measured = one-measured whole kept nth r one c.kept_or-annotated.ensures records m count
+    let measured = one-measured whole kept nth r one c.planned_or-annotated.ensures records m count
     (c.after-measure.ensures.measured (annotated kept records) before
     (omega (arith, c.if-nth-whole.false, c.args.plan.now.measure.records_few, count))) in
-    let text = one-text whole kept nth r one c.kept_or-annotated.ensures records
+    let text = one-text whole kept nth r one c.planned_or-annotated.ensures records
     c.second-base.result count c.second-base.ensures in
     let e = c.in_err-put_record.ensures in
     let err = err_from_is_err_and c.from_residual.result c.from_residual.ensures.1 in
@@ -86,7 +87,7 @@ pub returns : goal.returns
 returns g c records before =
     let kept = c.args.plan.now.records.now in
     let r = c.args.data_record.now in
-    let one = c.kept_or-annotated.result.now in
+    let one = c.planned_or-annotated.result.now in
     let whole = c.args.plan.now.measure in
     let nth = c.count-nth.result in
     let m = c.after-measure.result in
@@ -94,15 +95,15 @@ returns g c records before =
     let d = buffered g.W.Output c.put_record.new.out c.put_record.new.held.bytes.items in
     let count : nth ≡ length records = c.count-nth.ensures (annotated kept records) before
     ∙ annotated-length kept records in
-    let text = one-text whole kept nth r one c.kept_or-annotated.ensures records
+    let text = one-text whole kept nth r one c.planned_or-annotated.ensures records
     c.second-base.result count c.second-base.ensures in
     record {
-      measured = one-measured whole kept nth r one c.kept_or-annotated.ensures records m count
+      measured = one-measured whole kept nth r one c.planned_or-annotated.ensures records m count
           (c.after-measure.ensures.measured (annotated kept records) before
           (omega (arith, c.if-nth-whole.false, c.args.plan.now.measure.records_few, count)));
       no_more = c.is_within_measure.ensures.0 c.if-not-is_within_measure.false;
-      sound = λ k sound. one-sound whole kept nth r one c.kept_or-annotated.ensures records k count
-          sound c.after-measure.ensures.valid;
+      sound = λ k sound. one-sound whole kept nth r one c.planned_or-annotated.ensures records k
+          count sound c.after-measure.ensures.valid;
       wrote = subst (λ x. Writes b d x d.held) text c.in_ok-put_record.ensures.0;
       counted = c.in_ok-put_record.ensures.1;
     }

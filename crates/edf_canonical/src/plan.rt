@@ -15,10 +15,10 @@ pub struct FilePlan<'p> {
 }
 
 /// Returns the data record whose start and annotations are written: the nth planned, or itself.
-pub fn kept_or<'a>(kept: &'a [Record], nth: usize, data_record: &'a Record) -> &'a Record
-    ensures { result.now ≡ unwrap_or (slice_get kept.now nth) data_record.now }
+pub fn planned_or<'a>(planned: &'a [Record], nth: usize, data_record: &'a Record) -> &'a Record
+    ensures { result.now ≡ unwrap_or (slice_get planned.now nth) data_record.now }
 {
-    match kept.get(nth) {
+    match planned.get(nth) {
         Some(other) => other,
         None => data_record,
     }

@@ -4,8 +4,8 @@ use Rattle.edf_fragment.specs.Fragment.{DataRecord}
 
 -- the start and annotations of the first data record, with the samples of the second
 abbrev pub with_samples : DataRecord → DataRecord → DataRecord
-with_samples kept r =
-    record { start = kept.start; samples = r.samples; annotations = kept.annotations }
+with_samples planned r =
+    record { start = planned.start; samples = r.samples; annotations = planned.annotations }
 
 -- data records with planned starts and annotations, one by one; those for which none are planned
 -- have their own, and what is planned for more of them is left out
@@ -17,4 +17,4 @@ annotated (k ∷ ks) (r ∷ rs) = with_samples k r ∷ annotated ks rs
 -- the data record with its planned start and annotations, where it has such
 abbrev pub annotated_one : Option DataRecord → DataRecord → DataRecord
 annotated_one None r = r
-annotated_one (Some kept) r = with_samples kept r
+annotated_one (Some planned) r = with_samples planned r
