@@ -62,8 +62,7 @@ add_stays_sound cap h key r s w sound none room first =
 
 pub nothing_is_sound : NothingHeldIsSound
 nothing_is_sound cap = IsSound-from cap nothing_held
-    (record { rising = λ k. tt; apart = λ k. tt; within_cap = λ k. omega arith })
-    (record {
+    (record { rising = λ k. tt; apart = λ k. tt; within_cap = λ k. omega arith }) (record {
       records = λ k y m. absurd m;
       begins = λ k. tt;
       holders = λ k n. absurd (n refl);

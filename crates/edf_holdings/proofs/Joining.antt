@@ -229,8 +229,7 @@ IsGood-put cap key records h w a g m = record {
         (sym (joined_held (duration_of key.duration) 0 (h key) records (lasting key w)
         (g.apart key) i)) (g.within_cap key)
     | inr l ↦ l
-  ])
-      g.within_cap;
+  ]) g.within_cap;
 }
 
 -- the holdings only grow

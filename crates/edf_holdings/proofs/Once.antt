@@ -60,8 +60,7 @@ refused_again_law cap h ts t us s w not_then =
 
 pub repeat_taken_out : RepeatsChangeNothing
 repeat_taken_out cap h ts t us vs s w = (
-  after-append cap h (up_to_repeat ts t us) (t ∷ vs)
-      ∙ (ap (λ (z : Holdings). after cap z vs) still
+  after-append cap h (up_to_repeat ts t us) (t ∷ vs) ∙ (ap (λ (z : Holdings). after cap z vs) still
       ∙ sym (after-append cap h (up_to_repeat ts t us) vs)),
   ap (λ l. remove l n) (replies-append cap h (up_to_repeat ts t us) (t ∷ vs))
       ∙ (remove-append_right (replies cap h (up_to_repeat ts t us))

@@ -5,9 +5,8 @@ ghost use Rattle.edf_holdings.specs.Kind.{IsClashOfKind};
 use crate::kind::Clash;
 use edf_fragment::Record;
 
-/// Returns how two data records clash that last `duration` nanoseconds each.
-///
-/// They don't where they are the same, or one starts no earlier than the other ends.
+/// Returns how two data records clash that last `duration` nanoseconds each: not at all where they
+/// are the same, or one starts no earlier than the other ends.
 pub fn clash(a: &Record, b: &Record, duration: u64) -> Option<Clash>
     requires { 0 < duration }
     ensures { MatchOption result (¬ DoClash duration a.now b.now)

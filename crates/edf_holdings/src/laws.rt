@@ -1,13 +1,12 @@
 //! Lists of submissions have these laws: each function's contract is laws, and its body is empty.
 
-ghost use Rattle.edf_holdings.specs.Laws.{ParsedIsWellFormed, ResentFromStart, OneIsConflictFree};
-ghost use Rattle.edf_holdings.specs.Laws.{NothingHeldIsSound, StaysSound, AddStaysSound};
-ghost use Rattle.edf_holdings.specs.Laws.{AcceptedAgain, HeldIsKnown, RefusedAgain};
-ghost use Rattle.edf_holdings.specs.Laws.{ConflictFreeIsAccepted, Reordered, RepeatsChangeNothing};
-ghost use Rattle.edf_holdings.specs.Laws.{Recut, SameRecordsStayConflictFree};
+ghost use Rattle.edf_holdings.specs.Laws.{ParsedIsWellFormed, AddStaysSound, RepeatsChangeNothing};
+ghost use Rattle.edf_holdings.specs.Laws.{ResentFromStart, OneIsConflictFree, NothingHeldIsSound};
+ghost use Rattle.edf_holdings.specs.Laws.{StaysSound, AcceptedAgain, HeldIsKnown, RefusedAgain};
+ghost use Rattle.edf_holdings.specs.Laws.{ConflictFreeIsAccepted, SameRecordsStayConflictFree};
+ghost use Rattle.edf_holdings.specs.Laws.{Reordered, Recut};
 
-/// Bytes parse to what is well-formed, and holdings of nothing are sound. Sound holdings stay so
-/// after any list of submissions, and with one data record more that overlaps none.
+/// What bytes parse to is well-formed; empty holdings are sound, and sound ones stay so.
 pub fn stays_sound()
     ensures well_formed { ParsedIsWellFormed }
     ensures none { NothingHeldIsSound }

@@ -1,12 +1,12 @@
 //! The definitions say this in the words of sets: each function's contract is laws.
 
-ghost use Rattle.edf_holdings.specs.Meaning.{SameKeyIsEqual, FirstClashExists, AfterHasAccepted};
-ghost use Rattle.edf_holdings.specs.Meaning.{SameRecordIsEqual, HoldingsAreSets, AcceptedWhereFits};
-ghost use Rattle.edf_holdings.specs.Meaning.{TestIsClash, RepliesNameTheClash, OwnRecordsAreKnown};
-ghost use Rattle.edf_holdings.specs.Meaning.{TestIsContains, RepliesNameTheCounts};
-ghost use Rattle.edf_holdings.specs.Meaning.{OverlappingIsDetermined, ListIsSet, UnionHasBoth};
-ghost use Rattle.edf_holdings.specs.Meaning.{UnionWithAllHasBoth, TestIsFits, NewRecordsAreCounted};
-ghost use Rattle.edf_holdings.specs.Meaning.{RefusedChangesNothing, AtMostTwoOverlap};
+ghost use Rattle.edf_holdings.specs.Meaning.{SameKeyIsEqual, SameRecordIsEqual, OwnRecordsAreKnown};
+ghost use Rattle.edf_holdings.specs.Meaning.{FirstClashExists, AfterHasAccepted, AcceptedWhereFits};
+ghost use Rattle.edf_holdings.specs.Meaning.{HoldingsAreSets, TestIsContains, AtMostTwoOverlap};
+ghost use Rattle.edf_holdings.specs.Meaning.{TestIsClash, RepliesNameTheClash, UnionWithAllHasBoth};
+ghost use Rattle.edf_holdings.specs.Meaning.{RepliesNameTheCounts, ListIsSet, NewRecordsAreCounted};
+ghost use Rattle.edf_holdings.specs.Meaning.{OverlappingIsDetermined, RefusedChangesNothing};
+ghost use Rattle.edf_holdings.specs.Meaning.{UnionHasBoth, TestIsFits};
 ghost use Rattle.edf_holdings.specs.Keys.{KeyListIsUnique};
 
 /// Each test is true exactly where the definition that it is named for is.

@@ -25,7 +25,7 @@ module _ {S : Type 0} (g : Ghosts S) (old new : StoreTx S) (id : ℤ) (key : Key
     (read : ReadsInTransaction g old new (Ok x) Why) where
   seen_first : HasCleanDisk (at g new.store.now) → (h : Holdings) → Sees g new.store.now h →
       Sees g old.store.now h
-  seen_first = seen_before g old.store.now new.store.now read.stays running.running.sees read.same
+  seen_first = seen_before g old.store.now new.store.now read.stays running.running read.same
 
   -- room for the number that was asked for
   pub room_now : (more : ℕ) → (HasCleanDisk (at g new.store.now) →

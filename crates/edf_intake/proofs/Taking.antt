@@ -140,7 +140,7 @@ module _ {S : Type 0} (g : Ghosts S) (id : ℤ) (key : Key) (r : DataRecord) (sp
 
     seen_first : HasCleanDisk (at g u.store.now) → (h : Holdings) → Sees g u.store.now h →
         Sees g s.store.now h
-    seen_first = seen_before g s.store.now u.store.now read.stays running.running.sees read.same
+    seen_first = seen_before g s.store.now u.store.now read.stays running.running read.same
 
     verdict_is : (verdict : Verdict) → found.verdict ≡ verdict → HasCleanDisk (at g u.store.now) →
         IsVerdictIn g s.store.now key r verdict
@@ -254,7 +254,7 @@ module _ {S : Type 0} (g : Ghosts S) (id : ℤ) (key : Key) (r : DataRecord) (sp
           gap_added : IsGapInTransaction g w key found.gap
           gap_added clean t seen =
               let was : HasCleanDisk (at g u.store.now) = omega (arith, stayed.crash.clean) in
-              let some = running.running.sees (omega (arith, read.stays.crash.clean, was)) in
+              let some = running.running (omega (arith, read.stays.crash.clean, was)) in
               let first : Sees g s.store.now some.0 = λ _. some.1 in
               let one : with_records key (r ∷ []) some.0 ≡ t =
               seen_is_one g w.store.now (with_records key (r ∷ []) some.0) t clean

@@ -28,9 +28,8 @@ module _ {S : Type 0} (g : Ghosts S) where
     same_reference = refl;
     stays = stays_here tx.store.now;
     running = running;
-    same = sees_on g tx.store.now running.sees;
+    same = sees_on g tx.store.now running;
     only = λ clean id k there. there;
-    refused = tt;
     why = tt;
   }
 
@@ -43,7 +42,6 @@ module _ {S : Type 0} (g : Ghosts S) where
     running = p.running;
     same = p.same;
     only = p.only;
-    refused = tt;
     why = tt;
   }
 
@@ -57,7 +55,6 @@ module _ {S : Type 0} (g : Ghosts S) where
     running = tt;
     same = tt;
     only = tt;
-    refused = p.refused;
     why = p.why;
   }
 
@@ -72,7 +69,6 @@ module _ {S : Type 0} (g : Ghosts S) where
       running = q.running;
       same = sees_then g a.store.now b.store.now c.store.now q.stays.cap p.same q.same;
       only = no_more g a.store.now b.store.now c.store.now q.stays p.only q.only;
-      refused = tt;
       why = tt;
     }
 
@@ -86,7 +82,6 @@ module _ {S : Type 0} (g : Ghosts S) where
       running = tt;
       same = tt;
       only = tt;
-      refused = q.refused;
       why = q.why;
     }
 
@@ -100,7 +95,6 @@ module _ {S : Type 0} (g : Ghosts S) where
       same_reference = q.same_reference ∙ p.same_reference;
       stays = stays_then g a.store.now b.store.now c.store.now p.stays q.stays;
       running = q.running;
-      refused = tt;
       why = tt;
     }
 
@@ -111,7 +105,6 @@ module _ {S : Type 0} (g : Ghosts S) where
       same_reference = q.same_reference ∙ p.same_reference;
       stays = stays_then g a.store.now b.store.now c.store.now p.stays q.stays;
       running = tt;
-      refused = q.refused;
       why = q.why;
     }
 
@@ -121,7 +114,6 @@ module _ {S : Type 0} (g : Ghosts S) where
     same_reference = p.same_reference;
     stays = p.stays;
     running = tt;
-    refused = p.refused;
     why = p.why;
   }
 

@@ -204,8 +204,7 @@ pub told_all : (cap : ℕ) (old mid was now : Database) (rows : List Row) (sum a
     mid ≡ old → was ≡ old → now ≡ old → HasBoth old.schema →
     IsPermutation (recordings_in old.trees) rows
     → AreCounted cap mid.trees rows sum → IsDatabase now → sum < MOST_COUNTED →
-    all ≡ min (length (was.trees 2)) MOST_COUNTED → b ≡ nat_eq sum all →
-    Answers cap old.trees b
+    all ≡ min (length (was.trees 2)) MOST_COUNTED → b ≡ nat_eq sum all → Answers cap old.trees b
 told_all cap old mid was now rows sum all b m w n has same counted live low is e =
     let obeys : Obeys old.schema old.trees =
     subst (λ (d : Database). Obeys d.schema d.trees) n live.obeys in

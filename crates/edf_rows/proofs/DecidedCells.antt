@@ -44,8 +44,7 @@ IsAKey b = (key_bytes (key_at b) ≡ b) × IsKey (key_at b)
 
 -- bytes with a fault are no key's
 no_key_at : (b : List ℕ) (e : IdentityFault) → identity_fault_order e < 11 → KeyFails b e →
-    (k : Key) →
-    IsKey k → key_bytes k ≢ b
+    (k : Key) → IsKey k → key_bytes k ≢ b
 no_key_at b e low fails k is e_is =
     subst (λ (l : List ℕ). IsCleanKey l 11) e_is (key-clean k is) e low fails
 

@@ -212,8 +212,7 @@ are-kept cap trees all apart owned =
             (λ k x y c d clash. no_member x c) (λ row has. no_clash has.key has.records has.sound)
             rows all;
         within_cap = held_keeps cap trees (λ k rs. length rs ≤ cap) (λ k. omega arith)
-            (λ row has. has.within_cap)
-            rows all;
+            (λ row has. has.within_cap) rows all;
         records = held_keeps cap trees (λ k rs. All (IsSoundRecord k) rs)
             (λ k. All-from_recursion (IsSoundRecord k) [] tt)
             (λ row has. All-from_recursion (IsSoundRecord has.key) has.records

@@ -274,8 +274,7 @@ not-foreign cap trees h kept (bad_records id k is bad) =
     let good = IsGood-from_sound cap h kept.sound in
     not-bad-records cap k (h k) (recursion_from_All (IsSoundRecord k) (h k) (kept.sound.records k))
     (good.apart k) (kept.sound.begins k) (good.within_cap k)
-    (λ none. kept.each id k is (rows ∙ none))
-    (subst (AreBadRecords cap k) rows bad)
+    (λ none. kept.each id k is (rows ∙ none)) (subst (AreBadRecords cap k) rows bad)
 not-foreign cap trees h kept (without_recording row c none) =
     let own : BelongsToRecording trees row =
     All-contains (BelongsToRecording trees) (trees 2) row kept.stand.owned c in

@@ -1,9 +1,9 @@
 //! All rows of both tables are checked.
 
-ghost use Rattle.std.specs.Prelude.{◌<◌, IfOk, IfSome, MatchOption, IsPermutation, IsSorted};
-ghost use Rattle.std.specs.Prelude.{IsTrue};
+ghost use Rattle.std.specs.Prelude.{◌≡◌, ◌<◌, true, Ok, IfOk, IfSome, MatchOption, IsPermutation};
+ghost use Rattle.std.specs.Prelude.{IsSorted, IsTrue};
 ghost use Rattle.sqlite.specs.Held.{state};
-ghost use Rattle.sqlite.specs.State.{HasCleanDisk};
+ghost use Rattle.sqlite.specs.State.{HasCleanDisk, IsLive};
 ghost use Rattle.edf_tables.specs.Columns.{id_order};
 ghost use Rattle.edf_rows.specs.Cells.{recordings_in};
 ghost use Rattle.edf_rows.specs.Inside.Checked.{OnlyChecks};
@@ -11,7 +11,7 @@ ghost use Rattle.edf_rows.specs.Inside.All.{IsAfter, IsNotAfter, Counts, Answers
 ghost use Rattle.edf_tables.specs.Statement.{HasBothTables, tables, IfClean, Gives, ChangesOnOk};
 
 use crate::check::check_recording_row;
-use edf_tables::{MOST_COUNTED, count_all_rows, obey, recordings};
+use edf_tables::{MOST_COUNTED, count_all_rows, recordings};
 use sqlite::types::ValueRef;
 use sqlite::{Alter, Connection, Error, ErrorCode, Row};
 use std::alloc::Global;
@@ -85,6 +85,7 @@ pub(crate) fn check_all<S: Alter>(
     ensures checks { OnlyChecks S.Store conn.old conn.new result }
     ensures answers { Gives S.Store conn.new result (Answers cap (tables S.Store conn.old)) }
     ensures is_open { ChangesOnOk S.Store conn.old conn.new result (λ _ new. IsTrue new.is_open) }
+    ensures live { result ≡ Ok true → IsLive (state S.Store conn.new) }
 {
     let found = recordings(conn)?;
     let Some(sum) = count_owned(alloc, conn, &found, cap)? else {
@@ -92,6 +93,6 @@ pub(crate) fn check_all<S: Alter>(
     };
     let all = count_all_rows(conn)?;
     // The rows obey the UNIQUE of the schema, so no identity occurs twice.
-    obey(conn);
+    let _ = conn.schema();
     Ok(sum == all)
 }

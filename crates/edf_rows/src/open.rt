@@ -1,8 +1,8 @@
 //! A file is checked as a store is opened.
 
-ghost use Rattle.std.specs.Prelude.{◌≡◌, Ok, false, IsTrue};
+ghost use Rattle.std.specs.Prelude.{◌≡◌, Ok, false, true, IsTrue};
 ghost use Rattle.sqlite.specs.Held.{state};
-ghost use Rattle.sqlite.specs.State.{Survives};
+ghost use Rattle.sqlite.specs.State.{IsLive, Survives};
 ghost use Rattle.edf_tables.specs.Made.{IsOurs, HasTables, KeepsFile, IsMadeOf};
 ghost use Rattle.edf_rows.specs.Inside.All.{Answers};
 ghost use Rattle.edf_rows.specs.File.{Audits};
@@ -24,6 +24,7 @@ fn audit_tables<S: Alter>(alloc: Global, conn: &mut Connection<S>, cap: u32) -> 
         (λ old new. HasTables old.now new.now) }
     ensures answers { Gives S.Store conn.new result (Answers cap (tables S.Store conn.new)) }
     ensures is_open { ChangesOnOk S.Store conn.old conn.new result (λ _ new. IsTrue new.is_open) }
+    ensures live { result ≡ Ok true → IsLive (state S.Store conn.new) }
     ensures settled { ChangesOnOk S.Store conn.old conn.new result
         (λ _ new. new.committed ≡ new.now) }
     ensures idle { ChangesOnOk S.Store conn.old conn.new result
@@ -58,6 +59,7 @@ pub fn audit<S: Alter>(alloc: Global, conn: &mut Connection<S>, cap: u32) -> Res
         ChangesOnOk S.Store conn.old conn.new result (λ old new. HasTables old.now new.now) }
     ensures answers { Gives S.Store conn.new result
         (Audits cap (state S.Store conn.old) (state S.Store conn.new)) }
+    ensures live { result ≡ Ok true → IsLive (state S.Store conn.new) }
     ensures stays { IfClean S.Store conn.new (KeepsFile (state S.Store conn.old)) }
     ensures survives { Survives (state S.Store conn.old) (state S.Store conn.new)
         (IsMadeOf (state S.Store conn.old).now) }

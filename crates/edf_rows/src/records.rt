@@ -73,9 +73,6 @@ fn next_start(
 /// Counts the records of a recording; `None` where submissions can't make them: a row is no record
 /// of the identity, two start less than a duration apart, the first starts after 2084 and the
 /// identity has no date, there is none, or there are more than `cap`.
-///
-/// # Errors
-/// `sqlite`'s; `OutOfMemory` where memory runs out.
 pub(crate) fn check_recording<S: Alter>(
     alloc: Global,
     conn: &mut Connection<S>,

@@ -18,7 +18,7 @@ use crate::session::serve;
 use crate::standing::StoreFiles;
 use edf_fragment::{Input, Output};
 use edf_store::Store;
-use edf_tables::{is_ours, obey};
+use edf_tables::is_ours;
 use edfstore_files::{Cap, EndedRun, Watch, close, leave, refuse};
 use sqlite::{Connection, FileStore};
 use sqlite_disk::Disk;
@@ -66,7 +66,6 @@ pub(crate) fn serve_over<
             watch.opened(err);
             serve(alloc, folder, lines, &mut store, room);
             let back = store.into_connection();
-            obey(&back);
             close(back, room.worst, err)
         }
         Err((fault, back)) => leave(back, refuse(&fault, has_our_tables, err, watch)),

@@ -22,8 +22,7 @@ module _ {S : Type 0} (g : Ghosts S) where
       Survives (state g old) (state g new) (λ _. ⊥) →
       (HasCleanDisk (state g new) → KeepsCommit (state g old) (state g new)) →
       (HasCleanDisk (state g new) → IsUnchanged (state g old) (state g new)) →
-      SeesSome cap (state g old)
-      → ReadsRows g (record { connection = old; cap = cap })
+      SeesSome cap (state g old) → ReadsRows g (record { connection = old; cap = cap })
       (record { connection = new; cap = cap }) r
   reads_rows cap old new r survives keeps same sees = record {
     stays = stays_so g cap old new survives keeps;

@@ -91,8 +91,7 @@ shown_of trees h stand id k there =
 
 -- ---- a record more
 module _ (old new : State) (id : ℤ) (k : Key) (r : DataRecord) (h : Holdings)
-    (has : HasRecord old new (cells id (pos r.start) r.samples
-    (tals_text 0 r.start r.annotations)))
+    (has : HasRecord old new (cells id (pos r.start) r.samples (tals_text 0 r.start r.annotations)))
     (stand : Represent old.now.trees h) (there : HasRecordingRow old.now.trees id k)
     (none : overlapping (duration_of k.duration) r.start (h k) ≡ []) where
   pub there_same : (m : ℤ) (q : Key) → HasRecordingRow new.now.trees m q →

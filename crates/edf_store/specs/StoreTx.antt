@@ -1,5 +1,5 @@
 -- A transaction begins, runs until a call is refused, and is committed or rolled back.
-use Rattle.std.specs.Prelude.{◌≡◌, false, true, Result, IsTrue, IfErr, OnOk, OnErr}
+use Rattle.std.specs.Prelude.{◌≡◌, false, Result, IsTrue, IfErr, OnOk, OnErr}
 use Rattle.sqlite_trees.specs.declared.store.Store.{Ghosts}
 use Rattle.sqlite.specs.State.{HasCleanDisk, Survives}
 use Rattle.edf_holdings.specs.Holdings.{Holdings}
@@ -12,10 +12,9 @@ use Rattle.edf_store.specs.declared.fault.StoreFault.{StoreFault}
 use Rattle.edf_store.specs.declared.transaction.StoreTx.{StoreTx}
 
 module _ {S : Type 0} (g : Ghosts S) where
-  -- no call of the transaction was refused, and it sees some holdings
-  pub record IsRunning (tx : StoreTx S) : Type 0 where
-    pub not_refused : tx.refused ≡ false
-    pub sees : SeesHoldings g tx.store.now
+  -- the transaction sees some holdings; no clause says so any more once a call was refused
+  abbrev pub IsRunning : StoreTx S → Type 0
+  IsRunning tx = SeesHoldings g tx.store.now
 
   -- the transaction begins: what is held stays, and is what it sees
   pub record IsBegun (store : StoreModel S) (tx : StoreTx S) : Type 0 where
@@ -28,13 +27,12 @@ module _ {S : Type 0} (g : Ghosts S) where
   abbrev pub HasCauseOrIsUnclean : StoreTx S → StoreFault → Type 0
   HasCauseOrIsUnclean tx = MayRefuse ⊥ (IsUnclean g tx.store.now) ⊥
 
-  -- after each call what is held stays, and the transaction is running, or was refused
+  -- after each call what is held stays; after one that succeeds the transaction is running
   pub record KeepsTransaction {X : Type 0} (old new : StoreTx S)
       (result : Result X StoreFault) : Type 0 where
     pub same_reference : new.store.ghost_name ≡ old.store.ghost_name
     pub stays : KeepsHoldings g old.store.now new.store.now
     pub running : OnOk result (IsRunning new)
-    pub refused : OnErr result (new.refused ≡ true)
     pub why : IfErr result HasCause
 
   -- after a call that only reads the transaction sees what it saw, too
@@ -45,7 +43,6 @@ module _ {S : Type 0} (g : Ghosts S) where
     pub running : OnOk result (IsRunning new)
     pub same : OnOk result (SeesAsBefore g old.store.now new.store.now)
     pub only : OnOk result (AddsNoRecording g old.store.now new.store.now)
-    pub refused : OnErr result (new.refused ≡ true)
     pub why : IfErr result Why
 
   -- what the transaction saw is held, or where the commit is refused what was held; the transaction

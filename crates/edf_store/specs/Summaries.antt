@@ -16,7 +16,7 @@ AreKeysHeld g store keys = (h : Holdings) → Holds g store h → AreKeysOf h ke
 abbrev pub start_at : List DataRecord → ℕ → Option ℕ
 start_at records place = option_map (λ (r : DataRecord). r.start) (slice_get records place)
 
--- the summary has the count of records, and the first and the last start; none has no summary
+-- `Some`: the count of records, their first and their last start; `None`: there are no records
 abbrev pub IsSummary : List DataRecord → Option Summary → Type 0
 IsSummary records None = records ≡ []
 IsSummary records (Some summary) =

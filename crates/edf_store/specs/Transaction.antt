@@ -119,7 +119,7 @@ module _ {S : Type 0} (g : Ghosts S) where
   abbrev pub Sees : StoreModel S → Holdings → Type 0
   Sees store h = AreSeen store.cap (at g store) h
 
-  -- the transaction sees some, as it does from its begin until a call is refused
+  -- the transaction sees some, as it does from its start until a call is refused
   abbrev pub SeesHoldings : StoreModel S → Type 0
   SeesHoldings store = SeesSome store.cap (at g store)
 

@@ -16,7 +16,6 @@ use crate::fault::StoreFault;
 use crate::transaction::StoreTx;
 use edf_header::MOST_RECORDS;
 use edf_rows::audit;
-use edf_tables::obey;
 use sqlite::{Alter, Connection};
 use std::alloc::Global;
 use std::marker::Model;
@@ -66,13 +65,16 @@ impl<S: Alter> Store<S> {
 
     /// Returns the connection, as it is.
     pub fn into_connection(self) -> Connection<S>
-        ensures { result ≡ self.connection }
+        ensures value { result ≡ self.connection }
+        ensures live { IsLive (state S.Store result) }
     {
         let Store {
             alloc: _,
             conn,
             cap: _,
         } = self;
+        // Its rows obey its schema, as those of any connection do.
+        let _ = conn.schema();
         conn
     }
 
@@ -89,10 +91,7 @@ impl<S: Alter> Store<S> {
         ensures refuses { IsRefusedIfBusy S.Store self.old result ⊥ }
     {
         begin_all(self)?;
-        Ok(StoreTx {
-            store: self,
-            refused: false,
-        })
+        Ok(StoreTx { store: self })
     }
 }
 
@@ -126,14 +125,8 @@ impl<S: Alter + Drop> Store<S> {
             result ≡ Err (StoreFault.Foreign, conn) }
     {
         match audit(alloc, &mut conn, cap) {
-            Ok(kept) => {
-                obey(&conn);
-                if kept {
-                    Ok(Store { alloc, conn, cap })
-                } else {
-                    Err((StoreFault::Foreign, conn))
-                }
-            }
+            Ok(true) => Ok(Store { alloc, conn, cap }),
+            Ok(false) => Err((StoreFault::Foreign, conn)),
             Err(error) => Err((StoreFault::from(error), conn)),
         }
     }

@@ -31,8 +31,6 @@ pub struct RecordingId {
 /// then what is held stays, also after a crash.
 pub struct StoreTx<'store, S: Alter> {
     pub(crate) store: &'store mut Store<S>,
-    /// Is true after a refused call. No code reads it: it carries a condition from call to call.
-    pub(crate) refused: bool,
 }
 
 impl<S: Alter> StoreTx<'_, S> {
@@ -46,9 +44,8 @@ impl<S: Alter> StoreTx<'_, S> {
         ensures row_id { IfOk result (λ id. IsSelectedOrInserted S.Store
             self.old.store.now self.new.store.now identity.now id.row) }
     {
-        let answer = find_or_make(self.store, identity);
-        self.refused = answer.is_err();
-        Ok(RecordingId { row: answer? })
+        let row = find_or_make(self.store, identity)?;
+        Ok(RecordingId { row })
     }
 
     /// Returns the data records of a recording whose intervals overlap the one of `duration`, the
@@ -73,9 +70,7 @@ impl<S: Alter> StoreTx<'_, S> {
         ensures two { AnswersWith S.Store self.new.store.now result
             (λ records. length records.items ≤ 2) }
     {
-        let answer = records_near(self.store, id.row, start, duration);
-        self.refused = answer.is_err();
-        Ok(answer?)
+        Ok(records_near(self.store, id.row, start, duration)?)
     }
 
     /// Returns the first start of a recording's data records that is `from` or later, if there is
@@ -96,9 +91,7 @@ impl<S: Alter> StoreTx<'_, S> {
         ensures next { AnswersWith S.Store self.new.store.now result
             (IsNextStartOf S.Store self.old.store.now id.row from) }
     {
-        let answer = reading::next_start(self.store, id.row, from);
-        self.refused = answer.is_err();
-        Ok(answer?)
+        Ok(reading::next_start(self.store, id.row, from)?)
     }
 
     /// Counts the data records of a recording.
@@ -112,9 +105,7 @@ impl<S: Alter> StoreTx<'_, S> {
         ensures count { AnswersWith S.Store self.new.store.now result
             (IsCountOf S.Store self.old.store.now id.row) }
     {
-        let answer = count_records(self.store, id.row);
-        self.refused = answer.is_err();
-        Ok(answer?)
+        Ok(count_records(self.store, id.row)?)
     }
 
     /// Is true where a recording has capacity for `more` data records below the cap. `duration` is
@@ -138,9 +129,7 @@ impl<S: Alter> StoreTx<'_, S> {
         ensures spare { AnswersWith S.Store self.new.store.now result
             (IsCapacityAnswer S.Store self.old.store.now id.row more) }
     {
-        let answer = reading::has_capacity(self.store, id.row, duration, more);
-        self.refused = answer.is_err();
-        Ok(answer?)
+        Ok(reading::has_capacity(self.store, id.row, duration, more)?)
     }
 
     /// Adds a data record to a recording, which has none near it and fewer than the cap. The first
@@ -155,9 +144,7 @@ impl<S: Alter> StoreTx<'_, S> {
         ensures added { IfOk result (λ _.
             IsAdded S.Store self.old.store.now self.new.store.now id.row data_record.now) }
     {
-        let answer = add_record(self.store, id.row, data_record);
-        self.refused = answer.is_err();
-        Ok(answer?)
+        Ok(add_record(self.store, id.row, data_record)?)
     }
 
     /// Commits the transaction: what it sees is then what is held.
@@ -171,7 +158,7 @@ impl<S: Alter> StoreTx<'_, S> {
         ensures commits { Commits S.Store self.entry.store.now self.exit.0.now result }
         ensures why { IfErr result HasCause }
     {
-        let StoreTx { store, refused: _ } = self;
+        let StoreTx { store } = self;
         commit_all(store)?;
         Ok(())
     }
@@ -184,7 +171,7 @@ impl<S: Alter> StoreTx<'_, S> {
         ensures gives_up { RollsBack S.Store self.entry.store.now self.exit.0.now result }
         ensures why { IfErr result HasCause }
     {
-        let StoreTx { store, refused: _ } = self;
+        let StoreTx { store } = self;
         undo(store)?;
         Ok(())
     }

@@ -26,7 +26,6 @@
 //! - [`count_rows`], [`first_start`], [`next_start`], [`last_start`]: read their number and starts.
 //! - [`select_recording`], [`identities`], [`recordings`]: find one recording, or list all.
 //! - [`count_all_rows`]: counts all records. No count is above [`MOST_COUNTED`].
-//! - [`obey`]: says, as a law, that the rows obey the rules of their schema.
 //!
 //! `sqlite` refuses a statement where memory runs out, the disk fails, or the connection is closed;
 //! some also at a limit of steps, by a rule of the tables, or for the size of a row.
@@ -44,7 +43,7 @@ mod write;
 pub use create::create_tables;
 pub use list::{count_all_rows, identities, recordings, select_recording};
 pub use records::{count_rows, first_start, last_start, near_rows, next_start, page_rows};
-pub use row::{MOST_COUNTED, RecordRow, obey};
+pub use row::{MOST_COUNTED, RecordRow};
 pub use schema::{has_both, is_ours};
 pub use transaction::{begin, commit, roll_back};
 pub use write::{insert_record, insert_recording};

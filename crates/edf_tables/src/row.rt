@@ -7,7 +7,7 @@ ghost use Rattle.sqlite_value.specs.Order.{column};
 ghost use Rattle.sqlite.specs.Held.{state};
 ghost use Rattle.sqlite.specs.Given.{IsPlain};
 ghost use Rattle.sqlite.specs.Listing.{understood};
-ghost use Rattle.sqlite.specs.State.{Shown, FailsToQuery, IsLive};
+ghost use Rattle.sqlite.specs.State.{Shown};
 ghost use Rattle.sqlite.specs.Values.{bound};
 ghost use Rattle.edf_tables.specs.Cells.{cells_of, first_three};
 ghost use Rattle.edf_tables.specs.Refused.{IsUnchangedOrRolledBack};
@@ -75,14 +75,6 @@ pub(crate) fn first_count(rows: Vec<Row>) -> Result<u64, Error>
         Some(row) => row.get(0),
         None => Err(Error::QueryReturnedNoRows),
     }
-}
-
-/// Does nothing: its contract is a law. What an open connection shows is a database, whose rows
-/// obey the rules of its schema.
-pub fn obey<S: Alter>(conn: &Connection<S>)
-    ensures { IsLive (state S.Store conn.now) }
-{
-    let _ = conn.schema();
 }
 
 /// Runs a query that changes nothing, and returns its rows.

@@ -119,18 +119,6 @@ fn is_other_view(view: &View) -> bool
     is_other_tree(view.tree) && is_of_others(&view.foreign)
 }
 
-fn are_other_tables(tables: &[Table]) -> bool
-    ensures { IsTrue result ↔ All (λ t. IsOtherTree t.tree) tables.now }
-{
-    tables.iter().all(|table| is_other_tree(table.tree))
-}
-
-fn are_other_indexes(indexes: &[Index]) -> bool
-    ensures { IsTrue result ↔ All IsOtherIndex indexes.now }
-{
-    indexes.iter().all(|index| is_other_index(index))
-}
-
 fn are_other_views(views: &[View]) -> bool
     ensures { IsTrue result ↔ All IsOtherView views.now }
 {
@@ -163,7 +151,7 @@ fn begin_with_both(tables: &[Table]) -> bool
         return false;
     }
     let (_, others) = tables.split_at(2);
-    are_other_tables(others)
+    others.iter().all(|table| is_other_tree(table.tree))
 }
 
 fn begin_with_ours(indexes: &[Index]) -> bool
@@ -177,7 +165,7 @@ fn begin_with_ours(indexes: &[Index]) -> bool
         return false;
     }
     let (_, others) = indexes.split_at(2);
-    are_other_indexes(others)
+    others.iter().all(|index| is_other_index(index))
 }
 
 /// Is true where the schema begins with both tables and their indexes, as the CREATE texts make

@@ -15,7 +15,7 @@ use crate::watch::{Watch, refuse};
 use edf_command::{Inputs, Order, run};
 use edf_fragment::Output;
 use edf_store::Store;
-use edf_tables::{is_ours, obey};
+use edf_tables::is_ours;
 use sqlite::{Connection, FileStore};
 use sqlite_disk::Disk;
 use std::alloc::Global;
@@ -51,7 +51,6 @@ pub(crate) fn run_over<D: Disk + Drop, I: Inputs, O: Output, F: Output, W: Watch
             watch.opened(out);
             let status = run(alloc, command, &mut store, inputs, out, err);
             let back = store.into_connection();
-            obey(&back);
             close(back, status, err)
         }
         Err((fault, back)) => leave(back, refuse(&fault, has_our_tables, err, watch)),

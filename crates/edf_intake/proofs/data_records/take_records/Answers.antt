@@ -76,7 +76,7 @@ take_record-requires-clause-next g c =
     (header-has-layout head.bytes head.header [] head.is_header) in
     let was : HasCleanDisk (at g.S.Store now) → HasCleanDisk (at g.S.Store first) =
     λ clean. omega (arith, inv.stays.crash.clean) in
-    let sees = c.requires.running.running.sees in
+    let sees = c.requires.running.running in
     record {
       sound = search rules;
       below_cap = λ clean may h seen. subst (λ (k : Key). length (h k) < now.cap) (sym same)

@@ -162,7 +162,7 @@ returns-in-None-clause-accepted g c =
     c.in_ok-fragment.ensures.step.0 c.in_ok-fragment.ensures.counted
     c.in_ok-destination.ensures.changes.stays c.in_ok-findings.ensures.changes.stays there
     c.in_ok-findings.ensures.taken (c.conflict.ensures.accepted c.in-None.is) c.requires.whole
-    c.requires.running.sees)
+    c.requires.running)
 
 pub returns-in-Some-clause-changes : goal.returns-in-Some-clause-changes
 returns-in-Some-clause-changes g c =

@@ -52,7 +52,7 @@ returns-clause-answers g c clean =
     told_all c.args.cap old.now mid.now was.now now.now c.deref.result.now c.in-Some.sum
     c.in_ok-all.all _ first.0.now_is (second.now_is ∙ first.0.now_is) (third.0.now_is
     ∙ second.now_is ∙ first.0.now_is) (c.requires.schema start)
-    listed counted (c.obey.ensures third.0.is_open).0 (omega (arith, below))
+    listed counted (c.schema.ensures.live third.0.is_open).0 (omega (arith, below))
     (c.in_ok-all.ensures.count clean) refl
 
 pub returns-in_default-clause-checks : goal.returns-in_default-clause-checks

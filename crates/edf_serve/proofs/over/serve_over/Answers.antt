@@ -62,7 +62,8 @@ returns-in-Ok-clause-ran g c start opening =
     inl (ran_back stays r c.close.result c.args.conn
     (λ clean. (opening.1 clean).0) (λ clean. (opening.1 clean).1)
     worst mid.after mid.failed_after works c.into_connection-back.result
-    c.into_connection-back.ensures c.close.ensures.printed c.obey.ensures c.close.ensures.released
+    c.into_connection-back.ensures.value c.close.ensures.printed c.into_connection-back.ensures.live
+    c.close.ensures.released
     (λ closed. c.close.ensures.copied closed.1 closed.0)
     (λ lets. c.close.ensures.closed lets.1 lets.0))
 

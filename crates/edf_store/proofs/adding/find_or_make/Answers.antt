@@ -23,15 +23,13 @@ pub invariant_of-store : goal.invariant_of-store
 invariant_of-store g c =
     still_sound c.store.inside.cap (state g.S.Store c.store.inside.conn)
     (state g.S.Store c.select_recording.new.conn) _ c.select_recording.ensures.survives
-    c.select_recording.ensures.committed
-    c.store.invariant
+    c.select_recording.ensures.committed c.store.invariant
 
 pub invariant_of-store-in-Some : goal.invariant_of-store-in-Some
 invariant_of-store-in-Some g c =
     still_sound c.store.inside.cap (state g.S.Store c.store.inside.conn)
     (state g.S.Store c.select_recording.new.conn) _ c.select_recording.ensures.survives
-    c.select_recording.ensures.committed
-    c.store.invariant
+    c.select_recording.ensures.committed c.store.invariant
 
 pub returns-in-Some-clause-stays : goal.returns-in-Some-clause-stays
 returns-in-Some-clause-stays g c =

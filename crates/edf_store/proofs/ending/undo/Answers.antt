@@ -7,14 +7,12 @@ use Rattle.edf_store.proofs.ending.undo.Goals as goal
 pub invariant_of-store : goal.invariant_of-store
 invariant_of-store g c = still_sound c.store.inside.cap (state g.S.Store c.store.inside.conn)
     (state g.S.Store c.roll_back.new.conn) _ c.roll_back.ensures.survives
-    c.roll_back.ensures.committed
-    c.store.invariant
+    c.roll_back.ensures.committed c.store.invariant
 
 pub invariant_of-store-2 : goal.invariant_of-store-2
 invariant_of-store-2 g c = still_sound c.store.inside.cap (state g.S.Store c.store.inside.conn)
     (state g.S.Store c.roll_back.new.conn) _ c.roll_back.ensures.survives
-    c.roll_back.ensures.committed
-    c.store.invariant
+    c.roll_back.ensures.committed c.store.invariant
 
 pub returns-in_err-roll_back : goal.returns-in_err-roll_back
 returns-in_err-roll_back g c = rw (← c.store.view_is) (record {

@@ -54,14 +54,12 @@ near_rows-requires g c =
 pub invariant_of-store : goal.invariant_of-store
 invariant_of-store g c = still_sound c.store.inside.cap (state g.S.Store c.store.inside.conn)
     (state g.S.Store c.near_rows.new.conn) _ c.near_rows.ensures.survives
-    c.near_rows.ensures.committed
-    c.store.invariant
+    c.near_rows.ensures.committed c.store.invariant
 
 pub invariant_of-store-2 : goal.invariant_of-store-2
 invariant_of-store-2 g c = still_sound c.store.inside.cap (state g.S.Store c.store.inside.conn)
     (state g.S.Store c.near_rows.new.conn) _ c.near_rows.ensures.survives
-    c.near_rows.ensures.committed
-    c.store.invariant
+    c.near_rows.ensures.committed c.store.invariant
 
 pub returns-in_err-rows-clause-reads : goal.returns-in_err-rows-clause-reads
 returns-in_err-rows-clause-reads g c =

@@ -79,12 +79,10 @@ returns-in_err-last-clause-changes g c =
       stays = stays_so g.S.Store c.store.inside.cap c.store.inside.conn c.last_start.new.conn
           (three_survive a b d e c.count_rows.ensures.survives c.first_start.ensures.survives
           c.last_start.ensures.survives c.count_rows.ensures.committed
-          c.first_start.ensures.committed
-          c.last_start.ensures.committed)
+          c.first_start.ensures.committed c.last_start.ensures.committed)
           (three_keep a b d e c.count_rows.ensures.survives c.first_start.ensures.survives
           c.last_start.ensures.survives c.count_rows.ensures.committed
-          c.first_start.ensures.committed
-          c.last_start.ensures.committed);
+          c.first_start.ensures.committed c.last_start.ensures.committed);
       idle = λ clean. on_refused _ _ c.from_residual-in_err-last.result
           c.from_residual-in_err-last.ensures.1;
     })
@@ -100,12 +98,10 @@ returns-clause-changes g c =
       stays = stays_so g.S.Store c.store.inside.cap c.store.inside.conn c.last_start.new.conn
           (three_survive a b d e c.count_rows.ensures.survives c.first_start.ensures.survives
           c.last_start.ensures.survives c.count_rows.ensures.committed
-          c.first_start.ensures.committed
-          c.last_start.ensures.committed)
+          c.first_start.ensures.committed c.last_start.ensures.committed)
           (three_keep a b d e c.count_rows.ensures.survives c.first_start.ensures.survives
           c.last_start.ensures.survives c.count_rows.ensures.committed
-          c.first_start.ensures.committed
-          c.last_start.ensures.committed);
+          c.first_start.ensures.committed c.last_start.ensures.committed);
       idle = λ clean.
           let clean_d : HasCleanDisk d = omega (arith, c.last_start.ensures.survives.clean) in
           let clean_b : HasCleanDisk b = omega (

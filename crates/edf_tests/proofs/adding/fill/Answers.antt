@@ -83,7 +83,7 @@ look-requires-clause-whole g c =
       arith,
       c.recording.ensures.changes.stays.crash.clean,
       clean,
-    )) c.requires.running.sees oa k c.in_ok-id.ensures.row_id.only c.requires.whole in
+    )) c.requires.running oa k c.in_ok-id.ensures.row_id.only c.requires.whole in
     let but_b = still_but cap a b (λ clean. omega (
       arith,
       c.count.ensures.changes.stays.crash.clean,

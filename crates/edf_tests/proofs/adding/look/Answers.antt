@@ -27,4 +27,4 @@ returns-clause-whole g c =
     (still_whole cap b d (λ clean. omega (arith, c.near.ensures.changes.stays.crash.clean, clean))
     ab.running bd c.in_ok-near.ensures.changes.only
     (still_whole cap a b (λ clean. omega (arith, c.count.ensures.changes.stays.crash.clean, clean))
-    c.requires.running.sees ab c.in_ok-after.ensures.changes.only c.requires.whole))
+    c.requires.running ab c.in_ok-after.ensures.changes.only c.requires.whole))

@@ -7,18 +7,19 @@ pub invariant_of-result : goal.invariant_of-result
 invariant_of-result g c =
     sound_opened c.args.cap (state g.S.Store c.args.conn) (state g.S.Store c.audit.new.conn)
     c.requires.cap_from c.requires.cap_to (λ clean.
-    rw c.if-kept.true at (c.in-Ok.ensures.answers clean))
+    rw c.in-Ok-true.field-0-test at (c.in-Ok-true.ensures.answers clean))
 
-pub returns-then-kept-clause-opened : goal.returns-then-kept-clause-opened
-returns-then-kept-clause-opened g c =
+pub returns-in-Ok-true-clause-opened : goal.returns-in-Ok-true-clause-opened
+returns-in-Ok-true-clause-opened g c =
     opened g.S.Store c.args.cap c.args.conn c.audit.new.conn
-    (λ clean. rw c.if-kept.true at (c.in-Ok.ensures.answers clean)) c.audit.ensures.survives
+    (λ clean. rw c.in-Ok-true.field-0-test at (c.in-Ok-true.ensures.answers clean))
+    c.audit.ensures.survives
 
-pub returns-else-kept-clause-given_back : goal.returns-else-kept-clause-given_back
-returns-else-kept-clause-given_back g c = record {
+pub returns-in-Ok-false-clause-given_back : goal.returns-in-Ok-false-clause-given_back
+returns-in-Ok-false-clause-given_back g c = record {
   why = tt;
-  foreign = λ is clean. rw c.if-kept.false at (c.in-Ok.ensures.answers clean);
-  tables = λ is ours clean. c.in-Ok.ensures.tables ours clean;
+  foreign = λ is clean. rw c.in-Ok-false.field-0-test at (c.in-Ok-false.ensures.answers clean);
+  tables = λ is ours clean. c.in-Ok-false.ensures.tables ours clean;
   stays = c.audit.ensures.stays;
   crash = c.audit.ensures.survives;
 }

@@ -1,4 +1,4 @@
 use Rattle.edf_store.proofs.transaction.StoreTx.near.Goals as goal
 
 pub returns-clause-two : goal.returns-clause-two
-returns-clause-two g c clean = rw c.in_ok-answer.was at (c.records_near-answer.ensures.two clean)
+returns-clause-two g c clean = c.in_ok-records_near.ensures.two clean
