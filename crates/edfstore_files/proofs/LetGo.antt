@@ -139,8 +139,7 @@ module _ {D : Type 0} {g : Ghosts D} where
         ∥∥₁_map (left.1 image may) (λ (rows, could, holds).
         let it = rows_left h keep rows could holds.2.schema holds.2.sound in
         let r : (tolds : List Parsed) × IsSubmittedPrefix turns tolds
-        × FilesHold cap image (after cap h tolds) =
-        (it.0, it.1, inr (rows, ∣ holds ∣₁, it.2)) in r)
+        × FilesHold cap image (after cap h tolds) = (it.0, it.1, inr (rows, ∣ holds ∣₁, it.2)) in r)
 
   -- the rows of a store that was refused are as they were, where missing tables may have been made
   pub as_it_was : SeenMayStay g → (first last : Held (FileStore D g)) (files : Files D) →
