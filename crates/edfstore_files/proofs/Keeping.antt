@@ -184,8 +184,7 @@ left_keeps cap old rows left both sound keeps kept schema now =
 wider_kept : (cap more : ℕ) → cap ≤ more → (trees : Trees) (h : Holdings) →
     RepresentCommitted cap trees h → RepresentCommitted more trees h
 wider_kept cap more wide trees h kept =
-    let s = kept.sound in
-    record {
+    let s = kept.sound in record {
       stand = kept.stand;
       sound = record {
         rising = s.rising;

@@ -59,8 +59,7 @@ still_keeps cap db image h sound keeps as_was = ∥∥₁_map as_was (λ it.
       elim it.2 [
         | inl same ↦ same_keep cap db it.0 h same sound keeps
         | inr made ↦
-            let inside = it.1.2 in
-            record {
+            let inside = it.1.2 in record {
               schema = inside.schema;
               is_database = inside.sound;
               holds = made_keeps cap db it.0 h keeps made inside.schema inside.sound;

@@ -163,8 +163,7 @@ module _ {D : Type 0} {g : Ghosts D} (r : ProgramRun g) (first : Held (FileStore
         (λ clean rows left h keeps.
         let kept = front_kept it.old.cap it.turns h rows
         (left.1 h (opened_holds over_files first it.old it.opened h keeps)) in
-        let was = was_clean clean in
-        record {
+        let was = was_clean clean in record {
           submissions = kept.submissions;
           front = kept.front;
           holds = left_keeps it.old.cap (at over_files it.old).committed rows
