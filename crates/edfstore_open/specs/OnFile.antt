@@ -41,7 +41,7 @@ Opening D g = Result (Held (FileStore D g)) (Error × Option (Leftover D g))
 module _ {D : Type 0} {g : Ghosts D} (r : run.ProgramRun g) (request : Request) where
   -- It was run over the files that were opened. They are closed under every status but trouble,
   -- and how they are read then is one of the outcomes of a crash. Or they were not opened, for this
-  -- error, and what remains of them is what did. Or none were looked for, and it only reads.
+  -- error, and what remains of them is returned. Or none were looked for, and it only reads.
   abbrev pub IsRunOn : Option (Opening D g) → Ended D g → Type 0
   IsRunOn opening (Run s) = (opening ≢ None) × (IsRunDone r s ⊎ IsRefused r s)
       × (s.status ≢ Trouble → s.failure ≡ None)

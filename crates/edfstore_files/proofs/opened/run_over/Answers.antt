@@ -1,4 +1,4 @@
-use Rattle.std.proofs.Common.{◌≡◌, ◌↔◌, ◌∙◌, IsTrue, inl, inr, ℕ, refl, sym, subst, true≢false}
+use Rattle.std.proofs.Common.{◌≡◌, ◌↔◌, ◌∙◌, IsTrue, inl, inr, ℕ, refl, sym, subst}
 use Rattle.sqlite.specs.Schema.{Schema}
 use Rattle.sqlite.specs.Files.{over_files}
 use Rattle.edf_tables.specs.Schema.{AreOurs}
