@@ -100,7 +100,7 @@ impl<'rt> NewFiles for PartFiles<'rt> {
             self.made.fail(Unfinished::Failed, None, false);
             return Err(Unfinished::Failed);
         }
-        let bytes = writer.bytes();
+        let bytes = writer.bytes;
         match self.system.finish(writer) {
             Ok(()) => {
                 self.settle();
@@ -121,7 +121,7 @@ impl<'rt> NewFiles for PartFiles<'rt> {
     }
 
     fn abandon(&mut self, writer: NewFile<'rt>) {
-        self.made.abandon(None, writer.failures());
+        self.made.abandon(None, writer.failures);
     }
 
     fn count(&self) -> usize {

@@ -32,21 +32,9 @@ pub struct NewFile<'rt> {
     part: String,
     file: File,
     /// The bytes that were written.
-    bytes: u64,
+    pub(crate) bytes: u64,
     /// The writes that failed, up to `u64::MAX`.
-    failures: u64,
-}
-
-impl NewFile<'_> {
-    pub(crate) fn bytes(&self) -> u64 {
-        self.bytes
-    }
-
-    pub(crate) fn failures(&self) -> u64
-        ensures { result ≡ self.now.failures }
-    {
-        self.failures
-    }
+    pub(crate) failures: u64,
 }
 
 impl Output for NewFile<'_> {
@@ -82,7 +70,7 @@ fn remove(rt: &HostRuntime, name: &str) -> io::Result<()> {
 
 /// Is true where it is no failure that a folder can't be synced: it may not be read, or its file
 /// system has no call for that.
-fn is_let_pass(error: &io::Error) -> bool {
+fn may_stay_unsynced(error: &io::Error) -> bool {
     matches!(
         error.kind(),
         ErrorKind::PermissionDenied | ErrorKind::InvalidInput | ErrorKind::Unsupported
@@ -100,7 +88,7 @@ fn sync_folder(rt: &HostRuntime, name: &str) -> io::Result<()> {
         Err(error) => Err(error),
     };
     match synced {
-        Err(error) if is_let_pass(&error) => Ok(()),
+        Err(error) if may_stay_unsynced(&error) => Ok(()),
         answer => answer,
     }
 }

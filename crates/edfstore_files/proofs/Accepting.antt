@@ -47,10 +47,7 @@ met_first : (cap : ℕ) (h : Holdings) (t : Turn) (o : Option Parsed) (p : Optio
 met_first cap h t (Some (Fragment k records)) (Some answer) key new known os ps goes is same =
     let answered : answer ≡ Accepted key new known = cc in
     let head : answer ≡ reply cap h (Fragment k records) = cc in
-    let named : key ≡ k = subst (λ (r : Reply). IsPossibleReply (Fragment k records) r) answered
-    goes.1
-    in
-    record {
+    let named : key ≡ k = subst (IsPossibleReply (Fragment k records)) answered goes.1 in record {
       records = records;
       submission = same_told (Some (Fragment k records)) k key records (sym named) refl;
       replied = ap (λ (q : Key). reply cap h (Fragment q records)) named ∙ sym head ∙ answered;
@@ -84,9 +81,7 @@ met_at cap h (b ∷ bs) behind t key new known all same is =
     let next = past_first cap h b b.submission (reply_of b.answer) (tolds_of (bs ++ t ∷ behind))
     (replies_of (bs ++ t ∷ behind)) all.0 same in
     let later = met_at cap (after cap h (some_values (b.submission ∷ []))) bs behind t key new known
-    all.1
-    next
-    is in
+    all.1 next is in
     subst (λ (k : Holdings). Met cap k t.submission key new known)
     (sym (after-append cap h (some_values (b.submission ∷ [])) (some_values (tolds_of bs)))
     ∙ sym (ap (after cap h) (somes_first b.submission (tolds_of bs)))) later
@@ -95,8 +90,7 @@ met_at cap h (b ∷ bs) behind t key new known all same is =
 
 keeps_sound : (cap : ℕ) (db : Database) (h : Holdings) → DatabaseHolds cap db h → IsSound cap h
 keeps_sound cap db h (no_table none is) = subst (IsSound cap) (sym is) (nothing_is_sound cap)
-keeps_sound cap db h (one_table one empty is) =
-    subst (IsSound cap) (sym is) (nothing_is_sound cap)
+keeps_sound cap db h (one_table one empty is) = subst (IsSound cap) (sym is) (nothing_is_sound cap)
 keeps_sound cap db h (both_tables both kept) = kept.sound
 
 files_sound : (cap : ℕ) (image : Image) (h : Holdings) → FilesHold cap image h → IsSound cap h
@@ -117,9 +111,7 @@ has_accepted : (cap : ℕ) (h : Holdings) (turns : List Turn) → IsSound cap h 
 has_accepted cap h turns sound each same before behind t receipt splits is =
     let key = receipt.identity in
     let all = subst (AllByRecursion IsConsistentTurn) splits each in
-    let same' = subst (λ (ts : List Turn). replies_in ts ≡ replies cap h (submissions_in ts)) splits
-    same
-    in
+    let same' = subst (λ ts. replies_in ts ≡ replies cap h (submissions_in ts)) splits same in
     let it = met_at cap h before behind t key receipt.new receipt.known all same'
     (ap reply_of is) in
     let list : submissions_in turns

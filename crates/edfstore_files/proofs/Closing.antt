@@ -31,8 +31,7 @@ module _ {D : Type 0} {g : Ghosts D} (c : Held (FileStore D g)) (before last : F
     IsTrue (view before).is_open ⊎ MoreFaults (faults c.store) (faults before))
     (mended : IsTrue (view before).is_open → (view before).is_broken ≡ false) where
   pub excused : (e : StoreError) →
-      HasCause (view before) (MoreFaults (faults before) (faults last)) ⊥ e →
-      ExcusesClose c last e
+      HasCause (view before) (MoreFaults (faults before) (faults last)) ⊥ e → ExcusesClose c last e
   excused OutOfMemory cause = tt
   excused Io cause = omega arith
   excused Corrupt cause = omega arith

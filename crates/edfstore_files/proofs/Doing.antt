@@ -71,8 +71,7 @@ module _ {S : Type 0} (g : Ghosts S) where
 
   left_by : (cap : ℕ) (h : Holdings) (u : Turn) (rows : Trees) →
       RepresentCommitted cap rows (after cap h (some_values (u.submission ∷ [])))
-      ⊎ MayHaveCommittedNext cap h (u ∷ []) rows →
-      MayRemainAfterCrash cap h (u ∷ []) rows
+      ⊎ MayHaveCommittedNext cap h (u ∷ []) rows → MayRemainAfterCrash cap h (u ∷ []) rows
   left_by cap h u rows (inl kept) = record {
     first = u ∷ [];
     rest = [];

@@ -94,8 +94,7 @@ module _ {D : Type 0} {g : Ghosts D} (stays : SeenMayStay g) (r : ProgramRun g) 
       λ runs h start sound keep follow.
           ∥∥₁_map (result r.cap runs h start r.start sound keep follow) (λ it.
           let x : (one : HeadlineAfterRuns r.cap runs h r.start)
-          × IsSo (after r.cap h one.submissions) =
-          (it, so gave _ it.holds) in x),
+          × IsSo (after r.cap h one.submissions) = (it, so gave _ it.holds) in x),
     )
 
   -- ---- a store that was opened
@@ -132,8 +131,7 @@ module _ {D : Type 0} {g : Ghosts D} (stays : SeenMayStay g) (r : ProgramRun g) 
         (kept.0, subst (λ (d : Database). DatabaseHolds r.cap d kept.0) (settled early gave) kept.1)
 
     kept : AreClosed r s → (h : Holdings) → Holds over_files it.new h → (image : Image) →
-        MayHold r s image →
-        FilesHold r.cap image h × FilesHold r.cap (record image { log = [] }) h
+        MayHold r s image → FilesHold r.cap image h × FilesHold r.cap (record image { log = [] }) h
     kept closed h held image may =
         let c = copied closed in
         ends_in r.cap it.new.connection s.files h c (live c.was_open).1
@@ -154,14 +152,12 @@ module _ {D : Type 0} {g : Ghosts D} (stays : SeenMayStay g) (r : ProgramRun g) 
           ),
           keeps (after r.cap h (submissions_in it.turns))
               (subst (λ (n : ℕ). Holds over_files it.new (after n h (submissions_in it.turns)))
-              it.cap_is
-              (it.takes.holdings h held)),
+              it.cap_is (it.takes.holdings h held)),
         ) in ∣ x ∣₁
 
     others : AreClosed r s → HasBoth (file_state first).committed.schema → (image : Image) →
         MayHold r s image → ∥ ((rows : Trees) × HoldsDatabase image rows
-        × KeepsTrees (file_state first).committed.schema (file_state first).committed.trees rows)
-        ∥₁
+        × KeepsTrees (file_state first).committed.schema (file_state first).committed.trees rows) ∥₁
     others closed both image may =
         let c = copied closed in
         let was = subst (λ (d : Database). HasBoth d.schema) (sym (settled early closed.0)) both in

@@ -31,15 +31,13 @@ use Rattle.edfstore_files.proofs.Schemas.{schema_once, unlisted, kept_schema}
 use Rattle.edfstore_files.proofs.Nothing.{nothing_found, nothing_kept}
 
 pub nothing_of : (cap : ℕ) (db : Database) (h : Holdings) → DatabaseHolds cap db h →
-    db.schema ≡ no_schema →
-    h ≡ nothing_held
+    db.schema ≡ no_schema → h ≡ nothing_held
 nothing_of cap db h (no_table is none) now = none
 nothing_of cap db h (one_table is empty none) now = none
 nothing_of cap db h (both_tables both kept) now = absurd (none_not_both db.schema now both)
 
 empty_of : (cap : ℕ) (db : Database) (h : Holdings) → DatabaseHolds cap db h →
-    db.schema ≡ one_schema →
-    (stored_recordings db.trees ≡ []) × (h ≡ nothing_held)
+    db.schema ≡ one_schema → (stored_recordings db.trees ≡ []) × (h ≡ nothing_held)
 empty_of cap db h (no_table is none) now = absurd (none_not_one db.schema is now)
 empty_of cap db h (one_table is empty none) now = (empty, none)
 empty_of cap db h (both_tables both kept) now = absurd (one_not_both db.schema now both)
@@ -76,10 +74,8 @@ own_keeps cap old new (from_both both same) kept own = (
 pub kept_is_own : (cap : ℕ) (db : Database) (h : Holdings) → DatabaseHolds cap db h →
     ¬ IsForeignFile cap db
 kept_is_own cap db h (no_table none is) (other_schema other) = other (inl none)
-kept_is_own cap db h (no_table none is) (foreign_rows both rows) =
-    none_not_both db.schema none both
-kept_is_own cap db h (no_table none is) (only_recordings one some) =
-    none_not_one db.schema none one
+kept_is_own cap db h (no_table none is) (foreign_rows both rows) = none_not_both db.schema none both
+kept_is_own cap db h (no_table none is) (only_recordings one some) = none_not_one db.schema none one
 kept_is_own cap db h (one_table one empty is) (other_schema other) = other (inr (inl one))
 kept_is_own cap db h (one_table one empty is) (foreign_rows both rows) =
     one_not_both db.schema one both
@@ -186,11 +182,9 @@ left_keeps cap old rows left both sound keeps kept schema now =
 -- ---- under a greater cap
 
 wider_kept : (cap more : ℕ) → cap ≤ more → (trees : Trees) (h : Holdings) →
-    RepresentCommitted cap trees h →
-    RepresentCommitted more trees h
+    RepresentCommitted cap trees h → RepresentCommitted more trees h
 wider_kept cap more wide trees h kept =
-    let s = kept.sound in
-    record {
+    let s = kept.sound in record {
       stand = kept.stand;
       sound = record {
         rising = s.rising;
@@ -205,8 +199,7 @@ wider_kept cap more wide trees h kept =
     }
 
 wider_keeps : (cap more : ℕ) → cap ≤ more → (db : Database) (h : Holdings) →
-    DatabaseHolds cap db h →
-    DatabaseHolds more db h
+    DatabaseHolds cap db h → DatabaseHolds more db h
 wider_keeps cap more wide db h (no_table none is) = no_table none is
 wider_keeps cap more wide db h (one_table one empty is) = one_table one empty is
 wider_keeps cap more wide db h (both_tables both kept) =

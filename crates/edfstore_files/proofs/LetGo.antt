@@ -59,8 +59,7 @@ still_keeps cap db image h sound keeps as_was = ∥∥₁_map as_was (λ it.
       elim it.2 [
         | inl same ↦ same_keep cap db it.0 h same sound keeps
         | inr made ↦
-            let inside = it.1.2 in
-            record {
+            let inside = it.1.2 in record {
               schema = inside.schema;
               is_database = inside.sound;
               holds = made_keeps cap db it.0 h keeps made inside.schema inside.sound;
@@ -139,8 +138,7 @@ module _ {D : Type 0} {g : Ghosts D} where
         ∥∥₁_map (left.1 image may) (λ (rows, could, holds).
         let it = rows_left h keep rows could holds.2.schema holds.2.sound in
         let r : (tolds : List Parsed) × IsSubmittedPrefix turns tolds
-        × FilesHold cap image (after cap h tolds) =
-        (it.0, it.1, inr (rows, ∣ holds ∣₁, it.2)) in r)
+        × FilesHold cap image (after cap h tolds) = (it.0, it.1, inr (rows, ∣ holds ∣₁, it.2)) in r)
 
   -- the rows of a store that was refused are as they were, where missing tables may have been made
   pub as_it_was : SeenMayStay g → (first last : Held (FileStore D g)) (files : Files D) →

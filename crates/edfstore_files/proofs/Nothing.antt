@@ -91,8 +91,7 @@ never_blank size image pages found sound other some (inr blank) =
       | inl short ↦ omega (arith, short, long, large)
       | inr more ↦ elim more [
         | inl zero' ↦ omega (arith, zero'.1, magic)
-        | inr rest ↦ rest.1
-            (magic ∙ sym (first_byte other some))
+        | inr rest ↦ rest.1 (magic ∙ sym (first_byte other some))
       ]
     ]
 
@@ -103,8 +102,7 @@ nothing_holds image db nothing held =
     let never = never_blank held.0 image it.pages it.found it.ours.file.sound in
     elim nothing [
       | inl plain ↦ never (used_size 4096 false) (omega arith) plain
-      | inr summed ↦ never
-          (used_size 4096 true) (omega arith) summed
+      | inr summed ↦ never (used_size 4096 true) (omega arith) summed
     ]
 
 pub nothing_found : (image : Image) (db : Trees) → IsNothing image → AreFoundIn image db →
@@ -115,8 +113,7 @@ nothing_found image db nothing (inl found) =
     let never = never_blank found.0 image found.1 found.3 ours.file.sound in
     elim nothing [
       | inl plain ↦ never (used_size 4096 false) (omega arith) plain
-      | inr summed ↦ never
-          (used_size 4096 true) (omega arith) summed
+      | inr summed ↦ never (used_size 4096 true) (omega arith) summed
     ]))
 
 -- ---- no rows

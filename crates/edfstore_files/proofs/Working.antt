@@ -42,8 +42,7 @@ pub record FrontKept (cap : ℕ) (turns : List Turn) (h : Holdings) (rows : Tree
 
 unended_front : (cap : ℕ) (turns first rest : List Turn) (h : Holdings) (rows : Trees) →
     turns ≡ first ++ rest → MayHaveCommittedNext cap
-    (after cap h (submissions_in first)) rest rows →
-    FrontKept cap turns h rows
+    (after cap h (submissions_in first)) rest rows → FrontKept cap turns h rows
 unended_front cap turns first [] h rows splits none = absurd none
 unended_front cap turns first (t ∷ ts) h rows splits u = record {
   submissions = submissions_in first ++ u.1.0 ∷ [];
@@ -54,8 +53,7 @@ unended_front cap turns first (t ∷ ts) h rows splits u = record {
     are = inr (t, ts, u.1.0, refl, u.0, u.1.1, refl);
   };
   kept = subst (RepresentCommitted cap rows)
-      (sym (after-append cap h (submissions_in first) (u.1.0 ∷ [])))
-      u.1.2;
+      (sym (after-append cap h (submissions_in first) (u.1.0 ∷ []))) u.1.2;
 }
 
 front_kept : (cap : ℕ) (turns : List Turn) (h : Holdings) (rows : Trees) →
@@ -165,15 +163,13 @@ module _ {D : Type 0} {g : Ghosts D} (r : ProgramRun g) (first : Held (FileStore
         (λ clean rows left h keeps.
         let kept = front_kept it.old.cap it.turns h rows
         (left.1 h (opened_holds over_files first it.old it.opened h keeps)) in
-        let was = was_clean clean in
-        record {
+        let was = was_clean clean in record {
           submissions = kept.submissions;
           front = kept.front;
           holds = left_keeps it.old.cap (at over_files it.old).committed rows
               (after it.old.cap h kept.submissions) (tables_both _ _ (it.opened.tables was))
               (it.live left.0.0).1 left.0.1 kept.kept;
-        })
-        it.opened.crash second
+        }) it.opened.crash second
 
     pub crash : Survives (file_state first) (at over_files it.new)
         (MayBeLeft r.cap it.turns (file_state first).now)

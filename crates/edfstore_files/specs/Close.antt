@@ -1,6 +1,5 @@
 -- The result of a run: what its files hold once they are closed or released, also after others.
-use Rattle.std.specs.Prelude.{◌≡◌, ◌⊎◌, ◌↔◌, ℕ, Bool, true, false, List, [], Option, Some, None}
-use Rattle.std.specs.Prelude.{IsTrue, IfSome}
+use Rattle.std.specs.Prelude.{◌≡◌, ◌⊎◌, ◌↔◌, ℕ, Bool, List, [], Option, Some, None, IsTrue, IfSome}
 use Rattle.sqlite_disk.specs.declared.Disk.{Ghosts}
 use Rattle.sqlite_disk.specs.declared.Files.{Files}
 use Rattle.sqlite_wal.specs.Recovery.{Image}
@@ -81,11 +80,10 @@ module _ {D : Type 0} {g : Ghosts D} (r : ProgramRun g) (s : EndedRun D) where
       FilesHold r.cap first h → Follow r.cap runs first r.start →
       ∥ ((it : HeadlineAfterRuns r.cap runs h r.start) × IsSo (after r.cap h it.submissions)) ∥₁)
 
-  -- The store was opened, and the work was done over it: it held what the files held, the result
-  -- of some submissions, or nothing. Closed files, and the database file alone, hold what the store
-  -- then held, which is the result of all turns, and beside our two tables what they held; released
-  -- ones the result of a prefix of the turns. However the close went, an opening after a crash
-  -- reads only rows that are the result of such a prefix.
+  -- The store was opened, and held what the files held: nothing, or the result of some submissions.
+  -- Closed files, and the database file alone, then hold the result of all turns, as the store did,
+  -- and beside our two tables what they held; released ones hold that of a prefix of the turns.
+  -- However the close went, an opening after a crash reads only the rows of such a prefix.
   pub record IsRunDone : Type 0 where
     pub db : Database
     pub old : StoreModel (FileStore D g)

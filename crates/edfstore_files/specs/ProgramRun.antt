@@ -1,6 +1,6 @@
 -- A run of `edfstore` or a session of `edfserve` over the two files of a store: how these are
 -- opened for it, what it is given, what it prints, and what it does while the store is open.
-use Rattle.std.specs.Prelude.{◌≡◌, ◌⊎◌, ◌∷◌, ◌++◌, ℕ, true, false, Bool, List, [], length, map}
+use Rattle.std.specs.Prelude.{◌≡◌, ◌⊎◌, ◌∷◌, ◌++◌, ℕ, false, Bool, List, [], length, map}
 use Rattle.std.specs.Prelude.{Option, None, option_map, Result, Ok, Err, IfSome}
 use Rattle.sqlite_disk.specs.declared.Disk.{Ghosts}
 use Rattle.sqlite_disk.specs.declared.Files.{Files}

@@ -28,12 +28,11 @@ use sqlite_disk::Disk;
 /// States the headline across runs and sessions (`law`). They follow one another: each opens the
 /// files as the one before closed them, or as a crash of it made them. Then the files hold the
 /// result of one list of submissions, of which the headline is true. A run that was closed adds all
-/// its files, in order, and answered the replies to them; an interrupted one adds a prefix.
-///
-/// After a run that was closed the files hold all data records of each file that it answered as
-/// accepted (`accepted`). Without a database nothing is held (`first`). A run that released its
-/// files unclosed was interrupted (`unclosed`). What files hold under one cap they hold under a
-/// greater one (`wider`).
+/// its files, in order, and answered the replies to them; an interrupted one adds a prefix. After a
+/// run that was closed the files hold all data records of each file that it answered as accepted
+/// (`accepted`). Without a database nothing is held (`first`). A run that released its files
+/// unclosed was interrupted (`unclosed`). What files hold under one cap they hold under a greater
+/// one (`wider`).
 pub fn across_runs()
     ensures law { (cap : ℕ) (runs : List PastRun) (h : Holdings) (start end : Image) →
         IsSound cap h → FilesHold cap start h → Follow cap runs start end →

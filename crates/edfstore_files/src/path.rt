@@ -59,8 +59,7 @@ fn options(rt: &HostRuntime, pages: Option<usize>) -> Result<Options, Error>
 }
 
 /// Opens the files of the store at a path, for [`run_opened`](crate::run_opened). Where there are
-/// none it makes them, with page sums. The cache has `pages` pages, or the port of SQLite's own
-/// number.
+/// none it makes them, with page sums. `pages` is the size of the cache; `None` is the port's own.
 ///
 /// `start` stands for the bytes that the files hold, whatever those are. No clause speaks of the
 /// path that is opened, of what is done to it before and after, of page sums, or of the cache.

@@ -1,4 +1,4 @@
-//! Notices of how an opening went.
+//! The outputs of a run, of which a watch gets notices of how its opening went.
 
 ghost use Rattle.std.specs.Prelude.{List, Option};
 ghost use Rattle.edf_cli.specs.Output.{output_change, IsWritten};
@@ -10,10 +10,9 @@ use edf_command::{Status, refuse_store};
 use edf_fragment::Output;
 use edf_store::StoreFault;
 
-/// A watch is notified of how the opening of a store went, as for a person at a terminal.
-///
-/// A run does so once: before its command writes to standard output, or after the line that says
-/// why it is not run. Contracts speak of its notices, where these are known.
+/// A watch is notified once by a run of how the opening of its store went: before its command
+/// writes to standard output, or after the line that says why it is not run. Contracts speak of its
+/// notices, where these are known.
 pub trait Watch {
     // Its notices, in order, where they are known.
     ghost noticed: { Self → Option (List Notice) };
@@ -28,6 +27,14 @@ pub trait Watch {
     fn refused(&mut self, fault: &StoreFault, has_our_tables: bool)
         ensures { IsNoticed (noticed self.old) (noticed self.new)
             (was_refused fault.now has_our_tables) };
+}
+
+/// The outputs of a run: standard output, standard error, and the watch of its opening.
+#[derive(Drop)]
+pub struct Outputs<O, F, W> {
+    pub out: O,
+    pub err: F,
+    pub watch: W,
 }
 
 /// Prints that a store is refused, and notifies the watch.

@@ -38,10 +38,10 @@ FindsNothing (convert file) err status = ⊥
 abbrev pub Opening : (D : Type 0) → Ghosts D → Type 0
 Opening D g = Result (Held (FileStore D g)) (Error × Option (Leftover D g))
 
-module _ {D : Type 0} {g : Ghosts D} (r : run.ProgramRun g) (asked : Request) where
+module _ {D : Type 0} {g : Ghosts D} (r : run.ProgramRun g) (request : Request) where
   -- It was run over the files that were opened. They are closed under every status but trouble,
   -- and how they are read then is one of the outcomes of a crash. Or they were not opened, for this
-  -- error, and what remains of them is what did. Or none were looked for, and it only reads.
+  -- error, and what remains of them is returned. Or none were looked for, and it only reads.
   abbrev pub IsRunOn : Option (Opening D g) → Ended D g → Type 0
   IsRunOn opening (Run s) = (opening ≢ None) × (IsRunDone r s ⊎ IsRefused r s)
       × (s.status ≢ Trouble → s.failure ≡ None)
@@ -49,12 +49,12 @@ module _ {D : Type 0} {g : Ghosts D} (r : run.ProgramRun g) (asked : Request) wh
   IsRunOn opening (NotOpened status rest) = (error : Error) × (opening ≡ Some (Err (error, rest)))
       × run.NotOpened r error status
   IsRunOn opening (WithoutFiles status) = (opening ≡ None) × r.Untouched
-      × FindsNothing asked r.err status
+      × FindsNothing request r.err status
 
   -- the files are opened, whatever they hold, or there is a reason why not; or none are, and the
   -- command only reads
   abbrev pub IsOpeningFor : Option (Opening D g) → Type 0
-  IsOpeningFor opening = MatchOption opening (OnlyReads asked) (IsOpening r.start)
+  IsOpeningFor opening = MatchOption opening (OnlyReads request) (IsOpening r.start)
 
   -- the command is run, whatever was found
   abbrev pub IsRunAtPath : Ended D g → Type 0

@@ -12,8 +12,7 @@ use Rattle.edfstore_open.specs.OnFile.{IsRunAtPath}
 use Rattle.edfstore_open.specs.declared.ended.Ended.{Ended}
 use Rattle.edfstore_open.specs.declared.ended.Ended.TheVariants.{WithoutFiles}
 
--- a run of the program over files that hold this: a recording may have as many data records as a
--- file may, and no notice of the opening is known
+-- a run of the program over files that hold this, under the cap of a file, with no known notice
 abbrev pub program_run : {D : Type 0} (g : Ghosts D) → Image → Command → OutputChange →
     (Unread : Type 0) → ProgramRun g
 program_run g start c err Unread =

@@ -29,12 +29,6 @@ pub(crate) fn cache_pages(bytes: u64, free: u64) -> Option<usize>
     }
 }
 
-/// Is true where a file that begins so has pages of the size that is made here: SQLite writes it
-/// after its name.
-pub(crate) fn has_own_pages(head: &[u8; 18]) -> bool {
-    head[16] == 0x10 && head[17] == 0
-}
-
 /// Returns the bytes of a number of kilobytes, as `  16141056 kB`.
 fn bytes_of(text: &str) -> Option<u64> {
     let number = text.trim().strip_suffix(" kB")?;

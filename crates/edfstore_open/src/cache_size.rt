@@ -1,6 +1,6 @@
 //! The size of the page cache for a store that is about to be opened.
 
-use crate::cache::{Group, cache_pages, free_bytes, group_of, has_own_pages};
+use crate::cache::{Group, cache_pages, free_bytes, group_of};
 use std::fs;
 use std::io::{ErrorKind, Read};
 
@@ -21,35 +21,35 @@ fn number_in(rt: &HostRuntime, path: &str) -> Option<u64> {
 }
 
 /// Returns how many bytes one group, that of a prefix of the path, may still take.
-fn left_at(rt: &HostRuntime, group: Group<'_>, front: &str) -> Option<u64> {
+fn unused_at(rt: &HostRuntime, group: Group<'_>, prefix: &str) -> Option<u64> {
     let folder = group.folder;
-    let limit = format!(in rt.alloc(); "{folder}{front}/{}", group.limit).ok()?;
+    let limit = format!(in rt.alloc(); "{folder}{prefix}/{}", group.limit).ok()?;
     let most = number_in(rt, limit.as_str())?;
     if most == u64::MAX {
         return Some(most);
     }
-    let used = format!(in rt.alloc(); "{folder}{front}/{}", group.used).ok()?;
+    let used = format!(in rt.alloc(); "{folder}{prefix}/{}", group.used).ok()?;
     Some(most.saturating_sub(number_in(rt, used.as_str())?))
 }
 
 /// Returns how many bytes a group, and each one that it is in, may still take.
-fn left_in(rt: &HostRuntime, group: Group<'_>) -> Option<u64> {
-    let mut least = left_at(rt, group, group.path)?;
+fn unused_in(rt: &HostRuntime, group: Group<'_>) -> Option<u64> {
+    let mut least = unused_at(rt, group, group.path)?;
     for (at, byte) in group.path.as_bytes().iter().enumerate() {
         if *byte == SLASH
-            && let Some(front) = group.path.get(..at)
+            && let Some(prefix) = group.path.get(..at)
         {
-            least = least.min(left_at(rt, group, front)?);
+            least = least.min(unused_at(rt, group, prefix)?);
         }
     }
     Some(least)
 }
 
 /// Returns how many bytes this process may still take by its limits.
-fn left_of_limits(rt: &HostRuntime) -> Option<u64> {
+fn unused_of_limits(rt: &HostRuntime) -> Option<u64> {
     match fs::read_to_string(rt, "/proc/self/cgroup") {
         Ok(text) => match group_of(text.as_str()) {
-            Some(group) => left_in(rt, group),
+            Some(group) => unused_in(rt, group),
             None => Some(u64::MAX),
         },
         Err(error) if error.kind() == ErrorKind::NotFound => Some(u64::MAX),
@@ -61,7 +61,7 @@ fn left_of_limits(rt: &HostRuntime) -> Option<u64> {
 fn free_memory(rt: &HostRuntime) -> Option<u64> {
     let text = fs::read_to_string(rt, "/proc/meminfo").ok()?;
     let free = free_bytes(text.as_str())?;
-    Some(free.min(left_of_limits(rt)?))
+    Some(free.min(unused_of_limits(rt)?))
 }
 
 /// Is true where the file at a path has pages of the size that is made here.
@@ -70,7 +70,8 @@ fn begins_as_ours(rt: &HostRuntime, path: &str) -> bool {
         return false;
     };
     let mut head = [0; 18];
-    file.read_exact(&mut head).is_ok() && has_own_pages(&head)
+    // SQLite writes the size of its pages after its name.
+    file.read_exact(&mut head).is_ok() && head[16] == 0x10 && head[17] == 0
 }
 
 /// Returns the cache size for the store at a path: as many pages as its file has now, where there

@@ -153,13 +153,24 @@ pub(crate) struct Teller<'t> {
 }
 
 impl<'t> Teller<'t> {
-    pub(crate) fn new(terminal: &'t Terminal<'t>, path: &'t str, is_new: bool) -> Teller<'t> {
+    pub(crate) fn new(terminal: &'t Terminal<'t>) -> Teller<'t> {
         Teller {
             terminal,
-            path,
-            is_new,
+            path: "",
+            is_new: false,
             refused: None,
         }
+    }
+
+    /// Notes the path of the store, and whether there is no file yet.
+    pub(crate) fn set_path(&mut self, path: &'t str, is_new: bool) {
+        self.path = path;
+        self.is_new = is_new;
+    }
+
+    /// Prints that there is no file.
+    pub(crate) fn print_missing(&self) {
+        self.terminal.say(self.path, "no such file");
     }
 
     /// Prints why the store was refused, or what failed of the disk in a run that is trouble.

@@ -30,12 +30,13 @@ mod path;
 mod running;
 mod same_files;
 mod spare;
-mod waiting;
 
+use cause::Teller;
 pub use cause::{Refused, print_cause, print_failure_of, print_lost};
 use edf_command::{Order, Status, read_command};
 use edf_fragment::Counted;
 use edf_os::{Files, Streams, Terminal, refuse_words, words};
+use edfstore_files::Outputs;
 pub use opening::{Again, open_standing, open_when_free};
 use running::run_over_store;
 pub use same_files::Standing;
@@ -55,10 +56,11 @@ fn terminal_of<'rt>(rt: &'rt HostRuntime, command: &Order) -> Terminal<'rt> {
 /// Does what the command asks for, over the system's files and streams.
 fn run_command(rt: &HostRuntime, command: &Order) -> Status {
     let terminal = terminal_of(rt, command);
-    let Streams { mut out, mut err } = Streams::new(rt, &terminal);
+    let Streams { out, err } = Streams::new(rt, &terminal);
+    let watch = Teller::new(&terminal);
     let mut inputs = Files::new(rt, &terminal);
-    let (inputs, out, err) = (&mut inputs, &mut out, &mut err);
-    let ended = run_over_store(rt, &terminal, Unknown, command, inputs, out, err);
+    let mut outputs = Outputs { out, err, watch };
+    let ended = run_over_store(rt, Unknown, command, &mut inputs, &mut outputs);
     terminal.wipe_progress();
     ended.status()
 }

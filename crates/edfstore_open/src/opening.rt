@@ -1,22 +1,27 @@
 //! The opening of the files of a store, which waits where another program has them.
 
-ghost use Rattle.std.specs.Prelude.{◌≡◌, true, Ok, IfOk, IfErr, MatchOption};
-ghost use Rattle.sqlite_wal.specs.Recovery.{Image};
+ghost use Rattle.std.specs.Prelude.{◌≡◌, true, MatchOption};
 ghost use Rattle.sqlite_wal.specs.Files.{image_at};
 ghost use Rattle.edf_command.specs.Arguments.{meaning};
-ghost use Rattle.edfstore_files.specs.ProgramRun.{IsOfNoFiles, IsOpening};
+ghost use Rattle.edfstore_files.specs.ProgramRun.{IsOpening};
 ghost use Rattle.edfstore_open.specs.OnFile.{OnlyReads};
 
 use crate::cache_size::pages_at;
 use crate::heap::give_back;
 use crate::same_files::Standing;
 use crate::spare::without_spares;
-use crate::waiting::{TRIES, is_held, pause};
 use edf_command::Order;
 use edfstore_files::open_path;
 use sqlite::{Connection, Error, ErrorCode, FileFrom, FileStore, Leftover, Start, Unknown};
-use sqlite_disk::Disk;
-use std::alloc::Global;
+use std::thread;
+use std::time::Duration;
+
+/// The number of tries to open a store that another program has, with a pause after each: for two
+/// seconds. The command before, as in `edfstore list s.db | while read ..`, has ended by then.
+const TRIES: u32 = 200;
+
+/// The milliseconds of a pause.
+const PAUSE: u64 = 10;
 
 /// A value that stands for what files hold, and does so again at the next try.
 pub trait Again {
@@ -30,16 +35,11 @@ impl Again for Unknown {
     }
 }
 
-/// Is true where memory ran out.
-fn lacks_memory(error: &Error) -> bool {
-    matches!(error, Error::SqliteFailure(ErrorCode::OutOfMemory))
-}
-
 /// Opens the files of the store at a path with all of their pages in the cache, where there is
 /// memory for it and they do not stay open; and once more, as SQLite's port does by itself, where
 /// memory ran out then. What remains of the opening that failed is dropped before, and files hold
 /// what they held (`edfstore_files::laws`).
-fn open_with_room<S: Start + Again>(
+fn open_cached<S: Start + Again>(
     rt: &HostRuntime,
     path: &str,
     stay_open: bool,
@@ -49,14 +49,11 @@ fn open_with_room<S: Start + Again>(
 {
     let pages = if stay_open { None } else { pages_at(rt, path) };
     match open_path(rt, path, pages, start.again()) {
-        Ok(conn) => Ok(conn),
-        Err((error, left)) => {
-            if pages.is_some() && lacks_memory(&error) {
-                drop(left);
-                return open_path(rt, path, None, start.again());
-            }
-            Err((error, left))
+        Err((Error::SqliteFailure(ErrorCode::OutOfMemory), rest)) if pages.is_some() => {
+            drop(rest);
+            open_path(rt, path, None, start.again())
         }
+        answer => answer,
     }
 }
 
@@ -79,26 +76,14 @@ pub fn open_when_free<S: Start + Again>(
     ensures { IsOpening (image_at S.Start) result }
 {
     for _ in 0..TRIES {
-        match open_with_room(rt, path, stay_open, &start) {
-            Err((error, None)) if is_held(&error) => pause(rt),
+        match open_cached(rt, path, stay_open, &start) {
+            Err((Error::SqliteFailure(ErrorCode::DatabaseBusy), None)) => {
+                thread::sleep(rt, Duration::from_millis(PAUSE));
+            }
             opened => return opened,
         }
     }
-    open_with_room(rt, path, stay_open, &start)
-}
-
-/// Returns the connection of files that stay open, without the memory that only their check took.
-fn settled<D: Disk + Drop>(
-    alloc: Global,
-    conn: Connection<FileStore<D>>,
-) -> Result<Connection<FileStore<D>>, Error>
-    ensures opening { (start : Image) → IsOpening {g = D.Disk} start (Ok conn) →
-        IfOk result (λ c. IsOpening {g = D.Disk} start (Ok c)) }
-    ensures why { IfErr result IsOfNoFiles }
-{
-    let kept = without_spares(conn);
-    give_back(alloc);
-    kept
+    open_cached(rt, path, stay_open, &start)
 }
 
 /// Opens the files of a store that stay open. `standing` notes what its path then stands for, and
@@ -113,13 +98,15 @@ pub fn open_standing<S: Start + Again>(
 ) -> Result<Connection<FileStore<FileFrom<S>>>, (Error, Option<Leftover<FileFrom<S>>>)>
     ensures { IsOpening (image_at S.Start) result }
 {
-    let rt = standing.rt();
+    let rt = standing.rt;
     let before = standing.db();
     let conn = match open_when_free(rt, standing.path(), true, start) {
         Ok(conn) => conn,
         Err(refused) => return Err(refused),
     };
-    let conn = match settled(rt.alloc(), conn) {
+    let settled = without_spares(conn);
+    give_back(rt.alloc());
+    let conn = match settled {
         Ok(conn) => conn,
         Err(error) => return Err((error, None)),
     };

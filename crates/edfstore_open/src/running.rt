@@ -17,8 +17,7 @@ use crate::opening::{Again, find};
 use crate::path::{AtPath, look_at};
 use edf_command::{Inputs, Order, Status, print_no_recording, store_path};
 use edf_fragment::Output;
-use edf_os::Terminal;
-use edfstore_files::{Cap, Watch, run_opened};
+use edfstore_files::{Cap, Outputs, Watch, run_opened};
 use sqlite::{Connection, Error, FileFrom, FileStore, Leftover, Start};
 use sqlite_disk::Disk;
 use std::alloc::Global;
@@ -43,9 +42,7 @@ fn run_on_file<S: Start, I: Inputs, O: Output, F: Output, W: Watch>(
     >,
     command: &Order,
     inputs: &mut I,
-    out: &mut O,
-    err: &mut F,
-    watch: &mut W,
+    outputs: &mut Outputs<O, F, W>,
 ) -> Ended<FileFrom<S>>
     requires { MatchOption opening
         (OnlyReads (meaning command.now)) (IsOpening (image_at S.Start)) }
@@ -54,17 +51,18 @@ fn run_on_file<S: Start, I: Inputs, O: Output, F: Output, W: Watch>(
       I.bytes inputs.old,
       I.opened inputs.old,
       I.opened inputs.new,
-      output_change O.Output out.old out.new,
-    ) (output_change F.Output err.old err.new)
-        (IsNoticed (W.noticed watch.old) (W.noticed watch.new)) (inputs.new ≡ inputs.old) in
+      output_change O.Output outputs.old.out outputs.new.out,
+    ) (output_change F.Output outputs.old.err outputs.new.err)
+        (IsNoticed (W.noticed outputs.old.watch) (W.noticed outputs.new.watch))
+        (inputs.new ≡ inputs.old) in
         IsRunOn r (meaning command.now) opening result }
-    ensures quiet { opening ≡ None → watch.new ≡ watch.old }
+    ensures quiet { opening ≡ None → outputs.new.watch ≡ outputs.old.watch }
 {
     let Some(opened) = opening else {
-        return Ended::WithoutFiles(find_nothing(command, err));
+        return Ended::WithoutFiles(find_nothing(command, &mut outputs.err));
     };
     let cap = Cap::most();
-    match run_opened(alloc, opened, cap, command, inputs, out, err, watch) {
+    match run_opened(alloc, opened, cap, command, inputs, outputs) {
         Ok(session) => Ended::Run(session),
         Err((status, left)) => Ended::NotOpened(status, left),
     }
@@ -79,13 +77,11 @@ fn run_on_file<S: Start, I: Inputs, O: Output, F: Output, W: Watch>(
 /// opened, or of what the system does with it: these lines are to be read.
 fn run_at_path<'x, S: Start + Again, I: Inputs, O: Output, F: Output>(
     rt: &HostRuntime,
-    terminal: &'x Terminal<'x>,
     path: &'x str,
     start: S,
     command: &Order,
     inputs: &mut I,
-    out: &mut O,
-    err: &mut F,
+    outputs: &mut Outputs<O, F, Teller<'x>>,
 ) -> Ended<FileFrom<S>>
     requires named { store_path (meaning command.now) ≡ Some path.now }
     ensures { IsRunAtPath (program_run ⟦<FileFrom<S> as Disk>⟧ (image_at S.Start) (
@@ -93,44 +89,42 @@ fn run_at_path<'x, S: Start + Again, I: Inputs, O: Output, F: Output>(
       I.bytes inputs.old,
       I.opened inputs.old,
       I.opened inputs.new,
-      output_change O.Output out.old out.new,
-    ) (output_change F.Output err.old err.new) (inputs.new
+      output_change O.Output outputs.old.out outputs.new.out,
+    ) (output_change F.Output outputs.old.err outputs.new.err) (inputs.new
         ≡ inputs.old)) (meaning command.now) result }
 {
     let is_new = look_at(rt, path) == AtPath::Nothing;
     let opening = find(rt, path, is_new, start, command);
+    outputs.watch.set_path(path, is_new);
     if opening.is_none() {
-        terminal.say(path, "no such file");
+        outputs.watch.print_missing();
     }
-    let mut teller = Teller::new(terminal, path, is_new);
-    let ended = run_on_file(rt.alloc(), opening, command, inputs, out, err, &mut teller);
-    teller.print_ended(rt, &ended);
+    let ended = run_on_file(rt.alloc(), opening, command, inputs, outputs);
+    outputs.watch.print_ended(rt, &ended);
     ended
 }
 
 /// Runs a command over the store that it names: that of a file, or an empty one in memory.
 pub(crate) fn run_over_store<'x, S: Start + Again, I: Inputs, O: Output, F: Output>(
     rt: &HostRuntime,
-    terminal: &'x Terminal<'x>,
     start: S,
     command: &'x Order,
     inputs: &mut I,
-    out: &mut O,
-    err: &mut F,
+    outputs: &mut Outputs<O, F, Teller<'x>>,
 ) -> Ended<FileFrom<S>>
     ensures { IsProgramRun ⟦<FileFrom<S> as Disk>⟧ (image_at S.Start) (
       meaning command.now,
       I.bytes inputs.old,
       I.opened inputs.old,
       I.opened inputs.new,
-      output_change O.Output out.old out.new,
-    ) (output_change F.Output err.old err.new) (inputs.new ≡ inputs.old) result }
+      output_change O.Output outputs.old.out outputs.new.out,
+    ) (output_change F.Output outputs.old.err outputs.new.err) (inputs.new ≡ inputs.old) result }
 {
     match store_path(command) {
-        Some(path) => run_at_path(rt, terminal, path, start, command, inputs, out, err),
+        Some(path) => run_at_path(rt, path, start, command, inputs, outputs),
         None => {
-            let status = run_in_memory(rt.alloc(), command, inputs, out, err);
-            Ended::WithoutFiles(status)
+            let Outputs { out, err, watch: _ } = outputs;
+            Ended::WithoutFiles(run_in_memory(rt.alloc(), command, inputs, out, err))
         }
     }
 }

@@ -19,29 +19,25 @@ pub(crate) struct Node {
     number: u64,
 }
 
-/// Returns the numbers of a file or a folder.
-fn node_of(found: &Metadata) -> Node {
-    Node {
-        device: found.dev(),
-        number: found.ino(),
-    }
-}
-
 /// A file that is there.
 #[derive(Clone, Copy)]
-struct Found {
+struct RegularFile {
     node: Node,
     bytes: u64,
 }
 
 /// Returns a regular file that has bytes and a name, where the system says that it is there.
-fn regular(found: io::Result<Metadata>) -> Option<Found> {
+fn regular(found: io::Result<Metadata>) -> Option<RegularFile> {
     let found = found.ok()?;
     if !found.is_file() || found.nlink() == 0 || found.len() == 0 {
         return None;
     }
-    Some(Found {
-        node: node_of(&found),
+    let node = Node {
+        device: found.dev(),
+        number: found.ino(),
+    };
+    Some(RegularFile {
+        node,
         bytes: found.len(),
     })
 }
@@ -113,7 +109,7 @@ impl Held {
 /// Files that were once lost stay so.
 #[derive(Drop)]
 pub struct Standing<'p> {
-    rt: &'p HostRuntime,
+    pub(crate) rt: &'p HostRuntime,
     path: &'p str,
     held: RefCell<Option<Held>>,
     is_lost: Cell<bool>,
@@ -132,10 +128,6 @@ impl<'p> Standing<'p> {
 
     pub fn path(&self) -> &'p str {
         self.path
-    }
-
-    pub(crate) fn rt(&self) -> &'p HostRuntime {
-        self.rt
     }
 
     /// Returns the database file of the path, if it has one.

@@ -8,7 +8,7 @@ use edf_fragment::{Counted, Output};
 use edf_os::{Files, Terminal};
 use edf_sample::Sink;
 use edf_store::StoreFault;
-use edfstore_files::{Cap, Watch, open_path, run_opened};
+use edfstore_files::{Cap, Outputs, Watch, open_path, run_opened};
 use sqlite::Unknown;
 use std::io;
 
@@ -29,8 +29,7 @@ fn run_at<O: Output, F: Output>(
     rt: &HostRuntime,
     cap: u32,
     command: &Order,
-    out: &mut O,
-    err: &mut F,
+    outputs: &mut Outputs<O, F, Unwatched>,
 ) -> Status {
     let terminal = Terminal::new(rt, "file", 0);
     let mut inputs = Files::new(rt, &terminal);
@@ -38,17 +37,7 @@ fn run_at<O: Output, F: Output>(
         return Status::Usage;
     };
     let opened = open_path(rt, path, None, Unknown);
-    let watch = &mut Unwatched;
-    match run_opened(
-        rt.alloc(),
-        opened,
-        cap,
-        command,
-        &mut inputs,
-        out,
-        err,
-        watch,
-    ) {
+    match run_opened(rt.alloc(), opened, cap, command, &mut inputs, outputs) {
         Ok(session) => session.status,
         Err((status, _)) => status,
     }
@@ -58,13 +47,15 @@ fn run_at<O: Output, F: Output>(
 fn outcome_of(rt: &HostRuntime, cap: u32, words: &[String]) -> Outcome {
     let mut out_bytes = Vec::new(rt.alloc());
     let mut err_bytes = Vec::new(rt.alloc());
-    let mut out = Counted::new(Sink::whole(&mut out_bytes, 1_000));
-    let mut err = Counted::new(Sink::whole(&mut err_bytes, 1_000));
-    let status = match read_command(rt.alloc(), words, &mut out, &mut err) {
-        Ok(command) => run_at(rt, cap, &command, &mut out, &mut err),
+    let out = Counted::new(Sink::whole(&mut out_bytes, 1_000));
+    let err = Counted::new(Sink::whole(&mut err_bytes, 1_000));
+    let watch = Unwatched;
+    let mut outputs = Outputs { out, err, watch };
+    let status = match read_command(rt.alloc(), words, &mut outputs.out, &mut outputs.err) {
+        Ok(command) => run_at(rt, cap, &command, &mut outputs),
         Err(status) => status,
     };
-    drop((out, err));
+    drop(outputs);
     Outcome {
         out: out_bytes,
         err: err_bytes,

@@ -9,7 +9,7 @@ returns-in-Ok-clause-ran g c = c.run_over.ensures.ran (image_at g.S.Start)
     (subst (IsOpening (image_at g.S.Start)) c.in-Ok.is c.requires)
 
 pub returns-in-Err-clause-unopened : goal.returns-in-Err-clause-unopened
-returns-in-Err-clause-unopened g c = (
+returns-in-Err-clause-unopened g c = let out = c.args.outputs.now.out in (
   c.in-Err.error,
   c.in-Err.is,
   (
@@ -18,10 +18,7 @@ returns-in-Err-clause-unopened g c = (
     record {
       line = c.refuse.ensures.said;
       noticed = c.refuse.ensures.noticed;
-      untouched = (
-        refl,
-        nothing-gets (g.O.Output.contents c.args.out.now) (g.O.Output.failures c.args.out.now),
-      );
+      untouched = (refl, nothing-gets (g.O.Output.contents out) (g.O.Output.failures out));
     },
   ),
 )

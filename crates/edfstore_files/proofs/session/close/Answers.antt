@@ -92,8 +92,7 @@ returns-in-Ok-clause-copied g c is honest =
 pub returns-in-Ok-clause-released : goal.returns-in-Ok-clause-released
 returns-in-Ok-clause-released g c =
     let q = c.checkpoint.ensures.quiet in
-    let r = c.rollback.ensures.quiet in
-    record {
+    let r = c.rollback.ensures.quiet in record {
       store = c.checkpoint.new.self;
       store_is = sym c.close.ensures;
       quiet = record {

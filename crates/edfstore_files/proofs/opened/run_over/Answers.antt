@@ -1,4 +1,4 @@
-use Rattle.std.proofs.Common.{◌≡◌, ◌↔◌, ◌∙◌, IsTrue, inl, inr, ℕ, refl, sym, subst, true≢false}
+use Rattle.std.proofs.Common.{◌≡◌, ◌↔◌, ◌∙◌, IsTrue, inl, inr, ℕ, refl, sym, subst}
 use Rattle.sqlite.specs.Schema.{Schema}
 use Rattle.sqlite.specs.Files.{over_files}
 use Rattle.edf_tables.specs.Schema.{AreOurs}
@@ -10,19 +10,20 @@ use Rattle.edfstore_files.specs.ProgramRun.{IsNoticed, ProgramRun, Refuses, run_
 use Rattle.edfstore_files.proofs.Doing.{turned}
 use Rattle.edfstore_files.proofs.Ending.{ran_back, is_refused, none_failed}
 use Rattle.edfstore_files.proofs.Working.{Works, Returns}
-use Rattle.edfstore_files.proofs.over.run_over.Goals as goal
+use Rattle.edfstore_files.proofs.opened.run_over.Goals as goal
 
 pub returns-in-Ok-clause-ran : goal.returns-in-Ok-clause-ran
 returns-in-Ok-clause-ran g c start opening =
-    let out = output_change g.O.Output c.args.out.now c.run-status.new.out in
-    let mid = output_change g.F.Output c.args.err.now c.run-status.new.err in
+    let was = c.args.outputs.now in
+    let out = output_change g.O.Output was.out c.run-status.new.out in
+    let mid = output_change g.F.Output was.err c.run-status.new.err in
     let asked = meaning c.args.command.now in
     let bytes = g.I.Inputs.bytes c.args.inputs.now in
     let before = g.I.Inputs.opened c.args.inputs.now in
     let after = g.I.Inputs.opened c.run-status.new.inputs in
     let r : ProgramRun g.D.Disk = run_of g.D.Disk c.args.cap start
-    (asked, bytes, before, after, out) (output_change g.F.Output c.args.err.now c.close.new.err)
-    (IsNoticed (g.W.Watch.noticed c.args.watch.now) (g.W.Watch.noticed c.opened.new.self))
+    (asked, bytes, before, after, out) (output_change g.F.Output was.err c.close.new.err)
+    (IsNoticed (g.W.Watch.noticed was.watch) (g.W.Watch.noticed c.opened.new.self))
     (c.run-status.new.inputs ≡ c.args.inputs.now) in
     let t = turned bytes before after out mid asked c.in-Ok.store c.run-status.new.store
     c.run-status.result c.run-status.ensures.done c.run-status.ensures.opened
@@ -53,17 +54,15 @@ returns-in-Ok-clause-closed g c never =
 
 pub returns-in-Err-clause-ran : goal.returns-in-Err-clause-ran
 returns-in-Err-clause-ran g c start opening =
-    let out = output_change g.O.Output c.args.out.now c.args.out.now in
-    let r : ProgramRun g.D.Disk = run_of g.D.Disk c.args.cap start (
-      meaning c.args.command.now,
-      g.I.Inputs.bytes c.args.inputs.now,
-      g.I.Inputs.opened c.args.inputs.now,
-      g.I.Inputs.opened c.args.inputs.now,
-      out,
-    )
-    (output_change g.F.Output c.args.err.now c.refuse.new.err)
-    (IsNoticed (g.W.Watch.noticed c.args.watch.now) (g.W.Watch.noticed c.refuse.new.watch))
-    (c.args.inputs.now ≡ c.args.inputs.now) in
+    let was = c.args.outputs.now in
+    let inputs = c.args.inputs.now in
+    let names = g.I.Inputs.opened inputs in
+    let out = output_change g.O.Output was.out was.out in
+    let r : ProgramRun g.D.Disk = run_of g.D.Disk c.args.cap start
+    (meaning c.args.command.now, g.I.Inputs.bytes inputs, names, names, out)
+    (output_change g.F.Output was.err c.refuse.new.err)
+    (IsNoticed (g.W.Watch.noticed was.watch) (g.W.Watch.noticed c.refuse.new.watch))
+    (inputs ≡ inputs) in
     let ours = c.is_ours-has_our_tables.result in
     let refuses : Refuses r c.in-Err.fault ours c.refuse.result = record {
       line = c.refuse.ensures.said;
