@@ -74,9 +74,13 @@ def ends(failing: Failing, client: Client) -> str:
     told = answers(checks, client)
     status_of, _, err = client.end()
     answered = "".join(told.values())
-    is_well = not err and answered.count(status(0)) == len(NAMES)
+    is_answered = not err and answered.count(status(0)) == len(NAMES)
+    is_well = is_answered and status_of == 0
+    # Where all is answered, and no line says why, the read that finds the end of the input failed.
     checks.same("the status", status_of, 0 if is_well else 3)
     goes_on(checks, failing.given, told)
+    if is_answered and not is_well:
+        return "unread"
     if STORE in answered:
         checks.same("it was the last answer", answered.rstrip().split("\n")[-2].endswith(STORE),
                     True)
@@ -117,3 +121,4 @@ def run(checks: Checks, given) -> None:
     for what, count in (*met.items(), ("is lost", without[lost.ENDED])):
         checks.same(f"some session: {what}", count > 0, True)
     checks.same("sessions that ended at E42", met["E42"] > 0, True)
+    checks.same("sessions whose input's end was not read", met["unread"], 1)
