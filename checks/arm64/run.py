@@ -64,12 +64,13 @@ def lines_of(path: Path) -> list:
 def is_as_stored(name: str, program: Path) -> bool:
     """Whether the stored run of that crate is as stored, by this program."""
     crate = arguments.TOP / "crates" / name
+    stdin = crate / "stdin"
     wanted = (crate / "stdout").read_bytes(), int(*lines_of(crate / "status") or ["0"])
     with measure.scratch() as folder:
         if (crate / "data").exists():
             shutil.copytree(crate / "data", folder, dirs_exist_ok=True)
         ran = measure.ran(program, *lines_of(crate / "args"), folder=Path(folder),
-                          given=crate / "stdin", most=checks.SECONDS)
+                          given=stdin if stdin.exists() else b"", most=checks.SECONDS)
     return (ran.out, ran.status) == wanted
 
 
