@@ -27,17 +27,19 @@ mod heap;
 mod memory;
 mod opening;
 mod path;
+mod reopen;
 mod running;
 mod same_files;
 mod spare;
 
 use cause::Teller;
 pub use cause::{Refused, print_cause, print_failure_of, print_lost};
-use edf_command::{Order, Status, read_command};
+use edf_command::{Order, Status, read_command, store_path};
 use edf_fragment::Counted;
 use edf_os::{Files, Streams, Terminal, refuse_words, words};
 use edfstore_files::Outputs;
 pub use opening::{Again, open_standing, open_when_free};
+use path::look_at;
 use running::run_over_store;
 pub use same_files::Standing;
 use sqlite::Unknown;
@@ -57,10 +59,12 @@ fn terminal_of<'rt>(rt: &'rt HostRuntime, command: &Order) -> Terminal<'rt> {
 fn run_command(rt: &HostRuntime, command: &Order) -> Status {
     let terminal = terminal_of(rt, command);
     let Streams { out, err } = Streams::new(rt, &terminal);
-    let watch = Teller::new(&terminal);
+    let path = store_path(command).unwrap_or("");
+    let at = look_at(rt, path);
+    let watch = Teller::new(&terminal, path, at);
     let mut inputs = Files::new(rt, &terminal);
     let mut outputs = Outputs { out, err, watch };
-    let ended = run_over_store(rt, Unknown, command, &mut inputs, &mut outputs);
+    let ended = run_over_store(rt, at, Unknown, command, &mut inputs, &mut outputs);
     terminal.wipe_progress();
     ended.status()
 }
