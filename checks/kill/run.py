@@ -3,7 +3,7 @@ and looks at what is held.
 
     python3 -m checks.kill.run [--program PATH] [--seed SEED] [COUNT]       1,000 stops if left out
 
-A short night of two hours comes in 40 fragments. Its `take` is killed (SIGKILL) at a random moment,
+An hour and a half, of 37 MB, comes in 40 fragments. Its `take` is killed (SIGKILL) at a random moment,
 and run again from the front, until all of it is held; then a new store begins. After each stop
 `list` opens the store, and its export is that of the first p files: p is at least what was held
 before, and at least the files whose `accepted` was read. A whole store's export is that of a run
@@ -23,7 +23,8 @@ from subprocess import PIPE
 from checks.lib import arguments, disks, faults, measure, model, night, printed
 from checks.lib.checks import Lost, end
 
-NIGHT = night.Night(records=7_200, samples=(256, 256), fragments=40)
+# Two pages a data record: after about two thirds of the files the log has 8,000, and is copied.
+NIGHT = night.Night(records=5_760, samples=(1600, 1600), fragments=40)
 CUT = {fault.number for fault in (faults.cut, faults.cut_signals, faults.cut_record)}
 
 
@@ -220,7 +221,7 @@ def main() -> None:
         try:
             stops(bench, given.count)
             measure.remove_store(bench.folder / "s.db")
-            full_disk(bench, 4)
+            full_disk(bench, 20)
             shrinking(bench, max(5, given.count // 5))
             at_once(bench, max(2, given.count // 20))
         except Lost as why:

@@ -3,7 +3,7 @@ after a refusal, new stores and how far a reading is.
 
     python3 -m checks.lines.terminal [--program PATH] [--edfruns PATH] [--edfmend PATH]
 
-Standard error is a terminal here and standard output is none. It needs sqlite3 (the command).
+Standard error is a terminal here and standard output is none. It needs sqlite3 (the command) and cc.
 """
 import os
 import pty
@@ -63,6 +63,12 @@ def new_stores(checks: Checks) -> None:
                 err=cause("other.db", printed.MISSING) + printed.no_recording(1))
     on_terminal(checks, "take third.db a.edf", printed.line("a.edf", NEW),
                 cause("third.db", printed.MADE) + step(1, 1, 0, 1) + WIPED)
+    checks.shell(": > fourth.db")
+    on_terminal(checks, "list fourth.db", err=cause("fourth.db", printed.EMPTY))
+    on_terminal(checks, "export fourth.db 1", status=1,
+                err=cause("fourth.db", printed.EMPTY) + printed.no_recording(1))
+    on_terminal(checks, "take fourth.db a.edf", printed.line("a.edf", NEW),
+                cause("fourth.db", printed.MADE_IN) + step(1, 1, 0, 1) + WIPED)
     on_terminal(checks, "take :memory: a.edf", printed.line("a.edf", NEW), step(1, 1, 0, 1) + WIPED)
     on_terminal(checks, "convert a.edf", Q)
     on_terminal(checks, "export s.db 1", Q)
@@ -115,6 +121,23 @@ def causes(checks: Checks) -> None:
         with open(checks.folder / "slow", "wb"):
             on_terminal(checks, "list s.db", err=NO_STORE + cause("s.db", printed.BUSY), status=3)
         other.wait()
+
+
+def unmade_files(checks: Checks) -> None:
+    """Where a file of a store could not be made, none is made to find out why. The files that are
+    opened so are the store's and its log, in turn; each is refused once."""
+    begun(checks, "the cause makes no file")
+    edfstore, why = checks.program, printed.UNMADE
+    checks.program = replace(edfstore, path=Path("/usr/bin/env"))
+    checks.shell("rm s.db-wal")
+    with measure.scratch() as aside:
+        library = measure.library(arguments.TOP / "checks/refused/refused.c", Path(aside))
+        before = f"LD_PRELOAD={library} MET={aside}/met REFUSE=new:{{}} {edfstore.path} {{}}"
+        for nth, words, path in ((1, "list s.db", "s.db"), (2, "export s.db 1", "s.db"),
+                                 (2, "take s.db a.edf", "s.db"), (1, "take new.db a.edf", "new.db")):
+            on_terminal(checks, before.format(nth, words), err=NO_STORE + cause(path, why), status=3)
+            checks.same(f"the files after {words}", checks.names(), ["a.edf", "s.db"])
+    checks.program = edfstore
 
 
 def unread_files(checks: Checks) -> None:
@@ -323,10 +346,10 @@ def mended_files(checks: Checks) -> None:
 
 def main() -> None:
     given = arguments.Parser(__doc__, ("edfstore", "edfruns", "edfmend")).read()
-    measure.need("bash", "sqlite3")
+    measure.need("bash", "cc", "sqlite3")
     with measure.scratch() as name:
         checks = Checks(given.program, Path(name))
-        for case in (new_stores, how_far, causes, unread_files, what_to_do):
+        for case in (new_stores, how_far, causes, unmade_files, unread_files, what_to_do):
             case(checks)
         checks.program, checks.name = replace(checks.program, path=given.edfruns), "edfruns"
         for case in (files_of_runs, outside_of_runs, read_again):

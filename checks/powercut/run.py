@@ -36,10 +36,11 @@ from checks.lib import arguments, measure, model, night, printed, serving
 from checks.lib.checks import end
 from checks.powercut import disk
 
-# 30 data records a file; after about two thirds of the files the log is long enough to be copied.
-NIGHT = night.Night(records=900, samples=(1600, 1600), fragments=30)
+# 192 data records a file, of two pages each; after about two thirds of the files the log has 8,000
+# pages, and is copied.
+NIGHT = night.Night(records=5_760, samples=(1600, 1600), fragments=30)
 WAYS = TAKE, SESSION = "take", "session"
-AGAIN = 8           # runs of each way over a store of a killed one, and as many over one of a cut
+AGAIN = 3           # runs of each way over a store of a killed one, and as many over one of a cut
 CONTROLLED = 40     # states of each control, for each way
 SECONDS = 120       # that a run of the program may take
 PARTS = ("the opening", "the taking", "the end")
