@@ -5,11 +5,12 @@ looks at what is held.
                                    [COUNT]
 
 1,000 states if left out, half of them of each; needs `cc`. A night of thirty files is taken by a
-`take`, and by a session that gets a line for each file once it has answered the one before. Their
-writes, syncs and changes of length are written down, and what they print (`calls.c`, loaded before
-the C library): into no store, over stores of either that was killed, and over stores that a cut of
-power left. At random moments, in the opening, while the log is copied and at the end too, the two
-files are laid out as a disk may leave them (`disk.py`). Each such pair is opened by `list` and
+`take`, and by a session that gets a line for each file once it has answered the one before. In one
+of four states it is a longer one, in the middle of which the log is copied, and not at the end
+alone. Their writes, syncs and changes of length are written down, and what they print (`calls.c`,
+loaded before the C library): into no store, over stores of either that was killed, and over stores
+that a cut of power left. At random moments, in the opening, while the log is copied and at the end
+too, the two files are laid out as a disk may leave them (`disk.py`). Each such pair is opened by `list` and
 `export`, and must hold what a front of the list leaves, byte for byte by the plain model. It holds
 no less than where all is lost that was not synced, than the files that the program had gone past,
 and than those that it had printed as accepted, as a session does after each; and no more than those
@@ -36,11 +37,13 @@ from checks.lib import arguments, measure, model, night, printed, serving
 from checks.lib.checks import end
 from checks.powercut import disk
 
-# 192 data records a file, of two pages each; after about two thirds of the files the log has 8,000
-# pages, and is copied.
-NIGHT = night.Night(records=5_760, samples=(1600, 1600), fragments=30)
+SHORT = night.Night(records=900, samples=(1600, 1600), fragments=30)
+# Two pages a data record: after about two thirds of the files the log has 8,000, and is copied.
+LONG = replace(SHORT, records=5_760)
+EACH = 4            # of so many states one is of the long night
 WAYS = TAKE, SESSION = "take", "session"
-AGAIN = 3           # runs of each way over a store of a killed one, and as many over one of a cut
+# Runs of each way over a store of a killed one, and as many over one of a cut, for each night
+AGAIN = {SHORT: 8, LONG: 2}
 CONTROLLED = 40     # states of each control, for each way
 SECONDS = 120       # that a run of the program may take
 PARTS = ("the opening", "the taking", "the end")
@@ -61,11 +64,12 @@ class Found:
 
 
 class Bench:
-    def __init__(self, given, folder: Path):
+    def __init__(self, given, folder: Path, kind: night.Night):
         self.program, self.edfserve = measure.Program(given.program, most=SECONDS), given.edfserve
-        self.folder, self.seed = folder, given.seed
+        self.folder, self.seed, self.kind = folder, given.seed, kind
+        folder.mkdir()
         self.library = measure.library(Path(__file__).resolve().parent / "calls.c", folder)
-        self.parts = NIGHT.parts(folder)
+        self.parts = kind.parts(folder)
         held, nothing = model.Store(), hashlib.sha256(b"").digest()
         self.lists, self.exports = [b""], [nothing]     # of each front
         for part in self.parts:
@@ -144,7 +148,7 @@ class Bench:
     def given_again(self, way: str, store: Path, front: int, begin: int) -> str:
         """What is wrong where the list is given from a place that is not after the held front."""
         ran = self.given(way, store, self.parts[begin:])
-        records = NIGHT.records // NIGHT.fragments
+        records = self.kind.records // self.kind.fragments
         answers = (printed.accepted(*((0, records) if nth < front else (records, 0)))
                    for nth in range(begin, len(self.parts)))
         expected = printed.lines(*zip(self.parts[begin:], answers))
@@ -357,7 +361,7 @@ def runs(forking) -> list:
     first = [BENCH.recorded(way, "into no store", (None, None)) for way in WAYS]
     BENCH.runs = first
     with forking.Pool() as pool:
-        again = pool.map(recorded_again, range(len(WAYS) * AGAIN))
+        again = pool.map(recorded_again, range(len(WAYS) * AGAIN[BENCH.kind]))
     made = first + list(itertools.chain(*again))
     print(f"{len(made)} runs with {len(BENCH.parts)} files; into no store", end="")
     for run in first:
@@ -381,23 +385,33 @@ def judged(pool, numbers) -> int:
     return wrong
 
 
-def main() -> None:
+def cut(given, folder: Path, kind: night.Night, numbers: list) -> tuple:
+    """Judges these states of a night; how many are wrong, and of the short night how many of each
+    control are."""
     global BENCH
+    BENCH = Bench(given, folder, kind)
+    forking = multiprocessing.get_context("fork")
+    BENCH.runs = runs(forking)
+    with forking.Pool() as pool:
+        return judged(pool, numbers), controlled(pool) if kind == SHORT else []
+
+
+def main() -> None:
     given = words().read()
     measure.need("cc")
     numbers = range(given.count) if given.only is None else [given.only]
-    forking = multiprocessing.get_context("fork")
     with measure.scratch() as name:
-        BENCH = Bench(given, Path(name).resolve())
+        folder = Path(name).resolve()
         print(f"seed {given.seed}, {measure.machine()}", flush=True)
         try:
-            BENCH.runs = runs(forking)
+            long = [number for number in numbers if number % EACH == EACH - 1]
+            lost, _ = cut(given, folder / "long", LONG, long) if long else (0, [])
+            wrong, found = cut(given, folder / "short", SHORT,
+                               [number for number in numbers if number not in long])
         except Unfit as why:
             print(why)
             end(1, 1)
-        with forking.Pool() as pool:
-            wrong = judged(pool, numbers)
-            found = controlled(pool)
+    wrong += lost
     print(f"{len(numbers)} states, {wrong} wrong; the controls were found wrong in "
           f"{', '.join(map(str, found))} of {CONTROLLED} states each, as they must be in most")
     end(len(numbers), wrong + sum(2 * count <= CONTROLLED for count in found))
