@@ -5,12 +5,12 @@ rows, as the program meets them.
 
 Each file is made by the system's SQLite or by hand, given to `list`, and must be answered with the
 number that stands beside it and left as it was, byte for byte. Beside a file that is no database
-nothing is made, nor is anything in an empty one by what only reads. Beside the tables of a store that
-the released 1.1.1 made (data/released_1_1_1.db, the file Q) other tools may write as they please;
-what they may do to a store with page sums is tried too, and GUIDE's lines that bring such a store
-back, which run nothing that somebody wrote into it. Where rows are in the log alone and the store
-is refused, they stay there. Then `list` of stores of 250,000, 500,000 and 1,000,000 rows: time and
-peak memory. It needs sqlite3 and time.
+nothing is made, nor is anything in an empty one by what only reads. Beside the tables of a store
+that the released 1.1.1 made (data/released_1_1_1.db, the file Q) other tools may write as they
+please; what they may do to a store with page sums is tried too, and GUIDE's lines that bring such a
+store back, which run nothing that somebody wrote into it. Where rows are in the log alone and the
+store is refused, they stay there. Then `list` of stores of 250,000, 500,000 and 1,000,000 rows:
+time and peak memory. It needs sqlite3 and time.
 """
 import os
 import shutil

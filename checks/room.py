@@ -4,13 +4,14 @@ memory: then its file is read twice, and not seven times.
     python3 -m checks.room [--program PATH] [--edfserve PATH]
 
 A night of 19 MB is listed where files of this check stand in place of /proc/meminfo,
-/proc/self/cgroup and what is below /sys/fs/cgroup. All pages are kept, with room for 8,000 at least,
-where that takes up a quarter at most of what is free there, and of what each limit leaves, of
-version 1 or 2 of the groups: a kilobyte less, and they are not; nor where a number is missing or none. The list is the same. Then
-the night is listed with less and less room for addresses: where the list is told without kept
-pages it is told with them too, since an opening that lacks memory for them is tried without. A
-session over a night has, once it has answered, little more memory than one over a new store: what
-its opening took is given back, whatever its rows are. It needs root, who may mount, and a minute.
+/proc/self/cgroup and what is below /sys/fs/cgroup. All pages are kept, with room for 8,000 at
+least, where that takes up a quarter at most of what is free there, and of what each limit leaves,
+of version 1 or 2 of the groups: a kilobyte less, and they are not; nor where a number is missing or
+none. The list is the same. Then the night is listed with less and less room for addresses: where
+the list is told without kept pages it is told with them too, since an opening that lacks memory for
+them is tried without. A session over a night has, once it has answered, little more memory than one
+over a new store: what its opening took is given back, whatever its rows are. It needs root, who may
+mount, and a minute.
 """
 import resource
 import shutil

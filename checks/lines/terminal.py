@@ -3,7 +3,8 @@ after a refusal, new stores and how far a reading is.
 
     python3 -m checks.lines.terminal [--program PATH] [--edfruns PATH] [--edfmend PATH]
 
-Standard error is a terminal here and standard output is none. It needs sqlite3 (the command) and cc.
+Standard error is a terminal here and standard output is none. It needs sqlite3 (the command) and
+cc.
 """
 import os
 import pty
@@ -133,9 +134,10 @@ def unmade_files(checks: Checks) -> None:
     with measure.scratch() as aside:
         library = measure.library(arguments.TOP / "checks/refused/refused.c", Path(aside))
         before = f"LD_PRELOAD={library} MET={aside}/met REFUSE=new:{{}} {edfstore.path} {{}}"
-        for nth, words, path in ((1, "list s.db", "s.db"), (2, "export s.db 1", "s.db"),
-                                 (2, "take s.db a.edf", "s.db"), (1, "take new.db a.edf", "new.db")):
-            on_terminal(checks, before.format(nth, words), err=NO_STORE + cause(path, why), status=3)
+        for nth, words in ((1, "list s.db"), (2, "export s.db 1"), (2, "take s.db a.edf"),
+                           (1, "take new.db a.edf")):
+            err = NO_STORE + cause(words.split(" ")[1], why)
+            on_terminal(checks, before.format(nth, words), err=err, status=3)
             checks.same(f"the files after {words}", checks.names(), ["a.edf", "s.db"])
     checks.program = edfstore
 

@@ -10,12 +10,12 @@ of four states it is a longer one, in the middle of which the log is copied, and
 alone. Their writes, syncs and changes of length are written down, and what they print (`calls.c`,
 loaded before the C library): into no store, over stores of either that was killed, and over stores
 that a cut of power left. At random moments, in the opening, while the log is copied and at the end
-too, the two files are laid out as a disk may leave them (`disk.py`). Each such pair is opened by `list` and
-`export`, and must hold what a front of the list leaves, byte for byte by the plain model. It holds
-no less than where all is lost that was not synced, than the files that the program had gone past,
-and than those that it had printed as accepted, as a session does after each; and no more than those
-that it had opened. Then the rest of the list, or all of it, is given in the same way: each file is
-answered as it must be, and the export is the night's.
+too, the two files are laid out as a disk may leave them (`disk.py`). Each such pair is opened by
+`list` and `export`, and must hold what a front of the list leaves, byte for byte by the plain
+model. It holds no less than where all is lost that was not synced, than the files that the program
+had gone past, and than those that it had printed as accepted, as a session does after each; and no
+more than those that it had opened. Then the rest of the list, or all of it, is given in the same
+way: each file is answered as it must be, and the export is the night's.
 
 Three controls must fail, for a `take` and for a session: a synced sector of the log, of a file that
 is held, is zeroed or as it was before; and a disk does not carry out the syncs of the log, or those
