@@ -91,15 +91,19 @@ pub(crate) fn run_over_store<S: Start + Again, I: Inputs, O: Output, F: Output>(
       output_change O.Output outputs.old.out outputs.new.out,
     ) (output_change F.Output outputs.old.err outputs.new.err) (inputs.new ≡ inputs.old) result }
 {
-    let Some(path) = store_path(command) else {
-        let Outputs { out, err, watch: _ } = outputs;
-        return Ended::WithoutFiles(run_in_memory(rt.alloc(), command, inputs, out, err));
-    };
-    let opening = find(rt, path, at, start, command);
-    if opening.is_none() {
-        outputs.watch.print_missing();
+    match store_path(command) {
+        Some(path) => {
+            let opening = find(rt, path, at, start, command);
+            if opening.is_none() {
+                outputs.watch.print_missing();
+            }
+            let ended = run_on_file(rt.alloc(), opening, command, inputs, outputs);
+            outputs.watch.print_ended(rt, &ended);
+            ended
+        }
+        None => {
+            let Outputs { out, err, watch: _ } = outputs;
+            Ended::WithoutFiles(run_in_memory(rt.alloc(), command, inputs, out, err))
+        }
     }
-    let ended = run_on_file(rt.alloc(), opening, command, inputs, outputs);
-    outputs.watch.print_ended(rt, &ended);
-    ended
 }
