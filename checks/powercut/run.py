@@ -44,7 +44,7 @@ EACH = 4            # of so many states one is of the long night
 WAYS = TAKE, SESSION = "take", "session"
 # Runs of each way over a store of a killed one, and as many over one of a cut, for each night
 AGAIN = {SHORT: 8, LONG: 2}
-CONTROLLED = 40     # states of each control, for each way
+CONTROLLED = {SHORT: 40, LONG: 8}   # states of each control, for each way
 SECONDS = 120       # that a run of the program may take
 PARTS = ("the opening", "the taking", "the end")
 
@@ -299,9 +299,12 @@ def syncs_lost(file: int, which: int, number: int) -> Found:
     return BENCH.judged(run.way, [file.torn(rng) for file in files], past, opened, rng)
 
 
-CONTROLS = (("a sector of the log lost", sector_lost),
-            ("the syncs of the log not done", functools.partial(syncs_lost, disk.LOG)),
-            ("the syncs of the store's file not done", functools.partial(syncs_lost, disk.STORE)))
+# The store's file must be synced before the log is written anew from its start, as after a copy.
+CONTROLS = {
+    SHORT: (("a sector of the log lost", sector_lost),
+            ("the syncs of the log not done", functools.partial(syncs_lost, disk.LOG))),
+    LONG: (("the syncs of the store's file not done", functools.partial(syncs_lost, disk.STORE)),),
+}
 
 
 def recorded_again(number: int) -> list:
@@ -337,16 +340,16 @@ def report(counts: list) -> None:
           f"{many['more']} times more files than with all lost that was not synced")
 
 
-def controlled(pool) -> list:
-    """How many states of each control are found to be wrong."""
-    counts = []
-    for (which, way), (what, control) in itertools.product(enumerate(WAYS), CONTROLS):
-        found = pool.map(functools.partial(control, which), range(CONTROLLED))
+def controlled(pool) -> int:
+    """How many controls are found to be wrong in half of their states at most."""
+    missed, count = 0, CONTROLLED[BENCH.kind]
+    for (which, way), (what, control) in itertools.product(enumerate(WAYS), CONTROLS[BENCH.kind]):
+        found = pool.map(functools.partial(control, which), range(count))
         short, wrong = sum(it.is_short() for it in found), sum(bool(it.wrong) for it in found)
-        print(f"control, {way}, {what}: of {CONTROLLED} states {short} hold fewer files than they "
-              f"must, and {wrong - short} no front", flush=True)
-        counts.append(wrong)
-    return counts
+        print(f"control, {way}, {what}: of {count} states {short} hold fewer files than they must, "
+              f"and {wrong - short} no front", flush=True)
+        missed += 2 * wrong <= count
+    return missed
 
 
 def words() -> arguments.Parser:
@@ -385,36 +388,36 @@ def judged(pool, numbers) -> int:
     return wrong
 
 
-def cut(given, folder: Path, kind: night.Night, numbers: list) -> tuple:
-    """Judges these states of a night; how many are wrong, and of the short night how many of each
-    control are."""
+def cut(given, folder: Path, kind: night.Night, numbers: list) -> int:
+    """Judges these states of a night, and those of its controls; how many are wrong, and how many
+    controls were missed."""
     global BENCH
+    if not numbers:
+        return 0
     BENCH = Bench(given, folder, kind)
     forking = multiprocessing.get_context("fork")
     BENCH.runs = runs(forking)
     with forking.Pool() as pool:
-        return judged(pool, numbers), controlled(pool) if kind == SHORT else []
+        return judged(pool, numbers) + controlled(pool)
 
 
 def main() -> None:
     given = words().read()
     measure.need("cc")
     numbers = range(given.count) if given.only is None else [given.only]
+    wrong = 0
     with measure.scratch() as name:
-        folder = Path(name).resolve()
         print(f"seed {given.seed}, {measure.machine()}", flush=True)
         try:
-            long = [number for number in numbers if number % EACH == EACH - 1]
-            lost, _ = cut(given, folder / "long", LONG, long) if long else (0, [])
-            wrong, found = cut(given, folder / "short", SHORT,
-                               [number for number in numbers if number not in long])
+            for kind in (LONG, SHORT):
+                states = [number for number in numbers
+                          if (number // len(WAYS) % EACH == 0) == (kind == LONG)]
+                wrong += cut(given, Path(name).resolve() / str(kind.records), kind, states)
         except Unfit as why:
             print(why)
             end(1, 1)
-    wrong += lost
-    print(f"{len(numbers)} states, {wrong} wrong; the controls were found wrong in "
-          f"{', '.join(map(str, found))} of {CONTROLLED} states each, as they must be in most")
-    end(len(numbers), wrong + sum(2 * count <= CONTROLLED for count in found))
+    print(f"{len(numbers)} states, {wrong} wrong or missed by a control")
+    end(len(numbers), wrong)
 
 
 if __name__ == "__main__":
