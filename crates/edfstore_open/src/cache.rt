@@ -23,7 +23,8 @@ pub(crate) fn cache_pages(bytes: u64, free: u64) -> Option<usize>
         MatchOption result (¬ IsCacheSize pages free)
         (λ n. (n ≡ pages) × IsCacheSize pages free) }
 {
-    let pages = (bytes / PAGE).max(FEWEST);
+    let all = bytes / PAGE;
+    let pages = if all < FEWEST { FEWEST } else { all };
     if pages <= MOST && pages * (PAGE * SHARE) <= free {
         Some(pages as usize)
     } else {

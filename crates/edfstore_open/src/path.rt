@@ -92,7 +92,7 @@ fn look_into(rt: &HostRuntime, path: &str) -> AtPath {
     };
     let mut head = [0; 16];
     match file.read_exact(&mut head) {
-        Ok(()) if head == MAGIC => AtPath::Something,
+        Ok(()) if head[..] == MAGIC[..] => AtPath::Something,
         Err(error) if error.kind() != ErrorKind::UnexpectedEof => AtPath::Something,
         _ => AtPath::NoDatabase,
     }

@@ -19,8 +19,9 @@ fn open_there(rt: &HostRuntime, path: &str) -> io::Result<()> {
 fn has_journal(rt: &HostRuntime, path: &str) -> io::Result<bool> {
     match fs::symlink_metadata(rt, path) {
         Ok(found) if found.is_file() => {
+            let mut journal = fs::open(rt, path)?;
             let mut first = [0];
-            Ok(fs::open(rt, path)?.read(&mut first)? == 1 && first[0] != 0)
+            Ok(journal.read(&mut first)? == 1 && first[0] != 0)
         }
         Ok(_) => Ok(true),
         Err(error) if error.kind() == ErrorKind::NotFound => Ok(false),
