@@ -1,4 +1,4 @@
-use Rattle.std.proofs.Common.{◌≡◌, ◌≤◌, false, None, Ok, Err, sym, subst}
+use Rattle.std.proofs.Common.{◌≡◌, ◌≤◌, ◌∙◌, false, None, Ok, Err, sym, ap, subst}
 use Rattle.sqlite.specs.Files.{file_state}
 use Rattle.sqlite.specs.State.{IsUnchanged, QueriesRow}
 use Rattle.sqlite_trees.specs.View.{doubt}
@@ -6,12 +6,12 @@ use Rattle.edfstore_files.specs.ProgramRun.{IsOpening}
 use Rattle.edfstore_open.proofs.Interrupted.{interrupted, unchanged, opening_after}
 use Rattle.edfstore_open.proofs.spare.without_spares.Goals as goal
 
-pub returns-in-Err-SqliteFailure-OperationInterrupted-clause-opening :
-    goal.returns-in-Err-SqliteFailure-OperationInterrupted-clause-opening
-returns-in-Err-SqliteFailure-OperationInterrupted-clause-opening g c start opening =
+pub returns-clause-opening : goal.returns-clause-opening
+returns-clause-opening g c start opening =
     let asked = c.query_row-answer in
     let first = c.set_step_limit.ensures in
-    let told : asked.result ≡ Err interrupted = c.in-Err-SqliteFailure-OperationInterrupted.is in
+    let told : asked.result ≡ Err interrupted =
+    c.in-Err.is ∙ ap Err (c.is_interrupted.ensures c.if-not-is_interrupted.false) in
     let after = opening_after c.args.conn asked.new.self _ None start
     (λ idle. asked.ensures.mode
     (subst (λ h. h.in_transaction ≡ false) (sym first) idle))
