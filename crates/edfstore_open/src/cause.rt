@@ -100,7 +100,7 @@ fn print_refusal(rt: &HostRuntime, terminal: &Terminal<'_>, path: &str, error: E
 
 /// Prints why a store was not opened. Out of memory has no further cause.
 pub fn print_cause(rt: &HostRuntime, terminal: &Terminal<'_>, path: &str, refused: &Refused) {
-    if !terminal.is_there() {
+    if !terminal.prints_causes() {
         return;
     }
     match refused.fault {
@@ -135,7 +135,7 @@ pub fn print_failure_of<D: Disk>(
     path: &str,
     session: &EndedRun<D>,
 ) {
-    if terminal.is_there()
+    if terminal.prints_causes()
         && let Some(failure) = disk_failure(session.files.tally()).or(session.failure)
     {
         print_error(rt, terminal, path, failure);
@@ -170,7 +170,7 @@ impl<'t> Teller<'t> {
 
     /// Prints that there is no file.
     pub(crate) fn print_missing(&self) {
-        self.terminal.say(self.path, "no such file");
+        self.terminal.advise(self.path, "no such file");
     }
 
     /// Prints why the store was refused, or what failed of the disk in a run that is trouble.
@@ -191,7 +191,7 @@ impl Watch for Teller<'_> {
     fn opened<O: Output>(&mut self, _out: &O) {
         if self.is_new {
             self.terminal
-                .say(self.path, "no such file; made a new, empty store");
+                .advise(self.path, "no such file; made a new, empty store");
         }
     }
 
