@@ -108,7 +108,7 @@ fn print_refusal(rt: &HostRuntime, terminal: &Terminal<'_>, path: &str, error: E
 
 /// Prints why a store was not opened. Out of memory has no further cause.
 pub fn print_cause(rt: &HostRuntime, terminal: &Terminal<'_>, path: &str, refused: &Refused) {
-    if !terminal.is_there() {
+    if !terminal.prints_causes() {
         return;
     }
     match refused.fault {
@@ -143,7 +143,7 @@ pub fn print_failure_of<D: Disk>(
     path: &str,
     session: &EndedRun<D>,
 ) {
-    if terminal.is_there()
+    if terminal.prints_causes()
         && let Some(failure) = disk_failure(session.files.tally()).or(session.failure)
     {
         print_error(rt, terminal, path, failure);
@@ -172,7 +172,7 @@ impl<'t> Teller<'t> {
 
     /// Prints that there is no store.
     pub(crate) fn print_missing(&self) {
-        self.terminal.say(
+        self.terminal.advise(
             self.path,
             match self.at {
                 AtPath::EmptyFile => "an empty file",
@@ -200,10 +200,10 @@ impl Watch for Teller<'_> {
         match self.at {
             AtPath::Nothing => self
                 .terminal
-                .say(self.path, "no such file; made a new, empty store"),
+                .advise(self.path, "no such file; made a new, empty store"),
             AtPath::EmptyFile => self
                 .terminal
-                .say(self.path, "an empty file; made a new, empty store in it"),
+                .advise(self.path, "an empty file; made a new, empty store in it"),
             _ => {}
         }
     }
