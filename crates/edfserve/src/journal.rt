@@ -8,7 +8,7 @@ use edf_fragment::Output;
 use edf_os::Terminal;
 use edf_store::StoreFault;
 use edfstore_files::{EndedRun, Watch};
-use edfstore_open::{Refused, Standing, print_cause, print_failure_of, print_lost};
+use edfstore_open::{Refused, Standing, print_cause, print_failure_of, print_lost, print_made};
 use sqlite_std_file::File;
 
 /// Tells how the opening of a store went, and its close.
@@ -16,16 +16,26 @@ use sqlite_std_file::File;
 pub(crate) struct Journal<'s> {
     rt: &'s HostRuntime,
     terminal: Terminal<'s>,
+    /// A person's, to whom it tells what a journal need not keep.
+    person: &'s Terminal<'s>,
     standing: &'s Standing<'s>,
+    /// It is true where there was no file.
+    is_new: bool,
     refused: Option<Refused>,
 }
 
 impl<'s> Journal<'s> {
-    pub(crate) fn new(rt: &'s HostRuntime, standing: &'s Standing<'s>) -> Journal<'s> {
+    pub(crate) fn new(
+        rt: &'s HostRuntime,
+        person: &'s Terminal<'s>,
+        standing: &'s Standing<'s>,
+    ) -> Journal<'s> {
         Journal {
             rt,
             terminal: Terminal::journal(rt),
+            person,
             standing,
+            is_new: standing.is_new(),
             refused: None,
         }
     }
@@ -73,7 +83,11 @@ impl<'s> Journal<'s> {
 impl Watch for Journal<'_> {
     ghost noticed = { λ _. None };
 
-    fn opened<O: Output>(&mut self, _out: &O) {}
+    fn opened<O: Output>(&mut self, _out: &O) {
+        if self.is_new {
+            print_made(self.person, self.standing.path());
+        }
+    }
 
     fn refused(&mut self, fault: &StoreFault, has_our_tables: bool) {
         self.refused = Some(Refused {

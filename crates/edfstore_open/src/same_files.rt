@@ -2,6 +2,7 @@
 
 ghost use Rattle.std.specs.Prelude.{◌≡◌, ◌⊎◌, IfErr};
 
+use crate::path::{AtPath, look_at};
 use sqlite::{Error, ErrorCode};
 use std::cell::{Cell, RefCell};
 use std::fs::{self, Metadata};
@@ -128,6 +129,11 @@ impl<'p> Standing<'p> {
 
     pub fn path(&self) -> &'p str {
         self.path
+    }
+
+    /// Is true where nothing has the path yet, so that a store may be made there.
+    pub fn is_new(&self) -> bool {
+        look_at(self.rt, self.path) == AtPath::Nothing
     }
 
     /// Returns the database file of the path, if it has one.
