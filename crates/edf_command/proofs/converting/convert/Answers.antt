@@ -1,6 +1,5 @@
 use Rattle.std.proofs.Common.{◌∙◌, ap, subst, refl, inl, inr}
 use Rattle.std.proofs.lemmas.Result.{IfOk-weaker}
-use Rattle.edf_fragment.specs.Call.{input_state}
 use Rattle.edf_command.specs.Lines.{refused_file_line}
 use Rattle.edf_cli.specs.Status.{status_of_number}
 use Rattle.edf_cli.specs.Output.{output_change, IsLinePrinted}
