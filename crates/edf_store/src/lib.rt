@@ -9,7 +9,7 @@
 //!
 //! /// Makes a store in memory and summarizes what it has of an identity: nothing.
 //! pub fn summary(alloc: Global, identity: &Identity) -> Result<Option<Summary>, StoreFault> {
-//!     let conn = Connection::open_in_memory(alloc)?;
+//!     let conn = Connection::open_in_memory(alloc).map_err(|_| StoreFault::Memory)?;
 //!     let mut store = Store::open(alloc, conn, 900_000)?;
 //!     store.summary(identity)
 //! }

@@ -23,6 +23,11 @@ const TRIES: u32 = 200;
 /// The milliseconds of a pause.
 const PAUSE: u64 = 10;
 
+/// Is true where another program has the files.
+fn is_busy(error: &Error) -> bool {
+    matches!(error, Error::SqliteFailure(ErrorCode::DatabaseBusy))
+}
+
 /// A value that stands for what files hold, and does so again at the next try.
 pub trait Again {
     /// Returns one that stands for the same.
@@ -77,7 +82,7 @@ pub fn open_when_free<S: Start + Again>(
 {
     for _ in 0..TRIES {
         match open_cached(rt, path, stay_open, &start) {
-            Err((Error::SqliteFailure(ErrorCode::DatabaseBusy), None)) => {
+            Err((error, None)) if is_busy(&error) => {
                 thread::sleep(rt, Duration::from_millis(PAUSE));
             }
             opened => return opened,

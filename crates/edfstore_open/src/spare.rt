@@ -1,6 +1,6 @@
 //! The rows that a connection has for its next statement.
 
-ghost use Rattle.std.specs.Prelude.{Ok, IfOk, IfErr};
+ghost use Rattle.std.specs.Prelude.{◌≡◌, true, Ok, IfOk, IfErr};
 ghost use Rattle.sqlite_wal.specs.Recovery.{Image};
 ghost use Rattle.edfstore_files.specs.ProgramRun.{IsOfNoFiles, IsOpening};
 
@@ -10,6 +10,13 @@ use sqlite_disk::Disk;
 const CANNOT_OPEN: Error = Error::SqliteFailure(ErrorCode::CannotOpen);
 
 const NO_MEMORY: Error = Error::SqliteFailure(ErrorCode::OutOfMemory);
+
+/// Is true where a statement was interrupted.
+fn is_interrupted(error: &Error) -> bool
+    ensures { result ≡ true → error.now ≡ Error.SqliteFailure ErrorCode.OperationInterrupted }
+{
+    matches!(error, Error::SqliteFailure(ErrorCode::OperationInterrupted))
+}
 
 /// Returns why files are not opened, if a statement over them fails so.
 fn reason(error: Error) -> Error
@@ -44,9 +51,12 @@ pub(crate) fn without_spares<D: Disk + Drop>(
     conn.set_step_limit(Some(1));
     let answer = conn.query_row("SELECT name FROM sqlite_schema", &[]);
     conn.set_step_limit(None);
-    match answer {
-        Ok(_) => Err(CANNOT_OPEN),
-        Err(Error::SqliteFailure(ErrorCode::OperationInterrupted)) => Ok(conn),
-        Err(error) => Err(reason(error)),
+    let error = match answer {
+        Ok(_) => return Err(CANNOT_OPEN),
+        Err(error) => error,
+    };
+    if !is_interrupted(&error) {
+        return Err(reason(error));
     }
+    Ok(conn)
 }

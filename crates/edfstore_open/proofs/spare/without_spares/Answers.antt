@@ -10,7 +10,8 @@ pub returns-clause-opening : goal.returns-clause-opening
 returns-clause-opening g c start opening =
     let asked = c.query_row-answer in
     let first = c.set_step_limit.ensures in
-    let told : asked.result ≡ Err interrupted = c.in-Err.is in
+    let told : asked.result ≡ Err interrupted =
+    c.in-Err.is ∙ ap Err (c.is_interrupted.ensures c.if-not-is_interrupted.false) in
     let after = opening_after c.args.conn asked.new.self _ None start
     (λ idle. asked.ensures.mode
     (subst (λ h. h.in_transaction ≡ false) (sym first) idle))
