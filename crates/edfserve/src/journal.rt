@@ -8,7 +8,7 @@ use edf_fragment::Output;
 use edf_os::Terminal;
 use edf_store::StoreFault;
 use edfstore_files::{EndedRun, Watch};
-use edfstore_open::{Refused, Standing, print_cause, print_failure_of, print_lost, print_made};
+use edfstore_open::{Refused, Standing, print_cause, print_failure_of, print_lost};
 use sqlite_std_file::File;
 
 /// Tells how the opening of a store went, and its close.
@@ -16,26 +16,19 @@ use sqlite_std_file::File;
 pub(crate) struct Journal<'s> {
     rt: &'s HostRuntime,
     terminal: Terminal<'s>,
-    /// A person's, to whom it tells what a journal need not keep.
-    person: &'s Terminal<'s>,
+    /// A person's, which is told what a journal need not keep.
+    person: Terminal<'s>,
     standing: &'s Standing<'s>,
-    /// It is true where there was no file.
-    is_new: bool,
     refused: Option<Refused>,
 }
 
 impl<'s> Journal<'s> {
-    pub(crate) fn new(
-        rt: &'s HostRuntime,
-        person: &'s Terminal<'s>,
-        standing: &'s Standing<'s>,
-    ) -> Journal<'s> {
+    pub(crate) fn new(rt: &'s HostRuntime, standing: &'s Standing<'s>) -> Journal<'s> {
         Journal {
             rt,
             terminal: Terminal::journal(rt),
-            person,
+            person: Terminal::new(rt, "file", 0),
             standing,
-            is_new: standing.is_new(),
             refused: None,
         }
     }
@@ -84,9 +77,7 @@ impl Watch for Journal<'_> {
     ghost noticed = { λ _. None };
 
     fn opened<O: Output>(&mut self, _out: &O) {
-        if self.is_new {
-            print_made(self.person, self.standing.path());
-        }
+        self.standing.print_made(&self.person);
     }
 
     fn refused(&mut self, fault: &StoreFault, has_our_tables: bool) {

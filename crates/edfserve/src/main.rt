@@ -33,14 +33,13 @@ type SystemRoom<'rt> = Room<SystemFiles<'rt>, Console<StandardOutput>, Keeper<'r
 /// Serves the store of a path until the input ends or the store fails, and closes it.
 fn serve_store(
     rt: &HostRuntime,
-    terminal: &Terminal<'_>,
     standing: &Standing<'_>,
     folder: Option<&str>,
     lines: &mut SystemLines<'_>,
     room: &mut SystemRoom<'_>,
 ) -> Status {
     let mut err = Counted::new(rt.stderr());
-    let mut journal = Journal::new(rt, terminal, standing);
+    let mut journal = Journal::new(rt, standing);
     let ended = serve_opened::<Unknown, _, _, _, _, _, _>(
         rt.alloc(),
         open_standing(standing, Unknown),
@@ -76,7 +75,7 @@ fn run_session(rt: &HostRuntime, words: &ServeWords) -> Status {
         Keeper::new(&standing),
     );
     let folder = words.from.as_deref();
-    serve_store(rt, &terminal, &standing, folder, &mut lines, &mut room)
+    serve_store(rt, &standing, folder, &mut lines, &mut room)
 }
 
 /// Does what the words after the program's name ask for, and answers how it went.

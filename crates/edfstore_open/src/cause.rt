@@ -111,11 +111,6 @@ pub fn print_cause(rt: &HostRuntime, terminal: &Terminal<'_>, path: &str, refuse
     }
 }
 
-/// Prints that there was no file at the path, and that a store was made there.
-pub fn print_made(terminal: &Terminal<'_>, path: &str) {
-    terminal.say(path, "no such file; made a new, empty store");
-}
-
 /// Prints that the path of a store does not stand for the files that are open, or were.
 pub fn print_lost(terminal: &Terminal<'_>, path: &str) {
     terminal.say(path, LOST);
@@ -195,7 +190,8 @@ impl Watch for Teller<'_> {
 
     fn opened<O: Output>(&mut self, _out: &O) {
         if self.is_new {
-            print_made(self.terminal, self.path);
+            self.terminal
+                .say(self.path, "no such file; made a new, empty store");
         }
     }
 

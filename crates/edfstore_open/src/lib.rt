@@ -15,8 +15,8 @@
 //! - [`run_program`] is the program; [`run_words`] runs it by words that the caller has.
 //! - [`open_when_free`] opens the files of a store; [`open_standing`] opens those that stay open,
 //!   for which a path has a [`Standing`].
-//! - [`print_cause`], [`print_failure_of`], [`print_lost`] and [`print_made`] print for a person why
-//!   a store was [`Refused`], what of its disk failed, that its files were lost, that it was made.
+//! - [`print_cause`], [`print_failure_of`] and [`print_lost`] print for a person why a store was
+//!   [`Refused`], what of its disk failed, and that its files were lost.
 #![tactic(auto)]
 
 mod cache;
@@ -32,7 +32,7 @@ mod same_files;
 mod spare;
 
 use cause::Teller;
-pub use cause::{Refused, print_cause, print_failure_of, print_lost, print_made};
+pub use cause::{Refused, print_cause, print_failure_of, print_lost};
 use edf_command::{Order, Status, read_command};
 use edf_fragment::Counted;
 use edf_os::{Files, Streams, Terminal, refuse_words, words};

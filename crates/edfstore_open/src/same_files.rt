@@ -3,6 +3,7 @@
 ghost use Rattle.std.specs.Prelude.{◌≡◌, ◌⊎◌, IfErr};
 
 use crate::path::{AtPath, look_at};
+use edf_os::Terminal;
 use sqlite::{Error, ErrorCode};
 use std::cell::{Cell, RefCell};
 use std::fs::{self, Metadata};
@@ -112,6 +113,8 @@ impl Held {
 pub struct Standing<'p> {
     pub(crate) rt: &'p HostRuntime,
     path: &'p str,
+    /// What there was at the path before the store was opened.
+    found: AtPath,
     held: RefCell<Option<Held>>,
     is_lost: Cell<bool>,
 }
@@ -122,6 +125,7 @@ impl<'p> Standing<'p> {
         Standing {
             rt,
             path,
+            found: look_at(rt, path),
             held: RefCell::new(None),
             is_lost: Cell::new(false),
         }
@@ -131,9 +135,11 @@ impl<'p> Standing<'p> {
         self.path
     }
 
-    /// Is true where nothing has the path yet, so that a store may be made there.
-    pub fn is_new(&self) -> bool {
-        look_at(self.rt, self.path) == AtPath::Nothing
+    /// Prints for a person that a store was made, where nothing had the path before it was opened.
+    pub fn print_made(&self, terminal: &Terminal<'_>) {
+        if self.found == AtPath::Nothing {
+            terminal.say(self.path, "no such file; made a new, empty store");
+        }
     }
 
     /// Returns the database file of the path, if it has one.
