@@ -197,15 +197,7 @@ impl Watch for Teller<'_> {
     ghost noticed = { λ _. None };
 
     fn opened<O: Output>(&mut self, _out: &O) {
-        match self.at {
-            AtPath::Nothing => self
-                .terminal
-                .advise(self.path, "no such file; made a new, empty store"),
-            AtPath::EmptyFile => self
-                .terminal
-                .advise(self.path, "an empty file; made a new, empty store in it"),
-            _ => {}
-        }
+        self.at.print_made(self.terminal, self.path);
     }
 
     fn refused(&mut self, fault: &StoreFault, has_our_tables: bool) {

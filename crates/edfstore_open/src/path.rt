@@ -2,6 +2,7 @@
 
 ghost use Rattle.std.specs.Prelude.{◌↔◌, IsTrue};
 
+use edf_os::Terminal;
 use std::fs;
 use std::io::{self, ErrorKind, Read};
 
@@ -32,6 +33,17 @@ pub(crate) enum AtPath {
 
 impl AtPath {
     ghost use Rattle.edfstore_open.specs.AtPath.{HasNoStore};
+
+    /// Prints for a person that a store was made, where there was none.
+    pub(crate) fn print_made(self, terminal: &Terminal<'_>, path: &str) {
+        match self {
+            AtPath::Nothing => terminal.advise(path, "no such file; made a new, empty store"),
+            AtPath::EmptyFile => {
+                terminal.advise(path, "an empty file; made a new, empty store in it");
+            }
+            _ => {}
+        }
+    }
 
     /// Is true where there is no store, and one may be made. A command that only reads makes none.
     pub(crate) fn has_no_store(self) -> bool
