@@ -36,13 +36,12 @@ impl AtPath {
 
     /// Prints for a person that a store was made, where there was none.
     pub(crate) fn print_made(self, terminal: &Terminal<'_>, path: &str) {
-        match self {
-            AtPath::Nothing => terminal.advise(path, "no such file; made a new, empty store"),
-            AtPath::EmptyFile => {
-                terminal.advise(path, "an empty file; made a new, empty store in it");
-            }
-            _ => {}
-        }
+        let made = match self {
+            AtPath::Nothing => "no such file; made a new, empty store",
+            AtPath::EmptyFile => "an empty file; made a new, empty store in it",
+            _ => return,
+        };
+        terminal.advise(path, made);
     }
 
     /// Is true where there is no store, and one may be made. A command that only reads makes none.
