@@ -13,6 +13,7 @@ answered is held, and in the end all of it is.
 """
 import os
 import random
+import shlex
 import shutil
 import signal
 import subprocess
@@ -137,7 +138,12 @@ def over_a_named_pipe(checks: Checks, given):
 def over_a_socket(checks: Checks, given):
     def run(lines: bytes) -> measure.Ran:
         folder = checks.folder
-        listening = ("socat", "-t", "60", "UNIX-LISTEN:socket", f"EXEC:{given.edfserve} s.db")
+        # A child that ends with another status than 0 is an error of socat, which then may lose the
+        # last answers.
+        session = folder / "session"
+        session.write_text(f"#!/bin/sh\n{shlex.quote(str(given.edfserve))} s.db\nexit 0\n")
+        session.chmod(0o755)
+        listening = ("socat", "-t", "60", "UNIX-LISTEN:socket", "EXEC:./session")
         server = subprocess.Popen(listening, cwd=folder)
         while not (folder / "socket").exists():
             time.sleep(0.01)

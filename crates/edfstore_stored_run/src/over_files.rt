@@ -47,15 +47,21 @@ fn run_at<O: Output, F: Output>(
 fn outcome_of(rt: &HostRuntime, cap: u32, words: &[String]) -> Outcome {
     let mut out_bytes = Vec::new(rt.alloc());
     let mut err_bytes = Vec::new(rt.alloc());
-    let out = Counted::new(Sink::whole(&mut out_bytes, 1_000));
-    let err = Counted::new(Sink::whole(&mut err_bytes, 1_000));
-    let watch = Unwatched;
-    let mut outputs = Outputs { out, err, watch };
-    let status = match read_command(rt.alloc(), words, &mut outputs.out, &mut outputs.err) {
-        Ok(command) => run_at(rt, cap, &command, &mut outputs),
-        Err(status) => status,
+    let mut out = Counted::new(Sink::whole(&mut out_bytes, 1_000));
+    let mut err = Counted::new(Sink::whole(&mut err_bytes, 1_000));
+    let status = match read_command(rt.alloc(), words, &mut out, &mut err) {
+        Ok(command) => {
+            let watch = Unwatched;
+            let mut outputs = Outputs { out, err, watch };
+            let status = run_at(rt, cap, &command, &mut outputs);
+            drop(outputs);
+            status
+        }
+        Err(status) => {
+            drop((out, err));
+            status
+        }
     };
-    drop(outputs);
     Outcome {
         out: out_bytes,
         err: err_bytes,
