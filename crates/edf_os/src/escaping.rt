@@ -96,48 +96,42 @@ fn is_begun(bytes: &[u8]) -> bool {
     }
 }
 
-/// Is true where a word after the program's name has a line feed.
-fn has_broken_word(rt: &HostRuntime) -> bool {
-    let mut word = [0; LONGEST_WORD];
-    for place in 1..usize::MAX {
-        match rt.arg(place, &mut word) {
-            Ok(len) if word[..len].contains(&b'\n') => return true,
-            Ok(_) => {}
-            Err(FillError::TooLong) => return true,
-            Err(FillError::NotPresent) => return false,
-        }
-    }
-    true
+/// The line feeds of a text that end a line on a terminal.
+#[derive(Clone, Copy, Drop)]
+enum LineFeeds {
+    All,
+    /// That at its end.
+    Last,
+    None,
 }
 
-/// Is true where a word after the program's name ends with a line feed, and the text ends with that
-/// word. A word that is too long to look at is one.
-fn ends_with_broken_word(rt: &HostRuntime, text: &[u8]) -> bool {
+/// Returns the line feeds that end a line, whatever words stand after the program's name: none that
+/// may be of a word. A word that is too long to look at may have any.
+fn line_feeds(rt: &HostRuntime) -> LineFeeds {
     let mut word = [0; LONGEST_WORD];
+    let mut line_feeds = LineFeeds::All;
     for place in 1..usize::MAX {
         match rt.arg(place, &mut word) {
-            Ok(len) if word[..len].ends_with(b"\n") && text.ends_with(&word[..len]) => return true,
+            Ok(len) if word[..len].ends_with(b"\n") => return LineFeeds::None,
+            Ok(len) if word[..len].contains(&b'\n') => line_feeds = LineFeeds::Last,
             Ok(_) => {}
-            Err(FillError::TooLong) if text.len() >= LONGEST_WORD => return true,
-            Err(FillError::TooLong) => {}
-            Err(FillError::NotPresent) => return false,
+            Err(FillError::TooLong) => return LineFeeds::None,
+            Err(FillError::NotPresent) => return line_feeds,
         }
     }
-    true
+    LineFeeds::None
 }
 
 /// Writes to a stream, and escapes where that is a terminal.
 #[derive(Drop)]
-struct Escaper<'rt, W> {
-    rt: &'rt HostRuntime,
+struct Escaper<W> {
     stream: W,
     is_terminal: bool,
-    /// It is true where a word of the command line has a line feed.
-    has_broken_word: bool,
+    line_feeds: LineFeeds,
     begun: Begun,
 }
 
-impl<'rt, W: Output> Escaper<'rt, W> {
+impl<W: Output> Escaper<W> {
     /// Writes the bytes whose character did not come, escaped. Is true where they were written.
     fn put_begun(&mut self) -> bool {
         let begun = self.begun;
@@ -231,26 +225,18 @@ impl<'rt, W: Output> Escaper<'rt, W> {
         rest.is_empty()
     }
 
-    /// Writes a text in which only a line feed at its end may end a line.
-    fn put_line(&mut self, text: &[u8]) -> bool {
-        match text {
-            [line @ .., b'\n'] if !ends_with_broken_word(self.rt, text) => {
-                self.put_text(line, false) && self.put_text(b"\n", true)
-            }
-            _ => self.put_text(text, false),
-        }
-    }
-
     fn write(&mut self, buf: &[u8]) -> io::Result<usize>
         ensures { WritesAtMost result buf.now }
     {
         if !self.is_terminal {
             return self.stream.write(buf);
         }
-        let is_put = if self.has_broken_word {
-            self.put_line(buf)
-        } else {
-            self.put_text(buf, true)
+        let is_put = match (self.line_feeds, buf) {
+            (LineFeeds::All, _) => self.put_text(buf, true),
+            (LineFeeds::Last, [line @ .., b'\n']) => {
+                self.put_text(line, false) && self.put_text(b"\n", true)
+            }
+            _ => self.put_text(buf, false),
         };
         if is_put {
             Ok(buf.len())
@@ -264,21 +250,20 @@ impl<'rt, W: Output> Escaper<'rt, W> {
 /// is escaped; elsewhere it gets the bytes as they are.
 ///
 /// A line feed ends a line. Where a word of the command line has one, only that at the end of what
-/// is written does, and each other is escaped.
+/// is written does, and where a word ends with one, none: the others are escaped.
 #[derive(Drop)]
-pub struct Escaping<'rt, W> {
-    escaper: Escaper<'rt, W>,
+pub struct Escaping<W> {
+    escaper: Escaper<W>,
     failures: u64,
 }
 
-impl<'rt, W: Output> Escaping<'rt, W> {
-    pub(crate) fn new(rt: &'rt HostRuntime, stream: W, is_terminal: bool) -> Escaping<'rt, W> {
+impl<W: Output> Escaping<W> {
+    pub(crate) fn new(rt: &HostRuntime, stream: W, is_terminal: bool) -> Escaping<W> {
         Escaping {
             escaper: Escaper {
-                rt,
                 stream,
                 is_terminal,
-                has_broken_word: is_terminal && has_broken_word(rt),
+                line_feeds: line_feeds(rt),
                 begun: Begun::Nothing,
             },
             failures: 0,
@@ -295,7 +280,7 @@ impl<'rt, W: Output> Escaping<'rt, W> {
     }
 }
 
-impl<W: Output> Output for Escaping<'_, W> {
+impl<W: Output> Output for Escaping<W> {
     ghost contents = { λ _. None };
 
     ghost failures = { λ e. e.failures };
@@ -316,7 +301,7 @@ impl<W: Output> Output for Escaping<'_, W> {
     }
 }
 
-impl<W: Output> fmt::Write for Escaping<'_, W> {
+impl<W: Output> fmt::Write for Escaping<W> {
     fn write_str(&mut self, s: &str) -> fmt::Result {
         if send(self, s.as_bytes()) {
             Ok(())

@@ -32,12 +32,12 @@ pub fn refuse_words(rt: &HostRuntime, error: &io::Error) -> Status {
 }
 
 /// Returns standard output, escaped where it is a terminal.
-pub fn standard_output(rt: &HostRuntime) -> Escaping<'_, Counted<Stdout>> {
+pub fn standard_output(rt: &HostRuntime) -> Escaping<Counted<Stdout>> {
     Escaping::new(rt, Counted::new(rt.stdout()), rt.stdout().is_terminal())
 }
 
 /// Returns standard error, escaped where it is a terminal.
-pub fn standard_error(rt: &HostRuntime) -> Escaping<'_, Counted<Stderr>> {
+pub fn standard_error(rt: &HostRuntime) -> Escaping<Counted<Stderr>> {
     Escaping::new(rt, Counted::new(rt.stderr()), rt.stderr().is_terminal())
 }
 
@@ -55,8 +55,8 @@ pub fn refuse_terminal(rt: &HostRuntime) -> Option<Status> {
 /// Standard output and standard error.
 #[derive(Drop)]
 pub struct Streams<'t> {
-    pub out: Clearing<'t, Escaping<'t, Counted<Stdout>>>,
-    pub err: Clearing<'t, Escaping<'t, Counted<Stderr>>>,
+    pub out: Clearing<'t, Escaping<Counted<Stdout>>>,
+    pub err: Clearing<'t, Escaping<Counted<Stderr>>>,
 }
 
 impl<'t> Streams<'t> {

@@ -11,7 +11,7 @@ use std::io::{self, Stdout, Write};
 #[derive(Drop)]
 pub(crate) struct StandardOutput<'rt> {
     rt: &'rt HostRuntime,
-    stream: Escaping<'rt, Counted<Stdout>>,
+    stream: Escaping<Counted<Stdout>>,
     failures: u64,
 }
 
