@@ -4,12 +4,13 @@ rows, as the program meets them.
     python3 -m checks.odd [--program PATH]
 
 Each file is made by the system's SQLite or by hand, given to `list`, and must be answered with the
-number that stands beside it and left as it was, byte for byte. Beside the tables of a store that
-the released 1.1.1 made (data/released_1_1_1.db, the file Q) other tools may write as they please;
-what they may do to a store with page sums is tried too, and GUIDE's lines that bring such a store
-back, which run nothing that somebody wrote into it. Where rows are in the log alone and the store
-is refused, they stay there. Then `list` of stores of 250,000, 500,000 and 1,000,000 rows: time and
-peak memory. It needs sqlite3 and time.
+number that stands beside it and left as it was, byte for byte. Beside a file that is no database
+nothing is made, nor is anything in an empty one by what only reads. Beside the tables of a store
+that the released 1.1.1 made (data/released_1_1_1.db, the file Q) other tools may write as they
+please; what they may do to a store with page sums is tried too, and GUIDE's lines that bring such a
+store back, which run nothing that somebody wrote into it. Where rows are in the log alone and the
+store is refused, they stay there. Then `list` of stores of 250,000, 500,000 and 1,000,000 rows:
+time and peak memory. It needs sqlite3 and time.
 """
 import os
 import shutil
@@ -175,6 +176,23 @@ class Odd:
             print(f"{what}: {ran}, file {'kept' if is_kept else 'CHANGED'}; "
                   f"expected {' or '.join(expected)}")
 
+    def makes_nothing(self, what: str, words: tuple, status: int) -> None:
+        """A command ends so, and every file is as it was, and alone."""
+        before = {path.name: bytes_of(path) for path in self.folder.iterdir()}
+        ran = measure.ran(self.program, *words)
+        after = {path.name: bytes_of(path) for path in self.folder.iterdir()}
+        self.done += 1
+        if (ran.status, ran.out) != (status, b"") or after != before:
+            self.failed += 1
+            print(f"{what}, {words[0]}: {ran}, expected status {status}; files {sorted(after)}, "
+                  f"{'kept' if after == before else 'CHANGED'}")
+
+
+# What is no database, and has no log
+NO_DATABASES = (("a text", b"This is no database.\n" * 100), ("a byte", b"S"),
+                ("all but the last byte of what a database begins with", b"SQLite format 3"),
+                ("a file of zeros", bytes(8192)), ("an EDF file", edf.small_files()["Q"]))
+
 
 def no_stores(odd: Odd) -> None:
     data = bytes_of(odd.held(has_sums=True))
@@ -184,6 +202,8 @@ def no_stores(odd: Odd) -> None:
     odd.clean()
     odd.store.write_bytes(b"")
     odd.check("an empty file", "")
+    odd.makes_nothing("an empty file", ("list", odd.store), 0)
+    odd.makes_nothing("an empty file", ("export", odd.store, "1"), 1)
     for what, given in (("a text", b"This is no database.\n" * 100),
                         ("a file of zeros", bytes(8192)), ("an EDF file", edf.small_files()["Q"]),
                         ("a store cut in its middle", data[:len(data) // 2]),
@@ -192,6 +212,12 @@ def no_stores(odd: Odd) -> None:
         odd.clean()
         odd.store.write_bytes(given)
         odd.check(what, E42, E45)
+    for what, given in NO_DATABASES:
+        for words in (("list", odd.store), ("export", odd.store, "1"),
+                      ("take", odd.store, RELEASED)):
+            odd.clean()
+            odd.store.write_bytes(given)
+            odd.makes_nothing(what, words, 3)
     odd.clean()
     odd.store.write_bytes(data + b"\0")
     odd.check("a store with a byte more, as SQLite takes it too", "")

@@ -237,6 +237,7 @@ def refused_store(checks: Checks, given) -> None:
     checks.same("standard output and status", (ran.out, ran.status), (b"", 3))
     checks.same("the refusal and its cause", (first, len(cause)), (printed.NO_STORE, 1))
     checks.same("the file is as it was", checks.content("s.db"), b"no database at all" * 100)
+    checks.same("and alone", checks.names(), ["s.db"])
     (checks.folder / "link.db").symlink_to("later.db")
     before = checks.names()
     for path, why in (("none/s.db", printed.NO_FOLDER), ("link.db", printed.DEAD_LINK),

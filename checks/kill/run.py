@@ -3,11 +3,12 @@ and looks at what is held.
 
     python3 -m checks.kill.run [--program PATH] [--seed SEED] [COUNT]       1,000 stops if left out
 
-A short night of two hours comes in 40 fragments. Its `take` is killed (SIGKILL) at a random moment,
-and run again from the front, until all of it is held; then a new store begins. After each stop
-`list` opens the store, and its export is that of the first p files: p is at least what was held
-before, and at least the files whose `accepted` was read. A whole store's export is that of a run
-without stops. Then the same night is taken onto a tmpfs that is too small for it (as root; left out
+A short night of two hours comes in 40 fragments, or for one of four stops a longer one, in the
+middle of which the log is copied. Its `take` is killed (SIGKILL) at a random moment, and run again
+from the front, until all of it is held; then a new store begins. After each stop `list` opens the
+store, and its export is that of the first p files: p is at least what was held before, and at least
+the files whose `accepted` was read. A whole store's export is that of a run without stops. Then the
+short night is taken onto a tmpfs that is too small for it (as root; left out
 otherwise), from a card that shrinks while it is read, and by two `take`s on one store at once. What
 is expected comes from the plain model. It stops with status 1 at the first loss.
 """
@@ -24,6 +25,9 @@ from checks.lib import arguments, disks, faults, measure, model, night, printed
 from checks.lib.checks import Lost, end
 
 NIGHT = night.Night(records=7_200, samples=(256, 256), fragments=40)
+# Two pages a data record: after about two thirds of the files the log has 8,000, and is copied.
+LONG = night.Night(records=5_760, samples=(1600, 1600), fragments=40)
+EACH = 4        # of so many stops one is of the long night
 CUT = {fault.number for fault in (faults.cut, faults.cut_signals, faults.cut_record)}
 
 
@@ -37,9 +41,10 @@ def export_of(held: model.Store) -> bytes:
 
 
 class Bench:
-    def __init__(self, program: Path, folder: Path, rng: random.Random):
+    def __init__(self, program: Path, folder: Path, rng: random.Random, kind: night.Night):
         self.program, self.folder, self.rng = measure.Program(program), folder, rng
-        self.parts = NIGHT.parts(folder)
+        folder.mkdir()
+        self.parts = kind.parts(folder)
         self.stops, self.refusals = 0, collections.Counter()
         held = model.Store()
         self.fronts = [digest(b"")]         # of the export of the first p files
@@ -215,10 +220,14 @@ def main() -> None:
     parser.add_argument("--seed", type=int, default=1, help="of the moments, 1 if left out")
     given = parser.read()
     with measure.scratch() as name:
-        bench = Bench(given.program, Path(name), random.Random(given.seed))
+        rng, few = random.Random(given.seed), given.count // EACH
+        bench = Bench(given.program, Path(name) / "short", rng, NIGHT)
         print(f"seed {given.seed}, {measure.machine()}")
         try:
-            stops(bench, given.count)
+            longer = Bench(given.program, Path(name) / "long", rng, LONG)
+            stops(longer, few)
+            bench.refusals.update(longer.refusals)
+            stops(bench, given.count - few)
             measure.remove_store(bench.folder / "s.db")
             full_disk(bench, 4)
             shrinking(bench, max(5, given.count // 5))
@@ -227,7 +236,7 @@ def main() -> None:
             print(f"LOST OR IN PART: {why}")
             end(bench.stops + 1, 1)
     print("refusals in all of it:", dict(bench.refusals) or "none")
-    end(bench.stops, 0)
+    end(given.count, 0)
 
 
 if __name__ == "__main__":

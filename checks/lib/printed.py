@@ -161,6 +161,8 @@ def undated(number: int) -> str:
 WIPED = "\r" + 60 * " " + "\r"
 MISSING = "no such file"
 MADE = "no such file; made a new, empty store"
+EMPTY = "an empty file"
+MADE_IN = "an empty file; made a new, empty store in it"
 FILE_ON_PATH = "a directory of its path is a file"
 NO_FILE = "no such file or directory"
 DIRECTORY = "a directory"
@@ -178,6 +180,7 @@ DAMAGED = ("the file is damaged, or it was copied without its -wal, so copy both
            "sums and sqlite3 wrote or copied it (ANALYZE, VACUUM, .backup): take all its files "
            "into a new store; 'man edfstore' has more")
 NOT_PERMITTED = "no permission to read and write it, or files beside it"
+UNMADE = "a file of it could not be made: its folder can't be written, or the disk is full"
 BUSY = "another program has it open; run this again when that has ended"
 OTHER_TABLES = ("its tables are not a store's, or have an index or a trigger; it was left as it is")
 OTHER_ROWS = "its rows are such as no submissions leave; put it aside, as it is"

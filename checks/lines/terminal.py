@@ -1,9 +1,11 @@
 """What the programs print for a person, where standard error is a terminal: causes, what to do
 after a refusal, new stores and how far a reading is.
 
-    python3 -m checks.lines.terminal [--program PATH] [--edfruns PATH] [--edfmend PATH]
+    python3 -m checks.lines.terminal [--program PATH] [--edfruns PATH] [--edfserve PATH]
+        [--edfmend PATH]
 
-Standard error is a terminal here and standard output is none. It needs sqlite3 (the command).
+Standard error is a terminal here and standard output is none. It needs sqlite3 (the command) and
+cc.
 """
 import os
 import pty
@@ -63,9 +65,34 @@ def new_stores(checks: Checks) -> None:
                 err=cause("other.db", printed.MISSING) + printed.no_recording(1))
     on_terminal(checks, "take third.db a.edf", printed.line("a.edf", NEW),
                 cause("third.db", printed.MADE) + step(1, 1, 0, 1) + WIPED)
+    checks.shell(": > fourth.db")
+    on_terminal(checks, "list fourth.db", err=cause("fourth.db", printed.EMPTY))
+    on_terminal(checks, "export fourth.db 1", status=1,
+                err=cause("fourth.db", printed.EMPTY) + printed.no_recording(1))
+    on_terminal(checks, "take fourth.db a.edf", printed.line("a.edf", NEW),
+                cause("fourth.db", printed.MADE_IN) + step(1, 1, 0, 1) + WIPED)
     on_terminal(checks, "take :memory: a.edf", printed.line("a.edf", NEW), step(1, 1, 0, 1) + WIPED)
     on_terminal(checks, "convert a.edf", Q)
     on_terminal(checks, "export s.db 1", Q)
+
+
+def stores_of_sessions(checks: Checks) -> None:
+    checks.begin("a session says once that it made a store, and to a person alone")
+    on_terminal(checks, "typo.db", err=cause("typo.db", printed.MADE))
+    on_terminal(checks, "typo.db")
+    checks.run("other.db")
+    checks.same("the stores", checks.names(), ["other.db", "other.db-wal", "typo.db",
+                                               "typo.db-wal"])
+    on_terminal(checks, "none/typo.db", status=3,
+                err=NO_STORE + cause("none/typo.db", printed.NO_FOLDER))
+
+
+def help_is_help(checks: Checks) -> None:
+    checks.begin(f"{checks.name} help is help, and makes no file")
+    text = checks.program.ran("--help").out
+    checks.same("the usage in it", text.count(f"\nUsage: {checks.name} ".encode()), 1)
+    on_terminal(checks, "help", text)
+    checks.same("the files", checks.names(), [])
 
 
 def how_far(checks: Checks) -> None:
@@ -115,6 +142,24 @@ def causes(checks: Checks) -> None:
         with open(checks.folder / "slow", "wb"):
             on_terminal(checks, "list s.db", err=NO_STORE + cause("s.db", printed.BUSY), status=3)
         other.wait()
+
+
+def unmade_files(checks: Checks) -> None:
+    """Where a file of a store could not be made, none is made to find out why. The files that are
+    opened so are the store's and its log, in turn; each is refused once."""
+    begun(checks, "the cause makes no file")
+    edfstore, why = checks.program, printed.UNMADE
+    checks.program = replace(edfstore, path=Path("/usr/bin/env"))
+    checks.shell("rm s.db-wal")
+    with measure.scratch() as aside:
+        library = measure.library(arguments.TOP / "checks/refused/refused.c", Path(aside))
+        before = f"LD_PRELOAD={library} MET={aside}/met REFUSE=new:{{}} {edfstore.path} {{}}"
+        for nth, words in ((1, "list s.db"), (2, "export s.db 1"), (2, "take s.db a.edf"),
+                           (1, "take new.db a.edf")):
+            err = NO_STORE + cause(words.split(" ")[1], why)
+            on_terminal(checks, before.format(nth, words), err=err, status=3)
+            checks.same(f"the files after {words}", checks.names(), ["a.edf", "s.db"])
+    checks.program = edfstore
 
 
 def unread_files(checks: Checks) -> None:
@@ -322,18 +367,19 @@ def mended_files(checks: Checks) -> None:
 
 
 def main() -> None:
-    given = arguments.Parser(__doc__, ("edfstore", "edfruns", "edfmend")).read()
-    measure.need("bash", "sqlite3")
+    given = arguments.Parser(__doc__, arguments.PROGRAMS).read()
+    measure.need("bash", "cc", "sqlite3")
+    of_program = {"edfstore": (new_stores, how_far, causes, unmade_files, unread_files,
+                                what_to_do),
+                  "edfruns": (files_of_runs, outside_of_runs, read_again),
+                  "edfserve": (stores_of_sessions,), "edfmend": (why_not_mended, mended_files)}
     with measure.scratch() as name:
         checks = Checks(given.program, Path(name))
-        for case in (new_stores, how_far, causes, unread_files, what_to_do):
-            case(checks)
-        checks.program, checks.name = replace(checks.program, path=given.edfruns), "edfruns"
-        for case in (files_of_runs, outside_of_runs, read_again):
-            case(checks)
-        checks.program, checks.name = replace(checks.program, path=given.edfmend), "edfmend"
-        for case in (why_not_mended, mended_files):
-            case(checks)
+        for program, cases in of_program.items():
+            path = getattr(given, arguments.OPTIONS[program])
+            checks.program, checks.name = replace(checks.program, path=path), program
+            for case in (help_is_help, *cases):
+                case(checks)
     checks.end()
 
 

@@ -5,16 +5,17 @@ looks at what is held.
                                    [COUNT]
 
 1,000 states if left out, half of them of each; needs `cc`. A night of thirty files is taken by a
-`take`, and by a session that gets a line for each file once it has answered the one before. Their
-writes, syncs and changes of length are written down, and what they print (`calls.c`, loaded before
-the C library): into no store, over stores of either that was killed, and over stores that a cut of
-power left. At random moments, in the opening, while the log is copied and at the end too, the two
-files are laid out as a disk may leave them (`disk.py`). Each such pair is opened by `list` and
-`export`, and must hold what a front of the list leaves, byte for byte by the plain model. It holds
-no less than where all is lost that was not synced, than the files that the program had gone past,
-and than those that it had printed as accepted, as a session does after each; and no more than those
-that it had opened. Then the rest of the list, or all of it, is given in the same way: each file is
-answered as it must be, and the export is the night's.
+`take`, and by a session that gets a line for each file once it has answered the one before. In one
+of four states it is a longer one, in the middle of which the log is copied, and not at the end
+alone. Their writes, syncs and changes of length are written down, and what they print (`calls.c`,
+loaded before the C library): into no store, over stores of either that was killed, and over stores
+that a cut of power left. At random moments, in the opening, while the log is copied and at the end
+too, the two files are laid out as a disk may leave them (`disk.py`). Each such pair is opened by
+`list` and `export`, and must hold what a front of the list leaves, byte for byte by the plain
+model. It holds no less than where all is lost that was not synced, than the files that the program
+had gone past, and than those that it had printed as accepted, as a session does after each; and no
+more than those that it had opened. Then the rest of the list, or all of it, is given in the same
+way: each file is answered as it must be, and the export is the night's.
 
 Three controls must fail, for a `take` and for a session: a synced sector of the log, of a file that
 is held, is zeroed or as it was before; and a disk does not carry out the syncs of the log, or those
@@ -36,11 +37,14 @@ from checks.lib import arguments, measure, model, night, printed, serving
 from checks.lib.checks import end
 from checks.powercut import disk
 
-# 30 data records a file; after about two thirds of the files the log is long enough to be copied.
-NIGHT = night.Night(records=900, samples=(1600, 1600), fragments=30)
+SHORT = night.Night(records=900, samples=(1600, 1600), fragments=30)
+# Two pages a data record: after about two thirds of the files the log has 8,000, and is copied.
+LONG = replace(SHORT, records=5_760)
+EACH = 4            # of so many states one is of the long night
 WAYS = TAKE, SESSION = "take", "session"
-AGAIN = 8           # runs of each way over a store of a killed one, and as many over one of a cut
-CONTROLLED = 40     # states of each control, for each way
+# Runs of each way over a store of a killed one, and as many over one of a cut, for each night
+AGAIN = {SHORT: 8, LONG: 2}
+CONTROLLED = {SHORT: 40, LONG: 8}   # states of each control, for each way
 SECONDS = 120       # that a run of the program may take
 PARTS = ("the opening", "the taking", "the end")
 
@@ -60,11 +64,12 @@ class Found:
 
 
 class Bench:
-    def __init__(self, given, folder: Path):
+    def __init__(self, given, folder: Path, kind: night.Night):
         self.program, self.edfserve = measure.Program(given.program, most=SECONDS), given.edfserve
-        self.folder, self.seed = folder, given.seed
+        self.folder, self.seed, self.kind = folder, given.seed, kind
+        folder.mkdir()
         self.library = measure.library(Path(__file__).resolve().parent / "calls.c", folder)
-        self.parts = NIGHT.parts(folder)
+        self.parts = kind.parts(folder)
         held, nothing = model.Store(), hashlib.sha256(b"").digest()
         self.lists, self.exports = [b""], [nothing]     # of each front
         for part in self.parts:
@@ -143,7 +148,7 @@ class Bench:
     def given_again(self, way: str, store: Path, front: int, begin: int) -> str:
         """What is wrong where the list is given from a place that is not after the held front."""
         ran = self.given(way, store, self.parts[begin:])
-        records = NIGHT.records // NIGHT.fragments
+        records = self.kind.records // self.kind.fragments
         answers = (printed.accepted(*((0, records) if nth < front else (records, 0)))
                    for nth in range(begin, len(self.parts)))
         expected = printed.lines(*zip(self.parts[begin:], answers))
@@ -294,9 +299,12 @@ def syncs_lost(file: int, which: int, number: int) -> Found:
     return BENCH.judged(run.way, [file.torn(rng) for file in files], past, opened, rng)
 
 
-CONTROLS = (("a sector of the log lost", sector_lost),
-            ("the syncs of the log not done", functools.partial(syncs_lost, disk.LOG)),
-            ("the syncs of the store's file not done", functools.partial(syncs_lost, disk.STORE)))
+# The store's file must be synced before the log is written anew from its start, as after a copy.
+CONTROLS = {
+    SHORT: (("a sector of the log lost", sector_lost),
+            ("the syncs of the log not done", functools.partial(syncs_lost, disk.LOG))),
+    LONG: (("the syncs of the store's file not done", functools.partial(syncs_lost, disk.STORE)),),
+}
 
 
 def recorded_again(number: int) -> list:
@@ -332,16 +340,16 @@ def report(counts: list) -> None:
           f"{many['more']} times more files than with all lost that was not synced")
 
 
-def controlled(pool) -> list:
-    """How many states of each control are found to be wrong."""
-    counts = []
-    for (which, way), (what, control) in itertools.product(enumerate(WAYS), CONTROLS):
-        found = pool.map(functools.partial(control, which), range(CONTROLLED))
+def controlled(pool) -> int:
+    """How many controls are found to be wrong in half of their states at most."""
+    missed, count = 0, CONTROLLED[BENCH.kind]
+    for (which, way), (what, control) in itertools.product(enumerate(WAYS), CONTROLS[BENCH.kind]):
+        found = pool.map(functools.partial(control, which), range(count))
         short, wrong = sum(it.is_short() for it in found), sum(bool(it.wrong) for it in found)
-        print(f"control, {way}, {what}: of {CONTROLLED} states {short} hold fewer files than they "
-              f"must, and {wrong - short} no front", flush=True)
-        counts.append(wrong)
-    return counts
+        print(f"control, {way}, {what}: of {count} states {short} hold fewer files than they must, "
+              f"and {wrong - short} no front", flush=True)
+        missed += 2 * wrong <= count
+    return missed
 
 
 def words() -> arguments.Parser:
@@ -356,7 +364,7 @@ def runs(forking) -> list:
     first = [BENCH.recorded(way, "into no store", (None, None)) for way in WAYS]
     BENCH.runs = first
     with forking.Pool() as pool:
-        again = pool.map(recorded_again, range(len(WAYS) * AGAIN))
+        again = pool.map(recorded_again, range(len(WAYS) * AGAIN[BENCH.kind]))
     made = first + list(itertools.chain(*again))
     print(f"{len(made)} runs with {len(BENCH.parts)} files; into no store", end="")
     for run in first:
@@ -380,26 +388,36 @@ def judged(pool, numbers) -> int:
     return wrong
 
 
-def main() -> None:
+def cut(given, folder: Path, kind: night.Night, numbers: list) -> int:
+    """Judges these states of a night, and those of its controls; how many are wrong, and how many
+    controls were missed."""
     global BENCH
+    if not numbers:
+        return 0
+    BENCH = Bench(given, folder, kind)
+    forking = multiprocessing.get_context("fork")
+    BENCH.runs = runs(forking)
+    with forking.Pool() as pool:
+        return judged(pool, numbers) + controlled(pool)
+
+
+def main() -> None:
     given = words().read()
     measure.need("cc")
     numbers = range(given.count) if given.only is None else [given.only]
-    forking = multiprocessing.get_context("fork")
+    wrong = 0
     with measure.scratch() as name:
-        BENCH = Bench(given, Path(name).resolve())
         print(f"seed {given.seed}, {measure.machine()}", flush=True)
         try:
-            BENCH.runs = runs(forking)
+            for kind in (LONG, SHORT):
+                states = [number for number in numbers
+                          if (number // len(WAYS) % EACH == 0) == (kind == LONG)]
+                wrong += cut(given, Path(name).resolve() / str(kind.records), kind, states)
         except Unfit as why:
             print(why)
             end(1, 1)
-        with forking.Pool() as pool:
-            wrong = judged(pool, numbers)
-            found = controlled(pool)
-    print(f"{len(numbers)} states, {wrong} wrong; the controls were found wrong in "
-          f"{', '.join(map(str, found))} of {CONTROLLED} states each, as they must be in most")
-    end(len(numbers), wrong + sum(2 * count <= CONTROLLED for count in found))
+    print(f"{len(numbers)} states, {wrong} wrong or missed by a control")
+    end(len(numbers), wrong)
 
 
 if __name__ == "__main__":

@@ -1,12 +1,14 @@
 /* Refuses calls of the C library, to be loaded before it: the Nth of a kind, and with EVERY set
    each later one too.
 
-   REFUSE is the kind, `memory` (malloc and realloc: none left) or `disk` (reads, writes, syncs and
-   cuts: input/output error), a colon and N. The file that MET names is made at the first refusal.
+   REFUSE is the kind, a colon and N: `memory` (malloc and realloc: none left), `disk` (reads, writes,
+   syncs and cuts: input/output error), `new` (files that are opened or made: no permission). The
+   file that MET names is made at the first refusal.
 */
 #define _GNU_SOURCE
 #include <errno.h>
 #include <fcntl.h>
+#include <stdarg.h>
 #include <stdlib.h>
 #include <string.h>
 #include <sys/syscall.h>
@@ -26,7 +28,7 @@ __attribute__((constructor)) static void begin(void) {
   mark = getenv("MET");
   every = getenv("EVERY") != NULL;
   nth = atol(colon + 1);
-  kind = refuse[0] == 'm' ? "memory" : "disk";
+  kind = refuse[0] == 'm' ? "memory" : refuse[0] == 'n' ? "new" : "disk";
 }
 
 /* Whether this call of a kind is refused. */
@@ -81,3 +83,17 @@ int fsync(int file) { return DISK(syscall(SYS_fsync, file)); }
 int fdatasync(int file) { return DISK(syscall(SYS_fdatasync, file)); }
 int ftruncate(int file, off_t size) { return DISK(syscall(SYS_ftruncate, file, size)); }
 int ftruncate64(int file, off64_t size) { return DISK(syscall(SYS_ftruncate, file, size)); }
+int open(const char *path, int flags, ...) {
+  int mode = 0;
+  if (flags & O_CREAT) {
+    va_list more;
+    va_start(more, flags);
+    mode = va_arg(more, int);
+    va_end(more);
+    if (refused("new")) {
+      errno = EACCES;
+      return -1;
+    }
+  }
+  return (int)syscall(SYS_openat, AT_FDCWD, path, flags, mode);
+}

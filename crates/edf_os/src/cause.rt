@@ -95,7 +95,7 @@ pub(crate) fn print_reread(terminal: &Terminal<'_>, name: &str) {
 
 /// Prints why standard output could not be written, under the name of its file, where it is one.
 pub(crate) fn print_unwritten(rt: &HostRuntime, terminal: &Terminal<'_>, error: &io::Error) {
-    if !terminal.is_there() {
+    if !terminal.prints_causes() {
         return;
     }
     match fs::read_link(rt, "/proc/self/fd/1") {

@@ -21,11 +21,11 @@ fn explain_form(terminal: &Terminal<'_>, name: &str, fault: &FragmentFault) {
         (Row::Never(words) | Row::Own(words), _)
         | (Row::Behind(words, _) | Row::Field(words, _) | Row::Instead(words, _), Nothing)
         | (Row::Behind(_, words) | Row::Field(_, words), ByAll) => {
-            terminal.say_of(name, fault, words);
+            terminal.advise_of(name, fault, "", words);
         }
-        (Row::Instead(_, words), ByAll) => terminal.say(name, words),
-        (Row::Field(..), ByNamed) => terminal.say_both(name, fault, BY_NAMED),
-        (_, ByNamed) => terminal.say(name, BY_NAMED),
+        (Row::Instead(_, words), ByAll) => terminal.advise(name, words),
+        (Row::Field(..), ByNamed) => terminal.advise_of(name, fault, ": ", BY_NAMED),
+        (_, ByNamed) => terminal.advise(name, BY_NAMED),
     }
 }
 
@@ -47,7 +47,7 @@ fn explain_number(terminal: &Terminal<'_>, name: &str, number: u8) {
         43 => on_unwritten(terminal, name),
         _ => return,
     };
-    terminal.say_once(number, name, words);
+    terminal.advise_once(number, name, words);
 }
 
 /// Explains to a person a line about what has this name, below it. An explanation that is the same
@@ -57,7 +57,7 @@ pub(crate) fn explain(terminal: &Terminal<'_>, name: &str, remark: Remark) {
         Remark::Fault(fault) if fault.number() < 40 => explain_form(terminal, name, &fault),
         Remark::Fault(fault) => explain_number(terminal, name, fault.number()),
         Remark::Refused(number) => explain_number(terminal, name, number),
-        Remark::Taken => terminal.say(name, RENAME),
-        Remark::Outside => terminal.say_once(0, name, LEFT_OUT),
+        Remark::Taken => terminal.advise(name, RENAME),
+        Remark::Outside => terminal.advise_once(0, name, LEFT_OUT),
     }
 }

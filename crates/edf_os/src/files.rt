@@ -122,12 +122,12 @@ fn require_regular(rt: &HostRuntime, name: &str) -> io::Result<()> {
 }
 
 impl FileReader<'_> {
-    /// Returns the size of the file, if known. For a person it prints that a pipe is read again.
+    /// Returns the size of the file, if known. As a cause it prints that a pipe is read again.
     fn size(&self) -> Option<u64> {
         let FileState::Closed = self.state else {
             return None;
         };
-        if !self.terminal.is_there() {
+        if !self.terminal.prints_causes() {
             return None;
         }
         let found = fs::metadata(self.rt, self.name.as_str()).ok()?;

@@ -17,7 +17,9 @@
 //! - [`run_program`] and [`run_words`] run a [`Program`] by the words after its name; [`words`] and
 //!   [`refuse_words`] are for another.
 //! - [`Files`] opens files and standard input for a [`FileReader`]; [`PartFiles`] makes a
-//!   [`NewFile`], and writes over none. [`Streams`] are standard output and standard error.
+//!   [`NewFile`], and writes over none.
+//! - [`Streams`] are standard output and standard error, [`Escaping`] ones, as [`standard_output`] and
+//!   [`standard_error`] are; [`refuse_terminal`] is for a command that writes a file.
 //! - [`Terminal`] shows a person progress and messages, [`Clearing`] is a stream beside it, and
 //!   [`Mending`] what its program mends. [`print_system_error`] and [`FULL`] are causes.
 #![tactic(auto)]
@@ -25,6 +27,7 @@
 mod advice;
 mod cause;
 mod clearing;
+mod escaping;
 mod explain;
 mod files;
 mod new_files;
@@ -35,9 +38,10 @@ mod terminal;
 
 pub use cause::{FULL, print_system_error};
 pub use clearing::Clearing;
+pub use escaping::Escaping;
 pub use files::{FileReader, Files};
 pub use new_files::PartFiles;
 pub use parts::NewFile;
 pub use program::{Program, run_program, run_words};
-pub use streams::{Streams, refuse_words, words};
+pub use streams::{Streams, refuse_terminal, refuse_words, standard_error, standard_output, words};
 pub use terminal::{Mending, Terminal};

@@ -14,8 +14,16 @@ use std::io::{self, ErrorKind};
 pub struct PartFiles<'rt> {
     system: Parts<'rt>,
     made: MadeFiles,
-    /// The name `NAME.part` of each of the files, while it has that.
-    parts: Vec<Option<String>>,
+    names: Vec<MadeNames>,
+}
+
+/// The names that a file has.
+#[derive(Drop)]
+struct MadeNames {
+    /// The name `NAME.part`, while it has that.
+    part: Option<String>,
+    /// It is true where it has its own name.
+    is_named: bool,
 }
 
 impl<'rt> PartFiles<'rt> {
@@ -24,7 +32,7 @@ impl<'rt> PartFiles<'rt> {
         PartFiles {
             system: Parts::new(rt, terminal),
             made: MadeFiles::new(rt.alloc()),
-            parts: Vec::new(rt.alloc()),
+            names: Vec::new(rt.alloc()),
         }
     }
 
@@ -36,31 +44,42 @@ impl<'rt> PartFiles<'rt> {
         let part = format!(in alloc; "{name}.part")?;
         let kept = String::from_str(alloc, part.as_str())?;
         let name = String::from_str(alloc, name)?;
-        self.parts.reserve(1)?;
+        self.names.reserve(1)?;
         let file = self.system.create(name, part)?;
-        self.parts.push(Some(kept))?;
+        self.names.push(MadeNames {
+            part: Some(kept),
+            is_named: false,
+        })?;
         Ok(file)
     }
 
-    /// Notes that the file that was begun last has its name.
-    fn settle(&mut self)
+    /// Notes that the file that was begun last has its name, and its part no more if `is_whole`.
+    fn name_last(&mut self, is_whole: bool)
         ensures { self.new.made ≡ self.old.made }
     {
-        let count = self.parts.len();
+        let count = self.names.len();
         if count > 0 {
-            self.parts[count - 1] = None;
+            self.names[count - 1].is_named = true;
+            if is_whole {
+                self.names[count - 1].part = None;
+            }
         }
     }
 
-    /// Removes the file at a place, under the name that it has, and is true where it is gone.
+    /// Removes the file at a place, under the names that it has, and is true where it is gone.
     fn is_removed(&self, place: usize) -> bool {
-        if let Some(Some(part)) = self.parts.get(place) {
-            return self.system.is_removed(part.as_str());
-        }
-        match self.made.name(place) {
-            Some(name) => self.system.is_removed(name),
+        let Some(names) = self.names.get(place) else {
+            return false;
+        };
+        let has_part = match &names.part {
+            Some(part) => !self.system.is_removed(part.as_str()),
             None => false,
-        }
+        };
+        let has_name = match self.made.name(place) {
+            Some(name) if names.is_named => !self.system.is_removed(name),
+            _ => false,
+        };
+        !has_part && !has_name
     }
 }
 
@@ -103,14 +122,17 @@ impl<'rt> NewFiles for PartFiles<'rt> {
         let bytes = writer.bytes;
         match self.system.finish(writer) {
             Ok(()) => {
-                self.settle();
+                self.name_last(true);
                 self.made.finish(None);
                 Ok(bytes)
             }
-            Err(error) => {
+            Err(unnamed) => {
+                if unnamed.is_name_left {
+                    self.name_last(false);
+                }
                 let last = self.made.count().saturating_sub(1);
                 let is_gone = self.is_removed(last);
-                let why = match error.kind() {
+                let why = match unnamed.error.kind() {
                     ErrorKind::AlreadyExists => Unfinished::IsThere,
                     _ => Unfinished::Failed,
                 };
@@ -139,7 +161,7 @@ impl<'rt> NewFiles for PartFiles<'rt> {
     }
 
     fn forget(&mut self) {
-        self.parts.clear();
+        self.names.clear();
         self.made.forget();
     }
 }

@@ -9,6 +9,14 @@ use std::fs::{self, File};
 use std::io::{self, ErrorKind, Write};
 use std::path::Path;
 
+/// A file did not get its name.
+#[derive(Drop)]
+pub(crate) struct Unnamed {
+    pub(crate) error: io::Error,
+    /// It is true where there is a file of that name which was made here and could not be removed.
+    pub(crate) is_name_left: bool,
+}
+
 /// Makes files, and prints why that failed.
 ///
 /// A file is written as `NAME.part`, which is made as a new file. Once it is whole it is synced and
@@ -65,6 +73,14 @@ fn remove(rt: &HostRuntime, name: &str) -> io::Result<()> {
     match fs::remove_file(rt, name) {
         Err(error) if error.kind() == ErrorKind::NotFound => Ok(()),
         answer => answer,
+    }
+}
+
+/// Returns the fault of a file that never had its name.
+fn never_named(error: io::Error) -> Unnamed {
+    Unnamed {
+        error,
+        is_name_left: false,
     }
 }
 
@@ -139,26 +155,34 @@ impl<'rt> Parts<'rt> {
         }
     }
 
+    /// Removes the file of that name, which was made here and could not be finished for this error.
+    fn unname(&self, name: &str, error: io::Error) -> Unnamed {
+        let is_name_left = remove(self.rt, name).is_err() && self.is_there(name);
+        Unnamed {
+            error,
+            is_name_left,
+        }
+    }
+
     /// Gives a file its name, unless something has it: by an empty file of that name, which is made
     /// new, and over which it is renamed.
-    fn replace_empty(&self, part: &str, name: &str) -> io::Result<()> {
-        drop(File::create_new(self.rt, name)?);
+    fn replace_empty(&self, part: &str, name: &str) -> Result<(), Unnamed> {
+        match File::create_new(self.rt, name) {
+            Ok(file) => drop(file),
+            Err(error) => return Err(never_named(error)),
+        }
         match fs::rename(self.rt, part, name) {
             Ok(()) => Ok(()),
-            Err(error) => {
-                let _ = remove(self.rt, name);
-                Err(error)
-            }
+            Err(error) => Err(self.unname(name, error)),
         }
     }
 
     /// Gives a file its name, unless something has it. Its other name may stay.
-    fn put_name(&self, part: &str, name: &str) -> io::Result<()> {
+    fn put_name(&self, part: &str, name: &str) -> Result<(), Unnamed> {
         match fs::hard_link(self.rt, part, name) {
-            Err(error) if error.kind() != ErrorKind::AlreadyExists => {
-                self.replace_empty(part, name)
-            }
-            answer => answer,
+            Ok(()) => Ok(()),
+            Err(error) if error.kind() == ErrorKind::AlreadyExists => Err(never_named(error)),
+            Err(_) => self.replace_empty(part, name),
         }
     }
 
@@ -168,15 +192,13 @@ impl<'rt> Parts<'rt> {
         sync_folder(self.rt, name)
     }
 
-    /// Names a synced file. After an error there is no file of that name that was made here.
-    fn put_and_settle(&self, part: &str, name: &str) -> io::Result<()> {
+    /// Names a synced file. After an error there is no file of that name that was made here, unless
+    /// the error says that it is left.
+    fn put_and_settle(&self, part: &str, name: &str) -> Result<(), Unnamed> {
         self.put_name(part, name)?;
         match self.settle(part, name) {
             Ok(()) => Ok(()),
-            Err(error) => {
-                let _ = remove(self.rt, name);
-                Err(error)
-            }
+            Err(error) => Err(self.unname(name, error)),
         }
     }
 
@@ -184,12 +206,13 @@ impl<'rt> Parts<'rt> {
     ///
     /// # Errors
     /// `AlreadyExists` where there is something of that name, which is as it was; another where it
-    /// could not be synced or named, or not all was written. What remains of it is its part.
-    pub(crate) fn finish(&self, file: NewFile<'rt>) -> io::Result<()>
+    /// could not be synced or named, or not all was written. What remains of it is its part, and its
+    /// name where that is left.
+    pub(crate) fn finish(&self, file: NewFile<'rt>) -> Result<(), Unnamed>
         ensures { IfOk result (λ _. file.entry.failures ≡ 0) }
     {
         if file.failures > 0 {
-            return Err(io::Error::from(ErrorKind::Other));
+            return Err(never_named(io::Error::from(ErrorKind::Other)));
         }
         let NewFile {
             terminal,
@@ -203,10 +226,10 @@ impl<'rt> Parts<'rt> {
         drop(file);
         let ended = match synced {
             Ok(()) => self.put_and_settle(part.as_str(), name.as_str()),
-            Err(error) => Err(error),
+            Err(error) => Err(never_named(error)),
         };
-        if let Err(error) = &ended {
-            print_system_error(terminal, name.as_str(), error);
+        if let Err(unnamed) = &ended {
+            print_system_error(terminal, name.as_str(), &unnamed.error);
         }
         ended
     }

@@ -1,8 +1,8 @@
 //! A program, by the words after its name.
 
-use crate::streams::{refuse_words, words};
+use crate::streams::{refuse_words, standard_error, standard_output, words};
 use edf_cli::Status;
-use edf_fragment::{Counted, Output};
+use edf_fragment::Output;
 use std::alloc::Global;
 use std::process::ExitCode;
 
@@ -27,8 +27,8 @@ pub trait Program {
 
 /// Does what the words after the program's name ask for, and returns the status.
 pub fn run_words<P: Program>(rt: &HostRuntime, words: &[String]) -> Status {
-    let mut out = Counted::new(rt.stdout());
-    let mut err = Counted::new(rt.stderr());
+    let mut out = standard_output(rt);
+    let mut err = standard_error(rt);
     match P::read(rt.alloc(), words, &mut out, &mut err) {
         Ok(command) => P::run(rt, &command),
         Err(status) => status,

@@ -1,11 +1,14 @@
-//! Lines for a person: on standard error, and only where that is a terminal.
+//! Lines for a person: on standard error, and only where that is a terminal; but causes are printed
+//! elsewhere too, where the environment asks for them.
 //!
 //! Messages are lines; progress is one overwritten line, erased before other output.
 
+use crate::streams::standard_error;
 use edf_fragment::FragmentFault;
 use std::cell::Cell;
-use std::fmt::Display;
+use std::fmt::{Display, Write};
 use std::io::IsTerminal;
+use std::rt::Env;
 
 /// Progress is written again each time this number of bytes was read.
 const MEGABYTE: u64 = 1_000_000;
@@ -24,11 +27,25 @@ pub enum Mending {
     ByNamed,
 }
 
-/// Standard error as a person sees it. Nothing is printed where it is no terminal.
+/// The variable of the environment that is 1 where causes are printed off a terminal too.
+const CAUSES: &str = "EDFSTORE_CAUSES";
+
+/// Is true where the environment asks for causes.
+fn wants_causes(rt: &HostRuntime) -> bool {
+    let mut value = [0; 2];
+    match rt.var(CAUSES, &mut value) {
+        Ok(1) => value[0] == b'1',
+        _ => false,
+    }
+}
+
+/// Standard error as a person sees it. Nothing but causes is printed where it is no terminal.
 #[derive(Drop)]
 pub struct Terminal<'rt> {
     rt: &'rt HostRuntime,
     is_there: bool,
+    /// It is true where it is printed why a file or a store could not be used.
+    prints_causes: bool,
     /// The line of progress counts these, as `file`, up to their number; 0 where none is shown.
     unit: &'static str,
     units: usize,
@@ -58,6 +75,7 @@ impl<'rt> Terminal<'rt> {
         Terminal {
             rt,
             is_there,
+            prints_causes: is_there || wants_causes(rt),
             unit,
             units: if is_there { units } else { 0 },
             mending,
@@ -93,39 +111,51 @@ impl<'rt> Terminal<'rt> {
         Terminal::of(rt, true, "file", 0, Mending::Nothing)
     }
 
-    /// Is true where a person reads what is printed.
-    pub fn is_there(&self) -> bool {
-        self.is_there
+    /// Is true where it is printed why a file or a store could not be used: on a terminal, in a
+    /// journal, and where the environment asks for it.
+    pub fn prints_causes(&self) -> bool {
+        self.prints_causes
     }
 
-    /// Prints a line about the file or the store of this name, if it can be written.
+    /// Prints a line about what has this name, if it can be written.
+    fn print(&self, name: &str, words: impl Display + Drop) {
+        self.wipe_progress();
+        let mut err = standard_error(self.rt);
+        if err.put_name(name) {
+            let _ = writeln!(err, ": {words}");
+        }
+    }
+
+    /// Prints why the file or the store of this name could not be used.
     pub fn say(&self, name: &str, words: impl Display + Drop) {
-        if self.is_there {
-            self.wipe_progress();
-            let _ = eprintln!(self.rt; "{name}: {words}");
+        if self.prints_causes {
+            self.print(name, words);
         }
     }
 
-    /// Prints the sentence of a fault of the file of this name, and these words after it.
-    pub(crate) fn say_of(&self, name: &str, fault: &FragmentFault, words: &str) {
+    /// Prints a line about the file or the store of this name for a person alone.
+    pub fn advise(&self, name: &str, words: impl Display + Drop) {
         if self.is_there {
-            self.wipe_progress();
-            let _ = eprintln!(self.rt; "{name}: {fault}{words}");
+            self.print(name, words);
         }
     }
 
-    /// Prints the same, where the words say what to do by themselves.
-    pub(crate) fn say_both(&self, name: &str, fault: &FragmentFault, words: &str) {
+    /// Prints for a person the sentence of a fault of the file of this name, and after `between`
+    /// these words.
+    pub(crate) fn advise_of(&self, name: &str, fault: &FragmentFault, between: &str, words: &str) {
         if self.is_there {
             self.wipe_progress();
-            let _ = eprintln!(self.rt; "{name}: {fault}: {words}");
+            let mut err = standard_error(self.rt);
+            if err.put_name(name) {
+                let _ = writeln!(err, ": {fault}{between}{words}");
+            }
         }
     }
 
-    /// Prints a line once, by the number of a refusal.
-    pub(crate) fn say_once(&self, number: u8, name: &str, words: &str) {
+    /// Prints a line for a person once, by the number of a refusal.
+    pub(crate) fn advise_once(&self, number: u8, name: &str, words: &str) {
         if self.is_first(number) {
-            self.say(name, words);
+            self.advise(name, words);
         }
     }
 

@@ -65,12 +65,12 @@ impl Program for Edfmend {
     fn run(rt: &HostRuntime, command: &MendCommand) -> Status {
         let terminal = Terminal::of_mender(rt, "reading", READINGS, mending_of(command));
         let mut streams = Streams::new(rt, &terminal);
-        let mut inputs = Files::new(rt, &terminal);
+        let mut inputs = Files::regular(rt, &terminal);
         let mut maker = PartFiles::new(rt, &terminal);
         let status = run_over(rt, command, &mut inputs, &mut maker, &mut streams);
         terminal.wipe_progress();
         if status == Status::Done && !terminal.is_output_begun() {
-            terminal.say(command.input.as_str(), told_of_good(command));
+            terminal.advise(command.input.as_str(), told_of_good(command));
         }
         status
     }

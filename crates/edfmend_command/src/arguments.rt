@@ -394,9 +394,22 @@ fn two_words(alloc: Global, input: &str, output: &str) -> Result<MendCommand, Co
     })
 }
 
+/// What words other than two plain ones, and than the word for help, ask for.
+fn read_words(alloc: Global, words: &[String]) -> Result<MendCommand, CommandFault>
+    ensures { IfOk result (λ command. (values : Values) × Mean values (meaning command)) }
+{
+    let more = more_help(alloc)?;
+    let mut command = edfmend_words(alloc, more.as_str())?;
+    match command.try_get_matches_from_mut(words) {
+        Ok(matches) => command_of(alloc, &found_in(&matches)),
+        Err(error) => Err(fault_by(alloc, &error)),
+    }
+}
+
 /// What the words after the program's name ask for: `IN OUT` or `IN --dry-run`, with one of
 /// `--patient CODE`, `--set-patient CODE` and `--deidentify CODE`, with `--startdate DD.MM.YY`,
-/// `--starttime HH.MM.SS` and `--as RULE,..`. IN is read twice, so it is not `-`.
+/// `--starttime HH.MM.SS` and `--as RULE,..`. IN is read twice, so it is not `-`. The word `help`
+/// alone asks for help, as the flag does.
 ///
 /// # Errors
 /// `Help` where help or the version was asked for, `Usage` where the words ask for nothing that can
@@ -411,12 +424,13 @@ pub fn parse(alloc: Global, words: &[String]) -> Result<MendCommand, CommandFaul
     if let Some((input, output)) = plain_words(words) {
         return two_words(alloc, input, output);
     }
-    let more = more_help(alloc)?;
-    let mut command = edfmend_words(alloc, more.as_str())?;
-    match command.try_get_matches_from_mut(words) {
-        Ok(matches) => command_of(alloc, &found_in(&matches)),
-        Err(error) => Err(fault_by(alloc, &error)),
+    if let [word] = words
+        && word.as_str() == "help"
+    {
+        let flag = [String::from_str(alloc, "--help")?];
+        return read_words(alloc, &flag);
     }
+    read_words(alloc, words)
 }
 
 /// The command that the words after the program's name ask for.

@@ -5,7 +5,7 @@
 
 use edf_cli::Status;
 use edf_fragment::Output;
-use edf_os::{Files, PartFiles, Program, Streams, Terminal, run_program};
+use edf_os::{Files, PartFiles, Program, Streams, Terminal, refuse_terminal, run_program};
 use edfruns_command::{RunsCommand, read_command, run_runs};
 use std::alloc::Global;
 use std::process::ExitCode;
@@ -44,6 +44,11 @@ impl Program for Edfruns {
     }
 
     fn run(rt: &HostRuntime, command: &RunsCommand) -> Status {
+        if matches!(command, RunsCommand::Canonical { .. })
+            && let Some(status) = refuse_terminal(rt)
+        {
+            return status;
+        }
         let terminal = Terminal::new(rt, "reading", command.readings());
         let mut streams = Streams::new(rt, &terminal);
         let mut inputs = Files::new(rt, &terminal);

@@ -16,6 +16,8 @@ use sqlite_std_file::File;
 pub(crate) struct Journal<'s> {
     rt: &'s HostRuntime,
     terminal: Terminal<'s>,
+    /// A person's, which is told what a journal need not keep.
+    person: Terminal<'s>,
     standing: &'s Standing<'s>,
     refused: Option<Refused>,
 }
@@ -25,6 +27,7 @@ impl<'s> Journal<'s> {
         Journal {
             rt,
             terminal: Terminal::journal(rt),
+            person: Terminal::new(rt, "file", 0),
             standing,
             refused: None,
         }
@@ -73,7 +76,9 @@ impl<'s> Journal<'s> {
 impl Watch for Journal<'_> {
     ghost noticed = { λ _. None };
 
-    fn opened<O: Output>(&mut self, _out: &O) {}
+    fn opened<O: Output>(&mut self, _out: &O) {
+        self.standing.print_made(&self.person);
+    }
 
     fn refused(&mut self, fault: &StoreFault, has_our_tables: bool) {
         self.refused = Some(Refused {

@@ -11,7 +11,7 @@ mod sources;
 
 use edf_cli::{Status, print_fault, print_memory};
 use edf_fragment::Counted;
-use edf_os::{Terminal, refuse_words, words};
+use edf_os::{Terminal, refuse_words, standard_error, standard_output, words};
 use edf_serve::{Console, Lines, Room, ServeWords, parse_words, serve_opened};
 use edfstore_files::Cap;
 use edfstore_open::{Standing, open_standing};
@@ -28,7 +28,7 @@ use std::process::ExitCode;
 type SystemLines<'s> = Lines<WatchedInput<'s, Counted<Stdin>>>;
 
 /// What a session has beside its store and its lines: the system's files and streams.
-type SystemRoom<'rt> = Room<SystemFiles<'rt>, Console<StandardOutput>, Keeper<'rt>>;
+type SystemRoom<'rt> = Room<SystemFiles<'rt>, Console<StandardOutput<'rt>>, Keeper<'rt>>;
 
 /// Serves the store of a path until the input ends or the store fails, and closes it.
 fn serve_store(
@@ -38,7 +38,7 @@ fn serve_store(
     lines: &mut SystemLines<'_>,
     room: &mut SystemRoom<'_>,
 ) -> Status {
-    let mut err = Counted::new(rt.stderr());
+    let mut err = standard_error(rt);
     let mut journal = Journal::new(rt, standing);
     let ended = serve_opened::<Unknown, _, _, _, _, _, _>(
         rt.alloc(),
@@ -66,7 +66,7 @@ fn run_session(rt: &HostRuntime, words: &ServeWords) -> Status {
     let standing = Standing::new(rt, words.store.as_str());
     let input = WatchedInput::new(Counted::new(rt.stdin()), &standing);
     let Ok(mut lines) = Lines::new(rt.alloc(), input) else {
-        return print_memory(&mut Counted::new(rt.stderr()), "session");
+        return print_memory(&mut standard_error(rt), "session");
     };
     let mut room = Room::new(
         rt.alloc(),
@@ -83,8 +83,8 @@ fn run_words(rt: &HostRuntime, words: &[String]) -> Status {
     match parse_words(rt.alloc(), words) {
         Ok(words) => run_session(rt, &words),
         Err(fault) => {
-            let mut out = Counted::new(rt.stdout());
-            let mut err = Counted::new(rt.stderr());
+            let mut out = standard_output(rt);
+            let mut err = standard_error(rt);
             print_fault(&fault, &mut out, &mut err)
         }
     }

@@ -2,27 +2,30 @@
 
 ghost use Rattle.std.specs.Prelude.{None};
 
-use edf_fragment::{Output, saturating_increment};
+use edf_fragment::{Counted, Output, saturating_increment};
+use edf_os::{Escaping, standard_output};
 use edf_serve::Flush;
 use std::io::{self, Stdout, Write};
 
 /// Standard output, and how many writes to it failed, up to `u64::MAX`.
 #[derive(Drop)]
-pub(crate) struct StandardOutput {
-    stream: Stdout,
+pub(crate) struct StandardOutput<'rt> {
+    rt: &'rt HostRuntime,
+    stream: Escaping<Counted<Stdout>>,
     failures: u64,
 }
 
-impl StandardOutput {
-    pub(crate) fn new(rt: &HostRuntime) -> StandardOutput {
+impl<'rt> StandardOutput<'rt> {
+    pub(crate) fn new(rt: &'rt HostRuntime) -> StandardOutput<'rt> {
         StandardOutput {
-            stream: rt.stdout(),
+            rt,
+            stream: standard_output(rt),
             failures: 0,
         }
     }
 }
 
-impl Output for StandardOutput {
+impl Output for StandardOutput<'_> {
     ghost contents = { λ _. None };
 
     ghost failures = { λ output. output.failures };
@@ -43,11 +46,11 @@ impl Output for StandardOutput {
     }
 }
 
-impl Flush for StandardOutput {
+impl Flush for StandardOutput<'_> {
     ghost sent = { λ _. None };
 
     fn flush(&mut self) -> io::Result<()> {
-        match self.stream.flush() {
+        match self.rt.stdout().flush() {
             Ok(()) => Ok(()),
             Err(error) => {
                 self.failures = saturating_increment(self.failures);

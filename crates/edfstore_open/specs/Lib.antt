@@ -1,3 +1,4 @@
+pub mod AtPath
 pub mod Cache
 pub mod Ended
 pub mod OnFile

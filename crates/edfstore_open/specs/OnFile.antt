@@ -1,7 +1,8 @@
 -- A command whose store is that of a path.
-use Rattle.std.specs.Prelude.{◌≡◌, ◌≢◌, ◌⊎◌, [], Option, Some, None, Result, Err, MatchOption}
+use Rattle.std.specs.Prelude.{◌≡◌, ◌≢◌, ◌⊎◌, ◌↔◌, [], Option, Some, None, Result, Err, IfSome}
 use Rattle.sqlite_disk.specs.declared.Disk.{Ghosts}
 use Rattle.sqlite_wal.specs.Files.{outcomes}
+use Rattle.sqlite_wal.specs.Recovery.{Image}
 use Rattle.sqlite_store.specs.declared.store.FileStore.{FileStore}
 use Rattle.sqlite.specs.Files.{image_of}
 use Rattle.sqlite.specs.Held.{Held}
@@ -16,8 +17,10 @@ use Rattle.edf_cli.specs.declared.status.Status.TheVariants.{Done, Refused, Trou
 use Rattle.edfstore_files.specs.Close.{IsRunDone, IsRefused}
 use Rattle.edfstore_files.specs.ProgramRun as run
 use Rattle.edfstore_files.specs.ProgramRun.{IsOpening}
+use Rattle.edfstore_open.specs.AtPath.{HasNoStore}
 use Rattle.edfstore_open.specs.declared.ended.Ended.{Ended}
 use Rattle.edfstore_open.specs.declared.ended.Ended.TheVariants.{Run, NotOpened, WithoutFiles}
+use Rattle.edfstore_open.specs.declared.path.AtPath.{AtPath}
 
 -- it makes no store where there is none
 abbrev pub OnlyReads : Request → Type 0
@@ -38,10 +41,18 @@ FindsNothing (convert file) err status = ⊥
 abbrev pub Opening : (D : Type 0) → Ghosts D → Type 0
 Opening D g = Result (Held (FileStore D g)) (Error × Option (Leftover D g))
 
+-- What is opened for a request where this was seen at its path: nothing, just where the request only
+-- reads and there is no store; else the files there, whatever they hold, or there is a reason why
+-- they are not.
+abbrev pub IsOpeningFor : {D : Type 0} {g : Ghosts D} → Image → Request → AtPath →
+    Option (Opening D g) → Type 0
+IsOpeningFor start request at opening =
+    ((opening ≡ None) ↔ (OnlyReads request × HasNoStore at)) × IfSome opening (IsOpening start)
+
 module _ {D : Type 0} {g : Ghosts D} (r : run.ProgramRun g) (request : Request) where
   -- It was run over the files that were opened. They are closed under every status but trouble,
   -- and how they are read then is one of the outcomes of a crash. Or they were not opened, for this
-  -- error, and what remains of them is returned. Or none were looked for, and it only reads.
+  -- error, and what remains of them is returned. Or none were opened, and it only reads.
   abbrev pub IsRunOn : Option (Opening D g) → Ended D g → Type 0
   IsRunOn opening (Run s) = (opening ≢ None) × (IsRunDone r s ⊎ IsRefused r s)
       × (s.status ≢ Trouble → s.failure ≡ None)
@@ -51,12 +62,8 @@ module _ {D : Type 0} {g : Ghosts D} (r : run.ProgramRun g) (request : Request) 
   IsRunOn opening (WithoutFiles status) = (opening ≡ None) × r.Untouched
       × FindsNothing request r.err status
 
-  -- the files are opened, whatever they hold, or there is a reason why not; or none are, and the
-  -- command only reads
-  abbrev pub IsOpeningFor : Option (Opening D g) → Type 0
-  IsOpeningFor opening = MatchOption opening (OnlyReads request) (IsOpening r.start)
-
-  -- the command is run, whatever was found
-  abbrev pub IsRunAtPath : Ended D g → Type 0
-  IsRunAtPath ended = (opening : Option (Opening D g)) × IsOpeningFor opening
+  -- The request is run over what is opened for it. So `list` and `export` are answered as over an
+  -- empty store (`WithoutFiles`) just where no store was seen.
+  abbrev pub IsRunAtPath : AtPath → Ended D g → Type 0
+  IsRunAtPath at ended = (opening : Option (Opening D g)) × IsOpeningFor r.start request at opening
       × IsRunOn opening ended

@@ -1,13 +1,13 @@
 //! The page cache of an open store: its size, by the text that the system has of free memory.
 
-ghost use Rattle.std.specs.Prelude.{◌≡◌, ◌/◌, MatchOption};
+ghost use Rattle.std.specs.Prelude.{◌≡◌, ◌/◌, max, MatchOption};
 ghost use Rattle.edfstore_open.specs.Cache.{IsCacheSize};
 
 /// The bytes of a page, in the stores that are made here.
 const PAGE: u64 = 4_096;
 
-/// The pages of the cache that the port of SQLite has by itself.
-const OWN: u64 = 2_000;
+/// The fewest pages of a cache: those of a log that is copied, or else each is read once more.
+const FEWEST: u64 = 8_000;
 
 /// The most pages of a cache: 512 MiB of them.
 const MOST: u64 = 131_072;
@@ -15,14 +15,17 @@ const MOST: u64 = 131_072;
 /// A cache takes up at most one part in so many of the free memory.
 const SHARE: u64 = 4;
 
-/// Returns the pages of a file of so many bytes, where a cache may have all of them; `None` stands
-/// for the port's own number, since a cache of a part of them spares no reading.
+/// Returns the pages of the cache for a file of so many bytes, which may have all of them, where
+/// there is memory for it; `None` stands for the port's own number, since a cache of a part of them
+/// spares no reading.
 pub(crate) fn cache_pages(bytes: u64, free: u64) -> Option<usize>
-    ensures { MatchOption result (¬ IsCacheSize (bytes / 4096) free)
-        (λ pages. (pages ≡ bytes / 4096) × IsCacheSize pages free) }
+    ensures { let pages = max (bytes / 4096) 8000 in
+        MatchOption result (¬ IsCacheSize pages free)
+        (λ n. (n ≡ pages) × IsCacheSize pages free) }
 {
-    let pages = bytes / PAGE;
-    if OWN < pages && pages <= MOST && pages * (PAGE * SHARE) <= free {
+    let all = bytes / PAGE;
+    let pages = if all < FEWEST { FEWEST } else { all };
+    if pages <= MOST && pages * (PAGE * SHARE) <= free {
         Some(pages as usize)
     } else {
         None

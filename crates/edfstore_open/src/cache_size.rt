@@ -74,14 +74,16 @@ fn begins_as_ours(rt: &HostRuntime, path: &str) -> bool {
     file.read_exact(&mut head).is_ok() && head[16] == 0x10 && head[17] == 0
 }
 
-/// Returns the cache size for the store at a path: as many pages as its file has now, where there
-/// is memory for them; `None` stands for the port's own number.
+/// Returns the cache size for the store at a path: as many pages as its file has now, or as a log
+/// that is copied, where there is memory for them; `None` stands for the port's own number.
 ///
 /// The file is read and closed before its store is opened: this process has no lock on it yet.
 pub(crate) fn pages_at(rt: &HostRuntime, path: &str) -> Option<usize> {
-    let found = fs::metadata(rt, path).ok()?;
-    let bytes = found.len();
-    if !found.is_file() || cache_pages(bytes, u64::MAX).is_none() || !begins_as_ours(rt, path) {
+    let bytes = match fs::metadata(rt, path) {
+        Ok(found) => found.len(),
+        Err(_) => 0,
+    };
+    if bytes > 0 && !begins_as_ours(rt, path) {
         return None;
     }
     cache_pages(bytes, free_memory(rt)?)

@@ -3,7 +3,8 @@
 ghost use Rattle.std.specs.Prelude.{None};
 
 use crate::ended::Ended;
-use crate::path::{is_address, look_at, why_none};
+use crate::path::{AtPath, NO_DATABASE, is_address, look_at, why_none};
+use crate::reopen::open_again;
 use edf_command::Status;
 use edf_fragment::Output;
 use edf_os::{FULL, Terminal, print_system_error};
@@ -11,7 +12,8 @@ use edf_store::StoreFault;
 use edfstore_files::{EndedRun, Watch};
 use sqlite::{Error, ErrorCode};
 use sqlite_disk::{Disk, Tally};
-use sqlite_std_file::{OpenError, Unknown};
+use sqlite_std_file::OpenError;
+use std::io::ErrorKind;
 
 const BUSY: &str = "another program has it open; run this again when that has ended";
 
@@ -29,6 +31,13 @@ const DAMAGED: &str = "the file is damaged, or it was copied without its -wal, s
 const LOST: &str = "its file or its log was removed, replaced or cut while it was open: \
     what was taken may be lost, so send it again";
 
+/// It is printed where all that there is of a store can be opened, and a file of it is missing.
+const UNMADE: &str = "a file of it could not be made: its folder can't be written, or the disk is \
+    full";
+
+const OPENS_NOW: &str = "it could not be opened, but now it can, unless its disk has no locks: \
+    run this again";
+
 const IN_MEMORY: &str = "a session keeps its store in a file; './:memory:' is a file of that name";
 
 /// The fault for which a store was not opened.
@@ -41,7 +50,7 @@ pub struct Refused {
 }
 
 /// Prints why the store could not be opened. SQLite's port gives no cause, so where the path shows
-/// none, it is opened again to get one.
+/// none, what there is of its files is opened again to get one.
 fn print_unopened(rt: &HostRuntime, terminal: &Terminal<'_>, path: &str) {
     if is_address(path) {
         return terminal.say(path, "a path that begins with 'file:' is written './file:'");
@@ -52,13 +61,12 @@ fn print_unopened(rt: &HostRuntime, terminal: &Terminal<'_>, path: &str) {
     if let Some(words) = why_none(look_at(rt, path)) {
         return terminal.say(path, words);
     }
-    match sqlite_std_file::open(rt, path, Unknown) {
-        Ok(_) => terminal.say(
-            path,
-            "it could not be opened, but now it can: run this again",
-        ),
+    match open_again(rt, path) {
+        Ok(()) => terminal.say(path, OPENS_NOW),
+        Err(OpenError::Io(error)) if error.kind() == ErrorKind::NotFound => {
+            terminal.say(path, UNMADE);
+        }
         Err(OpenError::Io(error)) => print_system_error(terminal, path, &error),
-        Err(OpenError::Busy) => terminal.say(path, BUSY),
         Err(error) => terminal.say(path, error),
     }
 }
@@ -66,7 +74,7 @@ fn print_unopened(rt: &HostRuntime, terminal: &Terminal<'_>, path: &str) {
 /// Plain words for an error code of `sqlite`; `None` means print the code itself.
 fn code_words(code: ErrorCode) -> Option<&'static str> {
     match code {
-        ErrorCode::NotADatabase => Some("not a database, or none that can be read here"),
+        ErrorCode::NotADatabase => Some(NO_DATABASE),
         ErrorCode::DatabaseCorrupt => Some("the file is damaged"),
         ErrorCode::DatabaseBusy => Some(BUSY),
         ErrorCode::DiskFull => Some(FULL),
@@ -100,7 +108,7 @@ fn print_refusal(rt: &HostRuntime, terminal: &Terminal<'_>, path: &str, error: E
 
 /// Prints why a store was not opened. Out of memory has no further cause.
 pub fn print_cause(rt: &HostRuntime, terminal: &Terminal<'_>, path: &str, refused: &Refused) {
-    if !terminal.is_there() {
+    if !terminal.prints_causes() {
         return;
     }
     match refused.fault {
@@ -135,7 +143,7 @@ pub fn print_failure_of<D: Disk>(
     path: &str,
     session: &EndedRun<D>,
 ) {
-    if terminal.is_there()
+    if terminal.prints_causes()
         && let Some(failure) = disk_failure(session.files.tally()).or(session.failure)
     {
         print_error(rt, terminal, path, failure);
@@ -147,30 +155,30 @@ pub fn print_failure_of<D: Disk>(
 pub(crate) struct Teller<'t> {
     terminal: &'t Terminal<'t>,
     path: &'t str,
-    /// It is true where there was no file.
-    is_new: bool,
+    at: AtPath,
     refused: Option<Refused>,
 }
 
 impl<'t> Teller<'t> {
-    pub(crate) fn new(terminal: &'t Terminal<'t>) -> Teller<'t> {
+    /// Returns a watch of the store at a path, where this was seen.
+    pub(crate) fn new(terminal: &'t Terminal<'t>, path: &'t str, at: AtPath) -> Teller<'t> {
         Teller {
             terminal,
-            path: "",
-            is_new: false,
+            path,
+            at,
             refused: None,
         }
     }
 
-    /// Notes the path of the store, and whether there is no file yet.
-    pub(crate) fn set_path(&mut self, path: &'t str, is_new: bool) {
-        self.path = path;
-        self.is_new = is_new;
-    }
-
-    /// Prints that there is no file.
+    /// Prints that there is no store.
     pub(crate) fn print_missing(&self) {
-        self.terminal.say(self.path, "no such file");
+        self.terminal.advise(
+            self.path,
+            match self.at {
+                AtPath::EmptyFile => "an empty file",
+                _ => "no such file",
+            },
+        );
     }
 
     /// Prints why the store was refused, or what failed of the disk in a run that is trouble.
@@ -189,10 +197,7 @@ impl Watch for Teller<'_> {
     ghost noticed = { λ _. None };
 
     fn opened<O: Output>(&mut self, _out: &O) {
-        if self.is_new {
-            self.terminal
-                .say(self.path, "no such file; made a new, empty store");
-        }
+        self.at.print_made(self.terminal, self.path);
     }
 
     fn refused(&mut self, fault: &StoreFault, has_our_tables: bool) {

@@ -27,21 +27,30 @@ mod heap;
 mod memory;
 mod opening;
 mod path;
+mod reopen;
 mod running;
 mod same_files;
 mod spare;
 
 use cause::Teller;
 pub use cause::{Refused, print_cause, print_failure_of, print_lost};
-use edf_command::{Order, Status, read_command};
-use edf_fragment::Counted;
-use edf_os::{Files, Streams, Terminal, refuse_words, words};
+use edf_cli::print_bytes;
+use edf_command::{Order, Status, read_command, store_path};
+use edf_os::{
+    Files, Streams, Terminal, refuse_terminal, refuse_words, standard_error, standard_output, words,
+};
 use edfstore_files::Outputs;
 pub use opening::{Again, open_standing, open_when_free};
+use path::look_at;
 use running::run_over_store;
 pub use same_files::Standing;
 use sqlite::Unknown;
+use std::io::IsTerminal;
 use std::process::ExitCode;
+
+/// It is printed for a person who gave no words and no file.
+const READING: &[u8] =
+    b"reading an EDF+ file from standard input; edfstore --help lists the commands\n";
 
 /// Returns the terminal of a command, which shows a person how far `take` is.
 fn terminal_of<'rt>(rt: &'rt HostRuntime, command: &Order) -> Terminal<'rt> {
@@ -53,26 +62,43 @@ fn terminal_of<'rt>(rt: &'rt HostRuntime, command: &Order) -> Terminal<'rt> {
     }
 }
 
+/// Is true of a command that writes an EDF+ file to standard output.
+fn writes_file(command: &Order) -> bool {
+    matches!(command, Order::Export { .. } | Order::Convert { .. })
+}
+
 /// Does what the command asks for, over the system's files and streams.
 fn run_command(rt: &HostRuntime, command: &Order) -> Status {
     let terminal = terminal_of(rt, command);
     let Streams { out, err } = Streams::new(rt, &terminal);
-    let watch = Teller::new(&terminal);
+    let path = store_path(command).unwrap_or("");
+    let at = look_at(rt, path);
+    let watch = Teller::new(&terminal, path, at);
     let mut inputs = Files::new(rt, &terminal);
     let mut outputs = Outputs { out, err, watch };
-    let ended = run_over_store(rt, Unknown, command, &mut inputs, &mut outputs);
+    let ended = run_over_store(rt, at, Unknown, command, &mut inputs, &mut outputs);
     terminal.wipe_progress();
     ended.status()
 }
 
 /// Does what the words after the program's name ask for, and returns the exit status, 0 to 3.
 pub fn run_words(rt: &HostRuntime, words: &[String]) -> Status {
-    let mut out = Counted::new(rt.stdout());
-    let mut err = Counted::new(rt.stderr());
-    match read_command(rt.alloc(), words, &mut out, &mut err) {
-        Ok(command) => run_command(rt, &command),
-        Err(status) => status,
+    let mut out = standard_output(rt);
+    let mut err = standard_error(rt);
+    let command = match read_command(rt.alloc(), words, &mut out, &mut err) {
+        Ok(command) => command,
+        Err(status) => return status,
+    };
+    if words.is_empty() && rt.stdin().is_terminal() {
+        if rt.stderr().is_terminal() {
+            let _ = print_bytes(&mut err, READING, Status::Done);
+        }
+    } else if writes_file(&command)
+        && let Some(status) = refuse_terminal(rt)
+    {
+        return status;
     }
+    run_command(rt, &command)
 }
 
 /// Does what the program's words ask for, and returns the exit status, 0 to 3.

@@ -1,13 +1,14 @@
 //! The opening of the files of a store, which waits where another program has them.
 
-ghost use Rattle.std.specs.Prelude.{◌≡◌, true, MatchOption};
+ghost use Rattle.std.specs.Prelude.{◌↔◌, IsTrue};
 ghost use Rattle.sqlite_wal.specs.Files.{image_at};
 ghost use Rattle.edf_command.specs.Arguments.{meaning};
 ghost use Rattle.edfstore_files.specs.ProgramRun.{IsOpening};
-ghost use Rattle.edfstore_open.specs.OnFile.{OnlyReads};
+ghost use Rattle.edfstore_open.specs.OnFile.{OnlyReads, IsOpeningFor};
 
 use crate::cache_size::pages_at;
 use crate::heap::give_back;
+use crate::path::{AtPath, look_at};
 use crate::same_files::Standing;
 use crate::spare::without_spares;
 use edf_command::Order;
@@ -15,6 +16,8 @@ use edfstore_files::open_path;
 use sqlite::{Connection, Error, ErrorCode, FileFrom, FileStore, Leftover, Start, Unknown};
 use std::thread;
 use std::time::Duration;
+
+const CANNOT_OPEN: Error = Error::SqliteFailure(ErrorCode::CannotOpen);
 
 /// The number of tries to open a store that another program has, with a pause after each: for two
 /// seconds. The command before, as in `edfstore list s.db | while read ..`, has ended by then.
@@ -65,7 +68,8 @@ fn open_cached<S: Start + Again>(
 /// Opens the files of the store at a path, or makes them where there are none. Each page of a new
 /// one ends in SQLite's page sum, and where a file has sums each is compared as it is read. Where
 /// another program has them, it tries again for two seconds. Where they do not stay open, the cache
-/// has all of their pages as long as there is memory. Every other refusal comes at once.
+/// has all of their pages as long as there is memory. Every other refusal comes at once; for a file
+/// that is no database nothing is made.
 ///
 /// `start` stands for what the files hold, whatever that is. No clause speaks of the path that is
 /// opened, or of what is done to it before and after.
@@ -80,6 +84,9 @@ pub fn open_when_free<S: Start + Again>(
 ) -> Result<Connection<FileStore<FileFrom<S>>>, (Error, Option<Leftover<FileFrom<S>>>)>
     ensures { IsOpening (image_at S.Start) result }
 {
+    if look_at(rt, path) == AtPath::NoDatabase {
+        return Err((CANNOT_OPEN, None));
+    }
     for _ in 0..TRIES {
         match open_cached(rt, path, stay_open, &start) {
             Err((error, None)) if is_busy(&error) => {
@@ -121,9 +128,9 @@ pub fn open_standing<S: Start + Again>(
     }
 }
 
-/// Is true where the command makes no store, if its path names no file.
+/// Is true where the command makes no store, if its path names none.
 fn only_reads(command: &Order) -> bool
-    ensures { result ≡ true → OnlyReads (meaning command.now) }
+    ensures { IsTrue result ↔ OnlyReads (meaning command.now) }
 {
     match command {
         Order::List { .. } | Order::Export { .. } => true,
@@ -131,18 +138,18 @@ fn only_reads(command: &Order) -> bool
     }
 }
 
-/// Opens the files at the path of a command, or nothing where there is none and it only reads.
+/// Opens the files at the path of a command, where `at` was seen; or nothing, where there is no
+/// store and the command only reads.
 pub(crate) fn find<S: Start + Again>(
     rt: &HostRuntime,
     path: &str,
-    is_new: bool,
+    at: AtPath,
     start: S,
     command: &Order,
 ) -> Option<Result<Connection<FileStore<FileFrom<S>>>, (Error, Option<Leftover<FileFrom<S>>>)>>
-    ensures { MatchOption result
-        (OnlyReads (meaning command.now)) (IsOpening (image_at S.Start)) }
+    ensures { IsOpeningFor (image_at S.Start) (meaning command.now) at result }
 {
-    if is_new && only_reads(command) {
+    if at.has_no_store() && only_reads(command) {
         None
     } else {
         Some(open_when_free(rt, path, false, start))

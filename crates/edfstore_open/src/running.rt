@@ -1,20 +1,19 @@
 //! A command over the store that it names.
 
-ghost use Rattle.std.specs.Prelude.{◌≡◌, Some, None, MatchOption};
+ghost use Rattle.std.specs.Prelude.{◌≡◌, None, MatchOption};
 ghost use Rattle.sqlite_wal.specs.Files.{image_at};
 ghost use Rattle.edf_command.specs.Arguments.{meaning};
-ghost use Rattle.edf_command.specs.Command.{store_path};
 ghost use Rattle.edf_header.specs.declared.limits.TheConstants.{MOST_RECORDS};
 ghost use Rattle.edf_cli.specs.Output.{output_change};
 ghost use Rattle.edfstore_files.specs.ProgramRun.{IsNoticed, IsOpening, run_of};
-ghost use Rattle.edfstore_open.specs.OnFile.{OnlyReads, FindsNothing, IsRunOn, IsRunAtPath};
-ghost use Rattle.edfstore_open.specs.Program.{program_run, IsProgramRun};
+ghost use Rattle.edfstore_open.specs.OnFile.{OnlyReads, FindsNothing, IsRunOn};
+ghost use Rattle.edfstore_open.specs.Program.{IsProgramRun};
 
 use crate::cause::Teller;
 use crate::ended::Ended;
 use crate::memory::run_in_memory;
 use crate::opening::{Again, find};
-use crate::path::{AtPath, look_at};
+use crate::path::AtPath;
 use edf_command::{Inputs, Order, Status, print_no_recording, store_path};
 use edf_fragment::Output;
 use edfstore_files::{Cap, Outputs, Watch, run_opened};
@@ -68,51 +67,23 @@ fn run_on_file<S: Start, I: Inputs, O: Output, F: Output, W: Watch>(
     }
 }
 
-/// Runs a command over the file of the store that it names. Where there is no such file, `take`
-/// makes it, and the others find nothing and make none; for a person it prints which of these it
-/// was, and why a store is refused. It waits two seconds at most for a store that another program
-/// has.
+/// Runs a command over the store that it names: that of a file, or an empty one in memory. Where
+/// there is no store at its path, `take` makes it, and the others find nothing and make none; for a
+/// person it prints which of these it was, and why a store is refused. It waits two seconds at most
+/// for a store that another program has.
 ///
-/// `start` stands for what the files hold, whatever that is. No clause speaks of the path that is
-/// opened, or of what the system does with it: these lines are to be read.
-fn run_at_path<'x, S: Start + Again, I: Inputs, O: Output, F: Output>(
+/// `at` is what was seen at the path, and `start` stands for what the files hold, whatever that is.
+/// No clause speaks of the path that is opened, or of what the system does with it: these lines are
+/// to be read.
+pub(crate) fn run_over_store<S: Start + Again, I: Inputs, O: Output, F: Output>(
     rt: &HostRuntime,
-    path: &'x str,
+    at: AtPath,
     start: S,
     command: &Order,
     inputs: &mut I,
-    outputs: &mut Outputs<O, F, Teller<'x>>,
+    outputs: &mut Outputs<O, F, Teller<'_>>,
 ) -> Ended<FileFrom<S>>
-    requires named { store_path (meaning command.now) ≡ Some path.now }
-    ensures { IsRunAtPath (program_run ⟦<FileFrom<S> as Disk>⟧ (image_at S.Start) (
-      meaning command.now,
-      I.bytes inputs.old,
-      I.opened inputs.old,
-      I.opened inputs.new,
-      output_change O.Output outputs.old.out outputs.new.out,
-    ) (output_change F.Output outputs.old.err outputs.new.err) (inputs.new
-        ≡ inputs.old)) (meaning command.now) result }
-{
-    let is_new = look_at(rt, path) == AtPath::Nothing;
-    let opening = find(rt, path, is_new, start, command);
-    outputs.watch.set_path(path, is_new);
-    if opening.is_none() {
-        outputs.watch.print_missing();
-    }
-    let ended = run_on_file(rt.alloc(), opening, command, inputs, outputs);
-    outputs.watch.print_ended(rt, &ended);
-    ended
-}
-
-/// Runs a command over the store that it names: that of a file, or an empty one in memory.
-pub(crate) fn run_over_store<'x, S: Start + Again, I: Inputs, O: Output, F: Output>(
-    rt: &HostRuntime,
-    start: S,
-    command: &'x Order,
-    inputs: &mut I,
-    outputs: &mut Outputs<O, F, Teller<'x>>,
-) -> Ended<FileFrom<S>>
-    ensures { IsProgramRun ⟦<FileFrom<S> as Disk>⟧ (image_at S.Start) (
+    ensures { IsProgramRun ⟦<FileFrom<S> as Disk>⟧ (image_at S.Start) at (
       meaning command.now,
       I.bytes inputs.old,
       I.opened inputs.old,
@@ -121,7 +92,15 @@ pub(crate) fn run_over_store<'x, S: Start + Again, I: Inputs, O: Output, F: Outp
     ) (output_change F.Output outputs.old.err outputs.new.err) (inputs.new ≡ inputs.old) result }
 {
     match store_path(command) {
-        Some(path) => run_at_path(rt, path, start, command, inputs, outputs),
+        Some(path) => {
+            let opening = find(rt, path, at, start, command);
+            if opening.is_none() {
+                outputs.watch.print_missing();
+            }
+            let ended = run_on_file(rt.alloc(), opening, command, inputs, outputs);
+            outputs.watch.print_ended(rt, &ended);
+            ended
+        }
         None => {
             let Outputs { out, err, watch: _ } = outputs;
             Ended::WithoutFiles(run_in_memory(rt.alloc(), command, inputs, out, err))

@@ -2,6 +2,8 @@
 
 ghost use Rattle.std.specs.Prelude.{◌≡◌, ◌⊎◌, IfErr};
 
+use crate::path::{AtPath, look_at};
+use edf_os::Terminal;
 use sqlite::{Error, ErrorCode};
 use std::cell::{Cell, RefCell};
 use std::fs::{self, Metadata};
@@ -111,6 +113,8 @@ impl Held {
 pub struct Standing<'p> {
     pub(crate) rt: &'p HostRuntime,
     path: &'p str,
+    /// What there was at the path before the store was opened.
+    found: AtPath,
     held: RefCell<Option<Held>>,
     is_lost: Cell<bool>,
 }
@@ -121,6 +125,7 @@ impl<'p> Standing<'p> {
         Standing {
             rt,
             path,
+            found: look_at(rt, path),
             held: RefCell::new(None),
             is_lost: Cell::new(false),
         }
@@ -128,6 +133,11 @@ impl<'p> Standing<'p> {
 
     pub fn path(&self) -> &'p str {
         self.path
+    }
+
+    /// Prints for a person that a store was made, where there was none before it was opened.
+    pub fn print_made(&self, terminal: &Terminal<'_>) {
+        self.found.print_made(terminal, self.path);
     }
 
     /// Returns the database file of the path, if it has one.

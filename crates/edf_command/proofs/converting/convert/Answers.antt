@@ -1,6 +1,5 @@
 use Rattle.std.proofs.Common.{◌∙◌, ap, subst, refl, inl, inr}
 use Rattle.std.proofs.lemmas.Result.{IfOk-weaker}
-use Rattle.edf_fragment.specs.Call.{input_state}
 use Rattle.edf_command.specs.Lines.{refused_file_line}
 use Rattle.edf_cli.specs.Status.{status_of_number}
 use Rattle.edf_cli.specs.Output.{output_change, IsLinePrinted}
@@ -21,8 +20,8 @@ returns-in_default-clause-converted g c =
 
 pub returns-in-Ok-submit-clause-converted : goal.returns-in-Ok-submit-clause-converted
 returns-in-Ok-submit-clause-converted g c = inl (record {
-  from = input_state g.I.Reader.Input c.in-Ok.reader;
-  to = input_state g.I.Reader.Input c.submit.new.input;
+  from = _;
+  to = _;
   receipt = c.in-Ok-submit.receipt;
   mid = c.submit.new.store;
   opened = c.in-Ok.ensures.reader;
@@ -34,8 +33,8 @@ returns-in-Ok-submit-clause-converted g c = inl (record {
 
 pub returns-clause-converted : goal.returns-clause-converted
 returns-clause-converted g c = inr (inl (record {
-  from = input_state g.I.Reader.Input c.in-Ok.reader;
-  to = input_state g.I.Reader.Input c.submit.new.input;
+  from = _;
+  to = _;
   refusal = c.in-Err.refusal;
   opened = c.in-Ok.ensures.reader;
   submitted = c.in-Err.ensures.submitted;
