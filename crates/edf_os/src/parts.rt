@@ -167,10 +167,7 @@ impl<'rt> Parts<'rt> {
     /// Gives a file its name, unless something has it: by an empty file of that name, which is made
     /// new, and over which it is renamed.
     fn replace_empty(&self, part: &str, name: &str) -> Result<(), Unnamed> {
-        match File::create_new(self.rt, name) {
-            Ok(file) => drop(file),
-            Err(error) => return Err(never_named(error)),
-        }
+        drop(File::create_new(self.rt, name).map_err(never_named)?);
         match fs::rename(self.rt, part, name) {
             Ok(()) => Ok(()),
             Err(error) => Err(self.unname(name, error)),

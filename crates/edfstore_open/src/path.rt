@@ -48,14 +48,7 @@ impl AtPath {
     pub(crate) fn has_no_store(self) -> bool
         ensures { IsTrue result ↔ HasNoStore self }
     {
-        match self {
-            AtPath::Nothing | AtPath::EmptyFile => true,
-            AtPath::Something
-            | AtPath::NoDatabase
-            | AtPath::NoName
-            | AtPath::DeadLink
-            | AtPath::NoFolder => false,
-        }
+        matches!(self, AtPath::Nothing | AtPath::EmptyFile)
     }
 }
 

@@ -36,46 +36,11 @@ front_is_plain keeps bytes text at e within utf8 none =
     let P : List ℕ → Type 0 = λ xs. IsPlain keeps xs in
     subst P same (utf8, none)
 
--- text is its own valid prefix
-text_is_whole : (bytes text : List ℕ) → text ≡ take (utf8_valid_len bytes) bytes → IsUtf8 bytes
-    → text ≡ bytes
-text_is_whole bytes text e utf8 = e ∙ (ap (λ n. take n bytes) (utf8_valid_len-IsUtf8 bytes utf8)
-    ∙ take_all (length bytes) bytes (omega arith))
-
-none_passes_at : (p : ℕ → Bool) (front : List ℕ) (c : ℕ) (rest : List ℕ)
-    → NonePass p (front ++ (c ∷ rest)) → p c ≡ false
-none_passes_at p [] c rest none = none.0
-none_passes_at p (_ ∷ front) c rest none = none_passes_at p front c rest none.1
-
--- where no character passes, none passes at any place
-none_is_there : (p : ℕ → Bool) (text : List ℕ) (i j : ℕ) → IsUtf8 text → IsCharBoundary text i
-    → IsCharBoundary text j → NoCharPasses p text → HasPassingCharAt p text i j → true ≡ false
-none_is_there p text i j utf8 at_i at_j none found =
-    let c = found.0 in
-    let front = IsUtf8-take text i utf8 at_i in
-    let rest = IsUtf8-drop text j utf8 at_j in
-    let first : encodes front.0 ≡ take i text = front.1.1 in
-    let last : encodes rest.0 ≡ drop j text = rest.1.1 in
-    let middle : drop i text ≡ encode c ++ drop j text = found.2.split in
-    let both : take i text ++ drop i text ≡ text = take-append-drop i text in
-    let parts : encodes (front.0 ++ (c ∷ rest.0)) ≡ encodes front.0 ++ encodes (c ∷ rest.0) =
-    encodes-append front.0 (c ∷ rest.0) in
-    let one : encodes (c ∷ rest.0) ≡ encode c ++ encodes rest.0 = refl in
-    let whole : encodes (front.0 ++ (c ∷ rest.0)) ≡ text = cc in
-    let same : none.0 ≡ front.0 ++ (c ∷ rest.0) =
-    encodes_same none.0 (front.0 ++ (c ∷ rest.0)) (none.1 ∙ sym whole) in
-    let P : List ℕ → Type 0 = λ cs. NonePass p cs in
-    sym found.1 ∙ none_passes_at p front.0 c rest.0 (subst P same none.2)
-
 pub returns-in-None-clause-plain : goal.returns-in-None-clause-plain
 returns-in-None-clause-plain c =
     whole_is_plain c.args.keeps_lines c.args.bytes.now _ c.valid_prefix-text.ensures
     c.valid_prefix-text.utf8 (c.in-None.ensures.cases (is_barred c.args.keeps_lines)
     (always_returns_same _ _ _ (λ a r f' called. (search rules, search rules))))
-
-pub returns-in-None-clause-all : goal.returns-in-None-clause-all
-returns-in-None-clause-all c plain =
-    ap length (text_is_whole c.args.bytes.now _ c.valid_prefix-text.ensures plain.0)
 
 pub returns-in-Some-clause-plain : goal.returns-in-Some-clause-plain
 returns-in-Some-clause-plain c =
@@ -86,15 +51,3 @@ returns-in-Some-clause-plain c =
     (IsUtf8-take text c.in-Some.at c.valid_prefix-text.utf8 found.3)
     (found.1 (is_barred c.args.keeps_lines)
     (always_returns_same _ _ _ (λ a r f' called. (search rules, search rules)))).0
-
-pub returns-in-Some-clause-all : goal.returns-in-Some-clause-all
-returns-in-Some-clause-all c plain =
-    let found = c.in-Some.ensures.cases in
-    let text = c.valid_prefix-text.result.now in
-    let whole : text ≡ c.args.bytes.now =
-    text_is_whole c.args.bytes.now text c.valid_prefix-text.ensures plain.0 in
-    let P : List ℕ → Type 0 = λ bytes. NoCharPasses (is_barred c.args.keeps_lines) bytes in
-    let never : true ≡ false = none_is_there (is_barred c.args.keeps_lines) text c.in-Some.at found.0
-    c.valid_prefix-text.utf8 found.3 found.4 (subst P (sym whole) plain.1)
-    (found.1 (is_barred c.args.keeps_lines)
-    (always_returns_same _ _ _ (λ a r f' called. (search rules, search rules)))).1 in cc
