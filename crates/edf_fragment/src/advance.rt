@@ -133,7 +133,8 @@ fn read_record<R: Input>(
     ensures read { ReadsInput (IsNextResult header.now progress)
         (input_state R.Input input.old) (input_state R.Input input.new) result }
 {
-    let Ok(mut samples) = vec![in alloc; 0u8; header.record_bytes() - header.block_bytes()] else {
+    let ordinary_bytes = header.record_bytes() - header.block_bytes();
+    let Ok(mut samples) = Vec::with_capacity(alloc, ordinary_bytes) else {
         return Err(FragmentFault::Memory);
     };
     if !fill_record(input, header, progress, buffers.whole.as_mut_slice())? {
@@ -142,7 +143,7 @@ fn read_record<R: Input>(
     cut_record(
         header,
         buffers.whole.as_slice(),
-        samples.as_mut_slice(),
+        &mut samples,
         buffers.joined.as_mut_slice(),
     );
     let joined = buffers.joined.as_slice();

@@ -1,6 +1,6 @@
 //! The buffers of a data record: its bytes as they are in the file, and its annotations blocks
 //! one after another.
-ghost use Rattle.std.specs.Prelude.{◌≡◌, ◌+◌, length, map, IfOk};
+ghost use Rattle.std.specs.Prelude.{◌≡◌, ◌≤◌, ◌+◌, [], length, map, vec_capacity, IfOk};
 ghost use Rattle.std.specs.List.{flat_map};
 ghost use Rattle.edf_header.specs.Header.{block_bytes};
 ghost use Rattle.edf_fragment.specs.Fragment.{blocks, ordinary_bytes};
@@ -40,26 +40,24 @@ impl Buffers {
     }
 }
 
-/// Cuts a data record: its ordinary bytes go to the samples, and its blocks one after another to
+/// Cuts a data record: its ordinary bytes go to `samples`, and its blocks one after another to
 /// `joined`.
-pub(crate) fn cut_record(header: &Header, whole: &[u8], samples: &mut [u8], joined: &mut [u8])
+pub(crate) fn cut_record(header: &Header, whole: &[u8], samples: &mut Vec<u8>, joined: &mut [u8])
     requires whole { length whole.now ≡ header.now.record_bytes }
-    requires samples { length samples.old + block_bytes header.now ≡ header.now.record_bytes }
+    requires empty { samples.old.items ≡ [] }
+    requires room { header.now.record_bytes ≤ vec_capacity samples.old + block_bytes header.now }
     requires joined { length joined.old ≡ block_bytes header.now }
-    ensures samples { samples.new ≡ ordinary_bytes header.now whole.now }
+    ensures samples { samples.new.items ≡ ordinary_bytes header.now whole.now }
     ensures joined { joined.new ≡ flat_map (λ b. b) (blocks header.now whole.now) }
 {
-    let mut ordinary = 0;
     let mut copied = 0;
     for block in header.blocks() {
-        let at = ordinary + copied;
-        let before = block.at - at;
-        samples[ordinary..ordinary + before].copy_from_slice(&whole[at..block.at]);
-        ordinary += before;
+        // There is room for all that is copied.
+        let _ = samples.extend_from_slice(&whole[samples.len() + copied..block.at]);
         joined[copied..copied + block.bytes].copy_from_slice(
             &whole[block.at..block.at + block.bytes],
         );
         copied += block.bytes;
     }
-    samples[ordinary..].copy_from_slice(&whole[ordinary + copied..]);
+    let _ = samples.extend_from_slice(&whole[samples.len() + copied..]);
 }

@@ -20,7 +20,7 @@ is_direction_mark c = (c == 0x61c) || (is_within 0x200e 0x200f c
 abbrev pub is_hidden : ℕ → Bool
 is_hidden c = is_control c || is_direction_mark c
 
--- the same of a line feed, unless it may end a line
+-- or a line feed that may not end a line
 abbrev pub is_barred : Bool → ℕ → Bool
 is_barred keeps c = is_hidden c || ((c == 10) && not keeps)
 
