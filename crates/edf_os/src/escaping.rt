@@ -1,7 +1,7 @@
 //! Text for a terminal. Bytes that could steer it are written as `\x1b`: those that are no UTF-8,
 //! and those of hidden characters.
 
-ghost use Rattle.std.specs.Prelude.{◌≡◌, ◌≤◌, ◌<◌, ◌×◌, None, length, take, MatchBool, MatchOption};
+ghost use Rattle.std.specs.Prelude.{◌≡◌, ◌≤◌, ◌<◌, None, length, take, MatchBool, MatchOption};
 ghost use Rattle.std.specs.Str.Lossy.{utf8_valid_len};
 ghost use Rattle.edf_fragment.specs.Failures.{saturating_increment};
 ghost use Rattle.edf_os.specs.Plain.{is_barred, IsPlain, escape, hex_digit};

@@ -1,13 +1,10 @@
-use Rattle.std.proofs.Common.{rules, ◌≡◌, ◌≤◌, length, take, drop, sym, ◌∙◌, ap, subst, length-take-le}
-use Rattle.std.proofs.Common.{List, ℕ, Bool, true, false, [], ◌∷◌, ◌++◌, take-append-drop, refl, arith}
-use Rattle.std.specs.Str.{IsUtf8, IsCharBoundary, NoCharPasses, NonePass}
-use lib.Utf8.{encode, encodes}
+use Rattle.std.proofs.Common.{rules, ◌≡◌, ◌≤◌, length, take, sym, ◌∙◌, ap, subst, length-take-le}
+use Rattle.std.proofs.Common.{List, ℕ, Bool}
+use Rattle.std.specs.Str.{IsUtf8, NoCharPasses}
 use Rattle.std.specs.Str.Lossy.{utf8_valid_len}
-use Rattle.std.specs.Str.Pattern.{HasPassingCharAt}
-use Rattle.std.proofs.lemmas.List.{take_all, take-take}
+use Rattle.std.proofs.lemmas.List.{take-take}
 use Rattle.std.proofs.lemmas.Fn.{always_returns_same}
-use Rattle.std.proofs.lemmas.Str.{utf8_valid_len-IsUtf8, utf8_valid_len_le, IsUtf8-take, encodes_same}
-use Rattle.std.proofs.lemmas.Str.{encodes-append, IsUtf8-drop}
+use Rattle.std.proofs.lemmas.Str.{utf8_valid_len_le, IsUtf8-take}
 use Rattle.edf_os.specs.Plain.{is_barred, IsPlain}
 use Rattle.edf_os.proofs.escaping.plain_len.Goals as goal
 
