@@ -61,7 +61,7 @@ fn serve_store(
 
 /// Serves the store that the words name by the system's files and streams. Standard input has the
 /// lines, so a file named `-` is opened as every other is.
-fn run_session(rt: &HostRuntime, words: &ServeWords) -> Status {
+fn run_session<'x>(rt: &'x HostRuntime, words: &'x ServeWords) -> Status {
     let terminal = Terminal::new(rt, "file", 0);
     let standing = Standing::new(rt, words.store.as_str());
     let input = WatchedInput::new(Counted::new(rt.stdin()), &standing);
