@@ -28,7 +28,7 @@ use std::process::ExitCode;
 type SystemLines<'s> = Lines<WatchedInput<'s, Counted<Stdin>>>;
 
 /// What a session has beside its store and its lines: the system's files and streams.
-type SystemRoom<'rt> = Room<SystemFiles<'rt>, Console<StandardOutput<'rt>>, Keeper<'rt>>;
+type SystemRoom<'rt> = Room<SystemFiles<'rt>, Console<StandardOutput>, Keeper<'rt>>;
 
 /// Serves the store of a path until the input ends or the store fails, and closes it.
 fn serve_store(
@@ -61,7 +61,7 @@ fn serve_store(
 
 /// Serves the store that the words name by the system's files and streams. Standard input has the
 /// lines, so a file named `-` is opened as every other is.
-fn run_session<'x>(rt: &'x HostRuntime, words: &'x ServeWords) -> Status {
+fn run_session(rt: &HostRuntime, words: &ServeWords) -> Status {
     let terminal = Terminal::new(rt, "file", 0);
     let standing = Standing::new(rt, words.store.as_str());
     let input = WatchedInput::new(Counted::new(rt.stdin()), &standing);

@@ -9,23 +9,24 @@ use std::io::{self, Stdout, Write};
 
 /// Standard output, and how many writes to it failed, up to `u64::MAX`.
 #[derive(Drop)]
-pub(crate) struct StandardOutput<'rt> {
-    rt: &'rt HostRuntime,
+pub(crate) struct StandardOutput {
     stream: Escaping<Counted<Stdout>>,
+    /// The same stream, which is flushed.
+    flushed: Stdout,
     failures: u64,
 }
 
-impl<'rt> StandardOutput<'rt> {
-    pub(crate) fn new(rt: &'rt HostRuntime) -> StandardOutput<'rt> {
+impl StandardOutput {
+    pub(crate) fn new(rt: &HostRuntime) -> StandardOutput {
         StandardOutput {
-            rt,
             stream: standard_output(rt),
+            flushed: rt.stdout(),
             failures: 0,
         }
     }
 }
 
-impl Output for StandardOutput<'_> {
+impl Output for StandardOutput {
     ghost contents = { λ _. None };
 
     ghost failures = { λ output. output.failures };
@@ -46,11 +47,11 @@ impl Output for StandardOutput<'_> {
     }
 }
 
-impl Flush for StandardOutput<'_> {
+impl Flush for StandardOutput {
     ghost sent = { λ _. None };
 
     fn flush(&mut self) -> io::Result<()> {
-        match self.rt.stdout().flush() {
+        match self.flushed.flush() {
             Ok(()) => Ok(()),
             Err(error) => {
                 self.failures = saturating_increment(self.failures);
