@@ -11,7 +11,8 @@ from .serving import Client, status
 
 # A file has 180 kB: the log grows by more than it was cut.
 PARTS = night.Night(records=480, samples=(256, 128), fragments=2)
-LONG = night.Night(records=1_600, samples=(1_024, 1_024), fragments=16)     # 6.6 MB in a session
+# The log has 8,000 pages, 33 MB, after two thirds of the files.
+LONG = night.Night(records=12_000, samples=(1_024, 1_024), fragments=16)
 ENDED = printed.line("store", f"not closed {faults.store()}") + printed.cause("s.db", printed.LOST)
 
 
