@@ -114,7 +114,7 @@ def of_mend(chance: random.Random, name: bytes) -> Command:
 
 
 def of_serve(chance: random.Random, name: bytes) -> Command:
-    line = b"take " + name.replace(b"\n", b"") + b"\n"
+    line = b"take " + name.replace(b"\n", b"_") + b"\n"
     lines = chance.choice((line, text_of(chance, raw=0.2) + b"\n" + line, b"list\n" + line))
     words = chance.choice(([b"s.db"], [text_of(chance)], [b"--from", b".", b"s.db"],
                            [b"--from", text_of(chance), b"s.db"], [b"--" + text_of(chance)]))
