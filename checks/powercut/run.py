@@ -284,6 +284,16 @@ def sector_lost(which: int, number: int) -> Found:
     return BENCH.judged(run.way, pair, held, len(BENCH.parts), rng)
 
 
+def needed_from(run: disk.Run, file: int, sync: int) -> int:
+    """After how many calls a file's first sync matters. The log has all that was copied of it until
+    it is written anew."""
+    if file == disk.LOG:
+        return sync
+    written = [at for at in range(run.bounds()[1], len(run.calls)) if run.calls[at].letter in "wt"]
+    copied = next(at for at in written if run.calls[at].file == disk.STORE)
+    return 1 + next(at for at in written if at > copied and run.calls[at].file == disk.LOG)
+
+
 def syncs_lost(file: int, which: int, number: int) -> Found:
     """A control: from the first of the files on, the disk does not carry out a file's syncs."""
     run = BENCH.runs[which]
@@ -293,7 +303,7 @@ def syncs_lost(file: int, which: int, number: int) -> Found:
         if calls[at].letter == "s" and calls[at].file == file:
             lost.append(at)
             calls[at] = replace(calls[at], letter="not done")
-    moment = rng.randint(lost[0], lost[-1] + 1)
+    moment = rng.randint(needed_from(run, file, lost[0]), lost[-1] + 1)
     past, _, opened = BENCH.done(run, moment)
     files = replace(run, calls=calls).files(moment)
     return BENCH.judged(run.way, [file.torn(rng) for file in files], past, opened, rng)
