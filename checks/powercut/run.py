@@ -285,13 +285,14 @@ def sector_lost(which: int, number: int) -> Found:
 
 
 def needed_from(run: disk.Run, file: int, sync: int) -> int:
-    """After how many calls a file's first sync matters. The log has all that was copied of it until
-    it is written anew."""
+    """After how many calls a file's first sync matters. The log has all that was copied of it, which
+    ends with the length of the store's file, until it is written anew."""
     if file == disk.LOG:
         return sync
-    written = [at for at in range(run.bounds()[1], len(run.calls)) if run.calls[at].letter in "wt"]
-    copied = next(at for at in written if run.calls[at].file == disk.STORE)
-    return 1 + next(at for at in written if at > copied and run.calls[at].file == disk.LOG)
+    copied = next(at for at, call in enumerate(run.calls)
+                  if call.letter == "t" and call.file == disk.STORE)
+    return 1 + next(at for at, call in enumerate(run.calls)
+                    if at > copied and call.letter in "wt" and call.file == disk.LOG)
 
 
 def syncs_lost(file: int, which: int, number: int) -> Found:
