@@ -20,7 +20,8 @@ way: each file is answered as it must be, and the export is the night's.
 Three controls must fail, for a `take` and for a session: a synced sector of the log, of a file that
 is held, is zeroed or as it was before; and a disk does not carry out the syncs of the log, or those
 of the store's file. The status is 1 where a state is wrong, or where two thirds of a control's
-states are right. A wrong state's files are kept, and `--only N` with the same seed lays it out again.
+states are right. A wrong state's files are kept, and `--only N` with the same seed lays it out
+again.
 """
 import collections
 import functools
