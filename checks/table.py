@@ -70,7 +70,7 @@ CHECKS = (
     Check("powercut.run", "states after a cut of power", (EDFSTORE, EDFSERVE),
           counts=(100, 1_000), needs=("cc",), is_on_disk=True),
     Check("kill.run", "stops at random moments", counts=(100, 1_000), is_on_disk=True),
-    Check("refused.run", "allocations, reads, writes and syncs refused", counts=(10, 1),
+    Check("refused.run", "allocations, reads, writes and syncs refused", counts=(50, 5),
           needs=("cc",)),
     Check("full", "nights onto small disks", (EDFSTORE, EDFSERVE), counts=(38, 186),
           needs=("tmpfs",)),
