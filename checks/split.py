@@ -244,7 +244,8 @@ def words_that_ask_for_nothing(programs: Programs) -> None:
     checks.file("a.edf", FILES["R9"])
     for words in ((), ("split", "-", "part"), ("list",), ("list", "-"), ("list", "a.edf", "-"),
                   ("canonical",), ("canonical", "a.edf", "more"), ("canonical", "-"),
-                  ("canonical", "--by-onset", "-"), ("split", "a.edf"), ("frob", "a.edf"),
+                  ("canonical", "--by-onset", "-"), ("picture", "-"), ("split", "a.edf"),
+                  ("frob", "a.edf"),
                   ("list", "-x"), ("list", "--by-onset", "a.edf"),
                   ("canonical", "--by-onset=yes", "a.edf"),
                   # words that earlier versions had
@@ -329,7 +330,7 @@ def a_file_that_changes(programs: Programs) -> None:
         feed = "(cat a.edf > f; sleep 0.5; cat b.edf > f) &"
         given = ["split f part"]
         if second != later:     # its first start, its number and its sizes are the same
-            given.append("canonical f > out")
+            given += ["canonical f > out", "picture f > out"]
         for words in given:
             checks.shell(f"{feed} edfruns {words}; s=$?; kill %1 2> /dev/null; exit $s",
                          err=printed.changed("f"), status=3)

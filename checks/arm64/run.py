@@ -48,7 +48,7 @@ CHECKS = (
     ("powercut.run", ("edfstore", "edfserve"), (6,)),
     ("kill.run", ("edfstore",), (5,)),
     ("rot", ("edfstore",), (5,)),
-    ("hypnogram", ("edfruns",), (5,)),
+    ("picture", ("edfruns",), (5,)),
     ("serve", ("edfstore", "edfserve"), (3,)),
     ("mend.run", ("edfstore", "edfmend"), ()),
     ("mend.fuzz", ("edfmend",), (100,)),

@@ -281,16 +281,6 @@ def startdate(text: bytes, recording_field: bytes) -> bytes:
     return made if found and (agrees or len(numbers) == 1) else text
 
 
-def is_otherwise(text: bytes, given: bytes) -> bool:
-    """Whether a startdate is a date whose order is not known, and the given day none that it may
-    be."""
-    first, second, third = text[:2], text[3:5], text[6:]
-    readings = [b".".join(parts) for parts in
-                ((first, second, third), (second, first, third), (third, second, first))]
-    return with_dots(text) in readings and any(map(header_date, readings)) and \
-        given not in readings
-
-
 # What a sample means
 
 LOOSE = re.compile(rb" *([+-]?)([0-9]*)(?:([.,])([0-9]*))?(?:[eE]([+-]?[0-9]+))? *")

@@ -197,8 +197,6 @@ PLAIN = ("plain EDF has no annotations signal and no start for each data record:
          "edfruns take EDF+ alone; edfmend makes EDF+ of it")
 CUT = ("it was cut, or its count is too high: send it again, or edfmend makes its count what is "
        "there, where a data record is whole")
-NO_TIME = ("its starttime is no second as hh.mm.ss: look at its spelling, and at the recorder's "
-           "clock")
 OTHER_LETTERS = ("a byte of its header is no printable ASCII, as in a name with other letters: "
                  "edfmend spells them in ASCII")
 IS_BDF = ("a BDF file, whose samples have 24 bits: edfstore and edfruns take EDF+ alone, so export "

@@ -308,6 +308,7 @@ def misspelled(script: RunScript) -> None:
     twice = "FILE is read twice, which standard input can't be: write it to a file first"
     script.misspelled("split - night", twice, "split <FILE> <PREFIX>")
     script.misspelled("canonical --by-onset -", twice, "canonical [OPTIONS] <FILE>")
+    script.misspelled("picture -", twice, "picture [OPTIONS] <FILE>")
     script.misspelled("list one.edf -", "FILE can't be standard input: write it to a file first",
                       "list <FILE>...")
 

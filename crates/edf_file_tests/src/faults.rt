@@ -14,6 +14,7 @@ const BY_ONSET: &str = "edfruns canonical two.edf --by-onset";
 const READINGS: &[(&str, &str, usize, bool)] = &[
     ("edfruns list two.edf", "two.edf", 1_008, false),
     ("edfruns picture two.edf", "two.edf", 1_008, false),
+    ("edfruns picture two.edf", "two.edf", 1_008, true),
     ("edfruns split two.edf night", "two.edf", 1_008, false),
     ("edfruns split two.edf night", "two.edf", 1_008, true),
     ("edfruns canonical two.edf", "two.edf", 1_008, false),
@@ -58,6 +59,18 @@ fn a_reading_that_fails_is_refused_and_leaves_no_file(rt: HostRuntime) {
 
 /// Commands, the file of each, and what its second reading finds in its place.
 const CHANGES: &[(&str, &str, &[&str])] = &[
+    (
+        "edfruns picture two.edf",
+        "two.edf",
+        &[
+            "one.edf",
+            "cut.edf",
+            "loose.edf",
+            "tenths.edf",
+            "overlap.edf",
+            "grown.edf",
+        ],
+    ),
     (
         "edfruns canonical two.edf",
         "two.edf",

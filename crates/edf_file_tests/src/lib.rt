@@ -17,10 +17,7 @@
 //! - `memory`: memory that runs out, under each budget until one suffices.
 //! - `words`: the version, standard input, that pictures are SVG, and the text of a fault.
 //! - `library`: functions of `edf_runs` and `edf_mend`, each called once.
-//! - `nights`: the figures of nights of sleep.
 //! - `picture`: what pictures say.
-//! - `hypnogram`: where pictures have which stage of sleep.
-//! - `overview`: the lanes of annotations, lights, minutes, gaps and signals of pictures.
 #![tactic(auto)]
 
 #[cfg(test)]
@@ -32,15 +29,9 @@ mod files;
 #[cfg(test)]
 mod folder;
 #[cfg(test)]
-mod hypnogram;
-#[cfg(test)]
 mod library;
 #[cfg(test)]
 mod memory;
-#[cfg(test)]
-mod nights;
-#[cfg(test)]
-mod overview;
 #[cfg(test)]
 mod picture;
 #[cfg(test)]

@@ -129,20 +129,25 @@ fn canonical(alloc: Global, is_by_onset: bool) -> Option<RunsCommand> {
     })
 }
 
-/// The commands to list two gaps, to write its canonical file, as it is and by onset, and to split
-/// it.
-fn commands(alloc: Global) -> Option<[RunsCommand; 4]> {
+/// The commands to list two gaps, to write its canonical file, as it is and by onset, to split it,
+/// and to draw it.
+fn commands(alloc: Global) -> Option<[RunsCommand; 5]> {
     let mut files = Vec::new(alloc);
     files.push(word(alloc, "two.edf")?).ok()?;
     let split = RunsCommand::Split {
         file: word(alloc, "two.edf")?,
         prefix: word(alloc, "night")?,
     };
+    let picture = RunsCommand::Picture {
+        file: word(alloc, "two.edf")?,
+        has_code: true,
+    };
     Some([
         RunsCommand::List { files },
         canonical(alloc, false)?,
         canonical(alloc, true)?,
         split,
+        picture,
     ])
 }
 

@@ -7,14 +7,11 @@ use edf_header::{Format, HeaderFault};
 use std::alloc::Global;
 
 /// A line of words, and how what it prints begins and ends.
-const PRINTED: &[(&str, &str, &str)] = &[
-    ("edfruns picture -", "<svg ", "</svg>\nstatus 0, 0 files\n"),
-    (
-        "edfruns picture two.edf",
-        "<svg ",
-        "</svg>\nstatus 0, 0 files\n",
-    ),
-];
+const PRINTED: &[(&str, &str, &str)] = &[(
+    "edfruns picture two.edf",
+    "<svg ",
+    "</svg>\nstatus 0, 0 files\n",
+)];
 
 /// Whether a line of words prints what begins and ends so.
 fn prints(alloc: Global, line: &str, beginning: &str, end: &str) -> bool {

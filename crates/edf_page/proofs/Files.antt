@@ -19,7 +19,6 @@ use Rattle.edf_cli.specs.Making.{Making}
 use Rattle.edf_canonical.specs.File.{IsCanonicalFile}
 use Rattle.edf_export.specs.Export.{IsExported}
 use Rattle.edf_export.specs.Headline.{IsOnlyCanonicalFile}
-use Rattle.edf_runs.specs.ByOnset.{annotations_of}
 use Rattle.edf_runs.specs.Runs.{AreListed}
 use Rattle.edf_runs.specs.declared.run_list.Listing.{Listing}
 use Rattle.edf_cli.specs.Output.{OutputChange, Gets, AreLinesPrinted, IsWritten}
@@ -28,19 +27,16 @@ use Rattle.edf_cli.specs.declared.status.Status.{Status}
 use Rattle.edf_cli.specs.declared.status.Status.TheVariants.{Done, Refused, Usage, Trouble}
 use Rattle.edf_command.specs.Lines.{list_lines, first_list_lines}
 use Rattle.edf_command.specs.Listing.{ListsAll, StopsListing}
-use Rattle.edf_sleep.specs.Night.{AreOfFile}
-use Rattle.edf_sleep.specs.declared.note.Note.{Note}
 use Rattle.edfruns_command.specs.Listed.{IsFileListed, IsListOut, Held, between, held_before}
 use Rattle.edfruns_command.specs.Listed.{held_after}
 use Rattle.edfruns_command.specs.Lines.{each_line, unwritten_line, standard_output}
 use Rattle.edfruns_command.specs.Listing.{HasRuns}
-use Rattle.edfruns_command.specs.Picturing.{AreNoted, HasNotes, IsPictureOf, run_time}
+use Rattle.edfruns_command.specs.Picturing.{IsPictureOf}
 use Rattle.edfruns_command.specs.Picturing as drawn
 use Rattle.edfruns_command.specs.Run.{Asked, IsDone}
 use Rattle.edf_page.specs.Night.{AreRunLines, IsRecording}
 use Rattle.edf_page.specs.Inside.{HoldsStill, ListsHeld, IsWrittenOf, ListsFile, DrawsFile}
 use Rattle.edf_page.specs.Programs.{IsText}
-use Rattle.edf_page.proofs.Figures.{files-have-figures}
 use Rattle.edf_page.specs.declared.night.Recording.{Recording}
 
 -- ---- what was said, where there was no trouble
@@ -164,20 +160,19 @@ module _ (out err : OutputChange) (file text name : List ℕ) (from : out.before
   draws-file (inl sent) = record {
     listing = sent.listing;
     has = sent.has;
-    notes = sent.notes;
-    noted = sent.noted;
     is_picture = of sent.sent;
   }
     where
       of : drawn.SendsPicture out err sent.picture (unwritten_line standard_output) Done →
-          IsPictureOf sent.listing.identity true sent.listing.runs.items sent.notes text
+          IsPictureOf sent.listing.identity true sent.listing.runs.items text
       of (inl (got, silent, is)) = subst (IsPictureOf sent.listing.identity true
-          sent.listing.runs.items sent.notes) (sym (gets-whole out text sent.picture from to got))
+          sent.listing.runs.items) (sym (gets-whole out text sent.picture from to got))
           sent.is_picture
       of (inr (front, said)) = absurd (not-written err _ _ refl said)
-  draws-file (inr (inl refused)) =
+  draws-file (inr (inl again)) = absurd (not-written _ _ _ refl again.said.1)
+  draws-file (inr (inr (inl refused))) =
       absurd (not-refused _ _ (fragment_fault_number refused.fault) _ refl refused.said.1)
-  draws-file (inr (inr lacks)) = absurd (not-written _ _ _ refl lacks.1)
+  draws-file (inr (inr (inr lacks))) = absurd (not-written _ _ _ refl lacks.1)
 
 -- ---- a recording, by its file
 
@@ -195,17 +190,6 @@ runs-of file k records listing is has =
           (sym same.records) (subst (λ (q : Key). AreListed (duration_of q.duration) read.records
           listing.runs.items) (sym same.key) read.listed),
     )
-
--- and so are its annotations
-notes-of : (file : List ℕ) (k : Key) (records : List DataRecord) (notes : List Note) →
-    IsOnlyCanonicalFile file k records → HasNotes (Some file) notes →
-    AreNoted (annotations_of records) notes
-notes-of file k records notes is has =
-    let same = one-fragment file k has.read.layout.key records has.read.records
-    (its-own file k records is.canonical) (fragment_of_all file has.rest has.read.layout
-    has.read.records has.read.read) in
-    subst (λ (rs : List DataRecord). AreNoted (annotations_of rs) notes) (sym same.records)
-    has.read.noted
 
 pub run-lines-are : (file : List ℕ) (k : Key) (records : List DataRecord) (text : List ℕ) →
     IsOnlyCanonicalFile file k records → ListsFile file text →
@@ -231,12 +215,7 @@ recording-is h k r is lists draws =
       picture = record {
         runs = draws.listing.runs.items;
         are_runs = drawn.1;
-        notes = draws.notes;
-        are_notes = notes-of r.file.items k (h k) draws.notes is draws.noted;
-        of_file = subst (λ (q : Key). AreOfFile draws.notes
-            (map (run_time (duration_of q.duration)) draws.listing.runs.items)) drawn.0
-            (files-have-figures r.file.items draws.listing draws.notes draws.has draws.noted);
-        is_picture = subst (λ (q : Key). IsPictureOf q true draws.listing.runs.items draws.notes
+        is_picture = subst (λ (q : Key). IsPictureOf q true draws.listing.runs.items
             r.picture.items) drawn.0 draws.is_picture;
       };
     }

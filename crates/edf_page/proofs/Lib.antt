@@ -6,5 +6,4 @@ pub mod Files
 pub mod Replacing
 pub mod LastHeld
 pub mod There
-pub mod Figures
 pub mod Nights

@@ -22,10 +22,9 @@ use Rattle.edf_cli.specs.declared.status.Status.TheVariants.{Done}
 use Rattle.edf_command.specs.Lines.{list_lines}
 use Rattle.edf_export.specs.Headline.{IsOnlyCanonicalFile}
 use Rattle.edf_runs.specs.declared.run_list.Listing.{Listing}
-use Rattle.edf_sleep.specs.declared.note.Note.{Note}
 use Rattle.edfruns_command.specs.Lines.{each_line}
 use Rattle.edfruns_command.specs.Listing.{HasRuns}
-use Rattle.edfruns_command.specs.Picturing.{HasNotes, IsPictureOf}
+use Rattle.edfruns_command.specs.Picturing.{IsPictureOf}
 use Rattle.edfruns_command.specs.Run.{Asked, IsDone}
 use Rattle.edf_page.specs.Night.{lines_by}
 use Rattle.edf_page.specs.Programs.{IsText}
@@ -118,6 +117,4 @@ pub record ListsFile (file text : List ℕ) : Type 0 where
 pub record DrawsFile (file picture : List ℕ) : Type 0 where
   pub listing : Listing
   pub has : HasRuns (Some file) listing
-  pub notes : List Note
-  pub noted : HasNotes (Some file) notes
-  pub is_picture : IsPictureOf listing.identity true listing.runs.items notes picture
+  pub is_picture : IsPictureOf listing.identity true listing.runs.items picture

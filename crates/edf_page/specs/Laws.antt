@@ -17,12 +17,7 @@ use Rattle.edf_cli.specs.declared.status.Status.TheVariants.{Done, Trouble}
 use Rattle.edf_command.specs.Lines.{store_refused_line}
 use Rattle.edf_command.specs.Taking.{IsTaken}
 use Rattle.edf_export.specs.Headline.{IsOnlyCanonicalFile}
-use Rattle.edf_runs.specs.declared.run_list.Listing.{Listing}
-use Rattle.edf_sleep.specs.Night.{AreOfFile}
-use Rattle.edf_sleep.specs.declared.note.Note.{Note}
 use Rattle.edfruns_command.specs.Listed.{IsListOut}
-use Rattle.edfruns_command.specs.Listing.{HasRuns}
-use Rattle.edfruns_command.specs.Picturing.{HasNotes, run_time}
 use Rattle.edf_page.specs.Inside.{HasIn}
 use Rattle.edf_page.specs.Night.{AreTaken, AreRunLines, IsNight, taken_lines, stopped_line}
 use Rattle.edf_page.specs.Programs.{IsText}
@@ -72,12 +67,3 @@ ListWritesRuns = (out err : OutputChange) (file name text lines : List ℕ) (k :
 abbrev pub StoppedAsRefused : Type 0
 StoppedAsRefused = (stopped_line Memory ≡ store_refused_line refused.Memory)
     × (stopped_line Store ≡ store_refused_line (refused.Store None))
-
--- ---- figures
-
--- the runs and the annotations of a file that is accepted are as figures want them, so those of a
--- picture are the file's
-abbrev pub FilesHaveFigures : Type 0
-FilesHaveFigures = (file : List ℕ) (listing : Listing) (notes : List Note) →
-    HasRuns (Some file) listing → HasNotes (Some file) notes →
-    AreOfFile notes (map (run_time (duration_of listing.identity.duration)) listing.runs.items)

@@ -15,13 +15,10 @@ use Rattle.edf_intake.specs.Refusal.{Answer, reply_of}
 use Rattle.edf_cli.specs.Text.{IsInstantFormat}
 use Rattle.edf_command.specs.Lines.{take_line, list_lines}
 use Rattle.edf_export.specs.Headline.{IsOnlyCanonicalFile}
-use Rattle.edf_runs.specs.ByOnset.{annotations_of}
 use Rattle.edf_runs.specs.Runs.{AreListed}
 use Rattle.edf_runs.specs.declared.run.Run.{Run}
-use Rattle.edf_sleep.specs.Night.{AreOfFile}
-use Rattle.edf_sleep.specs.declared.note.Note.{Note}
 use Rattle.edfruns_command.specs.Lines.{each_line}
-use Rattle.edfruns_command.specs.Picturing.{AreNoted, IsPictureOf, run_time}
+use Rattle.edfruns_command.specs.Picturing.{IsPictureOf}
 use Rattle.edf_page.specs.declared.stopped.Stopped.{Stopped}
 use Rattle.edf_page.specs.declared.stopped.Stopped.TheVariants.{Memory, Store}
 use Rattle.edf_page.specs.declared.night.GivenNight.{GivenNight}
@@ -59,21 +56,18 @@ pub record AreRunLines (d : ℕ) (records : List DataRecord) (lines : List ℕ) 
   pub are_runs : AreListed d records runs
   pub are_lines : (spell : ℕ → List ℕ) → IsInstantFormat spell → lines ≡ each_line spell d runs
 
--- a picture of this recording, with its codes, of its data records and of their annotations, as
--- `edfruns picture` draws one; these are as a file has them, so the figures hold
-pub record IsPictured (k : Key) (records : List DataRecord) (picture : List ℕ) : Type 0 where
+-- a picture of this recording, with its codes and the times of the runs of its data records, as
+-- `edfruns picture` draws one
+pub record HasPicture (k : Key) (records : List DataRecord) (picture : List ℕ) : Type 0 where
   pub runs : List Run
   pub are_runs : AreListed (duration_of k.duration) records runs
-  pub notes : List Note
-  pub are_notes : AreNoted (annotations_of records) notes
-  pub of_file : AreOfFile notes (map (run_time (duration_of k.duration)) runs)
-  pub is_picture : IsPictureOf k true runs notes picture
+  pub is_picture : IsPictureOf k true runs picture
 
 -- the recording of a key: the one file of what is held, its runs and its picture
 pub record IsRecording (h : Holdings) (k : Key) (r : Recording) : Type 0 where
   pub is_file : IsOnlyCanonicalFile r.file.items k (h k)
   pub runs : AreRunLines (duration_of k.duration) (h k) r.runs.items
-  pub picture : IsPictured k (h k) r.picture.items
+  pub picture : HasPicture k (h k) r.picture.items
 
 -- each recording that is held has its line, as `edfstore list` has it, and in the same order each
 -- is given

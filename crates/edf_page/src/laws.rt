@@ -2,8 +2,8 @@
 
 ghost use Rattle.std.specs.Prelude.{ℕ, List};
 ghost use Rattle.edf_cli.specs.Text.{IsInstantFormat};
-ghost use Rattle.edf_page.specs.Laws.{OneNightComes, TakeWritesLines, ListWritesRuns};
-ghost use Rattle.edf_page.specs.Laws.{FilesHaveFigures, StoppedAsRefused};
+ghost use Rattle.edf_page.specs.Laws.{ListWritesRuns, OneNightComes, StoppedAsRefused};
+ghost use Rattle.edf_page.specs.Laws.{TakeWritesLines};
 
 /// Of the same files the same comes, but for pictures: the same lines, recordings and runs.
 pub fn one_night_comes()
@@ -21,9 +21,4 @@ pub fn the_programs_write_this()
 /// Instants have a spelling, as lines have them.
 pub fn instants_have_a_spelling()
     ensures { (spell : ℕ → List ℕ) × IsInstantFormat spell }
-{}
-
-/// The figures of a picture are those of its file's runs and annotations, whatever the file.
-pub fn files_have_figures()
-    ensures { FilesHaveFigures }
 {}

@@ -8,8 +8,7 @@
 //!   for: what they write, and the files that they make ([`Ran`], [`NamedFile`]).
 //! - [`GivenFile`]: a file, by its name and its bytes.
 //! - [`Stopped`]: why nothing is given.
-//! - [`laws`]: what comes of files is one thing, but for pictures, and is what the programs say;
-//!   figures are those of the file.
+//! - [`laws`]: what comes of files is one thing, but for pictures, and is what the programs say.
 #![tactic(auto)]
 
 mod begun;

@@ -36,13 +36,15 @@ high-byte c k high within =
 
 pub readable-glyph : (character : ℕ) → All IsReadable (glyph character)
 readable-glyph character =
+    picked (character == 9 || (character == 10 || character == 13)) _ _
+    (λ _. plain-readable (32 ∷ []) (plain-piece 32)) (λ _.
     picked (nat_le character 126) _ _ (λ _. plain-readable (piece character)
     (plain-piece character)) (λ _.
     picked (character == 65534 || character == 65535) _ _ (λ _. All-nil IsReadable) (λ _.
     picked (nat_le 160 character) _ _
     (λ high. All-from_get_or IsReadable (encode_utf8 character) 0
     (λ k within. high-byte character k high within))
-    (λ _. All-nil IsReadable)))
+    (λ _. All-nil IsReadable))))
 
 pub readable-glyphs : (characters : List ℕ) → All IsReadable (flat_map glyph characters)
 readable-glyphs [] = All-nil IsReadable

@@ -1,4 +1,5 @@
+pub mod Bands
+pub mod Gaps
 pub mod Markup
-pub mod Readable
 pub mod Picture
-pub mod Inside
+pub mod Readable

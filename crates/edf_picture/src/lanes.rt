@@ -1,250 +1,142 @@
-ghost use Rattle.edf_sleep.specs.Account.{IsAccount};
-
-use crate::characters::readable;
-use crate::events::{Event, Group, list_events, list_groups};
-use crate::extent::Extent;
-use crate::numbers::{tenths, thousands};
-use crate::pixels::{LEFT, Pixels, RIGHT};
-use crate::recording::Recording;
-use edf_sleep::{Account, Rate};
+use crate::escape::readable;
+use crate::extent::{COLUMNS, Extent, Note};
+use crate::gaps::stretches_of;
+use crate::sheet::{Drawn, Sheet};
+use crate::stages::line_of;
 use std::alloc::{AllocError, Global};
+use std::collections::BTreeMap;
 
-/// The annotations of one text, or of all that have no lane of their own.
+const OWN: usize = 8;
+
+const HIGH: u64 = 9;
+
+/// A lane: of one text, or of all that have none of their own.
 #[derive(Drop)]
-struct Lane {
-    label: String,
-    /// How many they are, and how many in an hour.
-    rate: String,
-    /// When they are, in the order of their onsets.
-    spans: Vec<Extent>,
+struct Lane<'a> {
+    text: Option<&'a str>,
+    title: String,
+    /// How many events begin in a column, less those that end before it.
+    edges: Vec<i64>,
 }
 
-/// How many texts have lanes of their own: the most frequent ones.
-const LANES: usize = 8;
-
-/// The height of a lane, in pixels.
-const HEIGHT: u64 = 32;
-
-/// Ten hours, in nanoseconds.
-const TEN_HOURS: u128 = 36_000_000_000_000;
-
-/// How many characters of a text are shown.
-const SHOWN: usize = 44;
-
-/// The lanes of a recording, from above.
-#[derive(Drop)]
-pub(crate) struct Lanes {
-    lanes: Vec<Lane>,
+/// How many of these annotations have each text.
+fn count_texts<'a>(
+    alloc: Global,
+    notes: &[&'a Note],
+) -> Result<BTreeMap<&'a str, u64>, AllocError> {
+    let mut counts = BTreeMap::new(alloc);
+    for note in notes {
+        let text = note.text.as_str();
+        let count = counts.get(text).copied().unwrap_or(0u64);
+        counts.insert(text, count.saturating_add(1))?;
+    }
+    Ok(counts)
 }
 
-impl Lanes {
-    /// The most frequent texts first; of those with one count the one that comes first by its
-    /// bytes. The last lane is for all others.
-    pub(crate) fn of(alloc: Global, account: &Account<'_>) -> Result<Lanes, AllocError>
-        requires { IsAccount account.now }
-    {
-        let events = list_events(alloc, account.notes())?;
-        let mut groups = list_groups(alloc, &events)?;
-        groups.sort_by_key(|group| usize::MAX.saturating_sub(group.count))?;
-        let mut lanes = Vec::new(alloc);
-        for group in groups.iter().take(LANES) {
-            lanes.push(lane_of(alloc, *group, &events, account)?)?;
+/// The lanes of the most frequent texts, of two as frequent the first by its bytes, and of the rest.
+/// A text is shown to 36 characters, or to 28 where over nine are wide.
+fn list_lanes<'a>(alloc: Global, notes: &[&'a Note]) -> Result<Vec<Lane<'a>>, AllocError> {
+    let counts = count_texts(alloc, notes)?;
+    let mut texts = Vec::new(alloc);
+    for (text, count) in counts.iter() {
+        texts.push((*text, *count))?;
+    }
+    texts.sort_by(|one, other| other.1.cmp(&one.1))?;
+    let (mut lanes, mut rest) = (Vec::new(alloc), 0u64);
+    for (place, (text, count)) in texts.iter().enumerate() {
+        if place < OWN {
+            let wide = text.chars().filter(|one| *one == 'W' || *one >= '\u{2e80}');
+            let most = if wide.count() > 9 { 28 } else { 36 };
+            let shown = readable(alloc, text, most)?;
+            let shown = shown.as_str();
+            let is_blank = shown.trim_end_matches(' ').is_empty();
+            let shown = if is_blank { "(no text)" } else { shown };
+            let title = format!(in alloc; "{count} × {shown}")?;
+            lanes.push(Lane::new(alloc, Some(*text), title)?)?;
+        } else {
+            rest = rest.saturating_add(*count);
         }
-        let (_, rest) = groups.split_at(LANES.min(groups.len()));
-        if !rest.is_empty() {
-            lanes.push(others(alloc, rest, &events)?)?;
+    }
+    if rest > 0 {
+        let count = texts.len().saturating_sub(OWN);
+        let title = format!(in alloc; "others: {rest}, texts: {count}")?;
+        lanes.push(Lane::new(alloc, None, title)?)?;
+    }
+    Ok(lanes)
+}
+
+/// Draws a lane for each of the most frequent texts, and one for the others; answers how many.
+pub(crate) fn draw_lanes(sheet: &mut Sheet, notes: &[Note]) -> Result<usize, AllocError> {
+    let mut events = Vec::new(sheet.alloc);
+    for note in notes {
+        if line_of(note.text.as_str()).is_none() {
+            events.push(note)?;
         }
-        Ok(Lanes { lanes })
+    }
+    let mut lanes = list_lanes(sheet.alloc, &events)?;
+    for note in &events {
+        add_event(&mut lanes, note, sheet.axis);
+    }
+    sheet.skip(8);
+    for lane in &lanes {
+        lane.draw(sheet)?;
+    }
+    Ok(lanes.len())
+}
+
+/// Marks an event in the first lane that has its text.
+fn add_event(lanes: &mut [Lane<'_>], note: &Note, axis: Extent) {
+    let from = note.onset;
+    let to = from.saturating_add(note.duration.unwrap_or(0));
+    for lane in lanes.iter_mut() {
+        if lane.has(note.text.as_str()) {
+            lane.add(Extent { from, to }, axis);
+            return;
+        }
+    }
+}
+
+impl<'a> Lane<'a> {
+    fn new(alloc: Global, text: Option<&'a str>, title: String) -> Result<Lane<'a>, AllocError> {
+        let edges = vec![in alloc; 0i64; COLUMNS as usize + 1]?;
+        Ok(Lane { text, title, edges })
     }
 
-    pub(crate) fn is_empty(&self) -> bool {
-        self.lanes.is_empty()
-    }
-
-    /// The height of all of them, in pixels.
-    pub(crate) fn height(&self) -> u64 {
-        let lanes = u64::try_from(self.lanes.len()).unwrap_or(0);
-        lanes.saturating_mul(HEIGHT)
-    }
-
-    /// Writes them, one below the other.
-    pub(crate) fn write(
-        &self,
-        svg: &mut String,
-        recording: &Recording<'_>,
-    ) -> Result<(), AllocError> {
-        let mut top = 0u64;
-        for lane in &self.lanes {
-            lane.write(svg, recording, top)?;
-            top = top.saturating_add(HEIGHT);
+    fn has(&self, text: &str) -> bool {
+        match self.text {
+            Some(own) => own == text,
+            None => true,
         }
+    }
+
+    /// Marks the columns of an event; of one outside of the axis none.
+    fn add(&mut self, time: Extent, axis: Extent) {
+        if axis.to <= time.from || (time.from < axis.from && time.to <= axis.from) {
+            return;
+        }
+        let first = axis.column_of(time.from);
+        let next = axis.last_column(time.to).max(first).saturating_add(1);
+        for (column, change) in [(first, 1), (next, -1)] {
+            if let Some(sum) = self.edges.get_mut(column as usize) {
+                *sum = sum.saturating_add(change);
+            }
+        }
+    }
+
+    /// Draws its title and a bar for each stretch of columns that an event is in.
+    fn draw(&self, sheet: &mut Sheet) -> Drawn {
+        sheet.line(self.title.as_str())?;
+        let (mut marked, mut open) = (Vec::new(sheet.alloc), 0i64);
+        for change in &self.edges {
+            open = open.saturating_add(*change);
+            marked.push(open > 0)?;
+        }
+        let mut path = String::new(sheet.alloc);
+        for (first, count) in &stretches_of(sheet.alloc, &marked)? {
+            write!(path, "M{first} 0h{count}v{HIGH}h-{count}z")?;
+        }
+        sheet.plot('x', path.as_str(), HIGH, 1)?;
+        sheet.skip(HIGH + 2);
         Ok(())
     }
-}
-
-/// The lane of a text.
-fn lane_of(
-    alloc: Global,
-    group: Group<'_>,
-    events: &[Event<'_>],
-    account: &Account<'_>,
-) -> Result<Lane, AllocError>
-    requires { IsAccount account.now }
-{
-    let label = if group.text.is_empty() {
-        String::from_str(alloc, "(no text)")?
-    } else {
-        readable(alloc, group.text, SHOWN)?
-    };
-    let mut spans = Vec::new(alloc);
-    push_spans(&mut spans, group, events)?;
-    Ok(Lane {
-        label,
-        rate: rate_text(alloc, account.rate(group.text))?,
-        spans,
-    })
-}
-
-fn push_spans(
-    spans: &mut Vec<Extent>,
-    group: Group<'_>,
-    events: &[Event<'_>],
-) -> Result<(), AllocError> {
-    for event in events.iter().skip(group.first).take(group.count) {
-        spans.push(event.time)?;
-    }
-    Ok(())
-}
-
-/// The lane of all that have none of their own.
-fn others(alloc: Global, rest: &[Group<'_>], events: &[Event<'_>]) -> Result<Lane, AllocError> {
-    let mut spans = Vec::new(alloc);
-    for group in rest {
-        push_spans(&mut spans, *group, events)?;
-    }
-    spans.sort_by_key(|span| span.from)?;
-    let texts = thousands(alloc, u64::try_from(rest.len()).unwrap_or(u64::MAX))?;
-    let several = if rest.len() == 1 { "" } else { "s" };
-    Ok(Lane {
-        label: format!(in alloc; "others, of {texts} text{several}")?,
-        rate: thousands(alloc, u64::try_from(spans.len()).unwrap_or(u64::MAX))?,
-        spans,
-    })
-}
-
-/// `212, 26.5 per hour of sleep`: how many there are, and how many in an hour; where not all of
-/// them count, `212 (198 counted), 24.8 per hour of sleep`.
-fn rate_text(alloc: Global, rate: Rate) -> Result<String, AllocError> {
-    let number = thousands(alloc, rate.count)?;
-    let Ok(share) = rate.share else {
-        return Ok(number);
-    };
-    let time = u128::from(share.time);
-    let hourly = u128::from(share.counted) * TEN_HOURS;
-    let Some(rounded) = (hourly + time / 2).checked_div(time) else {
-        return Ok(number);
-    };
-    let rounded = u64::try_from(rounded).unwrap_or(u64::MAX);
-    let hourly = tenths(alloc, rounded)?;
-    let hour = if share.in_sleep {
-        "hour of sleep"
-    } else {
-        "recorded hour"
-    };
-    if share.counted == rate.count {
-        return format!(in alloc; "{number}, {hourly} per {hour}");
-    }
-    let counted = thousands(alloc, share.counted)?;
-    format!(in alloc; "{number} ({counted} counted), {hourly} per {hour}")
-}
-
-impl Lane {
-    /// Writes its label, its count, and a bar for each time: in the colour of a gap where the
-    /// onset was not recorded.
-    fn write(
-        &self,
-        svg: &mut String,
-        recording: &Recording<'_>,
-        top: u64,
-    ) -> Result<(), AllocError> {
-        let (y, middle) = (top.saturating_add(13), top.saturating_add(23));
-        write!(svg, "<path class='l' d='M{LEFT} {middle}H{RIGHT}'/>")?;
-        let (label, rate) = (self.label.as_str(), self.rate.as_str());
-        write!(svg, "<text class='v' x='{LEFT}' y='{y}'>{label}</text>")?;
-        write!(svg, "<text class='v e' x='{RIGHT}' y='{y}'>{rate}</text>")?;
-        svg.push_str("<path class='y' d='")?;
-        write_bars(svg, &self.spans, recording, middle, false)?;
-        svg.push_str("'/><path class='x' d='")?;
-        write_bars(svg, &self.spans, recording, middle, true)?;
-        svg.push_str("'/>")
-    }
-}
-
-/// Where a bar begins and ends.
-#[derive(Clone, Copy)]
-struct Bar {
-    left: Pixels,
-    right: Pixels,
-}
-
-/// The narrowest bar.
-const LEAST: Pixels = Pixels { hundredths: 100 };
-
-impl Bar {
-    /// The bar of a time, if it begins within the recording's, where something was recorded or
-    /// where nothing was.
-    fn of(span: Extent, recording: &Recording<'_>, was_recorded: bool) -> Option<Bar> {
-        let all = recording.all;
-        let is_inside = recording.annotated().has(span.from);
-        if !is_inside || recording.has(span.from) != was_recorded {
-            return None;
-        }
-        let left = Pixels::at(span.from, all);
-        let right = Pixels::at(span.to.min(all.to), all).max(left.plus(LEAST));
-        let over = right.minus(Pixels::whole(RIGHT));
-        Some(Bar {
-            left: left.minus(over),
-            right: right.minus(over),
-        })
-    }
-
-    fn write(self, svg: &mut String, middle: u64) -> Result<(), AllocError> {
-        let (x, width) = (self.left, self.right.minus(self.left));
-        write!(svg, "M{x} {middle}h{width}")
-    }
-}
-
-/// Writes the times as bars. Those that meet on the picture are one.
-fn write_bars(
-    svg: &mut String,
-    spans: &[Extent],
-    recording: &Recording<'_>,
-    middle: u64,
-    was_recorded: bool,
-) -> Result<(), AllocError> {
-    let mut open: Option<Bar> = None;
-    for span in spans {
-        if let Some(bar) = Bar::of(*span, recording, was_recorded) {
-            open = Some(next_bar(svg, open, bar, middle)?);
-        }
-    }
-    match open {
-        Some(last) => last.write(svg, middle),
-        None => Ok(()),
-    }
-}
-
-/// The two as one where they meet; else the first is written.
-fn next_bar(svg: &mut String, open: Option<Bar>, bar: Bar, middle: u64) -> Result<Bar, AllocError> {
-    let Some(before) = open else {
-        return Ok(bar);
-    };
-    if bar.left <= before.right {
-        return Ok(Bar {
-            left: before.left.min(bar.left),
-            right: before.right.max(bar.right),
-        });
-    }
-    before.write(svg, middle)?;
-    Ok(bar)
 }

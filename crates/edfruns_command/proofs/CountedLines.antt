@@ -1,6 +1,6 @@
 -- The lines of files, one line more.
 use Rattle.std.proofs.Common.{◌≡◌, ℕ, suc, ◌+◌, ◌<◌, List, [], ◌∷◌, ◌++◌, length, get_or, sym, ap}
-use Rattle.std.proofs.Common.{◌∙◌, arith, append_assoc, append-nil, codes, Option}
+use Rattle.std.proofs.Common.{◌∙◌, arith, append-nil, codes, Option}
 use Rattle.std.specs.Prelude.{slice_get}
 use Rattle.edf_fragment.specs.Fragment.{DataRecord}
 use Rattle.edf_runs.specs.ByOnset.{annotations_of}

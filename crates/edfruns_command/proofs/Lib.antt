@@ -13,5 +13,5 @@ mod GivingUp
 mod Splits
 mod Finished
 mod Outside
-mod Spans
+mod Unchanged
 pub mod Noting

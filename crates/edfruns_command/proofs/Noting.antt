@@ -4,7 +4,7 @@ use Rattle.std.proofs.lemmas.Grind.{flat_map-append}
 use Rattle.std.proofs.lemmas.List.{append-nil}
 use Rattle.edf_fragment.specs.Fragment.{DataRecord}
 use Rattle.edf_runs.specs.ByOnset.{annotations_of}
-use Rattle.edf_sleep.specs.declared.note.Note.{Note}
+use Rattle.edf_picture.specs.declared.extent.Note.{Note}
 use Rattle.edf_tal.specs.Tal.{Annotation}
 use Rattle.edfruns_command.specs.Picturing.{AreNoted, IsNoted}
 

@@ -12,4 +12,3 @@ pub mod Run
 pub mod Inside
 pub mod InsideMaking
 pub mod InsideSplit
-pub mod InsidePicture

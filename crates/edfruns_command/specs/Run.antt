@@ -47,12 +47,12 @@ abbrev pub readings_of : Asked → ℕ
 readings_of (list files) = length files
 readings_of (canonical file by_onset) = 2
 readings_of (split file prefix) = 2
-readings_of (picture file has_code) = 1
+readings_of (picture file has_code) = 2
 
--- `list` reads each of its files once, `picture` its file once, and `canonical` and `split` a file
--- twice, where they are done
+-- `list` reads each of its files once, and `canonical`, `split` and `picture` a file twice, where they
+-- are done
 abbrev pub HasOpened : List (List ℕ) → List (List ℕ) → Asked → Status → Type 0
 HasOpened before after (list files) status = OpensEach before after files status
 HasOpened before after (canonical file by_onset) status = OpensAgain before after file 2 status
 HasOpened before after (split file prefix) status = OpensAgain before after file 2 status
-HasOpened before after (picture file has_code) status = OpensAgain before after file 1 status
+HasOpened before after (picture file has_code) status = OpensAgain before after file 2 status

@@ -109,9 +109,8 @@ fn command_in(alloc: Global, matches: &ArgMatches<'_>) -> Result<RunsCommand, Co
 /// What the words after the program's name ask for.
 ///
 /// The words are `list FILE..`, `canonical FILE`, `split FILE PREFIX` or `picture FILE`.
-/// `canonical` has an option `--by-onset`, and `picture` one `--without-code`. Standard input is
-/// the FILE `-` of `picture` alone. `--help`, `-h`, `help` and `--version`, `-V` are as `edfstore`
-/// has them.
+/// `canonical` has an option `--by-onset`, and `picture` one `--without-code`. No FILE is standard
+/// input. `--help`, `-h`, `help` and `--version`, `-V` are as `edfstore` has them.
 ///
 /// # Errors
 /// `Help` where help or the version was asked for, `Usage` where the words ask for nothing that can

@@ -5,8 +5,7 @@
 //!   written. [`parse`]: the words, read, and nothing else.
 //! - [`run_runs`]: one command, over what opens files (`edf_cli`'s `Inputs`) and what makes
 //!   them (`edf_cli`' `NewFiles`).
-//! - [`runs_text`]: the lines of runs that were listed; [`Sight`]: what a picture shows of a
-//!   recording, data record by data record, and the picture.
+//! - [`runs_text`]: the lines of runs that were listed.
 #![tactic(auto)]
 
 mod arguments;
@@ -28,4 +27,3 @@ mod stop;
 pub use arguments::{parse, read_command};
 pub use lines::runs_text;
 pub use runs_command::{RunsCommand, run_runs};
-pub use sight::Sight;

@@ -85,7 +85,12 @@ pub(crate) fn tell_crowded<F: Output>(err: &mut F, number: u64) -> Status
 }
 
 /// Prints why the second reading of a file stopped. Printing takes no memory.
-fn print_reread<F: Output>(err: &mut F, file: &str, fault: WriteFault, status: Status) -> Status
+pub(crate) fn print_reread<F: Output>(
+    err: &mut F,
+    file: &str,
+    fault: WriteFault,
+    status: Status,
+) -> Status
     ensures { IsWritten (output_change F.Output err.old err.new) (reread_line file.now fault) status
         result }
 {

@@ -62,7 +62,7 @@ impl RunsCommand {
             RunsCommand::Picture {
                 file: _,
                 has_code: _,
-            } => 1,
+            } => 2,
         }
     }
 }
@@ -74,8 +74,7 @@ impl RunsCommand {
 /// which a line tells, or nothing where memory ran out. `Split` leaves all its files where it is
 /// done, and else none but those that it names as not removed; the lines of files that were removed
 /// may have gone out, where writing them failed. The clauses say what `List`, `Canonical` and
-/// `Split` do, and of `Picture` all but what the picture shows beside its title, its times and its
-/// figures.
+/// `Split` do, and of `Picture` all but what the picture shows beside its title and its times.
 pub fn run_runs<I: Inputs, P: NewFiles, O: Output, F: Output>(
     alloc: Global,
     command: &RunsCommand,

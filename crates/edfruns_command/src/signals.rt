@@ -13,7 +13,15 @@ const LABEL_END: usize = 16;
 
 const DIMENSION: usize = 96;
 
-const DIMENSION_END: usize = 104;
+const PHYSICAL_MINIMUM: usize = 104;
+
+const PHYSICAL_MAXIMUM: usize = 112;
+
+const DIGITAL_MINIMUM: usize = 120;
+
+const DIGITAL_MAXIMUM: usize = 128;
+
+const DIGITAL_END: usize = 136;
 
 const SAMPLES: usize = 216;
 
@@ -26,7 +34,11 @@ pub(crate) fn signals_in(alloc: Global, bytes: &[u8]) -> Result<Vec<Signal<'_>>,
     for row in rows.chunks_exact(ROW) {
         signals.push(Signal {
             label: part(row, 0, LABEL_END),
-            dimension: part(row, DIMENSION, DIMENSION_END),
+            dimension: part(row, DIMENSION, PHYSICAL_MINIMUM),
+            physical_minimum: part(row, PHYSICAL_MINIMUM, PHYSICAL_MAXIMUM),
+            physical_maximum: part(row, PHYSICAL_MAXIMUM, DIGITAL_MINIMUM),
+            digital_minimum: part(row, DIGITAL_MINIMUM, DIGITAL_MAXIMUM),
+            digital_maximum: part(row, DIGITAL_MAXIMUM, DIGITAL_END),
             samples: number(part(row, SAMPLES, SAMPLES_END)),
         })?;
     }

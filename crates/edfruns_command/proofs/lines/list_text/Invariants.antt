@@ -1,5 +1,4 @@
 use Rattle.std.proofs.Common.{◌≡◌, ℕ, List, ◌+◌, ◌++◌, drop}
-use Rattle.edf_field.specs.Number.{duration_of}
 use Rattle.edfruns_command.specs.Lines.{IsInstantFormat, run_lines}
 use Rattle.edfruns_command.proofs.lines.list_text.Given as goal
 

@@ -14,7 +14,7 @@ use Rattle.edf_runs.specs.ByOnset.{annotations_of}
 use Rattle.edf_runs.specs.Runs.{AreListed}
 use Rattle.edf_runs.specs.declared.run.Run.{Run}
 use Rattle.edf_runs.proofs.Growing.{nothing_listed}
-use Rattle.edf_sleep.specs.declared.note.Note.{Note}
+use Rattle.edf_picture.specs.declared.extent.Note.{Note}
 use Rattle.edf_tal.specs.Tal.{Annotation}
 use Rattle.edfruns_command.specs.Picturing.{AreNoted}
 use Rattle.edfruns_command.proofs.Noting.{annotations-push}

@@ -1,7 +1,7 @@
 use Rattle.std.proofs.Common.{◌≡◌, ◌++◌, ◌+◌, List, [], ◌∷◌, take, subst, sym, ap, ◌∙◌}
 use Rattle.std.proofs.Common.{append_assoc, rules}
 use Rattle.std.proofs.lemmas.List.{take_more}
-use Rattle.edf_sleep.specs.declared.note.Note.{Note}
+use Rattle.edf_picture.specs.declared.extent.Note.{Note}
 use Rattle.edf_tal.specs.Tal.{Annotation}
 use Rattle.edfruns_command.specs.Picturing.{AreNoted}
 use Rattle.edfruns_command.proofs.Noting.{noted-more}
