@@ -96,6 +96,7 @@ CHECKS = (
     Check("lines.causes", "causes in a log, and files for a terminal",
           (EDFSTORE, EDFRUNS, EDFSERVE, EDFMEND), needs=("cc", "sqlite3")),
     Check("rot", "changes of a store's files", counts=(100, 1_000)),
+    Check("witness", "exports that examples/witness.py judges", counts=(40, 1_000)),
     Check("warned", "answers that the documents warn of", counts=(100, 1_000)),
     Check("picture", "nights by chance, drawn", (EDFRUNS,), counts=(200, 1_000)),
     Check("lines.stored", "stored runs", (EDFSTORE, EDFRUNS, EDFMEND)),
