@@ -35,7 +35,7 @@ class Page:
     words: int = MOST_WORDS     # of a sentence, on average
 
 
-PAGES = (Page("README.md", 95, 20), Page("CONTRIBUTING.md", 100), Page("docs/GUIDE.md", 264, 20),
+PAGES = (Page("README.md", 95, 20), Page("CONTRIBUTING.md", 100), Page("docs/GUIDE.md", 265, 20),
          Page("docs/REFUSALS.md", 220), Page("docs/FORMAT.md", 170), Page("docs/GLOSSARY.md", 80),
          Page("docs/PROMISES.md", 346, 18), Page("docs/EVIDENCE.md", 235),
          Page("docs/ARCHITECTURE.md", 186), Page("docs/DECISIONS.md", 152))

@@ -63,12 +63,13 @@ ENOUGH = 16                                     # functions that run
 LONGEST = 150                                   # seconds to look for them, and to change them
 LITTLE = night.Night(records=2_000, fragments=1)        # 13 MB
 MODULE = re.compile(r'(<script type="text/plain" id="module">)([A-Za-z0-9+/=]*)(</script>)')
-# All that the page asks edfruns for; and texts for edfmend: OUT, and what each of these options has
+# All that the page asks edfruns for; and texts for edfmend: OUT, what each of these options has, and
+# any text for --all
 RUNS = ("list", "canonical --by-onset", "picture --without-code", "split")
-OPTIONS = ("--patient", "--set-patient", "--deidentify", "--startdate", "--starttime", "--as")
+OPTIONS = ("--patient", "--set-patient", "--deidentify", "--startdate", "--starttime")
 VALUES = [texts.split("|") for texts in (
     "||||||", "out.edf||||||", "out.edf|S-9|||01.02.03|22.15.00|", "|S 1|||||",
-    "out.edf||||||count,recording", "||X-1||||nothing", "out.edf|||Q-7|||")]
+    "out.edf||||||all", "||X-1||||all", "out.edf|||Q-7|||")]
 SUM = """const sum = async (bytes) => [...new Uint8Array(await crypto.subtle.digest("SHA-256",
     bytes))].map((byte) => byte.toString(16).padStart(2, "0")).join("");"""
 CALLED = """(async () => {
@@ -210,7 +211,7 @@ def words_of(call) -> list:
     if isinstance(call, str):
         return [*call.split(), "in.edf", *["run"] * (call == "split")]
     given = [[option, value] for option, value in zip(OPTIONS, call[1:]) if value]
-    return ["in.edf", call[0] or "--dry-run", *sum(given, [])]
+    return ["in.edf", call[0] or "--dry-run", *sum(given, []), *["--all"] * bool(call[6])]
 
 
 def does(native: Native, folder: Path, call) -> list:

@@ -107,6 +107,7 @@ CHECKS = (
           is_on_disk=True, is_for_long=True),
     Check("mend.run", "files spoilt by hand, mended", (EDFSTORE, EDFMEND)),
     Check("mend.table", "files where something could be guessed", (EDFMEND,)),
+    Check("mend.stops", "files that can't be mended or made", (EDFMEND,), needs=("cc",)),
     Check("mend.people", "pairs of patients, mended", (EDFMEND,), counts=(300, 3_000)),
     Check("mend.fuzz", "files spoilt at random, mended", (EDFMEND,), counts=(2_000, 100_000)),
     Check("mend.foreign", "files of other programs, mended", (EDFSTORE, EDFMEND),

@@ -5,9 +5,9 @@
 A fault of form has its number, its name, its place and its sentence in the crate that finds it, and
 what to do in the table of a terminal, crates/edf_os/src/advice.rt. The list of docs/REFUSALS.md
 must have each of these numbers once, with that name, those details, those sentences and those
-words, and a line of `edfmend` just where the table has a row for files that no rule mended. E1 to
-E29 are all of form. A line names each fault of which this is not so. --control looks at lists that
-are wrong in one place each: all must be found wrong, and then the status is 0.
+words, and a line of `edfmend` just where the table has a row of words for what that did not mend.
+E1 to E29 are all of form. A line names each fault of which this is not so. --control looks at lists
+that are wrong in one place each: all must be found wrong, and then the status is 0.
 """
 import re
 from dataclasses import dataclass, field
@@ -41,7 +41,7 @@ class Fault:
     places: list
     sentences: list
     words: list = field(default_factory=list)   # what to do, of each row
-    has_rule: bool = False
+    is_mended: bool = False
 
 
 def variants(text: str) -> dict:
@@ -94,7 +94,7 @@ def rows(faults: dict) -> None:
             fault = by_name.get(variant)
         if fault:
             fault.words.append(said)
-            fault.has_rule |= kind not in ("Never", "Own")
+            fault.is_mended |= kind not in ("Never", "Own")
 
 
 def of_sources() -> dict:
@@ -129,8 +129,8 @@ def wrong(fault: Fault, name: str, details: list, text: str) -> list:
         line = fault.sentences[0] + fault.words[0]
         if not said.startswith(line):
             out.append(f"does not begin with: {line}")
-    if ("- edfmend: " in said) != fault.has_rule:
-        out.append("has a rule of edfmend here, and none there")
+    if ("- edfmend: " in said) != fault.is_mended:
+        out.append("is mended by edfmend here, or there, alone")
     return out
 
 
@@ -149,10 +149,10 @@ def compared(faults: dict, text: str) -> list:
 
 
 def spoilt(text: str) -> list:
-    """Lists that are wrong in one place: a number, a name, a detail, a word, a rule."""
+    """Lists that are wrong in one place: a number, a name, a detail, a word, a line."""
     changes = (("**E6**", "**E7**"), ("`NotPlus`", "`NoPlus`"), ("`Text record= ", "`Text "),
                ("no number above 0", "no number from 0"), ("look at its spelling", "look at it"),
-               ("a ZIP file: unpack it", "a ZIP file"), ("  - `edfmend`: `plain`.\n", ""),
+               ("a ZIP file: unpack it", "a ZIP file"), ("  - `edfmend`: limits that fall.\n", ""),
                ("- **E19**", "- **E39**"), ("is no sex (F, M or X)", "is no sex (F or M)"))
     return [text.replace(old, new, 1) for old, new in changes]
 

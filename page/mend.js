@@ -1,39 +1,38 @@
 // Mending a refused file: what would change is shown, with what edfmend asks, before anything is
 // made. The fields for the answers are in page.html, with the lines by which edfmend asks.
 
-const BYTES = String.raw`(="(?:[^"\\]|\\.)*"|_zeros=\d+)`;
-const CHANGE = new RegExp(String.raw`^\w+ (record=\d+ )?at=(\d+) old${BYTES} new${BYTES} ?(.*)$`);
+const TEXT = String.raw`="((?:[^"\\]|\\.)*)"`;
+const CHANGE = new RegExp(
+  String.raw`^(?:signal (\d+) )?(\w+)(?: record=(\d+))? at=(\d+) old${TEXT} new${TEXT}$`);
 
 // What edfmend is told: the name of the new file, none where it is to tell alone what would change;
-// then the values of --patient, --set-patient, --deidentify, --startdate, --starttime and --as.
-// Where --as names a rule that was chosen it names all others, but for one that was not.
-function valuesOf({ elements: { patient, startdate, starttime, recording, count } }, out) {
-  const not = [recording, count].filter(({ checked }) => !checked).map(({ name }) => name);
-  const as = not.length < 2 ? REFUSALS.rules.filter((rule) => !not.includes(rule)) : [];
+// then the values of --patient, --set-patient, --deidentify, --startdate and --starttime, and any
+// text for --all.
+function valuesOf({ elements: { patient, startdate, starttime, all } }, out) {
   const [code, day, time] = [patient, startdate, starttime].map(({ value }) => value.trim());
-  return [out, code, "", "", day, time, as.join(",")];
+  return [out, code, "", "", day, time, all.checked ? "all" : ""];
 }
 
 // A ledger's line in its parts: where, and the texts before and after, with bytes beyond ASCII as
 // Latin-1 has them.
 function readChange(line) {
-  const [, record, at, old, now, rest] = CHANGE.exec(line) ?? [];
+  const [, signal, field, record, at, old, now] = CHANGE.exec(line) ?? [];
   if (!at) return [inWords("changes", line), "", ""];
-  const where = (!record && calledAt(at)) || `${record?.replace("=", " ") ?? ""}byte ${at}`;
-  const unquoted = (text) => text.slice(2, -1).replace(/\\(?:x(..)|(.))/g, (_, code, letter) =>
+  const named = field.replaceAll("_", " ");
+  const where = signal ? `signal ${signal}, ${named}` :
+    record ? `${named} of data record ${record}` : calledAt(at) || named;
+  const unquoted = (text) => text.replace(/\\(?:x(..)|(.))/g, (_, code, letter) =>
     letter ?? String.fromCharCode(parseInt(code, 16)));
-  const texts = [old, now].map((it) => it.startsWith("=") ? unquoted(it) : `${it.slice(7)} zeros`);
-  const more = rest && `, ${rest.replace(/^cut=/, "without room for ")}`;
-  return [where + more, ...texts.map((it) => it || "empty")];
+  return [where, ...[old, now].map((it) => unquoted(it) || "empty")];
 }
 
 function showMended(session) {
-  const { box, title, ledger, at } = session, isOwn = /^mended /m.test(ledger);
+  const { box, title, ledger, at } = session, isOwn = /^recording .* mended"$/m.test(ledger);
   const body = table(box, "each", "What changes in the mended file", "Where", "Before", "After");
   firstRows(linesOf(ledger), box, "Save the list to see all.",
     (line) => row(body, ...readChange(line)));
   made("p", wordsAt(isOwn ? "own" : "joins"), box, { className: isOwn ? "bad" : "" });
-  if (/^(plain|annotations) records=/m.test(ledger)) hint(wordsAt("no-annotations"), box);
+  if (/^signals at=/m.test(ledger)) hint(wordsAt("no-annotations"), box);
   hint(wordsAt("card"), box);
   const buttons = made("p", null, box, { className: "buttons" });
   const taking = isOwn ? "Take it, apart from the good files" : "Take it with the others";
@@ -81,7 +80,7 @@ async function look(session) {
   const [, number] = /^refused (E\d+)/.exec(line) ?? [];
   const why = number ? `${number}: ${REFUSALS[number].what}` : inWords("faults", line);
   if (!isGood) made("p", sentence(why), box, { className: "bad" });
-  if (!isGood && form.hidden) made("p", wordsAt("no-rule"), box);
+  if (!isGood && form.hidden) made("p", wordsAt("no-way"), box);
   box.append(form);
   if (isGood) showMended(session);
   button("Close", made("p", null, box, { className: "buttons" }), () => {

@@ -1,6 +1,6 @@
 #!/usr/bin/env python3
 """Puts the page together: its parts of this folder, a module, and of the documents what to do after
-a refusal and the rules of edfmend.
+a refusal.
 
     page/whole.py MODULE.wasm VERSION >edfstore.html
     page/whole.py OTHER.html VERSION >edfstore.html     the module of another page
@@ -37,8 +37,7 @@ OWN_WORDS = (
 )
 # What the page says of a number beside that.
 OWN_POINTS = {"E8": [
-    "Is it such a piece? “Mend it…” can write the startdate's day into the recording field, but "
-    "the file becomes a recording of its own. Beside the card or good files take it out."
+    "Is it such a piece? Beside the card or good files take it out."
 ]}
 
 
@@ -80,7 +79,7 @@ def entries(text):
 
 
 def refusals():
-    """What to do after each refusal, whether edfmend mends it, and the rules of edfmend."""
+    """What to do after each refusal, and whether edfmend mends it."""
     found = {}
     for number, (what, *more) in entries((DOCUMENTS / "REFUSALS.md").read_text("utf-8")).items():
         mends = any(point.startswith("`edfmend`: ") for point in more)
@@ -89,11 +88,8 @@ def refusals():
             what = more.pop(0)
         more = [*filter(None, map(plain, more)), *OWN_POINTS.get(number, ())]
         found[number] = {"what": plain(what), "more": more, "mends": mends}
-    page = (DOCUMENTS / "edfmend.1").read_text("utf-8")
-    rules = page[page.index(".SH RULES"):page.index(".SH OUTPUT")]
-    found["rules"] = re.findall(r"^\.TP\n\.B (\w+)$", rules, re.M)
-    if len(found) < 39 or len(found["rules"]) < 12:
-        sys.exit("page/whole.py: docs/REFUSALS.md or docs/edfmend.1 lacks numbers or rules")
+    if len(found) < 39:
+        sys.exit("page/whole.py: docs/REFUSALS.md lacks numbers")
     return json.dumps(found, ensure_ascii=True).replace("<", "\\u003c")
 
 

@@ -108,7 +108,7 @@ def of_runs(chance: random.Random, name: bytes) -> Command:
 def of_mend(chance: random.Random, name: bytes) -> Command:
     word = text_of(chance).replace(b"/", b"_")
     ways = ([name, b"--dry-run"], [name, word], [b"a.edf", word], [b"a.edf", b"a.edf" + word],
-            [name, b"--dry-run", b"--patient", word], [name, b"--dry-run", b"--as", word],
+            [name, b"--dry-run", b"--patient", word], [name, b"--dry-run", b"--startdate", word],
             [b"a.edf", b"none/" + word], [b"--" + word], [name, word, word])
     return "edfmend", chance.choice(ways), b""
 

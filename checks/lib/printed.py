@@ -156,6 +156,23 @@ def undated(number: int) -> str:
     return f"run {number} starts after 2084, which a file without a date can't tell\n"
 
 
+# What edfmend prints behind a file's name, where it makes nothing of it
+NO_CODE = "names no code of a patient: give one by --patient CODE"
+OTHER_COUNT = ("has another number of data records than its header says: --all takes all that are "
+               "there")
+NO_MARK = "has no room for the word mended in its recording field: 7 bytes are wanted"
+
+
+def needs_nothing(name: str) -> str:
+    """What edfmend prints of a good file."""
+    return f"{name} needs nothing\n"
+
+
+def differs_in_fill(name: str) -> str:
+    """What edfmend prints of a file that is mended, where it can name no difference."""
+    return f"{name} differs in fill at most\n"
+
+
 # Where standard error is a terminal, and there alone
 
 WIPED = "\r" + 60 * " " + "\r"
@@ -223,8 +240,8 @@ NO_DATE = "after Startdate its recording field has no date (dd-MMM-yyyy, in capi
 FEW_OF_RECORDING = ("its recording field has fewer than the three subfields investigation, "
                     "technician and equipment after its date")
 BY_EDFMEND = "edfmend makes it that of EDF+, where it has room"
-NO_DATE_OR_ROOM = ("its date is none that is known, or its codes have no room, or the startdate is "
-                   "no date, so correct that in a copy")
+NO_DATE_OR_ROOM = ("its codes have no room, or the startdate is no date, so correct that in a "
+                   "copy")
 
 
 def of_field(wrong: str, to_do: str = BY_EDFMEND) -> str:
@@ -233,34 +250,25 @@ def of_field(wrong: str, to_do: str = BY_EDFMEND) -> str:
 
 
 # Why edfmend mended nothing
-BY_NAMED = ("the rules that --as names do not mend it, so name others too, or leave --as out; "
-            "where clock is named, a start may be too far from its place")
-KEPT_TIMES = ("a byte of its startdate, starttime or duration is no printable ASCII, and edfmend "
-              "leaves these as they are: correct it in a copy")
+KEPT_TIMES = ("a byte of its startdate, starttime or duration is no printable ASCII: correct it in "
+              "a copy")
 NO_TIME_GIVEN = ("its starttime is no second as hh.mm.ss: give it by --starttime, where the file "
                  "has none")
-NONE_COUNTED = ("its number of data records is no number above 0, and by its header no whole one "
-                "is there: send it again")
 NONE_ADDED = ("its number of signals is not from 2 to 640: annotations alone are no recording, and "
-              "edfmend adds a signal of them only to plain EDF and EDF+C")
-NO_LABEL = ("it has no annotations signal, or nothing else: where a label is EDF Annotations but "
-            "for case or spaces, correct it in a copy; EDF+D without one does not say when its "
-            "data records start")
+              "edfmend reads only plain EDF and EDF+C without them")
+NO_LABEL = ("it has no annotations signal, or nothing else: where a label speaks of annotations, "
+            "correct it in a copy; EDF+D without one does not say when its data records start")
 NO_PHYSICAL = ("this signal's physical limits are no numbers that eight bytes have exactly, or are "
                "equal and its digital ones are no better: correct them in a copy")
 NO_DIGITAL = ("this signal's digital limits are no numbers of 16 bits, or are equal: correct them "
               "in a copy")
 NONE_WHOLE = "no data record of it is whole: send it again"
-NOT_SPELLED = ("annotations of this data record are spelled as no rule mends, or have no room for "
-               "it: have its producer write them as EDF+ has it")
-NO_ROOM_FOR_TEXT = ("an annotation of this data record is no UTF-8, and its block has no room for "
-                    "its letters in UTF-8: shorten it in a copy")
-ALL_OR_NONE = ("the rule clock is for EDF+C, and moves all starts that were rounded or none: one "
-               "is half a sample or more from its place, or its block has no room")
-UNCOUNTED = ("bytes follow its counted data records: where they are its own, name count in --as; "
-             "zeros, cut them off in a copy")
-NO_FAULT = "it has no fault: there is nothing to mend"
-COPIED = "it has no fault, and was copied as it is"
+NO_LISTS = ("annotations of this data record are no lists: have its producer write them as EDF+ "
+            "has them")
+SET_BACK = ("this data record starts before the one before it ends: a clock was set back, or "
+            "starts are rounded")
+UNCOUNTED = ("bytes follow its counted data records: where they are its own, give --all; zeros, "
+             "cut them off in a copy")
 
 
 def cause(path, text: str) -> str:

@@ -94,14 +94,16 @@ def faulty_fields(it: Technician) -> None:
     made = [(f"{number}.edf", piece(2, "22-61-00" if number == "E7" else "22.00.00", **fields))
             for number, (fields, _) in files.items()]
     twice = piece(2, "23.00.00")
-    it.chooses("Choose files", written(it.folder / "fields", [*made, ("twice.edf", twice + twice)]))
+    it.chooses("Choose files", written(it.folder / "fields", [
+        *made, ("twice.edf", twice + twice),
+        ("label.edf", twice.replace(b"EDF Annotations", b"EDF annotations"))]))
     it.says(*(said for _, said in files.values()))
     for number in files:
         it.same(number, f"{number}.edf refused {number} " in it.taken, True)
     it.looks("faulty fields")
     it.press("Mend it: E6.edf")
     for answer, said in (("2002-03-15", "This is no date as the field wants it."),
-                         ("14.03.02", "The file itself has 02-03-15: only that is taken.")):
+                         ("14.03.02", "E8: its startdate and the one in its recording field")):
         it.hands.go("textbox", DAY)
         it.hands.write(answer)
         it.after(lambda: it.hands.press("Enter"))
@@ -109,15 +111,20 @@ def faulty_fields(it: Technician) -> None:
         it.hands.go("textbox", DAY)
         for _ in answer:
             it.hands.press("Backspace")
-    closes(it, len(twice))
+    closes(it)
 
 
-def closes(it: Technician, at: int) -> None:
-    """What no rule mends is said, and what is shown can be closed."""
+def closes(it: Technician) -> None:
+    """What may be another file's is asked for, what can't be mended is said, and what is shown can
+    be closed."""
     it.press("Mend it: twice.edf")
-    said = f"Another file begins in it, at byte {at}: get each of them again, by itself."
-    it.says(said, "No rule mends it: get it again, or take it out.")
-    it.looks("no rule mends it")
+    it.says("Its number of data records is wrong, or another file is behind it.",
+            "All that is there are data records of this file: take them")
+    it.hands.use("button", "Close")
+    it.press("Mend it: label.edf")
+    said = "It can’t be mended: get it again, or take it out."
+    it.says(said)
+    it.looks("it can't be mended")
     it.hands.use("button", "Close")
     it.hands.use("button", "Close")
     text = it.bench.browser.value("document.getElementById('results').innerText")

@@ -3,8 +3,10 @@ import math
 import os
 import subprocess
 import time
+from collections.abc import Iterator
 from contextlib import contextmanager
 from pathlib import Path
+from typing import Any
 
 TOOLS = ("edfbrowser", "Xvfb", "xdotool")
 CONVERTER = "ASCII to EDF/BDF converter"
@@ -13,7 +15,7 @@ FREQUENCY, SUBJECT, RECORDING, START = ("225", "126"), ("425", "177"), ("425", "
 
 
 @contextmanager
-def running(words: list, environment: dict, **given):
+def running(words: list[str], environment: dict[str, str], **given: Any) -> Iterator[Any]:
     """A program, which is ended afterwards."""
     with subprocess.Popen(words, env=environment, stderr=subprocess.DEVNULL, **given) as program:
         try:
@@ -25,10 +27,10 @@ def running(words: list, environment: dict, **given):
 class Screen:
     """What is typed and clicked on a screen."""
 
-    def __init__(self, environment: dict):
+    def __init__(self, environment: dict[str, str]):
         self.environment = environment
 
-    def do(self, *words) -> str:
+    def do(self, *words: str) -> str:
         return subprocess.run(["xdotool", *words], env=self.environment, check=True, text=True,
                               capture_output=True, timeout=30).stdout
 
@@ -39,7 +41,7 @@ class Screen:
         time.sleep(0.5)
         return found
 
-    def write(self, place: tuple, text: str) -> None:
+    def write(self, place: tuple[str, str], text: str) -> None:
         self.do("mousemove", *place, "click", "--repeat", "3", "1")
         self.do("type", text)
 

@@ -4,25 +4,25 @@
 
 The writers are BioSig's `save2gdf`, the biosig package of Octave, libxdffileio, EDFlib, and the
 converter of ASCII in EDFbrowser, which is driven in a window, as Debian has them; each that is not
-here is left out, and a line says so. One file is spelled here, as a recorder writes it that rounds
-the starts of its data records to milliseconds. A mended file is accepted by
-the plain model and by `edfstore`. MNE reads the same samples of both files, and EDFlib, which
-refuses most of the first, reads of the second what stands in the first. Debian's own Python
-(/usr/bin/python3) has MNE.
+here is left out, and a line says so. A mended file is accepted by the plain model and by
+`edfstore`. It says EDF+D, and has no gaps; of a copy that says EDF+C, MNE reads the same samples as
+of the file that was mended, and EDFlib, which refuses most of those, what stands there. Debian's
+own Python (/usr/bin/python3) has MNE.
 """
 import shutil
 import subprocess
 import tempfile
 import warnings
+from argparse import Namespace
 from pathlib import Path
+from typing import Any, Callable
 
-from checks.lib import arguments, measure, mended, model
+from checks.lib import arguments, by_hand, mending, mending_fields, measure, mended, model
 from checks.lib.checks import Checks
-from checks.lib.edf import Header, Signal, annotations_signal, fragment, keeping
 from checks.mend.by_edfbrowser import TOOLS, by_edfbrowser
 
 try:
-    import mne
+    import mne  # type: ignore[import]
     import numpy
 except ImportError:
     raise SystemExit("this needs python3-mne, and Debian's own python3 to run it") from None
@@ -54,31 +54,20 @@ def by_edflib(folder: Path) -> Path:
     return Path(shutil.copy(EDFLIB_FILE, folder))
 
 
-def by_recorder(folder: Path) -> Path:
-    """EDF+C at 256 Hz or close to it, in data records of a third of a second."""
-    signals = (Signal(samples="85"), annotations_signal(16))
-    header = Header(signals, count="60", duration="0.333333", reserved="EDF+C")
-    records = [(bytes((nth * 7 + at) % 256 if at % 2 == 0 else at % 3 for at in range(170)),
-                keeping(f"+{nth / 3:.3f}")) for nth in range(60)]
-    made = folder / "recorder.edf"
-    made.write_bytes(fragment(header, records))
-    return made
-
-
 def has_library(name: str) -> bool:
     return subprocess.run(["ld", f"-l{name}", "-o", "/dev/null", "--unresolved-symbols=ignore-all"],
                           capture_output=True, check=False).returncode == 0
 
 
-WRITERS = (("BioSig", by_biosig, lambda: bool(shutil.which("save2gdf"))),
-           ("Octave", by_octave, lambda: bool(shutil.which("octave-cli"))),
-           ("libxdffileio", by_xdffileio, lambda: has_library("xdffileio")),
-           ("EDFlib", by_edflib, lambda: True),
-           ("a recorder that rounds", by_recorder, lambda: True),
-           ("EDFbrowser", by_edfbrowser, lambda: all(map(shutil.which, TOOLS))))
+WRITERS: tuple[tuple[str, Callable[[Path], Path], Callable[[], bool]], ...] = (
+    ("BioSig", by_biosig, lambda: bool(shutil.which("save2gdf"))),
+    ("Octave", by_octave, lambda: bool(shutil.which("octave-cli"))),
+    ("libxdffileio", by_xdffileio, lambda: has_library("xdffileio")),
+    ("EDFlib", by_edflib, lambda: True),
+    ("EDFbrowser", by_edfbrowser, lambda: all(map(shutil.which, TOOLS))))
 
 
-def mne_samples(path: Path) -> list:
+def mne_samples(path: Path) -> list[Any]:
     """What MNE reads of each ordinary signal, in volts or as the file has it."""
     with warnings.catch_warnings():
         warnings.simplefilter("ignore")
@@ -94,16 +83,18 @@ def edflib_samples(dump: Path, path: Path, folder: Path) -> bytes:
 
 def as_integers(data: bytes) -> bytes:
     """The ordinary samples of a file, signal by signal, as EDFlib has them."""
-    widths = [size for is_ordinary, size in mended.signals_of(data) if is_ordinary]
-    records, at, found = mended.samples(data, data), 0, []
-    for size in widths:
-        column = b"".join(record[at:at + size] for record in records)
-        found.append(numpy.frombuffer(column, "<i2").astype("<i4").tobytes())
-        at += size
+    parts = mending.opened(data, mending_fields.Wanted(set_patient=b"S-0118")).parts
+    size, at, found = sum(width for _, width in parts), 0, []
+    begins = range(256 * (len(parts) + 1), len(data) - size + 1, size)
+    for is_block, width in parts:
+        if not is_block:
+            column = b"".join(data[begin + at:begin + at + width] for begin in begins)
+            found.append(numpy.frombuffer(column, "<i2").astype("<i4").tobytes())
+        at += width
     return b"".join(found)
 
 
-def look(checks: Checks, given, name: str, path: Path, dump: Path, folder: Path) -> None:
+def look(checks: Checks, given: Namespace, name: str, path: Path, dump: Path, folder: Path) -> None:
     mender = mended.Mender(given.edfmend, folder / name)
     mender.folder.mkdir()
     data = path.read_bytes()
@@ -112,17 +103,19 @@ def look(checks: Checks, given, name: str, path: Path, dump: Path, folder: Path)
     if ran.status == 1:
         ran = mender.mend(data, *CODE)
     made = mender.look(data, ran)
-    rules = sorted({line.split(" ")[0] for line in ran.out.decode().splitlines()})
-    print(f"{name}: {refused or 'taken as it is'}; mended by {', '.join(rules) or 'no rule'}")
+    fields = sorted({line.split(" at=")[0] for line in ran.out.decode().splitlines()})
+    print(f"{name}: {refused or 'taken as it is'}; other fields: {', '.join(fields)}")
     checks.same(f"{name}: it is mended", bool(made), True)
     if not made:
         return
     taken = measure.ran(given.program, "take", ":memory:", mender.made)
     checks.same(f"{name}: edfstore takes it", taken.status, 0)
-    before, after = mne_samples(path), mne_samples(mender.made)
+    shown = folder / f"{name} shown.edf"
+    shown.write_bytes(by_hand.field(made, by_hand.RESERVED, "EDF+C"))
+    before, after = mne_samples(path), mne_samples(shown)
     checks.same(f"{name}: MNE's signals", len(after), len(before))
     checks.same(f"{name}: MNE's samples", all(map(numpy.array_equal, before, after)), True)
-    checks.same(f"{name}: EDFlib's samples", edflib_samples(dump, mender.made, folder)
+    checks.same(f"{name}: EDFlib's samples", edflib_samples(dump, shown, folder)
                 == as_integers(data), True)
 
 

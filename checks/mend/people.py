@@ -6,21 +6,21 @@ code was given for both by hand.
 300 pairs if left out. Two patients have names, codes or investigations that differ in accents, in
 Cyrillic letters, behind a first name or behind the code X, or both have the same words, as
 `anonymous`, and codes that were given; or an investigation stands in the place of the date; or both
-have good codes, and are asked for nothing. Each file is mended without a code, then by rules that
-are named, and then with a code of its own. Where both are made, the plain model of the store must
-keep them apart. `--model` asks the
-plain model of mending in place of the program; `--control` asks models that guess, each of which
-must be found.
+have good codes, and are asked for nothing. Each file is mended without a code, and then with a code
+of its own. Where both are made, the plain model of the store must keep them apart. `--model` asks
+the plain model of mending in place of the program; `--control` asks models that guess, each of
+which must be found.
 """
 import collections
 import random
 import tempfile
-from dataclasses import dataclass
+from dataclasses import dataclass, replace
 from pathlib import Path
-from typing import NoReturn
+from typing import Callable, NoReturn, Optional
 
-from checks.lib import arguments, by_hand, mended, mending, model
+from checks.lib import arguments, by_hand, mending, mending_fields, mended, model
 from checks.lib.checks import Lost, end
+from checks.lib.mending_fields import Refused, Wanted, code_of
 from checks.mend.run import GOOD
 
 VOWELS = {"a": "aàáâãäå", "e": "eèéêë", "i": "iìíîï", "o": "oòóôõöø", "u": "uùúûü", "n": "nñ",
@@ -32,7 +32,6 @@ WORDS = ("anonymous", "Anonymous X", "patient", "unknown unknown", "-", "N.N.", 
 BLANKS = ("\xa0", "\t", "\x01", "\x7f", "\0")
 ENCODINGS = ("utf-8", "latin-1", "cp1251")
 NIGHT = "Startdate 02-MAR-2002 N1 T3 REC5"
-NAMED = ("--as", "ascii,patient,recording,physical,digital,annotations,plain,count,texts")
 SHOWN = 5
 
 
@@ -45,6 +44,10 @@ class Person:
     def file(self) -> bytes:
         data = by_hand.field(GOOD, by_hand.PATIENT, self.patient)
         return by_hand.field(data, by_hand.RECORDING, self.recording)
+
+
+Pair = tuple[Person, ...]
+Make = Callable[[Person, bytes], bytes]
 
 
 def encoded(rng: random.Random, text: str) -> bytes:
@@ -61,7 +64,7 @@ def accented(rng: random.Random, text: str) -> str:
     return "".join(rng.choice(VOWELS.get(one, one)) for one in text)
 
 
-def two(make) -> tuple:
+def two(make: Callable[[], str]) -> tuple[str, str]:
     """Two texts that differ."""
     first = second = make()
     while second == first:
@@ -75,13 +78,13 @@ def tail(rng: random.Random) -> str:
 
 # Each gives two patients
 
-def of_codes(rng: random.Random) -> tuple:
+def of_codes(rng: random.Random) -> Pair:
     """Codes that differ in accents."""
     name, rest = rng.choice(FIRST), tail(rng)
     return tuple(Person(encoded(rng, text + rest)) for text in two(lambda: accented(rng, name)))
 
 
-def of_cyrillic(rng: random.Random) -> tuple:
+def of_cyrillic(rng: random.Random) -> Pair:
     """Codes, or names behind X, of Cyrillic letters."""
     front, rest = rng.choice((("", tail(rng)), ("X X X ", ""), ("X F 02-MAY-1951 ", "")))
     size = rng.randrange(1, 6)
@@ -89,20 +92,20 @@ def of_cyrillic(rng: random.Random) -> tuple:
                  two(lambda: "".join(rng.choices(CYRILLIC, k=size))))
 
 
-def of_first_names(rng: random.Random) -> tuple:
+def of_first_names(rng: random.Random) -> Pair:
     """A first name before a letter that is a sex too."""
     front = rng.choice(FIRST) + rng.choice((" M", " F", " X", " Female", " male", " m"))
     return tuple(Person(encoded(rng, f"{front} {text}")) for text in
                  two(lambda: accented(rng, rng.choice(LAST))))
 
 
-def of_words(rng: random.Random) -> tuple:
+def of_words(rng: random.Random) -> Pair:
     """Two patients of whom nothing is known."""
     word = rng.choice(WORDS)
     return Person(word.encode()), Person(word.encode())
 
 
-def behind_x(rng: random.Random) -> tuple:
+def behind_x(rng: random.Random) -> Pair:
     """Names that differ in accents, or in a capital, behind a code that is none."""
     front = rng.choice(("X X X ", "x F X ", "X M 02-MAY-1951 ", "X X X Dr. "))
     name = rng.choice(FIRST) + rng.choice(("", " " + rng.choice(LAST)))
@@ -111,7 +114,7 @@ def behind_x(rng: random.Random) -> tuple:
     return tuple(Person(encoded(rng, front + text)) for text in two(lambda: accented(rng, name)))
 
 
-def of_investigations(rng: random.Random) -> tuple:
+def of_investigations(rng: random.Random) -> Pair:
     """Patients without a code, whose investigations differ."""
     patient = rng.choice((b"X X X X", b"X F X X", b"x X X X"))
     if rng.random() < 0.3:
@@ -124,7 +127,7 @@ def of_investigations(rng: random.Random) -> tuple:
                  two(lambda: accented(rng, rng.choice(FIRST))))
 
 
-def of_dates(rng: random.Random) -> tuple:
+def of_dates(rng: random.Random) -> Pair:
     """Investigations in the place of the date, of patients who have no code, or two codes."""
     codes = rng.choice((("X", "X"), ("x", "x"), ("P-1", "P-2")))
     front, back = rng.choice((("NIGHT-", ""), ("N", "-2002"), ("2002-", ""), ("", ".MAR")))
@@ -134,14 +137,14 @@ def of_dates(rng: random.Random) -> tuple:
                  for code, number in zip(codes, numbers))
 
 
-def of_blanks(rng: random.Random) -> tuple:
+def of_blanks(rng: random.Random) -> Pair:
     """A blank that is no space in a code."""
     front, blank, rest = rng.choice(("AB", "P7", "S")), rng.choice(BLANKS), tail(rng)
     return tuple(Person((front + blank + text + rest).encode("latin-1")) for text in
                  two(lambda: str(rng.randrange(1000))))
 
 
-def long_names(rng: random.Random) -> tuple:
+def long_names(rng: random.Random) -> Pair:
     """Names that differ at their ends alone, where the field is full."""
     front = rng.choice(("", "X X X ")) + accented(rng, "Jose Andre Munoz ")
     width = 80 - len(front.encode()) - 1
@@ -149,7 +152,7 @@ def long_names(rng: random.Random) -> tuple:
                  two(lambda: rng.choice("abcdef")))
 
 
-def of_names(rng: random.Random) -> tuple:
+def of_names(rng: random.Random) -> Pair:
     """Two good codes, before names that ASCII lacks: nobody is asked for anything."""
     name = accented(rng, rng.choice(FIRST) + "_" + rng.choice(LAST)) + "é"
     return tuple(Person(encoded(rng, f"{code} F X {name}")) for code in
@@ -162,102 +165,89 @@ KINDS = (of_codes, of_cyrillic, of_first_names, of_words, behind_x, of_investiga
 
 def is_one(first: Person, second: Person) -> bool:
     """Whether both say the same, or name one patient by one code: then they are one."""
-    codes = [mending.code_of(one.patient.ljust(80)) for one in (first, second)]
+    codes = [code_of(one.patient.ljust(80)) for one in (first, second)]
     return first == second or (codes[0] == codes[1] and bool(codes[0]))
 
 
 # What is made
 
-def by_program(mender: mended.Mender, person: Person, code: bytes, is_named: bool) -> bytes:
-    words = (*(("--patient", code.decode()) if code else ()), *(NAMED if is_named else ()))
-    ran = mender.mend(person.file(), *words)
+def by_program(mender: mended.Mender, person: Person, code: bytes) -> bytes:
+    ran = mender.mend(person.file(), *(("--patient", code.decode()) if code else ()))
     return mender.look(person.file(), ran)
 
 
-def by_model(person: Person, code: bytes, is_named: bool, of_patient=mending.patient,
-             of_recording=mending.recording) -> bytes:
-    """The fields that the model makes, in a file that is mended no further."""
-    data = person.file()
+def by_model(person: Person, code: bytes) -> bytes:
     try:
-        patient = of_patient(data[8:88], mending.Given(code) if code else None)[0]
-        recording = of_recording(data[88:168], data[168:176], is_named)[0]
-        is_asked = mending.asks_for_codes(data[8:88], data[88:168], recording)
-        if is_asked and not code:
-            return b""
-        is_changed = patient + recording != data[8:168]
-        marked = mending.marked(recording) if is_changed else recording
-    except mending.Asks:
+        return mending.mended(person.file(), Wanted(patient=code))
+    except Refused:
         return b""
-    made = data[:8] + patient + marked + data[168:]
-    return b"" if model.refusal(made) else made
 
 
 # Models that guess
 
-def letters_of_codes(field: bytes, given=None) -> tuple:
+def letters_of_codes(person: Person, code: bytes) -> bytes:
     """Codes are transliterated."""
-    return mending.patient(mending.ascii_of(field), given)
+    return by_model(replace(person, patient=mending_fields.spelling(person.patient)[:80]), code)
 
 
-def names_behind_x(field: bytes, given=None) -> tuple:
-    """A field whose code is X is one of EDF+ like any other."""
-    parts = mending.named(field)
-    return mending.fitted(b" ".join(parts)) if parts else mending.patient(field, given)
+def any_codes(person: Person, code: bytes) -> bytes:
+    """A field whose code is X is one of EDF+ like any other, whatever it names behind it."""
+    parts = model.subfields(mending_fields.spelling(person.patient))
+    if len(parts) > 3 and parts[0] in (b"X", b"x"):
+        return by_model(replace(person, patient=b"X X X X"), code)
+    return by_model(person, code)
 
 
-def first_words(field: bytes, given=None) -> tuple:
+def first_words(person: Person, code: bytes) -> bytes:
     """The first word is a code, and a code that is given is not used."""
-    parts = model.subfields(mending.spelling(field))
+    parts = model.subfields(mending_fields.spelling(person.patient))
     if len(parts) > 1 and parts[1][:1].upper() in (b"F", b"M", b"X"):
-        return mending.fitted(b" ".join([parts[0], parts[1][:1].upper(), b"X", b"X"]))
-    return mending.patient(field, given)
+        patient = b" ".join([parts[0], parts[1][:1].upper(), b"X X"])
+        return by_model(replace(person, patient=patient), b"")
+    return by_model(person, code)
 
 
-def no_codes(field: bytes, given=None) -> tuple:
-    """Where nothing is known the code is X."""
-    return mending.patient(field, given or mending.Given(b"X"))
+def no_codes(person: Person, code: bytes) -> bytes:
+    """Where nothing is known the code is one that all have."""
+    return by_model(person, code or b"nobody")
 
 
-def dates_for_words(field: bytes, startdate: bytes, is_named: bool = False) -> tuple:
-    """Where the rule is named, whatever is in the place of the date gives way to the header's."""
-    parts = model.subfields(field)
-    if is_named and len(parts) > 4 and parts[0] == b"Startdate":
-        field = b" ".join([parts[0], mending.header_date(startdate)[0], *parts[2:]]).ljust(80)
-    return mending.recording(field, startdate, is_named)
+def other_codes(person: Person, code: bytes) -> bytes:
+    """Behind a patient without a code the codes of the recording are lost."""
+    parts = model.subfields(person.recording)
+    if parts[:1] == [b"Startdate"] and len(parts) > 2:
+        return by_model(replace(person, recording=b" ".join([*parts[:2], b"X X X"])), code)
+    return by_model(person, code)
 
 
-GUESSES = tuple({"of_patient": guess} for guess in
-                (letters_of_codes, names_behind_x, first_words, no_codes)) + \
-    ({"of_recording": dates_for_words},)
+GUESSES = (letters_of_codes, any_codes, first_words, no_codes, other_codes)
 
 
-def key(made: bytes):
+def key(made: bytes) -> Optional[model.Key]:
     return model.read(made)[0] if made else None
 
 
-def look(make, pair: tuple, rng: random.Random) -> str:
-    """Mends both files without a code, by named rules, and with codes; how that went."""
-    without = [key(make(one, b"", False)) for one in pair]
-    by_name = [key(make(one, b"", True)) for one in pair]
-    for keys in (without, by_name):
-        if None not in keys and keys[0] == keys[1] and not is_one(*pair):
-            raise Lost(f"one recording of two patients: {pair}")
+def look(make: Make, pair: Pair, rng: random.Random) -> str:
+    """Mends both files without a code, and with codes; how that went."""
+    without = [key(make(one, b"")) for one in pair]
+    if None not in without and without[0] == without[1] and not is_one(*pair):
+        raise Lost(f"one recording of two patients: {pair}")
     is_night = all(b"Startdate 02-MAR-2002" in one.recording for one in pair)
-    if None in without and is_night and all(mending.code_of(one.patient.ljust(80)) for one in pair):
+    if None in without and is_night and all(code_of(one.patient.ljust(80)) for one in pair):
         raise Lost(f"a code is asked for, though both have one: {pair}")
     codes = [b"S-%d" % number for number in rng.sample(range(1000), 2)]
-    given = [key(make(one, code, False)) for one, code in zip(pair, codes)]
+    given = [key(make(one, code)) for one, code in zip(pair, codes)]
     if None not in given and given[0] == given[1]:
-        names = [mending.code_of(one.patient.ljust(80)) for one in pair]
+        names = [code_of(one.patient.ljust(80)) for one in pair]
         if not names[0]:
             raise Lost(f"one recording of two patients, though codes were given: {pair}")
     return "mended" if None not in without else "asked for a code" if None not in given else \
         "refused"
 
 
-def tried(make, rng: random.Random, count: int) -> tuple:
+def tried(make: Make, rng: random.Random, count: int) -> tuple[dict[str, int], int]:
     """Looks at so many pairs: how they went, and how many were lost."""
-    ways, failed = collections.Counter(), 0
+    ways, failed = collections.Counter[str](), 0
     for nth in range(count):
         kind = KINDS[nth % len(KINDS)]
         try:
@@ -274,11 +264,8 @@ def control(seed: int, count: int) -> NoReturn:
     """Each model that guesses must be found."""
     found = 0
     for guess in GUESSES:
-        def make(person, code, is_named, guess=guess):
-            return by_model(person, code, is_named, **guess)
-        lost = tried(make, random.Random(seed), count)[1]
-        name, = (of.__name__ for of in guess.values())
-        print(f"{name}: {lost} of {count} pairs lost")
+        lost = tried(guess, random.Random(seed), count)[1]
+        print(f"{guess.__name__}: {lost} of {count} pairs lost")
         found += lost > 0
     end(len(GUESSES), len(GUESSES) - found)
 
@@ -294,9 +281,8 @@ def main() -> None:
     with tempfile.TemporaryDirectory(prefix="edfmend-people-") as name:
         mender = mended.Mender(given.edfmend, Path(name))
 
-        def make(person, code, is_named):
-            return by_model(person, code, is_named) if given.model else \
-                by_program(mender, person, code, is_named)
+        def make(person: Person, code: bytes) -> bytes:
+            return by_model(person, code) if given.model else by_program(mender, person, code)
         ways, failed = tried(make, random.Random(given.seed), given.count)
     print(", ".join(f"{count} {way}" for way, count in sorted(ways.items())))
     end(given.count, failed)

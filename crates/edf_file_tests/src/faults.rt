@@ -21,8 +21,18 @@ const READINGS: &[(&str, &str, usize, bool)] = &[
     ("edfruns canonical two.edf", "two.edf", 1_008, true),
     (BY_ONSET, "two.edf", 1_008, false),
     (BY_ONSET, "two.edf", 1_008, true),
-    ("edfmend falling.edf out.edf", "falling.edf", 778, false),
-    ("edfmend falling.edf out.edf", "falling.edf", 778, true),
+    (
+        "edfmend falling.edf out.edf --all",
+        "falling.edf",
+        778,
+        false,
+    ),
+    (
+        "edfmend falling.edf out.edf --all",
+        "falling.edf",
+        778,
+        true,
+    ),
 ];
 
 /// What a command prints where a reading fails from a byte on.
@@ -130,15 +140,18 @@ fn a_file_that_changed_between_its_readings_is_refused_and_leaves_no_file(rt: Ho
 
 /// Commands, what their folder can't do, and what they print.
 fn folders() -> [(&'static str, Limits, &'static str); 10] {
-    let (split, mend) = ("edfruns split two.edf night", "edfmend falling.edf out.edf");
+    let (split, mend) = (
+        "edfruns split two.edf night",
+        "edfmend falling.edf out.edf --all",
+    );
     let first = "err: night-1.edf refused E43 Write\nstatus 3, 0 files\n";
     let second = "err: night-2.edf refused E43 Write\nstatus 3, 0 files\n";
     let third = "err: night-3.edf refused E43 Write\nstatus 3, 0 files\n";
     let mended = "err: out.edf refused E43 Write\nstatus 3, 0 files\n";
     let kept = "err: night-3.edf refused E43 Write\nnight-1.edf could not be removed\n\
         status 3, 1 files\n";
-    let half = "err: harry.edf names no code of a patient: give one by --patient CODE\n\
-        out.edf.part could not be removed\nstatus 3, 1 files\n";
+    let half = "err: out.edf refused E43 Write\nout.edf.part could not be removed\n\
+        status 3, 1 files\n";
     let free = free();
     [
         (split, Limits { room: 0, ..free }, first),
@@ -166,8 +179,9 @@ fn folders() -> [(&'static str, Limits, &'static str); 10] {
         (mend, Limits { room: 0, ..free }, mended),
         (mend, Limits { room: 777, ..free }, mended),
         (
-            "edfmend harry.edf out.edf",
+            mend,
             Limits {
+                room: 0,
                 unremoved: 1,
                 ..free
             },
@@ -212,7 +226,7 @@ const WRITERS: &[(&str, usize)] = &[
     ("edfruns canonical two.edf", 0),
     ("edfruns split two.edf night", 0),
     ("edfruns picture two.edf", 0),
-    ("edfmend falling.edf out.edf", 1),
+    ("edfmend falling.edf out.edf --all", 1),
 ];
 
 /// How a line of words ends with room for so many bytes on standard output, how many bytes went

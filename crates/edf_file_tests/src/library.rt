@@ -4,7 +4,7 @@ use crate::files::{
     file_named, first_strays, second_run, second_strays, strays, third_run, two_gaps,
 };
 use edf_fragment::{Counted, Input, OpenFragment};
-use edf_mend::{Ledger, MendFault, Rule, Step, Survey, Wanted, Who, mend, survey_file};
+use edf_mend::{Change, Wanted, Who, measure, write_mended};
 use edf_runs::{Run, Written, add_record, list_runs, reopen_listed, write_run};
 use edf_sample::{Sink, Source};
 use std::alloc::Global;
@@ -89,60 +89,41 @@ fn runs_are_gathered_and_written(rt: HostRuntime) {
     }
 }
 
-/// Mends a file in a second reading.
-fn mended(
-    alloc: Global,
-    bytes: &[u8],
-    survey: &Survey,
-    wanted: &Wanted,
-    got: &mut Vec<u8>,
-) -> Result<Ledger, MendFault> {
-    let mut input = Counted::new(Source::whole(bytes, 9));
-    let mut out = Counted::new(Sink::whole(got, 11));
-    mend(alloc, &mut input, &mut out, survey, wanted)
-}
-
-/// What is asked for where only limits that fall are to be mended.
-fn by_digital(alloc: Global) -> Option<Wanted> {
-    let mut rules = Vec::new(alloc);
-    rules.push(Rule::Digital).ok()?;
-    Some(Wanted {
-        rules,
+/// Nothing is said of a file.
+fn nothing() -> Wanted {
+    Wanted {
         who: Who::AsNamed,
         startdate: None,
         starttime: None,
-    })
-}
-
-/// Whether the first change of a step is that of the physical minimum to 510.
-fn is_first_of_falling(step: &Step) -> bool {
-    match step.changes().first() {
-        Some(change) => {
-            step.rule().name() == "digital"
-                && change.at() == 464
-                && change.old() == b"-440    ".as_slice()
-                && change.new() == b"510     ".as_slice()
-        }
-        None => false,
+        all: false,
     }
 }
 
-/// How many bytes a first reading finds of a file whose digital limits fall, how many bytes and
-/// data records are mended, how many are added and left out, and whether the first change is told.
-fn fallen(alloc: Global) -> Option<(u64, usize, u32, bool)> {
+/// Is true for the change of the physical minimum to 510.
+fn is_of_falling(change: &Change) -> bool {
+    change.place == 104
+        && change.signal == 1
+        && change.at == 464
+        && change.old.as_slice() == b"-440    ".as_slice()
+        && change.new.as_slice() == b"510     ".as_slice()
+}
+
+/// What is mended of a file whose digital limits fall: how many data records it has, how many
+/// fields differ, whether the second is that one, behind the mark, and how many bytes are left out.
+fn fallen(alloc: Global) -> Option<(u32, usize, bool, usize)> {
     let bytes = file_named(alloc, "falling.edf")?;
-    let wanted = by_digital(alloc)?;
+    let wanted = nothing();
     let mut input = Counted::new(Source::whole(&bytes, 7));
-    let survey = survey_file(alloc, &mut input, &wanted).ok()?;
+    let measured = measure(alloc, &mut input, &wanted).ok()?;
     let mut got = Vec::new(alloc);
-    let ledger = mended(alloc, &bytes, &survey, &wanted, &mut got).ok()?;
-    let is_told = ledger.added == 0
-        && ledger.left_out == 0
-        && is_first_of_falling(ledger.steps.first()?);
-    Some((survey.bytes, got.len(), ledger.records, is_told))
+    let mut input = Counted::new(Source::whole(&bytes, 9));
+    let mut out = Counted::new(Sink::whole(&mut got, 11));
+    let made = write_mended(alloc, &mut input, &wanted, &measured, &mut out).ok()?;
+    let is_told = is_of_falling(made.changes.get(1)?);
+    Some((measured.records, made.changes.len(), is_told, made.left_out))
 }
 
 #[test]
-fn a_file_is_surveyed_and_mended(rt: HostRuntime) {
-    assert_eq!(rt; fallen(rt.alloc()), Some((778, 778, 1, true)));
+fn a_file_is_measured_and_mended(rt: HostRuntime) {
+    assert_eq!(rt; fallen(rt.alloc()), Some((1, 5, true, 0)));
 }

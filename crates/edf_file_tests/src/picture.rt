@@ -103,8 +103,8 @@ const NIGHT: &[&str] = &[
     ">95</text>",
     ">90.1</text>",
     ">0</text>",
-    "M59.5 0V0M60.5 420V420",
-    "M69.5 420V420M70.5 480V480",
+    "M59.5 0V1M60.5 420V421",
+    "M69.5 420V421M70.5 480V481",
 ];
 
 fn night(alloc: Global) -> Result<String, AllocError> {

@@ -1,254 +1,177 @@
--- The data records of a fragment, and that no rule changes them.
-use Rattle.std.proofs.Common.{◌≡◌, ℕ, suc, ◌+◌, ◌*◌, ◌≤◌, ◌<◌, List, [], ◌∷◌, ◌++◌, length, map}
-use Rattle.std.proofs.Common.{refl, sym, ap, ◌∙◌, subst, inl, inr, arith, append_assoc, append-nil}
-use Rattle.std.proofs.Common.{length-append}
-use Rattle.std.specs.Prelude.{All}
-use Rattle.std.specs.List.{AllByRecursion, AllZip}
-use Rattle.std.proofs.lemmas.List.Elements.{All-nil, All-cons, All-head, All-tail}
-use Rattle.edf_field.specs.Number.{field, duration_of}
-use Rattle.edf_header.specs.Header.{Layout, IsLayout, AreApart}
+-- A data record, block by block.
+use Rattle.std.proofs.Common.{◌≡◌, ℕ, ◌≤◌, List, [], ◌∷◌, ◌++◌, length, map, drop, get_or, suc, ◌+◌}
+use Rattle.std.proofs.Common.{refl, sym, ap, ◌∙◌, subst, arith, append-nil, append_assoc, sum, ◌-◌}
+use Rattle.std.proofs.Common.{length-append, ◌<◌}
+use Rattle.std.specs.List.{flat_map}
+use Rattle.std.proofs.lemmas.List.{drop_all, drop_more, map-append, length-map}
+use Rattle.std.proofs.lemmas.List.Sums.{sum-map}
+use Rattle.std.proofs.lemmas.List.Concat.{length-flat_map}
+use Rattle.std.proofs.lemmas.Grind.{common_steps, flat_map-append}
+use Rattle.edf_field.specs.Number.{field}
 use Rattle.edf_header.specs.declared.header.Block.{Block}
-use Rattle.edf_tal.specs.Block.{BlocksParseTo}
+use Rattle.edf_header.specs.Header.{Layout, IsLayout, AreApart}
+use Rattle.edf_tal.specs.Block.{split_by_sizes, BlocksParseTo}
 use Rattle.edf_tal.specs.Tal.{Annotation}
 use Rattle.edf_tal.specs.declared.place.Place.{Place}
-use Rattle.edf_tal.specs.declared.place.Place.TheVariants.{Any, After}
-use Rattle.edf_tal.proofs.Cited.{blocks-one-read}
-use Rattle.edf_fragment.proofs.Fronts.{same_front}
-use Rattle.edf_fragment.specs.Fragment.{DataRecord, IsDataRecord, BeginWithDataRecords, blocks}
-use Rattle.edf_fragment.specs.Fragment.{place_after, ordinary_bytes}
-use Rattle.edf_mend.proofs.GoodBlocks.{IsGoodBlock, good-blocks, all-same, told-none}
-use Rattle.edf_mend.proofs.Rebuilt.{rebuilt}
-use Rattle.edf_mend.specs.Carried.{AreCarried}
-use Rattle.edf_mend.specs.Edits.{Edit}
-use Rattle.edf_mend.specs.Mended.{concatenated, IsCut}
-use Rattle.edf_mend.specs.Retimed.{HasOverlap, StartsAt, IsClockMade}
-use Rattle.edf_mend.specs.Rewritten.{RecordEdits, AreRewritten}
-use Rattle.edf_mend.specs.Texts.{IsRespelled, IsToldRespelled, AreBlocksTold}
+use Rattle.edf_tal.proofs.Cuts.{cut-joined}
+use Rattle.edf_fragment.specs.Fragment.{DataRecord, bytes_outside, blocks, ordinary_bytes}
+use Rattle.edf_fragment.proofs.Layouts.{pieces, apart-within}
+use Rattle.edf_mend.specs.Changes.{FieldChange}
+use Rattle.edf_mend.specs.Body.{BlockReadsAs, BlocksReadAs, TimedRecordReadsAs}
+use Rattle.edf_mend.specs.Inside.{IsGoodRecord}
+use Rattle.edf_mend.specs.declared.record.GoodRecord.{GoodRecord}
 
--- ---- in their order
+blocks-push : (nth : ℕ) (bs : List Block) (olds news : List (List ℕ)) (changes : List FieldChange)
+    (b : Block) (old new : List ℕ) (one : List FieldChange) →
+    BlocksReadAs nth bs olds news changes → BlockReadsAs nth b.at old new one →
+    BlocksReadAs nth (bs ++ b ∷ []) (olds ++ old ∷ []) (news ++ new ∷ []) (changes ++ one)
+blocks-push nth [] [] [] changes b old new one none is =
+    (one, [], is, refl, ap (λ (l : List FieldChange). l ++ one) none ∙ sym (append-nil one))
+blocks-push nth (d ∷ bs) (o ∷ olds) (n ∷ news) changes b old new one are is = (
+  are.0,
+  are.1 ++ one,
+  are.2,
+  blocks-push nth bs olds news are.1 b old new one are.3 is,
+  ap (λ (l : List FieldChange). l ++ one) are.4 ∙ append_assoc are.0 are.1 one,
+)
+blocks-push nth bs olds news changes b old new one are is = absurd are
 
--- each is a data record, at the place behind the one before
-abbrev pub InOrder : Layout → Place → List (List ℕ) → Type 0
-InOrder l p [] = Unit {0}
-InOrder l p (x ∷ xs) = (r : DataRecord) × IsDataRecord l p x r × InOrder l (place_after l r.start) xs
+blocks-long : (nth : ℕ) (bs : List Block) (olds news : List (List ℕ)) (changes : List FieldChange) →
+    BlocksReadAs nth bs olds news changes → length news ≡ length bs
+blocks-long nth [] [] [] changes are = refl
+blocks-long nth (b ∷ bs) (o ∷ olds) (n ∷ news) changes are =
+    ap suc (blocks-long nth bs olds news are.1 are.3)
+blocks-long nth bs olds news changes are = absurd are
 
-pub record AreCut (l : Layout) (p : Place) (bytes : List ℕ) (rs : List DataRecord) : Type 0 where
-  pub fronts : List (List ℕ)
-  pub parts : bytes ≡ concatenated fronts
-  pub sizes : All (λ r. length r ≡ l.record_bytes) fronts
-  pub count : length fronts ≡ length rs
-  pub order : InOrder l p fronts
-  pub reads : AllZip (λ x r. r.samples ≡ ordinary_bytes l x) fronts rs
-  pub are : AllZip (λ x r. (q : Place) × IsDataRecord l q x r) fronts rs
+abbrev pub no_block : Block
+no_block = record { at = 0; bytes = 0 }
 
-pub are-cut : (l : Layout) (p : Place) (bytes : List ℕ) (rs : List DataRecord) (last : Place) →
-    BeginWithDataRecords l p bytes rs last [] → AreCut l p bytes rs
-are-cut l p bytes [] last a = record {
-  fronts = [];
-  parts = sym a.1;
-  sizes = All-nil (λ r. length r ≡ l.record_bytes);
-  count = refl;
-  order = tt;
-  reads = tt;
-  are = tt;
+-- so many bytes are done, and these blocks are left
+pub record RecordSoFar (nth : ℕ) (all rest : List Block) (whole : List ℕ) (done : ℕ)
+    (samples joined sizes : List ℕ) (changes : List FieldChange) : Type 0 where
+  pub front : List Block
+  pub read : List (List ℕ)
+  pub split : all ≡ front ++ rest
+  pub apart : AreApart done rest (length whole)
+  pub samples_are : samples ++ bytes_outside done rest whole ≡ bytes_outside 0 all whole
+  pub each : BlocksReadAs nth front (pieces front whole) read changes
+  pub joined_is : joined ≡ flat_map (λ b. b) read
+  pub sizes_are : sizes ≡ map length read
+
+pub none-read : (nth : ℕ) (l : Layout) (all : List Block) (whole samples joined sizes : List ℕ)
+    (changes : List FieldChange) → IsLayout l → all ≡ l.blocks → length whole ≡ l.record_bytes →
+    samples ≡ [] → joined ≡ [] → sizes ≡ [] → changes ≡ [] →
+    RecordSoFar nth all all whole 0 samples joined sizes changes
+none-read nth l all whole samples joined sizes changes layout is len a b c d = record {
+  front = [];
+  read = [];
+  split = refl;
+  apart = rw (is, len) layout.apart;
+  samples_are = ap (λ (x : List ℕ). x ++ bytes_outside 0 all whole) a;
+  each = d;
+  joined_is = b;
+  sizes_are = c;
 }
-are-cut l p bytes (r ∷ rs) last a =
-    let more = are-cut l (place_after l r.start) a.1 rs last a.4 in
+
+pub next-block : (nth : ℕ) (all given : List Block) (i : ℕ) (whole : List ℕ) (done : ℕ)
+    (samples joined sizes : List ℕ) (changes : List FieldChange) → i < length given →
+    RecordSoFar nth all (drop i given) whole done samples joined sizes changes →
+    RecordSoFar nth all (get_or given i no_block ∷ drop (i + 1) given) whole done samples joined
+    sizes changes
+next-block nth all given i whole done samples joined sizes changes lt so =
+    subst (λ (bs : List Block). RecordSoFar nth all bs whole done samples joined sizes changes)
+    (drop_more given i no_block lt) so
+
+pub next-within : (nth : ℕ) (all given : List Block) (i : ℕ) (whole : List ℕ) (done : ℕ)
+    (samples joined sizes : List ℕ) (changes : List FieldChange) → i < length given →
+    RecordSoFar nth all (drop i given) whole done samples joined sizes changes →
+    (done ≤ (get_or given i no_block).at)
+    × ((get_or given i no_block).at + (get_or given i no_block).bytes ≤ length whole)
+next-within nth all given i whole done samples joined sizes changes lt so =
+    let next = next-block nth all given i whole done samples joined sizes changes lt so in
+    (next.apart.0, apart-within _ (drop (i + 1) given) (length whole) next.apart.1)
+
+pub one-more : (nth : ℕ) (all rest : List Block) (b : Block) (whole : List ℕ) (done : ℕ)
+    (samples joined sizes samples' joined' sizes' old new : List ℕ)
+    (changes one changes' : List FieldChange) →
+    RecordSoFar nth all (b ∷ rest) whole done samples joined sizes changes →
+    samples' ≡ samples ++ field whole done (b.at - done) → old ≡ field whole b.at b.bytes →
+    BlockReadsAs nth b.at old new one → joined' ≡ joined ++ new → changes' ≡ changes ++ one →
+    sizes' ≡ sizes ++ (length joined' - length joined) ∷ [] →
+    RecordSoFar nth all rest whole (b.at + b.bytes) samples' joined' sizes' changes'
+one-more nth all rest b whole done samples joined sizes samples' joined' sizes' old new changes one
+    changes' so put old-is is added told counted =
+    let next = b.at + b.bytes in
     record {
-      fronts = a.0 ∷ more.fronts;
-      parts = a.2 ∙ ap (λ (x : List ℕ). a.0 ++ x) more.parts;
-      sizes = All-cons (λ x. length x ≡ l.record_bytes) a.0 more.fronts a.3.len more.sizes;
-      count = ap suc more.count;
-      order = (r, a.3, more.order);
-      reads = (a.3.samples_are, more.reads);
-      are = ((p, a.3), more.are);
+      front = so.front ++ b ∷ [];
+      read = so.read ++ new ∷ [];
+      split = so.split ∙ sym (append_assoc so.front (b ∷ []) rest);
+      apart = so.apart.1;
+      samples_are = ap (λ (x : List ℕ). x ++ bytes_outside next rest whole) put
+          ∙ append_assoc samples (field whole done (b.at - done)) (bytes_outside next rest whole)
+          ∙ so.samples_are;
+      each = rw (told, map-append (λ (x : Block). field whole x.at x.bytes) so.front (b ∷ []))
+          (blocks-push nth so.front (pieces so.front whole) so.read changes b
+          (field whole b.at b.bytes) new one so.each
+          (subst (λ (l : List ℕ). BlockReadsAs nth b.at l new one) old-is is));
+      joined_is = added ∙ ap (λ (l : List ℕ). l ++ new) so.joined_is
+          ∙ (let e = flat_map-append (λ (x : List ℕ). x) so.read (new ∷ []) in rw e (grind (arith, common_steps)));
+      sizes_are = counted
+          ∙ ap (λ n. sizes ++ n ∷ []) (omega (arith, ap (λ (l : List ℕ). length l) added, length-append joined new))
+          ∙ ap (λ (l : List ℕ). l ++ length new ∷ []) so.sizes_are
+          ∙ sym (map-append length so.read (new ∷ []));
     }
 
--- ---- cut in one way
+pub all-read : (nth : ℕ) (l : Layout) (all : List Block) (i : ℕ) (whole : List ℕ) (done : ℕ)
+    (samples joined sizes samples' : List ℕ) (changes : List FieldChange) → all ≡ l.blocks →
+    RecordSoFar nth all (drop i all) whole done samples joined sizes changes → length all ≤ i →
+    samples' ≡ samples ++ drop done whole → (samples' ≡ ordinary_bytes l whole)
+    × (read : List (List ℕ)) × BlocksReadAs nth l.blocks (blocks l whole) read changes
+    × (joined ≡ flat_map (λ b. b) read) × (sizes ≡ map length read)
+all-read nth l all i whole done samples joined sizes samples' changes same so past put =
+    let last = subst (λ (bs : List Block). RecordSoFar nth all bs whole done samples joined sizes
+    changes) (drop_all i all past) so in
+    let front : last.front ≡ l.blocks = sym (last.split ∙ append-nil last.front) ∙ same in (
+      put ∙ last.samples_are ∙ ap (λ (bs : List Block). bytes_outside 0 bs whole) same,
+      last.read,
+      subst (λ (bs : List Block). BlocksReadAs nth bs (pieces bs whole) last.read changes) front
+          last.each,
+      last.joined_is,
+      last.sizes_are,
+    )
 
-pub record SameCut (rs ss : List (List ℕ)) (p q : List ℕ) : Type 0 where
-  pub records : rs ≡ ss
-  pub piece : p ≡ q
+-- ---- what a strict reading gets of it
 
-pub cut-one : (size : ℕ) (rs ss : List (List ℕ)) (p q : List ℕ) → All (λ r. length r ≡ size) rs →
-    All (λ r. length r ≡ size) ss → length p < size → length q < size →
-    concatenated rs ++ p ≡ concatenated ss ++ q → SameCut rs ss p q
-cut-one size [] [] p q a b lp lq e = record { records = refl; piece = e }
-cut-one size [] (s ∷ ss) p q a b lp lq e =
-    absurd (omega (
-      arith,
-      ap (λ (x : List ℕ). length x) e,
-      length-append (concatenated (s ∷ ss)) q,
-      length-append s (concatenated ss),
-      All-head (λ r. length r ≡ size) s ss b,
-    ))
-cut-one size (r ∷ rs) [] p q a b lp lq e =
-    absurd (omega (
-      arith,
-      ap (λ (x : List ℕ). length x) e,
-      length-append (concatenated (r ∷ rs)) p,
-      length-append r (concatenated rs),
-      All-head (λ x. length x ≡ size) r rs a,
-    ))
-cut-one size (r ∷ rs) (s ∷ ss) p q a b lp lq e =
-    let la = All-head (λ x. length x ≡ size) r rs a in
-    let lb = All-head (λ x. length x ≡ size) s ss b in
-    let whole : r ++ (concatenated rs ++ p) ≡ s ++ (concatenated ss ++ q) =
-    sym (append_assoc r (concatenated rs) p) ∙ e ∙ append_assoc s (concatenated ss) q in
-    let f = same_front (r ++ (concatenated rs ++ p)) r (concatenated rs ++ p) s (concatenated ss ++
-    q) refl whole
-    (la ∙ sym lb) in
-    let more = cut-one size rs ss p q (All-tail (λ x. length x ≡ size) r rs a)
-    (All-tail (λ x. length x ≡ size) s ss b) lp lq f.back in
-    record { records = λ i. f.front i ∷ more.records i; piece = more.piece }
+module _ (nth : ℕ) (l : Layout) (layout : IsLayout l) (bytes joined sizes : List ℕ)
+    (good : GoodRecord) (len : length bytes ≡ l.record_bytes) (are : IsGoodRecord l nth bytes good)
+    (joined-is : joined ≡ good.joined.items) (sizes-are : sizes ≡ good.sizes.items) where
+  pub some-sizes : 1 ≤ length sizes
+  some-sizes = omega (
+    arith,
+    blocks-long nth l.blocks (blocks l bytes) are.read good.changes.items are.each,
+    ap (λ (x : List ℕ). length x) (sizes-are ∙ are.sizes),
+    length-map are.read length,
+    layout.blocks_some,
+  )
 
-pub record IsWholeCut (size : ℕ) (fronts found : List (List ℕ)) (end : List ℕ) : Type 0 where
-  pub records : found ≡ fronts
-  pub piece : end ≡ []
+  pub sizes-sum : sum sizes ≡ length joined
+  sizes-sum = ap sum (sizes-are ∙ are.sizes) ∙ sum-map length are.read
+      ∙ sym (length-flat_map (λ (b : List ℕ). b) are.read)
+      ∙ sym (ap (λ (x : List ℕ). length x) (joined-is ∙ are.joined))
 
--- **the data records of a fragment are those that it is cut into**
-pub one-cut : (size : ℕ) (body : List ℕ) (fronts records : List (List ℕ)) (piece : List ℕ) →
-    0 < size → body ≡ concatenated fronts → All (λ r. length r ≡ size) fronts →
-    IsCut size body records piece → IsWholeCut size fronts records piece
-one-cut size body fronts records piece some parts sizes c =
-    let s = cut-one size records fronts piece [] c.sizes sizes c.less some
-    (sym c.parts ∙ parts ∙ sym (append-nil (concatenated fronts))) in
-    record { records = s.records; piece = s.piece }
-
-pub length-joined : (size : ℕ) (rs : List (List ℕ)) → All (λ r. length r ≡ size) rs →
-    length (concatenated rs) ≡ length rs * size
-length-joined size [] all = omega arith
-length-joined size (r ∷ rs) all = omega (
-  arith,
-  length-append r (concatenated rs),
-  All-head (λ x. length x ≡ size) r rs all,
-  length-joined size rs (All-tail (λ x. length x ≡ size) r rs all),
-)
-
--- ---- carried over
-
-pub carried-same : (duration nth : ℕ) (olds news : List (List ℕ)) →
-    AreCarried duration nth 0 olds news → news ≡ olds
-carried-same duration nth [] news c = c
-carried-same duration nth (o ∷ os) news c =
-    c.2 ∙ (λ i. c.3 i ∷ carried-same duration (nth + 1) os c.1 c.4 i)
-
--- ---- texts
-
-is-good : (l : Layout) (p : Place) (x : List ℕ) (r : DataRecord) → IsDataRecord l p x r →
-    AllByRecursion IsGoodBlock (blocks l x)
-is-good l p x r d = good-blocks (blocks l x) d.read.tals d.read.lists d.read.good
-
-respelled-same : (l : Layout) (p : Place) (old new : List ℕ) (r : DataRecord) → IsLayout l →
-    IsDataRecord l p old r → IsRespelled l old new → new ≡ old
-respelled-same l p old new r layout d s =
-    let each = all-same (blocks l old) (blocks l new) (is-good l p old r d) s.each in
-    rebuilt 0 l.blocks new old (subst (λ (n : ℕ). AreApart 0 l.blocks n)
-    (sym (s.len ∙ d.len)) layout.apart) s.len s.samples each
-
-pub all-respelled : (l : Layout) (p : Place) (olds news : List (List ℕ)) → IsLayout l →
-    InOrder l p olds → AllZip (IsRespelled l) olds news → news ≡ olds
-all-respelled l p [] [] layout order zip = refl
-all-respelled l p [] (n ∷ ns) layout order zip = absurd zip
-all-respelled l p (o ∷ os) [] layout order zip = absurd zip
-all-respelled l p (o ∷ os) (n ∷ ns) layout order zip =
-    λ i. respelled-same l p o n order.0 layout order.1 zip.0 i
-    ∷ all-respelled l (place_after l order.0.start) os ns layout order.2 zip.1 i
-
-blocks-told : (bs : List Block) (old : List ℕ) (edits : List Edit) →
-    AllByRecursion IsGoodBlock (map (λ (b : Block). field old b.at b.bytes) bs) →
-    AreBlocksTold bs old old edits → edits ≡ []
-blocks-told [] old edits good told = told
-blocks-told (b ∷ bs) old edits good told =
-    told.2 ∙ ap (λ (x : List Edit). x ++ told.1)
-    (told-none b.at (field old b.at b.bytes) told.0 good.0 told.3)
-    ∙ blocks-told bs old told.1 good.1 told.4
-
--- where one of these is
-record IsIn (l : Layout) (old : List ℕ) : Type 0 where
-  place : Place
-  is : (r : DataRecord) × IsDataRecord l place old r
-
-find : (l : Layout) (p : Place) (gap : List (List ℕ)) (old : List ℕ) (back : List (List ℕ)) →
-    InOrder l p (gap ++ old ∷ back) → IsIn l old
-find l p [] old back order = record { place = p; is = (order.0, order.1) }
-find l p (g ∷ gap) old back order = find l (place_after l order.0.start) gap old back order.2
-
-same-middle : (gap : List (List ℕ)) (a b : List ℕ) (x y : List (List ℕ)) →
-    gap ++ a ∷ x ≡ gap ++ b ∷ y → a ≡ b
-same-middle [] a b x y e = cc
-same-middle (g ∷ gap) a b x y e =
-    same-middle gap a b x y (let z : gap ++ a ∷ x ≡ gap ++ b ∷ y = cc in z)
-
-pub none-told : (l : Layout) (p : Place) (from : ℕ) (olds : List (List ℕ))
-    (told : List RecordEdits) → InOrder l p olds →
-    AreRewritten (IsToldRespelled l) from olds told olds → told ≡ []
-none-told l p from olds [] order a = refl
-none-told l p from olds (t ∷ ts) order a =
-    let gap = a.0 in
-    let old = a.1 in
-    let new = a.2 in
-    let same : new ≡ old = sym (same-middle gap old new a.3 a.4 (sym a.5 ∙ a.6)) in
-    let is = find l p gap old a.3 (subst (λ (x : List (List ℕ)). InOrder l p x) a.5 order) in
-    let good = is-good l is.place old is.is.0 is.is.1 in
-    let none = blocks-told l.blocks old t.edits good
-    (subst (λ (x : List ℕ). AreBlocksTold l.blocks old x t.edits) same a.8.told) in
-    absurd (a.8.rewritten.some none)
-
--- ---- starts
-
-pub anywhere : (bs : List (List ℕ)) (start : ℕ) (p : Place) (m : ℕ) (list : List Annotation) →
-    BlocksParseTo bs start p m list → BlocksParseTo bs start Any m list
-anywhere bs start p m list r = record {
-  tals = r.tals;
-  lists = r.lists;
-  good = r.good;
-  timed = r.timed;
-  fits_place = tt;
-  window = r.window;
-  limits = r.limits;
-  start_is = r.start_is;
-  list_is = r.list_is;
-}
-
-starts : (l : Layout) (p : Place) (x : List ℕ) (r : DataRecord) (start : ℕ) →
-    IsDataRecord l p x r → StartsAt l x start → start ≡ r.start
-starts l p x r start d s = (blocks-one-read (blocks l x) l.start Any start r.start s.0
-    r.annotations s.1 (anywhere (blocks l x) l.start p r.start r.annotations d.read)).start
-
-later : (l : Layout) (before : ℕ) (x : List ℕ) (r : DataRecord) →
-    IsDataRecord l (After before (duration_of l.key.duration)) x r →
-    before + duration_of l.key.duration ≤ r.start
-later l before x r d = omega (arith, d.read.fits_place, d.read.start_is)
-
-apart : (l : Layout) (p : Place) (front : List (List ℕ)) (a b : List ℕ) (back : List (List ℕ))
-    (start next : ℕ) → InOrder l p (front ++ a ∷ b ∷ back) → StartsAt l a start →
-    StartsAt l b next → next < start + duration_of l.key.duration → ⊥
-apart l p [] a b back start next order sa sb lt =
-    let ra = order.0 in
-    let rb = order.2.0 in
-    let ea = starts l p a ra start order.1 sa in
-    let eb = starts l (place_after l ra.start) b rb next order.2.1 sb in
-    omega (arith, ea, eb, later l ra.start b rb order.2.1, lt)
-apart l p (f ∷ front) a b back start next order sa sb lt =
-    apart l (place_after l order.0.start) front a b back start next order.2 sa sb lt
-
-pub no-overlap : (l : Layout) (p : Place) (olds : List (List ℕ)) → InOrder l p olds →
-    ¬ HasOverlap l olds
-no-overlap l p olds order h =
-    let n = h.2 in
-    apart l p n.0 n.1 n.2 n.3 h.0 h.1 (subst (λ (x : List (List ℕ)). InOrder l p x) n.4 order)
-    n.5 n.6 h.3
-
-pub record IsNotMoved (olds news : List (List ℕ)) (edits : List RecordEdits) (most : ℕ) : Type 0
-  where
-    pub same : news ≡ olds
-    pub told : edits ≡ []
-    pub shift : most ≡ 0
-
-pub clock-same : (Wants : Type 0) (l : Layout) (p : Place) (olds : List (List ℕ))
-    (told : List RecordEdits) (shift : ℕ) (news : List (List ℕ)) → InOrder l p olds →
-    IsClockMade Wants l olds told shift news → IsNotMoved olds news told shift
-clock-same Wants l p olds told shift news order (inl m) = absurd (no-overlap l p olds order m.1)
-clock-same Wants l p olds told shift news order (inr m) =
-    record { same = m.1; told = m.2; shift = m.3 }
+  pub record-read : (place : Place) (start : ℕ) (list : List Annotation) (r : DataRecord) →
+      BlocksParseTo (split_by_sizes sizes joined) l.start place start list →
+      r ≡ record { start = start; samples = good.samples.items; annotations = list } →
+      TimedRecordReadsAs l place nth bytes r good.changes.items
+  record-read place start list r read is =
+      let cuts : split_by_sizes sizes joined ≡ are.read =
+      ap (λ (x : List ℕ). split_by_sizes x joined) (sizes-are ∙ are.sizes)
+      ∙ ap (split_by_sizes (map length are.read)) (joined-is ∙ are.joined) ∙ cut-joined are.read in
+      subst (λ (x : DataRecord). TimedRecordReadsAs l place nth bytes x good.changes.items)
+      (sym is) (record {
+        len = len;
+        samples = are.samples;
+        read = are.read;
+        each = are.each;
+        parsed = subst (λ (x : List (List ℕ)). BlocksParseTo x l.start place start list) cuts read;
+      })

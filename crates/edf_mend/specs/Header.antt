@@ -1,141 +1,139 @@
--- A header as its texts: ten fields of the fixed part, and ten of each signal. Nothing is asked of
--- them: these are the headers that are to be mended.
-use Rattle.std.specs.Prelude.{◌≡◌, ℕ, ◌+◌, ◌*◌, ◌-◌, ◌≤◌, ◌⊎◌, ◌==◌, ◌||◌, List, ◌++◌}
-use Rattle.std.specs.Prelude.{length, take, map}
-use Rattle.std.specs.List.{flat_map, range_with_len, suffix_len}
+-- The header of a file, and its good form, which a strict reading reads.
+use Rattle.std.specs.Prelude.{◌≡◌, ◌⊎◌, ℕ, List, ◌∷◌, ◌++◌, take, drop, slice_index, Option, Some}
+use Rattle.std.specs.Prelude.{None, ℤ, false, ◌≤◌, ◌<◌, length, ◌≢◌, ◌+◌, ◌*◌, codes, Bool, true}
+use Rattle.std.specs.Char.{is_ascii_digit}
+use Rattle.edf_time.specs.Civil.{IsTimeText, IsIdDate, IsDateText, AreStartdates}
+use Rattle.edf_mend.specs.Texts.{unfilled, spaced, fitted, numeral, first_subfield, IsNoCode}
+use Rattle.edf_mend.specs.Identification.{HasDate, date_of, mark, KeepsPatient, KeepsRecording}
+use Rattle.edf_mend.specs.Identification.{StaysBehindDate}
+use Rattle.std.specs.List.{AllByRecursion}
 use Rattle.edf_field.specs.Number.{field, IsNumber}
-use Rattle.edf_field.specs.Text.{spaces}
-use Rattle.edf_header.specs.Fields.{version_field, patient_field, recording_field, startdate_field}
-use Rattle.edf_header.specs.Fields.{starttime_field, header_bytes_field, reserved_field}
-use Rattle.edf_header.specs.Fields.{count_field, duration_field, signals_field}
-use Rattle.edf_header.specs.declared.limits.TheConstants.{MOST_SIGNALS}
+use Rattle.edf_header.specs.Fields.{fields, patient_field, recording_field, duration_field}
+use Rattle.edf_header.specs.Fields.{version_field, startdate_field, starttime_field, reserved_field}
+use Rattle.edf_header.specs.Fields.{signals_field, label_field}
+use Rattle.edf_header.specs.Signal.{row_at, IsLabelled}
+use Rattle.edf_mend.specs.declared.wanted.Wanted.{Wanted}
+use Rattle.edf_header.specs.Header.{HeaderRecord, AreSignals, IsFixedHeader}
+use Rattle.edf_mend.specs.Signal.{KeepsSignal, SpeaksOfAnnotations}
+use Rattle.edf_mend.specs.declared.wanted.Who.TheVariants.{AsNamed}
 
--- ---- texts
+-- Two parts of two bytes and a third lie apart: between them are no digits.
+abbrev pub AreParted : List ℕ → Type 0
+AreParted field = (is_ascii_digit (slice_index field 2) ≡ false)
+    × (is_ascii_digit (slice_index field 5) ≡ false)
 
--- zeros and spaces at the end of a text fill it: as spaces
-abbrev pub fill_len : List ℕ → ℕ
-fill_len text = suffix_len (λ b. (b == 0) || (b == 32)) text
+-- They have dots between them, whatever stood there.
+abbrev pub dotted : List ℕ → List ℕ
+dotted field = take 2 field ++ (46 ∷ (take 2 (drop 3 field) ++ (46 ∷ drop 6 field)))
 
-abbrev pub spaced : List ℕ → List ℕ
-spaced text = take (length text - fill_len text) text ++ spaces (fill_len text)
+abbrev pub HasNoTime : List ℕ → Type 0
+HasNoTime field = (seconds : ℕ) → AreParted field → ¬ IsTimeText (dotted field) seconds
 
--- without the spaces at its end
-abbrev pub trimmed : List ℕ → List ℕ
-trimmed text = take (length text - suffix_len (λ b. b == 32) text) text
+abbrev pub KeepsTime : Option (List ℕ) → List ℕ → List ℕ → Type 0
+KeepsTime None old new = AreParted old × (new ≡ dotted old)
+KeepsTime (Some time) old new = (new ≡ time) × HasNoTime old
 
--- a text in a field of this width: cut where it is longer, filled with spaces where it is shorter
-abbrev pub fitted : ℕ → List ℕ → List ℕ
-fitted width text = take width (text ++ spaces width)
+-- The recording field has this day, in any letters.
+abbrev pub HasDay : List ℕ → ℤ → Type 0
+HasDay recording day = HasDate recording × IsIdDate (date_of recording) day
 
--- ---- fields
+-- A date is the day of the recording field.
+abbrev pub AgreesWithDay : List ℕ → List ℕ → Type 0
+AgreesWithDay recording date = (day : ℤ) × HasDay recording day
+    × ((days : ℕ) × AreStartdates date (Some day) days)
 
--- the fixed part
-pub record FixedTexts : Type 0 where
-  pub version : List ℕ
-  pub patient : List ℕ
-  pub recording : List ℕ
-  pub startdate : List ℕ
-  pub starttime : List ℕ
-  pub header_bytes : List ℕ
-  pub reserved : List ℕ
-  pub count : List ℕ
-  pub duration : List ℕ
-  pub signals : List ℕ
+-- A file has no startdate: neither one that says its year, nor one that is the day of the recording
+-- field.
+abbrev pub HasNoStartdate : List ℕ → List ℕ → Type 0
+HasNoStartdate recording date = ((days : ℕ) → ¬ IsDateText date days)
+    × (¬ AgreesWithDay recording (dotted date))
 
-abbrev pub fixed_of : List ℕ → FixedTexts
-fixed_of header = record {
-  version = version_field header;
-  patient = patient_field header;
-  recording = recording_field header;
-  startdate = startdate_field header;
-  starttime = starttime_field header;
-  header_bytes = header_bytes_field header;
-  reserved = reserved_field header;
-  count = count_field header;
-  duration = duration_field header;
-  signals = signals_field header;
-}
+-- Another form than dd.mm.yy is read only where the recording field has that day.
+abbrev pub KeepsDate : Option (List ℕ) → List ℕ → List ℕ → List ℕ → Type 0
+KeepsDate None recording old new = (new ≡ old)
+    ⊎ (AreParted old × (new ≡ dotted old) × AgreesWithDay recording new)
+KeepsDate (Some date) recording old new = (new ≡ date) × HasNoStartdate recording old
 
--- a signal
-pub record SignalTexts : Type 0 where
-  pub label : List ℕ
-  pub transducer : List ℕ
-  pub dimension : List ℕ
-  pub physical_minimum : List ℕ
-  pub physical_maximum : List ℕ
-  pub digital_minimum : List ℕ
-  pub digital_maximum : List ℕ
-  pub prefiltering : List ℕ
-  pub samples : List ℕ
-  pub reserved : List ℕ
+-- Fields stay byte for byte, but for zeros that fill them.
+abbrev pub StaysFields : List (ℕ × ℕ) → List ℕ → List ℕ → Type 0
+StaysFields fs old new =
+    AllByRecursion (λ f. field new f.0 f.1 ≡ spaced (field old f.0 f.1)) fs
 
--- a field of signal i of n, counted from 0: a header has each field of all signals in turn
-abbrev pub cell : List ℕ → ℕ → ℕ → ℕ → ℕ → List ℕ
-cell header n i at width = field header (256 + (n * at + i * width)) width
+abbrev pub StaysRow : List ℕ → List ℕ → Type 0
+StaysRow old new = IsLabelled new ⊎ StaysFields fields old new
 
--- signal i of n
-abbrev pub signal_of : List ℕ → ℕ → ℕ → SignalTexts
-signal_of header n i = record {
-  label = cell header n i 0 16;
-  transducer = cell header n i 16 80;
-  dimension = cell header n i 96 8;
-  physical_minimum = cell header n i 104 8;
-  physical_maximum = cell header n i 112 8;
-  digital_minimum = cell header n i 120 8;
-  digital_maximum = cell header n i 128 8;
-  prefiltering = cell header n i 136 80;
-  samples = cell header n i 216 8;
-  reserved = cell header n i 224 32;
-}
+-- What names a recording is what the file says, and its start is, too.
+pub record StaysAll (w : Wanted) (n : ℕ) (first second text : List ℕ) (count : ℕ)
+    (strict signals : List ℕ) : Type 0 where
+  pub patient : patient_field strict ≡ spaced (patient_field first)
+  pub recording : text ≡ unfilled (recording_field first)
+  pub duration : duration_field strict ≡ spaced (duration_field first)
+  pub startdate : w.startdate ≡ None
+  pub starttime : w.starttime ≡ None
+  pub each : (i : ℕ) → i < n → StaysRow (row_at second n i) (row_at signals count i)
 
--- its ten fields in a row
-abbrev pub row_of : SignalTexts → List ℕ
-row_of s = s.label ++ (s.transducer ++ (s.dimension ++ (s.physical_minimum ++ (s.physical_maximum
-    ++ (s.digital_minimum ++ (s.digital_maximum ++ (s.prefiltering ++ (s.samples
-    ++ s.reserved))))))))
+-- The text ends with the mark.
+abbrev pub SaysMended : List ℕ → Type 0
+SaysMended text = (prefix : List ℕ) × (text ≡ prefix ++ (32 ∷ mark))
 
--- ---- all of it
+-- The field has a text and the mark, whole.
+abbrev pub IsMarked : List ℕ → List ℕ → Type 0
+IsMarked text new = (SaysMended text × (length text ≤ 80) × (new ≡ fitted 80 text))
+    ⊎ ((¬ SaysMended text) × (length text ≤ 73) × (new ≡ fitted 80 (text ++ (32 ∷ mark))))
 
-pub record HeaderTexts : Type 0 where
-  pub fixed : FixedTexts
-  pub signals : List SignalTexts
+-- It has the mark just where something differs.
+abbrev pub IsMarkedRight : Type 0 → List ℕ → List ℕ → Type 0
+IsMarkedRight stays text new = (stays × (new ≡ fitted 80 text)) ⊎ ((¬ stays) × IsMarked text new)
 
-abbrev pub texts_of : List ℕ → ℕ → HeaderTexts
-texts_of header n = record {
-  fixed = fixed_of header;
-  signals = map (signal_of header n) (range_with_len 0 n);
-}
+-- The fixed part has these fields, and this text for its recording field.
+pub record KeepsFields (w : Wanted) (old who text day clock size : List ℕ) : Type 0 where
+  pub version : spaced (version_field old) ≡ codes "0       "
+  pub patient : KeepsPatient w.who (patient_field old) who
+  pub recording : KeepsRecording w.who day (recording_field old) text
+  pub date : KeepsDate w.startdate (recording_field old) (startdate_field old) day
+  pub time : KeepsTime w.starttime (starttime_field old) clock
+  pub duration : size ≡ numeral (duration_field old)
 
--- the header that has these texts: the fixed part, and then column by column
-abbrev pub fixed_bytes : FixedTexts → List ℕ
-fixed_bytes f = f.version ++ (f.patient ++ (f.recording ++ (f.startdate ++ (f.starttime
-    ++ (f.header_bytes ++ (f.reserved ++ (f.count ++ (f.duration ++ f.signals))))))))
+-- Codes of a recording stay where its patient has none.
+pub record KeepsFixed (w : Wanted) (old new text : List ℕ) : Type 0 where
+  pub kept : KeepsFields w old (patient_field new) text (startdate_field new) (starttime_field new)
+      (duration_field new)
+  pub nobody : w.who ≡ AsNamed → (¬ IsNoCode (first_subfield (patient_field new)))
+      ⊎ StaysBehindDate (recording_field old) (recording_field new)
 
-abbrev pub header_bytes : HeaderTexts → List ℕ
-header_bytes t = fixed_bytes t.fixed ++ (flat_map (λ s. s.label) t.signals
-    ++ (flat_map (λ s. s.transducer) t.signals ++ (flat_map (λ s. s.dimension) t.signals
-    ++ (flat_map (λ s. s.physical_minimum) t.signals
-    ++ (flat_map (λ s. s.physical_maximum) t.signals
-    ++ (flat_map (λ s. s.digital_minimum) t.signals
-    ++ (flat_map (λ s. s.digital_maximum) t.signals
-    ++ (flat_map (λ s. s.prefiltering) t.signals
-    ++ (flat_map (λ s. s.samples) t.signals ++ flat_map (λ s. s.reserved) t.signals)))))))))
+-- A signal, of a file that has annotations signals or of one that has none. In the latter none is
+-- an annotations signal, and no label speaks of annotations, before or after.
+pub record KeepsRow (timed : Bool) (old new : List ℕ) : Type 0 where
+  pub kept : KeepsSignal old new
+  pub plain : timed ≡ false → ¬ IsLabelled new
+  pub silent : timed ≡ false → ¬ SpeaksOfAnnotations (label_field old)
+  pub stays_silent : timed ≡ false → ¬ SpeaksOfAnnotations (label_field new)
 
--- ---- where a file's header ends
+-- There are as many as there were; or an annotations signal more, where there was none.
+abbrev pub AreAsMany : Bool → ℕ → ℕ → Type 0
+AreAsMany true n count = count ≡ n
+AreAsMany false n count = count ≡ n + 1
 
--- a header names n signals: by a number, behind which zeros may fill the field; or, where it names
--- none or more than a file may have, 0
-abbrev pub NamesSignals : List ℕ → ℕ → Type 0
-NamesSignals header n = IsNumber (spaced (signals_field header)) n × (n ≤ MOST_SIGNALS)
+pub record KeepsSignals (timed : Bool) (n : ℕ) (old : List ℕ) (count : ℕ) (new : List ℕ) :
+    Type 0 where
+  pub len : length old ≡ 256 * n
+  pub many : AreAsMany timed n count
+  pub each : (i : ℕ) → i < n → KeepsRow timed (row_at old n i) (row_at new count i)
 
-abbrev pub HasSignals : List ℕ → ℕ → Type 0
-HasSignals header n = NamesSignals header n ⊎ (((k : ℕ) → NamesSignals header k → ⊥) × (n ≡ 0))
-
--- a file is this header, as long as its number of signals says, and then these bytes
-pub record HasHeader (file : List ℕ) (texts : HeaderTexts) (body : List ℕ) : Type 0 where
-  pub header : List ℕ
+-- The two headers go together, field for field. A file that says that it has gaps has annotations
+-- signals.
+pub record KeepsHeader (w : Wanted) (first second : List ℕ) (timed : Bool) (h : HeaderRecord) :
+    Type 0 where
   pub n : ℕ
-  pub parts : file ≡ header ++ body
-  pub signals : HasSignals header n
-  pub len : length header ≡ 256 + 256 * n
-  pub texts_are : texts ≡ texts_of header n
+  pub strict : List ℕ
+  pub strict_signals : List ℕ
+  pub text : List ℕ
+  pub len : length first ≡ 256
+  pub number : IsNumber (numeral (signals_field first)) n
+  pub gaps : timed ≡ false → take 5 (reserved_field first) ≢ codes "EDF+D"
+  pub fixed : KeepsFixed w first strict text
+  pub signals : KeepsSignals timed n second h.fixed.signal_count strict_signals
+  pub marked : IsMarkedRight (StaysAll w n first second text h.fixed.signal_count strict
+      strict_signals) text (recording_field strict)
+  pub is_fixed : IsFixedHeader strict h.fixed
+  pub are_signals : AreSignals strict_signals h

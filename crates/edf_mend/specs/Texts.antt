@@ -1,151 +1,104 @@
--- What the rule `texts` makes of annotations blocks: the same list of annotations.
-use Rattle.std.specs.Prelude.{◌≡◌, ◌⊎◌, ℕ, ◌+◌, ◌^◌, ◌≤◌, ◌<◌, List, [], ◌∷◌, ◌++◌, length}
-use Rattle.std.specs.Prelude.{replicate, All, Option, Some, None, IsUtf8, encode_utf8_all}
-use Rattle.std.specs.List.{AllByRecursion, AllZip, flat_map}
-use Rattle.edf_field.specs.Number.{field}
-use Rattle.edf_time.specs.Decimal.{IsDecimal, IsSeconds, IsDecimalFault, short}
-use Rattle.edf_time.specs.declared.decimal.DecimalFault.TheVariants.{TooFine}
-use Rattle.edf_tal.specs.Tal.{IsText, terminated}
-use Rattle.edf_header.specs.Header.{Layout}
-use Rattle.edf_header.specs.declared.header.Block.{Block}
-use Rattle.edf_fragment.specs.Fragment.{blocks, ordinary_bytes}
-use Rattle.edf_mend.specs.Edits.{Edit}
-use Rattle.edf_mend.specs.Rewritten.{IsRewritten}
-use Rattle.edf_mend.specs.Told.{FieldPair, pair, edits_from}
-use Rattle.edf_mend.specs.declared.field.Field.TheVariants as at
+-- Texts of fields, as a lenient reading takes them, and what ASCII has in place of other letters.
+use Rattle.std.specs.Prelude.{ℕ, ◌-◌, ◌==◌, ◌||◌, List, [], ◌∷◌, ◌++◌, length, take, drop}
+use Rattle.std.specs.Prelude.{slice_index_or, ◌≡◌, ◌⊎◌, ℤ, codes, ◌≤◌, All, ◌&&◌, nat_le}
+use Rattle.std.specs.Prelude.{if◌then◌else◌}
+use Rattle.std.specs.List.{suffix_len, prefix_len, flat_map}
+use Rattle.std.specs.Str.{str_to_ascii_uppercase, chars, is_utf8}
+use Rattle.edf_time.specs.Civil.{IsIdDate, IsVisible}
+use Rattle.edf_field.specs.Text.{spaces, subfields}
+use Rattle.std.specs.Borrow.{Bor}
 
--- ---- a list as it is written
+-- Zeros and spaces at the end of a text fill its field.
+abbrev pub fill_len : List ℕ → ℕ
+fill_len text = suffix_len (λ b. (b == 0) || (b == 32)) text
 
--- a TAL whose times may be finer than a nanosecond, and whose texts may be any bytes: the sign of
--- the onset and its decimal, a duration's decimal or none, and the texts
-pub record WrittenTal : Type 0 where
-  pub sign : ℕ
-  pub onset : List ℕ
-  pub duration : Option (List ℕ)
-  pub texts : List (List ℕ)
+abbrev pub unfilled : List ℕ → List ℕ
+unfilled text = take (length text - fill_len text) text
 
-abbrev pub duration_part : Option (List ℕ) → List ℕ
-duration_part None = []
-duration_part (Some text) = 21 ∷ text
+-- A text stands in a field of this width: it is cut where it is longer, and filled with spaces.
+abbrev pub fitted : ℕ → List ℕ → List ℕ
+fitted width text = take width (text ++ spaces width)
 
-abbrev pub tal_bytes : WrittenTal → List ℕ
-tal_bytes t = t.sign ∷ (t.onset ++
-    (duration_part t.duration ++ (20 ∷ (terminated t.texts ++ 0 ∷ []))))
+-- The field has spaces for what fills it.
+abbrev pub spaced : List ℕ → List ℕ
+spaced text = fitted (length text) (unfilled text)
 
--- digits, and a dot and digits or none
-abbrev pub IsTime : List ℕ → Type 0
-IsTime text = (whole : List ℕ) × (fraction : List ℕ) × IsDecimal text whole fraction
+-- A number may stand at the right of its field, too.
+abbrev pub numeral_text : List ℕ → List ℕ
+numeral_text text = drop (prefix_len (λ b. b == 32) (unfilled text)) (unfilled text)
 
-abbrev pub IsTimeOrNone : Option (List ℕ) → Type 0
-IsTimeOrNone None = Unit {0}
-IsTimeOrNone (Some text) = IsTime text
+abbrev pub numeral : List ℕ → List ℕ
+numeral text = fitted (length text) (numeral_text text)
 
-pub record IsWritten (t : WrittenTal) : Type 0 where
-  pub sign : (t.sign ≡ 43) ⊎ (t.sign ≡ 45)
-  pub onset : IsTime t.onset
-  pub duration : IsTimeOrNone t.duration
-  pub texts : AllByRecursion IsText t.texts
+abbrev pub capitals : List ℕ → List ℕ
+capitals text = str_to_ascii_uppercase text
 
--- a block is such TALs, each right after the one before, and then zeros and spaces that fill it
-pub record IsBlockOf (tals : List WrittenTal) (fill block : List ℕ) : Type 0 where
-  pub parts : block ≡ flat_map tal_bytes tals ++ fill
-  pub are : AllByRecursion IsWritten tals
-  pub blank : All (λ b. (b ≡ 0) ⊎ (b ≡ 32)) fill
+abbrev pub first_subfield : List ℕ → List ℕ
+first_subfield text = slice_index_or (subfields text) 0 []
 
--- ---- the same list, as EDF+ spells it
+-- These parts stand one after another, each behind this byte.
+abbrev pub joined_by : ℕ → List (List ℕ) → List ℕ
+joined_by b parts = flat_map (λ part. b ∷ part) parts
 
--- a digit from 5 on comes first
-abbrev pub RoundsUp : List ℕ → Type 0
-RoundsUp [] = ⊥
-RoundsUp (d ∷ ds) = 53 ≤ d
+-- A subfield is a date, or X.
+abbrev pub IsDateOrX : List ℕ → Type 0
+IsDateOrX date = (date ≡ codes "X") ⊎ ((day : ℤ) × IsIdDate date day)
 
--- a decimal that has a digit past the ninth behind the dot which is not 0 becomes the shortest one
--- of the nearest nanosecond; of two that are as near, the one that is further from 0
-pub record IsRounded (old new : List ℕ) : Type 0 where
-  pub too_fine : IsDecimalFault old TooFine
-  pub whole : List ℕ
-  pub nine : List ℕ
-  pub finer : List ℕ
-  pub nanos : ℕ
-  pub old_is : old ≡ whole ++ 46 ∷ (nine ++ finer)
-  pub len : length nine ≡ 9
-  pub value : IsSeconds (whole ++ 46 ∷ nine) nanos
-  pub small : nanos + 1 < 2 ^ 63
-  pub new_is : (RoundsUp finer × (new ≡ short (nanos + 1)))
-      ⊎ ((RoundsUp finer → ⊥) × (new ≡ short nanos))
+-- A subfield stands for no code.
+abbrev pub IsNoCode : List ℕ → Type 0
+IsNoCode code = (code ≡ codes "X") ⊎ (code ≡ codes "x")
 
--- any other time stays as it is written
-abbrev pub IsTimeSpelled : List ℕ → List ℕ → Type 0
-IsTimeSpelled old new = IsRounded old new
-    ⊎ (((text : List ℕ) → ¬ IsRounded old text) × (new ≡ old))
+-- A code that can be given is 1 to 60 printable characters of ASCII without a space, and not X.
+pub record IsCode (code : List ℕ) : Type 0 where
+  pub some : 1 ≤ length code
+  pub few : length code ≤ 60
+  pub visible : All IsVisible code
+  pub other : ¬ IsNoCode code
 
-abbrev pub IsDurationSpelled : Option (List ℕ) → Option (List ℕ) → Type 0
-IsDurationSpelled None new = new ≡ None
-IsDurationSpelled (Some old) new = (text : List ℕ) × IsTimeSpelled old text × (new ≡ Some text)
+-- The characters from one code to another become a text.
+abbrev pub letter_row : ℕ × ℕ × Bor (List ℕ) → ℕ × ℕ × List ℕ
+letter_row r = (r.0, r.1, r.2.now)
 
--- a text of UTF-8 stays; any other is one of Latin-1, each byte of which is the character of that
--- number
-abbrev pub IsTextSpelled : List ℕ → List ℕ → Type 0
-IsTextSpelled old new = (IsUtf8 old × (new ≡ old)) ⊎ ((¬ IsUtf8 old) × (new ≡ encode_utf8_all old))
+-- Control bytes and the no-break space; signs of units; letters of Latin-1, Ä Ö Ü ä ö ü ß Æ æ Å å
+-- Ø ø before the ranges in which they lie.
+abbrev pub text_rows : List (ℕ × ℕ × List ℕ)
+text_rows = (0, 31, codes " ") ∷ (127, 127, codes " ") ∷ (160, 160, codes " ")
+    ∷ (181, 181, codes "u") ∷ (956, 956, codes "u") ∷ (176, 176, codes "deg")
+    ∷ (186, 186, codes "deg") ∷ (937, 937, codes "Ohm") ∷ (8486, 8486, codes "Ohm")
+    ∷ (178, 178, codes "2") ∷ (179, 179, codes "3") ∷ (177, 177, codes "+-")
+    ∷ (196, 196, codes "Ae") ∷ (228, 228, codes "ae") ∷ (214, 214, codes "Oe")
+    ∷ (246, 246, codes "oe") ∷ (220, 220, codes "Ue") ∷ (252, 252, codes "ue")
+    ∷ (223, 223, codes "ss") ∷ (198, 198, codes "AE") ∷ (230, 230, codes "ae")
+    ∷ (197, 197, codes "Aa") ∷ (229, 229, codes "aa") ∷ (216, 216, codes "Oe")
+    ∷ (248, 248, codes "oe") ∷ (192, 195, codes "A") ∷ (224, 227, codes "a") ∷ (199, 199, codes "C")
+    ∷ (231, 231, codes "c") ∷ (200, 203, codes "E") ∷ (232, 235, codes "e") ∷ (204, 207, codes "I")
+    ∷ (236, 239, codes "i") ∷ (209, 209, codes "N") ∷ (241, 241, codes "n") ∷ (210, 213, codes "O")
+    ∷ (242, 245, codes "o") ∷ (217, 219, codes "U") ∷ (249, 251, codes "u") ∷ (221, 221, codes "Y")
+    ∷ (253, 253, codes "y") ∷ (255, 255, codes "y") ∷ []
 
--- **the same annotation**: its onset to the nanosecond, its duration, its texts in UTF-8
-pub record IsTalSpelled (old new : WrittenTal) : Type 0 where
-  pub sign : new.sign ≡ old.sign
-  pub onset : IsTimeSpelled old.onset new.onset
-  pub duration : IsDurationSpelled old.duration new.duration
-  pub texts : AllZip IsTextSpelled old.texts new.texts
+-- In a dimension: the micro sign, the Greek letter, and æ, which the micro sign of DOS is in
+-- Latin-1; degree signs; ohm signs; small 2 and 3.
+abbrev pub dimension_rows : List (ℕ × ℕ × List ℕ)
+dimension_rows = (181, 181, codes "u") ∷ (956, 956, codes "u") ∷ (230, 230, codes "u")
+    ∷ (176, 176, codes "deg") ∷ (186, 186, codes "deg") ∷ (937, 937, codes "Ohm")
+    ∷ (8486, 8486, codes "Ohm") ∷ (178, 178, codes "2") ∷ (179, 179, codes "3") ∷ []
 
--- ---- blocks
+-- A character becomes the text of the first row that has it; a question mark where none has.
+abbrev pub by_rows : List (ℕ × ℕ × List ℕ) → ℕ → List ℕ
+by_rows [] c = codes "?"
+by_rows (r ∷ rs) c = if nat_le r.0 c && nat_le c r.1 then r.2 else by_rows rs c
 
--- a block becomes the same list, each TAL in its place, and zeros to its end
-pub record IsBlockSpelled (old new : List ℕ) : Type 0 where
-  pub olds : List WrittenTal
-  pub news : List WrittenTal
-  pub fill : List ℕ
-  pub zeros : ℕ
-  pub old_is : IsBlockOf olds fill old
-  pub same : AllZip IsTalSpelled olds news
-  pub new_is : new ≡ flat_map tal_bytes news ++ replicate zeros 0
-  pub len : length new ≡ length old
+-- A printable character of ASCII stays.
+abbrev pub letters : List (ℕ × ℕ × List ℕ) → ℕ → List ℕ
+letters rows c = if nat_le 32 c && nat_le c 126 then c ∷ [] else by_rows rows c
 
--- one that is no such list, or has no room for it, stays as it is
-abbrev pub IsBlockMade : List ℕ → List ℕ → Type 0
-IsBlockMade old new = IsBlockSpelled old new
-    ⊎ (((block : List ℕ) → ¬ IsBlockSpelled old block) × (new ≡ old))
+-- The text has the characters of its UTF-8 or, where it is none, each byte as Latin-1 has it.
+abbrev pub characters : List ℕ → List ℕ
+characters text = if is_utf8 text then chars text else text
 
--- ---- data records
+-- ASCII spells the text so, in any length.
+abbrev pub spelled_by : List (ℕ × ℕ × List ℕ) → List ℕ → List ℕ
+spelled_by rows text = flat_map (letters rows) (characters text)
 
--- each of a data record's blocks is made so, and nothing else of it changes
-pub record IsRespelled (l : Layout) (old new : List ℕ) : Type 0 where
-  pub len : length new ≡ length old
-  pub samples : ordinary_bytes l new ≡ ordinary_bytes l old
-  pub each : AllZip IsBlockMade (blocks l old) (blocks l new)
-
--- ---- what is told of it: each list that differs, whole, and the fill
-
-abbrev pub tal_pairs : List WrittenTal → List WrittenTal → List FieldPair
-tal_pairs [] news = []
-tal_pairs (old ∷ olds) [] = []
-tal_pairs (old ∷ olds) (new ∷ news) =
-    pair at.Blocks (tal_bytes old) (tal_bytes new) ∷ tal_pairs olds news
-
-abbrev pub block_pairs : {old new : List ℕ} → IsBlockSpelled old new → List FieldPair
-block_pairs s = tal_pairs s.olds s.news ++ pair at.Blocks s.fill (replicate s.zeros 0) ∷ []
-
--- of a block that is at this offset of its data record
-abbrev pub IsBlockTold : ℕ → List ℕ → List ℕ → List Edit → Type 0
-IsBlockTold from old new edits =
-    ((s : IsBlockSpelled old new) × (edits ≡ edits_from from (block_pairs s)))
-    ⊎ (((block : List ℕ) → ¬ IsBlockSpelled old block) × (edits ≡ []))
-
--- of blocks in turn
-abbrev pub AreBlocksTold : List Block → List ℕ → List ℕ → List Edit → Type 0
-AreBlocksTold [] old new edits = edits ≡ []
-AreBlocksTold (b ∷ bs) old new edits = (here : List Edit) × (later : List Edit)
-    × (edits ≡ here ++ later)
-    × IsBlockTold b.at (field old b.at b.bytes) (field new b.at b.bytes) here
-    × AreBlocksTold bs old new later
-
-pub record IsToldRespelled (l : Layout) (edits : List Edit) (old new : List ℕ) : Type 0 where
-  pub rewritten : IsRewritten l edits old new
-  pub told : AreBlocksTold l.blocks old new edits
+abbrev pub spelling : List ℕ → List ℕ
+spelling text = spelled_by text_rows text

@@ -1,72 +1,72 @@
-use edf_canonical::OutputFault;
+//! Reasons why a file is not mended.
+
+use edf_canonical::{OutputFault, SendFault};
 use edf_fragment::FragmentFault;
+use edf_header::HeaderFault;
 use std::alloc::AllocError;
 use thiserror::Error;
 
-/// Why a file is not mended.
-#[derive(Debug, PartialEq, Eq, Drop, Error)]
+/// A reason why a file is not mended.
+#[derive(Debug, Drop, Error)]
 pub enum MendFault {
-    /// What the rules leave of the file still has this fault. It is none of `Read`, `Memory` and
-    /// `Failed`.
+    /// A strict reading of its good form has this fault.
     #[error("{0}")]
     Refused(FragmentFault),
-    /// The file names no code of a patient where one is wanted, and none was given.
-    #[error("a code of the patient is wanted")]
+    #[error("the file names no code of a patient")]
     Code,
-    /// A code was given, and the patient field names another, this one.
-    #[error("the patient field names another code")]
-    Unused(Vec<u8>),
-    /// A startdate was given, and the file has one, this one.
+    /// It names this code, and another was given.
+    #[error("the file names another code")]
+    Unused { own: Vec<u8> },
+    /// It has this startdate, with dots, and another was given.
     #[error("the file has a startdate")]
-    Startdate([u8; 8]),
-    /// A starttime was given, and the file has one, this one.
+    Startdate { own: [u8; 8] },
+    /// It has this starttime, with dots, and another was given.
     #[error("the file has a starttime")]
-    Starttime([u8; 8]),
-    /// At this offset another file begins.
-    #[error("another file begins at byte {0}")]
-    SecondHeader(u64),
-    /// Nobody counted the data records, and the last is not whole, or is all zeros: the rule
-    /// `count` is to be named.
-    #[error("the rule count is to be named")]
-    Count,
-    /// The recording field has no room for the word that the file was mended.
-    #[error("the recording field has no room for the mark")]
+    Starttime { own: [u8; 8] },
+    #[error("the recording field has no room for the word mended")]
     NoRoom,
-    /// The file is not what the first reading found.
-    #[error("the file changed between its readings")]
+    #[error("signal {signal}: a text has no room")]
+    Text { signal: u32 },
+    /// Not all data records that are there are counted, or more are counted than are there.
+    #[error("the number of data records is another")]
+    Count,
+    /// The good form of its header is not one that may be: an error of this program.
+    #[error("the good form of the header failed its check")]
+    Check,
+    /// It changed between its two readings.
+    #[error("the file changed")]
     Changed,
-    /// A read failed.
     #[error("a read failed")]
     Read,
-    /// A write failed, or took none of some bytes.
+    /// A write failed, or took nothing.
     #[error("a write failed")]
     Write,
-    /// Memory ran out.
     #[error("out of memory")]
     Memory,
 }
 
-impl From<OutputFault> for MendFault {
-    ghost use Rattle.std.specs.Prelude.{◌≡◌};
-    ghost use Rattle.edf_mend.specs.Faults.{fault_out};
+impl From<AllocError> for MendFault {
+    fn from(_: AllocError) -> MendFault {
+        MendFault::Memory
+    }
+}
 
-    ghost from_gives = { λ refused fault. fault ≡ fault_out refused };
-
-    fn from(refused: OutputFault) -> MendFault {
-        match refused {
-            OutputFault::Write => MendFault::Write,
-            OutputFault::Memory => MendFault::Memory,
+impl From<HeaderFault> for MendFault {
+    fn from(fault: HeaderFault) -> MendFault {
+        match fault {
+            HeaderFault::Memory => MendFault::Memory,
+            fault => MendFault::Refused(FragmentFault::Header(fault)),
         }
     }
 }
 
-impl From<AllocError> for MendFault {
-    ghost use Rattle.std.specs.Prelude.{◌≡◌};
-    ghost use Rattle.edf_mend.specs.declared.fault.MendFault.{MendFault};
-
-    ghost from_gives = { λ _ fault. fault ≡ MendFault.Memory };
-
-    fn from(_refused: AllocError) -> MendFault {
-        MendFault::Memory
+impl From<SendFault<MendFault>> for MendFault {
+    fn from(fault: SendFault<MendFault>) -> MendFault {
+        match fault {
+            SendFault::Source(fault) => fault,
+            SendFault::Unlike => MendFault::Changed,
+            SendFault::Output(OutputFault::Write) => MendFault::Write,
+            SendFault::Output(OutputFault::Memory) => MendFault::Memory,
+        }
     }
 }

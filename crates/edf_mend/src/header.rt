@@ -1,398 +1,325 @@
-//! A header as its fields, each of which may be spelled in any way.
+//! The good form of a header: it is proposed, read strictly, and checked against the header.
 
-ghost use Rattle.std.specs.Prelude.{◌≡◌, ◌↔◌, ℕ, ◌+◌, ◌*◌, ◌^◌, ◌≤◌, ◌<◌, List, [], ◌++◌, Some};
-ghost use Rattle.std.specs.Prelude.{length, map, true, false, IsTrue, IfOk, IfErr, OnOk};
-ghost use Rattle.std.specs.List.{flat_map};
-ghost use Rattle.std.specs.Io.KnownBytes.{Consumes};
-ghost use Rattle.edf_field.specs.Text.{spaces};
-ghost use Rattle.edf_mend.specs.Answers.{IsEdf, IsPlaceBefore};
-ghost use Rattle.edf_mend.specs.Counts.{CountsReads};
-ghost use Rattle.edf_mend.specs.Header.{fitted, spaced, header_bytes, HasSignals};
-ghost use Rattle.edf_mend.specs.Inside.Head.{of_signal, span_of, width_of, offset_of, times_of};
-ghost use Rattle.edf_mend.specs.Inside.Head.{text_of, signal_text, set_text, signal_from};
-ghost use Rattle.edf_mend.specs.Inside.Head.{add_signal, HasWidths, ReadsWhole, IsHeaderRead};
-ghost use Rattle.edf_mend.specs.Inside.Refused.{IsHeaderRefusal};
-ghost use Rattle.edf_mend.specs.Inside.Surveyed.{EndsInHeader};
-ghost use Rattle.edf_mend.specs.Inside.Tallied.{IsTally, TalliesAll};
-ghost use Rattle.edf_fragment.specs.declared.fault.FragmentFault.{FragmentFault};
+ghost use Rattle.std.specs.Prelude.{◌≡◌, ◌≢◌, ◌⊎◌, ◌+◌, ◌*◌, ◌≤◌, length, take, codes, IsTrue};
+ghost use Rattle.std.specs.Prelude.{IfOk, OnOk, false};
+ghost use Rattle.edf_header.specs.Fields.{version_field, patient_field, recording_field};
+ghost use Rattle.edf_header.specs.Fields.{startdate_field, starttime_field, duration_field};
+ghost use Rattle.edf_header.specs.Fields.{reserved_field};
+ghost use Rattle.edf_header.specs.declared.limits.TheConstants.{MOST_SIGNALS};
+ghost use Rattle.edf_mend.specs.Texts.{spaced, first_subfield, IsNoCode};
+ghost use Rattle.edf_mend.specs.Identification.{StaysBehindDate};
+ghost use Rattle.edf_mend.specs.Header.{KeepsFixed, KeepsRow, AreAsMany, KeepsSignals};
+ghost use Rattle.edf_mend.specs.Inside.{IsGoodFixed};
+ghost use Rattle.edf_mend.specs.declared.wanted.Who.TheVariants.{AsNamed};
 
+use crate::columns::{Headers, columns, row_from};
 use crate::fault::MendFault;
-use crate::field::Field;
-use crate::letters::unfilled;
-use crate::tally::{Tally, fill_counted, room};
-use edf_field::read_whole;
-use edf_fragment::{FragmentFault, Input};
-use edf_header::{HeaderFault, MOST_SIGNALS};
+use crate::patient::{good_patient, is_no_code};
+use crate::recording::{good_recording, stays_behind_date};
+use crate::signal::{
+    annotations_row, eight, good_signal, is_labelled, keeps_signal, speaks_of_annotations,
+    was_labelled,
+};
+use crate::start::{good_date, good_time};
+use crate::texts::{first_subfield, is_same, numeral, put, spaced};
+use crate::wanted::{Wanted, Who};
+use edf_header::{HeaderFault, read_fixed};
 use std::alloc::{AllocError, Global};
-use std::marker::Model;
 
-/// How many bytes the fixed part has.
-pub(crate) const FIXED: usize = 256;
-
-/// The fields of a signal, in their order (EDF, header record).
-pub(crate) const SIGNAL_FIELDS: [Field; 10] = [
-    Field::Label,
-    Field::Transducer,
-    Field::Dimension,
-    Field::PhysicalMinimum,
-    Field::PhysicalMaximum,
-    Field::DigitalMinimum,
-    Field::DigitalMaximum,
-    Field::Prefiltering,
-    Field::Samples,
-    Field::SignalReserved,
-];
-
-/// A field, and of which signal, counted from 0; of one of the fixed part that is 0.
-pub(crate) type FieldPlace = (Field, usize);
-
-/// Where a field begins, in the fixed part or in a signal's row of 256 bytes, and its width.
-fn span(field: Field) -> (usize, usize)
-    ensures { result ≡ span_of field }
+/// Refuses what is no EDF, as a strict reading does: its version is another, but for zeros that
+/// fill it.
+pub(crate) fn check_version(alloc: Global, first: &[u8; 256]) -> Result<(), MendFault>
+    ensures { OnOk result (spaced (version_field first.now) ≡ codes "0       ") }
 {
-    match field {
-        Field::Version => (0, 8),
-        Field::Patient => (8, 80),
-        Field::Recording => (88, 80),
-        Field::Startdate => (168, 8),
-        Field::Starttime => (176, 8),
-        Field::HeaderBytes => (184, 8),
-        Field::Reserved => (192, 44),
-        Field::Count => (236, 8),
-        Field::Duration => (244, 8),
-        Field::Signals => (252, 4),
-        Field::Label => (0, 16),
-        Field::Transducer => (16, 80),
-        Field::Dimension => (96, 8),
-        Field::PhysicalMinimum => (104, 8),
-        Field::PhysicalMaximum => (112, 8),
-        Field::DigitalMinimum => (120, 8),
-        Field::DigitalMaximum => (128, 8),
-        Field::Prefiltering => (136, 80),
-        Field::Samples => (216, 8),
-        Field::SignalReserved => (224, 32),
-        Field::Blocks => (0, 0),
+    let text = spaced(alloc, &first[..8])?;
+    if text.as_slice() == b"0       ".as_slice() {
+        return Ok(());
+    }
+    match read_fixed(first) {
+        Err(fault) => Err(MendFault::from(fault)),
+        Ok(_) => Err(MendFault::Check),
     }
 }
 
-/// How many bytes a field has.
-pub(crate) fn width_of(field: Field) -> usize
-    ensures { result ≡ width_of field }
+/// Is true where codes of a recording stay where its patient has none, and none is given.
+fn keeps_nobody(
+    alloc: Global,
+    who: &Who,
+    old: &[u8; 256],
+    new: &[u8; 256],
+) -> Result<bool, AllocError>
+    ensures { IfOk result (λ ok. IsTrue ok → who.now ≡ AsNamed
+        → (¬ IsNoCode (first_subfield (patient_field new.now)))
+        ⊎ StaysBehindDate (recording_field old.now) (recording_field new.now)) }
 {
-    span(field).1
+    match who {
+        Who::AsNamed => {
+            if !is_no_code(first_subfield(&new[8..88])) {
+                return Ok(true);
+            }
+            Ok(stays_behind_date(alloc, &old[88..168], &new[88..168])?)
+        }
+        _ => Ok(true),
+    }
 }
 
-/// Whether each signal has a field.
-fn is_of_signal(field: Field) -> bool
-    ensures { result ≡ of_signal field }
-{
-    matches!(
-        field,
-        Field::Label
-            | Field::Transducer
-            | Field::Dimension
-            | Field::PhysicalMinimum
-            | Field::PhysicalMaximum
-            | Field::DigitalMinimum
-            | Field::DigitalMaximum
-            | Field::Prefiltering
-            | Field::Samples
-            | Field::SignalReserved
-    )
+/// The good form of the fixed part, and the text in its recording field without the mark.
+#[derive(Drop)]
+pub(crate) struct GoodFixed {
+    pub(crate) patient: [u8; 80],
+    pub(crate) text: Vec<u8>,
+    pub(crate) date: [u8; 8],
+    pub(crate) time: [u8; 8],
+    pub(crate) duration: Vec<u8>,
 }
 
-/// Writes a text into a field: it is cut, or filled with spaces.
-fn write_fitted(field: &mut [u8], text: &[u8])
-    ensures { field.new ≡ fitted (length field.old) text.now }
+/// Returns the good form of the fixed part.
+fn good_fixed(alloc: Global, wanted: &Wanted, first: &[u8; 256]) -> Result<GoodFixed, MendFault>
+    ensures { IfOk result (IsGoodFixed wanted.now first.now) }
 {
-    let len = text.len().min(field.len());
-    field.fill(b' ');
-    field[..len].copy_from_slice(&text[..len]);
+    check_version(alloc, first)?;
+    let patient = good_patient(alloc, &wanted.who, &first[8..88])?;
+    let date = good_date(
+        alloc,
+        &wanted.startdate,
+        &first[88..168],
+        &eight(&first[168..176]),
+    )?;
+    let time = good_time(&wanted.starttime, &eight(&first[176..184]))?;
+    let text = good_recording(alloc, &wanted.who, &first[88..168], &date)?;
+    let duration = numeral(alloc, &first[244..252])?;
+    Ok(GoodFixed {
+        patient,
+        text,
+        date,
+        time,
+        duration,
+    })
 }
 
-/// Adds so many spaces.
-fn push_spaces(bytes: &mut Vec<u8>, count: usize) -> Result<(), AllocError>
-    ensures { OnOk result (bytes.new.items ≡ bytes.old.items ++ spaces count) }
+/// Is true where a header has these fields.
+fn has_fixed(good: &GoodFixed, new: &[u8; 256]) -> bool
+    ensures { IsTrue result → (patient_field new.now ≡ good.now.patient)
+        × (startdate_field new.now ≡ good.now.date) × (starttime_field new.now ≡ good.now.time)
+        × (duration_field new.now ≡ good.now.duration.items) }
 {
-    for _ in 0..count {
-        bytes.push(b' ')?;
+    if !is_same(&new[8..88], &good.patient) {
+        return false;
+    }
+    if !is_same(&new[168..176], &good.date) {
+        return false;
+    }
+    if !is_same(&new[176..184], &good.time) {
+        return false;
+    }
+    is_same(&new[244..252], good.duration.as_slice())
+}
+
+/// Is true where a file is not marked as one that has gaps.
+fn has_no_gaps(first: &[u8; 256]) -> bool
+    ensures { IsTrue result → take 5 (reserved_field first.now) ≢ codes "EDF+D" }
+{
+    !is_same(&first[192..197], b"EDF+D")
+}
+
+/// Is true where one of the signals may be the good form of a file's.
+fn keeps_row(
+    alloc: Global,
+    timed: bool,
+    old: &[u8; 256],
+    new: &[u8; 256],
+) -> Result<bool, AllocError>
+    ensures { IfOk result (λ ok. IsTrue ok → KeepsRow timed old.now new.now) }
+{
+    if !keeps_signal(alloc, old, new)? {
+        return Ok(false);
+    }
+    if timed {
+        return Ok(true);
+    }
+    if is_labelled(new) {
+        return Ok(false);
+    }
+    if speaks_of_annotations(alloc, &old[0..16])? {
+        return Ok(false);
+    }
+    let still = speaks_of_annotations(alloc, &new[0..16])?;
+    Ok(!still)
+}
+
+/// Is true where there are as many signals, or one more.
+fn are_as_many(timed: bool, n: usize, count: usize) -> bool
+    ensures { IsTrue result → AreAsMany timed n count }
+{
+    if timed {
+        count == n
+    } else {
+        count > 0 && count - 1 == n
+    }
+}
+
+/// Is true where the signals may be the good form of a file's.
+pub(crate) fn keeps_signals(
+    alloc: Global,
+    timed: bool,
+    headers: &Headers<'_>,
+) -> Result<bool, AllocError>
+    ensures { IfOk result (λ ok. IsTrue ok → KeepsSignals timed headers.now.n headers.now.second.now
+        headers.now.count headers.now.strict_signals.now) }
+{
+    if !are_as_many(timed, headers.n, headers.count) {
+        return Ok(false);
+    }
+    for i in 0..headers.n {
+        if !keeps_row(alloc, timed, &headers.old_row(i), &headers.new_row(i))? {
+            return Ok(false);
+        }
+    }
+    Ok(true)
+}
+
+/// Is true where the fixed part may be the good form of a file's.
+pub(crate) fn keeps_fixed(
+    alloc: Global,
+    wanted: &Wanted,
+    good: &GoodFixed,
+    old: &[u8; 256],
+    new: &[u8; 256],
+) -> Result<bool, AllocError>
+    requires { IsGoodFixed wanted.now old.now good.now }
+    ensures { IfOk result (λ ok. IsTrue ok
+        → KeepsFixed wanted.now old.now new.now good.now.text.items) }
+{
+    if !has_fixed(good, new) {
+        return Ok(false);
+    }
+    Ok(keeps_nobody(alloc, &wanted.who, old, new)?)
+}
+
+// ---- the proposal
+
+/// The good form of a header.
+#[derive(Drop)]
+pub(crate) struct Proposed {
+    pub(crate) fixed: GoodFixed,
+    pub(crate) first: [u8; 256],
+    pub(crate) second: Vec<u8>,
+    pub(crate) timed: bool,
+}
+
+/// Is true where one of the signals is an annotations signal.
+fn has_annotations(alloc: Global, second: &[u8], n: usize) -> Result<bool, AllocError>
+    requires size { length second.now ≡ 256 * n }
+    requires few { n ≤ MOST_SIGNALS }
+{
+    for i in 0..n {
+        if was_labelled(alloc, &row_from(second, n, i))? {
+            return Ok(true);
+        }
+    }
+    Ok(false)
+}
+
+/// Refuses a file without an annotations signal that is not plain EDF.
+fn check_plain(alloc: Global, first: &[u8; 256], second: &[u8], n: usize) -> Result<(), MendFault>
+    requires size { length second.now ≡ 256 * n }
+    requires few { n ≤ MOST_SIGNALS }
+    ensures { OnOk result (take 5 (reserved_field first.now) ≢ codes "EDF+D") }
+{
+    if !has_no_gaps(first) {
+        return Err(MendFault::from(HeaderFault::Annotations));
+    }
+    for i in 0..n {
+        let row = row_from(second, n, i);
+        if speaks_of_annotations(alloc, &row[0..16])? {
+            return Err(MendFault::from(HeaderFault::Annotations));
+        }
     }
     Ok(())
 }
 
-/// Adds a text of this width: it is cut, or filled with spaces.
-fn push_fitted(bytes: &mut Vec<u8>, width: usize, text: &[u8]) -> Result<(), AllocError>
-    ensures { OnOk result (bytes.new.items ≡ bytes.old.items ++ fitted width text.now) }
+/// Returns the good form of all signals, one after another.
+fn good_rows(alloc: Global, second: &[u8], n: usize, timed: bool) -> Result<Vec<u8>, MendFault>
+    requires size { length second.now ≡ 256 * n }
+    requires few { n ≤ MOST_SIGNALS }
 {
-    let len = text.len().min(width);
-    bytes.extend_from_slice(&text[..len])?;
-    push_spaces(bytes, width - len)
-}
-
-/// A header of some signals.
-///
-/// Contracts see its texts.
-#[derive(Drop)]
-pub(crate) struct Head {
-    bytes: Vec<u8>,
-    signals: usize,
-}
-
-impl Model for Head {
-    ghost use Rattle.std.specs.Prelude.{◌≡◌, ◌+◌, ◌*◌, length};
-    ghost use Rattle.edf_mend.specs.Header.{HeaderTexts, texts_of};
-
-    ghost Value = { HeaderTexts };
-
-    ghost view = { λ h. texts_of h.bytes.items h.signals };
-
-    ghost invariant = { λ h. length h.bytes.items ≡ 256 + 256 * h.signals };
-}
-
-impl Head {
-    /// Its bytes.
-    pub(crate) fn bytes(&self) -> &[u8]
-        ensures bytes { result.now ≡ header_bytes self.now }
-        ensures len { length result.now ≡ 256 + 256 * length self.now.signals }
-        ensures widths { HasWidths self.now }
-    {
-        self.bytes.as_slice()
-    }
-
-    /// How many signals it has: those that it names, or 0 where it names none, or more than a file
-    /// may have.
-    pub(crate) fn signals(&self) -> usize
-        ensures count { result ≡ length self.now.signals }
-        ensures few { 256 + 256 * result < 2 ^ 64 }
-        ensures widths { HasWidths self.now }
-    {
-        self.signals
-    }
-
-    /// How often it has a field: once, or once a signal.
-    pub(crate) fn times(&self, field: Field) -> usize
-        ensures { result ≡ times_of self.now field }
-    {
-        if is_of_signal(field) { self.signals } else { 1 }
-    }
-
-    /// Whether a field is of a signal that is not there.
-    fn lacks(&self, place: FieldPlace) -> bool
-        ensures lacks { result ≡ true → (of_signal place.0 ≡ true)
-            × (length self.now.signals ≤ place.1) }
-        ensures has { result ≡ false → of_signal place.0 ≡ true →
-            place.1 < length self.now.signals }
-    {
-        is_of_signal(place.0) && place.1 >= self.signals
-    }
-
-    /// Where a field begins; or, after the last signal, where its column ends.
-    pub(crate) fn offset(&self, place: FieldPlace) -> usize
-        requires { of_signal place.0 ≡ true → place.1 ≤ length self.now.signals }
-        ensures { result ≡ offset_of (length self.now.signals) place.0 place.1 }
-    {
-        let (at, width) = span(place.0);
-        if !is_of_signal(place.0) {
-            return at;
+    let mut rows = Vec::new(alloc);
+    for i in 0..n {
+        let old = row_from(second, n, i);
+        let row = good_signal(alloc, &old, i as u32 + 1)?;
+        // letters that ASCII lacks may have stood in the word
+        if !timed && speaks_of_annotations(alloc, &row[0..16])? {
+            return Err(MendFault::from(HeaderFault::Annotations));
         }
-        FIXED + (self.signals * at + place.1 * width)
+        rows.extend_from_slice(&row)?;
     }
-
-    /// The text of a field; nothing where it is of no signal.
-    pub(crate) fn text(&self, place: FieldPlace) -> &[u8]
-        ensures text { result.now ≡ text_of self.now place.0 place.1 }
-        ensures widths { HasWidths self.now }
-    {
-        if self.lacks(place) {
-            return &self.bytes[..0];
-        }
-        let at = self.offset(place);
-        &self.bytes[at..at + width_of(place.0)]
+    if !timed {
+        rows.extend_from_slice(&annotations_row(b"32".as_slice()))?;
     }
-
-    /// The text of a field of the fixed part.
-    pub(crate) fn fixed(&self, field: Field) -> &[u8]
-        ensures text { result.now ≡ text_of self.now field 0 }
-        ensures widths { HasWidths self.now }
-    {
-        self.text((field, 0))
-    }
-
-    /// Writes a text into a field: it is cut, or filled with spaces.
-    pub(crate) fn set(&mut self, place: FieldPlace, text: &[u8])
-        ensures { self.new ≡ set_text self.old place.0 place.1 text.now }
-    {
-        if self.lacks(place) {
-            return;
-        }
-        let at = self.offset(place);
-        write_fitted(&mut self.bytes[at..at + width_of(place.0)], text);
-    }
-
-    /// Another one with the same bytes.
-    pub(crate) fn copy(&self, alloc: Global) -> Result<Head, AllocError>
-        ensures { IfOk result (λ r. r ≡ self.now) }
-    {
-        let bytes = Vec::from_slice(alloc, self.bytes.as_slice())?;
-        Ok(Head {
-            bytes,
-            signals: self.signals,
-        })
-    }
-
-    /// Adds a field of all signals in turn, and of one more, whose text is cut, or filled with
-    /// spaces.
-    fn push_column(&self, bytes: &mut Vec<u8>, field: Field, text: &[u8]) -> Result<(), AllocError>
-        requires { of_signal field ≡ true }
-        ensures { OnOk result (bytes.new.items ≡ bytes.old.items
-            ++ (flat_map (λ s. signal_text s field) self.now.signals
-            ++ fitted (width_of field) text.now)) }
-    {
-        let at = self.offset((field, 0));
-        let end = self.offset((field, self.signals));
-        bytes.extend_from_slice(&self.bytes[at..end])?;
-        push_fitted(bytes, width_of(field), text)
-    }
-
-    /// The same header with one more signal, each of whose texts is cut, or filled with spaces.
-    pub(crate) fn with_signal(&self, alloc: Global, texts: &[&[u8]; 10]) -> Result<Head, AllocError>
-        ensures { IfOk result (λ r.
-            r ≡ add_signal self.now (signal_from (map (λ text. text.now) texts.now))) }
-    {
-        let mut bytes = Vec::from_slice(alloc, &self.bytes[..FIXED])?;
-        self.push_column(&mut bytes, Field::Label, texts[0])?;
-        self.push_column(&mut bytes, Field::Transducer, texts[1])?;
-        self.push_column(&mut bytes, Field::Dimension, texts[2])?;
-        self.push_column(&mut bytes, Field::PhysicalMinimum, texts[3])?;
-        self.push_column(&mut bytes, Field::PhysicalMaximum, texts[4])?;
-        self.push_column(&mut bytes, Field::DigitalMinimum, texts[5])?;
-        self.push_column(&mut bytes, Field::DigitalMaximum, texts[6])?;
-        self.push_column(&mut bytes, Field::Prefiltering, texts[7])?;
-        self.push_column(&mut bytes, Field::Samples, texts[8])?;
-        self.push_column(&mut bytes, Field::SignalReserved, texts[9])?;
-        Ok(Head {
-            bytes,
-            signals: self.signals + 1,
-        })
-    }
-
-    /// The offset that a byte of the signals' headers has where this one has one signal less.
-    pub(crate) fn offset_before(&self, offset: usize) -> usize
-        ensures { (n : ℕ) → length self.now.signals ≡ n + 1 → 256 ≤ offset →
-            offset < 256 + 256 * (n + 1) → IsPlaceBefore n offset result }
-    {
-        for field in &SIGNAL_FIELDS {
-            if offset < self.offset((*field, self.signals)) {
-                return offset.saturating_sub(span(*field).0);
-            }
-        }
-        offset
-    }
-
-    /// The whole number that a field has, where it has one.
-    pub(crate) fn number(&self, place: FieldPlace) -> Option<u32>
-        ensures number { ReadsWhole (text_of self.now place.0 place.1) result }
-        ensures widths { HasWidths self.now }
-    {
-        whole_in(self.text(place))
-    }
+    Ok(rows)
 }
 
-/// The whole number of a field of eight bytes or fewer.
-pub(crate) fn whole_in(field: &[u8]) -> Option<u32>
-    ensures { ReadsWhole field.now result }
-{
-    if field.len() > 8 {
-        return None;
-    }
-    read_whole(field)
-}
-
-/// The whole number of such a field, which zeros may fill.
-pub(crate) fn filled_whole_in(field: &[u8]) -> Option<u32>
-    ensures { ReadsWhole (spaced field.now) result }
-{
-    whole_in(unfilled(field))
-}
-
-/// How many signals a header names, or 0 where it names none, or more than a file may have.
-fn signals_named(header: &[u8; 256]) -> usize
-    ensures named { HasSignals header.now result }
-    ensures few { result ≤ MOST_SIGNALS }
-{
-    match filled_whole_in(&header[252..256]) {
-        Some(n) => {
-            if n as usize <= MOST_SIGNALS {
-                n as usize
-            } else {
-                0
-            }
-        }
-        None => 0,
-    }
-}
-
-/// The refusal of a header.
-pub(crate) fn refused_header(fault: HeaderFault) -> MendFault
-    ensures { result ≡ MendFault.Refused (FragmentFault.Header fault) }
-{
-    MendFault::Refused(FragmentFault::Header(fault))
-}
-
-/// Reads as many bytes as the header has by the number of signals in it, and no more, and counts
-/// them.
-pub(crate) fn read_header<R: Input>(
+/// Writes a number into a field.
+fn put_number(
     alloc: Global,
-    input: &mut R,
-    tally: &mut Tally,
-) -> Result<Head, MendFault>
-    ensures read { IfOk result (IsHeaderRead (R.remaining input.old) (R.remaining input.new)) }
-    ensures refused { (file : List ℕ) → R.remaining input.old ≡ Some file →
-        IfErr result (IsHeaderRefusal file) }
-    ensures tallied { (front body : List ℕ) → IsTally front body tally.old →
-        IfOk result (λ head. IsTally front (body ++ header_bytes head) tally.new) }
-    ensures ended { (front body : List ℕ) (fault : FragmentFault) → IsTally front body tally.old →
-        result ≡ Err (MendFault.Refused fault) → TalliesAll (R.remaining input.old)
-        (R.remaining input.new) front body tally.new }
-    ensures ends { (file : List ℕ) (fault : FragmentFault) → R.remaining input.old ≡ Some file →
-        result ≡ Err (MendFault.Refused fault) → EndsInHeader file }
-    ensures further { (taken : List ℕ) × Consumes (R.remaining input.old) (R.remaining input.new)
-        taken }
-    ensures counted { CountsReads (R.failures input.old) (R.failures input.new) result }
+    bytes: &mut [u8; 256],
+    at: usize,
+    width: usize,
+    number: usize,
+) -> Result<(), AllocError>
+    requires { at + width ≤ 256 }
 {
-    let mut front = [0u8; 256];
-    let n = fill_counted(input, &mut front, tally)?;
-    if n < FIXED {
-        return Err(refused_header(HeaderFault::Cut));
-    }
-    let signals = signals_named(&front);
-    let mut rest = room(alloc, 256 * signals)?;
-    let space = rest.as_mut_slice();
-    let m = fill_counted(input, space, tally)?;
-    if m < 256 * signals {
-        return Err(cut_header(alloc, &front)?);
-    }
-    let mut bytes = Vec::from_slice(alloc, front.as_slice())?;
-    bytes.extend_from_slice(space)?;
-    Ok(Head { bytes, signals })
+    let text = number.to_string(alloc)?;
+    put(bytes, at, width, text.as_bytes());
+    Ok(())
 }
 
-/// The refusal of a file that ends in the headers of its signals: what is no EDF has its own first
-/// fault, which is one of the fixed part.
-fn cut_header(alloc: Global, front: &[u8; 256]) -> Result<MendFault, AllocError>
-    ensures told { IfOk result (λ why. (fault : FragmentFault) × (why ≡ MendFault.Refused fault)) }
-    ensures refusal { IfOk result (λ why. (piece : List ℕ) (n : ℕ) → HasSignals front.now n →
-        length piece < 256 * n → IsHeaderRefusal (front.now ++ piece) why) }
+/// Returns the good form of the fixed part, as it is proposed, without the mark.
+fn fixed_bytes(alloc: Global, fixed: &GoodFixed, count: usize) -> Result<[u8; 256], AllocError>
+    requires { count ≤ 641 }
 {
-    if is_edf(front) {
-        return Ok(refused_header(HeaderFault::CutSignals));
-    }
-    crate::accepting::refusal_of(alloc, front.as_slice())
+    let mut good = [b' '; 256];
+    put(&mut good, 0, 8, b"0".as_slice());
+    put(&mut good, 8, 80, &fixed.patient);
+    put(&mut good, 88, 80, fixed.text.as_slice());
+    put(&mut good, 168, 8, &fixed.date);
+    put(&mut good, 176, 8, &fixed.time);
+    put_number(alloc, &mut good, 184, 8, 256 + 256 * count)?;
+    put(&mut good, 192, 44, b"EDF+D".as_slice());
+    put(&mut good, 236, 8, b"-1".as_slice());
+    put(&mut good, 244, 8, fixed.duration.as_slice());
+    put_number(alloc, &mut good, 252, 4, count)?;
+    Ok(good)
 }
 
-/// Whether the version is EDF's, but for zeros that fill it.
-pub(crate) fn is_edf(header: &[u8]) -> bool
-    ensures { IsTrue result ↔ IsEdf header.now }
+/// Returns the good form of a header, as it is proposed, without the mark.
+pub(crate) fn propose(
+    alloc: Global,
+    wanted: &Wanted,
+    first: &[u8; 256],
+    second: &[u8],
+    n: usize,
+) -> Result<Proposed, MendFault>
+    requires size { length second.now ≡ 256 * n }
+    requires few { n ≤ MOST_SIGNALS }
+    ensures { IfOk result (λ p. IsGoodFixed wanted.now first.now p.fixed
+        × (p.timed ≡ false → take 5 (reserved_field first.now) ≢ codes "EDF+D")) }
 {
-    header.len() >= 8 && unfilled(&header[..8]) == b"0".as_slice()
+    let fixed = good_fixed(alloc, wanted, first)?;
+    let timed = has_annotations(alloc, second, n)?;
+    if !timed {
+        check_plain(alloc, first, second, n)?;
+    }
+    let rows = good_rows(alloc, second, n, timed)?;
+    let count = if timed { n } else { n + 1 };
+    let good = fixed_bytes(alloc, &fixed, count)?;
+    if !keeps_nobody(alloc, &wanted.who, first, &good)? {
+        return Err(MendFault::Code);
+    }
+    Ok(Proposed {
+        fixed,
+        first: good,
+        second: columns(alloc, rows.as_slice())?,
+        timed,
+    })
 }

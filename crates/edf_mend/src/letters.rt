@@ -1,21 +1,17 @@
-//! Texts of a header: what fills them, and what ASCII has in place of other letters.
+//! Letters that ASCII lacks: what it has in their place in texts, and in physical dimensions.
 
-ghost use Rattle.std.specs.Prelude.{◌≡◌, ◌≢◌, ◌↔◌, ◌≤◌, ◌-◌, ◌++◌, ◌==◌, ◌||◌, length, take};
-ghost use Rattle.std.specs.Prelude.{IsTrue, All, IfOk, OnOk, codes, filter, not, chars};
-ghost use Rattle.std.specs.Str.{str_to_ascii_uppercase};
-ghost use Rattle.edf_field.specs.Text.{IsPrintable};
-ghost use Rattle.edf_mend.specs.Header.{fill_len, spaced, fitted, trimmed};
-ghost use Rattle.edf_mend.specs.Letters.{table, by_rows, letters, characters, spelling, ascii};
-ghost use Rattle.edf_mend.specs.Letters.{HasNoOtherBlank};
-ghost use Rattle.edf_mend.specs.Steps.{is_near};
+ghost use Rattle.std.specs.Prelude.{◌≡◌, ◌++◌, IfOk, OnOk, map};
+ghost use Rattle.std.specs.Str.{chars};
+ghost use Rattle.edf_mend.specs.Texts.{by_rows, letters, letter_row, characters, spelled_by};
+ghost use Rattle.edf_mend.specs.Texts.{spelling};
 
 use std::alloc::{AllocError, Global};
 use std::str;
 
-/// What ASCII has in place of a character, by the first row that has it: the characters from one
-/// code to another become a text. Control bytes and the no-break space; signs of units; letters of
-/// Latin-1, Ä Ö Ü ä ö ü ß Æ æ Å å Ø ø before the ranges in which they lie.
-const LETTERS: [(u32, u32, &[u8]); 42] = [
+/// The characters from one code to another become a text, by the first row that has them. Control
+/// bytes and the no-break space; signs of units; letters of Latin-1, Ä Ö Ü ä ö ü ß Æ æ Å å Ø ø
+/// before the ranges in which they lie.
+pub(crate) const TEXT_ROWS: [(u32, u32, &[u8]); 42] = [
     (0, 31, b" "),
     (127, 127, b" "),
     (160, 160, b" "),
@@ -60,63 +56,25 @@ const LETTERS: [(u32, u32, &[u8]); 42] = [
     (255, 255, b"y"),
 ];
 
-/// Whether a byte fills a text at its end.
-fn is_fill(b: u8) -> bool
-    ensures { result ≡ ((b == 0) || (b == 32)) }
-{
-    b == 0 || b == b' '
-}
+/// The same in a dimension: the micro sign, the Greek letter, and æ, which the micro sign of DOS is
+/// in Latin-1; degree signs; ohm signs; small 2 and 3.
+pub(crate) const DIMENSION_ROWS: [(u32, u32, &[u8]); 9] = [
+    (181, 181, b"u"),
+    (956, 956, b"u"),
+    (230, 230, b"u"),
+    (176, 176, b"deg"),
+    (186, 186, b"deg"),
+    (937, 937, b"Ohm"),
+    (8486, 8486, b"Ohm"),
+    (178, 178, b"2"),
+    (179, 179, b"3"),
+];
 
-/// How many bytes a text has without the zeros and spaces that fill it.
-pub(crate) fn filled_len(text: &[u8]) -> usize
-    ensures { result ≡ length text.now - fill_len text.now }
+/// Returns what ASCII has in place of a character, by these rows.
+fn by_rows(rows: &[(u32, u32, &'static [u8])], code: u32) -> &'static [u8]
+    ensures { result.now ≡ by_rows (map letter_row rows.now) code }
 {
-    let mut end = text.len();
-    while end > 0 && is_fill(text[end - 1]) {
-        end -= 1;
-    }
-    end
-}
-
-/// A text without what fills it.
-pub(crate) fn unfilled(text: &[u8]) -> &[u8]
-    ensures { result.now ≡ take (length text.now - fill_len text.now) text.now }
-{
-    &text[..filled_len(text)]
-}
-
-/// A text without the spaces at its end.
-pub(crate) fn trimmed(text: &[u8]) -> &[u8]
-    ensures { result.now ≡ trimmed text.now }
-{
-    let mut end = text.len();
-    while end > 0 && text[end - 1] == b' ' {
-        end -= 1;
-    }
-    &text[..end]
-}
-
-/// Writes a text, with spaces for what fills it, into a field that is as wide.
-pub(crate) fn spaced(text: &[u8], field: &mut [u8])
-    ensures { length text.now ≡ length field.old → field.new ≡ spaced text.now }
-{
-    let len = filled_len(text).min(field.len());
-    field.fill(b' ');
-    field[..len].copy_from_slice(&text[..len]);
-}
-
-/// Whether each byte is printable.
-pub(crate) fn is_printable(text: &[u8]) -> bool
-    ensures { IsTrue result ↔ All IsPrintable text.now }
-{
-    text.iter().all(|b| 32 <= *b && *b <= 126)
-}
-
-/// A character as ASCII has it, by the table.
-fn by_rows(code: u32) -> &'static [u8]
-    ensures { result.now ≡ by_rows table code }
-{
-    for row in &LETTERS {
+    for row in rows {
         if row.0 <= code && code <= row.1 {
             return row.2;
         }
@@ -125,24 +83,29 @@ fn by_rows(code: u32) -> &'static [u8]
 }
 
 /// Adds a character as ASCII has it.
-fn push_letters(text: &mut Vec<u8>, code: u32) -> Result<(), AllocError>
-    ensures { OnOk result (text.new.items ≡ text.old.items ++ letters code) }
+fn push_letters(
+    text: &mut Vec<u8>,
+    rows: &[(u32, u32, &'static [u8])],
+    code: u32,
+) -> Result<(), AllocError>
+    ensures { OnOk result
+        (text.new.items ≡ text.old.items ++ letters (map letter_row rows.now) code) }
 {
     if 32 <= code && code <= 126 {
         text.push(code as u8)?;
         return Ok(());
     }
-    text.extend_from_slice(by_rows(code))
+    text.extend_from_slice(by_rows(rows, code))
 }
 
-/// The codes of the characters of a text of UTF-8.
+/// Returns the codes of the characters of a text of UTF-8.
 fn codes_of(alloc: Global, text: &str) -> Result<Vec<u32>, AllocError>
     ensures { IfOk result (λ r. r.items ≡ chars text.now) }
 {
     text.chars().map(|letter| letter as u32).collect(alloc)
 }
 
-/// The bytes of a text as codes.
+/// Returns the bytes of a text as codes.
 fn codes_of_bytes(alloc: Global, text: &[u8]) -> Result<Vec<u32>, AllocError>
     ensures { IfOk result (λ r. r.items ≡ text.now) }
 {
@@ -153,7 +116,8 @@ fn codes_of_bytes(alloc: Global, text: &[u8]) -> Result<Vec<u32>, AllocError>
     Ok(codes)
 }
 
-/// The codes of the characters of a text: those of its UTF-8 or, where it is none, its bytes.
+/// Returns the codes of the characters of a text: those of its UTF-8 or, where it is none, its
+/// bytes.
 fn characters(alloc: Global, text: &[u8]) -> Result<Vec<u32>, AllocError>
     ensures { IfOk result (λ r. r.items ≡ characters text.now) }
 {
@@ -163,95 +127,24 @@ fn characters(alloc: Global, text: &[u8]) -> Result<Vec<u32>, AllocError>
     }
 }
 
-/// A text as ASCII has it, of any length.
-pub(crate) fn spelling(alloc: Global, text: &[u8]) -> Result<Vec<u8>, AllocError>
-    ensures { IfOk result (λ r. r.items ≡ spelling text.now) }
+/// Returns a text as ASCII has it by these rows, in any length.
+pub(crate) fn spelled_by(
+    alloc: Global,
+    rows: &[(u32, u32, &'static [u8])],
+    text: &[u8],
+) -> Result<Vec<u8>, AllocError>
+    ensures { IfOk result (λ r. r.items ≡ spelled_by (map letter_row rows.now) text.now) }
 {
     let mut spelled = Vec::new(alloc);
     for code in characters(alloc, text)?.as_slice() {
-        push_letters(&mut spelled, *code)?;
+        push_letters(&mut spelled, rows, *code)?;
     }
     Ok(spelled)
 }
 
-/// A field with spaces for what fills it.
-fn spaced_text(alloc: Global, field: &[u8]) -> Result<Vec<u8>, AllocError>
-    ensures { IfOk result (λ r. r.items ≡ spaced field.now) }
+/// Returns a text as ASCII has it, in any length.
+pub(crate) fn spelling(alloc: Global, text: &[u8]) -> Result<Vec<u8>, AllocError>
+    ensures { IfOk result (λ r. r.items ≡ spelling text.now) }
 {
-    let mut text = Vec::from_slice(alloc, field)?;
-    spaced(field, text.as_mut_slice());
-    Ok(text)
-}
-
-/// The spelling of a field with spaces for what fills it.
-pub(crate) fn spelled_text(alloc: Global, field: &[u8]) -> Result<Vec<u8>, AllocError>
-    ensures { IfOk result (λ r. r.items ≡ spelling (spaced field.now)) }
-{
-    let text = spaced_text(alloc, field)?;
-    spelling(alloc, text.as_slice())
-}
-
-/// A text as ASCII has it in its field; one that has no room there stays, but for zeros that fill
-/// it.
-pub(crate) fn ascii(alloc: Global, field: &[u8]) -> Result<Vec<u8>, AllocError>
-    ensures few { IfOk result (λ r. length r.items ≤ length field.now) }
-    ensures text { IfOk result (λ r. fitted (length field.now) r.items ≡ ascii field.now) }
-{
-    let spelled = spelling(alloc, field)?;
-    let text = trimmed(spelled.as_slice());
-    if text.len() <= field.len() {
-        return Vec::from_slice(alloc, text);
-    }
-    Vec::from_slice(alloc, unfilled(field))
-}
-
-/// Whether a character would become a space, and is none.
-fn is_other_blank(code: u32) -> bool
-    ensures { IsTrue result ↔ ((letters code ≡ codes " ") × (code ≢ 32)) }
-{
-    code < 32 || (code > 126 && by_rows(code) == b" ".as_slice())
-}
-
-/// Whether a character of the text would become a space, and is none.
-pub(crate) fn has_other_blank(alloc: Global, text: &[u8]) -> Result<bool, AllocError>
-    ensures { IfOk result (λ r. IsTrue r ↔ ¬ HasNoOtherBlank (spaced text.now)) }
-{
-    let text = spaced_text(alloc, text)?;
-    for code in characters(alloc, text.as_slice())?.as_slice() {
-        if is_other_blank(*code) {
-            return Ok(true);
-        }
-    }
-    Ok(false)
-}
-
-/// A text without its spaces.
-fn without_spaces(alloc: Global, text: &[u8]) -> Result<Vec<u8>, AllocError>
-    ensures { IfOk result (λ r. r.items ≡ filter (λ b. not (b == 32)) text.now) }
-{
-    let mut letters = Vec::new(alloc);
-    for b in text {
-        if *b != b' ' {
-            letters.push(*b)?;
-        }
-    }
-    Ok(letters)
-}
-
-/// Whether a label would name annotations, or almost: but for the case of letters, for spaces, and
-/// for what follows.
-pub(crate) fn is_near(alloc: Global, label: &[u8]) -> Result<bool, AllocError>
-    ensures { IfOk result (λ r. r ≡ is_near label.now) }
-{
-    let spelled = spelling(alloc, label)?;
-    let capitals = in_capitals(alloc, spelled.as_slice())?;
-    let letters = without_spaces(alloc, capitals.as_slice())?;
-    Ok(letters.as_slice().starts_with(b"EDFANNOTATIONS".as_slice()))
-}
-
-/// A text with capital letters.
-pub(crate) fn in_capitals(alloc: Global, text: &[u8]) -> Result<Vec<u8>, AllocError>
-    ensures { IfOk result (λ r. r.items ≡ str_to_ascii_uppercase text.now) }
-{
-    text.iter().map(|b| b.to_ascii_uppercase()).collect(alloc)
+    spelled_by(alloc, &TEXT_ROWS, text)
 }

@@ -1,49 +1,47 @@
-//! Files that are almost EDF+, and plain EDF, made EDF+.
+//! A lenient reader of files that are almost EDF+, and the canonical file of what it reads.
 //!
-//! [`survey_file`] reads a file once, [`mend`] a second time, and writes what the rules leave of
-//! it. Each rule is a row of [`RULES`]: its proposals pass one gate, and each change is told in a
-//! [`Ledger`]. Nobody is ever guessed, and no sample means anything else.
-
+//! ```rust
+//! /// Mends a file that is read twice.
+//! fn mend<R: Input, W: Output>(
+//!     alloc: Global,
+//!     first: &mut R,
+//!     second: &mut R,
+//!     wanted: &Wanted,
+//!     out: &mut W,
+//! ) -> Result<Mended, MendFault> {
+//!     let measure = measure(alloc, first, wanted)?;
+//!     write_mended(alloc, second, wanted, &measure, out)
+//! }
+//! ```
+//!
+//! - [`measure`] reads a file, of which a person says what [`Wanted`] has, and returns the measure of
+//!   its data records.
+//! - [`write_mended`] reads it again and writes the canonical file. It returns what differs in the
+//!   header as [`Change`]s; a [`MendFault`] says why a file is not mended.
+//! - [`laws`] says what a person who sends a file may rely on.
 #![tactic(auto)]
 
-mod accepting;
-mod ascii_rule;
-mod carrying;
-mod change;
-mod counted;
-mod dates;
+mod block;
+mod changes;
+mod columns;
 mod fault;
-mod field;
 mod header;
-mod identity;
 pub mod laws;
-mod ledger;
 mod letters;
-mod limit;
-mod loose;
 mod mark;
 mod mending;
-mod objections;
+mod number;
+mod opening;
 mod patient;
-mod piece;
+mod reading;
+mod record;
 mod recording;
-mod records;
-mod retiming;
-mod rule;
-mod starts;
-mod steps;
-mod surveying;
-mod tally;
-mod telling;
+mod signal;
+mod start;
 mod texts;
-mod values;
 mod wanted;
 
-pub use change::Change;
+pub use changes::Change;
 pub use fault::MendFault;
-pub use field::Field;
-pub use ledger::{Ledger, RecordChanges, Step};
-pub use mending::mend;
-pub use rule::{RULES, Rule, RuleRow};
-pub use surveying::{Survey, survey_file};
+pub use mending::{Mended, measure, write_mended};
 pub use wanted::{Code, Wanted, Who};

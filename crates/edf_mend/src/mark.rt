@@ -1,104 +1,138 @@
-//! The mark of EDF+, and the annotations signal that a file may lack.
+//! The word `mended`, which stands behind the recording where that is another than the file says.
 
-ghost use Rattle.std.specs.Prelude.{◌≡◌, ◌↔◌, IsTrue, codes};
-ghost use Rattle.edf_mend.specs.Mark.{IsContinuous, IsMarkedPlus, AlmostNames, LacksAnnotations};
-ghost use Rattle.edf_mend.specs.Mark.{MayGetSignal, Begins, has_mark};
+ghost use Rattle.std.specs.Prelude.{◌≡◌, ◌↔◌, ◌<◌, ℕ, IsTrue, IfOk};
+ghost use Rattle.edf_header.specs.Signal.{row_at};
+ghost use Rattle.edf_header.specs.Fields.{fields, recording_field};
+ghost use Rattle.edf_mend.specs.Texts.{spaced};
+ghost use Rattle.edf_mend.specs.Header.{StaysFields, StaysRow, StaysAll, SaysMended, IsMarked};
+ghost use Rattle.edf_mend.specs.Header.{IsMarkedRight};
 
-use crate::field::Field;
-use crate::header::Head;
-use edf_header::MOST_SIGNALS;
+use crate::columns::{Headers, ROW, field_at};
+use crate::fault::MendFault;
+use crate::signal::is_labelled;
+use crate::texts::{fitted_80, is_same, spaced, unfilled};
+use crate::wanted::Wanted;
+use std::alloc::{AllocError, Global};
 
-/// How many bytes the block of a new annotations signal has in each data record: room for any onset
-/// of 200 years.
-pub(crate) const NEW_BLOCK: usize = 32;
-
-/// The texts of a new annotations signal. The samples are two bytes each.
-pub(crate) const NEW_SIGNAL: [&[u8]; 10] = [
-    b"EDF Annotations ",
-    b"",
-    b"",
-    b"-1",
-    b"1",
-    b"-32768",
-    b"32767",
-    b"",
-    b"16",
-    b"",
-];
-
-/// Whether the reserved field has the mark of files without gaps.
-pub(crate) fn is_continuous(head: &Head) -> bool
-    ensures { IsTrue result ↔ IsContinuous head.now.fixed.reserved }
+/// Is true where a field stays, but for zeros that fill it.
+fn is_spaced(alloc: Global, old: &[u8], new: &[u8]) -> Result<bool, AllocError>
+    ensures { IfOk result (λ ok. IsTrue ok ↔ (new.now ≡ spaced old.now)) }
 {
-    head.fixed(Field::Reserved).starts_with(b"EDF+C".as_slice())
+    let text = spaced(alloc, old)?;
+    Ok(new == text.as_slice())
 }
 
-/// Whether a reserved field has a mark of EDF+.
-pub(crate) fn has_mark(reserved: &[u8]) -> bool
-    ensures { result ≡ has_mark reserved.now }
+/// Is true where all fields of a signal stay.
+fn stays_fields(alloc: Global, old: &[u8; 256], new: &[u8; 256]) -> Result<bool, AllocError>
+    ensures { IfOk result (λ ok. IsTrue ok ↔ StaysFields fields old.now new.now) }
 {
-    reserved.starts_with(b"EDF+C".as_slice()) || reserved.starts_with(b"EDF+D".as_slice())
-}
-
-/// Whether the reserved field has a mark of EDF+.
-pub(crate) fn is_marked_plus(head: &Head) -> bool
-    ensures { IsTrue result ↔ IsMarkedPlus head.now.fixed.reserved }
-{
-    has_mark(head.fixed(Field::Reserved))
-}
-
-/// The word by which a label speaks of annotations.
-const WORD: &[u8; 10] = b"ANNOTATION";
-
-/// Whether the letters of a text begin with that word, in capitals or not.
-fn begins(text: &[u8]) -> bool
-    ensures { IsTrue result ↔ Begins (codes "ANNOTATION") text.now }
-{
-    let mut at = 0usize;
-    for b in text {
-        let letter = b.to_ascii_uppercase();
-        if letter.is_ascii_uppercase() {
-            if WORD[at] != letter {
-                return false;
-            }
-            at += 1;
-            if at == 10 {
-                return true;
-            }
+    for (at, width) in &ROW {
+        let was = field_at(old, *at, *width);
+        if !is_spaced(alloc, was, field_at(new, *at, *width))? {
+            return Ok(false);
         }
     }
-    false
+    Ok(true)
 }
 
-/// Whether a label speaks of annotations: as `EDF_Annotations` and `BDF annotation 1`.
-fn almost_names(label: &[u8]) -> bool
-    ensures { IsTrue result ↔ AlmostNames label.now }
+/// Is true where a signal stays.
+fn stays_row(alloc: Global, old: &[u8; 256], new: &[u8; 256]) -> Result<bool, AllocError>
+    ensures { IfOk result (λ ok. IsTrue ok ↔ StaysRow old.now new.now) }
 {
-    for at in 0..label.len() {
-        if begins(&label[at..]) {
-            return true;
+    if is_labelled(new) {
+        return Ok(true);
+    }
+    Ok(stays_fields(alloc, old, new)?)
+}
+
+/// Is true where all signals stay.
+fn stay_rows(alloc: Global, headers: &Headers<'_>) -> Result<bool, AllocError>
+    ensures { IfOk result (λ ok. IsTrue ok ↔ ((i : ℕ) → i < headers.now.n →
+        StaysRow (row_at headers.now.second.now headers.now.n i)
+        (row_at headers.now.strict_signals.now headers.now.count i))) }
+{
+    for i in 0..headers.n {
+        if !stays_row(alloc, &headers.old_row(i), &headers.new_row(i))? {
+            return Ok(false);
         }
     }
-    false
+    Ok(true)
 }
 
-/// Whether no signal's label speaks of annotations.
-fn lacks_annotations(head: &Head) -> bool
-    ensures { IsTrue result ↔ LacksAnnotations head.now }
+/// Is true where what names a recording is what the file says, and its start is, too.
+pub(crate) fn stays_all(
+    alloc: Global,
+    wanted: &Wanted,
+    headers: &Headers<'_>,
+    text: &[u8],
+) -> Result<bool, AllocError>
+    ensures { IfOk result (λ ok. IsTrue ok ↔ StaysAll wanted.now headers.now.n headers.now.first.now
+        headers.now.second.now text.now headers.now.count headers.now.strict.now
+        headers.now.strict_signals.now) }
 {
-    for signal in 0..head.signals() {
-        if almost_names(head.text((Field::Label, signal))) {
-            return false;
-        }
+    let (old, new) = (headers.first, headers.strict);
+    if wanted.startdate.is_some() || wanted.starttime.is_some() {
+        return Ok(false);
     }
-    true
+    if !is_same(text, unfilled(&old[88..168])) {
+        return Ok(false);
+    }
+    if !is_spaced(alloc, &old[8..88], &new[8..88])? {
+        return Ok(false);
+    }
+    if !is_spaced(alloc, &old[244..252], &new[244..252])? {
+        return Ok(false);
+    }
+    Ok(stay_rows(alloc, headers)?)
 }
 
-/// Whether an annotations signal can be added as the last one: the samples of a signal whose label
-/// speaks of annotations are annotations.
-pub(crate) fn may_get_signal(head: &Head) -> bool
-    ensures { IsTrue result ↔ MayGetSignal head.now }
+/// Is true where a text ends with the mark.
+fn says_mended(text: &[u8]) -> bool
+    ensures { IsTrue result ↔ SaysMended text.now }
 {
-    let n = head.signals();
-    1 <= n && n < MOST_SIGNALS && lacks_annotations(head)
+    if text.len() < 7 {
+        return false;
+    }
+    let (_, end) = text.split_at(text.len() - 7);
+    is_same(end, b" mended".as_slice())
+}
+
+/// Returns the field of a text and the mark.
+pub(crate) fn marked(alloc: Global, text: &[u8]) -> Result<[u8; 80], MendFault>
+    ensures { IfOk result (IsMarked text.now) }
+{
+    if says_mended(text) {
+        if text.len() > 80 {
+            return Err(MendFault::NoRoom);
+        }
+        return Ok(fitted_80(text));
+    }
+    if text.len() > 73 {
+        return Err(MendFault::NoRoom);
+    }
+    let mut made = Vec::from_slice(alloc, text)?;
+    made.extend_from_slice(b" mended".as_slice())?;
+    Ok(fitted_80(made.as_slice()))
+}
+
+/// Is true where a recording field has the mark just where it must.
+pub(crate) fn is_marked_right(
+    alloc: Global,
+    wanted: &Wanted,
+    headers: &Headers<'_>,
+    text: &[u8],
+) -> Result<bool, MendFault>
+    ensures { IfOk result (λ ok. IsTrue ok → IsMarkedRight (StaysAll wanted.now headers.now.n
+        headers.now.first.now headers.now.second.now text.now headers.now.count
+        headers.now.strict.now headers.now.strict_signals.now) text.now
+        (recording_field headers.now.strict.now)) }
+{
+    let stays = stays_all(alloc, wanted, headers, text)?;
+    let field = if stays {
+        fitted_80(text)
+    } else {
+        marked(alloc, text)?
+    };
+    let strict = headers.strict;
+    Ok(is_same(&strict[88..168], &field))
 }

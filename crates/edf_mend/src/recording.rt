@@ -1,405 +1,228 @@
-//! The rule `recording`, and the mark that a file was mended: a recording identification of EDF+
-//! (additional specifications), whose date is its own or the header's, and whose codes stay.
+//! The recording that a file is of.
 
-ghost use Rattle.std.specs.Prelude.{◌≡◌, ◌↔◌, ◌∷◌, [], ◌++◌, ◌≤◌, ℕ, ℤ, List, Option, length, min};
-ghost use Rattle.std.specs.Prelude.{take, drop, codes, IsTrue, IfOk, MatchOption, slice_index_or};
-ghost use Rattle.std.specs.Prelude.{◌-◌, ◌≢◌, All};
-ghost use Rattle.edf_mend.specs.Patient.{with_spaces};
-ghost use Rattle.edf_field.specs.Text.{subfields, IsPrintable, IsRecording};
-ghost use Rattle.edf_mend.specs.Header.{spaced, trimmed, fitted};
-ghost use Rattle.edf_mend.specs.Letters.{spelling};
-ghost use Rattle.edf_mend.specs.Recording.{IsPlainRecording, StaysRecording, IsRecordingText, mark};
-ghost use Rattle.edf_mend.specs.Recording.{BeginsWell, KeepsAfterDate, SaysMended, dated_text};
-ghost use Rattle.edf_mend.specs.Recording.{HasThreeCodes};
-ghost use Rattle.edf_mend.specs.Inside.Recordings.{BeginsWith, BeginsOtherwise, IsCodesText};
-ghost use Rattle.edf_mend.specs.Inside.Recordings.{IsBehind, HasNoDate, IsHidden, missing_text};
+ghost use Rattle.std.specs.Prelude.{◌≡◌, ◌⊎◌, ◌↔◌, ◌-◌, ◌∷◌, ◌++◌, [], ℕ, List, length, IsTrue};
+ghost use Rattle.std.specs.Prelude.{IfOk, MatchOption, codes, slice_index_or, drop};
+ghost use Rattle.edf_field.specs.Text.{subfields};
+ghost use Rattle.edf_mend.specs.Texts.{unfilled, spaced, capitals, joined_by, spelling};
+ghost use Rattle.edf_mend.specs.Identification.{IsPlainRecording, AreDated, HasDate, IsRedated};
+ghost use Rattle.edf_mend.specs.Identification.{lacking_codes, IsDateOf, StandsBehind, IsDateAlone};
+ghost use Rattle.edf_mend.specs.Identification.{KeepsShown, KeepsRecording, StaysBehindDate, mark};
 
-use crate::dates::{contradicts, dated, header_date};
-use crate::letters::{
-    has_other_blank, in_capitals, is_printable, spaced, spelled_text, trimmed, unfilled,
-};
-use crate::patient::{WIDTH, push_part, push_subfields, three_of};
-use edf_field::{next_subfield, read_recording};
+use crate::fault::MendFault;
+use crate::letters::spelling;
+use crate::texts::{in_capitals, is_date_or_x, is_printable, is_same, joined_by, spaced, unfilled};
+use crate::wanted::Who;
+use edf_field::{RecordingFault, next_subfield, read_recording};
+use edf_header::HeaderFault;
+use edf_time::{id_date_text, start_of};
 use std::alloc::{AllocError, Global};
 
-/// The last subfield of a file that was mended.
-const MARK: &[u8] = b"mended";
+/// Returns the fault of a recording field.
+fn recording_fault() -> MendFault {
+    MendFault::from(HeaderFault::Recording(RecordingFault::NoStartdate))
+}
 
-/// How many bytes leave room for it, and for the space before it.
-pub(crate) const ROOM_FOR_MARK: usize = 73;
-
-/// A field that begins with `Startdate`: its second subfield, and what follows.
-pub(crate) fn after_word<'a>(
-    alloc: Global,
-    text: &'a [u8],
-) -> Result<Option<(&'a [u8], &'a [u8])>, AllocError>
-    ensures { IfOk result (λ found. MatchOption found
-        (BeginsOtherwise text.now)
-        (λ f. BeginsWith text.now f.0.now (subfields f.1.now))) }
+/// Is true where a field is a recording identification as it stands, but for zeros that fill it.
+fn is_plain_recording(alloc: Global, field: &[u8]) -> Result<bool, AllocError>
+    requires { length field.now ≡ 80 }
+    ensures { IfOk result (λ r. IsTrue r ↔ IsPlainRecording field.now) }
 {
-    let Some((word, rest)) = next_subfield(text) else {
+    let text = spaced(alloc, field)?;
+    if !is_printable(text.as_slice()) {
+        return Ok(false);
+    }
+    match read_recording(text.as_slice()) {
+        Ok(_) => Ok(true),
+        Err(_) => Ok(false),
+    }
+}
+
+/// Returns the date that a text has behind the word, in any letters, and what follows it.
+pub(crate) fn date_in(alloc: Global, text: &[u8]) -> Result<Option<(&[u8], &[u8])>, AllocError>
+    ensures { IfOk result (λ found. MatchOption found (¬ AreDated (subfields text.now))
+        (λ two. AreDated (subfields text.now)
+        × (two.0.now ≡ slice_index_or (subfields text.now) 1 [])
+        × (subfields two.1.now ≡ drop 2 (subfields text.now)))) }
+{
+    let Some((word, behind_word)) = next_subfield(text) else {
         return Ok(None);
     };
-    if in_capitals(alloc, word)?.as_slice() != b"STARTDATE".as_slice() {
+    let Some((date, after)) = next_subfield(behind_word) else {
+        return Ok(None);
+    };
+    let word = in_capitals(alloc, word)?;
+    if word.as_slice() != b"STARTDATE".as_slice() {
         return Ok(None);
     }
-    Ok(next_subfield(rest))
-}
-
-/// Whether a text is a recording identification.
-fn is_recording(text: &[u8]) -> bool
-    requires { length text.now ≡ 80 }
-    ensures { IsTrue result
-        ↔ ((date : Option ℤ) × (after : List ℕ) × IsRecording text.now date after) }
-{
-    match read_recording(text) {
-        Ok(_) => true,
-        Err(_) => false,
+    let capitals = in_capitals(alloc, date)?;
+    if !is_date_or_x(capitals.as_slice()) {
+        return Ok(None);
     }
+    Ok(Some((date, after)))
 }
 
-/// Whether a field is a recording identification to its last byte.
-pub(crate) fn is_whole(field: &[u8]) -> bool
-    requires { length field.now ≡ 80 }
-    ensures { IsTrue result ↔ (All IsPrintable field.now
-        × ((date : Option ℤ) × (after : List ℕ) × IsRecording field.now date after)) }
+/// Returns X for each code that a text lacks.
+fn lacking_codes(after: &[u8]) -> &'static [u8]
+    ensures { result.now ≡ lacking_codes (subfields after.now) }
 {
-    is_printable(field) && is_recording(field)
-}
-
-/// Whether a field is a recording identification as it stands, but for zeros that fill it.
-fn is_plain(field: &[u8]) -> bool
-    ensures { length field.now ≡ 80 →
-        (IsTrue result ↔ ((date : Option ℤ) × IsPlainRecording field.now date)) }
-{
-    if field.len() != WIDTH {
-        return false;
-    }
-    if !is_printable(unfilled(field)) {
-        return false;
-    }
-    let mut text = [b' '; 80];
-    spaced(field, &mut text);
-    is_recording(text.as_slice())
-}
-
-/// The second subfield of a text; nothing where it has none.
-fn second_of(text: &[u8]) -> &[u8]
-    ensures { result.now ≡ slice_index_or (subfields text.now) 1 [] }
-{
-    let Some((_, rest)) = next_subfield(text) else {
-        return &text[..0];
+    let Some((_, rest)) = next_subfield(after) else {
+        return b" X X X".as_slice();
+    };
+    let Some((_, rest)) = next_subfield(rest) else {
+        return b" X X".as_slice();
     };
     match next_subfield(rest) {
-        Some((second, _)) => second,
-        None => &text[..0],
+        Some(_) => b"".as_slice(),
+        None => b" X".as_slice(),
     }
 }
 
-/// Whether a field stays, but for zeros that fill it: it is one of EDF+; unless the rule was named,
-/// and its date is another than the header's.
-fn stays(is_named: bool, startdate: &[u8], field: &[u8]) -> bool
-    ensures { length startdate.now ≡ 8 → length field.now ≡ 80 →
-        (IsTrue result ↔ StaysRecording (IsTrue is_named) startdate.now field.now) }
+/// Returns the word, a date, and two texts behind it.
+fn dated_text(alloc: Global, date: &[u8], one: &[u8], two: &[u8]) -> Result<Vec<u8>, AllocError>
+    ensures { IfOk result
+        (λ text. text.items ≡ codes "Startdate " ++ (date.now ++ (one.now ++ two.now))) }
 {
-    if !is_plain(field) {
-        return false;
-    }
-    if !is_named {
-        return true;
-    }
-    let date = second_of(unfilled(field));
-    !contradicts(startdate, date)
-}
-
-/// How many subfields a text has, up to three.
-fn count_to_three(text: &[u8]) -> usize
-    ensures { result ≡ min 3 (length (subfields text.now)) }
-{
-    let mut left = text;
-    for count in 0..3usize {
-        let Some((_, rest)) = next_subfield(left) else {
-            return count;
-        };
-        left = rest;
-    }
-    3
-}
-
-/// X for each of the three codes that are not there.
-fn missing(there: usize) -> &'static [u8]
-    ensures { result.now ≡ missing_text (3 - there) }
-{
-    match there {
-        0 => b" X X X".as_slice(),
-        1 => b" X X".as_slice(),
-        2 => b" X".as_slice(),
-        _ => b"".as_slice(),
-    }
-}
-
-/// A recording field of a date and codes, with X for each of the three that it lacks.
-fn dated_text(alloc: Global, date: &[u8], codes: &[u8]) -> Result<Vec<u8>, AllocError>
-    ensures { IfOk result (λ text. text.items ≡ dated_text date.now (subfields codes.now)) }
-{
-    let mut text = Vec::from_slice(alloc, b"Startdate".as_slice())?;
-    push_part(&mut text, date)?;
-    push_subfields(&mut text, b' ', codes)?;
-    text.extend_from_slice(missing(count_to_three(codes)))?;
+    let mut text = Vec::from_slice(alloc, b"Startdate ".as_slice())?;
+    text.extend_from_slice(date)?;
+    text.extend_from_slice(one)?;
+    text.extend_from_slice(two)?;
     Ok(text)
 }
 
-/// A text for the recording field, and what of it has no room.
-#[derive(Drop)]
-pub(crate) struct RecordingText {
-    pub(crate) text: Vec<u8>,
-    pub(crate) cut: Vec<u8>,
-}
-
-/// The whole of a text.
-fn uncut(alloc: Global, text: &[u8]) -> Result<RecordingText, AllocError>
-    ensures { IfOk result (λ made. (made.text.items ≡ text.now) × (made.cut.items ≡ [])) }
+/// Returns the text of a field that has a date of its own: the date in capitals, the codes in
+/// ASCII, and X for those that it lacks; `None` where it has no date.
+fn redated(alloc: Global, old: &[u8]) -> Result<Option<Vec<u8>>, AllocError>
+    ensures { IfOk result (λ found. MatchOption found (¬ HasDate old.now)
+        (λ text. IsRedated old.now text.items)) }
 {
-    Ok(RecordingText {
-        text: Vec::from_slice(alloc, text)?,
-        cut: Vec::new(alloc),
-    })
-}
-
-/// A field that begins well, with its codes in their places; nothing where its date is not known,
-/// where another blank than a space parts its codes, or where they have no room.
-fn with_codes(
-    alloc: Global,
-    is_named: bool,
-    startdate: &[u8],
-    field: &[u8],
-    date: &[u8],
-    codes: &[u8],
-) -> Result<Option<Vec<u8>>, AllocError>
-    ensures { IfOk result (λ found. length startdate.now ≡ 8 → MatchOption found
-        ((text : List ℕ) → ¬ IsCodesText (IsTrue is_named) startdate.now field.now date.now
-        (subfields codes.now) text)
-        (λ text. IsCodesText (IsTrue is_named) startdate.now field.now date.now
-        (subfields codes.now) text.items)) }
-{
-    let Some(date) = dated(alloc, is_named, startdate, date)? else {
+    let field = spaced(alloc, old)?;
+    let Some((date, after)) = date_in(alloc, field.as_slice())? else {
         return Ok(None);
     };
-    let text = dated_text(alloc, date.as_slice(), codes)?;
-    if text.len() > WIDTH {
-        return Ok(None);
-    }
-    let has_blank = has_other_blank(alloc, field)?;
-    if has_blank {
-        return Ok(None);
-    }
+    let date = in_capitals(alloc, date)?;
+    let joined = joined_by(alloc, b' ', after)?;
+    let spelled = spelling(alloc, joined.as_slice())?;
+    let text = dated_text(
+        alloc,
+        date.as_slice(),
+        spelled.as_slice(),
+        lacking_codes(after),
+    )?;
     Ok(Some(text))
 }
 
-/// Subfields behind the header's date and three codes that are X.
-fn put_behind(
-    alloc: Global,
-    startdate: &[u8],
-    spelled: &[u8],
-) -> Result<Option<RecordingText>, AllocError>
-    ensures { IfOk result (λ found. length startdate.now ≡ 8 → MatchOption found
-        (HasNoDate startdate.now)
-        (λ made. IsBehind startdate.now (subfields spelled.now) made.text.items made.cut.items)) }
+/// Returns the day of a startdate that says its year, as identifications write one.
+fn day_text(date: &[u8; 8]) -> Result<[u8; 11], MendFault>
+    ensures { IfOk result (IsDateOf date.now) }
 {
-    let Some(date) = header_date(startdate) else {
-        return Ok(None);
-    };
-    let mut text = dated_text(alloc, date.as_slice(), b"".as_slice())?;
-    push_subfields(&mut text, b' ', spelled)?;
-    let (front, cut) = text.as_slice().split_at(text.len().min(ROOM_FOR_MARK));
-    Ok(Some(RecordingText {
-        text: Vec::from_slice(alloc, front)?,
-        cut: Vec::from_slice(alloc, cut)?,
-    }))
-}
-
-/// What the rule `recording` makes of a field.
-pub(crate) fn recording_text(
-    alloc: Global,
-    is_named: bool,
-    startdate: &[u8],
-    field: &[u8],
-) -> Result<RecordingText, AllocError>
-    ensures { IfOk result (λ made. length startdate.now ≡ 8 → length field.now ≡ 80 →
-        IsRecordingText (IsTrue is_named) startdate.now field.now
-        (fitted 80 made.text.items) made.cut.items) }
-{
-    if stays(is_named, startdate, field) {
-        let plain = uncut(alloc, unfilled(field))?;
-        return Ok(plain);
+    match start_of(date, b"00.00.00", None) {
+        Ok(start) => Ok(id_date_text(start)),
+        Err(_) => Err(recording_fault()),
     }
-    let spelled = spelled_text(alloc, field)?;
-    let Some((date, codes)) = after_word(alloc, spelled.as_slice())? else {
-        let Some(behind) = put_behind(alloc, startdate, spelled.as_slice())? else {
-            let old = uncut(alloc, field)?;
-            return Ok(old);
-        };
-        return Ok(behind);
-    };
-    let Some(text) = with_codes(alloc, is_named, startdate, field, date, codes)? else {
-        let same = uncut(alloc, field)?;
-        return Ok(same);
-    };
-    let made = uncut(alloc, text.as_slice())?;
-    Ok(made)
 }
 
-/// Whether two texts have the same subfields.
-fn have_same_subfields(one: &[u8], other: &[u8]) -> bool
-    ensures { IsTrue result ↔ (subfields one.now ≡ subfields other.now) }
+/// Returns the text of a field that has no date of its own: that of the startdate, three codes X,
+/// and all that the field says, as far as there is room.
+fn behind_codes(alloc: Global, old: &[u8], date: &[u8; 8]) -> Result<Vec<u8>, MendFault>
+    requires { ¬ HasDate old.now }
+    ensures { IfOk result (λ text. StandsBehind date.now old.now text.items) }
 {
-    let mut left = one;
-    let mut right = other;
-    while let Some((a, more)) = next_subfield(left) {
-        match next_subfield(right) {
-            Some((b, rest)) if a == b => {
+    let day = day_text(date)?;
+    let field = spaced(alloc, old)?;
+    let spelled = spelling(alloc, field.as_slice())?;
+    let joined = joined_by(alloc, b' ', spelled.as_slice())?;
+    let mut text = dated_text(alloc, &day, b" X X X".as_slice(), joined.as_slice())?;
+    text.truncate(73);
+    Ok(text)
+}
+
+/// Returns the text of a field of which nothing stays but its date.
+fn date_alone(alloc: Global, old: &[u8], date: &[u8; 8]) -> Result<Vec<u8>, MendFault>
+    ensures { IfOk result (λ text. IsDateAlone date.now old.now text.items) }
+{
+    let field = spaced(alloc, old)?;
+    let codes = b" X X X".as_slice();
+    match date_in(alloc, field.as_slice())? {
+        Some((own, _)) => {
+            let own = in_capitals(alloc, own)?;
+            Ok(dated_text(alloc, own.as_slice(), codes, b"".as_slice())?)
+        }
+        None => {
+            let day = day_text(date)?;
+            Ok(dated_text(alloc, &day, codes, b"".as_slice())?)
+        }
+    }
+}
+
+/// Returns the text of a field that is shown.
+fn shown(alloc: Global, old: &[u8], date: &[u8; 8]) -> Result<Vec<u8>, MendFault>
+    requires { length old.now ≡ 80 }
+    ensures { IfOk result (λ text. KeepsShown date.now old.now text.items) }
+{
+    if is_plain_recording(alloc, old)? {
+        return Ok(Vec::from_slice(alloc, unfilled(old))?);
+    }
+    if let Some(text) = redated(alloc, old)? {
+        return Ok(text);
+    }
+    Ok(behind_codes(alloc, old, date)?)
+}
+
+/// Returns the text of the good form of a recording field, without the mark.
+pub(crate) fn good_recording(
+    alloc: Global,
+    who: &Who,
+    old: &[u8],
+    date: &[u8; 8],
+) -> Result<Vec<u8>, MendFault>
+    requires { length old.now ≡ 80 }
+    ensures { IfOk result (λ text. KeepsRecording who.now date.now old.now text.items) }
+{
+    match who {
+        Who::Hidden(_) => date_alone(alloc, old, date),
+        Who::AsNamed => shown(alloc, old, date),
+        Who::Given(_) => shown(alloc, old, date),
+        Who::Replaced(_) => shown(alloc, old, date),
+    }
+}
+
+/// Is true where two texts have the same subfields, but for the mark at the end of the second.
+fn is_same_behind(old: &[u8], new: &[u8]) -> bool
+    ensures { IsTrue result → (subfields new.now ≡ subfields old.now)
+        ⊎ (subfields new.now ≡ subfields old.now ++ mark ∷ []) }
+{
+    let mut left = old;
+    let mut right = new;
+    for _ in 0..81 {
+        match (next_subfield(left), next_subfield(right)) {
+            (None, None) => return true,
+            (None, Some((word, rest))) => {
+                return word == b"mended".as_slice() && next_subfield(rest).is_none();
+            }
+            (Some(_), None) => return false,
+            (Some((one, more)), Some((other, rest))) => {
+                if !is_same(one, other) {
+                    return false;
+                }
                 left = more;
                 right = rest;
             }
-            _ => return false,
         }
     }
-    match next_subfield(right) {
-        Some(_) => false,
-        None => true,
-    }
+    false
 }
 
-/// What follows the first two subfields of a text.
-fn behind_two(text: &[u8]) -> &[u8]
-    ensures { subfields result.now ≡ drop 2 (subfields text.now) }
+/// Is true where a field has a date of its own, and the same codes stay behind it.
+pub(crate) fn stays_behind_date(alloc: Global, old: &[u8], new: &[u8]) -> Result<bool, AllocError>
+    requires { length new.now ≡ 80 }
+    ensures { IfOk result (λ ok. IsTrue ok → StaysBehindDate old.now new.now) }
 {
-    let Some((_, rest)) = next_subfield(text) else {
-        return text;
-    };
-    match next_subfield(rest) {
-        Some((_, rest)) => rest,
-        None => rest,
-    }
-}
-
-/// Whether a field begins with `Startdate`, in any letters.
-fn begins_well(alloc: Global, field: &[u8]) -> Result<bool, AllocError>
-    ensures { IfOk result (λ r. IsTrue r ↔ BeginsWell field.now) }
-{
-    let spelled = spelled_text(alloc, field)?;
-    match after_word(alloc, spelled.as_slice())? {
-        Some(_) => Ok(true),
-        None => Ok(false),
-    }
-}
-
-/// Whether the codes and texts behind the date are the same before and after.
-pub(crate) fn keeps_after_date(alloc: Global, old: &[u8], new: &[u8]) -> Result<bool, AllocError>
-    ensures { IfOk result (λ r. IsTrue r ↔ KeepsAfterDate old.now new.now) }
-{
-    let old_begins = begins_well(alloc, old)?;
-    if !old_begins {
+    let field = spaced(alloc, old)?;
+    let Some((_, codes)) = date_in(alloc, field.as_slice())? else {
         return Ok(false);
-    }
-    let new_begins = begins_well(alloc, new)?;
-    if !new_begins {
-        return Ok(false);
-    }
-    Ok(have_same_subfields(behind_two(unfilled(old)), behind_two(new)))
-}
-
-/// Whether the last subfield of a text is `mended`.
-pub(crate) fn says_mended(field: &[u8]) -> bool
-    ensures { IsTrue result ↔ SaysMended field.now }
-{
-    let mut left = field;
-    let mut last = b"".as_slice();
-    while let Some((subfield, rest)) = next_subfield(left) {
-        last = subfield;
-        left = rest;
-    }
-    last == MARK
-}
-
-/// A field that says that the file was mended.
-pub(crate) fn marked_text(alloc: Global, field: &[u8]) -> Result<Vec<u8>, AllocError>
-    ensures { IfOk result (λ text. text.items ≡ trimmed field.now ++ (codes " " ++ mark)) }
-{
-    let mut text = Vec::from_slice(alloc, trimmed(field))?;
-    push_part(&mut text, MARK)?;
-    Ok(text)
-}
-
-/// The second subfield behind the investigation: the equipment, which follows the technician.
-fn equipment_of(text: &[u8]) -> Option<&[u8]>
-    ensures { MatchOption result
-        ((technician : List ℕ) (equipment : List ℕ) (more : List (List ℕ)) →
-        subfields text.now ≢ technician ∷ equipment ∷ more)
-        (λ equipment. (technician : List ℕ) × (more : List (List ℕ))
-        × (subfields text.now ≡ technician ∷ equipment.now ∷ more)) }
-{
-    let (_, rest) = next_subfield(text)?;
-    let (equipment, _) = next_subfield(rest)?;
-    Some(equipment)
-}
-
-/// Whether a field has just three codes behind its date, but for the word that the file was mended.
-fn has_three_codes(field: &[u8]) -> bool
-    ensures { IsTrue result ↔ HasThreeCodes field.now }
-{
-    let behind_first = behind_two(behind_two(unfilled(field)));
-    let Some((third, behind_third)) = next_subfield(behind_first) else {
-        return false;
     };
-    let is_mark = third == MARK;
-    let Some((word, rest)) = next_subfield(behind_third) else {
-        return !is_mark;
-    };
-    match next_subfield(rest) {
-        Some(_) => false,
-        None => word == MARK,
+    match read_recording(new) {
+        Ok((_, after)) => Ok(is_same_behind(codes, after)),
+        Err(_) => Ok(false),
     }
-}
-
-/// A field of these codes, and X for the technician.
-fn hidden_text(
-    alloc: Global,
-    date: &[u8],
-    investigation: &[u8],
-    equipment: &[u8],
-) -> Result<Vec<u8>, AllocError>
-    ensures { IfOk result (λ text. text.items ≡ with_spaces (codes "Startdate" ∷ date.now
-        ∷ investigation.now ∷ codes "X" ∷ equipment.now ∷ [])) }
-{
-    let mut text = Vec::from_slice(alloc, b"Startdate".as_slice())?;
-    push_part(&mut text, date)?;
-    push_part(&mut text, investigation)?;
-    push_part(&mut text, b"X".as_slice())?;
-    push_part(&mut text, equipment)?;
-    Ok(text)
-}
-
-/// A field whose second code, the technician, is X, with nothing behind the third; and X for all
-/// three where the file's own field had another number of them.
-pub(crate) fn hidden_recording(
-    alloc: Global,
-    own: &[u8],
-    field: &[u8],
-) -> Result<Vec<u8>, AllocError>
-    ensures { IfOk result (λ text. IsHidden (HasThreeCodes own.now) field.now text.items) }
-{
-    let Some((word, date, investigation, rest)) = three_of(field) else {
-        return Vec::from_slice(alloc, field);
-    };
-    if word != b"Startdate".as_slice() {
-        return Vec::from_slice(alloc, field);
-    }
-    let Some(equipment) = equipment_of(rest) else {
-        return Vec::from_slice(alloc, field);
-    };
-    if has_three_codes(own) {
-        return hidden_text(alloc, date, investigation, equipment);
-    }
-    hidden_text(alloc, date, b"X".as_slice(), b"X".as_slice())
 }

@@ -6,10 +6,10 @@ use edf_header::{Format, HeaderFault};
 use edf_tal::TalFault;
 
 /// The words for a fault of form. Programs that mend nothing print the first ones after its
-/// sentence; each variant says what `edfmend` prints, where none of all rules mended it.
+/// sentence; each variant says what `edfmend` prints of a file that it did not mend.
 #[derive(Clone, Copy, Drop)]
 pub(crate) enum Row {
-    /// It prints the same, since no rule is for it.
+    /// It prints the same, since it mends none of this.
     Never(&'static str),
     /// It prints the same, for each file, since what is wrong is more than the number says.
     Own(&'static str),
@@ -25,8 +25,8 @@ fn on_format(format: Format) -> Row {
     match format {
         Format::Edf => Instead(
             ", as in a name with other letters: edfmend spells them in ASCII",
-            "a byte of its startdate, starttime or duration is no printable ASCII, and edfmend \
-            leaves these as they are: correct it in a copy",
+            "a byte of its startdate, starttime or duration is no printable ASCII: correct it in a \
+            copy",
         ),
         Format::Bdf => Own(": edfstore and edfruns take EDF+ alone, so export it as EDF+"),
         Format::Zip => Own(": unpack it"),
@@ -46,8 +46,7 @@ fn on_header(fault: &HeaderFault) -> Row {
         ),
         HeaderFault::Recording(_) => Field(
             ": edfmend makes it that of EDF+, where it has room",
-            ": its date is none that is known, or its codes have no room, or the startdate is no \
-            date, so correct that in a copy",
+            ": its codes have no room, or the startdate is no date, so correct that in a copy",
         ),
         HeaderFault::Startdate => Behind(
             ": look at its spelling, and at the recorder's clock",
@@ -57,13 +56,10 @@ fn on_header(fault: &HeaderFault) -> Row {
             ": look at its spelling, and at the recorder's clock",
             ": give it by --starttime, where the file has none",
         ),
-        HeaderFault::DatesDiffer => Behind(
-            ": one was edited, so find out which is right",
-            ": one was edited; where the startdate is right, name recording in --as",
-        ),
+        HeaderFault::DatesDiffer => Never(": one was edited, so find out which is right"),
         HeaderFault::NotPlus => Instead(
             ": edfstore and edfruns take EDF+ alone; edfmend makes EDF+ of it",
-            "edfmend has no rule for this: see man edfmend",
+            "edfmend can't read this: see man edfmend",
         ),
         HeaderFault::Count => Behind(
             ": edfmend counts them",
@@ -72,8 +68,8 @@ fn on_header(fault: &HeaderFault) -> Row {
         HeaderFault::Duration => Never(": 0 is of no signals, 1,0 is 1.0"),
         HeaderFault::Signals => Behind(
             ": one of annotations alone is no recording, and to one without them edfmend adds them",
-            ": annotations alone are no recording, and edfmend adds a signal of them only to plain \
-            EDF and EDF+C",
+            ": annotations alone are no recording, and edfmend reads only plain EDF and EDF+C \
+            without them",
         ),
         HeaderFault::HeaderBytes => Behind(
             ": have its producer write it again",
@@ -82,13 +78,12 @@ fn on_header(fault: &HeaderFault) -> Row {
         HeaderFault::CutSignals => Never(", so it was cut: send it again"),
         HeaderFault::UnprintableSignals { .. } => Instead(
             ", often a micro or degree sign: edfmend spells them in ASCII",
-            "edfmend has no rule for this: see man edfmend",
+            "edfmend can't read this: see man edfmend",
         ),
         HeaderFault::Annotations => Instead(
-            ": edfmend mends limits, and gives EDF+C the signal",
-            "it has no annotations signal, or nothing else: where a label is EDF Annotations but \
-            for case or spaces, correct it in a copy; EDF+D without one does not say when its data \
-            records start",
+            ": edfmend mends limits, and reads EDF+C without the signal",
+            "it has no annotations signal, or nothing else: where a label speaks of annotations, \
+            correct it in a copy; EDF+D without one does not say when its data records start",
         ),
         HeaderFault::Physical { .. } => Instead(
             ": edfmend mends them, where eight bytes have the number",
@@ -110,21 +105,17 @@ fn on_blocks(fault: &TalFault) -> Row {
     match fault {
         TalFault::Tal { .. } => Instead(
             ": edfmend mends times finer than a nanosecond, and what fills a block",
-            "annotations of this data record are spelled as no rule mends, or have no room for it: \
-            have its producer write them as EDF+ has it",
+            "annotations of this data record are no lists: have its producer write them as EDF+ has \
+            them",
         ),
-        TalFault::Text { .. } => Behind(
+        TalFault::Text { .. } => Instead(
             ": edfmend makes it that",
-            ", and its block has no room for its letters in UTF-8: shorten it in a copy",
+            "edfmend can't read this: see man edfmend",
         ),
         TalFault::NotTimed => Never(": its producer is to write it"),
         TalFault::FirstOnset => Never(""),
         TalFault::Window => Never(": look at the clock"),
-        TalFault::Order => Instead(
-            ": a clock was set back, or starts are rounded, which edfmend mends in EDF+C",
-            "the rule clock is for EDF+C, and moves all starts that were rounded or none: one is \
-            half a sample or more from its place, or its block has no room",
-        ),
+        TalFault::Order => Never(": a clock was set back, or starts are rounded"),
         TalFault::TooMany => Never(": its producer is to spread them"),
         TalFault::Memory => Never(""),
     }
@@ -142,8 +133,8 @@ pub(crate) fn row_of(fault: &FragmentFault) -> Row {
         FragmentFault::Tal { fault, .. } => on_blocks(fault),
         FragmentFault::Trailing => Instead(
             ": files were joined, or its count is wrong, which edfmend mends",
-            "bytes follow its counted data records: where they are its own, name count in --as; \
-            zeros, cut them off in a copy",
+            "bytes follow its counted data records: where they are its own, give --all; zeros, cut \
+            them off in a copy",
         ),
         FragmentFault::Read | FragmentFault::Memory | FragmentFault::Failed => Never(""),
     }

@@ -1,6 +1,6 @@
 //! Plain words for a person: why a file could not be read or written.
 
-use crate::terminal::{Mending, Terminal};
+use crate::terminal::Terminal;
 use std::fs;
 use std::io::{self, ErrorKind};
 
@@ -18,7 +18,7 @@ pub(crate) const RENAME: &str = "no file is written over another: give another n
 /// Returns what to do after a failed write to what has this name: a new file, of a program that
 /// mends or of a split, or else a stream.
 pub(crate) fn on_unwritten(terminal: &Terminal<'_>, name: &str) -> &'static str {
-    if terminal.mending() != Mending::Nothing || name.ends_with(".edf") {
+    if terminal.is_mending() || name.ends_with(".edf") {
         "remove the cause and run it again: no part of it is left, unless a line says so"
     } else {
         "remove the cause and run it again: what standard output got is not whole"

@@ -2,12 +2,8 @@
 
 use crate::advice::{Row, row_of};
 use crate::cause::{CHANGED, RENAME, on_unwritten};
-use crate::terminal::Mending::{ByAll, ByNamed, Nothing};
 use crate::terminal::Terminal;
 use edf_fragment::{FragmentFault, Remark};
-
-const BY_NAMED: &str = "the rules that --as names do not mend it, so name others too, or leave \
-    --as out; where clock is named, a start may be too far from its place";
 
 const LEFT_OUT: &str = "readers may leave out annotations that lie outside of the run; split \
     what 'canonical --by-onset' writes, and only those do whose onsets lie in no run";
@@ -17,15 +13,13 @@ fn explain_form(terminal: &Terminal<'_>, name: &str, fault: &FragmentFault) {
     if !matches!(row, Row::Own(_) | Row::Field(..)) && !terminal.is_first(fault.number()) {
         return;
     }
-    match (row, terminal.mending()) {
+    match (row, terminal.is_mending()) {
         (Row::Never(words) | Row::Own(words), _)
-        | (Row::Behind(words, _) | Row::Field(words, _) | Row::Instead(words, _), Nothing)
-        | (Row::Behind(_, words) | Row::Field(_, words), ByAll) => {
-            terminal.advise_of(name, fault, "", words);
+        | (Row::Behind(words, _) | Row::Field(words, _) | Row::Instead(words, _), false)
+        | (Row::Behind(_, words) | Row::Field(_, words), true) => {
+            terminal.advise_of(name, fault, words);
         }
-        (Row::Instead(_, words), ByAll) => terminal.advise(name, words),
-        (Row::Field(..), ByNamed) => terminal.advise_of(name, fault, ": ", BY_NAMED),
-        (_, ByNamed) => terminal.advise(name, BY_NAMED),
+        (Row::Instead(_, words), true) => terminal.advise(name, words),
     }
 }
 

@@ -20,8 +20,8 @@
 //!   [`NewFile`], and writes over none.
 //! - [`Streams`] are standard output and standard error, [`Escaping`] ones, as [`standard_output`] and
 //!   [`standard_error`] are; [`refuse_terminal`] is for a command that writes a file.
-//! - [`Terminal`] shows a person progress and messages, [`Clearing`] is a stream beside it, and
-//!   [`Mending`] what its program mends. [`print_system_error`] and [`FULL`] are causes.
+//! - [`Terminal`] shows a person progress and messages, and [`Clearing`] is a stream beside it.
+//!   [`print_system_error`] and [`FULL`] are causes.
 #![tactic(auto)]
 
 mod advice;
@@ -44,4 +44,4 @@ pub use new_files::PartFiles;
 pub use parts::NewFile;
 pub use program::{Program, run_program, run_words};
 pub use streams::{Streams, refuse_terminal, refuse_words, standard_error, standard_output, words};
-pub use terminal::{Mending, Terminal};
+pub use terminal::Terminal;

@@ -16,17 +16,6 @@ const MEGABYTE: u64 = 1_000_000;
 /// It is written over the line of progress, which is never longer.
 const WIPED: &str = "\r                                                            \r";
 
-/// A program mends the files that it refuses, by these rules.
-#[derive(Clone, Copy, Debug, PartialEq, Eq, Drop)]
-pub enum Mending {
-    /// It mends none.
-    Nothing,
-    /// It applies all rules of `edfmend`.
-    ByAll,
-    /// It applies those rules alone that were named.
-    ByNamed,
-}
-
 /// The variable of the environment that is 1 where causes are printed off a terminal too.
 const CAUSES: &str = "EDFSTORE_CAUSES";
 
@@ -49,7 +38,7 @@ pub struct Terminal<'rt> {
     /// The line of progress counts these, as `file`, up to their number; 0 where none is shown.
     unit: &'static str,
     units: usize,
-    mending: Mending,
+    is_mending: bool,
     begun: Cell<usize>,
     /// The bytes that were read of the file that was begun last, and its size, where that is known.
     bytes: Cell<u64>,
@@ -70,7 +59,7 @@ impl<'rt> Terminal<'rt> {
         is_there: bool,
         unit: &'static str,
         units: usize,
-        mending: Mending,
+        is_mending: bool,
     ) -> Terminal<'rt> {
         Terminal {
             rt,
@@ -78,7 +67,7 @@ impl<'rt> Terminal<'rt> {
             prints_causes: is_there || wants_causes(rt),
             unit,
             units: if is_there { units } else { 0 },
-            mending,
+            is_mending,
             begun: Cell::new(0),
             bytes: Cell::new(0),
             size: Cell::new(None),
@@ -92,23 +81,18 @@ impl<'rt> Terminal<'rt> {
     /// Returns a terminal that shows the progress of reading `units` files, or whatever else `unit`
     /// names, if there are any.
     pub fn new(rt: &'rt HostRuntime, unit: &'static str, units: usize) -> Terminal<'rt> {
-        Terminal::of_mender(rt, unit, units, Mending::Nothing)
+        Terminal::of(rt, rt.stderr().is_terminal(), unit, units, false)
     }
 
     /// Returns the same for a program that mends files.
-    pub fn of_mender(
-        rt: &'rt HostRuntime,
-        unit: &'static str,
-        units: usize,
-        mending: Mending,
-    ) -> Terminal<'rt> {
-        Terminal::of(rt, rt.stderr().is_terminal(), unit, units, mending)
+    pub fn of_mender(rt: &'rt HostRuntime, unit: &'static str, units: usize) -> Terminal<'rt> {
+        Terminal::of(rt, rt.stderr().is_terminal(), unit, units, true)
     }
 
     /// Returns standard error for a service's journal, terminal or not: it gets messages, and no
     /// progress.
     pub fn journal(rt: &'rt HostRuntime) -> Terminal<'rt> {
-        Terminal::of(rt, true, "file", 0, Mending::Nothing)
+        Terminal::of(rt, true, "file", 0, false)
     }
 
     /// Is true where it is printed why a file or a store could not be used: on a terminal, in a
@@ -140,14 +124,13 @@ impl<'rt> Terminal<'rt> {
         }
     }
 
-    /// Prints for a person the sentence of a fault of the file of this name, and after `between`
-    /// these words.
-    pub(crate) fn advise_of(&self, name: &str, fault: &FragmentFault, between: &str, words: &str) {
+    /// Prints for a person the sentence of a fault of the file of this name, and these words.
+    pub(crate) fn advise_of(&self, name: &str, fault: &FragmentFault, words: &str) {
         if self.is_there {
             self.wipe_progress();
             let mut err = standard_error(self.rt);
             if err.put_name(name) {
-                let _ = writeln!(err, ": {fault}{between}{words}");
+                let _ = writeln!(err, ": {fault}{words}");
             }
         }
     }
@@ -159,8 +142,8 @@ impl<'rt> Terminal<'rt> {
         }
     }
 
-    pub(crate) fn mending(&self) -> Mending {
-        self.mending
+    pub(crate) fn is_mending(&self) -> bool {
+        self.is_mending
     }
 
     /// Notes whether something was written to standard output.

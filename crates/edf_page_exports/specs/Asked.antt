@@ -1,6 +1,6 @@
 -- What a script may ask of a program, by a number or by values, where the programs have words.
 use Rattle.std.specs.Prelude.{ℕ, ◌==◌, ◌≤◌, if◌then◌else◌, List, [], ◌∷◌, Bool, true, false, Option}
-use Rattle.std.specs.Prelude.{Some, None, is_none}
+use Rattle.std.specs.Prelude.{Some, None, is_none, not}
 use Rattle.edfmend_command.specs.Words.{Values}
 use Rattle.edfruns_command.specs.Run.{Asked}
 use Rattle.edfruns_command.specs.Run.Asked.{list, canonical, split, picture}
@@ -27,10 +27,10 @@ abbrev pub value_of : List ℕ → Option (List ℕ)
 value_of [] = None
 value_of (b ∷ text) = Some (b ∷ text)
 
--- seven texts: OUT, and what --patient, --set-patient, --deidentify, --startdate, --starttime and
--- --as have; without OUT it is --dry-run
+-- seven texts: OUT, and what --patient, --set-patient, --deidentify, --startdate and --starttime
+-- have, and any text for --all; without OUT it is --dry-run
 abbrev pub values_of : List ℕ → List (List ℕ) → Option Values
-values_of name (out ∷ patient ∷ set ∷ hidden ∷ date ∷ time ∷ rules ∷ []) = Some (record {
+values_of name (out ∷ patient ∷ set ∷ hidden ∷ date ∷ time ∷ all ∷ []) = Some (record {
   input = name;
   output = value_of out;
   dry = is_none (value_of out);
@@ -39,6 +39,6 @@ values_of name (out ∷ patient ∷ set ∷ hidden ∷ date ∷ time ∷ rules �
   deidentify = value_of hidden;
   startdate = value_of date;
   starttime = value_of time;
-  only = value_of rules;
+  all = not (is_none (value_of all));
 })
 values_of name texts = None

@@ -66,7 +66,7 @@ pub(crate) fn values_of<'a>(name: &'a str, texts: &[&'a str]) -> Option<MendValu
         deidentify,
         startdate,
         starttime,
-        only,
+        all,
     ] = texts
     else {
         return None;
@@ -80,6 +80,6 @@ pub(crate) fn values_of<'a>(name: &'a str, texts: &[&'a str]) -> Option<MendValu
         deidentify: value_of(deidentify),
         startdate: value_of(startdate),
         starttime: value_of(starttime),
-        only: value_of(only),
+        all: !all.is_empty(),
     })
 }

@@ -182,7 +182,7 @@ const OF_MENDING: &[MendRow] = &[
     (
         &[b"", b"", b"", b"", b"", b"", b""],
         3,
-        &[(0, b"\0"), (1, b"")],
+        &[(0, b"\0"), (1, b"p5.edf needs nothing\n")],
     ),
     (
         &[b"out.edf", b"", b"", b"S-1", b"", b"", b""],

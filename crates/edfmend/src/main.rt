@@ -4,29 +4,14 @@
 
 use edf_cli::Status;
 use edf_fragment::Output;
-use edf_os::{Files, Mending, PartFiles, Program, Streams, Terminal, run_program};
+use edf_os::{Files, PartFiles, Program, Streams, Terminal, run_program};
 use edfmend_command::{MendCommand, read_command, run_mend};
 use std::alloc::Global;
 use std::process::ExitCode;
 
-/// How often a file is read.
-const READINGS: usize = 2;
-
-/// What is said of a file without a fault.
-fn told_of_good(command: &MendCommand) -> &'static str {
-    match &command.output {
-        Some(_) => "it has no fault, and was copied as it is",
-        None => "it has no fault: there is nothing to mend",
-    }
-}
-
-/// By which rules a command mends.
-fn mending_of(command: &MendCommand) -> Mending {
-    if command.wanted.rules.is_empty() {
-        Mending::ByAll
-    } else {
-        Mending::ByNamed
-    }
+/// Returns how often a file is read: once more where nothing is asked of it, for it may be good.
+fn readings_of(command: &MendCommand) -> usize {
+    if command.wanted.asks_nothing() { 3 } else { 2 }
 }
 
 /// Runs a command over the system's files and streams.
@@ -63,15 +48,12 @@ impl Program for Edfmend {
     }
 
     fn run(rt: &HostRuntime, command: &MendCommand) -> Status {
-        let terminal = Terminal::of_mender(rt, "reading", READINGS, mending_of(command));
+        let terminal = Terminal::of_mender(rt, "reading", readings_of(command));
         let mut streams = Streams::new(rt, &terminal);
         let mut inputs = Files::regular(rt, &terminal);
         let mut maker = PartFiles::new(rt, &terminal);
         let status = run_over(rt, command, &mut inputs, &mut maker, &mut streams);
         terminal.wipe_progress();
-        if status == Status::Done && !terminal.is_output_begun() {
-            terminal.advise(command.input.as_str(), told_of_good(command));
-        }
         status
     }
 }

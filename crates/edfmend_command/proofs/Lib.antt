@@ -1,6 +1,4 @@
-mod Mending
-mod Opened
-mod Told
-mod Named
 mod Starts
-mod TwoWords
+mod Opened
+mod Readings
+mod LineByLine

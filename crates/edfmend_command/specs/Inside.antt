@@ -1,55 +1,58 @@
 -- What private functions do.
-use Rattle.std.specs.Prelude.{◌≡◌, ℕ, List, [], ◌∷◌, ◌++◌, Option, Some, IfSome, true}
+use Rattle.std.specs.Prelude.{◌≡◌, List, ℕ, [], ◌∷◌, ◌++◌, Bool, true, false, Option, Some, None, IfSome}
 use Rattle.std.specs.Io.KnownBytes.{Appends}
-use Rattle.edf_mend.specs.Survey.{IsSurveyOf}
-use Rattle.edf_mend.specs.declared.fault.MendFault.{MendFault}
-use Rattle.edf_mend.specs.declared.ledger.Ledger.{Ledger}
-use Rattle.edf_mend.specs.declared.surveying.Survey.{Survey}
+use Rattle.edf_header.specs.Key.{Key}
+use Rattle.edf_fragment.specs.Fragment.{DataRecord, IsFragmentFile}
+use Rattle.edf_runs.specs.Canonical.{AreAsPlanned}
+use Rattle.edf_runs.specs.declared.canonical_plan.CanonicalPlan.{CanonicalPlan}
+use Rattle.edf_mend.specs.Mends.{AsksNothing}
+use Rattle.edf_mend.specs.declared.mending.Mended.{Mended}
 use Rattle.edf_mend.specs.declared.wanted.Wanted.{Wanted}
-use Rattle.edf_cli.specs.Made.{MadeFile, begun, finished, HasPart}
-use Rattle.edf_cli.specs.Making.{Making}
-use Rattle.edfmend_command.specs.Run.{IsMendedFile, IsNotMended, CountsWrite, LeavesPart}
+use Rattle.edf_cli.specs.Made.{MadeFile, finished}
+use Rattle.edfmend_command.specs.Run.{IsGood, IsToMend, IsMendedFile, IsNotMended, LeavesPart}
 use Rattle.edfmend_command.specs.declared.mend_command.Stop.{Stop}
+use Rattle.edfmend_command.specs.declared.planning.Plan.{Plan}
+use Rattle.edfmend_command.specs.declared.planning.Plan.TheVariants.{Strict, Lenient}
 
-module _ (bytes : Option (List ℕ)) (w : Wanted) where
-  -- a first reading found this
-  abbrev pub Surveys : Survey → Type 0
-  Surveys s = IfSome bytes (λ file. IsSurveyOf w file s)
+-- A file is good by its plan.
+abbrev pub is_good : Plan → Bool
+is_good (Strict plan) = true
+is_good (Lenient measured) = false
 
-  -- in a second reading the mended file was written
-  pub record MendsAs (before after : Option (List ℕ)) (ledger : Ledger) : Type 0 where
+module _ (bytes : Option (List ℕ)) where
+  -- A good file was planned.
+  pub record PlansGood (plan : CanonicalPlan) : Type 0 where
+    pub none_kept : plan.kept.items ≡ []
+    pub planned : IfSome bytes (λ file. (key : Key) × (records : List DataRecord)
+        × IsFragmentFile file key records × AreAsPlanned key records plan)
+
+  -- Or the bytes are none.
+  abbrev pub PlansStrictly : Option CanonicalPlan → Type 0
+  PlansStrictly (Some plan) = PlansGood plan
+  PlansStrictly None = IfSome bytes (λ file. ¬ IsGood file)
+
+  -- A first reading found this.
+  abbrev pub Plans : Wanted → Plan → Type 0
+  Plans w (Strict plan) = AsksNothing w × PlansGood plan
+  Plans w (Lenient measured) = IsToMend bytes w
+
+  -- In a second reading the mended file was written.
+  pub record MendsAs (w : Wanted) (is_good : Bool) (before after : Option (List ℕ))
+      (mended : Mended) : Type 0 where
     pub new : List ℕ
-    pub is_mended : IsMendedFile bytes w ledger new
+    pub is_mended : IsMendedFile bytes w is_good mended new
     pub wrote : Appends before after new
 
-  module _ (before after : List MadeFile) (failed failed' : ℕ) where
-    -- it was written to a file that was begun, and has its name now
-    pub record WritesFile (start : Option (List ℕ)) (ledger : Ledger) : Type 0 where
-      pub held : Option (List ℕ)
-      pub mends : MendsAs start held ledger
-      pub made : (files : List MadeFile) (name : List ℕ) → before ≡ files ++ (begun name ∷ []) →
-          after ≡ files ++ (finished name held ∷ [])
-      pub unfailed : failed' ≡ failed
-
-    -- it was not, or not whole
-    pub record StopsWriting (why : MendFault) : Type 0 where
-      pub stops : IsNotMended bytes w why
-      pub left : (files : List MadeFile) (name : List ℕ) → before ≡ files ++ (begun name ∷ []) →
-          HasPart files name after
-      pub counted : CountsWrite failed failed' why
-
-  module _ (m : Making) (name : List ℕ) where
-    -- a file was made
-    pub record MakesFile (ledger : Ledger) : Type 0 where
+  module _ (w : Wanted) (before after : List MadeFile) (name : List ℕ) where
+    -- It was written to a file that has its name now.
+    pub record MakesFile (known is_good : Bool) (mended : Mended) : Type 0 where
       pub start : Option (List ℕ)
-      pub empty : m.known ≡ true → start ≡ Some []
+      pub empty : known ≡ true → start ≡ Some []
       pub held : Option (List ℕ)
-      pub mends : MendsAs start held ledger
-      pub made : m.after ≡ m.before ++ (finished name held ∷ [])
-      pub unfailed : m.failed_after ≡ m.failed_before
+      pub mends : MendsAs w is_good start held mended
+      pub made : after ≡ before ++ (finished name held ∷ [])
 
-    -- none was
+    -- It was not, or not whole.
     pub record StopsMaking (stop : Stop) : Type 0 where
       pub stops : IsNotMended bytes w stop.fault
-      pub leaves : LeavesPart m name stop.is_left
-      pub counted : CountsWrite m.failed_before m.failed_after stop.fault
+      pub leaves : LeavesPart before after name stop.is_left

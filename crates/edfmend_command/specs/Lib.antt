@@ -1,6 +1,3 @@
-pub mod Lines
-pub mod Ledger
 pub mod Run
 pub mod Words
 pub mod Inside
-pub mod InsideWords

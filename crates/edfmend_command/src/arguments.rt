@@ -1,24 +1,21 @@
 //! The command line, read by `clap`. Lines of help are broken where they stand, since nothing else
 //! breaks them.
 
-ghost use Rattle.std.specs.Prelude.{◌≡◌, ◌↔◌, ◌∷◌, ◌<◌, [], ℕ, List, length, map, IsTrue, IfOk};
-ghost use Rattle.std.specs.Prelude.{IfSome, MatchOption, MatchResult, option_map, string_bytes};
+ghost use Rattle.std.specs.Prelude.{◌≡◌, ◌↔◌, IsTrue, IfOk, IfSome, IsErrAnd, MatchResult};
+ghost use Rattle.std.specs.Prelude.{option_map, string_bytes, [], List, ℕ};
 ghost use Rattle.std.specs.Bool.{MatchBool};
-ghost use Rattle.std.specs.List.{AllZip, slice_split};
-ghost use Rattle.edf_mend.specs.Code.{IsCode};
-ghost use Rattle.edf_mend.specs.Starts.{HasStarttime};
+ghost use Rattle.edf_mend.specs.Texts.{IsCode};
 ghost use Rattle.edf_cli.specs.Output.{output_change, Gets};
 ghost use Rattle.edf_cli.specs.Words.{IsCommandFaultPrinted};
 ghost use Rattle.edfmend_command.specs.Run.{meaning};
-ghost use Rattle.edfmend_command.specs.Words.{Values, NamesRule, is_comma, AreRules, AreCodes};
-ghost use Rattle.edfmend_command.specs.Words.{IsDateWord, AreNames, Mean, MeanNothing};
-ghost use Rattle.edfmend_command.specs.Words.{HasNoStroke, IsUsage, MeansTwo};
+ghost use Rattle.edfmend_command.specs.Words.{Values, AreCodes, IsDateWord, IsTimeWord, AreNames};
+ghost use Rattle.edfmend_command.specs.Words.{Mean, MeanNothing, IsNothing};
 
 use crate::mend_command::MendCommand;
 use clap::{Arg, ArgAction, ArgMatches, Command};
 use edf_cli::{CommandFault, Status, VERSION, fault_by, print_fault, refuse_value};
 use edf_fragment::Output;
-use edf_mend::{Code, RULES, Rule, Wanted, Who};
+use edf_mend::{Code, Wanted, Who};
 use edf_time::start_of;
 use std::alloc::{AllocError, Global};
 use std::marker::Model;
@@ -28,13 +25,11 @@ const EDFMEND: &str = "\
 Makes an EDF+ file of one that is almost EDF+, or plain EDF, changes only what it
 tells, and leaves every sample as it is.";
 
-/// What stands before the rules in the help.
-const RULES_ARE: &str = "Rules, in the order in which they are applied:\n";
-
-/// What stands behind them.
+/// The end of the help.
 const MORE: &str = "
-A line is printed for each change. A file that needs none is copied as it is.
-IN is never written, and no file that is there is written over.
+OUT is the canonical EDF+D file of what is read of IN, as 'edfruns canonical' makes it.
+A line is printed for each field that differs. IN is never written, and no file that is
+there is written over.
 
 Example:
   edfmend old.edf new.edf --patient S-0118
@@ -45,19 +40,6 @@ Status:
   2  the words ask for nothing that can be done
   3  trouble with a file, standard output or memory";
 
-/// The rules that words can name, each with what it does, and what the statuses mean.
-fn more_help(alloc: Global) -> Result<String, AllocError> {
-    let mut text = String::from_str(alloc, RULES_ARE)?;
-    for row in &RULES {
-        if row.by_name {
-            let (name, help) = (row.rule.name(), row.help);
-            write!(text, "  {name:<13}{help}\n")?;
-        }
-    }
-    text.push_str(MORE)?;
-    Ok(text)
-}
-
 /// Why `-` is refused where a file is read twice.
 const READ_TWICE: &str = "\
 IN is read twice, which standard input can't be: write it to a file first";
@@ -67,9 +49,6 @@ const NO_OUT: &str = "OUT is wanted, or --dry-run";
 
 /// Why words with OUT are refused.
 const DRY_OUT: &str = "--dry-run writes no OUT";
-
-/// Why a rule is refused.
-const NO_RULE: &str = "--as has names of rules, with commas between them";
 
 /// Why a code is refused.
 const NO_CODE: &str = "\
@@ -84,7 +63,7 @@ const NO_DATE: &str = "--startdate is a day, as 24.12.26";
 /// Why a starttime is refused.
 const NO_TIME: &str = "--starttime is a time of day, as 22.30.00";
 
-/// An option with a value.
+/// Returns an option with a value.
 fn option<'a>(alloc: Global, name: &'a str, value: &'a str, help: &'a str) -> Arg<'a> {
     Arg::new(alloc, name)
         .long(name)
@@ -92,7 +71,7 @@ fn option<'a>(alloc: Global, name: &'a str, value: &'a str, help: &'a str) -> Ar
         .help(help)
 }
 
-/// The options that say whose a file is, and when it starts.
+/// Adds the options that say whose a file is, and when it starts.
 fn with_options<'a>(alloc: Global, command: Command<'a>) -> Result<Command<'a>, AllocError> {
     let patient = "The code of the patient, where the file names none";
     let set_patient = "The code of the patient, in the place of another too";
@@ -105,16 +84,21 @@ fn with_options<'a>(alloc: Global, command: Command<'a>) -> Result<Command<'a>, 
         .arg(option(alloc, "deidentify", "CODE", deidentify))?
         .arg(option(alloc, "startdate", "DD.MM.YY", startdate))?
         .arg(option(alloc, "starttime", "HH.MM.SS", starttime))?
-        .arg(option(alloc, "as", "RULE,..", "Apply these rules alone"))
+        .arg(
+            Arg::new(alloc, "all")
+                .long("all")
+                .action(ArgAction::SetTrue)
+                .help("All whole data records in IN are of this recording"),
+        )
 }
 
-/// The program with its words, and with this behind its help.
-fn edfmend_words<'a>(alloc: Global, more: &'a str) -> Result<Command<'a>, AllocError> {
+/// Returns the program with its words.
+fn edfmend_words<'a>(alloc: Global) -> Result<Command<'a>, AllocError> {
     let command = Command::new(alloc, "edfmend")
         .bin_name("edfmend")?
         .version(VERSION)
         .about(EDFMEND)
-        .after_help(more)
+        .after_help(MORE)
         .no_binary_name(true)
         .arg(
             Arg::new(alloc, "IN")
@@ -130,32 +114,23 @@ fn edfmend_words<'a>(alloc: Global, more: &'a str) -> Result<Command<'a>, AllocE
     )
 }
 
-/// Why words are refused that `clap` takes.
+/// Returns why words are refused that `clap` takes.
 fn refuse(alloc: Global, why: &str) -> Result<CommandFault, AllocError> {
-    refuse_value(alloc, edfmend_words(alloc, "")?, "edfmend", why)
+    refuse_value(alloc, edfmend_words(alloc)?, "edfmend", why)
 }
 
 /// The values of the words, each once at most.
 #[derive(Debug, Drop)]
 pub struct MendValues<'a> {
-    /// IN.
     pub input: &'a str,
-    /// OUT.
     pub output: Option<&'a str>,
-    /// Whether `--dry-run` is there.
     pub dry: bool,
-    /// The code of `--patient`.
     pub patient: Option<&'a str>,
-    /// The code of `--set-patient`.
     pub set_patient: Option<&'a str>,
-    /// The code of `--deidentify`.
     pub deidentify: Option<&'a str>,
-    /// The day of `--startdate`.
     pub startdate: Option<&'a str>,
-    /// The time of `--starttime`.
     pub starttime: Option<&'a str>,
-    /// The rules of `--as`, with commas between them.
-    pub only: Option<&'a str>,
+    pub all: bool,
 }
 
 impl<'a> Model for MendValues<'a> {
@@ -173,7 +148,7 @@ impl<'a> Model for MendValues<'a> {
       deidentify = option_map (λ s. s.now) f.deidentify;
       startdate = option_map (λ s. s.now) f.startdate;
       starttime = option_map (λ s. s.now) f.starttime;
-      only = option_map (λ s. s.now) f.only;
+      all = f.all;
     } };
 }
 
@@ -187,61 +162,14 @@ fn found_in<'a>(values: &ArgMatches<'a>) -> MendValues<'a> {
         deidentify: values.get_str("deidentify"),
         startdate: values.get_str("startdate"),
         starttime: values.get_str("starttime"),
-        only: values.get_str("as"),
+        all: values.get_flag("all"),
     }
 }
 
-/// The name at the front of names with commas between them, and what follows its comma.
-fn split_name(names: &[u8]) -> (&[u8], Option<&[u8]>)
-    ensures parts { MatchOption result.1 (slice_split is_comma names.now ≡ result.0.now ∷ [])
-        (λ rest. slice_split is_comma names.now ≡ result.0.now ∷ slice_split is_comma rest.now) }
-    ensures less { IfSome result.1 (λ rest. length rest.now < length names.now) }
-{
-    for (i, b) in names.iter().enumerate() {
-        if *b == b',' {
-            return (&names[..i], Some(&names[i + 1..]));
-        }
-    }
-    (names, None)
-}
-
-/// The rules of these names.
-fn rules_named(alloc: Global, names: &[u8]) -> Result<Vec<Rule>, CommandFault>
-    ensures rules { IfOk result (λ r. AllZip NamesRule (slice_split is_comma names.now) r.items) }
-    ensures nothing { IsUsage result → (found : List Rule) →
-        ¬ AllZip NamesRule (slice_split is_comma names.now) found }
-{
-    let mut rules = Vec::new(alloc);
-    let mut left = Some(names);
-    while let Some(names) = left {
-        let (name, rest) = split_name(names);
-        let Some(rule) = Rule::named(name) else {
-            return Err(refuse(alloc, NO_RULE)?);
-        };
-        if rules.push(rule).is_err() {
-            return Err(CommandFault::Memory);
-        }
-        left = rest;
-    }
-    Ok(rules)
-}
-
-/// The rules whose names a text has, with commas between them.
-fn rules_in(alloc: Global, text: Option<&str>) -> Result<Vec<Rule>, CommandFault>
-    ensures rules { IfOk result (λ r. AreRules (option_map (λ s. s.now) text.entry) r.items) }
-    ensures nothing { IsUsage result → (found : List Rule) →
-        ¬ AreRules (option_map (λ s. s.now) text.entry) found }
-{
-    match text {
-        Some(text) => rules_named(alloc, text.as_bytes()),
-        None => Ok(Vec::new(alloc)),
-    }
-}
-
-/// The code that a text is.
+/// Returns the code that a text is.
 fn code_in(alloc: Global, text: &str) -> Result<Code, CommandFault>
     ensures code { IfOk result (λ code. code ≡ text.now) }
-    ensures nothing { IsUsage result → ¬ IsCode text.now }
+    ensures nothing { IsErrAnd result IsNothing → ¬ IsCode text.now }
 {
     match Code::new(alloc, text.as_bytes())? {
         Some(code) => Ok(code),
@@ -249,11 +177,11 @@ fn code_in(alloc: Global, text: &str) -> Result<Code, CommandFault>
     }
 }
 
-/// Whose the file is.
+/// Returns the patient that the words name.
 fn who_in(alloc: Global, found: &MendValues<'_>) -> Result<Who, CommandFault>
     ensures who { IfOk result
         (AreCodes found.now.patient found.now.set_patient found.now.deidentify) }
-    ensures nothing { IsUsage result → (who : Who) →
+    ensures nothing { IsErrAnd result IsNothing → (who : Who) →
         ¬ AreCodes found.now.patient found.now.set_patient found.now.deidentify who }
 {
     match (found.patient, found.set_patient, found.deidentify) {
@@ -265,10 +193,10 @@ fn who_in(alloc: Global, found: &MendValues<'_>) -> Result<Who, CommandFault>
     }
 }
 
-/// Whether a text is a startdate, or a starttime.
+/// Is true where a text is a startdate, or a starttime.
 fn is_start(text: &[u8; 8], is_date: bool) -> bool
     ensures { MatchBool is_date (IsTrue result ↔ IsDateWord text.now)
-        (IsTrue result ↔ HasStarttime text.now) }
+        (IsTrue result ↔ IsTimeWord text.now) }
 {
     if is_date {
         start_of(text, b"00.00.00", None).is_ok()
@@ -277,7 +205,7 @@ fn is_start(text: &[u8; 8], is_date: bool) -> bool
     }
 }
 
-/// A start that was given, where it is one in its place.
+/// Returns a start that was given, where it is one in its place.
 fn start_in(
     alloc: Global,
     text: Option<&str>,
@@ -285,10 +213,10 @@ fn start_in(
 ) -> Result<Option<[u8; 8]>, CommandFault>
     ensures start { IfOk result (λ found. (found ≡ option_map (λ s. s.now) text.entry)
         × MatchBool is_date (IfSome (option_map (λ s. s.now) text.entry) IsDateWord)
-        (IfSome (option_map (λ s. s.now) text.entry) HasStarttime)) }
-    ensures nothing { IsUsage result →
+        (IfSome (option_map (λ s. s.now) text.entry) IsTimeWord)) }
+    ensures nothing { IsErrAnd result IsNothing →
         MatchBool is_date (¬ IfSome (option_map (λ s. s.now) text.entry) IsDateWord)
-        (¬ IfSome (option_map (λ s. s.now) text.entry) HasStarttime) }
+        (¬ IfSome (option_map (λ s. s.now) text.entry) IsTimeWord) }
 {
     let Some(text) = text else {
         return Ok(None);
@@ -304,11 +232,11 @@ fn start_in(
     Err(refuse(alloc, why)?)
 }
 
-/// The new file, if one is to be written. IN is read twice, so it is not `-`.
+/// Returns the new file, if one is to be written. IN is read twice, so it is not `-`.
 fn output_in(alloc: Global, found: &MendValues<'_>) -> Result<Option<String>, CommandFault>
     ensures output { IfOk result
         (λ r. AreNames found.now × (option_map string_bytes r ≡ found.now.output)) }
-    ensures nothing { IsUsage result → ¬ AreNames found.now }
+    ensures nothing { IsErrAnd result IsNothing → ¬ AreNames found.now }
 {
     if found.input == "-" {
         return Err(refuse(alloc, READ_TWICE)?);
@@ -321,109 +249,53 @@ fn output_in(alloc: Global, found: &MendValues<'_>) -> Result<Option<String>, Co
     }
 }
 
-/// What the values of words ask for, where no words are read.
+/// Returns what the values of words ask for, where no words are read.
 ///
 /// # Errors
 /// `Usage` where they ask for nothing that can be done, `Memory` where memory ran out.
 pub fn command_of(alloc: Global, values: &MendValues<'_>) -> Result<MendCommand, CommandFault>
     ensures mean { IfOk result (λ command. Mean values.now (meaning command)) }
-    ensures nothing { IsUsage result → MeanNothing values.now }
+    ensures nothing { IsErrAnd result IsNothing → MeanNothing values.now }
 {
     let output = output_in(alloc, values)?;
     let who = who_in(alloc, values)?;
     let startdate = start_in(alloc, values.startdate, true)?;
     let starttime = start_in(alloc, values.starttime, false)?;
-    let rules = rules_in(alloc, values.only)?;
     let input = String::from_str(alloc, values.input)?;
     Ok(MendCommand {
         input,
         output,
         wanted: Wanted {
-            rules,
             who,
             startdate,
             starttime,
+            all: values.all,
         },
     })
 }
 
-/// Whether a word begins with another byte than a stroke.
-fn has_no_stroke(word: &str) -> bool
-    ensures { IsTrue result ↔ HasNoStroke word.now }
-{
-    match word.as_bytes() {
-        [first, ..] => *first != b'-',
-        [] => false,
-    }
-}
-
-/// IN and OUT, where these are the words, and none begins with a stroke.
-fn plain_words(words: &[String]) -> Option<(&str, &str)>
-    ensures { MatchOption result ((input output : List ℕ) →
-        map string_bytes words.now ≡ input ∷ output ∷ [] → HasNoStroke input →
-        ¬ HasNoStroke output)
-        (λ two. (map string_bytes words.now ≡ two.0.now ∷ two.1.now ∷ [])
-        × HasNoStroke two.0.now) }
-{
-    let [input, output] = words else {
-        return None;
-    };
-    let (input, output) = (input.as_str(), output.as_str());
-    if has_no_stroke(input) && has_no_stroke(output) {
-        Some((input, output))
-    } else {
-        None
-    }
-}
-
-/// IN and OUT ask for nothing more.
-fn two_words(alloc: Global, input: &str, output: &str) -> Result<MendCommand, CommandFault>
-    ensures { MatchResult result
-        (λ command. MeansTwo input.now output.now (meaning command))
-        (λ why. why ≡ CommandFault.Memory) }
-{
-    Ok(MendCommand {
-        input: String::from_str(alloc, input)?,
-        output: Some(String::from_str(alloc, output)?),
-        wanted: Wanted {
-            rules: Vec::new(alloc),
-            who: Who::AsNamed,
-            startdate: None,
-            starttime: None,
-        },
-    })
-}
-
-/// What words other than two plain ones, and than the word for help, ask for.
+/// Returns what words other than the one for help ask for.
 fn read_words(alloc: Global, words: &[String]) -> Result<MendCommand, CommandFault>
     ensures { IfOk result (λ command. (values : Values) × Mean values (meaning command)) }
 {
-    let more = more_help(alloc)?;
-    let mut command = edfmend_words(alloc, more.as_str())?;
+    let mut command = edfmend_words(alloc)?;
     match command.try_get_matches_from_mut(words) {
         Ok(matches) => command_of(alloc, &found_in(&matches)),
         Err(error) => Err(fault_by(alloc, &error)),
     }
 }
 
-/// What the words after the program's name ask for: `IN OUT` or `IN --dry-run`, with one of
+/// Returns what the words after the program's name ask for: `IN OUT` or `IN --dry-run`, with one of
 /// `--patient CODE`, `--set-patient CODE` and `--deidentify CODE`, with `--startdate DD.MM.YY`,
-/// `--starttime HH.MM.SS` and `--as RULE,..`. IN is read twice, so it is not `-`. The word `help`
-/// alone asks for help, as the flag does.
+/// `--starttime HH.MM.SS` and `--all`. IN is read twice, so it is not `-`. The word `help` alone
+/// asks for help, as the flag does.
 ///
 /// # Errors
 /// `Help` where help or the version was asked for, `Usage` where the words ask for nothing that can
 /// be done, `Memory` where memory ran out.
 pub fn parse(alloc: Global, words: &[String]) -> Result<MendCommand, CommandFault>
-    ensures mean { IfOk result (λ command. (values : Values) × Mean values (meaning command)) }
-    ensures two { (input output : List ℕ) →
-        map string_bytes words.now ≡ input ∷ output ∷ [] → HasNoStroke input →
-        HasNoStroke output → MatchResult result (λ command. MeansTwo input output (meaning command))
-        (λ why. why ≡ CommandFault.Memory) }
+    ensures { IfOk result (λ command. (values : Values) × Mean values (meaning command)) }
 {
-    if let Some((input, output)) = plain_words(words) {
-        return two_words(alloc, input, output);
-    }
     if let [word] = words
         && word.as_str() == "help"
     {
@@ -433,7 +305,7 @@ pub fn parse(alloc: Global, words: &[String]) -> Result<MendCommand, CommandFaul
     read_words(alloc, words)
 }
 
-/// The command that the words after the program's name ask for.
+/// Returns the command that the words after the program's name ask for.
 ///
 /// # Errors
 /// The status that the program ends with, where there is no command to run: help went to `out`, or

@@ -3,7 +3,7 @@ use Rattle.std.specs.Prelude.{if◌then◌else◌}
 use Rattle.std.specs.Str.{chars, is_utf8, IsUtf8}
 use Rattle.std.proofs.lemmas.Result.{IfOk-weaker}
 use Rattle.std.proofs.lemmas.Str.{is_utf8-from_IsUtf8, IsUtf8-from_is_utf8}
-use Rattle.edf_mend.specs.Letters.{characters}
+use Rattle.edf_mend.specs.Texts.{characters}
 use Rattle.edf_mend.proofs.letters.characters.Goals as goal
 
 decided : (text codes : List ℕ) (b : Bool) → is_utf8 text ≡ b →

@@ -1,5 +1,6 @@
-use Rattle.edfmend_command.proofs.TwoWords.{some-mean}
+use Rattle.std.proofs.lemmas.Result.{IfOk-weaker}
 use Rattle.edfmend_command.proofs.arguments.read_words.Goals as goal
 
 pub returns-in-Ok : goal.returns-in-Ok
-returns-in-Ok c = some-mean c.command_of.result _ c.command_of.ensures.mean
+returns-in-Ok c =
+    IfOk-weaker c.command_of.result _ _ (λ command h. (_, h)) c.command_of.ensures.mean

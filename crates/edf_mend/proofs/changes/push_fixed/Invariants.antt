@@ -1,0 +1,10 @@
+use Rattle.std.proofs.Common.{◌≡◌, ◌++◌, take}
+use Rattle.std.specs.List.{flat_map}
+use Rattle.edf_field.specs.Number.{field}
+use Rattle.edf_mend.specs.Changes.{changed, fixed_fields}
+use Rattle.edf_mend.proofs.changes.push_fixed.Given as goal
+
+abbrev pub invariant-loop-at : goal.invariant-loop-at
+invariant-loop-at l = l.out.items ≡ l.fn.out.items
+    ++ flat_map (λ f. changed f.0 0 f.0 (field l.old f.0 f.1) (field l.new f.0 f.1))
+    (take l.at-index fixed_fields)

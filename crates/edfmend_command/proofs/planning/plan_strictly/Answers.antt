@@ -1,0 +1,28 @@
+use Rattle.std.proofs.Common.{rules, List, ℕ, Option, subst}
+use Rattle.std.specs.Prelude.{IfSome}
+use Rattle.edf_cli.proofs.Opened.{opened-once}
+use Rattle.edfmend_command.specs.Inside.{PlansGood}
+use Rattle.edfmend_command.specs.Run.{IsGood}
+use Rattle.edfmend_command.proofs.Readings.{good-planned, no-good}
+use Rattle.edfmend_command.proofs.planning.plan_strictly.Goals as goal
+
+pub returns-in-Ok-plan_canonical-clause-plan : goal.returns-in-Ok-plan_canonical-clause-plan
+returns-in-Ok-plan_canonical-clause-plan g c =
+    subst (λ (b : Option (List ℕ)). PlansGood b c.in-Ok-plan_canonical.plan) c.in-Ok.ensures.reader
+    (good-planned _ _ c.in-Ok-plan_canonical.plan c.in-Ok-plan_canonical.ensures.answer)
+
+pub returns-in-Err-Memory-clause-opened : goal.returns-in-Err-Memory-clause-opened
+returns-in-Err-Memory-clause-opened g c =
+    opened-once (g.I.Inputs.opened c.args.inputs.now) (g.I.Inputs.opened c.open.new.self)
+    c.args.file.now c.in-Ok.ensures.names
+
+pub returns : goal.returns
+returns g c = record {
+  plan = subst (λ (b : Option (List ℕ)). IfSome b (λ file. ¬ IsGood file))
+      c.in-Ok.ensures.reader
+      (no-good _ _ c.in-Err.field-0 c.in-Err.ensures.answer (search rules)
+      (search rules));
+  trouble = tt;
+  opened = c.in-Ok.ensures.names;
+  same = c.in-Ok.ensures.same;
+}
