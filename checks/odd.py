@@ -7,10 +7,10 @@ Each file is made by the system's SQLite or by hand, given to `list`, and must b
 number that stands beside it and left as it was, byte for byte. Beside a file that is no database
 nothing is made, nor is anything in an empty one by what only reads. Beside the tables of a store
 that the released 1.1.1 made (data/released_1_1_1.db, the file Q) other tools may write as they
-please; what they may do to a store with page sums is tried too, and GUIDE's lines that bring such a
-store back, which run nothing that somebody wrote into it. Where rows are in the log alone and the
-store is refused, they stay there. Then `list` of stores of 250,000, 500,000 and 1,000,000 rows:
-time and peak memory. It needs sqlite3 and time.
+please; what they may do to a store with page sums is tried too, and the lines of `man edfstore`
+that bring such a store back, which run nothing that somebody wrote into it. Where rows are in the
+log alone and the store is refused, they stay there. Then `list` of stores of 250,000, 500,000 and
+1,000,000 rows: time and peak memory. It needs sqlite3 and time.
 """
 import os
 import shutil
@@ -91,16 +91,16 @@ BESIDE = (
     ("VACUUM", ("VACUUM",)),
     ("journal_mode=delete", ("PRAGMA journal_mode=delete",)),
 )
-# GUIDE's lines, over s.db
-BACK = next(block for block in sessions.blocks(arguments.TOP / "docs/GUIDE.md")
+# The man page's lines, over s.db
+BACK = next(block for block in sessions.of_manual(arguments.TOP / "docs/edfstore.1")
             if " .dump" in block).replace("night.db", "s.db") + "mv $new/new.db .; rm -r $new"
 # Lines that sqlite3 would run: of a table's text, which .dump writes as it is
 WICKED = ("shell touch ran", "trace ran", "testcase ran", "output ran")
 WITH_SUMS = (
     ("a query", "sqlite3 s.db 'SELECT count(*) FROM record'", ""),
     ("cp", "cp s.db new.db", ""),
-    ("GUIDE's way back", BACK, ""),
-    ("GUIDE's way back from ANALYZE", f"sqlite3 s.db ANALYZE; {BACK}", ""),
+    ("the way back", BACK, ""),
+    ("the way back from ANALYZE", f"sqlite3 s.db ANALYZE; {BACK}", ""),
     ("ANALYZE", "sqlite3 s.db ANALYZE", E42),
     ("VACUUM", "sqlite3 s.db VACUUM", E42),
     ("a view", "sqlite3 s.db 'CREATE VIEW starts AS SELECT start FROM record'", E42),
@@ -288,7 +288,7 @@ def beside(odd: Odd) -> None:
     for what, statements in BESIDE:
         changed(odd.released(), *statements)
         goes_on(odd, what)
-    for what, command in (("GUIDE's way back", BACK), (".backup", "sqlite3 s.db '.backup new.db'")):
+    for what, command in (("the way back", BACK), (".backup", "sqlite3 s.db '.backup new.db'")):
         changed(odd.released(), LAB, FILLED, "ANALYZE")
         measure.done("bash", "-c", command, folder=odd.folder)
         moved_in(odd)
@@ -312,10 +312,10 @@ def with_sums(odd: Odd) -> None:
 
 
 def wicked(odd: Odd) -> None:
-    """GUIDE's way back runs nothing that stands in a store, which would run without its words."""
+    """The way back runs nothing that stands in a store, which would run without its words."""
     harmful = BACK.replace(" -safe", "").replace("grep -av '^[.]'", "cat")
     for line in WICKED:
-        for what, command, expected in (("GUIDE's way back", BACK, 1), ("another", harmful, 2)):
+        for what, command, expected in (("the way back", BACK, 1), ("another", harmful, 2)):
             changed(odd.held(has_sums=True), "CREATE TABLE other (a)",
                     "PRAGMA writable_schema = ON; "
                     f"UPDATE sqlite_schema SET sql = sql || ';\n.{line}\n' "

@@ -33,7 +33,8 @@ SERVICES = ("usr/lib/edfstore", "usr/lib/systemd", "lib/systemd", "etc")      # 
 EXAMPLES = ("edflib.edf", "one-record.edf")
 LICENCES = ("LICENSE-MIT", "LICENSE-APACHE", "THIRD-PARTY.md")
 DOCUMENTS = ("README.md", "copyright", *LICENCES, "docs/GUIDE.md", "docs/REFUSALS.md",
-             "docs/FORMAT.md", "docs/GLOSSARY.md", "examples/witness.py",
+             "docs/FORMAT.md", "docs/GLOSSARY.md", "docs/ASSURANCE.md", "docs/PROMISES.md",
+             "examples/witness.py",
              *(f"examples/{name}" for name in EXAMPLES))
 PLACE = ("PATH=/usr/sbin:/usr/bin:/sbin:/bin", "DEBIAN_FRONTEND=noninteractive")
 EARLIER = 946_684_800       # a time of files, which must not be seen

@@ -293,6 +293,7 @@ def written_again(checks: Checks, clones: Clones, clone: Path, version: str) -> 
     checks.same("the release has the same bytes", written[1:] == written[:1] * 3, True)
     archives = [f"edfstore-{version}-{machine}-linux.tar.xz" for machine in sorted(MACHINES)]
     packages = [f"edfstore_{version}_{machine}.deb" for machine in ("amd64", "arm64")]
+    packages.append(f"edfclinic_{version}_all.deb")
     checks.same("its files", sorted(written[0]),
                 sorted(("SHA256SUMS", "SOURCES", "TOOLCHAIN", PAGE, *archives, *packages)))
     for name in ("SOURCES", "TOOLCHAIN"):

@@ -271,16 +271,30 @@ def trouble(programs: Programs) -> None:
                err=printed.line("none.edf", printed.UNREAD), status=3)
     for names in ("a.edf", "a.edf none.edf"):       # the second is not read
         checks.shell(f"edfruns list {names} > /dev/full", err=printed.UNWRITTEN_OUTPUT, status=3)
-    for words in ("canonical a.edf", "split a.edf part"):
-        checks.shell(f"edfruns {words} > /dev/full", err=printed.UNWRITTEN_OUTPUT, status=3)
+    checks.shell("edfruns canonical a.edf > /dev/full", err=printed.UNWRITTEN_OUTPUT, status=3)
     checks.shell("edfruns split a.edf none/part",
                  err=printed.line("none/part-1.edf", printed.UNWRITTEN), status=3)
     checks.same("the files", checks.names(), ["a.edf"])
+    checks.shell("edfruns split a.edf part > /dev/full", err=printed.UNWRITTEN_OUTPUT, status=3)
+    whole_files(checks, "part", runs.read_runs(FILES["R9"]), 1)
+
+
+def split_told(prefix: str, made: list[runs.Run]) -> list[str]:
+    """The lines of `split`."""
+    return runs.split_lines(prefix, made).splitlines(keepends=True)
+
+
+def whole_files(checks: Checks, prefix: str, made: list[runs.Run], count: int,
+                *others: str) -> None:
+    """Of a split there are the files of the first runs, so many, and these."""
+    names = runs.split_names(prefix, made)[:count]
+    checks.same("the files", checks.names(), sorted(["a.edf", *names, *others]))
+    for name, run in zip(names, made):
+        checks.same(name, checks.content(name), run.to_bytes())
 
 
 def files_that_are_there(programs: Programs) -> None:
-    """No file that is there is written over, or that comes to be there, and none is left beside
-    it."""
+    """No file that is there is written over, or that comes to be there."""
     checks, made = programs.checks, runs.read_runs(FILES["R9"])
     for taken in ("part-1.edf", "part-2.edf"):
         checks.begin(f"{taken} is there")
@@ -301,9 +315,9 @@ def files_that_are_there(programs: Programs) -> None:
     checks.begin("a file that another program has begun, or left, is there")
     checks.file("a.edf", FILES["R9"])
     checks.file("part-2.edf.part", b"mine")
-    checks.run("split", "a.edf", "part", err=printed.line("part-2.edf", printed.UNWRITTEN),
-               status=3)
-    checks.same("the files", checks.names(), ["a.edf", "part-2.edf.part"])
+    checks.run("split", "a.edf", "part", out=split_told("part", made)[0],
+               err=printed.line("part-2.edf", printed.UNWRITTEN), status=3)
+    whole_files(checks, "part", made, 1, "part-2.edf.part")
     checks.same("the begun file", checks.content("part-2.edf.part"), b"mine")
     checks.begin("a file of that name is made meanwhile")
     checks.file("a.edf", FILES["R9"])
@@ -318,24 +332,25 @@ def files_that_are_there(programs: Programs) -> None:
 
 def a_file_that_changes(programs: Programs) -> None:
     """A named pipe that gives another file when it is read again: the run that was listed does not
-    come next, and no file is left."""
+    come next. Of `split` there are the files of those that did."""
     checks, data = programs.checks, FILES["R9"]
     cut, later, longer = data[:-20], small("+0", "+9"), small("+0", "+1", "+5")
-    for name, second in (("cut", cut), ("with another start", later), ("with a longer run", longer),
-                         ("empty", b"")):
+    for name, second, count in (("cut", cut, 1), ("with another start", later, 1),
+                                ("with a longer run", longer, 1), ("empty", b"", 0)):
         checks.begin(f"a file that is {name} when it is read again")
         checks.file("a.edf", data if second in (cut, b"") else small("+0", "+5"))
         checks.file("b.edf", second)
         os.mkfifo(checks.folder / "f")
         feed = "(cat a.edf > f; sleep 0.5; cat b.edf > f) &"
-        given = ["split f part"]
+        made = runs.read_runs(checks.content("a.edf"))
+        checks.shell(f"{feed} edfruns split f part; s=$?; kill %1 2> /dev/null; exit $s",
+                     out="".join(split_told("part", made)[:count]), err=printed.changed("f"),
+                     status=3)
         if second != later:     # its first start, its number and its sizes are the same
-            given += ["canonical f > out", "picture f > out"]
-        for words in given:
-            checks.shell(f"{feed} edfruns {words}; s=$?; kill %1 2> /dev/null; exit $s",
-                         err=printed.changed("f"), status=3)
-        checks.same("the files", checks.names(),
-                    ["a.edf", "b.edf", "f", *["out"] * (second != later)])
+            for words in ("canonical f > out", "picture f > out"):
+                checks.shell(f"{feed} edfruns {words}; s=$?; kill %1 2> /dev/null; exit $s",
+                             err=printed.changed("f"), status=3)
+        whole_files(checks, "part", made, count, "b.edf", "f", *["out"] * (second != later))
 
 
 def a_thousand_runs(programs: Programs) -> None:

@@ -45,7 +45,8 @@ for (const type of ["dragenter", "dragover", "drop"]) {
 
 
 class Hands:
-    """What both browsers have."""
+    """What all browsers have."""
+    has_folders = True
 
     def __init__(self, browser, downloads: Path):
         self.browser, self.downloads = browser, downloads
@@ -71,7 +72,7 @@ class Hands:
     def saved(self, name: str, seconds: float = 20) -> bytes:
         """The bytes of what was saved under this name, which goes."""
         path, until = self.downloads / name, time.monotonic() + seconds
-        parts = ("*.crdownload", "*.part")
+        parts = ("*.crdownload", "*.part", "*.wkdownload")
         while not path.is_file() or any(list(self.downloads.glob(it)) for it in parts):
             if time.monotonic() > until:
                 there = sorted(it.name for it in self.downloads.iterdir())

@@ -129,9 +129,10 @@ def code_of(field: bytes) -> bytes:
 def respelled(code: bytes, field: bytes) -> bytes:
     parts = model.subfields(spaced(field))
     names = spelling(b"".join(b" " + part for part in parts[3:]))
+    names = names if names.strip(b" ") else b" X"
     made = b" ".join([code, capitals(parts[1]), capitals(parts[2])]) + names
     if len(made) > FIELD:
-        raise Refused("names no code")
+        raise Refused("has a patient field that has no room")
     return made.ljust(FIELD)
 
 
@@ -190,7 +191,8 @@ def recording(field: bytes, startdate: bytes, wanted: Wanted) -> bytes:
         return unfilled(field)
     if own:
         codes = spelling(b"".join(b" " + part for part in own[1:]))
-        return b"Startdate " + capitals(own[0]) + codes + b" X" * (4 - len(own))
+        lacking = max(0, 3 - len(model.subfields(codes)))
+        return b"Startdate " + capitals(own[0]) + codes + b" X" * lacking
     said = b"".join(b" " + part for part in model.subfields(spelling(spaced(field))))
     return (b"Startdate " + day_text(startdate) + b" X X X" + said)[:FIELD - len(MARK) - 1]
 

@@ -65,6 +65,10 @@ class Key:
     def duration(self) -> int:
         return decimal(self.duration_text)
 
+    def codes(self) -> tuple:
+        """Those of the patient and of the investigation."""
+        return tuple(subfields(text)[0].decode() for text in (self.patient, self.following))
+
 
 # Texts
 
@@ -485,8 +489,8 @@ class Store:
         lines = []
         for place, key in enumerate(self.keys(), 1):
             starts, records = self.held[key]
-            codes = (subfields(text)[0].decode() for text in (key.patient, key.following))
-            lines.append(printed.recording(place, len(records), instant_text(starts[0]), *codes))
+            lines.append(printed.recording(place, len(records), instant_text(starts[0]),
+                                           *key.codes()))
         return "".join(lines)
 
     def export(self, place: int) -> bytes:

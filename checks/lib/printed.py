@@ -112,9 +112,11 @@ def run(number: int, records: int, first: str, seconds: str, gap: str = "") -> s
     return f"{number} records={records} first={first} seconds={seconds}{rest}\n"
 
 
-def counted(of_run: str, annotations: int, outside: int) -> str:
-    """The same of a file of `edfruns split`, with its annotations."""
-    return f"{of_run.rstrip()} annotations={annotations} outside={outside}\n"
+def counted(of_run: str, annotations: int, outside: int, patient: str = "P7",
+            investigation: str = "N1") -> str:
+    """The same of a file of `edfruns split`, with its annotations and its codes."""
+    return (f"{of_run.rstrip()} annotations={annotations} outside={outside} "
+            f"patient={patient} investigation={investigation}\n")
 
 
 # Other lines

@@ -6,7 +6,9 @@ The files are of Q's recording, which begins on 2002-03-02 at 23:59:50, with dat
 second, unless it is said otherwise. A data record is its number, the first sample, and its
 annotations block.
 """
-from . import arguments, faults, model, named, printed, runs, stories
+from dataclasses import replace
+
+from . import arguments, compared, faults, filled, model, named, printed, runs, stories
 from .by_hand import MARCH_3
 from .edf import Header, Signal, annotations_signal, fragment, keeping, tal
 
@@ -122,6 +124,52 @@ def full_by_onset() -> bytes:
                  (2, keeping("+1")))
 
 
+# Of Q's signal the digital value -151 is nearest to 0; of the oximeter's, -32768 stands for 30.
+FLAT, THIRTY = b"\x69\xff", b"\x00\x80"
+MARKED = "Startdate 02-MAR-2002 N1 T3 REC5 filled"
+OXIMETER = Signal("Pulse", "", "bpm", "30", "230", "-32768", "32767", "", "4", "")
+
+
+def with_a_gap() -> bytes:
+    """A second that begins 1.4 s after the first one ends, with an annotation in it and one in the
+    gap before it."""
+    notes = tal("+2.6", "Late") + tal("+1.7", "Gap", duration="0.25")
+    return night(24, (1, keeping("+0")), (2, keeping("+2.4") + notes))
+
+
+def without_a_gap() -> bytes:
+    """It filled: the second one starts at 2 s."""
+    header = Header((Signal(), annotations_signal(20)), reserved="EDF+C", count="3",
+                    recording=MARKED)
+    gap = tal("+1", "Not recorded", duration="1") + tal("+1.7", "Gap", duration="0.25")
+    return fragment(header, [(bytes([1, 0, 1, 0]), keeping("+0")), (2 * FLAT, keeping("+1") + gap),
+                             (bytes([2, 0, 1, 0]), keeping("+2") + tal("+2.2", "Late"))])
+
+
+def oximeter() -> bytes:
+    """Data records of 2 s with a gap of 3 s."""
+    header = Header((OXIMETER, annotations_signal(10)), count="2", duration="2")
+    return fragment(header, [(bytes(range(8)), keeping("+0")),
+                             (bytes(range(8, 16)), keeping("+5"))])
+
+
+def oximeter_filled() -> bytes:
+    """Each of them divided into two."""
+    header = Header((replace(OXIMETER, samples="2"), annotations_signal(12)), reserved="EDF+C",
+                    count="7", recording=MARKED)
+    records = [(bytes(range(4)), keeping("+0")), (bytes(range(4, 8)), keeping("+1")),
+               (2 * THIRTY, keeping("+2") + tal("+2", "Not recorded", duration="3")),
+               (2 * THIRTY, keeping("+3")), (2 * THIRTY, keeping("+4")),
+               (bytes(range(8, 12)), keeping("+5")), (bytes(range(12, 16)), keeping("+6"))]
+    return fragment(header, records)
+
+
+def cut_of_two() -> bytes:
+    """The data records of two.edf from the second one to the fourth."""
+    return night(10, (2, keeping("+0.25") + tal("+0.5", "Snore")), (3, keeping("+1.25")),
+                 (4, keeping("+9.75")), starttime="23.59.51")
+
+
 def thousand() -> bytes:
     """Data records from midnight on, each a second after the end of the one before."""
     return night(4, *((7, keeping(f"+{2 * nth}")) for nth in range(THOUSAND)), **at_midnight())
@@ -151,6 +199,11 @@ def files() -> dict:
         "first_run.edf": run(10, *LOOSE),
         "second_run.edf": second_run(),
         "third_run.edf": run(3, (6, keeping("+0")), **at_midnight("01.00.00")),
+        "gap.edf": with_a_gap(), "gap_filled.edf": without_a_gap(),
+        "oximeter.edf": oximeter(), "oximeter_filled.edf": oximeter_filled(),
+        "cut_of_two.edf": cut_of_two(),
+        "full_field.edf": night(18, start, (2, keeping("+3")),
+                                recording="Startdate 02-MAR-2002 N1 T3 REC5 ".ljust(74, "x")),
         "first_run.svg": drawn("Patient P7"),
         "first_run_without_code.svg": drawn("Patient code left out"),
     }
@@ -212,6 +265,17 @@ class RunScript(stories.OverFiles):
         """The canonical file by onset."""
         self.writes(words, error=printed.outside(given, outside), name=name)
         self.same((self.files[name], outside), runs.canonical_by_onset(self.files[given]))
+
+    def makes(self, words: str, made: filled.Made, told: str, name: str = "") -> None:
+        """A command that writes this file, or none, and what it prints; it is the model's."""
+        self.writes(words, error=told, status=made.status, name=name)
+        self.same((self.files[name] if name else b"", told), (made.out, made.err))
+
+    def compares(self, one: str, other: str, *lines: str, error: str = "") -> None:
+        """What the first file has of the second."""
+        made = compared.compare(one, other, self.files[one], self.files[other])
+        self.writes(f"compare {one} {other}", *lines, error=error, status=made.status)
+        self.same(("".join(lines).encode(), error), (made.out, made.err))
 
     def split(self, given: str, prefix: str, lines) -> None:
         """The lines of `split`, before each of which stands the name of the file."""
@@ -285,6 +349,52 @@ def split(script: RunScript) -> None:
     script.writes("canonical crowded.edf --by-onset", error=printed.crowded(1), status=1)
 
 
+def made_whole(script: RunScript) -> None:
+    script.title("one file of the whole night, flat where nobody recorded")
+    script.makes("fill gap.edf", filled.fill("gap.edf", script.files["gap.edf"]),
+                 "gap.edf records=3 flat=1 gaps=1 closed=0 moved=0.4\n", name="gap_filled.edf")
+    script.makes("fill oximeter.edf", filled.fill("oximeter.edf", script.files["oximeter.edf"]),
+                 "oximeter.edf records=7 flat=3 gaps=1 closed=0 moved=0\n"
+                 "signal 1 Pulse is flat at 30 bpm: 0 is outside its limits\n",
+                 name="oximeter_filled.edf")
+    script.title("a recording that has no filled file")
+    for words, name, longest, moved, line in (
+            ("day.edf --longest-gap 23.9", "day.edf", "23.9", "0.5",
+             "has a gap of 86400 s from 2002-03-02T23:59:51: cut it first"),
+            ("gap.edf --moved 0.3", "gap.edf", "24", "0.3",
+             "has a data record that would move by 0.4 s, at 2002-03-02T23:59:52.4"),
+            ("full_field.edf", "full_field.edf", "24", "0.5",
+             "has no room for the word 'filled' in its recording field")):
+        script.makes(f"fill {words}", filled.fill(name, script.files[name], longest, moved),
+                     f"{name} {line}\n")
+
+
+def of_a_time(script: RunScript) -> None:
+    script.title("the data records of a time")
+    for given, begin, end, name, line in (
+            ("two.edf", "2002-03-02T23:59:52", "2002-03-03T00:00:01", "cut_of_two.edf", ""),
+            ("two.edf", "2002-03-03T00:00:12.75", "2002-03-03T01:00", "",
+             "two.edf has no data record of this time\n"),
+            ("undated_into_2085.edf", "2085-01-01T00:00", "", "", printed.undated(1))):
+        made = compared.cut(given, script.files[given], begin, end)
+        words = f"cut {given} --from {begin}" + (f" --to {end}" if end else "")
+        script.makes(words, made, line, name=name)
+
+
+def compared_files(script: RunScript) -> None:
+    script.title("what a night has of a card")
+    second = "2002-03-02T23:59:51"
+    script.compares("one.edf", "one.edf", f"known records=2 from={FIRST} to=2002-03-02T23:59:52\n")
+    script.compares("one.edf", "nanosecond.edf", f"known records=1 from={FIRST} to={second}\n",
+                    f"lacking records=1 from={second} to=2002-03-02T23:59:52\n",
+                    f"overlaps records=1 from={second}.000000001 "
+                    "to=2002-03-02T23:59:52.000000001\n")
+    script.title("files that are not compared")
+    script.compares("one.edf", "tenths.edf",
+                    error="tenths.edf is of another recording than one.edf: the duration differs\n")
+    script.compares("one.edf", "cut_night.edf", error=printed.fault("cut_night.edf", CUT))
+
+
 def pictured(script: RunScript) -> None:
     script.title("a picture names the patient, or says that the code is left out")
     script.writes("picture first_run.edf", name="first_run.svg")
@@ -303,12 +413,30 @@ def refused(script: RunScript) -> None:
     script.refused("picture none.edf", "none.edf", stories.MISSING)
 
 
+NO_INSTANTS = ("2002-03-02", "2002-03-02T23", "2002-03-02T23:5", "2002-03-02T24:00",
+               "2002-03-02T23:60", "2002-03-02T23:59:60", "2002-03-02T23:59:5",
+               "2002-03-02T23:59:50.", "2002-03-02T23:59:50.0000000000", "2002-03-02T23:59:50,5",
+               "2002-03-02T23:59.5", "2002-03-02T23:59:50Z", "2002-03-02t23:59", "202-03-02T23:59",
+               "2002-3-02T23:59", "2002-13-02T23:59", "2002-02-29T23:59", "2100-02-29T23:59",
+               "1984-12-31T23:59", "2185-01-01T00:00", "+2002-03-02T23:59")
+
+
 def misspelled(script: RunScript) -> None:
     script.title("words that ask for nothing")
     twice = "FILE is read twice, which standard input can't be: write it to a file first"
     script.misspelled("split - night", twice, "split <FILE> <PREFIX>")
     script.misspelled("canonical --by-onset -", twice, "canonical [OPTIONS] <FILE>")
     script.misspelled("picture -", twice, "picture [OPTIONS] <FILE>")
+    script.misspelled("fill gap.edf --moved 1h",
+                      "--longest-gap wants hours and --moved seconds, as 24 or 0.5",
+                      "fill [OPTIONS] <FILE>")
+    instants = "--from and --to want instants such as 2023-11-05T01:30:00.25, the first before the " \
+        "second"
+    for words in ("", f"--from {LAST} --to {FIRST}", f"--from {FIRST} --to {FIRST}",
+                  *(f"--from {word}" for word in NO_INSTANTS)):
+        script.misspelled(f"cut two.edf {words}".rstrip(), instants, "cut [OPTIONS] <FILE>")
+    script.misspelled("compare one.edf -", "FILE and OTHER can't be standard input: write it to a "
+                      "file first", "compare <FILE> <OTHER>")
     script.misspelled("list one.edf -", "FILE can't be standard input: write it to a file first",
                       "list <FILE>...")
 
@@ -316,5 +444,6 @@ def misspelled(script: RunScript) -> None:
 def play(script: stories.Script) -> None:
     """All stories of `edfruns`."""
     made = RunScript(script)
-    for one in (listed, written, split, pictured, refused, misspelled):
+    for one in (listed, written, split, made_whole, of_a_time, compared_files, pictured, refused,
+                misspelled):
         one(made)

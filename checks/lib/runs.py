@@ -48,7 +48,7 @@ class Run:
         return len(onsets), sum(not self.first() <= onset < end for onset in onsets)
 
     def told(self) -> str:
-        return printed.counted(self.line(), *self.counts())
+        return printed.counted(self.line(), *self.counts(), *self.key.codes())
 
     def to_bytes(self) -> bytes:
         """The canonical file of its data records, but that it is marked as one without a gap."""

@@ -6,21 +6,18 @@ from pathlib import Path
 
 from .edf import Header, Signal, annotations_signal, fragment, keeping
 from .natively import written
-from .technician import GAPS, IS_OWN, JOINS, Technician, gaps
+from .technician import GAPS, IS_OWN, JOINS, LEAVES, Technician, gaps
 
-BY_ONSET = "Take all again, annotations by onset first"
+BY_ONSET = "Sort all annotations by their times"
 DAY = "The day of its start: day, month and year as 31.12.23"
-FIRST_STAYS = ("Of files that contradict each other the one that is taken first stays. If this one "
-               "is right, take it first: then those that contradict it are refused.")
+FIRST_STAYS = "Of files that contradict each other the one that is taken first stays."
+# The table that is unfolded of a file that contradicts
+ROWS = """[...document.querySelectorAll("#results > section details[open] tbody tr")].map((row) =>
+  [...row.cells].map((it) => it.textContent))"""
 # Words that are for a terminal, in what the page knows of each number that a file can have
 FOR_A_TERMINAL = """Object.entries(REFUSALS).filter(([number, { what, more }]) =>
   Number(number.slice(1)) < 40 && /edfmend|edfstore|edfruns|--[a-z]|printf|[Tt]erminal|store of/
     .test([what, ...more].join(" "))).map(([number]) => number)"""
-LEAVES = """(() => {
-  const event = new Event("beforeunload", { cancelable: true });
-  dispatchEvent(event);
-  return event.defaultPrevented;
-})()"""
 
 
 def piece(count: int, start: str, value: int = 0, onset: float = 0, label: str = "EEG",
@@ -37,10 +34,6 @@ def named(code: str, technician: str = "T3", day: str = "02-MAR-2002") -> dict:
             "recording": f"Startdate {day} N1 {technician} R5"}
 
 
-def has_time(*names: str) -> str:
-    return f"Taken before it, and with this time by the header: {', '.join(names)}."
-
-
 def contradictions(it: Technician) -> None:
     """A card that a faulty piece contradicts, which is taken first, and the piece taken out."""
     it.open()
@@ -49,34 +42,70 @@ def contradictions(it: Technician) -> None:
         ("card.edf", piece(180, "22.00.00")), ("late.edf", piece(9, "22.00.30", onset=0.5))])
     piece_, faulty, card, late = paths
     it.chooses("Choose files", [piece_, faulty, card])
-    it.says("E31 Differs start=2002-03-02T22:01:00", has_time("faulty.edf"), FIRST_STAYS)
+    it.says("✕ card.edf It contradicts a file that was taken before it: at one time it has other "
+            "samples or annotations.", "card.edf contradicts for 1 min.", FIRST_STAYS)
+    it.unfold("Details")
+    it.says("E31 Differs start=2002-03-02T22:01:00")
     it.same("onsets do not help", it.press(BY_ONSET), "done")
-    it.says("E31", "Annotations by onset first did not help here.")
     it.same("no more such button", it.hands.has("button", BY_ONSET), False)
-    it.press("Annotations by onset first", "checkbox", " ")
+    it.unfold("2 files taken")
+    it.press("Take annotations as they came")
     it.gives("as they came")
     it.same("it is first", it.press("Take this file first: card.edf"), "done")
     it.paths = [card, piece_, faulty]
     it.gives("the card first")
-    it.says("3 files: 2 accepted, 1 refused.", has_time("card.edf"))
+    it.says("✓ 2 files in 1 recording. ✕ 1 file not taken.",
+            "Everything on card.edf and piece.edf is in this night.")
     it.looks("the card first")
-    it.press("Take out: faulty.edf")
-    it.paths = [card, piece_]
-    it.gives("without the faulty piece")
+    takes_out_at_once(it, faulty)
     it.chooses("Add files", [late])
-    it.says("E30 Overlap start=2002-03-02T22:00:30.5 stored=2002-03-02T22:00:30",
-            has_time("card.edf", "piece.edf"))
-    it.came(1, late)
-    takes_all_out(it)
+    it.says("✕ late.edf Its times contradict those of a file that was taken before it.")
+    it.unfold("Details")
+    it.says("E30 Overlap start=2002-03-02T22:00:30.5 stored=2002-03-02T22:00:30")
+    takes_out_at_once(it, late)
+    takes_all_out(it, card, piece_)
 
 
-def takes_all_out(it: Technician) -> None:
-    """One file after another, and the last one after a question."""
-    for path in list(it.paths)[:0:-1]:
-        it.press(f"Take out: {path.name}")
-        it.paths.remove(path)
-        it.gives(f"without {path.name}")
-    it.hands.use("button", f"Take out: {it.paths[0].name}")
+def takes_missing(it: Technician) -> None:
+    """Of a card that contradicts it is told for how long, and what it has alone is taken."""
+    it.open()
+    card = piece(180, "22.00.00")
+    it.chooses("Choose files", written(it.folder / "missing", [
+        ("piece.edf", piece(60, "22.00.00")), ("faulty.edf", piece(60, "22.01.00", 1)),
+        ("card.edf", card)]))
+    it.says("card.edf contradicts for 1 min. 1 min of it is missing here.")
+    it.unfold("From when to when")
+    it.same("from when to when", it.bench.browser.value(ROWS), [
+        ["22:00 on 2 Mar 2002", "22:01 on 2 Mar 2002", "the same"],
+        ["22:01 on 2 Mar 2002", "22:02 on 2 Mar 2002", "other samples or annotations"],
+        ["22:02 on 2 Mar 2002", "22:03 on 2 Mar 2002", "missing here"]])
+    it.looks("a card that contradicts")
+    cut = it.native.run(it.native.edfruns, it.paths[2].parent, "cut", "card.edf",
+                        "--from", "2002-03-02T22:02:00", "--to", "2002-03-02T22:03:00")
+    it.paths.append(it.made("card.edf from 22:02", cut))
+    it.press("Take the missing 1 min: card.edf")
+    it.gives("with what was missing")
+    it.says("✓ 3 files in 1 recording. ✕ 1 file not taken.", "Complete from 22:00 to 22:03",
+            "card.edf contradicts for 1 min. All else on it is here.")
+
+
+def takes_out_at_once(it: Technician, path: Path) -> None:
+    """What the recording has nothing of alone goes without a job."""
+    before = it.bench.browser.value("window.changes")
+    it.hands.use("button", f"Take out: {path.name}")
+    it.same("no job", it.bench.browser.value("window.changes"), before)
+    it.paths.remove(path)
+    it.gives(f"without {path.name}")
+
+
+def takes_all_out(it: Technician, card: Path, known: Path) -> None:
+    """The card, of which more is left then, and the last file after a question."""
+    it.unfold("2 files taken")
+    it.press(f"Take out: {card.name}")
+    it.paths = [known]
+    it.gives("without the card")
+    it.unfold("1 file taken")
+    it.hands.use("button", f"Take out: {known.name}")
     it.hands.use("button", "Throw it away")
     it.same("the state", it.bench.browser.value("document.body.dataset.state"), "idle")
 
@@ -84,33 +113,32 @@ def takes_all_out(it: Technician) -> None:
 def faulty_fields(it: Technician) -> None:
     """The texts of fields that are refused, as the files have them; and answers that are none."""
     it.open()
-    files = {"E4": ({"patient": "P7"}, "Its patient field: P7\n"),
-             "E5": ({"recording": "Night N1 T3"}, "Its recording field: Night N1 T3\n"),
+    files = {"E4": ({"patient": "P7"}, "Its patient field: P7"),
+             "E5": ({"recording": "Night N1 T3"}, "Its recording field: Night N1 T3"),
              "E6": ({"startdate": "02-03-15", "recording": "Startdate 15-MAR-2002 N1 T3 R5"},
-                    "Its startdate: 02-03-15\n"),
-             "E7": ({}, "Its starttime: 22-61-00\n"),
-             "E8": ({"startdate": "03.03.02"}, "Its startdate: 03.03.02\n"
-                    "\nIts recording field: Startdate 02-MAR-2002 N1 T3 REC5\n")}
+                    "Its startdate: 02-03-15"),
+             "E7": ({}, "Its starttime: 22-61-00"),
+             "E8": ({"startdate": "03.03.02"}, "Its startdate: 03.03.02. Its recording field: "
+                    "Startdate 02-MAR-2002 N1 T3 REC5")}
     made = [(f"{number}.edf", piece(2, "22-61-00" if number == "E7" else "22.00.00", **fields))
             for number, (fields, _) in files.items()]
     twice = piece(2, "23.00.00")
     it.chooses("Choose files", written(it.folder / "fields", [
         *made, ("twice.edf", twice + twice),
         ("label.edf", twice.replace(b"EDF Annotations", b"EDF annotations"))]))
+    for _ in range(len(files) + 1):
+        it.unfold("Details")
     it.says(*(said for _, said in files.values()))
     for number in files:
         it.same(number, f"{number}.edf refused {number} " in it.taken, True)
     it.looks("faulty fields")
     it.press("Mend it: E6.edf")
+    before = ""
     for answer, said in (("2002-03-15", "This is no date as the field wants it."),
-                         ("14.03.02", "E8: its startdate and the one in its recording field")):
-        it.hands.go("textbox", DAY)
-        it.hands.write(answer)
-        it.after(lambda: it.hands.press("Enter"))
+                         ("14.03.02", "E6.edf: Its startdate and the one in its recording field")):
+        it.answers(DAY, answer, before)
         it.says(said)
-        it.hands.go("textbox", DAY)
-        for _ in answer:
-            it.hands.press("Backspace")
+        before = answer
     closes(it)
 
 
@@ -122,13 +150,13 @@ def closes(it: Technician) -> None:
             "All that is there are data records of this file: take them")
     it.hands.use("button", "Close")
     it.press("Mend it: label.edf")
-    said = "It can’t be mended: get it again, or take it out."
+    said = "This page can't mend it: get it again, or take it out."
     it.says(said)
     it.looks("it can't be mended")
     it.hands.use("button", "Close")
     it.hands.use("button", "Close")
     text = it.bench.browser.value("document.getElementById('results').innerText")
-    it.same("it is closed", [part in text for part in (said, "Mending ")], [False, False])
+    it.same("it is closed", [part in text for part in (said, "Mending")], [False, False])
     it.same("words of a terminal", it.bench.browser.value(FOR_A_TERMINAL), [])
 
 
@@ -141,20 +169,18 @@ def mended_or_not(it: Technician) -> None:
     it.chooses("Choose files", written(it.folder / "joins", [
         ("good.edf", piece(60, "22.00.00", **named("P7"))), ("strokes.edf", strokes),
         ("small.edf", small)]))
-    for nth, (name, data, said, button) in enumerate((
-            ("strokes", strokes, JOINS, "Take it with the others"),
-            ("small", small, IS_OWN, "Take it, apart from the good files")), 1):
+    for nth, (name, data, said) in enumerate((("strokes", strokes, JOINS),
+                                              ("small", small, IS_OWN)), 1):
         it.press(f"Mend it: {name}.edf")
         it.says(said)
-        it.paths[nth] = it.made(f"{name}.edf (mended)", it.mend(f"{name}.edf", data)[1])
-        it.press(button)
+        mended = it.made(f"{name}.edf (mended)", it.mend(f"{name}.edf", data)[1])
+        it.paths = [*(path for path in it.paths if path.stem != name), mended]
+        it.press("Take it")
         it.gives(f"{name} mended")
         it.same("recordings", len(it.bench.given()[2]), nth)
-        it.says(f"Just added: {name}.edf (mended), 60 new data records (1 min), 0 known.")
-    it.says("There is another recording of these codes above: its recording field is “N1 T3 R5”, "
-            "and this one's “N1 T3 R5 mended”.")
+    it.says("There is another recording of these codes above: its recording field differs.")
     it.looks("two recordings")
-    title = "Patient P7, investigation N1"
+    title = "Patient P7, born 02-MAY-1951, investigation N1"
     it.starts_over(title, title)
 
 
@@ -171,22 +197,21 @@ def alike(it: Technician) -> None:
         ("four.edf", piece(2, "22.00.00", label="EOG", **named("P7"))),
         ("five.edf", piece(2, "22.00.00", **named("P7", day="X")))]))
     above = "There is another recording of these codes above: "
-    it.says(*(above + said for said in (
-        "its recording field is “N1 T3 R5”, and this one's “N1 T4 R5”.",
-        "its patient field is “P7 F 02-MAY-1951 X”, and this one's “P7 M 02-MAY-1951 X”.",
-        "its recording field is “N1 T3 R5”, and this one's “Startdate X N1 T3 R5”.",
-        "the headers of their signals differ.")))
+    it.says(*(f"{above}its {what} differs." for what in (
+        "recording field", "patient field", "header of a signal")))
     runs = it.bench.given()[2][0][1]
-    it.same("gaps", it.bench.browser.value(GAPS), [
-        [text.replace("T", " ") for text in row] for row in gaps(runs)])
+    it.same("gaps", it.bench.browser.value(GAPS), gaps(runs))
     it.same("a gap of 2.25 s", gaps(runs), [
-        ["2002-03-02T22:00:02", "2002-03-02T22:00:04.25", "2.25 s"]])
+        ["22:00:02 on 2 Mar 2002", "22:00:04.25 on 2 Mar 2002", "2.25 s"]])
     it.looks("alike")
     for nth in range(1, 6):
         it.same("it asks before it is left", it.bench.browser.value(LEAVES), True)
-        end = f"_{nth}" if nth > 1 else ""
-        it.bench.browser.value(f"""[...document.querySelectorAll("article button.first")]
-            [{nth - 1}].click()""")
+        end = (f"_{nth}" if nth > 1 else "") + ("_exact" if nth == 1 else "")
+        press = f"""[...document.querySelectorAll("article button.first")][{nth}].click()"""
+        if nth > 1:
+            it.after(lambda press=press: it.bench.browser.value(press))
+        else:           # the first button of this one makes the copy for viewing
+            it.bench.browser.value(press)
         it.hands.saved(f"N1_2002-03-02T22_00_00{end}.edf")
     it.same("all is saved", it.bench.browser.value(LEAVES), False)
     it.starts_over()
@@ -196,6 +221,7 @@ def all_of_it(bench, hands, folder: Path, native) -> None:
     it = Technician(bench, hands, folder / "second-thoughts", native)
     it.folder.mkdir(parents=True)
     contradictions(it)
+    takes_missing(it)
     faulty_fields(it)
     mended_or_not(it)
     alike(it)

@@ -6,7 +6,7 @@ import threading
 import time
 from pathlib import Path
 
-SECONDS = 2.0       # that the last way may take
+SECONDS, MOST = 2.0, 20.0       # that the last way may take, and that ways may which are wanted
 # Of each way a script; `at` is the server's address with the way's name
 WAYS = {
     "fetch": "fetch(at, { mode: 'no-cors', method: 'POST', body: 'x' })",
@@ -73,13 +73,16 @@ def script(port: int) -> str:
     return SCRIPT.replace("{WAYS}", "[" + ", ".join(ways) + "]")
 
 
-def reached(browser, page: Path) -> set:
-    """The ways by which a server is reached from this page."""
+def reached(browser, page: Path, wanted=frozenset()) -> set:
+    """The ways by which a server is reached from this page; those that are wanted get longer."""
     with http.server.ThreadingHTTPServer(("127.0.0.1", 0), Listener) as server:
         server.reached = set()
         threading.Thread(target=server.serve_forever, daemon=True).start()
         browser.open(page)
         browser.value(script(server.server_port))
         time.sleep(SECONDS)
+        until = time.monotonic() + MOST
+        while wanted - server.reached and time.monotonic() < until:
+            time.sleep(0.1)
         server.shutdown()
         return {it for it in server.reached if it in WAYS}

@@ -4,6 +4,7 @@ from dataclasses import dataclass
 from pathlib import Path
 
 FENCED = re.compile(r"^```\n(.*?)^```$", re.MULTILINE | re.DOTALL)
+UNFILLED = re.compile(r"^\.nf\n(.*?)^\.fi$", re.MULTILINE | re.DOTALL)
 PROMPT, MARK = "$ ", "== a command ended"
 
 
@@ -37,6 +38,11 @@ def session(block: str) -> Session:
 
 def blocks(document: Path) -> list:
     return FENCED.findall(document.read_text())
+
+
+def of_manual(page: Path) -> list:
+    """The blocks of a man page."""
+    return [block.replace("\\-", "-") for block in UNFILLED.findall(page.read_text())]
 
 
 def sessions(document: Path) -> list:

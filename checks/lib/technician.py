@@ -1,19 +1,20 @@
 """A technician and the page, by keyboard alone: a night in pieces with one that was cut, one of
 other letters and a foreign one; why, and mending; the memory card; what is saved; cards of EDFlib;
 cancelling; and files that change later. All that is given and saved must be the programs'."""
+import json
 import re
 import time
 from datetime import datetime, timedelta
 from pathlib import Path
 
-from . import looks, page_files, printed
+from . import looks, page_files
 from .arguments import TOP
 from .checks import Lost
 from .edf import Header, Signal, annotations_signal, fragment, keeping, tal
+from .hands import MOST_TABS
 from .natively import sum_of, written
 
 OXIMETER = TOP / "examples/oximeter"
-NO_EDF = "its first bytes are not those of EDF: it has another format, or is damaged"
 NAME = "OX-7_2023-11-04T22_15_00"
 # How often the page's state changed, so that a job's end is not taken for the state before it
 WATCH = """(() => {
@@ -22,16 +23,34 @@ WATCH = """(() => {
     .observe(document.body, { attributeFilter: ["data-state"] });
 })()"""
 SECONDS = 60            # that a step may take
-TEXT = "document.getElementById('results').innerText"
+TEXT = "document.getElementById('fault').innerText + document.getElementById('results').innerText"
 GAPS = """[...document.querySelectorAll("article details tbody tr")].map(({ cells }) =>
   [...cells].map((it) => it.textContent))"""
+# Where a line that folds something is from the focus: 0 there, 1 behind it, else -1
+FOLD = """(() => {
+  const it = [...document.querySelectorAll("summary")].find((one) =>
+    !one.parentElement.open && one.checkVisibility() && one.textContent === TEXT);
+  const at = document.activeElement;
+  if (!it || it === at) return it ? 0 : null;
+  return at === document.body || (it.compareDocumentPosition(at) & 2) ? 1 : -1;
+})()"""
+# The files that are chosen are held back, and then let go
+HELD = """document.getElementById("files").addEventListener("change", (event) => {
+  event.stopImmediatePropagation();
+  window.chosen = [...event.target.files];
+}, { capture: true, once: true })"""
+LET_GO = "document.getElementById('files').dispatchEvent(new Event('change'))"
+LEAVES = """(() => {
+  const event = new Event("beforeunload", { cancelable: true });
+  dispatchEvent(event);
+  return event.defaultPrevented;
+})()"""
 IS_ASKED = "document.getElementById('question').open"
 CODE = ("The patient's code: 1 to 60 letters, digits or signs, no accents, no space, and not X "
         "alone")
-IN_ITS_FILE = "Put each annotation into the file of the time when it happened"
-JOINS = "What names its recording stays: it joins the good files of its night."
-IS_OWN = ("This file will not join the good files of its night: what names its recording changes, "
-          "so its recording field then ends in “mended”.")
+JOINS = "It joins its night."
+IS_OWN = ("It doesn't join its night: what names its recording changes, and that then ends in "
+          "“mended”.")
 
 
 def names_file() -> bytes:
@@ -51,16 +70,17 @@ def spread(starts: list, onsets: list) -> bytes:
     return fragment(header, records)
 
 
-def on_page(text: str) -> str:
-    """A sentence of the terminal in the words of the page."""
-    text = text.replace("send it again", "get it again").replace("edfmend", "“Mend it…”")
-    return text[0].upper() + text[1:] + "."
-
-
 def lasting(seconds: float) -> str:
     """Seconds as a person says them."""
     parts = (int(seconds // 3600), "h"), (int(seconds // 60 % 60), "min"), (seconds % 60, "s")
     return " ".join(f"{number:g} {unit}" for number, unit in parts if number)
+
+
+def clock(at: datetime) -> str:
+    """A time with its day, without seconds where there are none."""
+    part = f".{at.microsecond:06}".rstrip("0") if at.microsecond else ""
+    seconds = f":{at.second:02}{part}" if at.second or part else ""
+    return f"{at.hour:02}:{at.minute:02}{seconds} on {at.day} {at:%b} {at.year}"
 
 
 def gaps(runs: str) -> list:
@@ -71,8 +91,7 @@ def gaps(runs: str) -> list:
         if "gap" in told:
             gap = float(told["gap"])
             begin = datetime.fromisoformat(told["first"]) + timedelta(0, float(told["seconds"]))
-            at = [it.isoformat() for it in (begin, begin + timedelta(0, gap))]
-            found.append([it.rstrip("0") if "." in it else it for it in at] + [lasting(gap)])
+            found.append([*map(clock, (begin, begin + timedelta(0, gap))), lasting(gap)])
     return found
 
 
@@ -115,25 +134,6 @@ class Technician:
         self.taken = expected[0]
         self.same(what, self.bench.given(), expected)
 
-    def came(self, count: int, path: Path) -> None:
-        """What it says of the last so many files, by the programs' lines and the duration of a data
-        record, which is that of this file."""
-        duration, told, sums = float(path.read_bytes()[244:252]), [], [0, 0]
-        for line in self.taken.splitlines()[-count:]:
-            name, new, known = re.fullmatch(
-                r"(.*?) (?:refused .*|accepted new=(\d+) known=(\d+))", line).groups()
-            numbers = [int(new or 0), int(known or 0)]
-            sums = [one + more for one, more in zip(sums, numbers)]
-            told.append(f"{name}, " + (self.records(*numbers, duration) if new else "refused"))
-        if count > 5:
-            told = [f"{count} files, " + self.records(*sums, duration)]
-        self.says(f"Just added: {'; '.join(told)}.")
-
-    @staticmethod
-    def records(new: int, known: int, duration: float) -> str:
-        lasts = f" ({lasting(new * duration)})" if new else ""
-        return f"{new} new data record{'s' * (new != 1)}{lasts}, {known} known"
-
     def starts_over(self, *asked: str) -> None:
         """It asks first where it is to name what is not saved."""
         before = self.bench.given()
@@ -158,8 +158,21 @@ class Technician:
             self.hands.use("button", button)
             self.hands.give(paths)
         self.paths = self.paths + paths
-        self.same("files are taken", self.after(choose), "done")
+        state = self.after(choose)
+        self.same(f"files are taken: {self.bench.words() if state == 'failed' else ''}", state,
+                  "done")
         self.gives(f"{button}, {len(paths)} files")
+
+    def unfold(self, text: str) -> None:
+        """Opens what is folded under this line."""
+        for _ in range(MOST_TABS):
+            where = self.bench.browser.value(FOLD.replace("TEXT", json.dumps(text)))
+            if where is None:
+                raise Lost(f"{self.bench.name}: nothing is folded under {text!r}")
+            if where == 0:
+                return self.hands.press("Enter")
+            self.hands.press("Tab", shift=where < 0)
+        raise Lost(f"{self.bench.name}: {text!r} is not within {MOST_TABS} presses of Tab")
 
     def saves(self, button: str, name: str, data: bytes) -> None:
         self.hands.use("button", button)
@@ -179,9 +192,17 @@ class Technician:
         self.hands.screen(*looks.SIZES["wide"], False)
 
     def says(self, *parts: str) -> None:
-        text = self.bench.browser.value(TEXT)
+        text = " ".join(self.bench.browser.value(TEXT).split())
         for part in parts:
             self.same(f"{part!r} in {text!r}", part in text, True)
+
+    def answers(self, field: str, text: str, before: str = "") -> None:
+        """Types an answer in place of the one before, and has the page look at it."""
+        self.hands.go("textbox", field)
+        for _ in before:
+            self.hands.press("Backspace")
+        self.hands.write(text)
+        self.after(lambda: self.hands.press("Enter"))
 
     def mend(self, name: str, data: bytes, *words) -> tuple:
         """What edfmend tells and makes of a file."""
@@ -201,7 +222,7 @@ def first_look(it: Technician) -> None:
     it.open()
     it.looks("idle")
     for role, name in (("button", "Choose files"), ("button", "Choose a folder"),
-                       ("heading", "Choose the files")):
+                       ("heading", "Drop the files of a night here")):
         it.same(f"{role} {name}", it.hands.has(role, name), True)
 
 
@@ -212,15 +233,17 @@ def night(it: Technician) -> None:
         ("part2.edf", parts[2]), ("part1.edf", parts[1]), ("cut.edf", cut),
         ("notes.txt", b"no recording\n" * 40), ("names.edf", names_file()),
         ("part6.edf", parts[6]), ("part2.edf", parts[2])]))
-    it.says("7 files: 4 accepted, 3 refused. 1 recording.", "E21 CutRecord record=60",
-            *map(on_page, (printed.CUT, printed.OTHER_LETTERS, NO_EDF)))
-    it.came(7, it.paths[0])
+    it.says("✓ 4 files in 1 recording. ✕ 2 files not taken.",
+            "Patient S-0118, Sleeper, born 28-FEB-1979, investigation OX-7",
+            "✕ cut.edf It was cut. Get it again, or mend it: what is whole of it is taken.",
+            "✕ names.edf The patient's name has an “ü”, which EDF does not know.",
+            "1 other file left aside")
     it.looks("refused")
     mends_cut(it, cut)
     mends_names(it)
     it.chooses("Add files", [it.made("card.edf", (OXIMETER / "card.edf").read_bytes())])
-    it.says("2 recordings.")
-    it.came(1, it.paths[-1])
+    it.says("✓ 7 files in 2 recordings.",
+            "Everything on part2.edf and card.edf is in this night.")
     it.looks("with the card")
 
 
@@ -230,113 +253,99 @@ def mends_cut(it: Technician, cut: bytes) -> None:
     ledger, front = it.mend("front.edf", cut)
     it.says(JOINS)
     it.saves("Save the list of changes", "cut-changes.txt", b"cut.edf\n" + ledger)
-    it.saves("Save the mended file", "OX-7_2023-11-05T00_55_00-mended.edf", front)
+    it.saves("Save the mended file", "cut-mended.edf", front)
     it.looks("mending")
-    it.paths[2] = it.made("cut.edf (mended)", front)
-    it.same("it is taken", it.press("Take it with the others"), "done")
+    it.paths = [*it.paths[:2], *it.paths[3:], it.made("cut.edf (mended)", front)]
+    it.same("it is taken", it.press("Take it"), "done")
     it.gives("with the mended file")
 
 
 def mends_names(it: Technician) -> None:
     """What edfmend asks is asked, and answered with a wrong code first."""
     it.press("Mend it: names.edf")
-    it.says("It names no code of a patient: type the code.")
+    it.says("names.edf: It names no code of a patient: type the code.")
     it.looks("mending asks")
-    it.hands.go("textbox", CODE)
-    it.hands.write("S 1")
-    it.after(lambda: it.hands.press("Enter"))
+    it.answers(CODE, "S 1")
     it.says("This is no code as the field wants it.")
     it.same("no mended file", it.hands.has("button", "Save the mended file"), False)
-    it.hands.go("textbox", CODE)
-    for _ in range(3):
-        it.hands.press("Backspace")
-    it.hands.write("S-9")
-    it.after(lambda: it.hands.press("Enter"))
+    it.answers(CODE, "S-9", before="S 1")
     ledger, mended = it.mend("new.edf", names_file(), "--patient", "S-9")
-    it.says("patient field\tMüller Hans\tS-9 X X Mueller_Hans\n", IS_OWN)
+    it.says("names.edf S-9, Mueller Hans 23:10 on 2 Mar 2002", IS_OWN)
     it.saves("Save the list of changes", "names-changes.txt", b"names.edf\n" + ledger)
-    it.saves("Save the mended file", "N1_2002-03-02T23_10_00-mended.edf", mended)
-    it.paths[4] = it.made("names.edf (mended)", mended)
-    it.press("Take it, apart from the good files")
+    it.saves("Save the mended file", "names-mended.edf", mended)
+    it.paths = [*it.paths[:3], *it.paths[4:], it.made("names.edf (mended)", mended)]
+    it.press("Take it")
     it.gives("with both mended files")
 
 
 def saves_all(it: Technician) -> None:
     """The oximeter's night alone: all that may be saved of it."""
-    it.starts_over("Patient S-0118, investigation OX-7", "Patient S-9, investigation N1")
+    it.starts_over("Patient S-0118, Sleeper, born 28-FEB-1979, investigation OX-7",
+                   "Patient S-9, Mueller Hans, investigation N1")
     it.chooses("Choose files", written(it.folder / "saved", [
         (f"part{nth}.edf", (OXIMETER / f"part{nth}.edf").read_bytes()) for nth in (2, 1, 6)]))
     export = (it.folder / "export.edf").read_bytes()
     runs = it.native.run(it.native.edfruns, it.folder, "list", "export.edf")
     picture = it.native.run(it.native.edfruns, it.folder, "picture", "export.edf")
     plain = it.native.run(it.native.edfruns, it.folder, "picture", "--without-code", "export.edf")
-    _, listed, _ = it.bench.given()
-    size = f"{-(-len(export) // 1000)} kB"
-    it.saves(f"Save the EDF+D file ({size})", f"{NAME}.edf", export)
+    filled = it.native.run(it.native.edfruns, it.folder, "fill", "export.edf")
+    exact = f"Save the exact recording ({-(-len(export) // 1000)} kB)"
+    it.says("Recorded from 22:15 on 4 Nov 2023 to 06:15 on 5 Nov 2023 with 1 gap of 4 h; whether "
+            "the recorder ran before or after, these files can't tell.")
+    it.saves("Save for viewing (gaps are flat)", f"{NAME}_view.edf", filled)
+    it.same("it asks still", it.bench.browser.value(LEAVES), True)
+    it.saves(exact, f"{NAME}_exact.edf", export)
+    it.same("it is saved", it.bench.browser.value(LEAVES), False)
+    it.unfold("1 gap: from, to and how long")
+    it.same("gaps", it.bench.browser.value(GAPS), gaps(runs.decode()))
+    it.unfold("More to save")
     it.saves("Save the picture", f"{NAME}.svg", picture)
     it.saves("Save the picture without the patient's code", f"{NAME}-without-code.svg", plain)
-    missing = gaps(runs.decode())
-    it.same("gaps", it.bench.browser.value(GAPS), [[" ".join(it.split("T")) for it in row]
-                                                   for row in missing])
-    it.saves("Save the list of gaps", f"{NAME}.txt", listed.encode() + runs + "".join(
-        f"missing from {begin} to {end}, {long}\n" for begin, end, long in missing).encode())
+    saves_runs(it, "Save 2 files, one for each stretch", "OX-7")
+    it.looks("all that may be saved")
+    it.hands.use("checkbox", "The patient's code in the names of saved files", " ")
+    it.saves(exact, f"S-0118_{NAME}_exact.edf", export)
+    it.hands.use("checkbox", "The patient's code in the names of saved files", " ")
+    it.unfold("3 files taken")
     it.saves("Save the list of files", "edfstore-answers.txt",
              "".join(it.bench.given()[:2]).encode())
-    it.press("Make 2 EDF+C files")
-    it.looks("for viewers")
-    it.says("Without it too no annotation is outside of the time of its file: so it is off at "
-            "first.")
-    saves_runs(it, "OX-7")
-    it.hands.use("checkbox", "The patient's code in the names of saved files", " ")
-    it.saves(f"Save the EDF+D file ({size})", f"S-0118_{NAME}.edf", export)
-    saves_runs(it, "S-0118_OX-7")
     it.starts_over()
 
 
-def saves_runs(it: Technician, name: str, sorts: bool = False) -> None:
-    """Each file is named by its own start."""
+def saves_runs(it: Technician, button: str, name: str) -> None:
+    """A file for each stretch, by its own start, with the annotations of its time."""
     folder = it.folder / "runs"
     folder.mkdir(exist_ok=True)
-    for path in folder.iterdir():
-        path.unlink()
-    given = "export.edf"
-    if sorts:
-        given = "sorted.edf"
-        (it.folder / given).write_bytes(it.native.run(
-            it.native.edfruns, it.folder, "canonical", "--by-onset", "export.edf"))
-    told = it.native.run(it.native.edfruns, it.folder, "split", given, "runs/run")
+    (it.folder / "sorted.edf").write_bytes(it.native.run(
+        it.native.edfruns, it.folder, "canonical", "--by-onset", "export.edf"))
+    told = it.native.run(it.native.edfruns, it.folder, "split", "sorted.edf", "runs/run")
+    it.hands.use("button", button)
     firsts = re.findall(r" first=(\S+)", told.decode())
-    end = "-by-onset" if sorts else ""
-    for nth, (first, path) in enumerate(zip(firsts, sorted(folder.iterdir())), 1):
-        data, start = path.read_bytes(), first.replace(":", "_")
-        it.saves(f"Save file {nth} ({-(-len(data) // 1000)} kB)",
-                 f"{name}_{start}-{nth}{end}.edf", data)
+    for first, path in zip(firsts, sorted(folder.iterdir()), strict=True):
+        saved = it.hands.saved(f"{name}_{first.replace(':', '_')}_stretch.edf")
+        it.same(f"{button}: {first}", sum_of(saved), sum_of(path.read_bytes()))
+        path.unlink()
 
 
 def by_onset(it: Technician) -> None:
     """A card and a piece whose annotations are spread as EDFlib has them: E31 as they are, and one
-    recording by onset. The files for viewers are by onset where an annotation is outside of its."""
+    recording by onset; and as they came again."""
     starts = [*range(0, 8), *range(20, 26)]
     files = [("card.edf", spread(starts, [2, 5, 6, 22])),
              ("piece.edf", spread(starts[4:8], [5, 6]))]
     unsorted = written(it.folder / "spread", files)
     it.chooses("Choose files", unsorted)
-    it.says("E31 Differs")
+    it.says("✕ piece.edf It contradicts a file that was taken before it")
     it.looks("refused beside its pieces")
-    it.press("Make 2 EDF+C files")
-    it.until("document.body.dataset.state === 'done' && document.querySelector('article input')"
-             ".checked")
-    it.says("Without it 1 annotation would be outside of the time of the file, where viewers show "
-            "none: so it is on at first.")
-    saves_runs(it, "N1", sorts=True)
-    it.press(IN_ITS_FILE, "checkbox", " ")
-    saves_runs(it, "N1")
-    it.same("it is sorted", it.press("Take all again, annotations by onset first"), "done")
+    it.unfold("More to save")
+    saves_runs(it, "Save 2 files, one for each stretch", "N1")
+    it.same("it is sorted", it.press("Sort all annotations by their times"), "done")
     it.paths = written(it.folder / "sorted", [(path.name, it.native.run(
         it.native.edfruns, path.parent, "canonical", "--by-onset", path.name))
         for path in unsorted])
     it.gives("by onset")
-    it.press("Annotations by onset first", "checkbox", " ")
+    it.unfold("2 files taken")
+    it.press("Take annotations as they came")
     it.paths = unsorted
     it.gives("as they came again")
 
@@ -355,20 +364,20 @@ def cancels(it: Technician, big: Path) -> None:
 
 
 def changes_later(it: Technician) -> None:
-    """A file that changed when others come is named, and nothing is given; then all others are."""
+    """A file that changed since it was chosen is named, and nothing comes of it; then the others
+    are taken."""
     it.open()
     good = page_files.seconds(40)
     paths = written(it.folder / "later", [("one.edf", page_files.seconds(3, "01.00.00")),
                                           ("changed.edf", good), ("two.edf", good[:-100])])
-    it.chooses("Choose files", paths[:2])
+    it.bench.browser.value(HELD)
+    it.hands.use("button", "Choose files")
+    it.hands.give(paths)
+    it.until("window.chosen")
     time.sleep(1.1)
     paths[1].write_bytes(good[:-50])
-
-    def add():
-        it.hands.use("button", "Add files")
-        it.hands.give(paths[2:])
-    it.same("a file that changed", it.after(add), "failed")
-    it.bench.offers_nothing("a file that changed", "changed.edf", "Nothing is given.")
+    it.same("a file that changed", it.after(lambda: it.bench.browser.value(LET_GO)), "failed")
+    it.bench.offers_nothing("a file that changed", "changed.edf", "Nothing was taken.")
     it.looks("a file that changed")
     it.paths = [paths[0], paths[2]]
     it.same("the others", it.press("Go on with 2 other files"), "done")
@@ -376,12 +385,15 @@ def changes_later(it: Technician) -> None:
 
 
 def drops(it: Technician) -> None:
-    """What is dropped is as what is chosen."""
+    """What is dropped is as what is chosen; hidden files of a folder are left out."""
     it.open()
     it.paths = written(it.folder / "dropped", [
         (f"part{nth}.edf", (OXIMETER / f"part{nth}.edf").read_bytes()) for nth in (1, 2)])
     it.same("drop", it.after(lambda: it.hands.drop(it.paths)), "done")
     it.gives("dropped files")
+    if not it.hands.has_folders:
+        return
+    (it.folder / "dropped/.DS_Store").write_bytes(bytes(300))
     it.after(lambda: it.hands.drop([it.folder / "dropped", it.paths[0]]))
     inside = [str(path.relative_to(it.folder)) for path in it.paths]
     it.paths = [*it.paths, *it.paths, it.paths[0]]
@@ -400,4 +412,3 @@ def all_of_it(bench, hands, folder: Path, native, big: Path = None) -> None:
         cancels(it, big)
     changes_later(it)
     drops(it)
-

@@ -94,10 +94,10 @@ def devices(checks: Checks) -> None:
     checks.same("the files", checks.names(), ["pipe"])
 
 
-def left(checks: Checks, words: str, name: str, before: str) -> None:
+def left(checks: Checks, words: str, name: str) -> None:
     """A file that has its name already, and can't be removed."""
     library = measure.library(Path(__file__).with_name("unremoved.c"), checks.folder)
-    said = printed.line(name, UNWRITTEN) + before
+    said = printed.line(name, UNWRITTEN)
     for value, causes in ((None, ""), ("1", cause(name, FAILED) * 2)):
         checks.shell(f"rm -f {name}")
         added = {"LD_PRELOAD": str(library)} | ({} if value is None else {CAUSES: value})
@@ -112,7 +112,7 @@ def left(checks: Checks, words: str, name: str, before: str) -> None:
 def names_left(checks: Checks) -> None:
     checks.begin("a file that is left under its name is named")
     checks.file("a.edf", by_hand.Q)
-    left(checks, "split a.edf part", "part-1.edf", "part-1.edf could not be removed\n")
+    left(checks, "split a.edf part", "part-1.edf")
 
 
 def on_terminal(checks: Checks, words: list[str], status: int, err: str = "",

@@ -249,9 +249,10 @@ def files_of_runs(checks: Checks) -> None:
     checks.file("a.edf", R9)
     checks.file("part-2.edf.part", b"mine")
     unwritten = printed.line("part-2.edf", UNWRITTEN) + cause("part-2.edf", printed.NOTHING_LEFT)
-    on_terminal(checks, "split a.edf part", status=3, err=first + WIPED + second + WIPED
+    told = runs.split_lines("part", made).splitlines(keepends=True)[0]
+    on_terminal(checks, "split a.edf part", told, status=3, err=first + WIPED + second + WIPED
                 + cause("part-2.edf.part", printed.THERE) + unwritten)
-    checks.same("the files", checks.names(), ["a.edf", "part-2.edf.part"])
+    checks.same("the files", checks.names(), ["a.edf", "part-1.edf", "part-2.edf.part"])
     checks.same("the part", checks.content("part-2.edf.part"), b"mine")
     on_terminal(checks, "canonical a.edf", status=3, into=Path("/dev/full"), err=first + WIPED
                 + second + WIPED + cause("/dev/full", printed.FULL) + printed.UNWRITTEN_OUTPUT

@@ -11,3 +11,4 @@ pub mod NumberTexts
 pub mod PhysicalNumbers
 pub mod DurationTexts
 pub mod Cited
+pub mod NearestZero

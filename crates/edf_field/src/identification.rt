@@ -11,7 +11,7 @@ use crate::fault::{PatientFault, RecordingFault};
 use edf_time::{Day, id_date};
 
 /// Returns the number of leading spaces.
-fn spaces_len(text: &[u8]) -> usize
+pub fn spaces_len(text: &[u8]) -> usize
     ensures { result ≡ prefix_len (λ b. b == 32) text.now }
 {
     for (i, b) in text.iter().enumerate() {

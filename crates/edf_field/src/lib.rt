@@ -11,8 +11,10 @@
 //! ```
 //!
 //! - [`read_whole`], [`read_signed`], [`read_duration`], [`MOST_DURATION`]: numbers and durations.
-//! - [`physical_values_differ`]: a physical minimum and maximum.
-//! - [`split_digits`], [`are_spaces`]: the digits that a text begins with; the spaces after a text.
+//! - [`physical_values_differ`]: a physical minimum and maximum. [`nearest_to_zero`]: the digital
+//!   value that stands for the physical value nearest to 0.
+//! - [`split_digits`], [`without_sign`]: the digits that a text begins with; a number without its
+//!   sign. [`spaces_len`], [`are_spaces`]: the spaces before and after a text.
 //! - [`next_subfield`]: the subfields of an identification, one after the other.
 //! - [`is_patient`], [`patient_fault`], [`PatientFault`]: the patient identification.
 //! - [`read_recording`], [`follows_startdate`], [`RecordingFault`]: the recording identification.
@@ -28,7 +30,9 @@ mod physical;
 
 pub use fault::{PatientFault, RecordingFault};
 pub use identification::{
-    follows_startdate, is_patient, next_subfield, patient_fault, read_recording,
+    follows_startdate, is_patient, next_subfield, patient_fault, read_recording, spaces_len,
 };
-pub use number::{MOST_DURATION, are_spaces, read_duration, read_signed, read_whole, split_digits};
-pub use physical::physical_values_differ;
+pub use number::{
+    MOST_DURATION, are_spaces, read_duration, read_signed, read_whole, split_digits, without_sign,
+};
+pub use physical::{nearest_to_zero, physical_values_differ};

@@ -47,7 +47,7 @@ pub fn are_spaces(text: &[u8]) -> bool
 }
 
 /// Returns the text without its leading sign, or all of it where it has none.
-pub(crate) fn without_sign(text: &[u8]) -> &[u8]
+pub fn without_sign(text: &[u8]) -> &[u8]
     ensures value { result.now ≡ unsigned text.now }
     ensures len { length result.now ≤ length text.now }
 {

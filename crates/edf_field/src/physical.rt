@@ -3,6 +3,7 @@ ghost use Rattle.std.specs.Prelude.{slice_index, MatchOption, IsTrue};
 ghost use Rattle.std.specs.Char.{is_ascii_digit};
 ghost use Rattle.edf_field.specs.Number.{fraction, after_fraction, IsPhysical, fraction_len};
 ghost use Rattle.edf_field.specs.Number.{unscaled, signed, DifferAsNumbers};
+ghost use Rattle.edf_field.specs.Nearest.{IsNearest, IsNearestZero};
 
 use crate::number::{are_spaces, read_digits, split_digits, without_sign};
 
@@ -78,4 +79,43 @@ pub fn physical_values_differ(minimum: &[u8], maximum: &[u8]) -> bool
         (Some(low), Some(high)) => differ(low, high),
         _ => false,
     }
+}
+
+/// Returns how far above the first of digital values the one is that stands for the value nearest to
+/// 0, where the first stands for `low`, and the last, `steps` above it, for `high`.
+fn nearest(low: Physical, high: Physical, steps: u32) -> u32
+    requires { signed low.negative (low.unscaled * 10 ^ high.fraction_len)
+        ≢ signed high.negative (high.unscaled * 10 ^ low.fraction_len) }
+    ensures { IsNearestZero (signed low.negative (low.unscaled * 10 ^ high.fraction_len))
+        (signed high.negative (high.unscaled * 10 ^ low.fraction_len)) steps result }
+{
+    let low_size = u64::from(low.unscaled) * 10u64.pow(high.fraction_len);
+    let high_size = u64::from(high.unscaled) * 10u64.pow(low.fraction_len);
+    if low.negative == high.negative {
+        return if low_size <= high_size { 0 } else { steps };
+    }
+    let span = u128::from(low_size + high_size);
+    let above = 2 * u128::from(low_size) * u128::from(steps) + span - 1;
+    (above / (2 * span)) as u32
+}
+
+/// Returns how far above the first of digital values the one is that stands for the physical value
+/// nearest to 0, or the lesser of two; `None` where [`physical_values_differ`] is false.
+///
+/// Digital values stand for physical ones by the line through both limits: the first stands for
+/// `minimum`, and the last, `steps` above it, for `maximum`. Either of these may be the greater.
+pub fn nearest_to_zero(minimum: &[u8], maximum: &[u8], steps: u32) -> Option<u32>
+    requires minimum { length minimum.now ≤ 8 }
+    requires maximum { length maximum.now ≤ 8 }
+    ensures { MatchOption result
+        (¬ (IsPhysical minimum.now × IsPhysical maximum.now
+        × DifferAsNumbers minimum.now maximum.now))
+        (IsNearest minimum.now maximum.now steps) }
+{
+    let low = read_physical(minimum)?;
+    let high = read_physical(maximum)?;
+    if !differ(low, high) {
+        return None;
+    }
+    Some(nearest(low, high, steps))
 }

@@ -15,8 +15,7 @@ const READINGS: &[(&str, &str, usize, bool)] = &[
     ("edfruns list two.edf", "two.edf", 1_008, false),
     ("edfruns picture two.edf", "two.edf", 1_008, false),
     ("edfruns picture two.edf", "two.edf", 1_008, true),
-    ("edfruns split two.edf night", "two.edf", 1_008, false),
-    ("edfruns split two.edf night", "two.edf", 1_008, true),
+    (SPLIT, "two.edf", 1_008, false),
     ("edfruns canonical two.edf", "two.edf", 1_008, false),
     ("edfruns canonical two.edf", "two.edf", 1_008, true),
     (BY_ONSET, "two.edf", 1_008, false),
@@ -94,18 +93,6 @@ const CHANGES: &[(&str, &str, &[&str])] = &[
         ],
     ),
     (
-        "edfruns split two.edf night",
-        "two.edf",
-        &[
-            "one.edf",
-            "cut.edf",
-            "loose.edf",
-            "tenths.edf",
-            "overlap.edf",
-            "grown.edf",
-        ],
-    ),
-    (
         "edfruns canonical strays.edf --by-onset",
         "strays.edf",
         &["two.edf"],
@@ -138,28 +125,87 @@ fn a_file_that_changed_between_its_readings_is_refused_and_leaves_no_file(rt: Ho
     }
 }
 
-/// Commands, what their folder can't do, and what they print.
+/// The command that makes three files, of the runs of 3, 2 and 1 data records.
+const SPLIT: &str = "edfruns split two.edf night";
+
+/// The lines and the files that a split leaves which does not end well, and what it says of that;
+/// `None` where it ends well.
+fn left_by_split(alloc: Global, shelf: Shelf) -> Option<(usize, usize, Vec<u8>)> {
+    let outcome = outcome_of(alloc, shelf, free(), usize::MAX, SPLIT)?;
+    if outcome.status != Status::Trouble {
+        return None;
+    }
+    let lines = outcome.out.iter().filter(|byte| **byte == b'\n').count();
+    Some((lines, outcome.left, outcome.err))
+}
+
+/// Whether a split whose second reading fails from a byte on leaves so many files, each with its
+/// line.
+fn leaves_whole_files(alloc: Global, cut: usize, count: usize) -> Option<bool> {
+    let (lines, left, err) = left_by_split(alloc, Shelf::new(alloc).failing(usize::MAX, cut))?;
+    let said = b"two.edf refused E40 Read\n".as_slice();
+    Some(lines == count && left == count && err.as_slice() == said)
+}
+
+/// The same of one whose second reading finds the other file.
+fn leaves_those_before_a_change(alloc: Global, other: &str, count: usize) -> Option<bool> {
+    let shelf = Shelf::new(alloc).changed(file_named(alloc, other)?);
+    let (lines, left, err) = left_by_split(alloc, shelf)?;
+    let said = b"two.edf changed between its readings\n".as_slice();
+    Some(lines == count && left == count && err.as_slice() == said)
+}
+
+#[test]
+fn a_split_that_stops_leaves_whole_files_each_with_its_line(rt: HostRuntime) {
+    // A data record has 40 bytes.
+    for cut in 0..=1_008usize {
+        let count = match cut {
+            0..=887 => 0,
+            888..=967 => 1,
+            968..=1_007 => 2,
+            _ => 3,
+        };
+        let is_so = leaves_whole_files(rt.alloc(), cut, count);
+        assert_eq!(rt; is_so, Some(true), "{cut}");
+    }
+    let others = [
+        ("one.edf", 0),
+        ("cut.edf", 0),
+        ("loose.edf", 1),
+        ("tenths.edf", 0),
+        ("overlap.edf", 0),
+        ("grown.edf", 3),
+    ];
+    for (other, count) in others {
+        let is_so = leaves_those_before_a_change(rt.alloc(), other, count);
+        assert_eq!(rt; is_so, Some(true), "{other}");
+    }
+}
+
+/// Commands, what their folder can't do, and what they print. Files of a split that are whole stay.
 fn folders() -> [(&'static str, Limits, &'static str); 10] {
-    let (split, mend) = (
-        "edfruns split two.edf night",
-        "edfmend falling.edf out.edf --all",
-    );
+    let mend = "edfmend falling.edf out.edf --all";
     let first = "err: night-1.edf refused E43 Write\nstatus 3, 0 files\n";
-    let second = "err: night-2.edf refused E43 Write\nstatus 3, 0 files\n";
-    let third = "err: night-3.edf refused E43 Write\nstatus 3, 0 files\n";
+    let second = "night-1.edf 1 records=3 first=2002-03-02T23:59:50.25 seconds=3 gap=7.5 \
+        annotations=1 outside=0 patient=P7 investigation=N1\n\
+        err: night-2.edf refused E43 Write\nstatus 3, 1 files\n";
+    let third = "night-1.edf 1 records=3 first=2002-03-02T23:59:50.25 seconds=3 gap=7.5 \
+        annotations=1 outside=0 patient=P7 investigation=N1\n\
+        night-2.edf 2 records=2 first=2002-03-03T00:00:00.75 seconds=2 gap=3597.25 \
+        annotations=2 outside=2 patient=P7 investigation=N1\n\
+        err: night-3.edf refused E43 Write\nstatus 3, 2 files\n";
     let mended = "err: out.edf refused E43 Write\nstatus 3, 0 files\n";
-    let kept = "err: night-3.edf refused E43 Write\nnight-1.edf could not be removed\n\
-        status 3, 1 files\n";
+    let kept = "err: night-1.edf refused E43 Write\nstatus 3, 1 files\n";
     let half = "err: out.edf refused E43 Write\nout.edf.part could not be removed\n\
         status 3, 1 files\n";
     let free = free();
     [
-        (split, Limits { room: 0, ..free }, first),
-        (split, Limits { room: 800, ..free }, first),
-        (split, Limits { unmade: 1, ..free }, first),
-        (split, Limits { unmade: 3, ..free }, third),
+        (SPLIT, Limits { room: 0, ..free }, first),
+        (SPLIT, Limits { room: 800, ..free }, first),
+        (SPLIT, Limits { unmade: 1, ..free }, first),
+        (SPLIT, Limits { unmade: 3, ..free }, third),
         (
-            split,
+            SPLIT,
             Limits {
                 unfinished: 2,
                 ..free
@@ -167,9 +213,9 @@ fn folders() -> [(&'static str, Limits, &'static str); 10] {
             second,
         ),
         (
-            split,
+            SPLIT,
             Limits {
-                unmade: 3,
+                room: 800,
                 unremoved: 1,
                 ..free
             },
@@ -220,11 +266,11 @@ const LISTS: &[(usize, &str)] = &[
 ];
 
 /// Commands that write more than a hundred bytes, and how many files are left where standard output
-/// does not take them: a mended file stays where its ledger can't be told.
+/// does not take them: a mended file and that of a run stay where their lines can't be told.
 const WRITERS: &[(&str, usize)] = &[
     ("edfruns list two.edf", 0),
     ("edfruns canonical two.edf", 0),
-    ("edfruns split two.edf night", 0),
+    (SPLIT, 1),
     ("edfruns picture two.edf", 0),
     ("edfmend falling.edf out.edf --all", 1),
 ];

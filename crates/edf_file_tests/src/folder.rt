@@ -133,7 +133,8 @@ impl NewFiles for Folder {
         } = writer;
         let is_writing = self.made.is_writing();
         if !is_writing || failures > 0 || self.asked == self.limits.unfinished {
-            self.made.fail(Unfinished::Failed, Some(bytes), false);
+            self.removed = self.removed.saturating_add(is_writing as usize);
+            self.made.fail(Unfinished::Failed, Some(bytes), is_writing);
             return Err(Unfinished::Failed);
         }
         let count = bytes.len() as u64;

@@ -5,7 +5,7 @@ use crate::files::{
 };
 use edf_fragment::{Counted, Input, OpenFragment};
 use edf_mend::{Change, Wanted, Who, measure, write_mended};
-use edf_runs::{Run, Written, add_record, list_runs, reopen_listed, write_run};
+use edf_runs::{Run, Written, add_record, list_outline, read_outline, reopen_listed, write_run};
 use edf_sample::{Sink, Source};
 use std::alloc::Global;
 
@@ -40,7 +40,8 @@ fn gathered(alloc: Global) -> Option<Vec<(u32, u32)>> {
 /// What is told of the file of a run that is written after those before it, where it is this one.
 fn written(alloc: Global, bytes: &[u8], number: usize, file: &[u8]) -> Option<Written> {
     let mut first_reading = Counted::new(Source::whole(bytes, 100));
-    let listing = list_runs(alloc, &mut first_reading).ok()?;
+    let outline = read_outline(alloc, &mut first_reading).ok()?;
+    let listing = list_outline(alloc, outline).ok()?;
     let mut input = Counted::new(Source::whole(bytes, 7));
     let mut fragment = reopen_listed(alloc, &mut input, &listing).ok()?;
     let mut last = None;

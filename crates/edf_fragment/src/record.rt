@@ -86,6 +86,27 @@ impl Record {
         }
     }
 
+    /// Returns the data record of the same samples, which are not copied, with this start and these
+    /// annotations, or `None` where they are past the limits.
+    pub fn with(self, start: Instant, notes: Vec<Note>) -> Option<Record>
+        ensures { let parts : DataRecord =
+            record { start = start; samples = self.samples; annotations = notes.items } in
+            MatchOption result (¬ IsWithinLimits notes.items)
+            (λ r. IsValidRecord r × (r ≡ parts)) }
+    {
+        let Record {
+            start: _,
+            samples,
+            notes: _,
+        } = self;
+        instant_is_in_window(start);
+        if are_within_limits(notes.as_slice()) {
+            Some(Record::within_limits(start, samples, notes))
+        } else {
+            None
+        }
+    }
+
     /// Returns the start: the onset of the time-keeping annotation.
     pub fn start(&self) -> Instant
         ensures value { result ≡ self.now.start }

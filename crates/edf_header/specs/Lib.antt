@@ -10,3 +10,4 @@ pub mod Canonical
 pub mod Spelled
 pub mod Identity
 pub mod Inside
+pub mod Flat

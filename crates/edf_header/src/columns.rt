@@ -53,7 +53,7 @@ impl<'a> Columns<'a> {
         requires { i < length self.now }
         ensures { result ≡ slice_index_or self.now i [] }
     {
-        row_from(self.bytes, self.count, i)
+        signal_row(self.bytes, self.count, i)
     }
 }
 
@@ -69,8 +69,9 @@ fn column(bytes: &[u8], n: usize, i: usize, at: usize, width: usize) -> &[u8]
     &bytes[from..from + width]
 }
 
-/// Returns one of `n` signals in a row, its fields read from their columns.
-fn row_from(bytes: &[u8], n: usize, i: usize) -> [u8; 256]
+/// Returns one of `n` signals in a row of 256 bytes, its fields read from their columns (EDF, header
+/// record).
+pub fn signal_row(bytes: &[u8], n: usize, i: usize) -> [u8; 256]
     requires size { length bytes.now ≡ 256 * n }
     requires few { n ≤ MOST_SIGNALS }
     requires inside { i < n }

@@ -1,17 +1,20 @@
 ghost use Rattle.std.specs.Prelude.{◌≡◌, ◌≤◌, ◌<◌, ◌+◌, ◌*◌, ◌↔◌, ◌++◌, IfOk};
 ghost use Rattle.std.specs.Prelude.{OnOk, IsTrue, MatchResult, length};
 ghost use Rattle.edf_field.specs.Number.{duration_of};
+ghost use Rattle.edf_header.specs.Flat.{AreFlat};
 ghost use Rattle.edf_header.specs.Signal.{rows_of, ordinary, samples_in_all};
 ghost use Rattle.edf_header.specs.Key.{Key, IsKey, MayStart, dated_bytes, key_bytes, key_at};
 ghost use Rattle.edf_header.specs.Key.{patient_code, investigation_code};
 ghost use Rattle.edf_header.specs.Identity.{IsFirstKeyFault};
 ghost use Rattle.edf_header.specs.Inside.Shape.{key_from};
 
-use crate::columns::Columns;
+use crate::columns::{Columns, row_in};
 use crate::fields::{KEY_DURATION, KEY_MARK, KEY_PATIENT, KEY_SIGNALS};
 use crate::fixed::Fixed;
+use crate::flat::push_flat;
 use crate::header_signals::push_ordinary;
 use crate::identity_checks::{KeyNumbers, after, check_key};
+use crate::laws::identity_is_key;
 use crate::limits::MOST_BLOCK_BYTES;
 use edf_field::{MOST_DURATION, next_subfield};
 use edf_time::Instant;
@@ -240,6 +243,23 @@ impl Identity {
         }
     }
 
+    /// Returns the samples of a flat data record, where there was no recording: of each signal the
+    /// digital value that stands for the physical value nearest to 0.
+    ///
+    /// # Errors
+    /// It fails where memory runs out.
+    pub fn flat_samples(&self, alloc: Global) -> Result<Vec<u8>, AllocError>
+        ensures { IfOk result (λ flat. AreFlat self.now.signals flat.items) }
+    {
+        identity_is_key(self);
+        let rows = self.signal_rows();
+        let mut flat = Vec::new(alloc);
+        for i in 0..rows.len() / 256 {
+            push_flat(&mut flat, row_in(rows, i))?;
+        }
+        Ok(flat)
+    }
+
     /// Returns the patient field, 80 bytes.
     pub(crate) fn patient_field(&self) -> &[u8]
         ensures { result.now ≡ self.now.patient }
@@ -262,7 +282,7 @@ impl Identity {
     }
 
     /// Returns the ordinary signals' headers, each in a row of 256 bytes.
-    pub(crate) fn signal_rows(&self) -> &[u8]
+    pub fn signal_rows(&self) -> &[u8]
         ensures { rows_of result.now ≡ self.now.signals }
     {
         &self.bytes[KEY_SIGNALS..]

@@ -16,7 +16,8 @@
 //! ```
 //!
 //! - [`read_fixed`], [`Fixed`]: the fixed part, 256 bytes, or the first of E2 to E13.
-//! - [`read_signals`], [`Header`], [`Block`]: the signal part, or the first of E14 to E20.
+//! - [`read_signals`], [`Header`], [`Block`]: the signal part, or the first of E14 to E20;
+//!   [`signal_row`]: one of its signals, in a row.
 //! - [`HeaderFault`]: the faults E1 to E20; [`format_of`], [`Format`]: ZIP, SQLite and their like.
 //! - [`Identity`], [`IdentityFault`]: to which recording a file belongs, to bytes and from bytes.
 //! - [`write_header`]: the one header that a canonical file has.
@@ -30,6 +31,7 @@ mod fault;
 mod fields;
 mod fixed;
 mod fixed_fields;
+mod flat;
 mod format;
 mod header;
 mod header_signals;
@@ -42,6 +44,7 @@ mod signal_checks;
 mod signals;
 
 pub use canonical::write_header;
+pub use columns::signal_row;
 pub use fault::HeaderFault;
 pub use fixed::{Fixed, read_fixed};
 pub use format::{Format, format_of};

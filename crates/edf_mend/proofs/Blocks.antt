@@ -1,7 +1,8 @@
 -- Blocks, token by token.
 use Rattle.std.proofs.Common.{◌≡◌, ℕ, ◌+◌, ◌<◌, List, [], ◌∷◌, ◌++◌, length, take, drop, get_or}
-use Rattle.std.proofs.Common.{refl, sym, ap, ◌∙◌, subst, arith, append_assoc, inr, All, Bool}
-use Rattle.std.proofs.Common.{true, ◌==◌, ◌⊎◌, suc, add-one, length-drop, drop-drop, append-nil, ◌-◌, length-append}
+use Rattle.std.proofs.Common.{refl, sym, ap, ◌∙◌, subst, arith, append_assoc, inr, All, Bool, true}
+use Rattle.std.proofs.Common.{◌==◌, ◌⊎◌, suc, add-one, length-drop, drop-drop, append-nil, ◌-◌}
+use Rattle.std.proofs.Common.{length-append}
 use Rattle.std.specs.Prelude.{IsTrue}
 use Rattle.std.specs.Char.{is_ascii_digit}
 use Rattle.std.proofs.Math.Seq.{take-add, drop-cons}
@@ -29,7 +30,10 @@ cut-off text i low dot digits =
       old_is = sym (take-append-drop (i + 10) text)
           ∙ ap (λ (l : List ℕ). l ++ drop (i + 10) text) front
           ∙ append_assoc (take i text) (46 ∷ nine) (drop (i + 10) text);
-      len = omega (arith, length-take-le 9 (drop (i + 1) text) (omega (arith, length-drop (i + 1) text)));
+      len = omega (
+        arith,
+        length-take-le 9 (drop (i + 1) text) (omega (arith, length-drop (i + 1) text)),
+      );
       digits = digits;
       new_is = front;
     })
@@ -116,7 +120,8 @@ pub token-read : (nth at end here : ℕ) (all rest before after text more new mi
     mid ≡ after ++ new → then ≡ mid ++ stop ∷ [] → to ≡ (stop == 0) →
     later ≡ told ++ changed 256 nth here text new → length all ≡ end →
     here ≡ at + (end - length rest) → ReadSoFar nth at all more before then to former later
-token-read nth at end here all rest before after text more new mid then stop from to former told later
+token-read nth at end here all rest before after text more new mid then stop from to former told
+    later
     so is-text is-stop parts read put last to-is told-is len here-is =
     let old : Token = record { text = text; stop = stop } in
     let token : Token = record { text = new; stop = stop } in
@@ -127,10 +132,12 @@ token-read nth at end here all rest before after text more new mid then stop fro
       parts = so.parts ∙ ap (λ (l : List ℕ). tokens_bytes so.olds ++ l) parts
           ∙ (let e = flat_map-append one so.olds (old ∷ []) in rw e (grind (arith, common_steps)));
       put = last ∙ ap (λ (l : List ℕ). l ++ stop ∷ []) (put ∙ ap (λ (l : List ℕ). l ++ new) so.put)
-          ∙ (let e = flat_map-append one so.news (token ∷ []) in rw e (grind (arith, common_steps)));
+          ∙ (let e = flat_map-append one so.news (token ∷ []) in
+          rw e (grind (arith, common_steps)));
       are = read-more true from to so.olds so.news old token so.are
           (is-text, is-stop) read refl to-is;
-      told_is = told-is ∙ ap (λ (l : List FieldChange). l ++ changed 256 nth here text new) so.told_is
+      told_is = told-is
+          ∙ ap (λ (l : List FieldChange). l ++ changed 256 nth here text new) so.told_is
           ∙ append_assoc former (changes_of_tokens nth at so.olds so.news)
           (changed 256 nth here text new)
           ∙ ap (λ k. former ++ (changes_of_tokens nth at so.olds so.news

@@ -115,9 +115,14 @@ one-more nth all rest b whole done samples joined sizes samples' joined' sizes' 
           (field whole b.at b.bytes) new one so.each
           (subst (λ (l : List ℕ). BlockReadsAs nth b.at l new one) old-is is));
       joined_is = added ∙ ap (λ (l : List ℕ). l ++ new) so.joined_is
-          ∙ (let e = flat_map-append (λ (x : List ℕ). x) so.read (new ∷ []) in rw e (grind (arith, common_steps)));
+          ∙ (let e = flat_map-append (λ (x : List ℕ). x) so.read (new ∷ []) in
+          rw e (grind (arith, common_steps)));
       sizes_are = counted
-          ∙ ap (λ n. sizes ++ n ∷ []) (omega (arith, ap (λ (l : List ℕ). length l) added, length-append joined new))
+          ∙ ap (λ n. sizes ++ n ∷ []) (omega (
+            arith,
+            ap (λ (l : List ℕ). length l) added,
+            length-append joined new,
+          ))
           ∙ ap (λ (l : List ℕ). l ++ length new ∷ []) so.sizes_are
           ∙ sym (map-append length so.read (new ∷ []));
     }

@@ -1,6 +1,6 @@
 -- Labels of annotations signals.
-use Rattle.std.proofs.Common.{◌≡◌, ℕ, zero, suc, ◌+◌, ◌≤◌, ◌<◌, List, ◌∷◌, length, map, arith}
-use Rattle.std.proofs.Common.{inl, inr, sym, ◌∙◌, subst, refl, Bool, true, false, All, codes, rules}
+use Rattle.std.proofs.Common.{◌≡◌, ℕ, zero, suc, ◌+◌, ◌≤◌, ◌<◌, List, ◌∷◌, length, map, arith, inl}
+use Rattle.std.proofs.Common.{inr, sym, ◌∙◌, subst, refl, Bool, true, false, All, codes, rules}
 use Rattle.std.specs.Prelude.{filter, if◌then◌else◌}
 use Rattle.std.specs.List.{range_with_len}
 use Rattle.edf_field.specs.Text.{IsPrintable}

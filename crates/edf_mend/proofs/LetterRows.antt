@@ -1,6 +1,6 @@
 -- A character by the rows of the table.
-use Rattle.std.proofs.Common.{◌≡◌, ◌⊎◌, ℕ, suc, ◌+◌, ◌≤◌, ◌<◌, Bool, List, ◌∷◌, map, drop}
-use Rattle.std.proofs.Common.{length, get_or, ap, ◌∙◌, arith, drop-cons, inl, inr}
+use Rattle.std.proofs.Common.{◌≡◌, ◌⊎◌, ℕ, suc, ◌+◌, ◌≤◌, ◌<◌, Bool, List, ◌∷◌, map, drop, length}
+use Rattle.std.proofs.Common.{get_or, ap, ◌∙◌, arith, drop-cons, inl, inr}
 use Rattle.std.proofs.lemmas.Bool.{le-leb, and_left, and_right, lt-leb}
 use Rattle.std.specs.Prelude.{nat_le, ◌&&◌, if◌then◌else◌}
 use Rattle.std.specs.Borrow.{Bor}

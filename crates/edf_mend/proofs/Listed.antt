@@ -1,6 +1,6 @@
 -- Fields that differ are listed.
-use Rattle.std.proofs.Common.{◌≡◌, ℕ, zero, suc, ◌+◌, ◌*◌, ◌<◌, List, [], ◌∷◌, arith, refl}
-use Rattle.std.proofs.Common.{sym, subst, inl, inr, Bool, true, false}
+use Rattle.std.proofs.Common.{◌≡◌, ℕ, zero, suc, ◌+◌, ◌*◌, ◌<◌, List, [], ◌∷◌, arith, refl, sym}
+use Rattle.std.proofs.Common.{subst, inl, inr, Bool, true, false}
 use Rattle.std.specs.Prelude.{if◌then◌else◌, Contains}
 use Rattle.std.specs.List.{flat_map}
 use Rattle.std.specs.Str.{bytes_eq}
@@ -11,8 +11,7 @@ use Rattle.edf_field.specs.Number.{field}
 use Rattle.edf_header.specs.Fields.{fields}
 use Rattle.edf_header.specs.Signal.{row_at}
 use Rattle.edf_mend.specs.Changes.{FieldChange, changed, fixed_fields, changes_of_fixed}
-use Rattle.edf_mend.specs.Changes.{changes_of_row, changes_of_signals}
-use Rattle.edf_mend.specs.Changes.{changes_of_header}
+use Rattle.edf_mend.specs.Changes.{changes_of_row, changes_of_signals, changes_of_header}
 use Rattle.edf_mend.specs.Laws.{IsListed}
 
 pub in-flat : {X Y : Type 0} (f : X → List Y) (xs : List X) (x : X) (y : Y) → Contains xs x →
@@ -40,8 +39,8 @@ in-changed place signal at old new differ = go (bytes_eq old new) refl
 pub in-fixed : (old new : List ℕ) (f : ℕ × ℕ) → Contains fixed_fields f →
     IsListed (changes_of_fixed old new) f.0 0 f.0 (field old f.0 f.1) (field new f.0 f.1)
 in-fixed old new f there differ =
-    in-flat (λ (g : ℕ × ℕ). changed g.0 0 g.0 (field old g.0 g.1) (field new g.0 g.1)) fixed_fields f
-    _ there (in-changed f.0 0 f.0 (field old f.0 f.1) (field new f.0 f.1) differ)
+    in-flat (λ (g : ℕ × ℕ). changed g.0 0 g.0 (field old g.0 g.1) (field new g.0 g.1)) fixed_fields
+    f _ there (in-changed f.0 0 f.0 (field old f.0 f.1) (field new f.0 f.1) differ)
 
 in-row : (n i : ℕ) (old new : List ℕ) (f : ℕ × ℕ) → Contains fields f →
     IsListed (changes_of_row n i old new) f.0 (i + 1) (256 + n * f.0 + i * f.1)
@@ -49,7 +48,8 @@ in-row : (n i : ℕ) (old new : List ℕ) (f : ℕ × ℕ) → Contains fields f
 in-row n i old new f there differ =
     in-flat (λ (g : ℕ × ℕ). changed g.0 (i + 1) (256 + n * g.0 + i * g.1) (field old g.0 g.1)
     (field new g.0 g.1)) fields f _ there
-    (in-changed f.0 (i + 1) (256 + n * f.0 + i * f.1) (field old f.0 f.1) (field new f.0 f.1) differ)
+    (in-changed f.0 (i + 1) (256 + n * f.0 + i * f.1) (field old f.0 f.1) (field new f.0 f.1)
+    differ)
 
 -- one of the first so many signals
 in-signals : (n : ℕ) (old : List ℕ) (count : ℕ) (new : List ℕ) (k i : ℕ) (y : FieldChange) → i < k →

@@ -1,6 +1,6 @@
 -- Subfields that name somebody, or that have a date.
-use Rattle.std.proofs.Common.{◌≡◌, ℕ, ◌<◌, List, [], ◌∷◌, ◌++◌, length, All, arith}
-use Rattle.std.proofs.Common.{sym, ap, ◌∙◌, subst, append_assoc, append-nil}
+use Rattle.std.proofs.Common.{◌≡◌, ℕ, ◌<◌, List, [], ◌∷◌, ◌++◌, length, All, arith, sym, ap, ◌∙◌}
+use Rattle.std.proofs.Common.{subst, append_assoc, append-nil}
 use Rattle.edf_time.specs.Civil.{IsVisible}
 use Rattle.edf_field.specs.Text.{IsSex, IsBirthdate}
 use Rattle.edf_mend.specs.Texts.{capitals, joined_by}

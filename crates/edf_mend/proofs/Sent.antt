@@ -1,6 +1,6 @@
 -- The data records that a file gave, one after another.
-use Rattle.std.proofs.Common.{◌≡◌, ℕ, ◌+◌, ◌*◌, ◌≤◌, List, [], ◌∷◌, length, Bool, true}
-use Rattle.std.proofs.Common.{false, refl, sym, ap, ◌∙◌, subst, arith, ◌++◌, append-nil, append_assoc}
+use Rattle.std.proofs.Common.{◌≡◌, ℕ, ◌+◌, ◌*◌, ◌≤◌, List, [], ◌∷◌, length, Bool, true, false, refl}
+use Rattle.std.proofs.Common.{sym, ap, ◌∙◌, subst, arith, ◌++◌, append-nil, append_assoc}
 use Rattle.std.specs.List.{AllByRecursion, flat_map}
 use Rattle.std.specs.Io.KnownBytes.{Consumes}
 use Rattle.std.proofs.KnownBytes.{Consumes-nil, Consumes-trans}
@@ -22,7 +22,8 @@ use Rattle.edf_mend.specs.declared.reading.LenientSource.{LenientSource}
 use Rattle.edf_mend.specs.declared.reading.LenientFile.{LenientFile}
 
 module _ {R : Type 0} (g : Ghosts R) where
-  pub record GaveAll (from to : At LenientSource LenientFile R) (rs : List DataRecord) : Type 0 where
+  pub record GaveAll (from to : At LenientSource LenientFile R)
+      (rs : List DataRecord) : Type 0 where
     pub pieces : List (List ℕ)
     pub read : Consumes (g.remaining from.input) (g.remaining to.input) (flat_map (λ p. p) pieces)
     pub changes : List FieldChange
@@ -35,7 +36,8 @@ module _ {R : Type 0} (g : Ghosts R) where
 
   pub gave-all : (from to : At LenientSource LenientFile R) (rs : List DataRecord) →
       Gives (ReadsLeniently g) from to rs → GaveAll from to rs
-  gave-all from to [] same = subst (λ (x : At LenientSource LenientFile R). GaveAll from x []) (sym same)
+  gave-all from to [] same =
+      subst (λ (x : At LenientSource LenientFile R). GaveAll from x []) (sym same)
       (record {
         pieces = [];
         read = Consumes-nil (g.remaining from.input);
@@ -61,8 +63,8 @@ module _ {R : Type 0} (g : Ghosts R) where
       one.given c in
       record {
         pieces = one.bytes ∷ later.pieces;
-        read = Consumes-trans (g.remaining from.input) (g.remaining mid.input) (g.remaining to.input)
-            one.bytes (flat_map (λ p. p) later.pieces) one.read later.read;
+        read = Consumes-trans (g.remaining from.input) (g.remaining mid.input)
+            (g.remaining to.input) one.bytes (flat_map (λ p. p) later.pieces) one.read later.read;
         changes = one.changes ++ later.changes;
         each = (one.changes, later.changes, one.len, one.is_read, d, refl);
         changes_are = later.changes_are

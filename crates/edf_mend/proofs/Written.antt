@@ -118,13 +118,15 @@ pub keeps-header : (w : Wanted) (first second : List ℕ) (n count : ℕ) (timed
     (timed ≡ false → take 5 (reserved_field first) ≢ codes "EDF+D") → IsFixedHeader strict fixed →
     count ≡ fixed.signal_count → KeepsFixed w first strict text →
     KeepsSignals timed n second count signals →
-    IsMarkedRight (StaysAll w n first second text count strict signals) text (recording_field strict)
+    IsMarkedRight (StaysAll w n first second text count strict signals) text
+    (recording_field strict)
     → (h : HeaderRecord) × AreSignals signals h × (h.fixed ≡ fixed) × (l ≡ layout_of h) →
     (changes : List FieldChange) →
     changes ≡ changes_of_header n first second count strict signals →
     (h : HeaderRecord) × (x : KeepsHeader w first second timed h) × (x.n ≡ n)
     × ListsHeader x changes × (l ≡ layout_of h)
-keeps-header w first second n count timed strict signals text fixed l len number gaps is counts kept rows marked (h, are, same, layout)
+keeps-header w first second n count timed strict signals text fixed l len number gaps is counts
+    kept rows marked (h, are, same, layout)
     changes lists =
     let e : count ≡ h.fixed.signal_count = counts
     ∙ sym (ap (λ (f : FixedPart). f.signal_count) same) in (

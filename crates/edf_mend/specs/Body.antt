@@ -1,6 +1,7 @@
 -- The data records of a file, and what a strict reading gets in their place.
 use Rattle.std.specs.Prelude.{◌≡◌, ◌⊎◌, ℕ, ◌+◌, ◌≤◌, ◌==◌, List, [], ◌∷◌, ◌++◌, length, All, Bool}
-use Rattle.std.specs.Prelude.{codes, true, false, IsUtf8, encode_utf8_all, IsTrue, ◌*◌, ◌<◌, if◌then◌else◌}
+use Rattle.std.specs.Prelude.{codes, true, false, IsUtf8, encode_utf8_all, IsTrue, ◌*◌, ◌<◌}
+use Rattle.std.specs.Prelude.{if◌then◌else◌}
 use Rattle.std.specs.List.{flat_map}
 use Rattle.std.specs.Char.{is_ascii_digit}
 use Rattle.edf_tal.specs.Tal.{IsText}

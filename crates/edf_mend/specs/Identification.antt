@@ -1,6 +1,7 @@
 -- The patient that a file names, and the recording that it is of.
 use Rattle.std.specs.Prelude.{◌≡◌, ◌⊎◌, ◌==◌, ℕ, ◌≤◌, List, ◌∷◌, ◌++◌, length, drop, All, codes}
-use Rattle.std.specs.Prelude.{if◌then◌else◌, ◌-◌, [], take, slice_index_or, Option, ℤ, pos, replicate}
+use Rattle.std.specs.Prelude.{if◌then◌else◌, ◌-◌, [], take, slice_index_or, Option, ℤ, pos}
+use Rattle.std.specs.Prelude.{replicate}
 use Rattle.edf_time.specs.Civil.{IsVisible, IsIdDate, IsDateText}
 use Rattle.edf_field.specs.Text.{subfields, IsPrintable, IsPatient, IsSex, IsBirthdate, IsRecording}
 use Rattle.edf_mend.specs.Texts.{spaced, fitted, capitals, first_subfield, joined_by, IsNoCode}
@@ -26,10 +27,15 @@ AreNamed parts = ⊥
 abbrev pub IsNamed : List ℕ → Type 0
 IsNamed field = AreNamed (subfields (spaced field))
 
--- Of such a field come this code, sex and birthdate in capitals, and the rest in ASCII.
+-- The names of such a field are in ASCII, or X where these are blanks alone.
+abbrev pub names_text : List (List ℕ) → List ℕ
+names_text names = if length (subfields (spelling (joined_by 32 names))) == 0 then codes " X"
+    else spelling (joined_by 32 names)
+
+-- Of such a field come this code, sex and birthdate in capitals, and the names.
 abbrev pub named_text : List ℕ → List (List ℕ) → List ℕ
 named_text code (own ∷ sex ∷ birthdate ∷ names) = code ++ (32 ∷ (capitals sex
-    ++ (32 ∷ (capitals birthdate ++ spelling (joined_by 32 names)))))
+    ++ (32 ∷ (capitals birthdate ++ names_text names))))
 named_text code parts = code
 
 -- Nothing of it is cut.
@@ -103,13 +109,16 @@ date_of field = capitals (slice_index_or (subfields (spaced field)) 1 [])
 abbrev pub codes_of : List ℕ → List (List ℕ)
 codes_of field = drop 2 (subfields (spaced field))
 
--- Of such a field come its date, its codes in ASCII, and X for each that it lacks.
+-- Of such a field come its date, its codes in ASCII, and X for each that it lacks then.
+abbrev pub spelled_codes : List ℕ → List ℕ
+spelled_codes old = spelling (joined_by 32 (codes_of old))
+
 abbrev pub lacking_codes : List (List ℕ) → List ℕ
 lacking_codes after = flat_map (λ x. x) (replicate (3 - length after) (codes " X"))
 
 abbrev pub IsRedated : List ℕ → List ℕ → Type 0
 IsRedated old text = HasDate old × (text ≡ codes "Startdate " ++ (date_of old
-    ++ (spelling (joined_by 32 (codes_of old)) ++ lacking_codes (codes_of old))))
+    ++ (spelled_codes old ++ lacking_codes (subfields (spelled_codes old)))))
 
 -- The startdate says its year, and this is its day.
 abbrev pub IsDateOf : List ℕ → List ℕ → Type 0

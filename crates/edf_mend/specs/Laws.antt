@@ -1,9 +1,10 @@
 -- What a person who sends a file may rely on.
 use Rattle.std.specs.Prelude.{◌≡◌, ◌≢◌, ◌⊎◌, ℕ, ◌+◌, ◌*◌, ◌^◌, ◌<◌, List, ◌∷◌, [], ◌++◌, codes}
-use Rattle.std.specs.Prelude.{Contains, length, decimal, Bool}
+use Rattle.std.specs.Prelude.{Contains, length, decimal, Bool, false, pos, Option, IsSomeAnd}
 use Rattle.std.specs.List.{AllZip, flat_map}
 use Rattle.edf_time.specs.Civil.{IsDateText, IsTimeText}
-use Rattle.edf_field.specs.Number.{field}
+use Rattle.edf_field.specs.Number.{field, duration_of}
+use Rattle.edf_field.specs.Text.{subfields}
 use Rattle.edf_header.specs.Signal.{row_at, IsLabelled}
 use Rattle.edf_header.specs.Fields.{label_field, patient_field, recording_field, startdate_field}
 use Rattle.edf_header.specs.Fields.{starttime_field, count_field, fields}
@@ -14,39 +15,32 @@ use Rattle.edf_fragment.specs.Fragment.{DataRecord}
 use Rattle.edf_mend.specs.Texts.{spaced, fitted, IsNoCode}
 use Rattle.edf_mend.specs.Identification.{code_of, IsCodeAlone, HasDate, codes_of, IsDateAlone}
 use Rattle.edf_mend.specs.Identification.{mark}
-use Rattle.edf_mend.specs.Signal.{SpeaksOfAnnotations, KeepsLine}
-use Rattle.edf_mend.specs.Header.{IsMarked}
+use Rattle.edf_mend.specs.Signal.{SpeaksOfAnnotations}
+use Rattle.edf_mend.specs.Header.{IsMarked, AreParted, dotted, HasDay}
 use Rattle.edf_mend.specs.Changes.{FieldChange, fixed_fields, changes_of_count}
-use Rattle.edf_mend.specs.Body.{RecordReadsAs}
+use Rattle.edf_mend.specs.Body.{record_size, RecordReadsAs}
 use Rattle.edf_mend.specs.Mends.{Mends, ListsHeader}
 use Rattle.edf_mend.specs.declared.wanted.Wanted.{Wanted}
 use Rattle.edf_mend.specs.declared.wanted.Who.TheVariants.{AsNamed, Given, Replaced, Hidden}
 
--- Both fields have a date of their own, and the same codes behind it, but for the mark.
-abbrev pub AreOneBehind : List ℕ → List ℕ → Type 0
-AreOneBehind a b = HasDate a × HasDate b × ((codes_of a ≡ codes_of b)
-    ⊎ ((codes_of a ≡ codes_of b ++ mark ∷ []) ⊎ (codes_of b ≡ codes_of a ++ mark ∷ [])))
+-- The field has a date of its own, and behind it these codes, but for the mark.
+abbrev pub HasCodes : List ℕ → List (List ℕ) → Type 0
+HasCodes field codes = HasDate field
+    × ((codes ≡ codes_of field) ⊎ (codes ≡ codes_of field ++ mark ∷ []))
 
--- Two files name one patient by one code; or neither has a code, both say the same of their
--- patient, and the same of their recording but for its date.
-abbrev pub NameOne : List ℕ → List ℕ → Type 0
-NameOne a b = ((code_of (patient_field a) ≡ code_of (patient_field b))
-    × (¬ IsNoCode (code_of (patient_field a))))
-    ⊎ ((spaced (patient_field a) ≡ spaced (patient_field b))
-    × AreOneBehind (recording_field a) (recording_field b))
+-- A fixed part has the patient's code of a recording; where that is none, it has the patient field
+-- as it stands, and the codes.
+pub record NamesRecording (first : List ℕ) (key : Key) : Type 0 where
+  pub code : patient_code key ≡ code_of (patient_field first)
+  pub nobody : IsNoCode (patient_code key) → (key.patient ≡ spaced (patient_field first))
+      × HasCodes (recording_field first) (subfields key.after)
 
--- **Nobody becomes another**: two files that read as one recording, with no code given, named one
--- patient before.
+-- **Nobody becomes another**: a file that is read as a recording, with no code given, named it
+-- before. So two files of one recording name one patient, or nobody in one way; and a good file has
+-- the fields of its recording as they stand.
 abbrev pub NobodyIsMerged : Type 0
-NobodyIsMerged = (w v : Wanted) (a b : List ℕ) (key : Key) (rs ss : List DataRecord) (m n : ℕ) →
-    w.who ≡ AsNamed → v.who ≡ AsNamed →
-    (x : Mends w a key rs m) → (y : Mends v b key ss n) → NameOne x.first y.first
-
--- **A code stays**: the code of the patient field is the code that is read, where none is given.
-abbrev pub CodeStays : Type 0
-CodeStays = (w : Wanted) (a : List ℕ) (key : Key) (rs : List DataRecord) (n : ℕ) →
-    w.who ≡ AsNamed → (x : Mends w a key rs n) →
-    patient_code key ≡ code_of (patient_field x.first)
+NobodyIsMerged = (w : Wanted) (a : List ℕ) (key : Key) (rs : List DataRecord) (n : ℕ) →
+    w.who ≡ AsNamed → (x : Mends w a key rs n) → NamesRecording x.first key
 
 -- **A code that is given is the one that is read**.
 abbrev pub GivenCodeIsRead : Type 0
@@ -55,8 +49,8 @@ GivenCodeIsRead = (w : Wanted) (code a : List ℕ) (key : Key) (rs : List DataRe
     Mends w a key rs n → patient_code key ≡ code
 
 -- **Nobody is named for others**: where a code stands in place of all that a file says of its
--- patient, its own field has that code alone, and the recording field a date alone: its own, or that
--- of the startdate.
+-- patient, its own field has that code alone, and the recording field a date alone: its own, or
+-- that of the startdate.
 abbrev pub NobodyIsNamed : Type 0
 NobodyIsNamed = (w : Wanted) (code a : List ℕ) (key : Key) (rs : List DataRecord) (n : ℕ) →
     w.who ≡ Hidden code → (x : Mends w a key rs n) → IsCodeAlone code key.patient
@@ -76,33 +70,46 @@ AnnotationsAreNoSamples = (w : Wanted) (a : List ℕ) (key : Key) (rs : List Dat
     × (j < x.header.n)
     × (spaced (label_field (row_at x.second x.header.n j)) ≡ codes "EDF Annotations "))
 
--- **Samples and annotations stay**: the bytes behind the header are whole data records and what is
--- left out. Each is read of its own bytes alone: its samples are those outside of its annotations
+-- A data record is read of its own bytes alone: its samples are those outside of its annotations
 -- blocks, and its annotations those of the blocks, to the nanosecond and in UTF-8.
 abbrev pub IsReadOf : Bool → Layout → List ℕ → DataRecord → Type 0
-IsReadOf timed l piece r = (place : Place) × (nth : ℕ) × (changes : List FieldChange)
-    × RecordReadsAs timed l place nth piece r changes
+IsReadOf timed l piece r = (length piece ≡ record_size timed l) × (place : Place) × (nth : ℕ)
+    × (changes : List FieldChange) × RecordReadsAs timed l place nth piece r changes
 
+-- The first starts at this instant, and each other one as the one before ends.
+abbrev pub StartInTurn : ℕ → ℕ → List DataRecord → Type 0
+StartInTurn start duration [] = Unit {0}
+StartInTurn start duration (r ∷ rs) =
+    (r.start ≡ start) × StartInTurn (start + duration) duration rs
+
+-- **Samples and annotations stay**: the bytes behind the header are whole data records, each of
+-- which is read, and less than one more, which is left out. Where none says when it starts, there
+-- is no gap between them.
 abbrev pub DataRecordsStay : Type 0
 DataRecordsStay = (w : Wanted) (a : List ℕ) (key : Key) (rs : List DataRecord) (n : ℕ) →
-    (x : Mends w a key rs n) → (pieces : List (List ℕ)) × (tail : List ℕ)
-    × (x.body ≡ flat_map (λ piece. piece) pieces ++ tail) × (n ≡ length tail)
-    × AllZip (IsReadOf x.timed (layout_of x.h)) pieces rs
+    (x : Mends w a key rs n) → let l = layout_of x.h in (pieces : List (List ℕ))
+    × (tail : List ℕ) × (x.body ≡ flat_map (λ piece. piece) pieces ++ tail)
+    × (n ≡ length tail) × (n < record_size x.timed l) × AllZip (IsReadOf x.timed l) pieces rs
+    × (x.timed ≡ false → StartInTurn l.start (duration_of l.key.duration) rs)
 
--- **What a sample means stays**: the line of each ordinary signal.
-abbrev pub LinesStay : Type 0
-LinesStay = (w : Wanted) (a : List ℕ) (key : Key) (rs : List DataRecord) (n i : ℕ) →
-    (x : Mends w a key rs n) → i < x.header.n →
-    (¬ IsLabelled (row_at x.header.strict_signals x.h.fixed.signal_count i)) →
-    KeepsLine (row_at x.second x.header.n i)
-    (row_at x.header.strict_signals x.h.fixed.signal_count i)
+-- A file has this startdate, also in another form where its recording field has that day; or a
+-- person gave it.
+abbrev pub HasStartdate : Option (List ℕ) → List ℕ → List ℕ → ℕ → Type 0
+HasStartdate given recording date days = IsDateText date days
+    ⊎ ((HasDay recording (pos days) × IsDateText (dotted date) days)
+    ⊎ IsSomeAnd given (λ day. IsDateText day days))
 
--- **A start stays**: where a file has a startdate and a starttime, it starts then, whatever was
--- given.
+-- A starttime may have other signs than dots.
+abbrev pub HasStarttime : Option (List ℕ) → List ℕ → ℕ → Type 0
+HasStarttime given time seconds = (AreParted time × IsTimeText (dotted time) seconds)
+    ⊎ IsSomeAnd given (λ clock. IsTimeText clock seconds)
+
+-- **A start stays**: a file starts when it says, or when a person says of one that does not.
 abbrev pub StartStays : Type 0
 StartStays = (w : Wanted) (a : List ℕ) (key : Key) (rs : List DataRecord) (n days seconds : ℕ) →
-    (x : Mends w a key rs n) → IsDateText (startdate_field x.first) days →
-    IsTimeText (starttime_field x.first) seconds →
+    (x : Mends w a key rs n) →
+    HasStartdate w.startdate (recording_field x.first) (startdate_field x.first) days →
+    HasStarttime w.starttime (starttime_field x.first) seconds →
     x.h.fixed.start ≡ (days * 86_400 + seconds) * 10 ^ 9
 
 -- **What differs is told**: of two headers that go together, a list has each field that differs, of

@@ -3,7 +3,8 @@ use Rattle.std.specs.Prelude.{◌≡◌, ◌≢◌, ◌⊎◌, ℕ, ◌+◌, ◌
 use Rattle.std.specs.Prelude.{length, drop, slice_index, Bool, true, false, if◌then◌else◌, filter}
 use Rattle.std.specs.Prelude.{codes, All, IsTrue, nat_eq}
 use Rattle.edf_field.specs.Number.{unsigned, digits, after_digits, IsNumber, IsPhysical, field}
-use Rattle.edf_mend.specs.Texts.{numeral, numeral_text, unfilled, spaced, fitted}
+use Rattle.edf_mend.specs.Texts.{numeral, numeral_text, unfilled, spaced, fitted, text_rows}
+use Rattle.edf_mend.specs.Texts.{dimension_rows, spelled_by}
 use Rattle.std.specs.List.{starts_with}
 use Rattle.std.specs.Char.{is_ascii_lowercase}
 use Rattle.std.specs.Str.{str_to_ascii_lowercase}
@@ -11,7 +12,6 @@ use Rattle.edf_field.specs.Text.{spaces, IsPrintable}
 use Rattle.edf_header.specs.Fields.{label_field, physical_minimum_field, physical_maximum_field}
 use Rattle.edf_header.specs.Fields.{digital_minimum_field, digital_maximum_field, samples_field}
 use Rattle.edf_header.specs.Signal.{IsLabelled}
-use Rattle.edf_mend.specs.Texts.{text_rows, dimension_rows, spelled_by}
 
 -- These digits come behind a leading dot or comma, and `after_part` follows them.
 abbrev pub part : List ℕ → List ℕ

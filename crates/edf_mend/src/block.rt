@@ -2,8 +2,9 @@
 //! the nanosecond and in UTF-8 (EDF+, time-stamped annotations lists).
 
 ghost use Rattle.std.specs.Char.{is_ascii_digit};
-ghost use Rattle.std.specs.Prelude.{◌≡◌, ◌↔◌, ◌⊎◌, ◌+◌, ◌^◌, ◌<◌, ◌≤◌, ◌∷◌, ◌++◌, ℕ, List, length, drop, All, true};
-ghost use Rattle.std.specs.Prelude.{IfOk, OnOk, IfSome, IsTrue, string_bytes, encode_utf8_all};
+ghost use Rattle.std.specs.Prelude.{◌≡◌, ◌↔◌, ◌⊎◌, ◌+◌, ◌^◌, ◌<◌, ◌≤◌, ◌∷◌, ◌++◌, ℕ, List, length};
+ghost use Rattle.std.specs.Prelude.{drop, All, true, IfOk, OnOk, IfSome, IsTrue, string_bytes};
+ghost use Rattle.std.specs.Prelude.{encode_utf8_all};
 ghost use Rattle.edf_tal.specs.Tal.{IsText};
 ghost use Rattle.edf_mend.specs.Body.{TimeReadsAs, TimesReadAs, TextReadsAs, PartReadsAs};
 ghost use Rattle.edf_mend.specs.Body.{BlockReadsAs};
@@ -135,8 +136,8 @@ fn push_part(
     }
 }
 
-/// Returns the number of bytes before what fills a block: the byte that ends its last list is one of
-/// them.
+/// Returns the number of bytes before what fills a block: the byte that ends its last list is one
+/// of them.
 fn front_len(block: &[u8]) -> usize
     ensures within { result ≤ length block.now }
     ensures fill { All (λ b. (b ≡ 0) ⊎ (b ≡ 32)) (drop result block.now) }

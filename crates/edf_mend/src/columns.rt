@@ -5,6 +5,7 @@ ghost use Rattle.edf_field.specs.Number.{field};
 ghost use Rattle.edf_header.specs.Signal.{row_at};
 ghost use Rattle.edf_header.specs.declared.limits.TheConstants.{MOST_SIGNALS};
 
+use edf_header::signal_row;
 use std::alloc::{AllocError, Global};
 
 /// Each field of a row begins at its first number and has as many bytes as its second.
@@ -38,31 +39,6 @@ pub(crate) fn field_at(bytes: &[u8], at: usize, width: usize) -> &[u8]
     ensures { result.now ≡ field bytes.now at width }
 {
     &bytes[at..at + width]
-}
-
-/// Returns a field of one of `n` signals from its column.
-fn column(bytes: &[u8], n: usize, i: usize, at: usize, width: usize) -> &[u8]
-    requires size { length bytes.now ≡ 256 * n }
-    requires few { n ≤ MOST_SIGNALS }
-    requires inside { i < n }
-    requires fits { at + width ≤ 256 }
-    ensures { result.now ≡ field bytes.now (n * at + i * width) width }
-{
-    field_at(bytes, offset_of(n, i, at, width), width)
-}
-
-/// Returns one of `n` signals in a row, its fields read from their columns.
-pub(crate) fn row_from(bytes: &[u8], n: usize, i: usize) -> [u8; 256]
-    requires size { length bytes.now ≡ 256 * n }
-    requires few { n ≤ MOST_SIGNALS }
-    requires inside { i < n }
-    ensures { result ≡ row_at bytes.now n i }
-{
-    let mut row = [0; 256];
-    for (at, width) in &ROW {
-        row[*at..*at + *width].copy_from_slice(column(bytes, n, i, *at, *width));
-    }
-    row
 }
 
 /// Returns signals in columns, which lie one after another in rows.
@@ -102,7 +78,7 @@ impl<'a> Headers<'a> {
         requires { i < self.now.n }
         ensures { result ≡ row_at self.now.second.now self.now.n i }
     {
-        row_from(self.second, self.n, i)
+        signal_row(self.second, self.n, i)
     }
 
     /// Returns its good form.
@@ -110,6 +86,6 @@ impl<'a> Headers<'a> {
         requires { i < self.now.n }
         ensures { result ≡ row_at self.now.strict_signals.now self.now.count i }
     {
-        row_from(self.strict_signals, self.count, i)
+        signal_row(self.strict_signals, self.count, i)
     }
 }

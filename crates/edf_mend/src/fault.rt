@@ -23,6 +23,8 @@ pub enum MendFault {
     /// It has this starttime, with dots, and another was given.
     #[error("the file has a starttime")]
     Starttime { own: [u8; 8] },
+    #[error("the patient field has no room for its text")]
+    Patient,
     #[error("the recording field has no room for the word mended")]
     NoRoom,
     #[error("signal {signal}: a text has no room")]

@@ -12,7 +12,7 @@ ghost use Rattle.edf_mend.specs.Header.{KeepsFixed, KeepsRow, AreAsMany, KeepsSi
 ghost use Rattle.edf_mend.specs.Inside.{IsGoodFixed};
 ghost use Rattle.edf_mend.specs.declared.wanted.Who.TheVariants.{AsNamed};
 
-use crate::columns::{Headers, columns, row_from};
+use crate::columns::{Headers, columns};
 use crate::fault::MendFault;
 use crate::patient::{good_patient, is_no_code};
 use crate::recording::{good_recording, stays_behind_date};
@@ -23,7 +23,7 @@ use crate::signal::{
 use crate::start::{good_date, good_time};
 use crate::texts::{first_subfield, is_same, numeral, put, spaced};
 use crate::wanted::{Wanted, Who};
-use edf_header::{HeaderFault, read_fixed};
+use edf_header::{HeaderFault, read_fixed, signal_row};
 use std::alloc::{AllocError, Global};
 
 /// Refuses what is no EDF, as a strict reading does: its version is another, but for zeros that
@@ -213,7 +213,7 @@ fn has_annotations(alloc: Global, second: &[u8], n: usize) -> Result<bool, Alloc
     requires few { n ≤ MOST_SIGNALS }
 {
     for i in 0..n {
-        if was_labelled(alloc, &row_from(second, n, i))? {
+        if was_labelled(alloc, &signal_row(second, n, i))? {
             return Ok(true);
         }
     }
@@ -230,7 +230,7 @@ fn check_plain(alloc: Global, first: &[u8; 256], second: &[u8], n: usize) -> Res
         return Err(MendFault::from(HeaderFault::Annotations));
     }
     for i in 0..n {
-        let row = row_from(second, n, i);
+        let row = signal_row(second, n, i);
         if speaks_of_annotations(alloc, &row[0..16])? {
             return Err(MendFault::from(HeaderFault::Annotations));
         }
@@ -245,7 +245,7 @@ fn good_rows(alloc: Global, second: &[u8], n: usize, timed: bool) -> Result<Vec<
 {
     let mut rows = Vec::new(alloc);
     for i in 0..n {
-        let old = row_from(second, n, i);
+        let old = signal_row(second, n, i);
         let row = good_signal(alloc, &old, i as u32 + 1)?;
         // letters that ASCII lacks may have stood in the word
         if !timed && speaks_of_annotations(alloc, &row[0..16])? {

@@ -1,17 +1,12 @@
 //! What a person who sends a file may rely on, as laws of the definitions.
 
-ghost use Rattle.edf_mend.specs.Laws.{NobodyIsMerged, CodeStays, GivenCodeIsRead, NobodyIsNamed};
-ghost use Rattle.edf_mend.specs.Laws.{AnnotationsAreNoSamples, DataRecordsStay, LinesStay};
-ghost use Rattle.edf_mend.specs.Laws.{StartStays, DifferencesAreListed};
+ghost use Rattle.edf_mend.specs.Laws.{NobodyIsMerged, GivenCodeIsRead, NobodyIsNamed};
+ghost use Rattle.edf_mend.specs.Laws.{AnnotationsAreNoSamples, DataRecordsStay, StartStays};
+ghost use Rattle.edf_mend.specs.Laws.{DifferencesAreListed};
 
-/// Two files that become one recording, with no code given, named one patient.
+/// A file that becomes a recording, with no code given, named its patient, or nobody as it does.
 pub fn nobody_is_merged()
     ensures { NobodyIsMerged }
-{}
-
-/// The code of a good patient field is the code that is read.
-pub fn code_stays()
-    ensures { CodeStays }
 {}
 
 /// A code that was given is the code that is read.
@@ -29,17 +24,12 @@ pub fn annotations_are_no_samples()
     ensures { AnnotationsAreNoSamples }
 {}
 
-/// Samples and annotations of whole data records stay.
+/// Samples and annotations of whole data records stay, and those without a start have no gaps.
 pub fn data_records_stay()
     ensures { DataRecordsStay }
 {}
 
-/// The line from digital to physical values of each signal stays.
-pub fn lines_stay()
-    ensures { LinesStay }
-{}
-
-/// A file that says when it starts does so, whatever was given.
+/// A file starts when it says, or when a person says of one that does not.
 pub fn start_stays()
     ensures { StartStays }
 {}

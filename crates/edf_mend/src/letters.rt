@@ -109,11 +109,7 @@ fn codes_of(alloc: Global, text: &str) -> Result<Vec<u32>, AllocError>
 fn codes_of_bytes(alloc: Global, text: &[u8]) -> Result<Vec<u32>, AllocError>
     ensures { IfOk result (λ r. r.items ≡ text.now) }
 {
-    let mut codes = Vec::new(alloc);
-    for b in text {
-        codes.push(u32::from(*b))?;
-    }
-    Ok(codes)
+    text.iter().map(|b| u32::from(*b)).collect(alloc)
 }
 
 /// Returns the codes of the characters of a text: those of its UTF-8 or, where it is none, its

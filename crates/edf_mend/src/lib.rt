@@ -14,8 +14,8 @@
 //! }
 //! ```
 //!
-//! - [`measure`] reads a file, of which a person says what [`Wanted`] has, and returns the measure of
-//!   its data records.
+//! - [`measure`] reads a file, of which a person says what [`Wanted`] has, and returns the measure
+//!   of its data records.
 //! - [`write_mended`] reads it again and writes the canonical file. It returns what differs in the
 //!   header as [`Change`]s; a [`MendFault`] says why a file is not mended.
 //! - [`laws`] says what a person who sends a file may rely on.

@@ -72,6 +72,13 @@ fn header_size_fits(
     }
 }
 
+/// Is true where so many bytes may be left out.
+fn may_leave_out(wanted: &Wanted, timed: bool, left_out: usize) -> bool
+    ensures { IsTrue result → MayLeaveOut wanted.now timed left_out }
+{
+    timed || wanted.all || left_out == 0
+}
+
 /// Refuses a file of which so many data records were read, and whose count or size is another.
 fn check_body(
     alloc: Global,
@@ -91,7 +98,7 @@ fn check_body(
     if !header_size_fits(alloc, &opened.first, opened.signals, records, left_out)? {
         return Err(MendFault::from(HeaderFault::HeaderBytes));
     }
-    if !timed && !wanted.all && left_out != 0 {
+    if !may_leave_out(wanted, timed, left_out) {
         return Err(MendFault::Refused(FragmentFault::Trailing));
     }
     Ok(())
@@ -115,7 +122,7 @@ fn is_past_count(
 /// Returns the measure of what is read of a file.
 ///
 /// # Errors
-/// The reason why the file is not mended; `Read` where a read failed, `Memory` where memory ran out.
+/// The reason why the file is not mended; `Read` where a read failed, `Memory` where there is none.
 pub fn measure<R: Input>(
     alloc: Global,
     input: &mut R,

@@ -6,8 +6,8 @@ ghost use Rattle.edf_mend.specs.Texts.{numeral, numeral_text};
 ghost use Rattle.edf_mend.specs.Signal.{part, after_part, IsExponent, IsMoved, HasClearComma};
 ghost use Rattle.edf_mend.specs.Signal.{IsClear, IsDecimal, IsMultiple, IsOneNumber, KeepsNumber};
 
-use crate::texts::{fit, numeral, numeral_text, without_sign};
-use edf_field::{physical_values_differ, read_whole, split_digits};
+use crate::texts::{fit, numeral, numeral_text};
+use edf_field::{physical_values_differ, read_whole, split_digits, without_sign};
 use std::alloc::{AllocError, Global};
 
 /// A number: that of its digits, divided by ten so many times.
@@ -191,10 +191,8 @@ fn number_text(
         text.push(b'-')?;
     }
     let digits = number.to_string(alloc)?;
-    let mut padded = Vec::new(alloc);
-    for _ in digits.len()..behind.saturating_add(1) {
-        padded.push(b'0')?;
-    }
+    let zeros = behind.saturating_add(1).saturating_sub(digits.len());
+    let mut padded = vec![in alloc; b'0'; zeros]?;
     padded.extend_from_slice(digits.as_bytes())?;
     let padded = padded.as_slice();
     let (whole, part) = padded.split_at(padded.len().saturating_sub(behind));

@@ -35,7 +35,8 @@ pub(crate) struct Opened {
 
 /// Returns how many signals a header names.
 fn signals_in(alloc: Global, first: &[u8; 256]) -> Result<usize, MendFault>
-    ensures { IfOk result (λ n. IsNumber (numeral (signals_field first.now)) n × (1 ≤ n) × (n ≤ 640)) }
+    ensures { IfOk result (λ n. IsNumber (numeral (signals_field first.now)) n × (1 ≤ n)
+        × (n ≤ 640)) }
 {
     match number_in(alloc, &first[252..256])? {
         Some(n) => {
@@ -172,7 +173,8 @@ pub(crate) fn open<R: Input>(
     input: &mut R,
     wanted: &Wanted,
 ) -> Result<Opened, MendFault>
-    ensures { IfOk result (OpensLeniently wanted.now (R.remaining input.old) (R.remaining input.new)) }
+    ensures { IfOk result
+        (OpensLeniently wanted.now (R.remaining input.old) (R.remaining input.new)) }
 {
     let first = read_first(input)?;
     check_version(alloc, &first)?;

@@ -1,14 +1,13 @@
 //! The patient that a file names: nobody is guessed.
 
-ghost use Rattle.std.specs.Prelude.{◌≡◌, ◌↔◌, ◌∷◌, ◌++◌, [], ◌<◌, IsTrue, IfOk, OnOk, IfSome, codes};
-ghost use Rattle.std.specs.Prelude.{length, MatchOption};
+ghost use Rattle.std.specs.Prelude.{◌≡◌, ◌↔◌, ◌∷◌, ◌++◌, [], ◌<◌, IsTrue, IfOk, OnOk, IfSome};
+ghost use Rattle.std.specs.Prelude.{codes, length, MatchOption};
 ghost use Rattle.edf_field.specs.Text.{subfields, IsSex};
-ghost use Rattle.edf_mend.specs.Texts.{fitted, spaced};
-ghost use Rattle.edf_mend.specs.Texts.{IsNoCode};
+ghost use Rattle.edf_mend.specs.Texts.{fitted, spaced, IsNoCode};
 ghost use Rattle.edf_mend.specs.Identification.{IsPlain, AreNamed, IsNamed, IsRespelled, KeepsName};
 ghost use Rattle.edf_mend.specs.Identification.{GetsCode, IsCodeAlone, KeepsPatient, code_of};
-ghost use Rattle.edf_mend.specs.Identification.{IsNamedBy};
-ghost use Rattle.edf_mend.specs.Identification.{one_subfield, StaysNamed, KeepsCode, StandsBehindCode};
+ghost use Rattle.edf_mend.specs.Identification.{IsNamedBy, names_text, one_subfield, StaysNamed};
+ghost use Rattle.edf_mend.specs.Identification.{KeepsCode, StandsBehindCode};
 
 use crate::fault::MendFault;
 use crate::letters::spelling;
@@ -100,9 +99,21 @@ fn parts_text(
     Ok(text)
 }
 
+/// Returns the names behind a birthdate in ASCII, or X where these are blanks alone.
+fn names_text(alloc: Global, rest: &[u8]) -> Result<Vec<u8>, AllocError>
+    ensures { IfOk result (λ r. r.items ≡ names_text (subfields rest.now)) }
+{
+    let names = joined_by(alloc, b' ', rest)?;
+    let names = spelling(alloc, names.as_slice())?;
+    if next_subfield(names.as_slice()).is_none() {
+        return Vec::from_slice(alloc, b" X".as_slice());
+    }
+    Ok(names)
+}
+
 /// Returns a field with this code, sex and birthdate in capitals, and the rest in ASCII; `None`
-/// where it has no more than two subfields, or no room.
-fn respelled(alloc: Global, code: &[u8], field: &[u8]) -> Result<Option<[u8; 80]>, AllocError>
+/// where it has no more than two subfields.
+fn respelled(alloc: Global, code: &[u8], field: &[u8]) -> Result<Option<[u8; 80]>, MendFault>
     ensures { IfOk result (λ found. IfSome found (IsRespelled code.now field.now)) }
 {
     let spaced_text = spaced(alloc, field)?;
@@ -111,8 +122,7 @@ fn respelled(alloc: Global, code: &[u8], field: &[u8]) -> Result<Option<[u8; 80]
     };
     let sex = in_capitals(alloc, sex)?;
     let birthdate = in_capitals(alloc, birthdate)?;
-    let names = joined_by(alloc, b' ', rest)?;
-    let names = spelling(alloc, names.as_slice())?;
+    let names = names_text(alloc, rest)?;
     let text = parts_text(
         alloc,
         code,
@@ -121,7 +131,7 @@ fn respelled(alloc: Global, code: &[u8], field: &[u8]) -> Result<Option<[u8; 80]
         names.as_slice(),
     )?;
     if text.len() > 80 {
-        return Ok(None);
+        return Err(MendFault::Patient);
     }
     Ok(Some(fitted_80(text.as_slice())))
 }
@@ -135,7 +145,7 @@ fn code_of(alloc: Global, field: &[u8]) -> Result<Vec<u8>, AllocError>
 }
 
 /// Returns a field that is no patient identification as it stands, with its own code.
-fn renamed(alloc: Global, old: &[u8]) -> Result<Option<[u8; 80]>, AllocError>
+fn renamed(alloc: Global, old: &[u8]) -> Result<Option<[u8; 80]>, MendFault>
     requires { ¬ IsPlain old.now }
     ensures { IfOk result (λ found. IfSome found (StaysNamed old.now)) }
 {
@@ -156,7 +166,7 @@ fn renamed(alloc: Global, old: &[u8]) -> Result<Option<[u8; 80]>, AllocError>
 }
 
 /// Returns the field as it names its patient itself, if it does.
-fn own_patient(alloc: Global, old: &[u8]) -> Result<Option<[u8; 80]>, AllocError>
+fn own_patient(alloc: Global, old: &[u8]) -> Result<Option<[u8; 80]>, MendFault>
     requires { length old.now ≡ 80 }
     ensures { IfOk result (λ found. IfSome found (KeepsName old.now)) }
 {
@@ -218,7 +228,7 @@ fn given_patient(alloc: Global, code: &[u8], old: &[u8]) -> Result<[u8; 80], Men
 }
 
 /// Returns a field that names somebody by this code, as it names its patient itself.
-fn same_patient(alloc: Global, code: &[u8], old: &[u8]) -> Result<Option<[u8; 80]>, AllocError>
+fn same_patient(alloc: Global, code: &[u8], old: &[u8]) -> Result<Option<[u8; 80]>, MendFault>
     requires { length old.now ≡ 80 }
     ensures { IfOk result (λ found. IfSome found (KeepsCode code.now old.now)) }
 {

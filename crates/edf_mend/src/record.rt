@@ -15,8 +15,8 @@ use edf_tal::{Place, TalFault, read_blocks};
 use edf_time::Instant;
 use std::alloc::{AllocError, Global};
 
-/// The samples of a data record, and the good form of its blocks: their bytes one after another, the
-/// number of bytes of each, and what differs.
+/// The samples of a data record, and the good form of its blocks: their bytes one after another,
+/// the number of bytes of each, and what differs.
 #[derive(Drop)]
 struct GoodRecord {
     samples: Vec<u8>,

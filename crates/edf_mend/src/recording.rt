@@ -1,7 +1,7 @@
 //! The recording that a file is of.
 
-ghost use Rattle.std.specs.Prelude.{◌≡◌, ◌⊎◌, ◌↔◌, ◌-◌, ◌∷◌, ◌++◌, [], ℕ, List, length, IsTrue};
-ghost use Rattle.std.specs.Prelude.{IfOk, MatchOption, codes, slice_index_or, drop};
+ghost use Rattle.std.specs.Prelude.{◌≡◌, ◌⊎◌, ◌↔◌, ◌-◌, ◌∷◌, ◌++◌, [], length, IsTrue, IfOk};
+ghost use Rattle.std.specs.Prelude.{MatchOption, codes, slice_index_or, drop};
 ghost use Rattle.edf_field.specs.Text.{subfields};
 ghost use Rattle.edf_mend.specs.Texts.{unfilled, spaced, capitals, joined_by, spelling};
 ghost use Rattle.edf_mend.specs.Identification.{IsPlainRecording, AreDated, HasDate, IsRedated};
@@ -106,7 +106,7 @@ fn redated(alloc: Global, old: &[u8]) -> Result<Option<Vec<u8>>, AllocError>
         alloc,
         date.as_slice(),
         spelled.as_slice(),
-        lacking_codes(after),
+        lacking_codes(spelled.as_slice()),
     )?;
     Ok(Some(text))
 }

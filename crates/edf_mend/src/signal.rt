@@ -197,14 +197,11 @@ pub(crate) fn keeps_signal(
 fn small_letters(alloc: Global, label: &[u8]) -> Result<Vec<u8>, AllocError>
     ensures { IfOk result (λ r. r.items ≡ small_letters label.now) }
 {
-    let mut letters = Vec::new(alloc);
-    for b in label {
-        let small = b.to_ascii_lowercase();
-        if small.is_ascii_lowercase() {
-            letters.push(small)?;
-        }
-    }
-    Ok(letters)
+    label
+        .iter()
+        .map(|b| b.to_ascii_lowercase())
+        .filter(|b| b.is_ascii_lowercase())
+        .collect(alloc)
 }
 
 /// Is true where a text has the word in it.

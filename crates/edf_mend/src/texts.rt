@@ -2,14 +2,13 @@
 
 ghost use Rattle.std.specs.Prelude.{◌≡◌, ◌+◌, ◌-◌, ◌↔◌, ◌==◌, ◌||◌, ◌++◌, ◌∷◌, ◌<◌, ◌≤◌, ℕ, length};
 ghost use Rattle.std.specs.Prelude.{IfOk, OnOk, IsTrue, All, MatchOption};
-ghost use Rattle.std.specs.List.{prefix_len};
 ghost use Rattle.std.specs.Str.{str_to_ascii_uppercase};
-ghost use Rattle.edf_field.specs.Number.{IsNumber, unsigned};
+ghost use Rattle.edf_field.specs.Number.{IsNumber};
 ghost use Rattle.edf_field.specs.Text.{IsPrintable, subfields};
 ghost use Rattle.edf_mend.specs.Texts.{fill_len, unfilled, spaced, fitted, numeral, numeral_text};
 ghost use Rattle.edf_mend.specs.Texts.{first_subfield, joined_by, IsDateOrX};
 
-use edf_field::{next_subfield, read_whole};
+use edf_field::{next_subfield, read_whole, spaces_len};
 use edf_time::id_date;
 use std::alloc::{AllocError, Global};
 
@@ -38,18 +37,6 @@ pub(crate) fn unfilled(text: &[u8]) -> &[u8]
     &text[..filled_len(text)]
 }
 
-/// Returns the number of leading spaces.
-fn spaces_len(text: &[u8]) -> usize
-    ensures { result ≡ prefix_len (λ b. b == 32) text.now }
-{
-    for (i, b) in text.iter().enumerate() {
-        if *b != b' ' {
-            return i;
-        }
-    }
-    text.len()
-}
-
 /// Returns a text without its leading spaces and what fills it.
 pub(crate) fn numeral_text(text: &[u8]) -> &[u8]
     ensures { result.now ≡ numeral_text text.now }
@@ -57,17 +44,6 @@ pub(crate) fn numeral_text(text: &[u8]) -> &[u8]
     let text = unfilled(text);
     let (_, number) = text.split_at(spaces_len(text));
     number
-}
-
-/// Returns the text without its leading sign, or all of it where it has none.
-pub(crate) fn without_sign(text: &[u8]) -> &[u8]
-    ensures value { result.now ≡ unsigned text.now }
-    ensures len { length result.now ≤ length text.now }
-{
-    match text {
-        [b'+' | b'-', rest @ ..] => rest,
-        _ => text,
-    }
 }
 
 /// Is true where two texts are the same.

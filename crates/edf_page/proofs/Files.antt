@@ -137,7 +137,8 @@ written-of asked given own bytes text made out err same read done is = record {
 module _ (out err : OutputChange) (file text name : List ℕ) (from : out.before ≡ Some [])
     (to : out.after ≡ Some text) where
   of_one : (mid mid_err : Held) (one : Status) → held_after out ≡ mid → one ≡ Done →
-      IsFileListed (between (held_before out) mid) (between (held_before err) mid_err) (Some file) []
+      IsFileListed (between (held_before out) mid) (between (held_before err) mid_err) (Some file)
+      []
       name one → ListsFile file text
   of_one mid mid_err one same done (inl (told, silent, is)) = record {
     listing = told.listing;

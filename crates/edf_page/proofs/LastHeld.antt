@@ -1,5 +1,6 @@
 -- What whole files of a name held, where others are begun, ended or removed.
-use Rattle.std.proofs.Common.{◌≡◌, ℕ, zero, suc, ◌<◌, List, [], ◌∷◌, ◌++◌, length, set, get_or, refl, sym}
+use Rattle.std.proofs.Common.{◌≡◌, ℕ, zero, suc, ◌<◌, List, [], ◌∷◌, ◌++◌, length, set, get_or}
+use Rattle.std.proofs.Common.{refl, sym}
 use Rattle.std.proofs.Common.{Bool, true, false, ◌&&◌, if◌then◌else◌, Option, ap, ◌∙◌, arith}
 use Rattle.std.specs.Prelude.{bytes_eq}
 use Rattle.edf_cli.specs.Made.{MadeFile, begun, finished, removed}
@@ -40,4 +41,5 @@ pub held-begun : (files files' : List MadeFile) (begins : List ℕ) →
     files' ≡ files ++ (begun begins ∷ []) → (name : List ℕ) (other : Option (List ℕ)) →
     last_held files' name other ≡ last_held files name other
 held-begun files files' begins grown name other =
-    ap (λ (l : List MadeFile). last_held l name other) grown ∙ held-last files (begun begins) name other
+    ap (λ (l : List MadeFile). last_held l name other) grown ∙ held-last files (begun begins) name
+    other

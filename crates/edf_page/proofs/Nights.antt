@@ -356,7 +356,8 @@ take-writes-lines old new out err bytes names files lines-of tolds text status h
     ∙ ap (λ (c : ℕ). replies c nothing_held tolds) has.cap_is) in
     let rs' = replies MOST_RECORDS nothing_held tolds in
     let told-lines : lines-of ≡ lines_by one_spelling names t.answers =
-    are.each one_spelling one_spelling-is ∙ by-replies one_spelling names are.answers rs' are.answered
+    are.each one_spelling one_spelling-is ∙ by-replies one_spelling names are.answers rs'
+    are.answered
     ∙ sym (by-replies one_spelling names t.answers rs' replied) in
     gets-whole out text _ from.empty from.is whole.0
     ∙ ap (take_lines one_spelling names) (take_all (length t.answers) t.answers (omega arith))

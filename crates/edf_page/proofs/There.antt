@@ -1,6 +1,7 @@
 -- What is there of names in a folder in memory, where files are begun, ended or removed.
 use Rattle.std.proofs.Common.{◌≡◌, ◌≢◌, ℕ, List, [], ◌∷◌, ◌++◌, Bool, true, false, ◌||◌, ◌&&◌, not}
-use Rattle.std.proofs.Common.{if◌then◌else◌, Option, Some, None, Ok, Err, inl, inr, refl, sym, subst}
+use Rattle.std.proofs.Common.{if◌then◌else◌, Option, Some, None, Ok, Err, inl, inr, refl, sym}
+use Rattle.std.proofs.Common.{subst}
 use Rattle.std.proofs.Common.{ap, ◌∙◌, ◌⊎◌}
 use Rattle.std.specs.Prelude.{String, bytes_eq}
 use Rattle.std.specs.Bool.{MatchBool, Decides}
@@ -91,7 +92,8 @@ module _ (own bytes : List ℕ) where
     pub failed-there : (stage : FileStage) (held : Option (List ℕ)) (reason : Option Unfinished)
         (why : Unfinished) → (why ≡ IsThere → is_among names name ≡ true) →
         IsNamed (there_in own bytes names (files ++ (begun name ∷ [])))
-        (there_in own bytes names (files ++ (made_file name stage false held reason ∷ []))) name held
+        (there_in own bytes names (files ++ (made_file name stage false held reason ∷ []))) name
+        held
         (Err why)
     failed-there stage held reason why there =
         let same = same-there names (files ++ (begun name ∷ []))
@@ -143,7 +145,8 @@ module _ (own bytes : List ℕ) where
             (fewer other ∙ ap (λ (b : Bool). not b && is_among names other)
             (no (bytes_eq other name) (bytes_eq-Decides other name) (λ e. differs (e ∙ is))))
             (held-removed front later file other);
-        gone = λ has gone. ap (λ (b : Bool). Some (found b (last_held (front ++ (removed file ∷ later))
+        gone = λ has gone. ap (λ (b : Bool). Some (found b (last_held (front ++ (removed file ∷
+            later))
             file.name (if bytes_eq own file.name then Some bytes else None))))
             (fewer file.name ∙ ap (λ (b : Bool). not b && is_among names file.name)
             ((bytes_eq-Decides file.name name).1 (sym is)));
@@ -197,8 +200,10 @@ module _ (own held own' held' : List ℕ) (names names' : List (String Global))
         unforgotten b files ≡ front ++ (begun name ∷ []) →
         (files ≡ front ++ (begun name ∷ []) → files' ≡ front ++ (finished name (Some bytes) ∷ [])) →
         (files ≡ front ++ (begun name ∷ []) → (is_among names name ≡ false)
-        × ((other : List ℕ) → is_among names' other ≡ (is_among names other || bytes_eq name other))) →
-        IsNamed (there_in own held names files) (there_in own' held' names' files') name (Some bytes)
+        × ((other : List ℕ) → is_among names' other ≡ (is_among names other || bytes_eq name
+        other))) →
+        IsNamed (there_in own held names files) (there_in own' held' names' files') name (Some
+        bytes)
         (Ok count)
     ended front name bytes count now ends more =
         let here = unforgotten-all b files front [] (begun name) now in

@@ -1,7 +1,7 @@
 -- What is there in a folder in memory: names of which there is something, and the files that were
 -- begun.
 use Rattle.std.specs.Prelude.{ℕ, List, [], ◌∷◌, Bool, true, false, ◌&&◌, if◌then◌else◌}
-use Rattle.std.specs.Prelude.{Option, Some, None, String, string_bytes, bytes_eq}
+use Rattle.std.specs.Prelude.{Option, Some, None, String, string_bytes, bytes_eq, codes}
 use Rattle.std.specs.Global.{Global}
 use Rattle.std.specs.List.{list_any}
 use Rattle.edf_cli.specs.Made.{MadeFile}
@@ -22,6 +22,17 @@ abbrev pub there_in : List ℕ → List ℕ → List (String Global) → List Ma
 there_in own bytes names files name = Some (if is_among names name
     then Some (last_held files name (if bytes_eq own name then Some bytes else None))
     else None)
+
+-- what lines call the first of two files, and the second
+abbrev pub first_name : List ℕ
+first_name = codes "first"
+
+abbrev pub second_name : List ℕ
+second_name = codes "second"
+
+-- both of them, by their names
+abbrev pub two_files : List ℕ → List ℕ → List ℕ → Option (List ℕ)
+two_files first second name = Some (if bytes_eq first_name name then first else second)
 
 -- the files that were begun, but for those that were forgotten
 abbrev pub unforgotten : Bool → List MadeFile → List MadeFile

@@ -16,6 +16,8 @@ use Rattle.edfmend_command.specs.Run.{IsMendDone}
 use Rattle.edfmend_command.specs.Run as mend
 use Rattle.edfmend_command.specs.Words.{Values, Mean, MeanNothing}
 use Rattle.edfruns_command.specs.Run.{Asked, IsDone, HasMade}
+use Rattle.edfruns_command.specs.Run.Asked.{compare}
+use Rattle.edf_page.specs.InsideFolder.{first_name, second_name, two_files}
 use Rattle.edf_page.specs.declared.begun.BegunFile.{BegunFile}
 use Rattle.edf_page.specs.declared.begun.NamedFile.{NamedFile}
 use Rattle.edf_page.specs.declared.programs.Ran.{Ran}
@@ -89,6 +91,18 @@ pub record RunsDone (name bytes : List ℕ) (asked : Asked) (ran : Ran) : Type 0
   pub unfailed : NoneFailed made out err
   pub written : IsText out ran.out.items
   pub told : IsText err ran.err.items
+
+-- what `edfruns compare` does with these two, and it makes no file
+pub record CompareDone (first second : List ℕ) (ran : Ran) : Type 0 where
+  pub made : Making
+  pub out : OutputChange
+  pub err : OutputChange
+  pub done : IsDone (two_files first second) made out err (compare first_name second_name)
+      ran.status
+  pub unfailed : (out.failed_after ≡ 0) × (err.failed_after ≡ 0)
+  pub written : IsText out ran.out.items
+  pub told : IsText err ran.err.items
+  pub none : ran.files.items ≡ []
 
 -- what `edfmend` does so
 pub record MendDone (name bytes : List ℕ) (asked : mend.Asked) (ran : Ran) : Type 0 where

@@ -6,6 +6,7 @@
 //!   EDF+D file, the lines of `edfruns list` and its picture ([`GivenNight`], [`Recording`]).
 //! - [`run_edfruns`], [`run_edfmend`]: what these programs do with one file where this is asked
 //!   for: what they write, and the files that they make ([`Ran`], [`NamedFile`]).
+//! - [`run_compare`]: what `edfruns compare` says of two files.
 //! - [`GivenFile`]: a file, by its name and its bytes.
 //! - [`Stopped`]: why nothing is given.
 //! - [`laws`]: what comes of files is one thing, but for pictures, and is what the programs say.
@@ -26,5 +27,5 @@ mod text;
 pub use begun::NamedFile;
 pub use given::GivenFile;
 pub use night::{GivenNight, Recording, give_night};
-pub use programs::{Ran, run_edfmend, run_edfruns};
+pub use programs::{Ran, run_compare, run_edfmend, run_edfruns};
 pub use stopped::Stopped;

@@ -1,13 +1,15 @@
-//! The programs of files, over one file and in memory.
+//! The programs of files, over one file or two, and in memory.
 
 ghost use Rattle.std.specs.Prelude.{◌≡◌, true, IfOk, MatchResult};
+ghost use Rattle.edfruns_command.specs.Run.Asked.{compare};
 ghost use Rattle.edfmend_command.specs.Run.{meaning as mend_meaning};
 ghost use Rattle.edfruns_command.specs.Run.{meaning};
-ghost use Rattle.edf_page.specs.Programs.{RunsDone, MendDone, TellsUsage, IsMendRan};
+ghost use Rattle.edf_page.specs.InsideFolder.{first_name, second_name};
+ghost use Rattle.edf_page.specs.Programs.{RunsDone, CompareDone, MendDone, TellsUsage, IsMendRan};
 
 use crate::begun::NamedFile;
 use crate::folder::Folder;
-use crate::given::{GivenFile, OneFile};
+use crate::given::{FIRST, GivenFile, OneFile, TwoFiles};
 use crate::text::Text;
 use edf_cli::{CommandFault, Status, print_fault};
 use edfmend_command::{MendCommand, MendValues, command_of, run_mend};
@@ -64,6 +66,47 @@ pub fn run_edfruns(
         out: out.bytes,
         err: err.bytes,
         files,
+    })
+}
+
+/// What compares two files.
+fn comparison(alloc: Global) -> Result<RunsCommand, AllocError>
+    ensures { IfOk result (λ c. meaning c ≡ compare first_name second_name) }
+{
+    Ok(RunsCommand::Compare {
+        file: String::from_str(alloc, FIRST)?,
+        other: String::from_str(alloc, "second")?,
+    })
+}
+
+/// What `edfruns compare` answers of two files: what the first has of the second. Lines call them
+/// `first` and `second`.
+///
+/// # Errors
+/// Where memory ran out.
+pub fn run_compare(alloc: Global, first: &[u8], second: &[u8]) -> Result<Ran, AllocError>
+    ensures { IfOk result (CompareDone first.now second.now) }
+{
+    let command = comparison(alloc)?;
+    let mut out = Text::new(alloc);
+    let mut err = Text::new(alloc);
+    let mut inputs = TwoFiles::new(alloc, first, second);
+    let mut none = Folder::new(
+        alloc,
+        &GivenFile {
+            name: FIRST,
+            bytes: first,
+        },
+    )?;
+    let status = run_runs(alloc, &command, &mut inputs, &mut none, &mut out, &mut err);
+    if !are_whole(&out, &err, &none) {
+        return Err(AllocError);
+    }
+    Ok(Ran {
+        status,
+        out: out.bytes,
+        err: err.bytes,
+        files: Vec::new(alloc),
     })
 }
 

@@ -1,5 +1,6 @@
 -- Seven texts are values.
-use Rattle.std.proofs.Common.{◌≡◌, ℕ, ◌<◌, ◌≤◌, List, [], ◌∷◌, length, map, get_or, refl, arith, Bor}
+use Rattle.std.proofs.Common.{◌≡◌, ℕ, ◌<◌, ◌≤◌, List, [], ◌∷◌, length, map, get_or, refl, arith}
+use Rattle.std.proofs.Common.{Bor}
 use Rattle.std.proofs.Common.{Bool, Option, Some, ap, sym, ◌∙◌, ◌==◌}
 use Rattle.std.specs.Prelude.{is_none, not}
 use Rattle.std.proofs.lemmas.Bool.{ne_eqb}
@@ -57,6 +58,7 @@ pub made-values : (name : List ℕ) (texts : List (Bor (List ℕ))) (d : Bor (Li
     none ≡ (length (text texts 6 d) == 0) →
     Some (built name out patient set hidden date time dry (not none))
     ≡ values_of name (map (λ t. t.now) texts)
-made-values name texts d least most out patient set hidden date time dry none e0 e1 e2 e3 e4 e5 e f =
+made-values name texts d least most out patient set hidden date time dry none e0 e1 e2 e3 e4 e5 e f
+    =
     rw (e0, e1, e2, e3, e4, e5, e, f, empty (text texts 0 d), empty (text texts 6 d))
     (sym (of-seven name texts d least most))

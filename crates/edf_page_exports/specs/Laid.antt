@@ -4,7 +4,7 @@ use Rattle.std.specs.Prelude.{All, Some, map, take, drop}
 use Rattle.std.specs.List.{flat_map}
 use Rattle.std.specs.Str.{IsUtf8}
 use Rattle.edf_page.specs.Night.{IsNight, pieces_of, stopped_line}
-use Rattle.edf_page.specs.Programs.{RunsDone, IsMendRan, pieces_of_ran}
+use Rattle.edf_page.specs.Programs.{RunsDone, CompareDone, IsMendRan, pieces_of_ran}
 use Rattle.edf_page.specs.declared.night.GivenNight.{GivenNight}
 use Rattle.edf_page.specs.declared.programs.Ran.{Ran}
 use Rattle.edf_page.specs.declared.stopped.Stopped.{Stopped}
@@ -63,7 +63,8 @@ module _ (out out' parts parts' : List ℕ) where
   abbrev pub IsAnswer : (IsCall : Type 0) → (List (List ℕ) → Type 0) → (Stopped → Type 0) → ℕ →
       Type 0
   IsAnswer IsCall Come MayStop answer =
-      ((answer ≡ 0) × (2 ≤ length parts) × ((pieces : List (List ℕ)) × Come pieces × AreLaid pieces))
+      ((answer ≡ 0) × (2 ≤ length parts) × ((pieces : List (List ℕ)) × Come pieces × AreLaid
+      pieces))
       ⊎ (((answer ≡ 1) × (2 ≤ length parts)
       × ((pieces : List (List ℕ)) × Come pieces × HaveNoRoom pieces))
       ⊎ (((answer ≡ 2) × (2 ≤ length parts)
@@ -107,12 +108,18 @@ abbrev pub LieRuns : (which : ℕ) → (prefix name : List ℕ) → Type 0
 LieRuns which prefix name = Asks which × IsUtf8 prefix × IsUtf8 name
 
 -- the pieces of what `edfruns` does by this number with a file
-pub record ComeOfRuns (which : ℕ) (prefix name bytes : List ℕ) (pieces : List (List ℕ)) : Type 0
-  where
-    pub lie : LieRuns which prefix name
-    pub ran : Ran
-    pub is_ran : RunsDone name bytes (asked_by which name prefix) ran
-    pub are_pieces : pieces ≡ pieces_of_ran ran
+pub record ComeOfRuns (which from to : ℕ) (prefix name bytes : List ℕ) (pieces : List (List ℕ)) :
+    Type 0 where
+  pub lie : LieRuns which prefix name
+  pub ran : Ran
+  pub is_ran : RunsDone name bytes (asked_by which name prefix from to) ran
+  pub are_pieces : pieces ≡ pieces_of_ran ran
+
+-- the pieces of what `edfruns compare` does with two files
+pub record ComeOfCompare (first second : List ℕ) (pieces : List (List ℕ)) : Type 0 where
+  pub ran : Ran
+  pub is_ran : CompareDone first second ran
+  pub are_pieces : pieces ≡ pieces_of_ran ran
 
 -- values for `edfmend` lie there, and the name of its file is a text
 pub record AreValues (texts sizes name : List ℕ) (values : Values) : Type 0 where

@@ -4,16 +4,23 @@ ghost use Rattle.std.specs.Prelude.{◌≡◌, [], IfOk, map, option_map};
 ghost use Rattle.edfruns_command.specs.Run.{meaning};
 ghost use Rattle.edf_page_exports.specs.Asked.{Asks, asked_by, value_of, values_of};
 
+use edf_runs::FillLimits;
 use edfmend_command::MendValues;
 use edfruns_command::RunsCommand;
 use std::alloc::{AllocError, Global};
 
 /// The greatest number that asks `edfruns` for something.
-pub(crate) const MOST: u32 = 3;
+pub(crate) const MOST: u32 = 5;
+
+/// What `fill` has without options: gaps of 24 hours, and moves of half a second.
+const LIMITS: FillLimits = FillLimits {
+    longest_gap: 86_400_000_000_000,
+    moved: 500_000_000,
+};
 
 /// The list of a file.
 fn list_of(alloc: Global, name: &str) -> Result<RunsCommand, AllocError>
-    ensures { IfOk result (λ command. meaning command ≡ asked_by 0 name.now []) }
+    ensures { IfOk result (λ command. meaning command ≡ asked_by 0 name.now [] 0 0) }
 {
     let mut files = Vec::new(alloc);
     files.push(String::from_str(alloc, name)?)?;
@@ -26,9 +33,11 @@ pub(crate) fn command_by(
     which: u32,
     name: &str,
     prefix: &str,
+    time: (u64, u64),
 ) -> Result<RunsCommand, AllocError>
     requires { Asks which }
-    ensures { IfOk result (λ command. meaning command ≡ asked_by which name.now prefix.now) }
+    ensures { IfOk result (λ command.
+        meaning command ≡ asked_by which name.now prefix.now time.0 time.1) }
 {
     let file = String::from_str(alloc, name)?;
     match which {
@@ -41,9 +50,18 @@ pub(crate) fn command_by(
             file,
             has_code: false,
         }),
-        _ => Ok(RunsCommand::Split {
+        3 => Ok(RunsCommand::Split {
             file,
             prefix: String::from_str(alloc, prefix)?,
+        }),
+        4 => Ok(RunsCommand::Fill {
+            file,
+            limits: LIMITS,
+        }),
+        _ => Ok(RunsCommand::Cut {
+            file,
+            from: time.0,
+            to: time.1,
         }),
     }
 }

@@ -3,6 +3,7 @@
 //!
 //! - [`page_night`]: what comes of files.
 //! - [`page_runs`], [`page_mend`]: what `edfruns` and `edfmend` do with one file.
+//! - [`page_compare`]: what `edfruns compare` says of two files.
 //!
 //! They answer 0 to 3, and what they give is laid in `out`, piece after piece:
 //!
@@ -23,6 +24,7 @@ ghost use Rattle.edf_page.specs.Programs.{RunsDone, pieces_of_ran};
 ghost use Rattle.edf_page_exports.specs.Asked.{Asks, asked_by};
 ghost use Rattle.edf_page_exports.specs.Laid.{IsAnswer, LieFiles, ComeOfFiles, AnyStop, IsMemory};
 ghost use Rattle.edf_page_exports.specs.Laid.{LieRuns, ComeOfRuns, LieValues, ComeOfValues};
+ghost use Rattle.edf_page_exports.specs.Laid.{ComeOfCompare};
 ghost use Rattle.edf_page_exports.specs.Laid.{AreLaid, HaveNoRoom, TellsWhy};
 
 mod asked;
@@ -34,7 +36,7 @@ mod pieces;
 mod tests;
 
 use asked::{MOST, command_by, values_of};
-use edf_page::{GivenFile, Ran, Stopped, give_night, run_edfmend, run_edfruns};
+use edf_page::{GivenFile, Ran, Stopped, give_night, run_compare, run_edfmend, run_edfruns};
 use given::{files_in, texts_in};
 use laying::{NO_CALL, give, print_text, refuse};
 use pieces::{pieces_of_night, pieces_of_ran};
@@ -96,18 +98,25 @@ fn give_ran(alloc: Global, ran: &Result<Ran, AllocError>, out: &mut [u8], parts:
 }
 
 /// What `edfruns` does by this number.
-fn runs_by(alloc: Global, which: u32, prefix: &str, file: &GivenFile<'_>) -> Result<Ran, AllocError>
+fn runs_by(
+    alloc: Global,
+    which: u32,
+    time: (u64, u64),
+    prefix: &str,
+    file: &GivenFile<'_>,
+) -> Result<Ran, AllocError>
     requires { Asks which }
     ensures { IfOk result (RunsDone file.now.name.now file.now.bytes.now
-        (asked_by which file.now.name.now prefix.now)) }
+        (asked_by which file.now.name.now prefix.now time.0 time.1)) }
 {
-    let command = command_by(alloc, which, file.name, prefix)?;
+    let command = command_by(alloc, which, file.name, prefix, time)?;
     run_edfruns(alloc, &command, file)
 }
 
 /// What `edfruns` does by this number with one file, whose name is IN: 0 is `list IN`, 1
-/// `canonical --by-onset IN`, 2 `picture --without-code IN` and 3 `split IN PREFIX`. The first
-/// three have no use for `prefix`.
+/// `canonical --by-onset IN`, 2 `picture --without-code IN`, 3 `split IN PREFIX`, 4 `fill IN` and 5
+/// `cut IN` between both instants, in nanoseconds from 1985. 3 alone has a use for `prefix`, and 5
+/// for `from` and `to`.
 ///
 /// The pieces are: the number of the program's status, in one byte; what it wrote to standard
 /// output; what it wrote to standard error; and for each file that it made and that is there, in
@@ -116,6 +125,8 @@ fn runs_by(alloc: Global, which: u32, prefix: &str, file: &GivenFile<'_>) -> Res
 pub extern "C" fn page_runs(
     alloc: Global,
     which: u32,
+    from: u64,
+    to: u64,
     prefix: &[u8],
     name: &[u8],
     bytes: &[u8],
@@ -124,7 +135,7 @@ pub extern "C" fn page_runs(
 ) -> u32
     ensures { IsAnswer out.old out.new parts.old parts.new
         (LieRuns which prefix.now name.now)
-        (ComeOfRuns which prefix.now name.now bytes.now) IsMemory result }
+        (ComeOfRuns which from to prefix.now name.now bytes.now) IsMemory result }
 {
     if parts.len() < 2 || which > MOST {
         return NO_CALL;
@@ -136,16 +147,36 @@ pub extern "C" fn page_runs(
         return NO_CALL;
     };
     let file = GivenFile { name, bytes };
-    let ran = runs_by(alloc, which, prefix, &file);
+    let ran = runs_by(alloc, which, (from, to), prefix, &file);
+    give_ran(alloc, &ran, out, parts)
+}
+
+/// What `edfruns compare` says of two files: what the first has of the second. The pieces are as
+/// those of [`page_runs`]; lines call the files `first` and `second`.
+#[unsafe(no_mangle)]
+pub extern "C" fn page_compare(
+    alloc: Global,
+    first: &[u8],
+    second: &[u8],
+    out: &mut [u8],
+    parts: &mut [u64],
+) -> u32
+    ensures { IsAnswer out.old out.new parts.old parts.new (Unit {0})
+        (ComeOfCompare first.now second.now) IsMemory result }
+{
+    if parts.len() < 2 {
+        return NO_CALL;
+    }
+    let ran = run_compare(alloc, first, second);
     give_ran(alloc, &ran, out, parts)
 }
 
 /// What `edfmend` does with one file, whose name is IN.
 ///
 /// `values` has just seven texts one after another, in UTF-8, and `value_sizes` how many bytes each
-/// has: OUT, and what `--patient`, `--set-patient`, `--deidentify`, `--startdate`, `--starttime`
-/// and `--as` have. An empty one is none; without OUT it is `--dry-run`. The pieces are as those of
-/// [`page_runs`].
+/// has: OUT, what `--patient`, `--set-patient`, `--deidentify`, `--startdate` and `--starttime`
+/// have, and any text for `--all`. An empty one is none; without OUT it is `--dry-run`. The pieces
+/// are as those of [`page_runs`].
 #[unsafe(no_mangle)]
 pub extern "C" fn page_mend(
     alloc: Global,

@@ -1,6 +1,6 @@
 //! Calls over small files. What comes of them is what the documents say of these files.
 
-use crate::{page_mend, page_night, page_runs};
+use crate::{page_compare, page_mend, page_night, page_runs};
 use edf_sample::named::{file_k, file_n1, file_n2, file_n3, file_p5, file_q, file_u};
 use edf_sample::patched;
 use std::alloc::{AllocError, Global};
@@ -9,6 +9,16 @@ use std::alloc::{AllocError, Global};
 const RUNS: &[u8] = b"\
 1 records=1 first=2002-03-02T23:59:50 seconds=1 gap=14
 2 records=1 first=2002-03-03T00:00:05 seconds=1
+";
+
+/// The start of file P5, 2002-03-03T00:00:05, in nanoseconds from 1985.
+const FROM: u64 = (6270 * 86_400 + 5) * 1_000_000_000;
+
+/// What `fill` says of file P5, and `compare` where both files are it.
+const FILLED: &[u8] = b"run-1.edf records=1 flat=0 gaps=0 closed=0 moved=0\n";
+
+const KNOWN: &[u8] = b"\
+known records=1 from=2002-03-03T00:00:05 to=2002-03-03T00:00:06
 ";
 
 /// The line of that recording.
@@ -94,7 +104,7 @@ fn night(
     Ok(Answered { status, out, parts })
 }
 
-/// What `edfruns` does with file P5 by this number.
+/// What `edfruns` does with file P5 by this number, from its start on.
 fn runs(alloc: Global, which: u32, prefix: &[u8]) -> Result<Answered, AllocError> {
     let file = file_p5(alloc)?;
     let mut out = vec![in alloc; 7u8; 40000]?;
@@ -102,12 +112,24 @@ fn runs(alloc: Global, which: u32, prefix: &[u8]) -> Result<Answered, AllocError
     let status = page_runs(
         alloc,
         which,
+        FROM,
+        FROM + 1,
         prefix,
         b"run-1.edf",
         file.as_slice(),
         out.as_mut_slice(),
         parts.as_mut_slice(),
     );
+    Ok(Answered { status, out, parts })
+}
+
+/// What `edfruns compare` says of file P5 and this one.
+fn compare(alloc: Global, other: &[u8]) -> Result<Answered, AllocError> {
+    let file = file_p5(alloc)?;
+    let mut out = vec![in alloc; 7u8; 400]?;
+    let mut parts = vec![in alloc; 7u64; 4]?;
+    let (room, places) = (out.as_mut_slice(), parts.as_mut_slice());
+    let status = page_compare(alloc, file.as_slice(), other, room, places);
     Ok(Answered { status, out, parts })
 }
 
@@ -266,7 +288,7 @@ fn what_is_no_call_is_answered_so(rt: HostRuntime) -> Result<(), AllocError> {
     let alloc = rt.alloc();
     assert_eq!(rt; night(alloc, &[b"a"], &[], 9, 9)?.status, 3);
     assert_eq!(rt; night(alloc, &[b"\xff"], &[b""], 9, 9)?.status, 3);
-    assert_eq!(rt; runs(alloc, 4, b"")?.status, 3);
+    assert_eq!(rt; runs(alloc, 6, b"")?.status, 3);
     assert_eq!(rt; mend(alloc, &[b""])?.status, 3);
     assert!(rt; night(alloc, &[], &[], 9, 9)?.gives(1, &[]));
     Ok(())
@@ -283,6 +305,19 @@ fn runs_are_what_a_number_asks_for(rt: HostRuntime) -> Result<(), AllocError> {
     let picture = runs(rt.alloc(), 2, b"")?;
     assert!(rt; picture.gives(3, &[(0, b"\0")]));
     assert!(rt; !has(picture.piece(1).unwrap_or(b"P7"), b"P7"));
+    Ok(())
+}
+
+#[test]
+fn a_file_is_filled_cut_and_compared(rt: HostRuntime) -> Result<(), AllocError> {
+    let alloc = rt.alloc();
+    let file = file_p5(alloc)?;
+    assert!(rt; runs(alloc, 4, b"")?.gives(3, &[(0, b"\0"), (2, FILLED)]));
+    let whole = night(alloc, &[b"p5"], &[file.as_slice()], 40000, 9)?;
+    let exact = whole.piece(2).unwrap_or(b"");
+    assert!(rt; runs(alloc, 5, b"")?.gives(3, &[(0, b"\0"), (1, exact), (2, b"")]));
+    assert!(rt; compare(alloc, file.as_slice())?.gives(3, &[(0, b"\0"), (1, KNOWN), (2, b"")]));
+    assert!(rt; compare(alloc, b"no file")?.gives(3, &[(0, b"\x01"), (1, b"")]));
     Ok(())
 }
 

@@ -1,23 +1,16 @@
 -- Annotations that lie in a data record, of those that lie in any.
 use Rattle.std.proofs.Common.{◌≡◌, ℕ, ◌+◌, ◌≤◌, ◌<◌, List, [], ◌∷◌, All, refl, sym, ap, ◌∙◌, arith}
-use Rattle.std.proofs.Common.{inl, inr, map}
-use Rattle.std.specs.Prelude.{Bool, true, false, not, ◌&&◌, ◌||◌, nat_le, nat_lt, filter, cond}
-use Rattle.std.specs.Prelude.{count_by, sum_by}
+use Rattle.std.proofs.Common.{inl, inr}
+use Rattle.std.specs.Prelude.{Bool, true, false, ◌&&◌, ◌||◌, nat_le, nat_lt, filter}
 use Rattle.std.proofs.lemmas.Bool.{le-leb, lt-leb, lt-ltb, le-ltb, and_left, and_right, and_from}
 use Rattle.std.proofs.lemmas.Bool.{cases_lt}
-use Rattle.std.proofs.lemmas.List.Elements.{All-nil, All-cons, All-weaker, filter_agree}
-use Rattle.std.proofs.lemmas.List.Elements.{filter_passes}
-use Rattle.std.proofs.lemmas.List.Sums.{sum_by-cons, sum_by-append}
+use Rattle.std.proofs.lemmas.List.Elements.{All-nil, All-cons, filter_agree}
 use Rattle.edf_tal.specs.Tal.{Annotation}
 use Rattle.edf_fragment.specs.Fragment.{DataRecord}
-use Rattle.edf_runs.specs.ByOnset.{annotations_of, is_before, is_between, assigned, each_assigned}
+use Rattle.edf_runs.specs.ByOnset.{is_before, is_between, assigned, each_assigned}
 use Rattle.edf_runs.specs.ByOnset.{all_assigned}
-use Rattle.edf_runs.specs.Counted.{is_outside}
-use Rattle.edf_runs.specs.Inside.Measuring.{outside_here}
 use Rattle.edf_runs.specs.Inside.Spaced.{Spaced}
 use Rattle.edf_runs.specs.OneByOnset.{lies_in}
-use Rattle.edf_runs.specs.OnsetRead.{without_samples}
-use Rattle.edf_runs.proofs.Filtered.{counted-alike}
 use Rattle.edf_runs.proofs.Members.{filter-both}
 
 -- an instant lies in a data record that starts then
@@ -144,83 +137,4 @@ module _ (q : ℕ → Bool) (d : ℕ) (all : List Annotation) where
       All-cons HasOwn (assigned lying 0 r rs) (each_assigned lying rs)
       (one-own 0 r rs (omega arith) spaced.1 left)
       (each-own (r.start + d) rs spaced.1
-      (left-of-later q d 0 r (r.start + d) rs (omega arith) (omega arith) left))
-
--- ---- those that lie in none are counted data record by data record
-
-not-lying : (d start instant : ℕ) →
-    not (lies_here d start instant) ≡ (nat_lt instant start || nat_le (start + d) instant)
-not-lying d start instant = elim (cases_lt instant start) [
-  | inl lt ↦
-      ap not (and_left (nat_le start instant) (nat_lt instant (start + d))
-      (lt-leb start instant lt))
-      ∙ sym (ap (λ b. b || nat_le (start + d) instant) (lt-ltb instant start lt))
-  | inr ge ↦ elim (cases_lt instant (start + d)) [
-    | inl within ↦
-        ap not (and_from (nat_le start instant) (nat_lt instant (start + d))
-        (le-leb start instant ge) (lt-ltb instant (start + d) within))
-        ∙ sym (ap (λ b. b || nat_le (start + d) instant) (le-ltb instant start ge)
-        ∙ lt-leb (start + d) instant within)
-    | inr over ↦
-        ap not (and_right (nat_le start instant) (nat_lt instant (start + d))
-        (le-ltb instant (start + d) over))
-        ∙ sym (ap (λ b. b || nat_le (start + d) instant) (le-ltb instant start ge)
-        ∙ le-leb (start + d) instant over)
-  ]
-]
-
-and-true : (a b c : Bool) → (a && b) ≡ c → b ≡ true → a ≡ c
-and-true true b c both is = sym is ∙ both
-and-true false b c both is = both
-
-module _ (q : ℕ → Bool) (d : ℕ) (all : List Annotation) where
-  abbrev out : Annotation → Bool
-  out a = not (q a.onset)
-
-  one-out : (low : ℕ) (r : DataRecord) (rs : List DataRecord) → low ≤ r.start →
-      Spaced d (r.start + d) rs → IsLeftOf low q d (r ∷ rs) →
-      outside_here d (without_samples (assigned all low r rs))
-      ≡ count_by out (assigned all low r rs).annotations
-  one-out low r rs le spaced left =
-      counted-alike (is_outside r.start (r.start + d)) out (filter (is_between low rs) all)
-      (All-weaker (λ a. is_between low rs a ≡ true)
-      (λ a. is_outside r.start (r.start + d) a ≡ out a)
-      (λ a is. sym (not-lying d r.start a.onset)
-      ∙ ap not (sym (and-true (q a.onset) (is_between low rs a) (lies_here d r.start a.onset)
-      (one-here q d low r rs le spaced left a) is)))
-      (filter (is_between low rs) all) (filter_passes (is_between low rs) all))
-
-  abbrev sum_of : List DataRecord → ℕ
-  sum_of rs = sum_by (outside_here d) (map without_samples rs)
-
-  both-out : (g : DataRecord) (gs : List DataRecord) →
-      outside_here d (without_samples g) ≡ count_by out g.annotations →
-      sum_of gs ≡ count_by out (annotations_of gs) →
-      sum_of (g ∷ gs) ≡ count_by out (annotations_of (g ∷ gs))
-  both-out g gs one others = omega (
-    arith,
-    one,
-    others,
-    sum_by-cons (outside_here d) (without_samples g) (map without_samples gs),
-    sum_by-append (λ a. cond (out a) 1 0) g.annotations (annotations_of gs),
-  )
-
-  each-out : (low : ℕ) (rs : List DataRecord) → Spaced d low rs → IsLeftOf low q d rs →
-      sum_of (each_assigned all rs) ≡ count_by out (annotations_of (each_assigned all rs))
-  each-out low [] spaced left = refl
-  each-out low (r ∷ rs) spaced left =
-      let here : IsLeftOf r.start q d (r ∷ rs) =
-      λ instant from. left instant (omega (arith, spaced.0, from)) in
-      both-out (assigned all r.start r rs) (each_assigned all rs)
-      (one-out r.start r rs (omega arith) spaced.1 here)
-      (each-out (r.start + d) rs spaced.1
-      (left-of-later q d r.start r (r.start + d) rs (omega arith) (omega arith) here))
-
-  pub all-out : (rs : List DataRecord) → Spaced d 0 rs → IsLeftOf 0 q d rs →
-      sum_of (all_assigned all rs) ≡ count_by out (annotations_of (all_assigned all rs))
-  all-out [] spaced left = refl
-  all-out (r ∷ rs) spaced left =
-      both-out (assigned all 0 r rs) (each_assigned all rs)
-      (one-out 0 r rs (omega arith) spaced.1 left)
-      (each-out (r.start + d) rs spaced.1
       (left-of-later q d 0 r (r.start + d) rs (omega arith) (omega arith) left))

@@ -298,7 +298,8 @@ listed_measured d (r ∷ rs) run whole is first records samples = record {
 -- ---- so far
 
 module _ (l : Layout) (from mid : Progress) (left middle : Option (List ℕ)) (run : Run)
-    (rs : List DataRecord) (next count : ℕ) (so : ReadSoFar l from mid left middle run rs next count)
+    (rs : List DataRecord) (next count : ℕ)
+    (so : ReadSoFar l from mid left middle run rs next count)
     (n : ComesNext l from left run) where
   has_so_far : HasOthers l mid middle n.records rs
   has_so_far = so.first n.records (has_all l from left run n) (sym n.listed.count)

@@ -1,5 +1,6 @@
 -- Annotations have one order.
-use Rattle.std.proofs.Common.{◌≡◌, ℕ, zero, suc, ◌+◌, ◌<◌, List, [], ◌∷◌, length, refl, sym, ap}
+use Rattle.std.proofs.Common.{◌≡◌, ℕ, zero, suc, ◌+◌, ◌<◌, ◌≤◌, List, [], ◌∷◌, length, refl, sym}
+use Rattle.std.proofs.Common.{ap}
 use Rattle.std.proofs.Common.{◌∙◌, subst, arith, Option, Some, None, ◌⊎◌, inl, inr, get_or, set}
 use Rattle.std.specs.Prelude.{Bool, true, false, IsPermutation, if◌then◌else◌, swap}
 use Rattle.std.proofs.lemmas.List.Sorted.{IsPermutation-refl, IsPermutation-trans}
@@ -111,6 +112,17 @@ pub le-same : (a b : Annotation) → le a b ≡ true → le b a ≡ true → a �
 unfolding le
 le-same a b p q = one-annotation a b
     (le-both (annotation_cmp a b) p (ap is_le (sym (total.antisymm b a)) ∙ q))
+
+onset-of : (r s : Ordering) (x y : ℕ) → MatchOrdering r (x < y) (x ≡ y) (y < x) →
+    is_le (ordering_then r s) ≡ true → x ≤ y
+onset-of Less s x y h e = omega (arith, h)
+onset-of Equal s x y h e = omega (arith, h)
+onset-of Greater s x y h e = absurd (let f = e in cc)
+
+pub le-onset : (a b : Annotation) → le a b ≡ true → a.onset ≤ b.onset
+unfolding le
+le-onset a b e = onset-of (nat_cmp a.onset b.onset) (ordering_then (option_cmp nat_cmp a.duration
+    b.duration) (slice_cmp nat_cmp a.text b.text)) a.onset b.onset (ranks a.onset b.onset) e
 
 pub is-true-or-false : (b : Bool) → (b ≡ true) ⊎ (b ≡ false)
 is-true-or-false true = inl refl

@@ -1,6 +1,6 @@
 -- A run that is read again, data record by data record, and its file, as it is sent.
 use Rattle.std.proofs.Common.{◌≡◌, ◌≢◌, ℕ, ◌+◌, ◌*◌, ◌≤◌, ◌<◌, List, [], ◌∷◌, ◌++◌, length, refl}
-use Rattle.std.proofs.Common.{sym, ap, ◌∙◌, subst, arith, Option, Some, None, Result, Ok, Err}
+use Rattle.std.proofs.Common.{sym, ap, ◌∙◌, subst, arith, Option, Some, Result, Ok, Err}
 use Rattle.std.proofs.Common.{inl, inr}
 use Rattle.std.specs.List.{AllByRecursion, flat_map}
 use Rattle.std.specs.Io.KnownBytes.{Appends}
@@ -196,7 +196,8 @@ module _ {R : Type 0} {g : Ghosts R} {l : Layout} {from : Progress} {run : Run}
             }
 
         pub sent-counted : SendsAll (ReadsRun g) start to whole []
-            (λ rs. Appends before after (planned_text header whole rs)) → g.failures to.input ≡ reads
+            (λ rs. Appends before after (planned_text header whole rs)) → g.failures to.input
+            ≡ reads
         sent-counted s = s.end.counted ∙ (all-read s.mid s.records s.gave).counted
 
         pub sent-header : SendsAll (ReadsRun g) start to whole []

@@ -34,7 +34,7 @@ none_read l from left few =
       state = refl;
     }
 
-one_more : (l : Layout) (from mid to : Progress) (left middle rest : Option (List ℕ))
+pub one_more : (l : Layout) (from mid to : Progress) (left middle rest : Option (List ℕ))
     (rs : List DataRecord) (instant : ℕ) (r : DataRecord) → ReadsOn l from mid left middle rs
     → StepsOn l mid to middle rest instant r → ReadsOn l from to left rest (rs ++ r ∷ [])
 one_more l from mid to left middle rest rs instant r before step =

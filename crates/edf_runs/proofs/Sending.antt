@@ -1,6 +1,6 @@
 -- A run's file, put out after its header.
 use Rattle.std.proofs.Common.{◌≡◌, ◌≢◌, ℕ, inl, ◌+◌, ◌*◌, ◌≤◌, List, [], ◌∷◌, ◌++◌, length, refl}
-use Rattle.std.proofs.Common.{sym, ap, ◌∙◌, subst, arith, Option}
+use Rattle.std.proofs.Common.{sym, ap, ◌∙◌, arith, Option}
 use Rattle.std.specs.List.{AllByRecursion}
 use Rattle.std.proofs.KnownBytes.{Keeps-refl}
 use Rattle.std.proofs.lemmas.List.Elements.{All-nil}
@@ -86,7 +86,8 @@ marked_short header k run key begins is =
       key.signals_to,
     )
 
-sound_from : (k : Key) (low at : ℕ) (rs : List DataRecord) → AllByRecursion (IsSoundRecord k) rs →
+pub sound_from : (k : Key) (low at : ℕ) (rs : List DataRecord) → AllByRecursion (IsSoundRecord k) rs
+    →
     StartFrom (duration_of k.duration) at rs → low ≤ at → AreSoundFrom k low rs
 sound_from k low at [] sound from le = tt
 sound_from k low at (r ∷ rs) sound from le = (

@@ -14,8 +14,8 @@ use Rattle.edf_fragment.proofs.Parsed.{one-parse}
 use Rattle.edf_canonical.specs.File.{IsCanonicalFile}
 use Rattle.edf_canonical.proofs.Files.{its-own}
 use Rattle.edf_holdings.specs.ConflictFree.{IsFragment, HasRecordUnder, SameRecords}
-use Rattle.edf_holdings.specs.Holdings.{Holdings}
-use Rattle.edf_holdings.specs.Reply.{IsAccepted, IsWellFormed, reply, replies, after_one}
+use Rattle.edf_holdings.specs.Holdings.{Holdings, IsSound, with_records}
+use Rattle.edf_holdings.specs.Reply.{IsAccepted, IsWellFormed, after, reply, replies, after_one}
 use Rattle.edf_holdings.proofs.ConflictFree.{IsAmong, IsAmong-from_Any, Any-from_IsAmong}
 use Rattle.edf_holdings.proofs.ParsedIsWellFormed.{parsed_is_well_formed}
 use Rattle.edf_runs.specs.ByOnset.{by_onset, AreAlike}
@@ -28,10 +28,10 @@ use Rattle.edf_runs.proofs.Rejoined.{whole, file-told, told-sound, told-as-whole
 
 -- ---- files whose data records are among these
 
-record IsPart (k : Key) (rs : List DataRecord) (file : List ℕ) : Type 0 where
-  part : List DataRecord
-  among : All (Contains rs) part
-  spells : IsFragmentFile file k part
+pub record IsPart (k : Key) (rs : List DataRecord) (file : List ℕ) : Type 0 where
+  pub part : List DataRecord
+  pub among : All (Contains rs) part
+  pub spells : IsFragmentFile file k part
 
 record TellsPart (k : Key) (rs : List DataRecord) (told : Parsed) : Type 0 where
   part : List DataRecord
@@ -106,6 +106,37 @@ front-accepted cap h (t ∷ ts) others all =
     (front-accepted cap next ts others
     (All-tail IsAccepted (reply cap h t) (replies cap next (ts ++ others)) all))
 
+-- they are accepted, and leave all of the data records where one of the files has them all
+pub parts-are-taken : (cap : ℕ) (h : Holdings) (k : Key) (rs : List DataRecord) (file : List ℕ)
+    (files : List (List ℕ)) (tolds : List Parsed) → IsSound cap h → h k ≡ [] → length rs ≤ cap →
+    IsFragmentFile file k rs → All (IsPart k rs) files → AllZip ParsesTo files tolds →
+    All IsAccepted (replies cap h tolds)
+    × (Contains files file → (after cap h tolds ≡ with_records k rs h) × (after cap h tolds k ≡ rs))
+parts-are-taken cap h k rs file files tolds sound none few spells parts tell =
+    let told : IsWellFormed (Fragment k rs) = parsed_is_well_formed file (Fragment k rs) spells in
+    let one : IsPart k rs file =
+    record { part = rs; among = All-contains_itself rs; spells = spells } in
+    let files-too = files ++ file ∷ [] in
+    let tolds-too = tolds ++ whole k rs in
+    let tell-too : AllZip ParsesTo files-too tolds-too =
+    one-more files tolds file (Fragment k rs) tell spells in
+    let parts-too : All (IsPart k rs) files-too =
+    All-append (IsPart k rs) files (file ∷ []) parts
+    (All-cons (IsPart k rs) file [] one (All-nil (IsPart k rs))) in
+    let all = told-as-whole cap h k rs tolds-too sound none told few
+    (told-sound files-too tolds-too tell-too)
+    (all-fragments k rs tolds-too (all-tell k rs files-too tolds-too tell-too parts-too))
+    (same-as-whole k rs file files-too tolds-too spells
+    (Contains-append_right files (file ∷ []) file (contains-first file [])) parts-too tell-too) in (
+      front-accepted cap h tolds (whole k rs) all.0,
+      λ is-one.
+          let ends = told-as-whole cap h k rs tolds sound none told few
+          (told-sound files tolds tell)
+          (all-fragments k rs tolds (all-tell k rs files tolds tell parts))
+          (same-as-whole k rs file files tolds spells is-one parts tell) in
+          (ends.1, ends.2),
+    )
+
 -- ---- the files of a card
 
 -- by onset each of its pieces, and itself, has data records of the card
@@ -142,31 +173,8 @@ pub pieces-and-card-are-taken : PiecesAndCardAreTaken
 pieces-and-card-are-taken cap h k card pieces file files tolds sound none card-sound few within is
     pieces-are are tell =
     let rs = by_onset card in
-    let spells = its-own file k rs is in
-    let told : IsWellFormed (Fragment k rs) = parsed_is_well_formed file (Fragment k rs) spells in
     let few-too : length rs ≤ cap =
     subst (λ n. n ≤ cap) (sym (length_all_zip AreAlike rs card (stay-alike k card card-sound).0))
     few in
-    let parts = are-parts k card card-sound within pieces files pieces-are are in
-    let one : IsPart k rs file =
-    record { part = rs; among = All-contains_itself rs; spells = spells } in
-    let files-too = files ++ file ∷ [] in
-    let tolds-too = tolds ++ whole k rs in
-    let tell-too : AllZip ParsesTo files-too tolds-too =
-    one-more files tolds file (Fragment k rs) tell spells in
-    let parts-too : All (IsPart k rs) files-too =
-    All-append (IsPart k rs) files (file ∷ []) parts
-    (All-cons (IsPart k rs) file [] one (All-nil (IsPart k rs))) in
-    let all = told-as-whole cap h k rs tolds-too sound none told few-too
-    (told-sound files-too tolds-too tell-too)
-    (all-fragments k rs tolds-too (all-tell k rs files-too tolds-too tell-too parts-too))
-    (same-as-whole k rs file files-too tolds-too spells
-    (Contains-append_right files (file ∷ []) file (contains-first file [])) parts-too tell-too) in (
-      front-accepted cap h tolds (whole k rs) all.0,
-      λ is-one.
-          let ends = told-as-whole cap h k rs tolds sound none told few-too
-          (told-sound files tolds tell)
-          (all-fragments k rs tolds (all-tell k rs files tolds tell parts))
-          (same-as-whole k rs file files tolds spells is-one parts tell) in
-          (ends.1, ends.2),
-    )
+    parts-are-taken cap h k rs file files tolds sound none few-too (its-own file k rs is)
+    (are-parts k card card-sound within pieces files pieces-are are) tell

@@ -14,9 +14,7 @@ use Rattle.edf_fragment.specs.Fragment.{DataRecord}
 use Rattle.edf_fragment.specs.Sound.{IsSoundRecord}
 use Rattle.edf_runs.specs.ByOnset.{annotations_of}
 use Rattle.edf_runs.specs.Counted.{AreCounted, is_outside, run_end, OutsideIsNotCovered}
-use Rattle.edf_runs.specs.Inside.Tally.{IsTallied}
 use Rattle.edf_runs.specs.declared.run.Run.{Run}
-use Rattle.edf_runs.specs.declared.tally.Tally.{Tally}
 use Rattle.edf_runs.proofs.Growing.{run_end as ends-at}
 
 pub annotations-more : (records : List DataRecord) (r : DataRecord) →

@@ -1,5 +1,5 @@
 -- What is told of files of the same times, samples and annotations.
-use Rattle.std.proofs.Common.{◌≡◌, ℕ, ◌+◌, List, [], ◌∷◌, All, map, refl, sym, ap, ◌∙◌, subst}
+use Rattle.std.proofs.Common.{◌≡◌, ℕ, ◌+◌, List, [], ◌∷◌, All, refl, sym, ap, ◌∙◌, subst}
 use Rattle.std.specs.Prelude.{Bool, not, ◌&&◌, ◌||◌, nat_le, nat_lt, cond, Contains}
 use Rattle.std.specs.List.{AllZip}
 use Rattle.std.proofs.lemmas.List.Elements.{All-weaker, All-contains_itself}
@@ -8,7 +8,7 @@ use Rattle.edf_tal.specs.Tal.{Annotation}
 use Rattle.edf_fragment.specs.Fragment.{DataRecord}
 use Rattle.edf_runs.specs.ByOnset.{annotations_of, AreAlike}
 use Rattle.edf_runs.specs.OneByOnset.{lies_in, ToldAlike}
-use Rattle.edf_runs.specs.OnsetRead.{without_samples, IsFirstCrowded}
+use Rattle.edf_runs.specs.Crowded.{IsFirstCrowded}
 use Rattle.edf_runs.proofs.ByOnset.{same-by-onset}
 use Rattle.edf_runs.proofs.Filtered.{counted-alike}
 
@@ -36,7 +36,7 @@ told-alike d records others alike moved =
           ∙ sym (sum_by-IsPermutation (λ a. cond (out-too a) 1 0) given (annotations_of others)
           moved),
       λ number. (
-        subst (λ l. IsFirstCrowded d (map without_samples l) number) same,
-        subst (λ l. IsFirstCrowded d (map without_samples l) number) (sym same),
+        subst (λ l. IsFirstCrowded d l number) same,
+        subst (λ l. IsFirstCrowded d l number) (sym same),
       ),
     )

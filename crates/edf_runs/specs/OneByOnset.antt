@@ -1,6 +1,6 @@
 -- Data records by onset, as what they are and not as they are made, and what that is good for.
 use Rattle.std.specs.Prelude.{◌≡◌, ℕ, ◌+◌, ◌↔◌, List, [], ◌∷◌, ◌++◌, Bool, false, not, ◌&&◌, ◌||◌}
-use Rattle.std.specs.Prelude.{nat_le, nat_lt, count_by, filter, map, All, Contains, IsPermutation}
+use Rattle.std.specs.Prelude.{nat_le, nat_lt, count_by, filter, All, Contains, IsPermutation}
 use Rattle.std.specs.List.{AllZip}
 use Rattle.edf_field.specs.Number.{duration_of}
 use Rattle.edf_header.specs.Key.{Key}
@@ -10,7 +10,7 @@ use Rattle.edf_fragment.specs.Sound.{AreSoundFrom}
 use Rattle.edf_canonical.specs.File.{IsCanonicalFile}
 use Rattle.edf_runs.specs.Order.{AreInOrder}
 use Rattle.edf_runs.specs.ByOnset.{annotations_of, by_onset, AreAlike, IsLastStarted}
-use Rattle.edf_runs.specs.OnsetRead.{without_samples, IsFirstCrowded}
+use Rattle.edf_runs.specs.Crowded.{IsFirstCrowded}
 
 -- each annotation is in the last data record that starts at or before its onset, or, where none
 -- does, in the first
@@ -67,8 +67,8 @@ abbrev pub ToldAlike : Type 0
 ToldAlike = (d : ℕ) (records others : List DataRecord) → AllZip AreAlike records others →
     IsPermutation (annotations_of records) (annotations_of others) →
     (outside_count d records ≡ outside_count d others)
-    × ((number : ℕ) → IsFirstCrowded d (map without_samples (by_onset records)) number
-    ↔ IsFirstCrowded d (map without_samples (by_onset others)) number)
+    × ((number : ℕ) → IsFirstCrowded d (by_onset records) number
+    ↔ IsFirstCrowded d (by_onset others) number)
 
 -- ---- a card beside its pieces
 

@@ -8,13 +8,12 @@ ghost use Rattle.edf_fragment.specs.Fragment.{DataRecord};
 ghost use Rattle.edf_fragment.specs.Sound.{AreSoundFrom, FirstMayStart};
 ghost use Rattle.edf_runs.specs.ByOnset.{EachInItsRun, EachWhereStarted, EachWhereItLies};
 ghost use Rattle.edf_runs.specs.ByOnset.{StayAlike, StayInOrder, StaySound};
-ghost use Rattle.edf_runs.specs.Canonical.{LeavesFrontOfFile};
+ghost use Rattle.edf_runs.specs.CanonicalLaws.{StayJoined, WritesByOnset, WritesAlike};
 ghost use Rattle.edf_runs.specs.Counted.{OutsideIsNotCovered};
 ghost use Rattle.edf_runs.specs.File.{IsRunFile, IsContinuous};
 ghost use Rattle.edf_runs.specs.OneByOnset.{AreOneByOnset, AreOneHoweverSpread, StaysByOnset};
 ghost use Rattle.edf_runs.specs.OneByOnset.{ToldAlike, PiecesAreOfCard};
 ghost use Rattle.edf_runs.specs.Order.{HaveOneOrder};
-ghost use Rattle.edf_runs.specs.PlanByOnset.{StaysAsPlanned, WritesByOnset, WritesAlike};
 ghost use Rattle.edf_runs.specs.Rejoined.{RunsRejoin};
 ghost use Rattle.edf_runs.specs.Runs.{IsRuns, IsTouching};
 ghost use Rattle.edf_runs.specs.Taken.{PiecesAndCardAreTaken};
@@ -66,12 +65,6 @@ pub fn by_onset()
     ensures sound { StaySound }
 {}
 
-/// Where [`write_canonical`](crate::write_canonical) ends in a fault, and its input spells what was
-/// planned, nothing went out, or a front of the canonical file.
-pub fn a_front_of_the_canonical_file()
-    ensures { LeavesFrontOfFile }
-{}
-
 /// What is counted as outside of a run is just what its data records don't cover.
 pub fn outside_is_not_covered()
     ensures { OutsideIsNotCovered }
@@ -106,13 +99,13 @@ pub fn pieces_and_card_are_taken()
     ensures { PiecesAndCardAreTaken }
 {}
 
-/// What [`write_canonical`](crate::write_canonical) writes by the plan of
-/// [`plan_by_onset`](crate::plan_by_onset), from a file that did not change, is the canonical file
-/// of its data records by onset; nor is such a file told as one that changed. Of two files of one
+/// What [`write_canonical`](crate::write_canonical) writes by the outline of
+/// [`by_onset`](crate::by_onset), from a file that did not change, is the canonical file of its
+/// data records by onset; nor is such a file told as one that changed. Of two files of one
 /// recording with the same times, samples and annotations it writes the same bytes, however the
 /// annotations were spread over the data records, and in whatever order.
 pub fn the_canonical_file_by_onset()
-    ensures unchanged { StaysAsPlanned }
+    ensures unchanged { StayJoined }
     ensures file { WritesByOnset }
     ensures alike { WritesAlike }
 {}

@@ -1,49 +1,82 @@
 //! The runs of a recording, its longest stretches of data records without a gap, and the EDF+C file
 //! of each, which readers open that refuse EDF+D.
 //!
-//! - [`list_runs`]: the runs of a file, from any reader, with one data record in memory: a
-//!   [`Listing`] of its [`Run`]s.
-//! - [`add_record`]: the same for a caller that reads itself.
+//! - [`read_outline`]: an [`Outline`], all of a file but its samples; [`by_onset`]: with each
+//!   annotation where its onset is; [`count_outside`]: of how many no data record has it.
+//! - [`list_outline`]: a [`Listing`] of its [`Run`]s; [`add_record`]: how they grow, for a caller
+//!   that reads itself.
 //! - [`reopen_listed`], [`write_run`]: a second reading, over one run after another whose files are
 //!   written; what was [`Written`], with the annotations that lie outside of the run;
 //!   [`WriteFault`]: why it was not.
-//! - [`plan_canonical`], [`write_canonical`]: the canonical file of a whole file, by two readings
-//!   from any reader; a [`CanonicalPlan`] is what is kept between them. [`plan_by_onset`]: the same
-//!   with each annotation in the data record that has its onset; [`OnsetFault`]: why there is none.
+//! - [`write_canonical`]: the canonical file of an outline, with the samples of a second reading.
+//! - [`plan_cut`], [`write_cut`]: the canonical file of those of its data records that last in a
+//!   time, with the samples of a second reading; of the whole time it is that of all;
+//!   [`cut_laws`]: laws of both.
+//! - [`fill`], [`write_filled`]: one EDF+C file of the whole recording, flat where it has a gap;
+//!   [`FillLimits`], [`FillCounts`]: what it keeps and what it counts; [`FillFault`]: why there is
+//!   none; [`filled_laws`]: its laws.
+//! - [`compare_files`]: what one file has of another of the same recording; [`compared_laws`].
 //! - [`laws`]: each list of data records has its runs; a run's file is read again; nothing is lost
 //!   where a file is split into its runs. These functions do nothing: their contracts are laws.
 #![tactic(auto)]
 
 mod adding;
-mod assigning;
-mod canonical_plan;
+mod compared;
+pub mod compared_laws;
+mod comparing;
 mod counting;
+mod crowded_fault;
+mod cut;
+pub mod cut_laws;
+mod cut_source;
+mod cutting;
+mod division;
 mod fault;
-mod gathered;
-mod keeping;
+mod fill_fault;
+mod filled;
+mod filled_identity;
+pub mod filled_laws;
+mod filled_places;
+mod filled_source;
+mod filling;
 pub mod laws;
-mod onset_fault;
+mod moving;
+mod onsets;
 mod ordering;
-mod planning;
-mod planning_by_onset;
+mod outline;
+mod outlining;
+mod outside;
+mod parted;
+mod places;
 mod reading;
 mod rereading;
 mod run;
 mod run_list;
+mod sides;
+mod spots;
+mod stretch;
 mod tally;
 mod writing;
-mod writing_canonical;
+mod writing_filled;
 mod written;
 
 pub use adding::add_record;
-pub use canonical_plan::CanonicalPlan;
+pub use compared::{CompareFault, Comparison, compare_files};
+pub use crowded_fault::CrowdedFault;
+pub use cut::Cut;
+pub use cutting::{plan_cut, write_canonical, write_cut};
 pub use fault::WriteFault;
-pub use onset_fault::OnsetFault;
-pub use planning::plan_canonical;
-pub use planning_by_onset::plan_by_onset;
+pub use fill_fault::FillFault;
+pub use filled::{FillCounts, FillLimits, Filled};
+pub use filling::fill;
+pub use onsets::by_onset;
+pub use outline::Outline;
+pub use outlining::read_outline;
+pub use outside::count_outside;
 pub use reading::reopen_listed;
 pub use run::Run;
-pub use run_list::{Listing, list_runs};
+pub use run_list::{Listing, list_outline};
+pub use stretch::{Stretch, Word};
 pub use writing::write_run;
-pub use writing_canonical::write_canonical;
+pub use writing_filled::write_filled;
 pub use written::Written;

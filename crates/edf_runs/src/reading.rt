@@ -1,9 +1,9 @@
 //! Data records of a file that is read a second time.
 
-ghost use Rattle.std.specs.Prelude.{◌≡◌, MatchResult};
+ghost use Rattle.std.specs.Prelude.{◌≡◌, IfOk, MatchResult};
 ghost use Rattle.edf_fragment.specs.Reading.{ReadsHeader, initial_progress};
 ghost use Rattle.edf_runs.specs.Again.{fault_again, CountsRereads, IsNotReopened, StopsAt};
-ghost use Rattle.edf_runs.specs.Inside.Steps.{StepsOn};
+ghost use Rattle.edf_runs.specs.Inside.Steps.{ReadsNext, StepsOn};
 
 use crate::fault::WriteFault;
 use crate::run_list::Listing;
@@ -89,6 +89,21 @@ pub(crate) fn next_at<R: Input>(
             }
         }
         Ok(None) => Err(WriteFault::Changed),
+        Err(fault) => Err(fault_again(fault)),
+    }
+}
+
+/// The next data record of a file that is read again, or `None` at its end.
+pub(crate) fn next_again<R: Input>(
+    fragment: &mut OpenFragment,
+    input: &mut R,
+) -> Result<Option<Record>, WriteFault>
+    ensures header { fragment.new.header ≡ fragment.old.header }
+    ensures step { IfOk result (ReadsNext fragment.old.header fragment.old.progress
+        fragment.new.progress (R.remaining input.old) (R.remaining input.new)) }
+{
+    match fragment.next(input) {
+        Ok(next) => Ok(next),
         Err(fault) => Err(fault_again(fault)),
     }
 }

@@ -1,54 +1,13 @@
-//! The data records of a file that is read a second time: of a whole file, and of a run.
+//! The data records of a run, which is read a second time.
 
-ghost use Rattle.std.specs.Prelude.{◌≡◌, ◌≤◌};
-ghost use Rattle.edf_header.specs.declared.limits.TheConstants.{MOST_RECORDS};
+ghost use Rattle.std.specs.Prelude.{◌≡◌};
 
 use crate::fault::WriteFault;
-use crate::reading::{fault_again, next_at};
+use crate::reading::next_at;
 use crate::run::Run;
 use crate::tally::Tally;
-use edf_canonical::{Source, planned_or};
+use edf_canonical::Source;
 use edf_fragment::{Input, OpenFragment, Record};
-use edf_header::MOST_RECORDS;
-
-/// Gives them, each of which must start when what was kept of it does, where something was.
-#[derive(Drop)]
-pub(crate) struct WholeAgain<'k> {
-    pub(crate) kept: &'k [Record],
-    /// How many came so far.
-    pub(crate) nth: usize,
-    ghost few: { nth ≤ MOST_RECORDS },
-}
-
-impl<'k, R: Input> Source<OpenFragment, R> for WholeAgain<'k> {
-    ghost use Rattle.std.specs.Prelude.{⊤};
-    ghost use Rattle.edf_runs.specs.Inside.Sending.{ReadsAgain};
-
-    type Fault = WriteFault;
-
-    ghost ready = { λ source fragment input. ⊤ };
-
-    ghost answers = { ReadsAgain R.Input };
-
-    fn next(
-        &mut self,
-        fragment: &mut OpenFragment,
-        input: &mut R,
-    ) -> Result<Option<Record>, WriteFault> {
-        match fragment.next(input) {
-            Ok(Some(data_record)) => {
-                let kept = planned_or(self.kept, self.nth, &data_record);
-                if kept.start().nanos() != data_record.start().nanos() {
-                    return Err(WriteFault::Changed);
-                }
-                self.nth = (self.nth + 1).min(MOST_RECORDS as usize);
-                Ok(Some(data_record))
-            }
-            Ok(None) => Ok(None),
-            Err(fault) => Err(fault_again(fault)),
-        }
-    }
-}
 
 /// Gives the data records of a run that comes next, each of which must start where the one before
 /// ends, and counts their annotations.

@@ -1,18 +1,20 @@
-ghost use Rattle.std.specs.Prelude.{◌≡◌, ◌≤◌, List, MatchResult};
+//! The runs of an outline, which are listed without another reading.
+
+ghost use Rattle.std.specs.Prelude.{ℕ, List, Option, IfOk};
+ghost use Rattle.edf_field.specs.Number.{duration_of};
+ghost use Rattle.edf_header.specs.Key.{Key};
 ghost use Rattle.edf_fragment.specs.Fragment.{DataRecord};
-ghost use Rattle.edf_fragment.specs.Reading.{CountsReadFailures, initial_progress};
-ghost use Rattle.edf_fragment.specs.Whole.{FailsAfterRecords, ReadsFragmentFault};
-ghost use Rattle.edf_fragment.specs.Inside.Steps.{ReadsRecords};
-ghost use Rattle.edf_runs.specs.Runs.{AreListed};
+ghost use Rattle.edf_runs.specs.Outline.{IsOutline, ReadsOutline};
 ghost use Rattle.edf_runs.specs.Read.{ReadsRuns};
+ghost use Rattle.edf_runs.specs.Runs.{AreListed};
 
 use crate::adding::add_record;
+use crate::outline::Outline;
 use crate::run::Run;
-use edf_field::MOST_DURATION;
-use edf_fragment::{FragmentFault, Input, OpenFragment};
+use crate::spots::{Slot, Spots};
+use edf_fragment::Record;
 use edf_header::Identity;
-use edf_header::laws::header_is_layout;
-use std::alloc::Global;
+use std::alloc::{AllocError, Global};
 
 /// What a file holds: the recording that it belongs to, and its runs in time order.
 #[derive(Drop)]
@@ -23,54 +25,38 @@ pub struct Listing {
     pub runs: Vec<Run>,
 }
 
-/// The runs of the data records that follow a header that was just read.
-fn list_records<R: Input>(
-    alloc: Global,
-    fragment: &mut OpenFragment,
-    input: &mut R,
-    duration: u64,
-) -> Result<Vec<Run>, FragmentFault>
-    requires first { fragment.old.progress ≡ initial_progress }
-    requires duration { duration ≤ MOST_DURATION }
-    ensures header { fragment.new.header ≡ fragment.old.header }
-    ensures answer { MatchResult result
-        (λ runs. (records : List DataRecord) × ReadsRecords fragment.old.header
-        (R.remaining input.old) (R.remaining input.new) records
-        × AreListed duration records runs.items)
-        (FailsAfterRecords fragment.old.header (R.remaining input.old) (R.remaining input.new)) }
-    ensures counted { CountsReadFailures (R.failures input.old) (R.failures input.new) result }
+/// Returns the runs of the data records of an outline.
+///
+/// # Errors
+/// It fails where memory runs out.
+fn runs_of(alloc: Global, outline: &Outline) -> Result<Vec<Run>, AllocError>
+    ensures { IfOk result (λ runs. (k : Key) (records : List DataRecord) →
+        IsOutline k records outline.now → AreListed (duration_of k.duration) records runs.items) }
 {
-    header_is_layout(fragment.header());
+    let duration = outline.identity.duration();
+    let mut spots = Spots::of(outline);
     let mut runs = Vec::new(alloc);
-    'records: loop {
-        match fragment.next(input)? {
-            Some(record) => {
-                if add_record(&mut runs, &record, duration).is_err() {
-                    return Err(FragmentFault::Memory);
-                }
-            }
-            None => return Ok(runs),
-        }
+    'spots: loop {
+        let Some(slot) = spots.take(alloc)? else {
+            return Ok(runs);
+        };
+        let Slot { start, notes } = slot;
+        let Some(bare) = Record::new(start, Vec::new(alloc), notes) else {
+            return Err(AllocError);
+        };
+        add_record(&mut runs, &bare, duration)?;
     }
 }
 
-/// Reads a whole file of EDF+C or EDF+D and lists its runs, with one data record in memory.
+/// Returns the listing of an outline, of which all but this is dropped.
 ///
 /// # Errors
-/// The first fault of the bytes by the order of the header, the data records and the end; `Read`
-/// where a read failed, `Memory` where memory ran out, each in place of whatever would have been
-/// found later.
-pub fn list_runs<R: Input>(alloc: Global, input: &mut R) -> Result<Listing, FragmentFault>
-    ensures answer { MatchResult result
-        (ReadsRuns (R.remaining input.old) (R.remaining input.new))
-        (ReadsFragmentFault (R.remaining input.old) (R.remaining input.new)) }
-    ensures counted { CountsReadFailures (R.failures input.old) (R.failures input.new) result }
+/// It fails where memory runs out.
+pub fn list_outline(alloc: Global, outline: Outline) -> Result<Listing, AllocError>
+    ensures { IfOk result (λ listing. (left rest : Option (List ℕ)) →
+        ReadsOutline left rest outline → ReadsRuns left rest listing) }
 {
-    let mut fragment = OpenFragment::read(alloc, input)?;
-    let duration = fragment.header().identity().duration();
-    let runs = list_records(alloc, &mut fragment, input, duration)?;
-    Ok(Listing {
-        identity: fragment.into_header().into_identity(),
-        runs,
-    })
+    let runs = runs_of(alloc, &outline)?;
+    let Outline { identity, spans: _ } = outline;
+    Ok(Listing { identity, runs })
 }

@@ -18,7 +18,7 @@ use edf_header::{Identity, MOST_SIGNALS, write_header};
 use std::alloc::{AllocError, Global};
 
 /// A header with EDF+C at the front of the reserved field, which begins at byte 192.
-fn marked_continuous(alloc: Global, plain: &[u8]) -> Result<Vec<u8>, AllocError>
+pub(crate) fn marked_continuous(alloc: Global, plain: &[u8]) -> Result<Vec<u8>, AllocError>
     requires { 197 ≤ length plain.now }
     ensures { IfOk result (λ header. header.items ≡ marked_continuous plain.now) }
 {

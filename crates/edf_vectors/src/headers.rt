@@ -2,7 +2,9 @@
 
 use crate::bases::{changed, counted};
 use crate::cells::{fault_text, fields};
-use edf_header::{Block, Header, HeaderFault, Identity, read_fixed, read_signals, write_header};
+use edf_header::{
+    Block, Header, HeaderFault, Identity, read_fixed, read_signals, signal_row, write_header,
+};
 use edf_sample::named::identity_q;
 use edf_time::Instant;
 use std::alloc::{AllocError, Global};
@@ -15,6 +17,9 @@ const HEADER: &[usize] = &[
     8, 80, 80, 8, 8, 8, 44, 8, 8, 4, 16, 16, 80, 80, 8, 8, 8, 8, 8, 8, 8, 8, 8, 8, 80, 80, 8, 8,
     32, 32,
 ];
+
+/// The widths of a signal.
+const SIGNAL: &[usize] = &[16, 80, 8, 8, 8, 8, 8, 80, 8, 32];
 
 /// How many signals a fixed part has, or its fault.
 pub(crate) fn fixed(alloc: Global, cells: &[Vec<u8>]) -> Option<String> {
@@ -64,6 +69,17 @@ pub(crate) fn header(alloc: Global, cells: &[Vec<u8>]) -> Option<String> {
         Ok(header) => layout(alloc, &header),
         Err(fault) => fault_text(alloc, fault.number(), &fault),
     }
+}
+
+/// The fields of the last signal of a header.
+pub(crate) fn row(alloc: Global, cells: &[Vec<u8>]) -> Option<String> {
+    let bytes = changed(alloc, cells)?;
+    let signals = read_fixed(bytes.first_chunk::<256>()?).ok()?.signals();
+    let columns = front(bytes.get(256..)?, 256 * signals);
+    if signals < 1 || columns.len() != 256 * signals {
+        return None;
+    }
+    fields(alloc, &signal_row(columns, signals, signals - 1), SIGNAL)
 }
 
 /// How many annotations blocks a data record has; the offset and the bytes of each.

@@ -3,7 +3,7 @@
 use crate::cells::{eight, eighty, number, quoted};
 use edf_field::{
     are_spaces, follows_startdate, is_patient, next_subfield, physical_values_differ,
-    read_duration, read_recording, read_signed, read_whole,
+    read_duration, read_recording, read_signed, read_whole, spaces_len, without_sign,
 };
 use edf_time::{Day, Instant};
 use std::alloc::Global;
@@ -44,6 +44,22 @@ pub(crate) fn spaces(alloc: Global, cells: &[Vec<u8>]) -> Option<String> {
         return None;
     };
     format!(in alloc; "{}", are_spaces(text)).ok()
+}
+
+/// How many spaces a text begins with.
+pub(crate) fn leading(alloc: Global, cells: &[Vec<u8>]) -> Option<String> {
+    let [text] = cells else {
+        return None;
+    };
+    format!(in alloc; "{}", spaces_len(text)).ok()
+}
+
+/// A number without its sign.
+pub(crate) fn unsigned(alloc: Global, cells: &[Vec<u8>]) -> Option<String> {
+    let [text] = cells else {
+        return None;
+    };
+    quoted(alloc, without_sign(text)).ok()
 }
 
 /// The first subfield of a text, and what is after it.

@@ -1,20 +1,20 @@
 -- What two readings find of the same bytes.
-use Rattle.std.proofs.Common.{◌≡◌, ◌≢◌, ◌⊎◌, ℕ, List, [], Option, Some, None, subst, sym, ap, ◌∙◌}
+use Rattle.std.proofs.Common.{◌≡◌, ◌≢◌, ◌⊎◌, ℕ, List, [], Option, Some, None}
 use Rattle.std.proofs.Common.{inl, inr, refl, ◌++◌, ◌∷◌, Bool, true, false, not}
 use Rattle.std.specs.Bool.{MatchBool}
 use Rattle.std.specs.Prelude.{IfSome, IfOk, IfErr, Result, Ok, Err, MatchResult}
 use Rattle.std.proofs.KnownBytes.{Consumes-whole}
-use Rattle.edf_header.specs.Key.{Key}
+use Rattle.edf_fragment.proofs.Fragments.{fragment_of_all}
 use Rattle.edf_fragment.proofs.OneFragment.{spelled-no-fault}
-use Rattle.edf_fragment.specs.Fragment.{DataRecord, IsFragmentFile}
+use Rattle.edf_fragment.specs.Fragment.{IsFragmentFile}
 use Rattle.edf_fragment.specs.Whole.{ReadsFragmentFault}
 use Rattle.edf_fragment.specs.declared.fault.FragmentFault.{FragmentFault}
-use Rattle.edf_canonical.specs.File.{IsCanonicalFile}
-use Rattle.edf_canonical.specs.Planned.{annotated}
-use Rattle.edf_runs.specs.Canonical.{IsPlanned, ReadsPlan, StartAlike, AreAsPlanned}
-use Rattle.edf_runs.specs.Canonical.{IsCanonicalWritten, IsNotCanonical, IsToldUnchanged}
-use Rattle.edf_runs.specs.declared.canonical_plan.CanonicalPlan.{CanonicalPlan}
+use Rattle.edf_canonical.proofs.Files.{its-own}
+use Rattle.edf_runs.specs.Canonical.{IsCanonicalWritten, IsCanonicalUnwritten}
 use Rattle.edf_runs.specs.declared.fault.WriteFault.{WriteFault}
+use Rattle.edf_runs.specs.declared.outline.Outline.{Outline}
+use Rattle.edf_runs.proofs.Noted.{joined-self}
+use Rattle.edf_runs.proofs.SameRead.{same-is-read}
 use Rattle.edf_mend.specs.Mends.{MendsTo, AsksNothing}
 use Rattle.edf_mend.specs.declared.fault.MendFault.{MendFault}
 use Rattle.edf_mend.specs.declared.mending.Mended.{Mended}
@@ -26,28 +26,6 @@ use Rattle.edf_fragment.specs.declared.fault.FragmentFault.TheVariants as fragme
 use Rattle.edf_runs.specs.declared.fault.WriteFault.TheVariants as write
 
 -- ---- a first reading
-
-as-planned : (k : Key) (records : List DataRecord) (plan : CanonicalPlan) →
-    plan.kept.items ≡ [] → IsPlanned k records plan → AreAsPlanned k records plan
-as-planned k records plan none planned = record {
-  alike = subst (λ (l : List DataRecord). StartAlike l records) (sym none) tt;
-  planned = subst (λ (l : List DataRecord). IsPlanned k (annotated l records) plan) (sym none)
-      planned;
-}
-
-pub good-planned : (left rest : Option (List ℕ)) (plan : CanonicalPlan) →
-    ReadsPlan left rest plan → PlansGood left plan
-good-planned left rest plan x = record {
-  none_kept = x.none_kept;
-  planned = Consumes-whole left rest x.read.bytes
-      (λ file. (key : Key) × (records : List DataRecord) × IsFragmentFile file key records
-      × AreAsPlanned key records plan) x.read.read x.read.end (
-        x.layout.key,
-        x.records,
-        x.read.is_file,
-        as-planned x.layout.key x.records plan x.none_kept x.planned,
-      );
-}
 
 -- a fault of form says that the file is no good one
 pub no-good : (left rest : Option (List ℕ)) (why : FragmentFault) →
@@ -109,29 +87,55 @@ module _ (left rest before after : Option (List ℕ)) (w : Wanted) where
   }
   leniently (Err why) x to_mend = not-mended left w why to_mend
 
-  module _ (plan : CanonicalPlan) (nothing : AsksNothing w) (good : PlansGood left plan) where
-    pub strictly : (len : ℕ) (mended : Mended) → mended.changes.items ≡ [] →
-        mended.left_out ≡ 0 → IsCanonicalWritten left rest before after plan len →
-        MendsAs left w true before after mended
-    strictly len mended same whole x = record {
-      new = x.file;
-      is_mended = record {
-        old = x.read.bytes;
-        old_is = Consumes-whole left rest x.read.bytes (λ known. known ≡ x.read.bytes) x.read.read
-            x.read.end refl;
-        made = record {
-          nothing = nothing;
-          key = x.layout.key;
-          records = x.records;
-          good = x.read.is_file;
-          canonical = subst (λ (l : List DataRecord).
-              IsCanonicalFile x.file x.layout.key (annotated l x.records)) good.none_kept x.is_file;
-          same = same;
-          whole = whole;
+-- of bytes that are known both readings spell the same; of others the canonical file is one
+module _ (outline : Outline) (rest before after : Option (List ℕ)) (len : ℕ) where
+  abbrev Written : (left : Option (List ℕ)) → PlansGood left outline → Type 0
+  Written left good =
+      IsCanonicalWritten left rest before after good.1.layout.key good.1.records len
+
+  old-of : (left : Option (List ℕ)) (good : PlansGood left outline) → (x : Written left good) →
+      (old : List ℕ) × IfSome left (λ known. known ≡ old)
+      × IsFragmentFile old good.1.layout.key x.records
+  old-of None good x = (x.file, tt, its-own x.file good.1.layout.key x.records x.is_file)
+  old-of (Some file) good x = (
+    file,
+    refl,
+    same-is-read file good.1.layout.key x.records (record {
+      layout = good.1.layout;
+      layout' = x.layout;
+      keys = (refl, x.same);
+      rest = good.0;
+      rest' = rest;
+      ones = good.1.records;
+      others = x.others;
+      read = good.1.read;
+      reread = x.read;
+      joined = x.joined;
+    }),
+  )
+
+  pub strictly : (left : Option (List ℕ)) (w : Wanted) → AsksNothing w →
+      (good : PlansGood left outline) → (mended : Mended) → mended.changes.items ≡ [] →
+      mended.left_out ≡ 0 → Written left good → MendsAs left w true before after mended
+  strictly left w nothing good mended same whole x =
+      let old = old-of left good x in
+      record {
+        new = x.file;
+        is_mended = record {
+          old = old.0;
+          old_is = old.1;
+          made = record {
+            nothing = nothing;
+            key = good.1.layout.key;
+            records = x.records;
+            good = old.2;
+            canonical = x.is_file;
+            same = same;
+            whole = whole;
+          };
         };
-      };
-      wrote = x.wrote;
-    }
+        wrote = x.wrote;
+      }
 
 -- the same bytes are told unchanged, so only trouble is left
 trouble-left : (fault : WriteFault) (why : MendFault) →
@@ -141,16 +145,16 @@ trouble-left fault why (inl is) same dated = absurd (same is)
 trouble-left fault why (inr (inl is)) same dated = absurd (dated is)
 trouble-left fault why (inr (inr trouble)) same dated = trouble
 
-pub not-strictly : {A : Type 0} (left rest before after : Option (List ℕ)) (w : Wanted)
-    (plan : CanonicalPlan) (result : Result A WriteFault) (fault : WriteFault)
-    (why : MendFault) → result ≡ Err fault → PlansGood left plan →
-    IsToldUnchanged left plan result → IsNotCanonical left rest before after plan fault →
+pub not-strictly : (left before after : Option (List ℕ)) (w : Wanted) (outline : Outline)
+    (fault : WriteFault) (why : MendFault) → (good : PlansGood left outline) →
+    IsCanonicalUnwritten left before after good.1.layout.key good.1.records fault →
     (fault ≡ write.Changed) ⊎ ((fault ≡ write.Undated) ⊎ IsTrouble why) → IsNotMended left w why
-not-strictly None rest before after w plan result fault why is good unchanged fails met = tt
-not-strictly (Some file) rest before after w plan result fault why is good unchanged fails met =
-    λ nothing is_good. let p = good.planned in
-    trouble-left fault why met (λ changed. unchanged file p.0 p.1 refl p.2 p.3
-    (is ∙ ap (λ (f : WriteFault). Err f) changed)) fails.0
+not-strictly None before after w outline fault why good fails met = tt
+not-strictly (Some file) before after w outline fault why good fails met = λ nothing is_good.
+    let one = good.1 in
+    let spells = fragment_of_all file good.0 one.layout one.records one.read in
+    trouble-left fault why met (fails.unchanged file one.records one.records refl spells
+    (joined-self one.records)).0 fails.dated
 
 -- ---- a part of a file
 

@@ -2,12 +2,13 @@
 use Rattle.std.proofs.Common.{◌≡◌, ℕ, List, codes, true, false, None, refl, arith, ℤ, pos, negsuc}
 use Rattle.std.proofs.Common.{◌≤ℤ◌}
 use Rattle.std.specs.Prelude.{Result, Ok, Err, MatchResult, is_ok}
-use Rattle.edf_time.specs.Civil.{IsCivil, IsStartFault, IsTimeText, IsDateText, IsDay}
+use Rattle.edf_time.specs.Civil.{IsCivil, IsStartFault, IsDateText, IsDay}
 use Rattle.edf_time.specs.declared.civil.StartFault.{StartFault}
 use Rattle.edf_time.specs.declared.civil.StartFault.TheVariants.{Date, Time, Differs}
 use Rattle.edfmend_command.specs.Words.{IsDateWord, IsTimeWord}
 use Rattle.edf_time.proofs.OneDay.{day-of}
 use Rattle.edf_time.proofs.Days.{number-in-window}
+use Rattle.edf_mend.proofs.Starts.{midnight}
 use Rattle.std.proofs.lemmas.Int.{ints}
 
 first-day-by : (z : ℤ) → IsDay 1985 1 1 z → pos 0 ≤ℤ z →
@@ -34,20 +35,6 @@ first-day =
       (omega arith, omega arith),
     ) in
     first-day-by one.0 one.1 (number-in-window 1985 1 1 one.0 (omega arith) (omega arith) one.1).0
-
-midnight : IsTimeText (codes "00.00.00") 0
-midnight = record {
-  hour = 0;
-  minute = 0;
-  second = 0;
-  is_text = refl;
-  is_clock = record {
-    in_day = omega arith;
-    in_hour = omega arith;
-    in_minute = omega arith;
-    count = refl;
-  };
-}
 
 pub date-word : (text : List ℕ) (r : Result ℕ StartFault) →
     MatchResult r (IsCivil text (codes "00.00.00") None)

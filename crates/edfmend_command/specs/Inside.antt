@@ -1,10 +1,9 @@
 -- What private functions do.
-use Rattle.std.specs.Prelude.{◌≡◌, List, ℕ, [], ◌∷◌, ◌++◌, Bool, true, false, Option, Some, None, IfSome}
+use Rattle.std.specs.Prelude.{◌≡◌, List, ℕ, [], ◌∷◌, ◌++◌, Bool, true, false, Option, Some, None}
+use Rattle.std.specs.Prelude.{IfSome}
 use Rattle.std.specs.Io.KnownBytes.{Appends}
-use Rattle.edf_header.specs.Key.{Key}
-use Rattle.edf_fragment.specs.Fragment.{DataRecord, IsFragmentFile}
-use Rattle.edf_runs.specs.Canonical.{AreAsPlanned}
-use Rattle.edf_runs.specs.declared.canonical_plan.CanonicalPlan.{CanonicalPlan}
+use Rattle.edf_runs.specs.Outline.{ReadsOutline}
+use Rattle.edf_runs.specs.declared.outline.Outline.{Outline}
 use Rattle.edf_mend.specs.Mends.{AsksNothing}
 use Rattle.edf_mend.specs.declared.mending.Mended.{Mended}
 use Rattle.edf_mend.specs.declared.wanted.Wanted.{Wanted}
@@ -16,24 +15,22 @@ use Rattle.edfmend_command.specs.declared.planning.Plan.TheVariants.{Strict, Len
 
 -- A file is good by its plan.
 abbrev pub is_good : Plan → Bool
-is_good (Strict plan) = true
+is_good (Strict outline) = true
 is_good (Lenient measured) = false
 
 module _ (bytes : Option (List ℕ)) where
-  -- A good file was planned.
-  pub record PlansGood (plan : CanonicalPlan) : Type 0 where
-    pub none_kept : plan.kept.items ≡ []
-    pub planned : IfSome bytes (λ file. (key : Key) × (records : List DataRecord)
-        × IsFragmentFile file key records × AreAsPlanned key records plan)
+  -- A good file was read first.
+  abbrev pub PlansGood : Outline → Type 0
+  PlansGood outline = (rest : Option (List ℕ)) × ReadsOutline bytes rest outline
 
   -- Or the bytes are none.
-  abbrev pub PlansStrictly : Option CanonicalPlan → Type 0
-  PlansStrictly (Some plan) = PlansGood plan
+  abbrev pub PlansStrictly : Option Outline → Type 0
+  PlansStrictly (Some outline) = PlansGood outline
   PlansStrictly None = IfSome bytes (λ file. ¬ IsGood file)
 
   -- A first reading found this.
   abbrev pub Plans : Wanted → Plan → Type 0
-  Plans w (Strict plan) = AsksNothing w × PlansGood plan
+  Plans w (Strict outline) = AsksNothing w × PlansGood outline
   Plans w (Lenient measured) = IsToMend bytes w
 
   -- In a second reading the mended file was written.

@@ -1,8 +1,8 @@
 -- What the command does: what it makes and writes, the status that it answers, and which file it
 -- opens.
-use Rattle.std.specs.Prelude.{◌≡◌, ◌⊎◌, ℕ, ◌+◌, ◌==◌, List, [], ◌∷◌, ◌++◌, length, Option, Some, None}
-use Rattle.std.specs.Prelude.{IfSome, option_map, string_bytes, Bool, true, false, if◌then◌else◌}
-use Rattle.std.specs.Prelude.{codes, ◌≤◌}
+use Rattle.std.specs.Prelude.{◌≡◌, ◌⊎◌, ℕ, ◌+◌, ◌==◌, List, [], ◌∷◌, ◌++◌, length, Option, Some}
+use Rattle.std.specs.Prelude.{None, IfSome, option_map, string_bytes, Bool, true, false}
+use Rattle.std.specs.Prelude.{if◌then◌else◌, codes, ◌≤◌}
 use Rattle.std.specs.Bool.{MatchBool}
 use Rattle.std.specs.List.{flat_map}
 use Rattle.edf_header.specs.Key.{Key}
@@ -82,7 +82,7 @@ abbrev pub one_line : Bool → List ℕ → List ℕ
 one_line true name = name ++ codes " needs nothing\n"
 one_line false name = name ++ codes " differs in fill at most\n"
 
--- A ledger has a line for each field that differs, and one for bytes that are left out; or that one.
+-- A ledger has a line for each field that differs, and one for bytes left out; or that one.
 abbrev pub line_count : List FieldChange → ℕ → ℕ
 line_count changes left_out =
     if left_out == 0 then length changes else length changes + 1
@@ -169,8 +169,8 @@ module _ (out err : OutputChange) (file : List ℕ) (bytes : Option (List ℕ)) 
       pub free : IsVacant m.there name
       pub leaves : LeavesPart m.before m.after name is_left
 
--- by what makes files, the two writers, the file's name and the bytes that it stands for, and the new
--- name
+-- by what makes files, the two writers, the file's name and the bytes that it stands for, and the
+-- new name
 abbrev pub IsDoneTo : Making → OutputChange → OutputChange → List ℕ → Option (List ℕ) → Wanted →
     Option (List ℕ) → Status → Type 0
 IsDoneTo m out err file bytes w None status = MakesNothing m

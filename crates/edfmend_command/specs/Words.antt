@@ -1,7 +1,7 @@
 -- What the words after the program's name ask for: IN OUT or IN --dry-run, and options. clap reads
 -- the words; this is what is made of what it found.
-use Rattle.std.specs.Prelude.{◌≡◌, ◌≢◌, ◌⊎◌, ℕ, List, codes, Option, Some}
-use Rattle.std.specs.Prelude.{None, Bool, true, false, IfSome}
+use Rattle.std.specs.Prelude.{◌≡◌, ◌≢◌, ◌⊎◌, ℕ, List, codes, Option, Some, None, Bool, true, false}
+use Rattle.std.specs.Prelude.{IfSome}
 use Rattle.edf_time.specs.Civil.{IsDateText, IsTimeText}
 use Rattle.edf_mend.specs.Texts.{IsCode}
 use Rattle.edf_mend.specs.declared.wanted.Who.{Who}

@@ -2,7 +2,7 @@
 //! breaks them.
 
 ghost use Rattle.std.specs.Prelude.{◌≡◌, ◌↔◌, IsTrue, IfOk, IfSome, IsErrAnd, MatchResult};
-ghost use Rattle.std.specs.Prelude.{option_map, string_bytes, [], List, ℕ};
+ghost use Rattle.std.specs.Prelude.{option_map, string_bytes, []};
 ghost use Rattle.std.specs.Bool.{MatchBool};
 ghost use Rattle.edf_mend.specs.Texts.{IsCode};
 ghost use Rattle.edf_cli.specs.Output.{output_change, Gets};

@@ -10,14 +10,14 @@ use edf_canonical::Measure;
 use edf_cli::Inputs;
 use edf_fragment::{FragmentFault, Input, Output};
 use edf_mend::{MendFault, Mended, Wanted, measure, write_mended};
-use edf_runs::{CanonicalPlan, WriteFault, plan_canonical, write_canonical};
+use edf_runs::{Outline, WriteFault, read_outline, write_canonical};
 use std::alloc::Global;
 
 /// What a first reading found.
 #[derive(Drop)]
 pub(crate) enum Plan {
-    /// The file is good, and nothing is asked: its canonical file is planned.
-    Strict(CanonicalPlan),
+    /// The file is good, and nothing is asked: this is all of it but its samples.
+    Strict(Outline),
     /// It is mended: this is the measure of what is read of it.
     Lenient(Measure),
 }
@@ -37,12 +37,12 @@ impl Plan {
     }
 }
 
-/// Plans the canonical file of a good file; `None` where it is none.
+/// Returns the outline of a good file; `None` where it is none.
 fn plan_strictly<I: Inputs>(
     alloc: Global,
     file: &str,
     inputs: &mut I,
-) -> Result<Option<CanonicalPlan>, MendFault>
+) -> Result<Option<Outline>, MendFault>
     ensures plan { IfOk result (PlansStrictly (I.bytes inputs.old file.now)) }
     ensures trouble { IfErr result
         (λ fault. (fault ≡ MendFault.Read) ⊎ (fault ≡ MendFault.Memory)) }
@@ -54,8 +54,8 @@ fn plan_strictly<I: Inputs>(
     let Ok(mut reader) = inputs.open(alloc, file) else {
         return Err(MendFault::Memory);
     };
-    match plan_canonical(alloc, &mut reader) {
-        Ok(plan) => Ok(Some(plan)),
+    match read_outline(alloc, &mut reader) {
+        Ok(outline) => Ok(Some(outline)),
         Err(FragmentFault::Read) => Err(MendFault::Read),
         Err(FragmentFault::Memory) => Err(MendFault::Memory),
         Err(_) => Ok(None),
@@ -93,8 +93,8 @@ pub(crate) fn plan_of<I: Inputs>(
     ensures same { (name : List ℕ) → I.bytes inputs.new name ≡ I.bytes inputs.old name }
 {
     if wanted.asks_nothing() {
-        if let Some(plan) = plan_strictly(alloc, file, inputs)? {
-            return Ok(Plan::Strict(plan));
+        if let Some(outline) = plan_strictly(alloc, file, inputs)? {
+            return Ok(Plan::Strict(outline));
         }
     }
     let measured = plan_leniently(alloc, file, wanted, inputs)?;
@@ -127,7 +127,7 @@ fn write_planned<R: Input, W: Output>(
         (IsNotMended (R.remaining input.old) wanted.now) }
 {
     match plan {
-        Plan::Strict(plan) => match write_canonical(alloc, input, plan, out) {
+        Plan::Strict(outline) => match write_canonical(alloc, input, outline, out) {
             Ok(_) => Ok(Mended {
                 changes: Vec::new(alloc),
                 left_out: 0,

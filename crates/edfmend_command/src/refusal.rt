@@ -20,6 +20,8 @@ pub(crate) struct Names<'a> {
 /// What is said of a file that is asked something.
 const NO_CODE: &[u8] = b" names no code of a patient: give one by --patient CODE";
 
+const NO_PATIENT: &[u8] = b" has a patient field that has no room in ASCII";
+
 const NO_COUNT: &[u8] =
     b" has another number of data records than its header says: --all takes all that are there";
 
@@ -62,6 +64,7 @@ fn why_text(alloc: Global, names: Names<'_>, fault: &MendFault) -> Result<Vec<u8
             let text = format!(in alloc; "{signal} that has no room in ASCII")?;
             said(alloc, old, b" has a text of signal ", text.as_bytes())
         }
+        MendFault::Patient => said(alloc, old, NO_PATIENT, none),
         MendFault::Count => said(alloc, old, NO_COUNT, none),
         MendFault::NoRoom => said(alloc, old, NO_ROOM, none),
         MendFault::Check => said(alloc, old, b" was read wrongly: an error of edfmend", none),

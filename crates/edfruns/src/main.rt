@@ -44,7 +44,7 @@ impl Program for Edfruns {
     }
 
     fn run(rt: &HostRuntime, command: &RunsCommand) -> Status {
-        if matches!(command, RunsCommand::Canonical { .. })
+        if command.writes_edf()
             && let Some(status) = refuse_terminal(rt)
         {
             return status;

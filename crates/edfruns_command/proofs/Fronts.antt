@@ -1,5 +1,6 @@
 -- How lines of runs begin.
-use Rattle.std.proofs.Common.{◌≡◌, ℕ, ◌-◌, List, [], ◌++◌, ap, ◌∙◌, append-nil, codes, decimal, Option}
+use Rattle.std.proofs.Common.{◌≡◌, ℕ, ◌-◌, List, [], ◌++◌, ap, ◌∙◌, append-nil, codes, decimal}
+use Rattle.std.proofs.Common.{Option}
 use Rattle.edf_time.specs.Decimal.{short}
 use Rattle.edf_runs.specs.declared.run.Run.{Run}
 use Rattle.edfruns_command.specs.Lines.{end_of, gap_text, run_front}

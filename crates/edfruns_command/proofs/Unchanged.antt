@@ -25,8 +25,7 @@ use Rattle.edf_runs.specs.declared.fault.WriteFault.{WriteFault}
 use Rattle.edf_runs.specs.declared.fault.WriteFault.TheVariants.{Changed, Read, Memory}
 use Rattle.edf_runs.proofs.Parts.{one-runs}
 use Rattle.edfruns_command.specs.Listing.{HasRuns}
-use Rattle.edfruns_command.specs.Picturing.{StopsAgain}
-use Rattle.edfruns_command.specs.Rereading.{IsOfReading}
+use Rattle.edfruns_command.specs.Picturing.{IsOfReading, StopsAgain}
 
 -- ---- runs are listed in one way
 
@@ -55,12 +54,18 @@ one-listed : (d : ℕ) (rs : List DataRecord) (r s : Run) → rs ≢ [] → IsLi
 one-listed d rs r s some one is =
     let first = same-start d rs r.first s.first some one.starts is.starts in
     let records = one.count ∙ sym is.count in
-    let low = one.least s.block_samples (subst (λ (f : ℕ). BlocksFit (second_of f) s.block_samples rs)
+    let low = one.least s.block_samples (subst (λ (f : ℕ). BlocksFit (second_of f) s.block_samples
+    rs)
     (sym first) is.holds) in
-    let high = is.least r.block_samples (subst (λ (f : ℕ). BlocksFit (second_of f) r.block_samples rs)
+    let high = is.least r.block_samples (subst (λ (f : ℕ). BlocksFit (second_of f) r.block_samples
+    rs)
     first one.holds) in
     same-run r s first (one.last ∙ ap (λ (f : ℕ). f + (r.records - 1) * d) first
-    ∙ ap (λ (n : ℕ). s.first + (n - 1) * d) records ∙ sym is.last) records (omega (arith, low, high))
+    ∙ ap (λ (n : ℕ). s.first + (n - 1) * d) records ∙ sym is.last) records (omega (
+      arith,
+      low,
+      high,
+    ))
 
 each-listed : (d : ℕ) (runs : List (List DataRecord)) (rs ss : List Run) →
     All (λ run. run ≢ []) runs → AllZip (IsListed d) runs rs → AllZip (IsListed d) runs ss → rs ≡ ss
@@ -157,7 +162,8 @@ stops-by-key bytes rest one other read differ = record {
   unchanged = no-other bytes rest one other read (λ same. differ same.identity);
 }
 
-pub stops-by-runs : (bytes rest : Option (List ℕ)) (one other : Listing) → ReadsRuns bytes rest one →
+pub stops-by-runs : (bytes rest : Option (List ℕ)) (one other : Listing) → ReadsRuns bytes rest one
+    →
     (one.runs.items ≡ other.runs.items → ⊥) → StopsAgain bytes other Changed
 stops-by-runs bytes rest one other read differ = record {
   of_reading = tt;

@@ -1,7 +1,7 @@
 -- A list that is walked.
-use Rattle.std.proofs.Common.{◌≡◌, ℕ, ◌+◌, ◌<◌, List, ◌∷◌, ◌++◌, length, take, drop, get_or, map}
-use Rattle.std.proofs.Common.{sym, ap, ◌∙◌, subst, All, take-append-drop}
-use Rattle.std.proofs.lemmas.List.{take_more, drop_more, get_or-map}
+use Rattle.std.proofs.Common.{◌≡◌, ℕ, ◌+◌, ◌<◌, List, length, take, get_or, map, sym, ap, ◌∙◌}
+use Rattle.std.proofs.Common.{subst, All}
+use Rattle.std.proofs.lemmas.List.{take_more, get_or-map}
 use Rattle.std.proofs.lemmas.List.Elements.{All-push}
 
 module _ {X : Type 0} (xs : List X) (i : ℕ) (x : X) (lt : i < length xs) (is : x ≡ get_or xs i x)
@@ -9,10 +9,6 @@ module _ {X : Type 0} (xs : List X) (i : ℕ) (x : X) (lt : i < length xs) (is :
     pub all-more : (P : X → Type 0) → All P (take i xs) → P x → All P (take (i + 1) xs)
     all-more P all one = subst (All P) (sym (take_more xs i x lt))
         (All-push P (take i xs) (get_or xs i x) all (subst P is one))
-
-    pub around : xs ≡ take i xs ++ (x ∷ drop (i + 1) xs)
-    around = sym (take-append-drop i xs) ∙ ap (λ (l : List X). take i xs ++ l)
-        (drop_more xs i x lt ∙ ap (λ (y : X). y ∷ drop (i + 1) xs) (sym is))
 
     pub mapped : {Y : Type 0} (f : X → Y) → f x ≡ get_or (map f xs) i (f x)
     mapped f = ap f is ∙ sym (get_or-map f xs i x (f x) lt)

@@ -1,14 +1,13 @@
 pub mod Naming
 pub mod Picturing
 pub mod Lines
-pub mod Made
 pub mod Listing
 pub mod Listed
-pub mod Counting
 pub mod Canonical
-pub mod Rereading
+pub mod Answering
+pub mod Filling
+pub mod Comparing
 pub mod Splitting
 pub mod Run
 pub mod Inside
-pub mod InsideMaking
 pub mod InsideSplit

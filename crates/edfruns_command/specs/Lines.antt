@@ -11,8 +11,6 @@ use Rattle.edf_cli.specs.declared.status.Status.{Status}
 use Rattle.edf_runs.specs.declared.run.Run.{Run}
 use Rattle.edf_runs.specs.declared.fault.WriteFault.{WriteFault}
 use Rattle.edf_runs.specs.declared.fault.WriteFault.TheVariants as run
-use Rattle.edfruns_command.specs.declared.stop.Stop.{Stop}
-use Rattle.edfruns_command.specs.declared.stop.Stop.TheVariants as stop
 pub use Rattle.edf_cli.specs.Text.{IsInstantFormat}
 
 -- ---- lines of runs, whose data records last d nanoseconds
@@ -82,11 +80,6 @@ reread_line name run.Changed = changed_line name
 reread_line name run.Memory = memory_line name
 reread_line name why = unread_line name
 
--- why files were not made of all runs
-abbrev pub stop_line : List ℕ → Stop → List ℕ
-stop_line name (stop.Reading why) = reread_line name why
-stop_line name (stop.Output output) = unwritten_line output.now
-
 -- why a canonical file is not written to standard output
 abbrev pub canonical_refused_line : List ℕ → WriteFault → List ℕ
 canonical_refused_line name run.Write = unwritten_line standard_output
@@ -95,6 +88,3 @@ canonical_refused_line name why = reread_line name why
 -- `FILE outside=N`: of how many annotations no data record has the onset
 abbrev pub outside_line : List ℕ → ℕ → List ℕ
 outside_line name count = name ++ (codes " outside=" ++ (decimal count ++ (10 ∷ [])))
-
-abbrev pub left_line : List ℕ → List ℕ
-left_line name = name ++ codes " could not be removed\n"

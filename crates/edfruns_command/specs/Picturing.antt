@@ -1,4 +1,5 @@
--- What `picture` does: a picture of the whole file goes out, or a front of one, or nothing. Its title
+-- What `picture` does: a picture of the whole file goes out, or a front of one, or nothing. Its
+-- title
 -- has the codes of the file's recording, and the line below that its times. Nothing here says that
 -- it shows the file's gaps, annotations and samples.
 use Rattle.std.specs.Prelude.{◌≡◌, ◌≢◌, ◌⊎◌, ℕ, Bool, List, [], Option, Some, None, IfSome, map}
@@ -15,7 +16,8 @@ use Rattle.edf_cli.specs.declared.status.Status.{Status}
 use Rattle.edf_cli.specs.declared.status.Status.TheVariants.{Done, Trouble}
 use Rattle.edf_runs.specs.ByOnset.{annotations_of}
 use Rattle.edf_runs.specs.declared.fault.WriteFault.{WriteFault}
-use Rattle.edf_runs.specs.declared.fault.WriteFault.TheVariants.{Changed}
+use Rattle.edf_runs.specs.declared.fault.WriteFault.TheVariants.{Undated, Changed, Read, Memory}
+use Rattle.edf_runs.specs.declared.fault.WriteFault.TheVariants.{Write}
 use Rattle.edf_runs.specs.declared.run.Run.{Run}
 use Rattle.edf_runs.specs.declared.run_list.Listing.{Listing}
 use Rattle.edf_picture.specs.declared.extent.Extent.{Extent}
@@ -23,7 +25,6 @@ use Rattle.edf_picture.specs.declared.extent.Note.{Note}
 use Rattle.edf_tal.specs.Tal.{Annotation}
 use Rattle.edfruns_command.specs.Lines.{end_of, reread_line, unwritten_line, standard_output}
 use Rattle.edfruns_command.specs.Listing.{HasRuns, RefusesFile, LacksMemory}
-use Rattle.edfruns_command.specs.Rereading.{IsOfReading}
 
 -- a note has what an annotation has
 pub record IsNoted (a : Annotation) (n : Note) : Type 0 where
@@ -58,7 +59,16 @@ pub record ReadsNotes (input rest : Option (List ℕ)) (notes : List Note) : Typ
   pub read : ReadsFragment input rest layout records
   pub noted : AreNoted (annotations_of records) notes
 
--- the second reading stopped: a read failed, memory ran out, or the file changed; known bytes of which
+-- the faults of a reading
+abbrev pub IsOfReading : WriteFault → Type 0
+IsOfReading Undated = ⊥
+IsOfReading Changed = Unit {0}
+IsOfReading Read = Unit {0}
+IsOfReading Memory = Unit {0}
+IsOfReading Write = ⊥
+
+-- the second reading stopped: a read failed, memory ran out, or the file changed; known bytes of
+-- which
 -- the first had these runs do not change
 pub record StopsAgain (bytes : Option (List ℕ)) (listing : Listing) (why : WriteFault) : Type 0
   where

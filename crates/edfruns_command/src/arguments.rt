@@ -2,6 +2,9 @@
 //! breaks them.
 
 use crate::canonical_command::{canonical_words, read_canonical};
+use crate::compare_command::{compare_words, read_compare};
+use crate::cut_command::{cut_words, read_cut};
+use crate::fill_command::{fill_words, read_fill};
 use crate::list_command::{list_words, read_list};
 use crate::picture_command::{picture_words, read_picture};
 use crate::runs_command::RunsCommand;
@@ -28,13 +31,13 @@ Example, a night with two gaps:
 
 Status:
   0  done
-  1  the file was refused, or a file is there
+  1  the file was refused, or a file is there; of 'compare' too: not all is known
   2  the words ask for nothing that can be done
   3  trouble with a file, standard output or memory";
 
 /// Why words without a command are refused.
 const NO_COMMAND: &str = "\
-a command is wanted: list, canonical, split or picture";
+a command is wanted: list, split, fill, cut, compare, canonical or picture";
 
 /// Why `-` is refused where a file is read twice.
 const READ_TWICE: &str = "\
@@ -83,6 +86,9 @@ fn edfruns_words<'a>(alloc: Global) -> Result<Command<'a>, AllocError> {
     program(alloc)?
         .subcommand(list_words(alloc)?)?
         .subcommand(canonical_words(alloc)?)?
+        .subcommand(fill_words(alloc)?)?
+        .subcommand(cut_words(alloc)?)?
+        .subcommand(compare_words(alloc)?)?
         .subcommand(split_words(alloc)?)?
         .subcommand(picture_words(alloc)?)
 }
@@ -100,6 +106,9 @@ fn command_in(alloc: Global, matches: &ArgMatches<'_>) -> Result<RunsCommand, Co
     match word {
         "list" => read_list(alloc, values),
         "canonical" => read_canonical(alloc, values),
+        "fill" => read_fill(alloc, values),
+        "cut" => read_cut(alloc, values),
+        "compare" => read_compare(alloc, values),
         "split" => read_split(alloc, values),
         "picture" => read_picture(alloc, values),
         _ => Err(refuse_no_command(alloc)?),
@@ -108,9 +117,11 @@ fn command_in(alloc: Global, matches: &ArgMatches<'_>) -> Result<RunsCommand, Co
 
 /// What the words after the program's name ask for.
 ///
-/// The words are `list FILE..`, `canonical FILE`, `split FILE PREFIX` or `picture FILE`.
-/// `canonical` has an option `--by-onset`, and `picture` one `--without-code`. No FILE is standard
-/// input. `--help`, `-h`, `help` and `--version`, `-V` are as `edfstore` has them.
+/// The words are `list FILE..`, `canonical FILE`, `fill FILE`, `cut FILE`, `compare FILE OTHER`,
+/// `split FILE PREFIX` or `picture FILE`. `canonical` has an option `--by-onset`, `fill` has
+/// `--longest-gap HOURS` and `--moved SECONDS`, `cut` has `--from` and `--to`, one of which it
+/// needs, and `picture` has `--without-code`. No FILE is standard input. `--help`, `-h`, `help` and
+/// `--version`, `-V` are as `edfstore` has them.
 ///
 /// # Errors
 /// `Help` where help or the version was asked for, `Usage` where the words ask for nothing that can

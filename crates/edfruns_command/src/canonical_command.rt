@@ -1,21 +1,23 @@
 //! `canonical`: the canonical file of a whole file.
 
 ghost use Rattle.std.specs.Prelude.{◌≡◌, ◌++◌, ℕ, List, MatchResult, replicate};
+ghost use Rattle.edf_header.specs.Key.{Key};
+ghost use Rattle.edf_fragment.specs.Fragment.{DataRecord};
 ghost use Rattle.edf_cli.specs.Output.{output_change};
-ghost use Rattle.edfruns_command.specs.Canonical.{HasPlan, HasPlanFault, IsCanonicalOut};
-ghost use Rattle.edfruns_command.specs.Canonical.{WritesFile, StopsAgain};
-ghost use Rattle.edfruns_command.specs.Inside.{IsPlanRefused, OpensUpTo};
+ghost use Rattle.edf_runs.specs.Outline.{IsOutline};
+ghost use Rattle.edfruns_command.specs.Canonical.{IsCanonicalOut, WritesFile, StopsAgain};
+ghost use Rattle.edfruns_command.specs.Canonical.{arranged, told_outside};
+ghost use Rattle.edfruns_command.specs.Inside.{IsCrowdedSaid, IsTooCrowded, OpensUpTo};
 ghost use Rattle.edfruns_command.specs.Listing.{OpensAgain};
 
 use crate::arguments::{refuse_stream, twice_read_file_value, value_in};
+use crate::outline_command::outline_of;
 use crate::refusal::{refuse, refuse_canonical, tell_crowded, tell_outside};
 use crate::runs_command::RunsCommand;
 use clap::{Arg, ArgAction, ArgMatches, Command};
 use edf_cli::{CommandFault, Inputs, Status, print_memory};
-use edf_fragment::{Input, Output};
-use edf_runs::{
-    CanonicalPlan, OnsetFault, WriteFault, plan_by_onset, plan_canonical, write_canonical,
-};
+use edf_fragment::Output;
+use edf_runs::{CrowdedFault, Outline, WriteFault, by_onset, count_outside, write_canonical};
 use std::alloc::{AllocError, Global};
 
 /// What the file holds.
@@ -24,8 +26,8 @@ Writes the canonical EDF+D file of a file to standard output, as 'edfstore conve
 does. Files with the same data records, annotations and identity have one canonical
 file, whatever their headers leave open.
 
-FILE is read twice, first for the size of its longest annotations and then for its
-data records, one of which is in memory at a time. So it can't be standard input.
+FILE is read twice, first for its times and annotations, which stay in memory, and
+then for the samples of one data record at a time. So it can't be standard input.
 
 With --by-onset each annotation is in the data record in which its onset lies. It is
 for files of EDFlib, which puts the n-th annotation into the n-th data record: then a
@@ -33,8 +35,7 @@ card and its pieces have different data records, and 'edfstore take' refuses one
 them, E31. Take all files of the recording so, from the first on. An annotation whose
 onset lies in no data record is in the last before it, or in the first; where there
 are some, a line on standard error tells how many:
-  FILE outside=N
-The annotations are those of the first reading, which are all in memory.";
+  FILE outside=N";
 
 const CANONICAL_EXAMPLE: &str = "\
 Example:
@@ -81,77 +82,64 @@ pub(crate) fn read_canonical(
     })
 }
 
-/// What the canonical file of what is read needs before its first byte.
-fn plan_from<R: Input>(
-    alloc: Global,
-    reader: &mut R,
-    is_by_onset: bool,
-) -> Result<CanonicalPlan, OnsetFault>
-    ensures { MatchResult result (HasPlan is_by_onset (R.remaining reader.old))
-        (HasPlanFault is_by_onset (R.remaining reader.old)) }
+/// Returns the outline whose canonical file goes out: that of the file, or this by onset.
+fn arrange(alloc: Global, outline: Outline, is_by_onset: bool) -> Result<Outline, CrowdedFault>
+    ensures { (k : Key) (records : List DataRecord) → IsOutline k records outline →
+        MatchResult result (IsOutline k (arranged is_by_onset records))
+        (IsTooCrowded is_by_onset k records) }
 {
     if is_by_onset {
-        return plan_by_onset(alloc, reader);
+        return by_onset(alloc, outline);
     }
-    match plan_canonical(alloc, reader) {
-        Ok(plan) => Ok(plan),
-        Err(fault) => Err(OnsetFault::Fragment(fault)),
-    }
+    Ok(outline)
 }
 
-/// What the canonical file of a file needs before its first byte, by a first reading.
-fn plan_of<I: Inputs>(
-    alloc: Global,
-    file: &str,
-    is_by_onset: bool,
-    inputs: &mut I,
-) -> Result<CanonicalPlan, OnsetFault>
-    ensures answer { MatchResult result (HasPlan is_by_onset (I.bytes inputs.old file.now))
-        (HasPlanFault is_by_onset (I.bytes inputs.old file.now)) }
-    ensures opened { MatchResult result
-        (λ _. I.opened inputs.new ≡ I.opened inputs.old ++ replicate 1 file.now)
-        (λ _. OpensUpTo (I.opened inputs.old) (I.opened inputs.new) file.now 1) }
-    ensures same { (name : List ℕ) → I.bytes inputs.new name ≡ I.bytes inputs.old name }
+/// Returns of how many annotations a line tells: by onset, of those that no data record has.
+fn told_outside(outline: &Outline, is_by_onset: bool) -> u64
+    ensures { (k : Key) (records : List DataRecord) → IsOutline k records outline.now →
+        result ≡ told_outside is_by_onset k records }
 {
-    match inputs.open(alloc, file) {
-        Ok(mut reader) => plan_from(alloc, &mut reader, is_by_onset),
-        Err(_) => Err(OnsetFault::Memory),
+    if !is_by_onset {
+        return 0;
     }
+    count_outside(outline) as u64
 }
 
-/// Reads a file again, and writes the canonical file that was planned of it.
-fn write_planned<I: Inputs, O: Output>(
+/// Reads a file again, and writes the canonical file of its outline.
+fn write_again<I: Inputs, O: Output>(
     alloc: Global,
     file: &str,
-    plan: &CanonicalPlan,
+    outline: &Outline,
     inputs: &mut I,
     out: &mut O,
 ) -> Result<(), WriteFault>
-    ensures answer { MatchResult result
-        (λ _. WritesFile (output_change O.Output out.old out.new)
-        (I.bytes inputs.old file.now) plan.now)
+    ensures answer { (k : Key) (ones : List DataRecord) → IsOutline k ones outline.now →
+        MatchResult result
+        (λ none. WritesFile (output_change O.Output out.old out.new)
+        (I.bytes inputs.old file.now) k ones)
         (StopsAgain (output_change O.Output out.old out.new)
-        (I.bytes inputs.old file.now) plan.now) }
+        (I.bytes inputs.old file.now) k ones) }
     ensures opened { MatchResult result
-        (λ _. I.opened inputs.new ≡ I.opened inputs.old ++ replicate 1 file.now)
-        (λ _. OpensUpTo (I.opened inputs.old) (I.opened inputs.new) file.now 1) }
+        (λ none. I.opened inputs.new ≡ I.opened inputs.old ++ replicate 1 file.now)
+        (λ fault. OpensUpTo (I.opened inputs.old) (I.opened inputs.new) file.now 1) }
     ensures same { (name : List ℕ) → I.bytes inputs.new name ≡ I.bytes inputs.old name }
 {
     let Ok(mut reader) = inputs.open(alloc, file) else {
         return Err(WriteFault::Memory);
     };
-    write_canonical(alloc, &mut reader, plan, out)?;
-    Ok(())
+    match write_canonical(alloc, &mut reader, outline, out) {
+        Ok(_) => Ok(()),
+        Err(fault) => Err(fault),
+    }
 }
 
-/// Prints why nothing is written of a file.
-fn refuse_plan<F: Output>(alloc: Global, file: &str, fault: OnsetFault, err: &mut F) -> Status
-    ensures { IsPlanRefused (output_change F.Output err.old err.new) file.now fault result }
+/// Prints why nothing is written of a file by onset.
+fn refuse_crowded<F: Output>(file: &str, fault: CrowdedFault, err: &mut F) -> Status
+    ensures { IsCrowdedSaid (output_change F.Output err.old err.new) file.now fault result }
 {
     match fault {
-        OnsetFault::Fragment(met) => refuse(alloc, file, met, err),
-        OnsetFault::TooMany(number) => tell_crowded(err, number),
-        OnsetFault::Memory => print_memory(err, file),
+        CrowdedFault::Crowded(number) => tell_crowded(err, number as u64),
+        CrowdedFault::Memory => print_memory(err, file),
     }
 }
 
@@ -170,12 +158,17 @@ pub(crate) fn canonical<I: Inputs, O: Output, F: Output>(
     ensures opened { OpensAgain (I.opened inputs.old) (I.opened inputs.new) file.now 2 result }
     ensures same { (name : List ℕ) → I.bytes inputs.new name ≡ I.bytes inputs.old name }
 {
-    let plan = match plan_of(alloc, file, is_by_onset, inputs) {
-        Ok(plan) => plan,
-        Err(fault) => return refuse_plan(alloc, file, fault, err),
+    let read = match outline_of(alloc, file, inputs) {
+        Ok(outline) => outline,
+        Err(fault) => return refuse(alloc, file, fault, err),
     };
-    match write_planned(alloc, file, &plan, inputs, out) {
-        Ok(()) => tell_outside(err, file, plan.outside()),
+    let outside = told_outside(&read, is_by_onset);
+    let outline = match arrange(alloc, read, is_by_onset) {
+        Ok(outline) => outline,
+        Err(fault) => return refuse_crowded(file, fault, err),
+    };
+    match write_again(alloc, file, &outline, inputs, out) {
+        Ok(()) => tell_outside(err, file, outside),
         Err(fault) => refuse_canonical(file, fault, err),
     }
 }

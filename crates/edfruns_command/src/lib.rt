@@ -10,19 +10,21 @@
 
 mod arguments;
 mod canonical_command;
-mod counting;
+mod compare_command;
+mod cut_command;
+mod fill_command;
+mod instant_word;
 mod lines;
 mod list_command;
 mod making;
 mod naming;
+mod outline_command;
 mod picture_command;
 mod refusal;
-mod removing;
 mod runs_command;
 mod sight;
 mod signals;
 mod split_command;
-mod stop;
 
 pub use arguments::{parse, read_command};
 pub use lines::runs_text;

@@ -13,12 +13,13 @@ ghost use Rattle.edfruns_command.specs.Listing.{HasRuns, HasFault};
 
 use crate::arguments::required_value;
 use crate::lines::list_text;
+use crate::outline_command::outline_of;
 use crate::refusal::{STANDARD_OUTPUT, print_unwritten, refuse};
 use crate::runs_command::RunsCommand;
 use clap::{Arg, ArgAction, ArgMatches, Command};
 use edf_cli::{CommandFault, Inputs, Status, concat, print_memory, refuse_value, worse};
 use edf_fragment::{FragmentFault, Output, send};
-use edf_runs::{Listing, list_runs};
+use edf_runs::{Listing, list_outline};
 use std::alloc::{AllocError, Global};
 
 /// What the line of a run says.
@@ -94,8 +95,9 @@ pub(crate) fn listing_of<I: Inputs>(
         (λ _. OpensUpTo (I.opened inputs.old) (I.opened inputs.new) file.now 1) }
     ensures same { (name : List ℕ) → I.bytes inputs.new name ≡ I.bytes inputs.old name }
 {
-    match inputs.open(alloc, file) {
-        Ok(mut reader) => list_runs(alloc, &mut reader),
+    let outline = outline_of(alloc, file, inputs)?;
+    match list_outline(alloc, outline) {
+        Ok(listing) => Ok(listing),
         Err(_) => Err(FragmentFault::Memory),
     }
 }

@@ -1,15 +1,13 @@
 //! The lines why a command is not done.
 
-ghost use Rattle.std.specs.Prelude.{◌≡◌, ◌≢◌, ◌⊎◌};
-ghost use Rattle.std.specs.Bool.{MatchBool};
-ghost use Rattle.edf_cli.specs.Output.{output_change, IsPut, IsWritten};
+ghost use Rattle.std.specs.Prelude.{◌⊎◌};
+ghost use Rattle.edf_cli.specs.Output.{output_change, IsWritten};
 ghost use Rattle.edf_cli.specs.Text.{memory_line};
 ghost use Rattle.edfruns_command.specs.Canonical.{TellsOutside};
-ghost use Rattle.edfruns_command.specs.Lines.{canonical_refused_line, crowded_line, left_line};
+ghost use Rattle.edfruns_command.specs.Lines.{canonical_refused_line, crowded_line};
 ghost use Rattle.edfruns_command.specs.Lines.{file_refused_line, file_refused_status};
-ghost use Rattle.edfruns_command.specs.Lines.{reread_line, stop_line, undated_line, unwritten_line};
+ghost use Rattle.edfruns_command.specs.Lines.{reread_line, undated_line, unwritten_line};
 
-use crate::stop::Stop;
 use edf_cli::{
     Status, fragment_fault_text, print_line, print_memory, print_parts, print_refused,
     status_of_number,
@@ -21,13 +19,6 @@ use std::alloc::Global;
 
 /// What the line names where standard output can't be written.
 pub(crate) const STANDARD_OUTPUT: &str = "standard output";
-
-/// Whether what answers this status was written whole, where `Done` was asked for.
-fn is_told(status: Status) -> bool
-    ensures { MatchBool result (status ≡ Status.Done) (status ≢ Status.Done) }
-{
-    matches!(status, Status::Done)
-}
 
 /// Prints why a file is refused, or can't be read.
 pub(crate) fn refuse<F: Output>(
@@ -128,19 +119,6 @@ pub(crate) fn refuse_canonical<F: Output>(file: &str, fault: WriteFault, err: &m
     }
 }
 
-/// Prints why the files of all runs are not there, and answers whether that was printed whole.
-/// Printing takes no memory.
-pub(crate) fn is_stop_told<F: Output>(err: &mut F, file: &str, stop: Stop<'_>) -> bool
-    ensures { IsPut (output_change F.Output err.old err.new)
-        (stop_line file.now stop.entry) result }
-{
-    let status = match stop {
-        Stop::Output(name) => print_unwritten(err, name, Status::Done),
-        Stop::Reading(fault) => print_reread(err, file, fault, Status::Done),
-    };
-    is_told(status)
-}
-
 /// Prints of how many annotations no data record has the onset, where there are any. Printing takes
 /// no memory.
 pub(crate) fn tell_outside<F: Output>(err: &mut F, file: &str, outside: u64) -> Status
@@ -158,12 +136,4 @@ pub(crate) fn tell_outside<F: Output>(err: &mut F, file: &str, outside: u64) -> 
         b"\n",
     ];
     print_parts(err, &parts, Status::Done)
-}
-
-/// Prints that a file could not be removed, and answers whether that was printed whole.
-pub(crate) fn is_left_told<F: Output>(err: &mut F, name: &str) -> bool
-    ensures { IsPut (output_change F.Output err.old err.new) (left_line name.now) result }
-{
-    let parts = [name.as_bytes(), b" could not be removed\n".as_slice()];
-    is_told(print_parts(err, &parts, Status::Done))
 }

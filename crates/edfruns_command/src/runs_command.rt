@@ -5,15 +5,18 @@ ghost use Rattle.edf_cli.specs.Making.{making};
 ghost use Rattle.edfruns_command.specs.Run.{IsDone, HasMade, HasOpened, meaning};
 
 use crate::canonical_command::canonical;
+use crate::compare_command::compare;
+use crate::cut_command::cut;
+use crate::fill_command::fill_file;
 use crate::list_command::list;
 use crate::picture_command::picture;
 use crate::split_command::split;
 use edf_cli::{Inputs, NewFiles, Status};
 use edf_fragment::Output;
+use edf_runs::FillLimits;
 use std::alloc::Global;
 
-/// What a command line of `edfruns` asks for. A file is a path, or `-` for the standard input of
-/// `Picture`. None of them is looked at here.
+/// What a command line of `edfruns` asks for. A file is a path. None of them is looked at here.
 #[derive(Debug, Drop)]
 pub enum RunsCommand {
     /// List the runs of files.
@@ -27,6 +30,29 @@ pub enum RunsCommand {
         file: String,
         /// Whether each annotation is in the data record that has its onset.
         is_by_onset: bool,
+    },
+    /// Write the filled file to standard output.
+    Fill {
+        /// The file. It is not `-`.
+        file: String,
+        /// How long a gap may be, and how far a data record may move.
+        limits: FillLimits,
+    },
+    /// Write the data records of a time to standard output.
+    Cut {
+        /// The file. It is not `-`.
+        file: String,
+        /// When the time begins, in nanoseconds from 1985.
+        from: u64,
+        /// When it ends.
+        to: u64,
+    },
+    /// Say what of a second file the first has.
+    Compare {
+        /// The first file. It is not `-`.
+        file: String,
+        /// The second. It is not `-`.
+        other: String,
     },
     /// Write each run to an EDF+C file of its own.
     Split {
@@ -58,6 +84,13 @@ impl RunsCommand {
                 file: _,
                 is_by_onset: _,
             } => 2,
+            RunsCommand::Fill { file: _, limits: _ } => 2,
+            RunsCommand::Cut {
+                file: _,
+                from: _,
+                to: _,
+            } => 2,
+            RunsCommand::Compare { file: _, other: _ } => 2,
             RunsCommand::Split { file: _, prefix: _ } => 2,
             RunsCommand::Picture {
                 file: _,
@@ -65,16 +98,25 @@ impl RunsCommand {
             } => 2,
         }
     }
+
+    /// Is true where it writes an EDF file to standard output, which is not for a terminal.
+    pub fn writes_edf(&self) -> bool {
+        matches!(
+            self,
+            RunsCommand::Canonical { .. } | RunsCommand::Fill { .. } | RunsCommand::Cut { .. }
+        )
+    }
 }
 
 /// Runs a command.
 ///
-/// Lists, files and pictures go to `out`, and why something is not done, and the line of a file of
-/// `Canonical`, to `err`. The list of a file goes out whole, or a front of it where a write failed,
-/// which a line tells, or nothing where memory ran out. `Split` leaves all its files where it is
-/// done, and else none but those that it names as not removed; the lines of files that were removed
-/// may have gone out, where writing them failed. The clauses say what `List`, `Canonical` and
-/// `Split` do, and of `Picture` all but what the picture shows beside its title and its times.
+/// Lists, files and pictures go to `out`, and why something is not done, and the lines of a file of
+/// `Canonical` or `Fill`, to `err`. The list of a file goes out whole, or a front of it where a
+/// write failed, which a line tells, or nothing where memory ran out. `Split` leaves all its files
+/// where it is done, and else whole files of the first runs, and a line as each is whole. The
+/// clauses say what `List` and `Canonical` do; which files `Split` makes, what `Fill` and `Cut`
+/// write, and what the status of `Compare` tells, but no line of these; and of `Picture` all but
+/// what it shows beside its title and its times.
 pub fn run_runs<I: Inputs, P: NewFiles, O: Output, F: Output>(
     alloc: Global,
     command: &RunsCommand,
@@ -95,6 +137,15 @@ pub fn run_runs<I: Inputs, P: NewFiles, O: Output, F: Output>(
         RunsCommand::List { files } => list(alloc, files.as_slice(), inputs, out, err),
         RunsCommand::Canonical { file, is_by_onset } => {
             canonical(alloc, file.as_str(), *is_by_onset, inputs, out, err)
+        }
+        RunsCommand::Fill { file, limits } => {
+            fill_file(alloc, file.as_str(), *limits, inputs, out, err)
+        }
+        RunsCommand::Cut { file, from, to } => {
+            cut(alloc, file.as_str(), (*from, *to), inputs, out, err)
+        }
+        RunsCommand::Compare { file, other } => {
+            compare(alloc, file.as_str(), other.as_str(), inputs, out, err)
         }
         RunsCommand::Split { file, prefix } => split(
             alloc,

@@ -1,5 +1,7 @@
-//! The ordinary signals of an identity, as a picture names them.
+//! The ordinary signals of an identity, as a picture and the lines of a filled file name them.
 
+use edf_field::nearest_to_zero;
+use edf_header::Identity;
 use edf_picture::Signal;
 use std::alloc::{AllocError, Global};
 
@@ -62,4 +64,51 @@ fn number(field: &[u8]) -> u32 {
         }
     }
     number
+}
+
+/// Returns a field of a row without the spaces behind it.
+fn trimmed(row: &[u8], from: usize, to: usize) -> &[u8] {
+    part(row, from, to).trim_ascii_end()
+}
+
+/// Is true where all digits of a physical value are 0.
+fn is_zero(field: &[u8]) -> bool {
+    field.iter().all(|byte| !(b'1'..=b'9').contains(byte))
+}
+
+/// Returns the physical limit of a row that is nearer to 0, where 0 is not between both.
+fn nearer_limit(row: &[u8]) -> Option<&[u8]> {
+    let low = part(row, PHYSICAL_MINIMUM, PHYSICAL_MAXIMUM);
+    let high = part(row, PHYSICAL_MAXIMUM, DIGITAL_MINIMUM);
+    let is_between = low.starts_with(b"-") != high.starts_with(b"-");
+    if is_between || is_zero(low) || is_zero(high) || low.len() > 8 || high.len() > 8 {
+        return None;
+    }
+    match nearest_to_zero(low, high, 1)? {
+        0 => Some(low.trim_ascii_end()),
+        _ => Some(high.trim_ascii_end()),
+    }
+}
+
+/// Returns a line for each signal whose physical limits don't have 0 between them: what its flat
+/// samples show.
+pub(crate) fn outside_lines(alloc: Global, identity: &Identity) -> Result<Vec<u8>, AllocError> {
+    let mut text = Vec::new(alloc);
+    for (at, row) in identity.signal_rows().chunks_exact(ROW).enumerate() {
+        let Some(limit) = nearer_limit(row) else {
+            continue;
+        };
+        let number = at + 1;
+        let front = format!(in alloc; "signal {number}")?;
+        text.extend_from_slice(front.as_bytes())?;
+        let dimension = trimmed(row, DIMENSION, PHYSICAL_MINIMUM);
+        for word in [trimmed(row, 0, LABEL_END), b"is flat at", limit, dimension] {
+            if !word.is_empty() {
+                text.push(b' ')?;
+                text.extend_from_slice(word)?;
+            }
+        }
+        text.extend_from_slice(b": 0 is outside its limits\n".as_slice())?;
+    }
+    Ok(text)
 }

@@ -1,46 +1,45 @@
 //! `split`: a file for each run.
 
-ghost use Rattle.std.specs.Prelude.{◌≡◌, ◌-◌, ◌≤◌, ℕ, List, All, IfOk, MatchOption, length, map};
-ghost use Rattle.std.specs.Prelude.{string_bytes, take};
+ghost use Rattle.std.specs.Prelude.{◌≡◌, ◌≤◌, ℕ, List, All, Contains, IfOk, MatchOption};
+ghost use Rattle.std.specs.Prelude.{length, map, string_bytes, take};
 ghost use Rattle.edf_header.specs.Key.{MayStart};
 ghost use Rattle.edf_cli.specs.Output.{output_change};
 ghost use Rattle.edf_runs.specs.declared.run.Run.{Run as ListedRun};
 ghost use Rattle.edf_cli.specs.Making.{making};
-ghost use Rattle.edf_cli.specs.There.{IsVacant};
-ghost use Rattle.edfruns_command.specs.InsideSplit.{SplitsListed};
+ghost use Rattle.edf_cli.specs.There.{IsVacant, MayBeThere};
 ghost use Rattle.edfruns_command.specs.Listing.{OpensAgain};
 ghost use Rattle.edfruns_command.specs.Naming.{asked_names};
-ghost use Rattle.edfruns_command.specs.Splitting.{IsSplit, IsTaken, IsUndated};
+ghost use Rattle.edfruns_command.specs.Splitting.{IsSplit, Says};
 
 use crate::arguments::{refuse_stream, required_value, twice_read_file_value, value_in};
-use crate::counting::remark_outside;
 use crate::list_command::listing_of;
-use crate::making::make_files;
+use crate::making::{NamedRuns, Stop, make_files};
 use crate::naming::{push_first_names, run_names};
-use crate::refusal::{STANDARD_OUTPUT, refuse, tell_undated};
-use crate::removing::give_up;
+use crate::refusal::{print_reread, print_unwritten, refuse, tell_undated};
 use crate::runs_command::RunsCommand;
-use crate::stop::Stop;
 use clap::{ArgMatches, Command};
 use edf_cli::{CommandFault, Inputs, NewFiles, Status, print_memory, print_name_taken};
-use edf_fragment::{Output, send};
+use edf_fragment::Output;
 use edf_runs::Listing;
 use std::alloc::{AllocError, Global};
 
-/// Which files are made, and when none is.
+/// Which files are made, and what is left where one can't be.
 const SPLIT_MORE: &str = "\
 Writes each run of a file to a new EDF+C file: PREFIX-1.edf, PREFIX-2.edf and so
 on, or PREFIX-01.edf where there are 10 or more. All numbers have as many digits.
 
-No file that is there is written over: where one is, nothing is written. Where
-anything fails, the files that were made are removed again: all are there or none.
+No file that is there is written over: where one is, nothing is written.
+
+A line tells that a file is whole, and what it has, as 'edfruns list' does, with
+how many annotations, and how many of these have an onset outside of the run:
+  PREFIX-1.edf 1 records=K first=I seconds=S gap=S annotations=K outside=M
+    patient=P investigation=N
+
+Where it stops before the last file, those that are whole stay. Begin again with
+another PREFIX. A file that has no line, NAME.part, may be removed.
 
 FILE is read twice, first for its runs and then for their data records, so it
 can't be standard input.
-
-A line tells what each file has, as 'edfruns list' does, with how many annotations,
-and how many of these have an onset outside of the run:
-  PREFIX-1.edf 1 records=K first=I seconds=S gap=S annotations=K outside=M
 
 To have each annotation in the file of the run in which its onset lies, put them
 there first, by 'edfruns canonical --by-onset', and split the file that it writes.";
@@ -49,7 +48,9 @@ const SPLIT_EXAMPLE: &str = "\
 Example:
   edfruns split night.edf night
   night-1.edf 1 records=3 first=2002-03-02T23:59:50 seconds=3 gap=7.5 annotations=2 outside=1
-  night-2.edf 2 records=2 first=2002-03-03T00:00:00.5 seconds=2 annotations=0 outside=0";
+    patient=P7 investigation=N1
+  night-2.edf 2 records=2 first=2002-03-03T00:00:00.5 seconds=2 annotations=0 outside=0
+    patient=P7 investigation=N1";
 
 /// What usage calls the command.
 const NAME: &str = "edfruns split";
@@ -102,9 +103,8 @@ fn front_of(names: &[String], count: usize) -> &[String]
 
 /// The number of the first run whose start no header can name, from 1, if there is one.
 fn undated_run(listing: &Listing) -> Option<usize>
-    ensures { MatchOption result
-        (All (λ (run : ListedRun). MayStart listing.now.identity run.first) listing.now.runs.items)
-        (IsUndated listing.now) }
+    ensures { let Dated = All (λ (run : ListedRun). MayStart listing.now.identity run.first)
+        listing.now.runs.items in MatchOption result Dated (λ _. ¬ Dated) }
 {
     for (at, run) in listing.runs.iter().enumerate() {
         if !listing.identity.may_start(run.first()) {
@@ -118,7 +118,8 @@ fn undated_run(listing: &Listing) -> Option<usize>
 fn taken_name<'a, P: NewFiles>(outputs: &mut P, names: &'a [String]) -> Option<&'a str>
     ensures answer { MatchOption result
         (All (IsVacant (P.there outputs.old)) (map string_bytes names.now))
-        (λ name. IsTaken (P.there outputs.old) (map string_bytes names.now) name.now) }
+        (λ name. Contains (map string_bytes names.now) name.now
+        × MayBeThere (P.there outputs.old) name.now) }
     ensures there { (name : List ℕ) → P.there outputs.new name ≡ P.there outputs.old name }
     ensures made { P.made outputs.new ≡ P.made outputs.old }
     ensures failed { P.failed outputs.new ≡ P.failed outputs.old }
@@ -132,42 +133,19 @@ fn taken_name<'a, P: NewFiles>(outputs: &mut P, names: &'a [String]) -> Option<&
     None
 }
 
-/// Makes the files of the listed runs, and writes their lines once all are there. After a fault
-/// what was made is removed.
-fn split_listed<I: Inputs, P: NewFiles, O: Output, F: Output>(
-    alloc: Global,
-    file: &str,
-    listing: &Listing,
-    names: &[String],
-    inputs: &mut I,
-    outputs: &mut P,
-    out: &mut O,
-    err: &mut F,
-) -> Status
-    requires names { length names.now ≡ length listing.now.runs.items }
-    requires dated { All (λ (run : ListedRun). MayStart listing.now.identity run.first)
-        listing.now.runs.items }
-    ensures split { SplitsListed (making P.NewFiles outputs.old outputs.new)
-        (output_change O.Output out.old out.new) (output_change F.Output err.old err.new)
-        (I.bytes inputs.old file.now) file.now listing.now (map string_bytes names.now) result }
-    ensures opened { OpensAgain (I.opened inputs.old) (I.opened inputs.new) file.now 1 result }
-    ensures same { (name : List ℕ) → I.bytes inputs.new name ≡ I.bytes inputs.old name }
+/// Prints why not all runs have their files and lines. Printing takes no memory.
+fn print_stop<F: Output>(err: &mut F, file: &str, stop: Stop<'_>) -> Status
+    ensures status { result ≡ Status.Trouble }
+    ensures said { Says (output_change F.Output err.old err.new) }
 {
-    let first = outputs.count();
-    let lines = match make_files(alloc, file, listing, names, inputs, outputs) {
-        Ok(lines) => lines,
-        Err(stop) => return give_up(file, stop, names, first, outputs, err),
-    };
-    if send(out, lines.text.as_slice()) {
-        remark_outside(out, lines.outside);
-        return Status::Done;
+    match stop {
+        Stop::Output(name) => print_unwritten(err, name, Status::Trouble),
+        Stop::Reading(fault) => print_reread(err, file, fault, Status::Trouble),
     }
-    let stop = Stop::Output(STANDARD_OUTPUT);
-    give_up(file, stop, names, first, outputs, err)
 }
 
-/// Writes each run of a file to an EDF+C file of its own. No file that is there is written over. A
-/// run whose start no header can name is told before a name that is taken.
+/// Writes each run of a file to an EDF+C file of its own, one after another. No file that is there
+/// is written over. A run whose start no header can name is told before a name that is taken.
 pub(crate) fn split<I: Inputs, P: NewFiles, O: Output, F: Output>(
     alloc: Global,
     file: &str,
@@ -178,8 +156,7 @@ pub(crate) fn split<I: Inputs, P: NewFiles, O: Output, F: Output>(
     err: &mut F,
 ) -> Status
     ensures split { IsSplit (making P.NewFiles outputs.old outputs.new)
-        (output_change O.Output out.old out.new) (output_change F.Output err.old err.new)
-        (I.bytes inputs.old file.now) file.now prefix.now result }
+        (output_change F.Output err.old err.new) (I.bytes inputs.old file.now) prefix.now result }
     ensures opened { OpensAgain (I.opened inputs.old) (I.opened inputs.new) file.now 2 result }
     ensures same { (name : List ℕ) → I.bytes inputs.new name ≡ I.bytes inputs.old name }
 {
@@ -187,7 +164,8 @@ pub(crate) fn split<I: Inputs, P: NewFiles, O: Output, F: Output>(
         Ok(listing) => listing,
         Err(fault) => return refuse(alloc, file, fault, err),
     };
-    let Ok(asked) = asked_names(alloc, prefix, listing.runs.as_slice().len()) else {
+    let count = listing.runs.as_slice().len();
+    let Ok(asked) = asked_names(alloc, prefix, count) else {
         return print_memory(err, file);
     };
     if let Some(number) = undated_run(&listing) {
@@ -196,14 +174,13 @@ pub(crate) fn split<I: Inputs, P: NewFiles, O: Output, F: Output>(
     if let Some(name) = taken_name(outputs, &asked) {
         return print_name_taken(err, name);
     }
-    split_listed(
-        alloc,
-        file,
-        &listing,
-        front_of(&asked, listing.runs.as_slice().len()),
-        inputs,
-        outputs,
-        out,
-        err,
-    )
+    let names = front_of(&asked, count);
+    let named = NamedRuns {
+        listing: &listing,
+        names,
+    };
+    match make_files(alloc, file, &named, inputs, outputs, out) {
+        Ok(()) => Status::Done,
+        Err(stop) => print_stop(err, file, stop),
+    }
 }

@@ -1,4 +1,5 @@
-use Rattle.std.proofs.Common.{◌≡◌, ◌∙◌, ◌≤◌, ℕ, List, Bor, IfOk, length, map, ap, refl, sym, subst, rules}
+use Rattle.std.proofs.Common.{◌≡◌, ◌∙◌, ◌≤◌, ℕ, List, Bor, IfOk, length, map, ap, refl, sym, subst}
+use Rattle.std.proofs.Common.{rules}
 use Rattle.edf_page.specs.Programs.{IsMendRan}
 use Rattle.edf_page_exports.specs.Asked.{values_of}
 use Rattle.edf_page_exports.specs.Laid.{LieValues, ComeOfValues, IsMemory}

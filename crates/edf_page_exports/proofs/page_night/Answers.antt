@@ -20,7 +20,8 @@ returns-in-Ok-pieces_of_night c =
       are_files = c.in-Ok.ensures.files;
       night = night;
       is_night = subst (λ (fs : List GivenFile). IsNight (map (λ file. file.name.now) fs)
-          (map (λ file. file.bytes.now) fs) night) c.as_slice.ensures.value c.in-Ok-give_night.ensures;
+          (map (λ file. file.bytes.now) fs) night) c.as_slice.ensures.value
+          c.in-Ok-give_night.ensures;
       are_pieces = refl;
     }) (subst (λ (ps : List (List ℕ)). ((c.give.result ≡ 0)
     × AreLaid c.args.out.now c.give.new.out c.args.parts.now c.give.new.parts ps)

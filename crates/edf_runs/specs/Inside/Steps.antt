@@ -1,6 +1,6 @@
 -- One step of a second reading.
 use Rattle.std.specs.Prelude.{◌≡◌, ◌≢◌, ℕ, ◌+◌, ◌≤◌, List, [], ◌++◌, length}
-use Rattle.std.specs.Prelude.{Option, Some, Ok, Result, MatchResult}
+use Rattle.std.specs.Prelude.{Option, Some, None, Ok, Result, MatchResult}
 use Rattle.edf_field.specs.Number.{duration_of}
 use Rattle.edf_header.specs.Header.{Layout, most_records}
 use Rattle.edf_tal.specs.declared.place.Place.{Place}
@@ -49,6 +49,12 @@ pub record StepsOn (l : Layout) (from to : Progress) (left rest : Option (List �
   pub gives : ReadsRecord l from left rest r
   pub sound : IsSoundRecord l.key r
   pub start : r.start ≡ instant
+
+-- one more data record was read, or the end
+abbrev pub ReadsNext : Layout → Progress → Progress → Option (List ℕ) → Option (List ℕ) →
+    Option DataRecord → Type 0
+ReadsNext l from to left rest None = IsNextAnswer l from to left rest (Ok None)
+ReadsNext l from to left rest (Some r) = StepsOn l from to left rest r.start r
 
 -- of these data records the first ones were read, and the input has the others next, as many as may
 -- come

@@ -1,6 +1,6 @@
 use Rattle.std.proofs.Common.{rules, ◌≡◌, ◌++◌, ◌∷◌, [], ℕ, List, sym, ap, ◌∙◌, take}
-use Rattle.std.proofs.Common.{slice_index_or}
-use Rattle.std.proofs.Common.{append-nil, string_bytes, encode_utf8_all, encode_utf8, arith}
+use Rattle.std.proofs.Common.{slice_index_or, append-nil, string_bytes, encode_utf8_all}
+use Rattle.std.proofs.Common.{encode_utf8, arith}
 use Rattle.std.proofs.lemmas.List.{take_more, take_all}
 use Rattle.std.proofs.lemmas.Str.{encodes-append}
 use Rattle.edf_mend.proofs.block.latin_as_utf8.Goals as goal

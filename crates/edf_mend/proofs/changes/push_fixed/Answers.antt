@@ -10,7 +10,8 @@ loop-at-init c = sym (append-nil c.args.out.now.items)
 
 pub loop-at-preserved : goal.loop-at-preserved
 loop-at-preserved c =
-    parts-step (λ f. changed f.0 0 f.0 (field c.args.old.now f.0 f.1) (field c.args.new.now f.0 f.1))
+    parts-step
+    (λ f. changed f.0 0 f.0 (field c.args.old.now f.0 f.1) (field c.args.new.now f.0 f.1))
     fixed_fields c.loop-at.at-index (0, 0) c.args.out.now.items c.loop-at.out.items
     c.push_changed.new.out.items c.loop-at-test.true c.loop-at.invariant
     (rw (c.field_at-was.ensures, c.field_at.ensures) at c.in_ok-push_changed.ensures)

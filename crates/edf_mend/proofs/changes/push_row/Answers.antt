@@ -17,7 +17,8 @@ loop-at-preserved c =
     parts-step (λ f. changed f.0 (c.args.i + 1) (256 + c.args.n * f.0 + c.args.i * f.1)
     (field c.args.old.now f.0 f.1) (field c.args.new.now f.0 f.1)) fields c.loop-at.at-index (0, 0)
     c.args.out.now.items c.loop-at.out.items c.push_changed.new.out.items c.loop-at-test.true
-    c.loop-at.invariant (rw (c.field_at-was.ensures, c.field_at.ensures, at-is) at c.in_ok-push_changed.ensures)
+    c.loop-at.invariant
+    (rw (c.field_at-was.ensures, c.field_at.ensures, at-is) at c.in_ok-push_changed.ensures)
 
 pub returns : goal.returns
 returns c =

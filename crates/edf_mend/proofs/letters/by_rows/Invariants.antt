@@ -4,4 +4,5 @@ use Rattle.edf_mend.proofs.letters.by_rows.Given as goal
 
 abbrev pub invariant-loop-row : goal.invariant-loop-row
 invariant-loop-row l =
-    by_rows (map letter_row (drop l.row-index l.rows)) l.code ≡ by_rows (map letter_row l.rows) l.code
+    by_rows (map letter_row (drop l.row-index l.rows)) l.code
+    ≡ by_rows (map letter_row l.rows) l.code

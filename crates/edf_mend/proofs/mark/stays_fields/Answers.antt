@@ -26,7 +26,8 @@ returns c = (
 
 pub returns-then-not-branch : goal.returns-then-not-branch
 returns-then-not-branch c =
-    let same = λ (f : ℕ × ℕ). field c.args.new.now f.0 f.1 ≡ spaced (field c.args.old.now f.0 f.1) in
+    let same = λ (f : ℕ × ℕ).
+    field c.args.new.now f.0 f.1 ≡ spaced (field c.args.old.now f.0 f.1) in
     says-no _ (StaysFields fields c.args.old.now c.args.new.now) refl
     (λ all. is-not _ (same (get_or fields c.loop-at.at-index (0, 0))) c.if-not-branch.true
     (rw (c.field_at-was.ensures, c.field_at.ensures) at c.in_ok-is_spaced.ensures)

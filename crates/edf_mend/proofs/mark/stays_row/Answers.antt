@@ -4,7 +4,8 @@ use Rattle.edf_mend.proofs.Tests.{is-not}
 use Rattle.edf_mend.proofs.mark.stays_row.Goals as goal
 
 pub returns-then-is_labelled : goal.returns-then-is_labelled
-returns-then-is_labelled c = (λ t. inl (c.is_labelled.ensures.label.0 c.if-is_labelled.true), λ s. refl)
+returns-then-is_labelled c =
+    (λ t. inl (c.is_labelled.ensures.label.0 c.if-is_labelled.true), λ s. refl)
 
 pub returns : goal.returns
 returns c = (

@@ -12,7 +12,8 @@ returns g c =
     mends g.R.Input c.args.wanted.now _ _ _ c.in_ok-opened.opened _ _ _ m _ _ _
     c.in_ok-opened.ensures c.header_is_layout.ensures
     (subst (λ (k : Key). MayStart k m.first) key made.0)
-    (subst (λ (k : Key). IsCanonicalHeader c.as_slice.result.now k m.first m.records m.block_samples)
+    (subst
+    (λ (k : Key). IsCanonicalHeader c.as_slice.result.now k m.first m.records m.block_samples)
     key (subst (λ (l : List ℕ). IsCanonicalHeader l c.identity.result.now m.first m.records
     m.block_samples) (sym c.as_slice.ensures.value) made.1))
     c.in_ok-send.ensures.0 c.in_ok-check_body.ensures _ c.in_ok-push_count.ensures

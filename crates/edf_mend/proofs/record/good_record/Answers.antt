@@ -12,18 +12,18 @@ loop-block-init c = none-read c.args.nth c.args.header.now c.blocks-block-items.
 
 pub slice_bounds-extend_from_slice-end : goal.slice_bounds-extend_from_slice-end
 slice_bounds-extend_from_slice-end c =
-    let within = next-within _ _ c.blocks-block-items.result.now c.loop-block.block-index _ _ _ _ _ _
-    c.loop-block-test.true c.loop-block.invariant in
+    let within = next-within _ _ c.blocks-block-items.result.now c.loop-block.block-index _ _ _ _ _
+    _ c.loop-block-test.true c.loop-block.invariant in
     omega (arith, within.0, within.1)
 
 pub field_at-old-requires : goal.field_at-old-requires
-field_at-old-requires c = (next-within _ _ c.blocks-block-items.result.now c.loop-block.block-index _
-    _ _ _ _ _ c.loop-block-test.true c.loop-block.invariant).1
+field_at-old-requires c = (next-within _ _ c.blocks-block-items.result.now
+    c.loop-block.block-index _ _ _ _ _ _ c.loop-block-test.true c.loop-block.invariant).1
 
 pub overflow_add-done : goal.overflow_add-done
 overflow_add-done c =
-    let within = next-within _ _ c.blocks-block-items.result.now c.loop-block.block-index _ _ _ _ _ _
-    c.loop-block-test.true c.loop-block.invariant in
+    let within = next-within _ _ c.blocks-block-items.result.now c.loop-block.block-index _ _ _ _ _
+    _ c.loop-block-test.true c.loop-block.invariant in
     omega (arith, within.1, c.requires, c.blocks-block-items.ensures.layout.record_size)
 
 pub loop-block-preserved : goal.loop-block-preserved

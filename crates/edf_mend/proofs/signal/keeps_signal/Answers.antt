@@ -10,5 +10,8 @@ returns-then-is_labelled c = λ t. record {
 pub returns : goal.returns
 returns c = λ t. record {
   samples = c.in_ok-is_numeral.ensures c.if-not-branch.false;
-  kind = inr (λ l. true≢false (sym (c.is_labelled.ensures.label.1 l) ∙ c.if-is_labelled.false), c.in_ok-keeps_ordinary.ensures t);
+  kind = inr (
+    λ l. true≢false (sym (c.is_labelled.ensures.label.1 l) ∙ c.if-is_labelled.false),
+    c.in_ok-keeps_ordinary.ensures t,
+  );
 }

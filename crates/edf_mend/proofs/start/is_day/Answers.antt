@@ -6,6 +6,7 @@ use Rattle.edf_mend.proofs.start.is_day.Goals as goal
 
 pub returns : goal.returns
 returns c =
-    subst (λ (r : Bool). IsTrue r ↔ ((days : ℕ) × AreStartdates c.args.date.now (Some c.args.day) days))
+    subst (λ (r : Bool). IsTrue r
+    ↔ ((days : ℕ) × AreStartdates c.args.date.now (Some c.args.day) days))
     (sym c.is_ok.ensures.value)
     (day-of-field c.args.date.now c.args.day c.start_of.result c.start_of.ensures)

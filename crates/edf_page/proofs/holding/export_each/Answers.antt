@@ -1,4 +1,5 @@
-use Rattle.std.proofs.Common.{arith, take, ◌+◌, ◌≡◌, ◌++◌, ◌∷◌, [], List, ℕ, map, subst, sym, rules, ap, ◌∙◌}
+use Rattle.std.proofs.Common.{arith, take, ◌+◌, ◌≡◌, ◌++◌, ◌∷◌, [], List, ℕ, map, subst, sym, rules}
+use Rattle.std.proofs.Common.{ap, ◌∙◌}
 use Rattle.std.specs.List.{AllZip}
 use Rattle.std.proofs.lemmas.List.{take_all, map_push}
 use Rattle.std.proofs.lemmas.Slice.Zip.{all_zipped_more}
@@ -21,7 +22,8 @@ loop-identity-preserved c = record {
   each = λ h has.
       let Fits : Key → List ℕ → Type 0 = λ k file. IsOnlyCanonicalFile file k (h k) in
       let keys : take (c.loop-identity.identity-index + 1) c.as_slice-identity-items.result.now
-      ≡ take c.loop-identity.identity-index c.as_slice-identity-items.result.now ++ c.identity-item.result ∷ []
+      ≡ take c.loop-identity.identity-index c.as_slice-identity-items.result.now ++
+      c.identity-item.result ∷ []
       = grind (arith, common_steps) in
       let pushed : c.push.new.self.items ≡ c.loop-identity.files.items ++ c.in_ok-file.file ∷ []
       = search rules in

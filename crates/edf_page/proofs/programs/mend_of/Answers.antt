@@ -18,7 +18,8 @@ returns c =
           folder.files;
       before = unforgotten folder.is_forgotten folder.files;
       failed_before = folder.failed;
-      after = unforgotten c.run_mend-status.new.maker.is_forgotten c.run_mend-status.new.maker.files;
+      after = unforgotten c.run_mend-status.new.maker.is_forgotten
+          c.run_mend-status.new.maker.files;
       failed_after = c.run_mend-status.new.maker.failed;
     } in
     let out : OutputChange = record {

@@ -18,7 +18,8 @@ returns c =
           folder.files;
       before = unforgotten folder.is_forgotten folder.files;
       failed_before = folder.failed;
-      after = unforgotten c.run_runs-status.new.outputs.is_forgotten c.run_runs-status.new.outputs.files;
+      after = unforgotten c.run_runs-status.new.outputs.is_forgotten
+          c.run_runs-status.new.outputs.files;
       failed_after = c.run_runs-status.new.outputs.failed;
     } in
     let out : OutputChange = record {

@@ -19,7 +19,8 @@ loop-piece-preserved c =
     let ps = c.as_slice-piece-items.result.now in
     let i = c.loop-piece.piece-index in
     let p : Bor (List ℕ) = get_or ps i (record { ref_ptr = (0, 0); now = [] }) in
-    let pushed : c.push.new.self.items ≡ c.loop-piece.texts.items ++ c.in-Ok.text ∷ [] = search rules in
+    let pushed : c.push.new.self.items ≡ c.loop-piece.texts.items ++ c.in-Ok.text ∷ [] = search
+    rules in
     let grown = ap (map (λ text. text.now)) pushed
     ∙ map_push (λ text. text.now) c.loop-piece.texts.items c.in-Ok.text in
     let next : map bytes_of (take (i + 1) ps) ≡ map bytes_of (take i ps) ++ p.now ∷ [] =

@@ -1,4 +1,5 @@
-use Rattle.std.proofs.Common.{◌≡◌, ℕ, ◌+◌, List, [], ◌∷◌, ◌++◌, Bor, map, length, take, drop, sym, ap}
+use Rattle.std.proofs.Common.{◌≡◌, ℕ, ◌+◌, List, [], ◌∷◌, ◌++◌, Bor, map, length, take, drop, sym}
+use Rattle.std.proofs.Common.{ap}
 use Rattle.std.proofs.Common.{subst, ◌∙◌, arith}
 use Rattle.std.specs.List.{flat_map}
 use Rattle.std.proofs.Common.{get_or, length-append, rules}
@@ -39,7 +40,8 @@ returns-clause-sized c =
     let at : c.loop-at.at ≡ length (map bytes_of ps) =
     omega (arith, c.loop-at-test.false, c.loop-at.auto.at-end, length-map ps bytes_of) in
     c.loop-at.invariant.sized
-    ∙ ap (λ (z : List (Bor (List ℕ))). map length (map bytes_of z) ++ drop c.loop-at.at c.args.sizes.now)
+    ∙ ap (λ (z : List (Bor (List ℕ))). map length (map bytes_of z) ++ drop c.loop-at.at
+    c.args.sizes.now)
     all
     ∙ ap (λ (n : ℕ). map length (map bytes_of ps) ++ drop n c.args.sizes.now) at
 

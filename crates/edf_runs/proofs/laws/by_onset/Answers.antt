@@ -1,6 +1,6 @@
 use Rattle.edf_runs.proofs.ByOnset.{each-where-started, stay-alike, stay-in-order}
 use Rattle.edf_runs.proofs.WhereItLies.{each-where-it-lies}
-use Rattle.edf_runs.proofs.KeptByOnset.{stay-sound}
+use Rattle.edf_runs.proofs.SoundByOnset.{stay-sound}
 use Rattle.edf_runs.proofs.laws.by_onset.Goals as goal
 
 pub returns-clause-which : goal.returns-clause-which

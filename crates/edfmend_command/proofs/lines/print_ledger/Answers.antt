@@ -9,7 +9,8 @@ returns-in_default g c = (
   inr (
     (codes "standard output refused E41 Memory", omega arith, refl),
     subst (λ (t : List ℕ). IsWritten
-        (output_change g.F.Output c.args.err.now c.print_parts.new.out) t Trouble c.print_parts.result)
+        (output_change g.F.Output c.args.err.now c.print_parts.new.out) t Trouble
+        c.print_parts.result)
         (append-nil c.as_slice.result.now ∙ c.as_slice.ensures) c.print_parts.ensures,
   ),
 )
@@ -20,7 +21,8 @@ returns g c = (
   inr (
     (codes "standard output refused E43 Write", omega arith, refl),
     subst (λ (t : List ℕ). IsWritten
-        (output_change g.F.Output c.args.err.now c.print_parts-2.new.out) t Trouble c.print_parts-2.result)
+        (output_change g.F.Output c.args.err.now c.print_parts-2.new.out) t Trouble
+        c.print_parts-2.result)
         (append-nil c.as_slice-3.result.now ∙ c.as_slice-3.ensures) c.print_parts-2.ensures,
   ),
 )

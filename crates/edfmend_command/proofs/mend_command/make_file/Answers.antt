@@ -1,4 +1,4 @@
-use Rattle.std.proofs.Common.{refl, sym, inr, []}
+use Rattle.std.proofs.Common.{refl, sym, inl, inr, []}
 use Rattle.edf_mend.specs.declared.fault.MendFault.TheVariants.{Write}
 use Rattle.edfmend_command.proofs.Readings.{troubled, part-removed}
 use Rattle.edfmend_command.proofs.mend_command.make_file.Goals as goal
@@ -23,3 +23,10 @@ returns-in-Err-clause-answer g c = λ planned.
       leaves = part-removed before _ _ _ c.remove-is_left-in-Err.result e refl
           (c.remove-is_left-in-Err.ensures.made before [] _ e (sym c.count-place.ensures));
     }
+
+pub returns-in_default-clause-answer : goal.returns-in_default-clause-answer
+returns-in_default-clause-answer g c = λ planned. record {
+  stops = troubled (g.I.Inputs.bytes c.args.inputs.now c.args.file.now) c.args.wanted.now Write
+      (inr (inr refl));
+  leaves = inl (c.in_default.ensures.made, refl);
+}

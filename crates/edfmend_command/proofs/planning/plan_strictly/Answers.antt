@@ -3,13 +3,13 @@ use Rattle.std.specs.Prelude.{IfSome}
 use Rattle.edf_cli.proofs.Opened.{opened-once}
 use Rattle.edfmend_command.specs.Inside.{PlansGood}
 use Rattle.edfmend_command.specs.Run.{IsGood}
-use Rattle.edfmend_command.proofs.Readings.{good-planned, no-good}
+use Rattle.edfmend_command.proofs.Readings.{no-good}
 use Rattle.edfmend_command.proofs.planning.plan_strictly.Goals as goal
 
-pub returns-in-Ok-plan_canonical-clause-plan : goal.returns-in-Ok-plan_canonical-clause-plan
-returns-in-Ok-plan_canonical-clause-plan g c =
-    subst (λ (b : Option (List ℕ)). PlansGood b c.in-Ok-plan_canonical.plan) c.in-Ok.ensures.reader
-    (good-planned _ _ c.in-Ok-plan_canonical.plan c.in-Ok-plan_canonical.ensures.answer)
+pub returns-in-Ok-read_outline-clause-plan : goal.returns-in-Ok-read_outline-clause-plan
+returns-in-Ok-read_outline-clause-plan g c =
+    subst (λ (b : Option (List ℕ)). PlansGood b c.in-Ok-read_outline.outline)
+    c.in-Ok.ensures.reader (_, c.in-Ok-read_outline.ensures.answer)
 
 pub returns-in-Err-Memory-clause-opened : goal.returns-in-Err-Memory-clause-opened
 returns-in-Err-Memory-clause-opened g c =

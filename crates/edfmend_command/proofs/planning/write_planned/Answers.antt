@@ -17,9 +17,11 @@ returns-in-Ok g c =
     record {
       answer = λ planned.
           let p = subst (λ (plan : Plan). Plans left w plan) c.in-Strict.is planned in
+          let one = p.1.1 in
           subst (λ (plan : Plan). MendsAs left w (is_good plan) before after mended)
-          (sym c.in-Strict.is) (strictly left _ before after w c.in-Strict.plan p.0 p.1
-          c.in-Ok.field-0 mended c.new.ensures.items refl c.in-Ok.ensures.written);
+          (sym c.in-Strict.is) (strictly c.in-Strict.outline _ before after c.in-Ok.field-0 left w
+          p.0 p.1 mended c.new.ensures.items refl
+          (c.in-Ok.ensures.answer one.layout.key one.records one.is_outline));
     }
 
 pub returns-in-Err : goal.returns-in-Err
@@ -27,9 +29,10 @@ returns-in-Err g c = record {
   answer = λ planned.
       let p = subst (λ (plan : Plan). Plans (g.R.Input.remaining c.args.input.now)
       c.args.wanted.now plan) c.in-Strict.is planned in
-      not-strictly (g.R.Input.remaining c.args.input.now) _ _ _ c.args.wanted.now
-      c.in-Strict.plan c.write_canonical.result c.in-Err.fault c.fault_of.result c.in-Err.is p.1
-      c.write_canonical.ensures.unchanged c.in-Err.ensures.refused c.fault_of.ensures;
+      let one = p.1.1 in
+      not-strictly (g.R.Input.remaining c.args.input.now) _ _ c.args.wanted.now
+      c.in-Strict.outline c.in-Err.fault c.fault_of.result p.1
+      (c.in-Err.ensures.answer one.layout.key one.records one.is_outline) c.fault_of.ensures;
 }
 
 pub returns-in-Lenient : goal.returns-in-Lenient

@@ -14,7 +14,8 @@ two-lines : (front back name is end : List ℕ) → name ≡ is →
     front ++ (back ++ (10 ∷ (name ++ (end ++ [])))) ≡ (front ++ back) ++ (10 ∷ left_line true is)
 two-lines front back name is end named ended =
     ap (λ (l : List ℕ). front ++ (back ++ (10 ∷ (name ++ l)))) (append-nil end ∙ ended)
-    ∙ ap (λ (l : List ℕ). front ++ (back ++ (10 ∷ (l ++ codes ".part could not be removed\n")))) named
+    ∙ ap (λ (l : List ℕ). front ++ (back ++ (10 ∷ (l ++ codes ".part could not be removed\n"))))
+    named
     ∙ sym (append_assoc front back (10 ∷ left_line true is))
 
 pub returns-then-is_left : goal.returns-then-is_left

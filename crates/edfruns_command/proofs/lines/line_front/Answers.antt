@@ -22,7 +22,8 @@ returns c =
     front-of spell d c.args.number run (option_map (λ run. run.now) c.args.next)
     c.as_bytes.result.now c.as_slice.result.now c.as_slice-2.result.now c.as_slice-3.result.now
     r.items
-    (c.as_bytes.ensures.value ∙ c.in_ok-counts.ensures.ok ∙ ap counts c.records-records.ensures.value)
+    (c.as_bytes.ensures.value ∙ c.in_ok-counts.ensures.ok ∙ ap counts
+    c.records-records.ensures.value)
     (c.as_slice.ensures.value ∙ c.in_ok-start.ensures spell is ∙ ap spell c.first.ensures)
     (c.as_slice-2.ensures.value ∙ c.in_ok-seconds.ensures.text ∙ ap short length)
     (c.as_slice-3.ensures.value ∙ c.in_ok-gap.ensures d run end)

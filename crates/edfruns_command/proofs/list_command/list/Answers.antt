@@ -1,4 +1,5 @@
-use Rattle.std.proofs.Common.{◌∙◌, ◌+◌, ◌++◌, ◌∷◌, [], ℕ, List, Bool, inr, refl, sym, ap, subst, append-nil}
+use Rattle.std.proofs.Common.{◌∙◌, ◌+◌, ◌++◌, ◌∷◌, [], ℕ, List, Bool, inr, refl, sym, ap, subst}
+use Rattle.std.proofs.Common.{append-nil}
 use Rattle.std.proofs.Common.{map, take, drop, string_bytes, Global}
 use Rattle.std.specs.Prelude.{Option, Ok}
 use Rattle.edf_cli.specs.Output.{output_change}
@@ -6,9 +7,11 @@ use Rattle.edf_cli.specs.declared.status.Status.{Status}
 use Rattle.edfruns_command.specs.Inside.{OpensUpTo}
 use Rattle.edfruns_command.specs.Lines.{standard_output, unwritten_line}
 use Rattle.edf_cli.proofs.Undone.{trouble-undone}
-use Rattle.edfruns_command.specs.Listed.{AreListed, StopsListing, IsFileListed, CutsLines, OpensEach}
+use Rattle.edfruns_command.specs.Listed.{AreListed, StopsListing, IsFileListed, CutsLines}
+use Rattle.edfruns_command.specs.Listed.{OpensEach}
 use Rattle.edfruns_command.specs.Listed.{held_before, held_after, file_label}
-use Rattle.edfruns_command.proofs.Listed.{listed_more, each_more, each_cut, names_more, names_around}
+use Rattle.edfruns_command.proofs.Listed.{listed_more, each_more, each_cut, names_more}
+use Rattle.edfruns_command.proofs.Listed.{names_around}
 use Rattle.edfruns_command.proofs.list_command.list.Goals as goal
 
 pub loop-file-init : goal.loop-file-init

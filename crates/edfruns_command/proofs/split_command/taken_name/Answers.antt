@@ -1,8 +1,10 @@
-use Rattle.std.proofs.Common.{◌≡◌, ◌+◌, ◌<◌, ◌∷◌, ◌++◌, ℕ, List, ap, sym, ◌∙◌, subst, arith}
-use Rattle.std.proofs.Common.{All, take, drop, length, map, string_bytes, ◌≢◌, Option, None, IfSome}
+use Rattle.std.proofs.Common.{◌≡◌, ◌<◌, ℕ, List, sym, ◌∙◌, subst, arith, All, length, map}
+use Rattle.std.proofs.Common.{string_bytes}
+use Rattle.std.proofs.Common.{◌≢◌, Option, None, IfSome}
+use Rattle.std.specs.Prelude.{Contains}
 use Rattle.std.proofs.lemmas.List.{take_all, length-map}
 use Rattle.edf_cli.specs.There.{Entry, IsVacant, MayBeThere}
-use Rattle.edfruns_command.proofs.Walking.{all-more, around, mapped}
+use Rattle.edfruns_command.proofs.Walking.{all-more, mapped}
 use Rattle.edfruns_command.proofs.split_command.taken_name.Goals as goal
 
 -- of what is known of a name
@@ -18,20 +20,16 @@ returns-then-is_there-clause-answer g c =
     let names = map string_bytes all in
     let at = c.loop-name.name-index in
     let name = string_bytes c.name-item.result in
-    let lt : at < length names = omega (arith, c.loop-name-test.true, length-map all string_bytes) in
+    let lt : at < length names = omega (arith, c.loop-name-test.true, length-map all string_bytes)
+    in
     let is = mapped all at c.name-item.result c.loop-name-test.true c.name-item.is string_bytes in
     let there = g.P.NewFiles.there c.args.outputs.now in
     let same = subst (λ (n : List ℕ). g.P.NewFiles.there c.loop-name.outputs n ≡ there name)
     (sym c.as_str.ensures.value) (c.loop-name.invariant.there name) in
     let taken : MayBeThere there name = subst MayHave same c.if-is_there.ensures.answer in
-    record {
-      front = take at names;
-      later = drop (at + 1) names;
-      parts = around names at name lt is ∙ ap (λ (n : List ℕ). take at names
-          ++ (n ∷ drop (at + 1) names)) (sym c.as_str-then-is_there.ensures.value);
-      free = c.loop-name.invariant.free;
-      taken = subst (MayBeThere there) (sym c.as_str-then-is_there.ensures.value) taken;
-    }
+    let value = c.as_str-then-is_there.ensures.value in
+    subst (λ (n : List ℕ). Contains names n × MayBeThere there n) (sym value)
+    ((at, lt, sym is), taken)
 
 pub loop-name-preserved : goal.loop-name-preserved
 loop-name-preserved g c =
@@ -39,7 +37,8 @@ loop-name-preserved g c =
     let names = map string_bytes all in
     let at = c.loop-name.name-index in
     let name = string_bytes c.name-item.result in
-    let lt : at < length names = omega (arith, c.loop-name-test.true, length-map all string_bytes) in
+    let lt : at < length names = omega (arith, c.loop-name-test.true, length-map all string_bytes)
+    in
     let is = mapped all at c.name-item.result c.loop-name-test.true c.name-item.is string_bytes in
     let there = g.P.NewFiles.there c.args.outputs.now in
     let same = subst (λ (n : List ℕ). g.P.NewFiles.there c.loop-name.outputs n ≡ there name)

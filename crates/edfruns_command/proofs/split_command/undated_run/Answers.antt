@@ -1,9 +1,9 @@
-use Rattle.std.proofs.Common.{◌≡◌, ◌+◌, ◌<◌, List, ap, ◌∙◌, subst, arith, All, take, drop, get_or}
-use Rattle.std.proofs.Common.{length, rules}
-use Rattle.std.proofs.lemmas.List.{take_all, length-take-le}
+use Rattle.std.proofs.Common.{◌≡◌, ◌<◌, List, ap, ◌∙◌, subst, sym, arith, All, get_or, length}
+use Rattle.std.proofs.Common.{rules}
+use Rattle.std.proofs.lemmas.List.{take_all}
 use Rattle.edf_header.specs.Key.{MayStart}
 use Rattle.edf_runs.specs.declared.run.Run.{Run}
-use Rattle.edfruns_command.proofs.Walking.{all-more, around}
+use Rattle.edfruns_command.proofs.Walking.{all-more}
 use Rattle.edfruns_command.proofs.split_command.undated_run.Goals as goal
 
 pub returns-then-not-may_start : goal.returns-then-not-may_start
@@ -15,16 +15,11 @@ returns-then-not-may_start c =
     let lt : at < length runs = omega (arith, c.loop-at-test.true, within) in
     let is : run ≡ get_or runs at run = c.run-item.is
     ∙ ap (λ (rs : List Run). get_or rs at run) c.deref-run-items.ensures.value in
-    record {
-      front = take at runs;
-      run = run;
-      later = drop (at + 1) runs;
-      parts = around runs at run lt is;
-      dated = c.loop-at.invariant;
-      undated = λ may. let first = c.first.ensures in let told = c.if-not-may_start.ensures in
-          search rules;
-      number_is = omega (arith, length-take-le at runs (omega (arith, lt)));
-    }
+    λ dated.
+    let first = c.first.ensures in let told = c.if-not-may_start.ensures in
+    let may : MayStart c.args.listing.now.identity run.first =
+    subst (λ (r : Run). MayStart c.args.listing.now.identity r.first) (sym is) (dated at run lt) in
+    search rules
 
 pub loop-at-preserved : goal.loop-at-preserved
 loop-at-preserved c =

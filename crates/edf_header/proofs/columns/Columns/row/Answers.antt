@@ -2,8 +2,8 @@ use Rattle.std.proofs.Common.{List, ℕ, [], arith, ap, sym, get_or, length, ◌
 use Rattle.edf_header.proofs.RowSteps.{length-signals, row-at}
 use Rattle.edf_header.proofs.columns.Columns.row.Goals as goal
 
-pub row_from-requires-clause-inside : goal.row_from-requires-clause-inside
-row_from-requires-clause-inside c = omega (
+pub signal_row-requires-clause-inside : goal.signal_row-requires-clause-inside
+signal_row-requires-clause-inside c = omega (
   arith,
   ap length c.self.view_is,
   length-signals c.self.inside.bytes.now c.self.inside.count,
@@ -11,7 +11,7 @@ row_from-requires-clause-inside c = omega (
 
 pub returns : goal.returns
 returns c =
-    c.row_from.ensures
+    c.signal_row.ensures
     ∙ sym (row-at c.self.inside.bytes.now c.self.inside.count c.args.i (omega (
       arith,
       ap length c.self.view_is,

@@ -1,4 +1,5 @@
-use Rattle.std.proofs.Common.{◌≡◌, ◌<◌, ◌++◌, ◌∷◌, List, ap, sym, ◌∙◌, subst, rules, arith, length, map}
+use Rattle.std.proofs.Common.{◌≡◌, ◌<◌, ◌++◌, ◌∷◌, List, ap, sym, ◌∙◌, subst, rules, arith, length}
+use Rattle.std.proofs.Common.{map}
 use Rattle.std.proofs.Common.{length-append, true, false}
 use Rattle.std.proofs.lemmas.List.{length-map}
 use Rattle.edf_cli.specs.Made.{MadeFile}

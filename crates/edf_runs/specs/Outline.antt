@@ -1,0 +1,33 @@
+-- An outline has all of a file but its samples.
+use Rattle.std.specs.Prelude.{◌≡◌, ℕ, ◌≤◌, List, length, map, Option}
+use Rattle.edf_header.specs.Header.{Layout}
+use Rattle.edf_header.specs.Key.{Key}
+use Rattle.edf_header.specs.declared.limits.TheConstants.{MOST_RECORDS}
+use Rattle.edf_fragment.specs.Fragment.{DataRecord}
+use Rattle.edf_fragment.specs.Sound.{AreSoundFrom, FirstMayStart}
+use Rattle.edf_fragment.specs.Whole.{ReadsFragment}
+use Rattle.edf_runs.specs.ByOnset.{annotations_of}
+use Rattle.edf_runs.specs.declared.outline.Outline.{Outline}
+use Rattle.edf_runs.specs.declared.outline.Spans.{Spans}
+
+-- The data records have these starts, so many annotations each, and these annotations.
+pub record AreSpans (records : List DataRecord) (spans : Spans) : Type 0 where
+  pub starts : spans.starts.items ≡ map (λ r. r.start) records
+  pub counts : spans.counts.items ≡ map (λ r. length r.annotations) records
+  pub notes : spans.notes.items ≡ annotations_of records
+
+-- The outline is of these data records of a recording, which a file can have.
+pub record IsOutline (k : Key) (records : List DataRecord) (outline : Outline) : Type 0 where
+  pub sound : AreSoundFrom k 0 records
+  pub some : 1 ≤ length records
+  pub few : length records ≤ MOST_RECORDS
+  pub begins : FirstMayStart k records
+  pub identity : outline.identity ≡ k
+  pub spans : AreSpans records outline.spans
+
+-- The whole input was read, and the outline is of what it spells.
+pub record ReadsOutline (left rest : Option (List ℕ)) (outline : Outline) : Type 0 where
+  pub layout : Layout
+  pub records : List DataRecord
+  pub read : ReadsFragment left rest layout records
+  pub is_outline : IsOutline layout.key records outline
