@@ -53,7 +53,7 @@ port_files() {
   [ "$1" != aarch64 ] || printf 'ports/arm64/%s\n' build host.c packages.sha256
 }
 
-# The files that the page is made from, with the script that makes it. It has sentences of two
+# The files that the page is made from, with the script that makes it. It has texts of four
 # documents beside, which are no sources: bin/release puts them in as they are.
 page_files() {
   (cd "$top" && {

@@ -1,0 +1,198 @@
+"""A clinic in a folder: its three trees, a service's user, uploaders, and edfclinic as they call
+it. Waits are scaled: what takes minutes in a clinic takes tenths of a second here."""
+import json
+import os
+import signal
+import subprocess
+import sys
+import time
+from collections.abc import Callable
+from pathlib import Path
+from typing import Any
+
+from checks.lib.arguments import TOP
+from checks.lib.measure import Ran
+
+SERVICE, UPLOADER = 61_001, 61_100      # users without a name; r01's is the next one, and so on
+DRIVER = Path(__file__).with_name("driver.py")
+QUICK = {"still": "0.2 s", "unclosed": "1 s", "refuse": "0.6 s", "free_space": "1 kB",
+         "watch": "00:00-24:00"}
+Process = subprocess.Popen[bytes]
+
+
+class Clinic:
+    def __init__(self, folder: Path, programs: Path, source: Path = TOP / "clinic",
+                 recorders: tuple[str, ...] = ("r01",), tables: Any = None, **config: Any):
+        self.folder, self.programs, self.source = folder, programs, source
+        self.inboxes, self.data = folder / "inbox", folder / "data"
+        self.nights, self.config = folder / "nights", folder / "edfclinic.toml"
+        self.recorders = recorders
+        self.running: list[Process] = []
+        self.uploaders: list[int] = []
+        for path, owner, group, mode in ((self.inboxes, 0, 0, 0o755),
+                                         (self.data, SERVICE, SERVICE, 0o700),
+                                         (self.nights, SERVICE, SERVICE, 0o2750)):
+            self.make(path, owner, group, mode)
+        for name in recorders:
+            self.make(self.inboxes / name, SERVICE, self.uploader(name), 0o3770)
+        self.write_config(tables or {}, **config)
+
+    def make(self, path: Path, owner: int, group: int, mode: int) -> None:
+        path.mkdir(exist_ok=True)
+        os.chown(path, owner, group)
+        path.chmod(mode)
+
+    def uploader(self, recorder: str) -> int:
+        """The number of its user and its group."""
+        return UPLOADER + self.recorders.index(recorder) + 1
+
+    def write_config(self, tables: dict[str, dict[str, Any]], **config: Any) -> None:
+        given = {**QUICK, "inboxes": str(self.inboxes), "data": str(self.data),
+                 "nights": str(self.nights), **config}
+        lines = [f"{key} = {json.dumps(value)}" for key, value in given.items()]
+        for name in self.recorders:
+            lines += [f"[recorder.{name}]", *(f"{key} = {json.dumps(value)}"
+                                              for key, value in tables.get(name, {}).items())]
+        self.config.write_text("\n".join(lines) + "\n")
+
+    def words(self, *words: Any, **how: Any) -> list[Any]:
+        """The words of a process, by the driver: `how` is what it does besides."""
+        return [sys.executable, "-I", DRIVER, self.source, json.dumps(how), "--config",
+                self.config, *words]
+
+    def started(self, *words: Any, uid: int = SERVICE, added: dict[str, str] | None = None,
+                **how: Any) -> Process:
+        groups = [self.uploader(name) for name in self.recorders] if uid else []
+        child = subprocess.Popen(
+            list(map(str, self.words(*words, **how))), stdin=subprocess.DEVNULL,
+            stdout=subprocess.PIPE, stderr=subprocess.PIPE, cwd="/", user=uid, group=uid,
+            extra_groups=groups, start_new_session=True,
+            env={"PATH": f"{self.programs}:/usr/sbin:/usr/bin:/sbin:/bin", "LC_ALL": "C.UTF-8",
+                 **(added or {})})
+        self.running.append(child)
+        return child
+
+    def run(self, *words: Any, seconds: float = 120, **options: Any) -> Ran:
+        begun, child = time.monotonic(), self.started(*words, **options)
+        try:
+            out, err = child.communicate(timeout=seconds)
+        except subprocess.TimeoutExpired:
+            os.killpg(child.pid, signal.SIGKILL)
+            out, err = child.communicate()
+            raise AssertionError(f"{words} took over {seconds} s: {err[-300:]!r}") from None
+        self.running.remove(child)
+        return Ran(child.returncode, out, err, time.monotonic() - begun)
+
+    def done(self, *words: Any, status: int = 0, **options: Any) -> str:
+        """The same; it must end with this status."""
+        ran = self.run(*words, **options)
+        assert ran.status == status, f"{words}: {ran}"
+        return ran.out.decode()
+
+    def receive(self, recorder: str = "r01", **how: Any) -> Process:
+        """A receive that looks ten times a second."""
+        return self.started("receive", recorder, **how)
+
+    def stop(self, child: Process, number: int = signal.SIGTERM) -> None:
+        """Ends it, and what it began where it is killed."""
+        try:
+            if number == signal.SIGKILL:
+                os.killpg(child.pid, number)
+            else:
+                child.send_signal(number)
+        except ProcessLookupError:
+            pass
+        child.communicate(timeout=30)
+        if child in self.running:
+            self.running.remove(child)
+
+    def end(self) -> None:
+        for child in list(self.running):
+            self.stop(child, signal.SIGKILL)
+        for uploader in self.uploaders:     # those that a failed test left
+            try:
+                if os.waitpid(uploader, os.WNOHANG) == (0, 0):      # still ours
+                    os.kill(uploader, signal.SIGKILL)
+                    os.waitpid(uploader, 0)
+            except ChildProcessError:
+                pass
+
+    def put(self, name: str | bytes, data: bytes, recorder: str = "r01") -> Path:
+        """Uploads a file, as a client does that gives it its name at the end."""
+        name = os.fsencode(name)
+        path, part = os.fsencode(self.inboxes / recorder) + b"/" + name, b".up" + name[:200]
+        part = os.path.dirname(path) + b"/" + part
+        with open(part, "wb") as made:
+            made.write(data)
+        os.chmod(part, 0o640)
+        os.chown(part, self.uploader(recorder), self.uploader(recorder))
+        os.rename(part, path)
+        return Path(os.fsdecode(path))
+
+    def inbox(self, recorder: str = "r01") -> list[str]:
+        return sorted(it for it in os.listdir(self.inboxes / recorder) if not it.startswith("."))
+
+    def status(self, **how: Any) -> Any:
+        ran = self.run("status", "--json", **how)
+        assert ran.status in (0, 1), ran
+        return json.loads(ran.out)
+
+    def told(self, recorder: str = "r01") -> Any:
+        """What receive wrote last, read here without a process."""
+        try:
+            return json.loads((self.data / recorder / "now.json").read_text())
+        except FileNotFoundError:
+            return {}
+
+    def until(self, holds: Callable[[], object], what: str, seconds: float = 60) -> float:
+        begun = time.monotonic()
+        while not holds():
+            assert time.monotonic() - begun < seconds, f"not within {seconds} s: {what}"
+            time.sleep(0.02)
+        return time.monotonic() - begun
+
+    def until_taken(self, recorder: str = "r01", seconds: float = 60) -> None:
+        """Till nothing is left in the inbox."""
+        self.until(lambda: not self.inbox(recorder), f"an empty inbox of {recorder}", seconds)
+
+    def night_took(self, files: dict[str, bytes], recorder: str = "r01") -> None:
+        """A session that takes these files, and ends."""
+        child = self.receive(recorder)
+        for name, data in files.items():
+            self.put(name, data, recorder)
+        self.until_taken(recorder)
+        self.stop(child)
+
+    def log(self, recorder: str = "r01", folder: str = "tonight") -> list[list[str]]:
+        """The lines of the log, as lists of their fields."""
+        path = self.data / recorder / folder / "answers.log"
+        return [line.split("\t") for line in path.read_text().splitlines()]
+
+    def archive(self, recorder: str = "r01") -> list[Path]:
+        """The folders of its nights, by their names."""
+        folder = self.nights / recorder
+        return sorted(it for it in folder.iterdir() if it.name[0].isdigit()) \
+            if folder.exists() else []
+
+    def card(self, data: bytes, name: str = "card.edf") -> Path:
+        """A card that the service's user may read."""
+        path = self.folder / name
+        path.write_bytes(data)
+        path.chmod(0o644)
+        return path
+
+
+def facts(night: Path) -> Any:
+    return json.loads((night / "night.json").read_text())
+
+
+def tree(folder: Path) -> dict[str, tuple[str, bytes]]:
+    """All that is below a folder: of each path its kind, its mode and its bytes."""
+    found = {}
+    for above, folders, names in os.walk(folder):
+        for name in folders + names:
+            path = Path(above) / name
+            mode = path.lstat().st_mode
+            data = path.read_bytes() if path.is_file() and not path.is_symlink() else b""
+            found[str(path.relative_to(folder))] = (oct(mode), data)
+    return found

@@ -1,0 +1,117 @@
+"""Runs edfclinic from a folder, with short waits; ends it, as a kill does, before or behind the
+nth call that changes the file system.
+
+    python3 -I driver.py SOURCE HOW WORDS...
+
+HOW is JSON: `kill` [N, "before" or "behind"]; `fail` [N, NUMBER of the error]; `calls` a file that
+gets a line for each such call. A call of a program counts as one, too. `exchange` [NAME, OTHER]:
+while NAME is opened, and only then, it is the other file. `set` has other values of constants, as
+{"programs.MOST_RUNS": 10}; `clock` is a file with the seconds by which the host's clock is set on.
+"""
+import ctypes
+import json
+import os
+import signal
+import subprocess
+import sys
+from collections.abc import Callable
+from datetime import datetime, timedelta
+from pathlib import Path
+from typing import Any
+
+CHANGING = ("mkdir", "rename", "unlink", "rmdir", "write", "ftruncate", "fsync", "open")
+MADE, RENAME_EXCHANGE = os.O_CREAT | os.O_TRUNC, 2
+
+
+class Counter:
+    """Counts calls, and ends at one of them."""
+
+    def __init__(self, how: dict[str, Any]):
+        kill: tuple[int, str] = how.get("kill") or (0, "")
+        fail: tuple[int, int] = how.get("fail") or (0, 0)
+        self.count, self.how, self.kill_at, self.fail_at = 0, how, kill, fail
+        self.lines = os.open(how["calls"], os.O_WRONLY | os.O_CREAT, 0o666) \
+            if "calls" in how else None
+        self.own = {name: getattr(os, name) for name in CHANGING}
+
+    def kill(self) -> None:
+        os.kill(os.getpid(), signal.SIGKILL)
+
+    def around(self, what: str, call: Callable[[], Any]) -> Any:
+        self.count += 1
+        if self.lines is not None:
+            self.own["write"](self.lines, f"{self.count} {what}\n".encode())
+        if (self.count, "before") == tuple(self.kill_at):
+            self.kill()
+        if self.count == self.fail_at[0]:
+            raise OSError(self.fail_at[1], os.strerror(self.fail_at[1]))
+        result = call()
+        if (self.count, "behind") == tuple(self.kill_at):
+            self.kill()
+        return result
+
+    def watch(self) -> None:
+        for name in CHANGING:
+            setattr(os, name, self.watched(name, self.own[name]))
+        begin = subprocess.Popen.__init__
+
+        def begun(child: Any, words: Any, *rest: Any, **options: Any) -> None:
+            self.around(f"program {' '.join(map(str, words[:2]))}",
+                        lambda: begin(child, words, *rest, **options))
+        setattr(subprocess.Popen, "__init__", begun)
+
+    def watched(self, name: str, own: Callable[..., Any]) -> Callable[..., Any]:
+        def call(*words: Any, **options: Any) -> Any:
+            is_made = name != "open" or len(words) > 1 and words[1] & MADE
+            if not is_made or words[0] == self.lines:
+                return own(*words, **options)
+            return self.around(f"{name} {words[0]}", lambda: own(*words, **options))
+        return call
+
+
+def shift(path: str) -> None:
+    """The host's clock is set forward by the seconds that stand in this file."""
+    class Shifted(datetime):
+        @classmethod
+        def now(cls, tz: Any = None) -> Any:
+            return datetime.now(tz) + timedelta(seconds=float(Path(path).read_text()))
+    setattr(sys.modules["edfclinic.text"], "datetime", Shifted)
+
+
+def exchange(name: str, other: str) -> None:
+    own, libc = os.open, ctypes.CDLL(None)
+
+    def swap(folder: int) -> None:
+        libc.renameat2(folder, name.encode(), folder, other.encode(), RENAME_EXCHANGE)
+
+    def opened(path: Any, *words: Any, **options: Any) -> int:
+        if path != name:
+            return own(path, *words, **options)
+        swap(options["dir_fd"])
+        try:
+            return own(path, *words, **options)
+        finally:
+            swap(options["dir_fd"])
+    setattr(os, "open", opened)
+
+
+def main() -> None:
+    source, how = sys.argv[1], json.loads(sys.argv[2])
+    sys.argv = ["edfclinic", *sys.argv[3:]]
+    sys.path.insert(0, source)
+    sys.dont_write_bytecode = True
+    from edfclinic import __main__, receive, taking     # type: ignore[import]
+    receive.TICK, receive.RESTART, taking.AGAIN = how.get("tick", 0.05), 0.2, 0.3
+    for name, value in how.get("set", {}).items():
+        module, _, key = name.partition(".")
+        setattr(sys.modules[f"edfclinic.{module}"], key, value)
+    if "clock" in how:
+        shift(how["clock"])
+    if "exchange" in how:
+        exchange(*how["exchange"])
+    if how.keys() & {"kill", "fail", "calls"}:
+        Counter(how).watch()
+    sys.exit(__main__.main())
+
+
+main()

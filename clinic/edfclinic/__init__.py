@@ -1,0 +1,1 @@
+"""The night, the morning and the archive of sleep recorders, around edfstore."""

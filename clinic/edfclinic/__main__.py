@@ -1,0 +1,88 @@
+"""The words of edfclinic."""
+import argparse
+import io
+import os
+import sys
+from collections.abc import Callable
+from typing import Any
+
+from . import config, nights, status, text, user
+from .backup import backup
+from .faults import TROUBLE, Look, Trouble, Wrong
+from .forget import forget
+from .morning import Morning
+from .receive import receive, receive_all
+from .recode import recode
+from .text import say
+
+HELP = """In the morning, with the memory card in this computer:
+  sudo edfclinic morning r01 --card /media/CARD/NIGHT.EDF
+Of two files or two cards of r01: --card FILE --card FILE. It says what became of each.
+"look:" asks something: answer it by the report, or ask the engineer, who set edfclinic up.
+"edfclinic:" says what went wrong: mend it, and call again. Calling twice does no harm.
+Nights lie in /srv/nights. Exit status: 0 done, 1 look, 2 wrong words, 3 trouble."""
+NIGHT = "RECORDER/NAME"
+FLAG, RECORDER, CODE = {"action": "store_true"}, {"metavar": "RECORDER"}, {"metavar": "CODE"}
+CARD = {"action": "append", "default": [], "metavar": "FILE", "help": "a file of the card"}
+# Of each command what it does, and its words as argparse has them.
+COMMANDS: dict[str, tuple[str, dict[str, dict[str, Any]]]] = {
+    "receive": ("take what recorders send, without an end; --all: of each", {
+        "recorder": {"nargs": "?", **RECORDER}, "--all": FLAG}),
+    "status": ("how each recorder is", {"--json": FLAG, "--html": FLAG, "--tell": FLAG}),
+    "morning": ("put the night away", {"recorder": RECORDER, "--card": CARD}),
+    "nights": ("list the archive", {"--json": FLAG}),
+    "recode": ("make a night anew under another patient's code", {
+        "night": {"metavar": NIGHT}, "--patient": {"required": True, **CODE}}),
+    "forget": ("list all of a patient; --yes removes it", {"code": CODE, "--yes": FLAG}),
+    "verify": ("say which files changed since", {"night": {"nargs": "*", "metavar": NIGHT}}),
+    "backup": ("copy the nights that the backup lacks", {}),
+    "help": ("print this, or more of a command", {"of": {"nargs": "?", "metavar": "COMMAND"}})}
+
+
+def words() -> argparse.ArgumentParser:
+    parser = argparse.ArgumentParser(prog="edfclinic", description=HELP, allow_abbrev=False,
+                                     formatter_class=argparse.RawDescriptionHelpFormatter)
+    parser.add_argument("--config", default=config.DEFAULT, metavar="FILE",
+                        help=f"for root alone, in place of {config.DEFAULT}")
+    every = parser.add_subparsers(dest="command", required=True, metavar="COMMAND")
+    for name, (does, given) in COMMANDS.items():
+        command = every.add_parser(name, help=does, description=does, allow_abbrev=False)
+        for word, how in given.items():
+            command.add_argument(word, **how)
+    return parser
+
+
+def run(given: argparse.Namespace) -> int:
+    if given.command == "help":
+        words().parse_args([*filter(None, [given.of]), "--help"])
+    read = config.read(given.config, os.geteuid() == 0)
+    if given.command == "receive" and bool(given.recorder) == given.all:
+        raise Wrong("receive wants a RECORDER, or --all")
+    if getattr(given, "recorder", None):
+        read.recorder(given.recorder)
+    cards = user.open_cards(getattr(given, "card", []))
+    user.become(read)
+    does: dict[str, Callable[[], int]] = {
+        "receive": lambda: receive_all(read) if given.all else receive(read, given.recorder),
+        "status": lambda: status.status(read, given.json, given.html, given.tell),
+        "morning": lambda: Morning(read, given.recorder, cards).run(),
+        "nights": lambda: nights.nights(read, given.json),
+        "recode": lambda: recode(read, given.night, given.patient),
+        "forget": lambda: forget(read, given.code, given.yes),
+        "verify": lambda: nights.verify(read, given.night), "backup": lambda: backup(read)}
+    return does[given.command]()
+
+
+def main() -> int:
+    for stream in (sys.stdout, sys.stderr):
+        if isinstance(stream, io.TextIOWrapper):
+            stream.reconfigure(errors="backslashreplace")
+    try:
+        return run(words().parse_args())
+    except (Look, Wrong, Trouble, OSError, KeyError) as why:
+        say(f"edfclinic: {text.why(why)}")
+        return getattr(why, "status", TROUBLE)
+
+
+if __name__ == "__main__":
+    sys.exit(main())

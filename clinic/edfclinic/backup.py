@@ -1,0 +1,47 @@
+"""backup: copies the nights that the backup lacks, and compares all that are there."""
+import os
+
+from . import files, put_away, text
+from .config import Config
+from .faults import DONE, LOOK, Trouble
+from .files import join
+from .nights import differing
+from .place import Place, places
+
+
+def keep(place: Place, folder: str, root: str) -> list[str]:
+    """Copies a night that is not there, while nobody forgets it; whole, it gets its name."""
+    target = join(root, os.path.relpath(folder, place.archive))
+    if files.exists(target):
+        return differing(target, folder)
+    new = join(os.path.dirname(target), ".new")
+    with open(place.lock_nights()), files.whole_or_none(new):
+        files.remove_tree(new)
+        for above in (root, os.path.dirname(target), new):
+            files.make_folder(above)
+        for name in files.below(folder):
+            files.make_folder(os.path.dirname(join(new, name)))
+            files.copy_file(join(folder, name), join(new, name))
+        wrong = differing(new, folder)
+        if not wrong:
+            files.sync_tree(new)
+            files.rename(new, target)
+            print(f"copied {folder}")
+    return wrong
+
+
+def backup(config: Config) -> int:
+    failed = ""
+    try:
+        if not os.path.ismount(config.backup or "/dev/null"):
+            raise Trouble(f"the backup {config.backup!r} is not mounted; nothing was copied")
+        wrong = [said for place in places(config) for folder in put_away.folders(place)
+                 for said in keep(place, folder, join(config.backup, place.name))]
+        print("".join(f"{said}\n" for said in wrong), end="")
+        failed = f"{len(wrong)} files of the backup differ" if wrong else ""
+        return LOOK if wrong else DONE
+    except (Trouble, OSError) as why:
+        failed = text.why(why)
+        raise Trouble(failed) from None
+    finally:
+        files.replace(join(config.data, "backup.json"), files.as_json({"failed": failed}))

@@ -1,0 +1,64 @@
+"""How names, instants and amounts are written and read."""
+import errno
+import os
+import re
+import sys
+from datetime import datetime, timedelta, timezone
+
+FULL = (errno.ENOSPC, errno.EDQUOT)
+SECOND = 10**9
+MINUTE, HOUR = 60 * SECOND, 3600 * SECOND
+EPOCH = datetime(1970, 1, 1)
+# Control bytes, the backslash, marks that turn the direction, separators, and what is no UTF-8.
+UNSAFE = re.compile("[\x00-\x1f\x7f-\x9f\\\\\u061c\u200e\u200f\u2028-\u202e\u2066-\u2069"
+                    "\ud800-\udfff]")
+AT = "%Y-%m-%dT%H:%M:%SZ"
+
+
+def spell(text: str) -> str:
+    return UNSAFE.sub(lambda it: "".join(f"\\x{byte:02x}" for byte in os.fsencode(it[0])), text)
+
+
+def spell_lines(raw: bytes) -> list[str]:
+    return [spell(line) for line in os.fsdecode(raw).split("\n") if line]
+
+
+def why(error: Exception) -> str:
+    if isinstance(error, OSError) and error.strerror:
+        room = "; make room" if error.errno in FULL else ""
+        return spell(f"{os.fsdecode(error.filename or 'trouble')}: {error.strerror}{room}")
+    return spell(str(error))
+
+
+def say(text: str) -> None:
+    print(text, file=sys.stderr, flush=True)
+
+
+def nanoseconds(text: str) -> int:
+    whole, _, part = text.partition(".")
+    return int(whole) * SECOND + int(part[:9].ljust(9, "0"))
+
+
+def instant(text: str) -> int:
+    whole, _, part = text.partition(".")
+    seconds = (datetime.fromisoformat(whole) - EPOCH) // timedelta(seconds=1)
+    return nanoseconds(f"{seconds}.{part}")
+
+
+def shown(nanos: int) -> str:
+    seconds, rest = divmod(nanos, SECOND)
+    fraction = f".{rest:09}".rstrip("0") if rest else ""
+    return (EPOCH + timedelta(seconds=seconds)).isoformat() + fraction
+
+
+def minutes(nanos: int) -> float:
+    return max(round(nanos / MINUTE, 2), 0.01) if nanos else 0.0
+
+
+def now() -> str:
+    return datetime.now(timezone.utc).strftime(AT)
+
+
+def seconds_since(told: str) -> float:
+    then = datetime.strptime(told, AT).replace(tzinfo=timezone.utc)
+    return (datetime.now(timezone.utc) - then).total_seconds()
