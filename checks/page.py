@@ -1,87 +1,110 @@
-"""Gives files to the page `edfstore.html` in headless Chromium and Firefox, and compares every byte
-that it gives with those of the programs.
+"""Gives files to the page `edfstore.html` in headless Chromium and Firefox, and in WebKit, and
+compares every byte that it gives with those of the programs.
 
     python3 -m checks.page [--program PATH] [--edfruns PATH] [--edfmend PATH] [--page FILE]
-                           [--browser NAME] [--without-night] [--screenshots FOLDER] [--control]
+                           [--browser NAME]... [--without-night] [--screenshots FOLDER] [--control]
                            [COUNT]
 
+Chromium and Firefox take the module of 64-bit memory, and as chromium-32 and firefox-32 a page
+without it, of which they take the other module, as WebKit does.
+
 A technician does all by keys alone: gives it a night in pieces with one that was cut, one of other
-letters and a foreign one, sees why, mends, adds the card, and saves the file, its runs and the
-picture; cards of EDFlib by onset; a job that is cancelled; files that change later; files that are
-dropped; files that contradict each other, of which one is taken first or taken out; faulty fields,
-mended files, recordings of the same codes, and work that is not saved. Each state is looked at on
-three screens, light and dark, for pale texts and what has no room; `--screenshots` keeps them.
+letters and a foreign one, sees why, mends, adds the card, and saves all there is; cards of EDFlib
+by onset; a job that is cancelled; files that change later; files that are dropped; files that
+contradict each other, of which one is taken first or out; faulty fields, recordings of the same
+codes, and work that is not saved; twelve pieces of plain EDF, a torn piece beside its card, two
+nights without a code, files that are no recordings, a card that is pulled out, a file that waits.
+Each state is looked at on three screens, light and dark, for pale texts and what has no room;
+`--screenshots` keeps them.
 
 COUNT files by chance, 2,000 if left out; the page is the one that bin/page built of these sources,
 unless --page names another, as release/edfstore.html. Files are taken in lists: by chance, half of
 them broken; of each number of refusal that a file of this size can have; foreign ones; of odd
-names; several of one name; of 639 signals; none. For each list the lines of
-`edfstore take` and `edfstore list`, and for each recording the file of `edfstore export`, the lines
-of `edfruns list` and the picture of `edfruns picture` must be what the page gives, byte for byte;
-and so what edfruns and edfmend do with some of the files, as the page asks them.
+names; several of one name; of 639 signals. For each list the lines of `edfstore take` and `edfstore
+list`, and for each recording the file of `edfstore export`, the lines of `edfruns list` and the
+picture of `edfruns picture` must be what the page gives, byte for byte; and so what edfruns and
+edfmend do with some of the files, as the page asks them.
 
 Then a night of 195 MB, with its time and memory beside the programs' (MOST_TIMES, MOST_MEMORY); a
 module that may have little memory: E41, and no file is offered; a trap: no file is offered, and the
 module lets no call in after it; files that are removed, cut, longer or replaced since they were
-chosen; in which of the ways of lib/sends.py the page reaches a server: none; and a browser without
-64-bit memory, which is told in a sentence.
+chosen; in which of the ways of lib/sends.py the page reaches a server: none; what is too much for
+32 bits, which is told at once; and a browser without WebAssembly, which is told in a sentence.
 
 --control gives lists to pages that answer wrongly: a script that exchanges the files of two
 recordings, which must be found, and modules with one instruction changed in a function that runs:
 in one function of four one of some such changes must be found.
 
-It needs chromium and firefox-esr, as Debian has them.
+It needs chromium, firefox-esr and webkit2gtk-driver with xvfb, as Debian has them.
 """
 import base64
 import json
+import os
 import re
 import sys
 import time
+import zlib
 from dataclasses import dataclass, field
 from pathlib import Path
 
-from checks.lib import (arguments, measure, modules, night, page_files, printed, second_thoughts,
-                        sends, technician)
+from checks.lib import (arguments, measure, modules, morning, night, page_files, printed,
+                        second_thoughts, sends, technician)
 from checks.lib.checks import Lost, compare, end
 from checks.lib.chromium import Chromium
 from checks.lib.firefox import Firefox
 from checks.lib.hands import ChromiumHands, FirefoxHands
 from checks.lib.natively import Native, sum_of, written
+from checks.lib.webkit import WebKit
+from checks.lib.webkit_hands import WebKitHands
 
-BROWSERS = {"chromium": Chromium, "firefox": Firefox}
-HANDS = {"chromium": ChromiumHands, "firefox": FirefoxHands}
-# The same browsers without WebAssembly, since none of them can be had without 64-bit memory alone
-OFF = {"chromium": lambda folder: Chromium(folder, "--js-flags=--jitless"),
-       "firefox": lambda folder: Firefox(folder, javascript_options_wasm=False)}
-MOST_TIMES = {"chromium": 3, "firefox": 6}      # of the programs' time
+# The kinds of browsers; those with a 32 take the lowered module, as WebKit has no other
+BROWSERS = {"chromium": Chromium, "chromium-32": Chromium, "firefox": Firefox,
+            "firefox-32": Firefox, "webkit": WebKit}
+HANDS = {Chromium: ChromiumHands, Firefox: FirefoxHands, WebKit: WebKitHands}
+# The same browsers without WebAssembly
+OFF = {Chromium: lambda folder: Chromium(folder, "--js-flags=--jitless"),
+       Firefox: lambda folder: Firefox(folder, javascript_options_wasm=False),
+       WebKit: lambda folder: WebKit(folder, JSC_useWasm="0")}
+MOST_TIMES = {Chromium: 3, Firefox: 6, WebKit: 6}       # of the programs' time
 MOST_MEMORY = 1_400_000_000                     # bytes, of the module
-MOST_BYTES = 4_000_000                          # of the page
+LATER = {f"files by chance, {nth}" for nth in range(3, 99)}     # of these no second half comes
+MOST_BYTES = 2_600_000                          # of the page
 SECONDS = 300                                   # that the page may take
 PATIENCE = 8                                    # seconds, for a module that was changed
 LONG_BODY, TRIED_BODIES = 60, 150               # bytes of a function, and how many are looked at
 ENOUGH = 16                                     # functions that run
 LONGEST = 150                                   # seconds to look for them, and to change them
 LITTLE = night.Night(records=2_000, fragments=1)        # 13 MB
-MODULE = re.compile(r'(<script type="text/plain" id="module">)([A-Za-z0-9+/=]*)(</script>)')
-# All that the page asks edfruns for; and texts for edfmend: OUT, what each of these options has, and
-# any text for --all
-RUNS = ("list", "canonical --by-onset", "picture --without-code", "split")
+MODULE = r'<script type="text/plain" id="module{}">([A-Za-z0-9+/=]*)</script>\n'
+# All that the page asks edfruns for; and texts for edfmend: OUT, what each of these options has,
+# and any text for --all
+RUNS = ("list", "canonical --by-onset", "picture --without-code", "split", "fill",
+        "cut --from 2002-03-02T23:59:51 --to 2002-03-03T00:00:05.25")
+FILES = ("canonical", "fill", "cut")            # of these the page has what is written as a file
 OPTIONS = ("--patient", "--set-patient", "--deidentify", "--startdate", "--starttime")
 VALUES = [texts.split("|") for texts in (
     "||||||", "out.edf||||||", "out.edf|S-9|||01.02.03|22.15.00|", "|S 1|||||",
     "out.edf||||||all", "||X-1||||all", "out.edf|||Q-7|||")]
 SUM = """const sum = async (bytes) => [...new Uint8Array(await crypto.subtle.digest("SHA-256",
     bytes))].map((byte) => byte.toString(16).padStart(2, "0")).join("");"""
-CALLED = """(async () => {
+CALLED = r"""(async () => {
   SUM
   const text = (it) => sum(new TextEncoder().encode(it)), file = window.chosen[NTH], all = [];
   for (const call of CALLS) {
-    const { status, out, err, made } = await run(call, file.name, file) ?? { made: [] };
+    const [, from, to] = /^cut --from (\S+) --to (\S+)$/.exec(call) ?? [];
+    const [{ status, out, err, made }] = await runEach(from ? "cut" : call,
+      [{ name: file.name, blob: file, from, to }]) ?? [{ made: [] }];
     const each = made.map(async ({ name, blob }) => [name, await sum(await blob.arrayBuffer())]);
-    all.push([status, await text(out), await text(err), (await Promise.all(each)).sort()]);
+    all.push([status, await (typeof out === "string" ? text(out) : out.arrayBuffer().then(sum)),
+      await text(err), (await Promise.all(each)).sort()]);
   }
   return all;
 })()""".replace("SUM", SUM)
+COMPARED = """(async () => {
+  const first = window.chosen[FIRST], second = window.chosen[SECOND];
+  const [it] = await runEach("compare", [{ name: second.name, blob: second, first }]) ?? [{}];
+  return [it.status, it.out, it.err];
+})()"""
 GIVEN = """(async () => {
   SUM
   const answer = window.answer;
@@ -93,10 +116,14 @@ GIVEN = """(async () => {
   }
   return [answer.taken, answer.listed, recordings];
 })()""".replace("SUM", SUM)
+UNPACKED = """const packed = Uint8Array.from(
+    atob(document.getElementById(MODULE).textContent), (it) => it.charCodeAt(0));
+  const bytes = new Uint8Array(await new Response(new Response(packed).body.pipeThrough(
+    new DecompressionStream("deflate-raw"))).arrayBuffer());"""
 # Two calls of one module, the first of which traps, and one of another
 GUARDED = """(async () => {
-  const text = document.getElementById("module").textContent;
-  const module = await WebAssembly.compile(Uint8Array.from(atob(text), (it) => it.charCodeAt(0)));
+  UNPACKED
+  const module = await WebAssembly.compile(bytes);
   const instance = () => new WebAssembly.Instance(module, {}).exports;
   const call = (it, count, names) => {
     const place = it.dlmalloc(4096n), out = it.dlmalloc(4096n), parts = it.dlmalloc(64n);
@@ -107,17 +134,16 @@ GUARDED = """(async () => {
     } catch (fault) { return fault.name; }
   };
   const one = instance();
-  return [call(one, 1n, 1n << 40n), call(one, 0n), call(instance(), 0n)];
-})()"""
+  return [call(one, 1n, 0xf0000000n), call(one, 0n), call(instance(), 0n)];
+})()""".replace("UNPACKED", UNPACKED)
 # Another module in the page that is open
-CHANGED = """(() => {
-  const text = document.getElementById("module").textContent;
-  const bytes = Uint8Array.from(atob(text), (it) => it.charCodeAt(0));
+CHANGED = """(async () => {
+  UNPACKED
   for (const [at, byte] of CHANGES) bytes[at] = byte;
   compiled = WebAssembly.compile(bytes);
   compiled.catch(() => {});
-})()"""
-ANEW = "[unsaved.clear(), document.getElementById('anew').click()]"
+})()""".replace("UNPACKED", UNPACKED)
+ANEW = "[(now.recordings = []), document.getElementById('anew').click()]"
 HELD = """(() => {
   const input = document.querySelector("input[type=file]");
   input.addEventListener("change", (event) => {
@@ -128,17 +154,35 @@ HELD = """(() => {
 })()"""
 LET_GO = """document.querySelector("input[type=file]").dispatchEvent(new Event("change"))"""
 
+# How long it takes until the page says that it can't take what is chosen
+TIMED = """document.getElementById("files").addEventListener("change", () => {
+  const begun = performance.now();
+  new MutationObserver(() => {
+    if (document.body.dataset.state === "failed") window.took ??= performance.now() - begun;
+  }).observe(document.body, { attributeFilter: ["data-state"] });
+}, { capture: true, once: true })"""
+
 # The page
 
+def module_of(page: str, form: int = 64) -> bytes:
+    packed = base64.b64decode(re.search(MODULE.format(form), page)[1])
+    return zlib.decompress(packed, -15)
+
+
 def with_module(page: str, change) -> str:
-    """The page with another module."""
-    head, text, tail = MODULE.search(page).groups()
-    other = base64.b64encode(change(base64.b64decode(text))).decode()
-    return page.replace(head + text + tail, head + other + tail)
+    """The page with other modules."""
+    for form in (64, 32):
+        found = re.search(MODULE.format(form), page)
+        if found:
+            deflate = zlib.compressobj(1, zlib.DEFLATED, -15)
+            packed = deflate.compress(change(module_of(page, form))) + deflate.flush()
+            page = page.replace(found[1], base64.b64encode(packed).decode())
+    return page
 
 
-def module_of(page: str) -> bytes:
-    return base64.b64decode(MODULE.search(page)[2])
+def of_32_bits(page: str) -> str:
+    """The page without its module of 64-bit memory, so that each browser takes the other."""
+    return re.sub(MODULE.format(64), "", page)
 
 
 @dataclass
@@ -150,6 +194,7 @@ class Bench:
     shots: Path = None
     count: int = 0
     shown: set = field(default_factory=set)
+    form: int = 64          # of the module that the page has
 
     def same(self, what: str, got, expected) -> None:
         self.count += 1
@@ -176,7 +221,8 @@ class Bench:
         return self.browser.value(GIVEN)
 
     def words(self) -> str:
-        return self.browser.value("document.getElementById('results').innerText")
+        return self.browser.value("document.getElementById('fault').innerText + "
+                                  "document.getElementById('results').innerText")
 
     def offers_nothing(self, what: str, *parts: str) -> None:
         """The page failed, says these parts of a sentence, and has nothing to save."""
@@ -202,8 +248,23 @@ def lists(bench: Bench, expected: dict) -> None:
         bench.same(f"{what}: {bench.words() if state == 'failed' else ''}", state, "done")
         bench.same(what, bench.given(), given)
         bench.shot(what.partition(",")[0])
+        if len(paths) > 1 and what not in LATER:
+            in_two_halves(bench, what, paths, given)
     bench.same("asked for", [url for url in bench.browser.asked_for()
                              if not url.startswith(("file:", "blob:"))], [])
+
+
+def in_two_halves(bench: Bench, what: str, paths: list, given) -> None:
+    """Files that come later give the same as all of them at once."""
+    half = len(paths) // 2
+    bench.take(paths[:half])
+    bench.browser.choose(paths[half:])
+    until = time.monotonic() + SECONDS
+    while not bench.browser.value(f"now.files.length === {len(paths)}") or bench.wait() != "done":
+        if time.monotonic() > until:
+            raise Lost(f"{bench.name}: {what}: the second half never came")
+        time.sleep(0.02)
+    bench.same(f"{what}, in two halves", bench.given(), given)
 
 
 def words_of(call) -> list:
@@ -222,8 +283,9 @@ def does(native: Native, folder: Path, call) -> list:
     for path in sorted(it for it in folder.iterdir() if it.name != "in.edf"):
         made.append([path.name, sum_of(path.read_bytes())])
         path.unlink()
-    texts = [sum_of(it.decode("utf-8", "replace").encode()) for it in (ran.out, ran.err)]
-    return [ran.status, *texts, made]
+    out, err = [sum_of(it.decode("utf-8", "replace").encode()) for it in (ran.out, ran.err)]
+    is_file = isinstance(call, str) and call.split()[0] in FILES
+    return [ran.status, sum_of(ran.out) if is_file else out, err, made]
 
 
 def programs(bench: Bench, folder: Path, native: Native, paths: list) -> None:
@@ -239,19 +301,29 @@ def programs(bench: Bench, folder: Path, native: Native, paths: list) -> None:
             CALLED.replace("NTH", str(nth)).replace("CALLS", json.dumps(calls)))
         for call, got in zip(calls, given):
             bench.same(f"{call} of {path.name}", got, does(native, own, call))
+    (own / "in.edf").unlink()
+    for nth in range(2 * len(paths)):
+        first, second = nth // 2, (nth + 1) // 2 % len(paths)
+        (own / "first").write_bytes(paths[first].read_bytes())
+        (own / "second").write_bytes(paths[second].read_bytes())
+        ran = measure.ran(native.edfruns, "compare", "first", "second", folder=own)
+        bench.same(f"{paths[first].name} and {paths[second].name}", bench.browser.value(
+            COMPARED.replace("FIRST", str(first)).replace("SECOND", str(second))),
+                   [ran.status, ran.out.decode(), ran.err.decode()])
 
 
 def no_files(bench: Bench) -> None:
     bench.browser.open(bench.page)
     bench.browser.value(LET_GO)
-    bench.same("no files", bench.wait(), "done")
-    bench.same("no files", bench.given(), ["", "", []])
+    bench.same("no files", bench.browser.value("document.body.dataset.state"), "idle")
+    bench.same("no files", bench.browser.value("document.getElementById('status').textContent"),
+               "No file came.")
 
 
 def other_page(bench: Bench, folder: Path, text: str) -> Bench:
     path = folder / f"other-{bench.name}.html"
     path.write_text(text)
-    return Bench(bench.browser, bench.name, path, bench.shots, shown=bench.shown)
+    return Bench(bench.browser, bench.name, path, bench.shots, shown=bench.shown, form=bench.form)
 
 
 def little_memory(bench: Bench, folder: Path, page: str, native: Native) -> None:
@@ -260,14 +332,14 @@ def little_memory(bench: Bench, folder: Path, page: str, native: Native) -> None
     own = folder / f"little-{bench.name}"
     paths = written(own, [("night.edf", b"")])
     LITTLE.card(paths[0])
-    least, size = modules.least_pages(module_of(page)), paths[0].stat().st_size // modules.PAGE
+    least, size = modules.least_pages(module_of(page, 32)), paths[0].stat().st_size // modules.PAGE
     for tried in range(40):
         pages = least + size * tried // 4
         other = other_page(bench, folder, with_module(
             page, lambda module, pages=pages: modules.capped(module, pages)))
         if other.take(paths) == "done":
             break
-        other.offers_nothing(f"{pages} pages", "E41", "Nothing is given.")
+        other.offers_nothing(f"{pages} pages", "E41", "Nothing was taken.")
         other.shot("little memory")
         bench.count += other.count
     bench.same(f"caps at which memory runs out: {tried}", 8 <= tried < 39, True)
@@ -276,12 +348,13 @@ def little_memory(bench: Bench, folder: Path, page: str, native: Native) -> None
 
 def traps(bench: Bench, folder: Path, page: str, paths: list) -> None:
     other = other_page(bench, folder, page.replace(
-        "names.sizes, bytes, sizes,", "names.sizes, bytes + (1n << 40n), sizes,"))
+        "names.sizes, bytes, sizes,", "names.sizes, bytes + 0xf0000000n, sizes,"))
     bench.same("a trap", other.take(paths), "failed")
-    other.offers_nothing("a trap", "RuntimeError", "Nothing is given.")
+    other.offers_nothing("a trap", "RuntimeError", "Nothing was taken.")
     other.shot("a trap")
     bench.browser.open(bench.page)
-    bench.same("a trap, a call after it, another module", bench.browser.value(GUARDED),
+    bench.same("a trap, a call after it, another module", bench.browser.value(
+        GUARDED.replace("MODULE", f'"module{bench.form}"')),
                ["RuntimeError", "RuntimeError", 0])
 
 
@@ -304,7 +377,7 @@ def changes(bench: Bench, folder: Path, native: Native) -> None:
         change(paths[1])
         bench.browser.value(LET_GO)
         if bench.wait() == "failed":
-            bench.offers_nothing(f"a file {what}", "changed.edf", "Nothing is given.")
+            bench.offers_nothing(f"a file {what}", "changed.edf", "Nothing was taken.")
             bench.shot("a file that changed")
         else:
             bench.same(f"a file that {what} was taken as it is", bench.given(),
@@ -316,7 +389,7 @@ def asks_nothing(bench: Bench, folder: Path, page: str) -> None:
     policy = re.compile(r'<meta http-equiv="Content-Security-Policy"[^>]*>')
     open_page = folder / f"open-{bench.name}.html"
     open_page.write_text(policy.sub("", page))
-    ways = sends.reached(bench.browser, open_page)
+    ways = sends.reached(bench.browser, open_page, sends.NAMED)
     bench.count += len(ways)
     bench.same(f"without the policy it is, by {len(ways)} ways", sends.NAMED - ways, set())
 
@@ -335,22 +408,39 @@ def big_night(bench: Bench, path: Path, native: Native, folder: Path) -> None:
     times = min(ours) / min(theirs)
     print(f"{bench.name}: {path.stat().st_size:,} bytes: the programs {min(theirs):.2f} s, "
           f"the page {min(ours):.2f} s, {times:.1f} times, {memory:,} bytes of memory", flush=True)
-    bench.same(f"{times:.1f} times", times <= MOST_TIMES[bench.name], True)
+    bench.same(f"{times:.1f} times", times <= MOST_TIMES[type(bench.browser)], True)
     bench.same(f"{memory:,} bytes of memory", memory <= MOST_MEMORY, True)
 
 
 def unable(bench: Bench, folder: Path) -> None:
-    """A browser without 64-bit memory says so at once, and takes nothing."""
-    with OFF[bench.name](folder / f"unable-{bench.name}") as browser:
+    """A browser without WebAssembly says so at once, and takes nothing."""
+    with OFF[type(bench.browser)](folder / f"unable-{bench.name}") as browser:
         other = Bench(browser, bench.name, bench.page, bench.shots)
         browser.open(bench.page)
-        other.same("without 64-bit memory", other.wait(), "failed")
-        text = browser.value("document.getElementById('unable').textContent")
-        other.same(f"{text!r} says so", "64-bit memory" in text, True)
+        other.same("without WebAssembly", other.wait(), "failed")
+        text = browser.value("document.getElementById('unable').innerText")
+        other.same(f"{text!r} says so", "it lacks WebAssembly." in " ".join(text.split()), True)
         other.same("no button", browser.value(
             "[...document.querySelectorAll('button')].some((it) => it.checkVisibility())"), False)
-        other.shot("without 64-bit memory")
+        other.shot("without WebAssembly")
         bench.count += other.count
+
+
+def too_much(bench: Bench, folder: Path) -> None:
+    """What is above the limits of 32 bits is told within a second, and is not read."""
+    own = folder / f"much-{bench.name}"
+    paths = written(own, [(f"{nth}.edf", page_files.seconds(3)) for nth in range(3)])
+    for size, names in ((481_000_000, ("0.edf",)), (320_000_000, ("0.edf", "1.edf", "2.edf"))):
+        for path in paths[:len(names)]:
+            os.truncate(path, size)
+        bench.browser.open(bench.page)
+        bench.browser.value(TIMED)
+        bench.browser.choose(paths[:len(names)])
+        bench.same("too much", bench.wait(), "failed")
+        bench.offers_nothing("too much", "In this browser the page takes 480.0 MB of a file, and "
+                             "950.0 MB in all")
+        took = bench.browser.value("window.took")
+        bench.same(f"within a second: {took:.0f} ms", took < 1000, True)
 
 
 # Pages that answer wrongly
@@ -375,7 +465,8 @@ def is_found(bench: Bench, expected: dict) -> bool:
 
 def with_bytes(bench: Bench, changes: list) -> None:
     """Has the page that is open take its module with these bytes at these places."""
-    bench.browser.value(CHANGED.replace("CHANGES", json.dumps(changes)))
+    bench.browser.value(CHANGED.replace("CHANGES", json.dumps(changes))
+                        .replace("MODULE", f'"module{bench.form}"'))
 
 
 def runs(bench: Bench, expected: dict, module: bytes, function: tuple) -> bool:
@@ -460,15 +551,31 @@ def expectations(folder: Path, native: Native, given) -> dict:
     return expected
 
 
+def sendable(native: Native, expected: dict) -> dict:
+    """The lists without the files whose names WebKit's driver can't send."""
+    found = {}
+    for what, (paths, given) in expected.items():
+        kept = [it for it in paths if "\n" not in it.name]
+        if len(kept) < len(paths):
+            given = native.given(paths[0].parent.parent, kept)
+        found[what] = (kept, given)
+    return found
+
+
 def in_browser(bench: Bench, given, folder: Path, native: Native, expected: dict) -> None:
-    page = given.page.read_text()
+    page = bench.page.read_text()
+    bench.browser.open(bench.page)
+    bench.same("the module", bench.browser.value("MODULE"), f"module{bench.form}")
     bench.same("bytes of the page", len(page) <= MOST_BYTES, True)
     if given.control:
         return control(bench, folder, page, expected)
-    hands = HANDS[bench.name](bench.browser, folder / f"profile-{bench.name}/downloads")
+    hands = HANDS[type(bench.browser)](bench.browser, folder / f"profile-{bench.name}/downloads")
+    if isinstance(bench.browser, WebKit):
+        expected = sendable(native, expected)
     big = None if given.without_night else folder / "night/card.edf"
     technician.all_of_it(bench, hands, folder, native, big)
     second_thoughts.all_of_it(bench, hands, folder, native)
+    morning.all_of_it(bench, hands, folder, native)
     lists(bench, expected)
     programs(bench, folder, native, expected["files of stories"][0])
     no_files(bench)
@@ -476,6 +583,8 @@ def in_browser(bench: Bench, given, folder: Path, native: Native, expected: dict
     traps(bench, folder, page, expected["one file"][0])
     changes(bench, folder, native)
     asks_nothing(bench, folder, page)
+    if bench.form == 32:
+        too_much(bench, folder)
     unable(bench, folder)
     if not given.without_night:
         big_night(bench, folder / "night/card.edf", native, folder / "night")
@@ -498,6 +607,10 @@ def main() -> None:
             begun = time.perf_counter()
             with BROWSERS[kind](folder / f"profile-{kind}") as browser:
                 bench = Bench(browser, kind, given.page, given.screenshots)
+                bench.form = 32 if kind.endswith("-32") or kind == "webkit" else 64
+                if kind.endswith("-32"):
+                    bench.page = folder / f"{kind}.html"
+                    bench.page.write_text(of_32_bits(given.page.read_text()))
                 try:
                     in_browser(bench, given, folder, native, expected)
                 except Lost as wrong:

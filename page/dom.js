@@ -2,10 +2,7 @@
 // The page's elements. All texts are set as text, and nothing is asked of any server.
 
 const byId = (id) => document.getElementById(id);
-// Words of page.html by their name; and patterns of lines, each with what to say for them.
 const wordsAt = (id) => byId("words").content.getElementById(id)?.textContent.replace(/\s+/g, " ");
-const inWords = (id, line) => [...byId(id).content.querySelectorAll("dt")].reduce((text, it) =>
-  text.replace(new RegExp(it.textContent, "s"), it.nextElementSibling.textContent), line);
 const setState = (state) => { document.body.dataset.state = state; };
 const say = (words) => { byId("status").textContent = words; };
 
@@ -17,6 +14,7 @@ function made(tag, text, parent, more = {}) {
 }
 
 const hint = (text, parent) => made("p", text, parent, { className: "hint" });
+const buttonsIn = (parent) => made("p", null, parent, { className: "buttons" });
 
 // A button; `of` tells what it is of: an element, or the name of a file.
 function button(text, parent, press, of = null) {
@@ -27,11 +25,11 @@ function button(text, parent, press, of = null) {
   return element;
 }
 
-function checkbox(text, parent, more = {}) {
-  const label = made("label", null, made("p", null, parent));
-  const box = made("input", null, label, { type: "checkbox", ...more });
-  label.append(text);
-  return box;
+// What is folded under a line.
+function fold(text, parent, more = {}) {
+  const element = made("details", null, parent, more);
+  made("summary", text, element);
+  return element;
 }
 
 // A part of the page under a heading, which may get the focus: there a person goes on reading.
@@ -43,52 +41,28 @@ function part(tag, parent, level, title) {
   return [element, head];
 }
 
-function table(parent, className, caption, ...heads) {
-  const element = made("table", null, parent, { className });
+// A table of at most so many rows, by texts or elements: the first cell of a row names it, and the
+// others have on a narrow screen the names of their columns before them.
+const MOST_ROWS = 500;
+function table(parent, caption, heads, all, cells) {
+  const element = made("table", null, parent);
   made("caption", caption, element);
-  const line = made("tr", null, made("thead", null, element));
-  heads.forEach((head) => made("th", head, line, { scope: "col" }));
-  return made("tbody", null, element);
-}
-
-// A row of a table, whose first cell names it; the others, which on a narrow screen have the names
-// of their columns before them.
-function row(body, name, ...cells) {
-  const line = made("tr", null, body), heads = body.parentNode.tHead.rows[0].cells;
-  made("th", name, line, { scope: "row" });
-  return cells.map((text, nth) => {
-    const cell = made("td", text, line);
-    cell.dataset.head = heads[nth + 1].textContent;
-    return cell;
+  const top = made("tr", null, made("thead", null, element)), body = made("tbody", null, element);
+  heads.forEach((head) => made("th", head, top, { scope: "col" }));
+  all.slice(0, MOST_ROWS).forEach((it, at) => {
+    const line = made("tr", null, body);
+    cells(it, at).forEach((cell, nth) => made(...nth === 0 ? ["th", cell, line, { scope: "row" }]
+      : ["td", typeof cell === "string" ? cell : null, line]).append(
+      ...typeof cell === "string" ? [] : [cell]));
+    [...line.cells].forEach((cell, nth) => { cell.dataset.head = heads[nth]; });
   });
+  if (all.length > MOST_ROWS) hint(`The first ${MOST_ROWS} of ${counted(all.length)}.`, parent);
+  return element;
 }
 
-// Adds the first of many rows, and says so where some are left out.
-const MOST_ROWS = 200;
-function firstRows(all, place, words, add) {
-  all.slice(0, MOST_ROWS).forEach(add);
-  if (all.length > MOST_ROWS) hint(`The first ${MOST_ROWS} of ${all.length}. ${words}`, place);
-}
-
-// Words for numbers and texts.
-const several = (number, thing) =>
-  `${number.toLocaleString("en")} ${thing}${number === 1 ? "" : "s"}`;
-const sizeOf = (bytes) => bytes < 1e6
-  ? `${Math.ceil(bytes / 1e3).toLocaleString("en")} kB` : `${(bytes / 1e6).toFixed(1)} MB`;
-const textOf = (bytes) => new TextDecoder("utf-8", { ignoreBOM: true }).decode(bytes);
-const linesOf = (text) => text.split("\n").slice(0, -1);
-const valueIn = (line, name) => new RegExp(` ${name}=(\\S+)`).exec(line)?.[1] ?? "";
-const sumOf = (all, of) => all.reduce((sum, it) => sum + Number(of(it)), 0);
-const sentence = (text) => text.charAt(0).toUpperCase() + text.slice(1);
-
-// Saving, which is the browser's own. What came of files may be saved until others are taken; the
-// recordings whose file was not yet have their titles in `unsaved`.
-const urls = [], unsaved = new Map();
-
-function urlOf(blob) {
-  urls.push(URL.createObjectURL(blob));
-  return urls.at(-1);
-}
+// Saving, which is the browser's own. What is shown may be saved until something else is.
+const urls = [];
+const urlOf = (blob) => urls[urls.push(URL.createObjectURL(blob)) - 1];
 
 function save(blob, name) {
   const link = made("a", null, document.body, { href: urlOf(blob), download: name, hidden: true });
@@ -99,13 +73,11 @@ function save(blob, name) {
 
 const saveText = (text, name) => save(new Blob([text], { type: "text/plain" }), name);
 
-// What names a recording's files: its investigation and its first instant, or that of a stretch,
-// and the patient's code where that is asked for. Of several that are alike each later one has a
-// number.
-function nameOf(recordings, at, hasCode, first = recordings[at].first) {
-  const plain = (it) => [...(hasCode ? [it.patient] : []), it.investigation, it.first]
-    .map((text) => text.replace(/[^A-Za-z0-9-]/g, "_")).join("_");
-  const own = plain(recordings[at]);
-  const alike = recordings.slice(0, at).filter((other) => plain(other) === own).length;
-  return plain({ ...recordings[at], first }) + (alike === 0 ? "" : `_${alike + 1}`);
+// Browsers ask once whether a page may save several files, and lose some that come too quickly.
+async function saveAll(files) {
+  for (const { blob, name } of files) {
+    save(blob, name);
+    await new Promise((done) => setTimeout(done, 200));
+  }
+  if (files.length > 1) say(`${several(files.length, "file")}: see your browser's downloads.`);
 }

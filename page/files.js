@@ -21,13 +21,13 @@ async function withinHandle(handle, folder = "") {
   const found = [], path = folder + handle.name;
   if (handle.kind === "file") return [Object.assign(await handle.getFile(), { path })];
   for await (const one of handle.values()) found.push(one);
-  const inner = found.sort(byName).map((it) => withinHandle(it, `${path}/`));
-  return (await Promise.all(inner)).flat();
+  found.sort(byName);
+  return (await Promise.all(found.map((it) => withinHandle(it, `${path}/`)))).flat();
 }
 
 // What was dropped: all of it must be asked for before the first wait.
 async function dropped({ items, files }) {
-  const own = [...items].filter((item) => item.kind === "file"), plain = [...files];
+  const own = [...items].filter(({ kind }) => kind === "file"), plain = [...files];
   const entries = own.map((item) => item.webkitGetAsEntry());
   if (!entries.some((entry) => entry?.isDirectory)) return plain;
   const handles = own.map((item) => item.getAsFileSystemHandle?.());

@@ -1,30 +1,52 @@
-// What the page reads of a file itself: its first 256 bytes, whose texts it shows. What they mean
-// the module says, but for the times that a header tells.
+// The first 256 bytes of a file: its format, and texts. What these mean the module says.
 
 // The fields there: their first byte, and that behind the last.
 const FIELDS = { patient: [8, 88], recording: [88, 168], startdate: [168, 176],
-  starttime: [176, 184], form: [192, 197], count: [236, 244], duration: [244, 252] };
-// Those that a refusal is of.
+  starttime: [176, 184], form: [192, 197], duration: [244, 252] };
+// Those that a refusal is of, and what they are called.
 const OF_REFUSALS = { E4: ["patient"], E5: ["recording"], E6: ["startdate", "recording"],
   E7: ["starttime"], E8: ["startdate", "recording"] };
-const calledAt = (at) => wordsAt(`at-${at}`);
+const calledBy = (name) => wordsAt(`at-${name}`);
 
-const headOf = async ({ blob }) => new TextDecoder("latin1").decode(
-  await blob.slice(0, 256).arrayBuffer().catch(() => new ArrayBuffer(0)));
-const field = (head, name) => head.slice(...FIELDS[name]).trimEnd();
+// What texts stand for by a list of page.html; formats by their first bytes.
+const pairsIn = (id) => [...byId(id).content.querySelectorAll("dt")].map((it) =>
+  [new RegExp(it.textContent, "s"), it.nextElementSibling.textContent.replace(/\s+/g, " ")]);
+const KINDS = pairsIn("kinds"), UNKNOWN = "no EDF: it is of another format, or it is damaged";
+// What a file is that is none of EDF.
+const kindOf = (head) => head.startsWith("0       ") ? null
+  : KINDS.find(([start]) => start.test(head))?.[1] ?? UNKNOWN;
+
+// These bytes as Latin-1 has them. (What browsers call so is another encoding.)
+const headOf = async ({ blob }) => String.fromCharCode(...new Uint8Array(
+  await blob.slice(0, 256).arrayBuffer().catch(() => new ArrayBuffer(0))));
+
+// The same read as UTF-8, where it is that.
+const UTF8 = new TextDecoder("utf-8", { fatal: true });
+function readable(text) {
+  const bytes = Uint8Array.from(text, (it) => it.charCodeAt(0));
+  try { return UTF8.decode(bytes); } catch { return text; }
+}
+
+const field = (head, name) => readable(head.slice(...FIELDS[name])).trimEnd();
 // The same without the date of a recording field, which differs in the pieces of a recording.
 const naming = (head, name) => field(head, name).replace(/^Startdate \d\S* /, "");
+const NAMING = ["patient", "recording", "duration"];
+const isAlike = (one, { head }) => NAMING.every((it) => naming(one.head, it) === naming(head, it));
 
-// Of files before one those of its recording that were taken and have this time by their headers,
-// as a file of EDF+C tells it.
-function havingTime(before, own, instant) {
-  const at = Date.parse(`${instant}Z`);
-  return before.filter(({ number, head }) => {
-    const [day, month, year] = field(head, "startdate").split(".");
-    const time = field(head, "starttime").replaceAll(".", ":");
-    const first = Date.parse(`${year >= "85" ? 19 : 20}${year}-${month}-${day}T${time}Z`);
-    const end = first + 1000 * field(head, "count") * field(head, "duration");
-    return !number && field(head, "form") === "EDF+C" && first <= at && at < end &&
-      ["patient", "recording"].every((it) => naming(head, it) === naming(own, it));
-  }).map(({ name }) => name);
+// A file that `edfruns fill` made is no recording, but a copy for viewers.
+const isFilled = ({ head }) => field(head, "recording").endsWith(" filled");
+
+// The instant at which a file begins by its header.
+function startOf({ head }) {
+  const [day, month, year] = field(head, "startdate").split(/\D/);
+  const time = field(head, "starttime").replace(/\D/g, ":");
+  return `${year >= "85" ? 19 : 20}${year}-${month}-${day}T${time}`;
+}
+
+// Whom a patient field names: the code, and the name and the birthdate where they are there.
+function personIn({ head }) {
+  const [code, , born = "X", ...names] = field(head, "patient").split(" ");
+  const name = names.join(" ").replace(/_/g, " ") || "X";
+  return (code === "X" ? "without a code" : code) + (name === "X" ? "" : `, ${name}`) +
+    (born === "X" ? "" : `, born ${born}`);
 }

@@ -1,104 +1,85 @@
-// Mending a refused file: what would change is shown, with what edfmend asks, before anything is
-// made. The fields for the answers are in page.html, with the lines by which edfmend asks.
+// Mending refused files of one cause, all at once: what would change is shown before any is taken,
+// with the fields of page.html for what edfmend asks.
 
-const TEXT = String.raw`="((?:[^"\\]|\\.)*)"`;
-const CHANGE = new RegExp(
-  String.raw`^(?:signal (\d+) )?(\w+)(?: record=(\d+))? at=(\d+) old${TEXT} new${TEXT}$`);
+const inWords = (line) =>
+  pairsIn("faults").reduce((text, [is, said]) => text.replace(is, said), line);
+// Whether a mended file is of another recording, by its lines.
+const isRenamed = (ledger) => /^recording .* mended"$/m.test(ledger);
 
-// What edfmend is told: the name of the new file, none where it is to tell alone what would change;
-// then the values of --patient, --set-patient, --deidentify, --startdate and --starttime, and any
-// text for --all.
-function valuesOf({ elements: { patient, startdate, starttime, all } }, out) {
+// What edfmend is told: the name of the new file, then the values of --patient, --set-patient,
+// --deidentify, --startdate and --starttime, and any text for --all.
+function valuesOf({ elements: { patient, startdate, starttime, all } }) {
   const [code, day, time] = [patient, startdate, starttime].map(({ value }) => value.trim());
-  return [out, code, "", "", day, time, all.checked ? "all" : ""];
+  return ["out.edf", code, "", "", day, time, all.checked ? "all" : ""];
 }
 
-// A ledger's line in its parts: where, and the texts before and after, with bytes beyond ASCII as
-// Latin-1 has them.
-function readChange(line) {
-  const [, signal, field, record, at, old, now] = CHANGE.exec(line) ?? [];
-  if (!at) return [inWords("changes", line), "", ""];
-  const named = field.replaceAll("_", " ");
-  const where = signal ? `signal ${signal}, ${named}` :
-    record ? `${named} of data record ${record}` : calledAt(at) || named;
-  const unquoted = (text) => text.replace(/\\(?:x(..)|(.))/g, (_, code, letter) =>
-    letter ?? String.fromCharCode(parseInt(code, 16)));
-  return [where, ...[old, now].map((it) => unquoted(it) || "empty")];
+// The files that would be mended, each with whom it then names and when it starts; and all changes.
+async function showMended(box, title, good) {
+  const all = several(good.length, "mended file"), base = (own) => own.replace(/\.edf$/i, "");
+  const heads = await Promise.all(good.map(headOf));
+  const ledger = good.map(({ file, out }) => `${file.name}\n${out.replace(IN, "it")}`).join("");
+  table(box, `${all}; samples stay as they are`, ["File", "Patient", "Starts"], heads,
+    (head, nth) => [good[nth].file.name, personIn({ head }), when(startOf({ head }))]);
+  made("pre", ledger.slice(0, 20_000), fold("Every change", box));
+  const isOwn = isRenamed(ledger), lacks = /^signals at=/m.test(ledger);
+  if (now.recordings.length > 0) made("p", wordsAt(isOwn ? "own" : "joins"), box,
+    { className: isOwn ? "bad" : "" });
+  if (lacks) hint(wordsAt("no-annotations"), box);
+  const buttons = buttonsIn(box), gone = good.map(({ file }) => file);
+  button(good.length === 1 ? "Take it" : `Take these ${counted(good.length)}`, buttons, () =>
+    take(good.map(({ file: { own, path, night }, blob }, nth) => ({ own: `${own} (mended)`,
+      path: `${path} (mended)`, night, blob, head: heads[nth] })), { gone }), title)
+    .className = "first";
+  button(good.length === 1 ? "Save the mended file" : `Save the ${all}`, buttons, () =>
+    saveAll(good.map(({ file, blob }) => ({ blob, name: `${base(file.own)}-mended.edf` }))), title);
+  button("Save the list of changes", buttons, () =>
+    saveText(ledger, `${base(good[0].file.own)}-changes.txt`), title);
 }
 
-function showMended(session) {
-  const { box, title, ledger, at } = session, isOwn = /^recording .* mended"$/m.test(ledger);
-  const body = table(box, "each", "What changes in the mended file", "Where", "Before", "After");
-  firstRows(linesOf(ledger), box, "Save the list to see all.",
-    (line) => row(body, ...readChange(line)));
-  made("p", wordsAt(isOwn ? "own" : "joins"), box, { className: isOwn ? "bad" : "" });
-  if (/^signals at=/m.test(ledger)) hint(wordsAt("no-annotations"), box);
-  hint(wordsAt("card"), box);
-  const buttons = made("p", null, box, { className: "buttons" });
-  const taking = isOwn ? "Take it, apart from the good files" : "Take it with the others";
-  button(taking, buttons, async () => {
-    const blob = await mended(session), { own, path } = held[at];
-    if (blob) replace(at, { own: `${own} (mended)`, path: `${path} (mended)`, blob });
-  }, title).className = isOwn ? "" : "first";
-  button("Save the mended file", buttons, () => saveMended(session), title);
-  button("Save the list of changes", buttons, () => saveText(`${session.name}\n${ledger}`,
-    `${held[at].own.replace(/\.edf$/i, "")}-changes.txt`), title);
-}
-
-// The mended file, made once; its ledger must be the one that was shown.
-async function mended(session) {
-  if (session.made) return session.made;
-  const done = await run(valuesOf(session.form, "out.edf"), session.name, session.blob);
-  if (done?.status === 0 && done.made.length === 1 && done.out === session.ledger) {
-    session.made = done.made[0].blob;
-  } else if (done) say(`${session.name} was not mended. ${done.err}`);
-  return session.made;
-}
-
-// Its name is made of its own header, and of its first instant.
-async function saveMended(session) {
-  const blob = await mended(session), head = blob && await headOf({ blob });
-  const runs = blob && await run("list", session.name, blob);
-  if (!runs) return;
-  const names = { patient: head.slice(8).split(" ")[0], first: valueIn(runs.out, "first"),
-    investigation: field(head, "recording").split(" ")[2] ?? "" };
-  save(blob, `${nameOf([names], 0, byId("codes")?.checked)}-mended.edf`);
-}
-
-// Looks what edfmend would do, by the answers so far, and shows it, with the fields of what it asks
-// and asked before.
+// Shows what edfmend would do by the answers so far, and the fields of what it asks and asked.
 async function look(session) {
-  const { box, title, form, name, blob } = session;
-  const done = await run(valuesOf(form, ""), name, blob);
+  const { box, title, form, files } = session, whys = new Map(), good = [];
+  const done = await runEach(valuesOf(form), files.map(forWorker));
   if (!done) return;
-  const isGood = done.status === 0, line = done.err.trim().replaceAll(`${IN} `, "");
-  [session.ledger, session.made] = [done.out, null];
+  done.forEach(({ status, out, err, made: [it] }, nth) => {
+    const line = err.trim().replaceAll(`${IN} `, ""), file = files[nth];
+    if (status === 0) good.push({ file, out, blob: it.blob });
+    else whys.set(line, [...whys.get(line) ?? [], file]);
+  });
   box.hidden = false;
   box.replaceChildren(title);
-  [...form.querySelectorAll("input")].filter((it) => new RegExp(it.dataset.asks).test(line))
-    .forEach((it) => { it.closest("p").hidden = form.hidden = false; });
-  const [, number] = /^refused (E\d+)/.exec(line) ?? [];
-  const why = number ? `${number}: ${REFUSALS[number].what}` : inWords("faults", line);
-  if (!isGood) made("p", sentence(why), box, { className: "bad" });
-  if (!isGood && form.hidden) made("p", wordsAt("no-way"), box);
+  form.querySelectorAll("input").forEach((it) => {
+    if (![...whys.keys()].some((line) => new RegExp(it.dataset.asks).test(line))) return;
+    it.parentNode.hidden = form.hidden = false;
+  });
+  whys.forEach((some, line) => {
+    const number = /^refused (E\d+)/.exec(line)?.[1];
+    made("p", `${named(some)}: ${sentence(number ? REFUSALS[number].what : inWords(line))}`, box,
+      { className: "bad" });
+  });
+  if (whys.size > 0 && form.hidden) made("p", wordsAt("no-way"), box);
   box.append(form);
-  if (isGood) showMended(session);
-  button("Close", made("p", null, box, { className: "buttons" }), () => {
+  if (good.length > 0) await showMended(box, title, good);
+  button("Close", buttonsIn(box), () => {
     box.hidden = true;
     session.opener.focus();
   }, title);
-  (isGood || form.hidden ? title : form.querySelector("p:not([hidden]) input")).focus();
+  (whys.size === 0 || form.hidden ? title : form.querySelector("p:not([hidden]) input")).focus();
   box.scrollIntoView({ block: "nearest" });
 }
 
-function offerMending(buttons, cell, { name, at }) {
-  const [box, title] = part("section", cell, "h4", `Mending ${name}`), { blob } = held[at];
+function offerMending(buttons, place, files, of) {
+  const words = files.length === 1 ? "Mend it…" : `Mend these ${counted(files.length)}…`;
+  const [box, title] = part("section", place, "h5", "Mending");
   const form = byId("questions").content.firstElementChild.cloneNode(true);
-  const session = { name, at, blob, box, title, form, made: null };
+  const session = { files, box, title, form };
   Object.assign(box, { className: "mending", hidden: true });
+  form.querySelectorAll("input").forEach((it) => {
+    it.parentNode.querySelector("label").htmlFor = it.id = `field-${parts += 1}`;
+  });
   form.addEventListener("submit", (event) => {
     event.preventDefault();
     look(session);
   });
-  session.opener = button("Mend it…", buttons, () => look(session), name);
+  session.opener = button(words, buttons, () => look(session), of);
 }

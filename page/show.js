@@ -1,163 +1,142 @@
-// What came of files: those that are refused, with what to do; the recordings; the other files.
+// What came of files: each recording with its picture first; then what was refused, by its cause.
 
 const REFUSALS = JSON.parse(byId("refusals").textContent);
+const whatIs = (file) =>
+  isFilled(file) ? "a copy for viewing; drop the exact one" : kindOf(file.head);
+const isAside = (file) => whatIs(file) !== null && !(whatIs(file) === UNKNOWN &&
+  /\.edf$/i.test(file.name));
 
-// A file's line in its parts, with its place among those that the page holds, and how it begins.
-function readLine({ name }, line, at, head) {
-  const rest = line.slice(name.length + 1, -1);
-  const [, fresh, known] = /^accepted new=(\d+) known=(\d+)$/.exec(rest) ?? [];
-  const [, number, place] = /^refused (E\d+) ?(.*)$/s.exec(rest) ?? [];
-  const isForeign = number === "E2" && head !== "" && !head.startsWith("0       ");
-  return { name, at, head, fresh, known, number, place, isForeign };
+// A file's line in its parts, and a recording's.
+function readLine({ name }, line) {
+  const rest = line.slice(name.length + 1);
+  const [, fresh, known] = /^accepted new=(\d+) known=(\d+)\n$/.exec(rest) ?? [];
+  const [, number, place] = /^refused (E\d+) ?(.*)\n$/s.exec(rest) ?? [];
+  return { rest, fresh: Number(fresh ?? 0), known: Number(known ?? 0), number, place };
 }
 
-const readList = (listed) => linesOf(listed).map((line) => ({ line, first: valueIn(line, "first"),
-  patient: valueIn(line, "patient"), investigation: valueIn(line, "investigation") }));
+const readListed = (line) =>
+  ({ line, ...valuesIn(line, "records", "first", "patient", "investigation") });
 
-// What is wrong with a file: in the words of its number, and by its own texts.
-function showWhy(cell, { number, place, head, isForeign }) {
-  const { what, more } = REFUSALS[number], why = made("p", null, cell);
-  made("strong", number, why, { className: "bad" });
-  made("code", ` ${place}`, why);
-  made("p", sentence(isForeign ? REFUSALS.E3.what : what), cell);
-  for (const name of OF_REFUSALS[number] ?? []) {
-    const line = made("p", `Its ${calledAt(FIELDS[name][0])}: `, cell);
-    made("code", field(head, name) || "empty", line);
+// What is wrong with a file, in a sentence that is chosen by what is there.
+function causeOf({ number, place, head }) {
+  const at = Number(/^Unprintable offset=(\d+)/.exec(place)?.[1] ?? -1);
+  if (kindOf(head) !== null) return `This is ${kindOf(head)}.`;
+  if (number === "E2" && at >= 8 && at < 168) {
+    const [letter] = [2, 3, 4, 1].map((it) => [...readable(head.slice(at, at + it))])
+      .find((letters) => letters[0] !== head[at]) ?? head[at];
+    return `${at < 88 ? "The patient's name" : "The recording field"} has ` +
+      `${letter > "\x9f" ? `an “${letter}”` : "a sign"}, which EDF does not know.`;
   }
-  if (more.length === 0) return;
-  const box = made("details", null, cell);
-  made("summary", `More about ${number}`, box);
-  more.forEach((text) => hint(text, box));
-}
-
-// Which of files that contradict each other stays.
-function showOrder(cell, { number, place, head }, before) {
-  const instant = valueIn(` ${place}`, number === "E30" ? "stored" : "start");
-  const having = havingTime(before, head, instant).slice(0, 3).join(", ");
-  if (having) hint(`Taken before it, and with this time by the header: ${having}.`, cell);
-  hint(wordsAt("first-stays"), cell);
-  if (isSorted) hint("Annotations by onset first did not help here.", cell);
-}
-
-function showRefused(body, file, before) {
-  const { number, name, at, isForeign } = file, [cell] = row(body, name, null);
-  const contradicts = number === "E30" || number === "E31";
-  showWhy(cell, file);
-  if (contradicts) showOrder(cell, file, before);
-  const buttons = made("p", null, cell, { className: "buttons" });
-  if (REFUSALS[number].mends && !isForeign) offerMending(buttons, cell, file);
-  if (contradicts) button("Take this file first", buttons, () => takeFirst(at), name);
-  if (number === "E31" && !isSorted) {
-    button("Take all again, annotations by onset first", buttons, () => byId("by-onset").click());
+  if (!field(head, "form").startsWith("EDF+") && ["E4", "E5", "E9"].includes(number)) {
+    return wordsAt("cause-plain");
   }
-  button("Take out", buttons, () => takeOut(at), name);
+  return wordsAt(`cause-${number}`) ?? sentence(REFUSALS[number].what);
 }
 
-function showAllRefused(box, read) {
-  const [place] = part("section", box, "h3", "Refused files");
-  const body = table(place, "stack", wordsAt("refused"), "File", "Why, and what to do");
-  read.forEach((file, at) => { if (file.number) showRefused(body, file, read.slice(0, at)); });
-}
+const outOf = (file) => button("Take out", document.createDocumentFragment(),
+  () => takeOut([file]), file.name);
 
-function showOthers(box, read, outside) {
-  const [place] = part("section", box, "h3", "Files"), taken = read.filter((it) => !it.number);
-  if (taken.length > 0) {
-    const all = made("details", null, place, { open: taken.length <= 12 });
-    made("summary", `${several(taken.length, "file")} accepted`, all);
-    const body = table(all, "each", wordsAt("accepted"), "File", "Starts", "New", "Known", "");
-    taken.forEach(({ name, at, head, fresh, known }) => {
-      const starts = `${field(head, "startdate")} ${field(head, "starttime")}`;
-      const [, , , cell] = row(body, name, starts, fresh, known, null);
-      button("Take out", cell, () => takeOut(at), name);
-    });
-  }
-  outside.forEach((line) => hint(
-    `${line.trim()}: so many of its annotations happened in none of its data records.`, place));
-  button("Save the list of files", made("p", null, place),
-    () => saveText(window.answer.taken + window.answer.listed, "edfstore-answers.txt"));
-}
-
-// What came just now: data records, and how long they last where the headers tell that.
-function showWhatCame(box, added) {
-  const lines = (added.length > 5 ? [added] : added.map((it) => [it])).map((some) => {
-    const taken = some.filter(({ number }) => !number);
-    const [fresh, known] = ["fresh", "known"].map((name) => sumOf(taken, (it) => it[name]));
-    const seconds = sumOf(taken, (it) => it.fresh * (field(it.head, "duration") || NaN));
-    const lasts = seconds > 0 ? ` (${lasting(String(Number(seconds.toFixed(3))))})` : "";
-    return `${some.length > 1 ? several(some.length, "file") : some[0].name}, ` +
-      (taken.length === 0 ? "refused" : `${several(fresh, "new data record")}${lasts}, ` +
-        `${known.toLocaleString("en")} known`);
+// What is folded of refused files: each with its number and place, and the fields that it is of.
+function showDetails(box, files) {
+  table(box, "Each file, and its fault by number", ["File", "Fault", ""], files, (file) => {
+    const texts = (OF_REFUSALS[file.number] ?? []).map((it) =>
+      `Its ${calledBy(it)}: ${field(file.head, it) || "empty"}`);
+    return [file.name, [`${file.number} ${file.place}`, ...texts].join(". "), outOf(file)];
   });
-  if (added.length > 0) made("p", `Just added: ${lines.join("; ")}.`, box);
+  REFUSALS[files[0].number].more.forEach((text) => hint(text, box));
 }
 
-// What a picture says of itself.
-function described(picture) {
-  const [text] = /<desc[^]*?<\/desc>/.exec(picture) ?? ["<desc/>"];
-  return new DOMParser().parseFromString(text, "text/xml").documentElement.textContent;
+// What a recording has of a file that contradicts it, and what it lacks, which may be taken.
+function showCompared(box, file) {
+  const each = file.stretches.filter(({ word }) => word !== "lacking");
+  const of = (...words) => each.filter(({ word }) => words.includes(word)), fresh = of("new");
+  const lasts = (some) => lasting(String(Number((field(file.head, "duration") *
+    some.reduce((sum, { records }) => sum + Number(records), 0)).toFixed(6))));
+  if (each.length === 0) return;
+  made("p", `${file.name} contradicts for ${lasts(of("differs", "overlaps"))}. ` +
+    (fresh.length > 0 ? `${lasts(fresh)} of it is missing here.` : "All else on it is here."), box);
+  if (fresh.length > 0) button(`Take the missing ${lasts(fresh)}`, buttonsIn(box),
+    () => takeCuts(file, fresh), file.name);
+  table(fold("From when to when", box), "What is here of this file", ["From", "To", "What"], each,
+    (it) => [when(it.from), when(it.to), wordsAt(`has-${it.word}`)]);
 }
 
-// Why a recording is another one than an earlier one of the same codes.
-function showDifference(card, recordings, at, all) {
-  const codes = ({ patient, investigation }) => `${patient} ${investigation}`;
-  const other = recordings.findIndex((it) => codes(it) === codes(recordings[at]));
-  if (other === at) return;
-  const texts = (name) => [other, at].map((it) => naming(all[it].head, name));
-  const name = ["patient", "recording", "duration"].find((it) => texts(it)[0] !== texts(it)[1]);
-  made("p", "There is another recording of these codes above: " + (name
-    ? `its ${calledAt(FIELDS[name][0])} is “${texts(name).join("”, and this one's “")}”.`
-    : "the headers of their signals differ."), card);
+// Refused files of one cause, with what can be done for all of them at once.
+function showGroup(place, cause, files) {
+  const [first] = files, isOne = files.length === 1;
+  const [box, title] = part("section", place, "h4",
+    `✕ ${isOne ? first.name : several(files.length, "file")}`);
+  made("p", cause, box);
+  const buttons = buttonsIn(box), of = isOne ? first.name : title;
+  if (REFUSALS[first.number].mends && kindOf(first.head) === null) {
+    offerMending(buttons, box, files, of);
+  }
+  const contradicts = /^E3[01]/.test(first.number);
+  if (contradicts) hint(wordsAt("first-stays"), box);
+  if (contradicts && isOne) button("Take this file first", buttons, () => takeFirst(first), of);
+  if (first.number === "E31" && !now.isSorted) {
+    button("Sort all annotations by their times", buttons, () => sortAll(true));
+  }
+  button(isOne ? "Take out" : `Take all ${counted(files.length)} out`, buttons,
+    () => takeOut(files), of);
+  if (contradicts) files.forEach((it) => showCompared(box, it));
+  showDetails(fold("Details", box), files);
 }
 
-function showRecording(box, recordings, at, all) {
-  const { patient, investigation, line } = recordings[at], given = all[at];
-  const heading = `Patient ${patient}, investigation ${investigation}`;
-  const [card, title] = part("article", box, "h4", heading);
-  const name = (hasCode = byId("codes").checked, first) => nameOf(recordings, at, hasCode, first);
-  const told = described(given.picture), gaps = gapsOf(given.runs.text);
-  const picture = new Blob([given.picture], { type: "image/svg+xml" });
-  unsaved.set(given, heading);
-  made("p", told, card);
-  showDifference(card, recordings, at, all);
-  const buttons = made("p", null, card, { className: "buttons" });
-  button(`Save the EDF+D file (${sizeOf(given.file.size)})`, buttons, () => {
-    save(given.file, `${name()}.edf`);
-    unsaved.delete(given);
-  }, title).className = "first";
-  button("Save the picture", buttons, () => save(picture, `${name()}.svg`), title);
-  button("Save the picture without the patient's code", buttons, async () => {
-    const done = await run("picture --without-code", name(), given.file);
-    if (done?.status === 0) saveText(done.out, `${name(false)}-without-code.svg`);
-  }, title);
-  button("Save the list of gaps", buttons, () =>
-    saveText(`${line}\n${given.runs.text}${listOfGaps(gaps)}`, `${name()}.txt`), title);
-  hint(wordsAt("keep"), card);
-  showGaps(card, gaps);
-  offerViews(card, title, given, name);
-  made("img", null, made("div", null, card, { className: "picture" }),
-    { src: urlOf(picture), alt: `Picture of the recording. ${told}` });
+function showRefused(box, refused) {
+  const groups = new Map();
+  refused.forEach((it) => groups.set(causeOf(it), [...groups.get(causeOf(it)) ?? [], it]));
+  const [place] = part("section", box, "h3", "Files that were not taken");
+  groups.forEach((files, cause) => showGroup(place, cause, files));
 }
 
-// Shows an answer, beside the files that were here before, and gives the heading above it.
-async function show({ answer, lines, outside }, files, before) {
-  const heads = await Promise.all(files.map(headOf)), { recordings } = answer;
-  for (const given of recordings) given.head = await headOf({ blob: given.file });
-  const read = files.map((file, at) => readLine(file, lines[at], at, heads[at]));
-  const refused = read.filter(({ number }) => number).length, count = recordings.length;
-  window.answer = answer;
-  const [box, head] = part("section", byId("results"), "h2", files.length === 0 ? "No file came."
-    : `${several(files.length, "file")}: ${files.length - refused} accepted, ${refused} refused. ` +
-      `${several(count, "recording")}.`);
-  if (files.length === 0) return head;
-  showWhatCame(box, read.filter((_, at) => !before.includes(files[at])));
-  const next = made("p", (refused > 0 ? "Below it says why files were refused, and what to do. "
-    : "") + (count > 0 ? "Save each recording: this page keeps nothing. " : ""), box);
-  if (refused > 0) showAllRefused(box, read);
-  const [place, title] = part("section", box, "h3", "Recordings"), list = readList(answer.listed);
-  if (count === 0) made("p", "There is none, since no file was accepted.", place);
-  else checkbox("The patient's code in the names of saved files", place, { id: "codes" });
-  list.forEach((_, at) => showRecording(place, list, at, recordings));
-  if (refused > 0 && count > 0) button("To the recordings", next, () => title.focus());
-  showOthers(box, read, outside);
+// Files that are no trouble: torn copies, and such as are no recordings.
+function showAside(box, files, title, why, isOpen) {
+  if (files.length === 0) return;
+  const all = fold(title, box, { open: isOpen });
+  table(all, "These files change nothing", ["File", "What it is", ""], files,
+    (it) => [it.name, why(it), outOf(it)]);
+  if (files.length > 1) {
+    button(`Take all ${counted(files.length)} out`, buttonsIn(all), () => takeOut(files));
+  }
+}
+
+function showFiles(box, taken) {
+  const all = fold(`${several(taken.length, "file")} taken`, box);
+  table(all, wordsAt("accepted"), ["File", "Starts", "New", "Known", ""], taken, (it) =>
+    [it.name, when(startOf(it)), counted(it.fresh), counted(it.known), outOf(it)]);
+  now.outside.forEach((line) => hint(
+    `${line.trim()}: so many of its annotations happened in none of its data records.`, all));
+  const buttons = buttonsIn(all);
+  button("Save the list of files", buttons,
+    () => saveText(window.answer.taken + window.answer.listed, "edfstore-answers.txt"));
+  if (now.isSorted) button("Take annotations as they came", buttons, () => sortAll(false));
+}
+
+// Shows what the page has, and gives the heading above it.
+function show() {
+  const { files, recordings } = now, box = byId("results"), taken = [], refused = [], torn = [];
+  const aside = [], head = document.createElement("h2");
+  urls.splice(0).forEach((url) => URL.revokeObjectURL(url));
+  [box, byId("fault")].forEach((it) => it.replaceChildren());
+  document.body.classList.add("more");
+  files.forEach((it) => (!it.number ? taken : it.isTorn ? torn : isAside(it) ? aside : refused)
+    .push(it));
+  window.answer = {
+    taken: files.map(({ name, rest }) => rest === undefined ? "" : `${name} ${rest}`).join(""),
+    listed: recordings.map(({ line }) => `${line}\n`).join(""), recordings };
+  const mark = (some, text, className) => some.length > 0 &&
+    made("span", text.replace("#", several(some.length, "file")), head, { className });
+  mark(taken, `✓ # in ${several(recordings.length, "recording")}. `, "good");
+  mark(refused, "✕ # not taken.", "bad");
+  if (taken.length + refused.length === 0) head.append("There is no recording in these files.");
+  box.append(Object.assign(head, { tabIndex: -1 }));
+  recordings.forEach((it) => showRecording(box, it));
+  if (refused.length > 0) showRefused(box, refused);
+  showAside(box, torn, `${several(torn.length, "torn file")}: nothing is missing because of that`,
+    () => "a torn copy", false);
+  showAside(box, aside, `${several(aside.length, "other file")} left aside`,
+    whatIs, taken.length === 0);
+  if (taken.length > 0) showFiles(box, taken);
   return head;
 }

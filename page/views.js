@@ -1,96 +1,127 @@
-// Files for viewers: each stretch of a recording without a gap as EDF+C; and what is between them.
+// A recording: its picture, what is missing in it, and the files that may be saved of it.
 
-// Seconds, as a person says them.
-function lasting(seconds) {
-  const [whole, rest] = seconds.split("."), number = Number(whole);
-  const parts = [[Math.floor(number / 3600), "h"], [Math.floor(number / 60) % 60, "min"],
-    [`${number % 60}${rest ? `.${rest}` : ""}`, "s"]];
-  return parts.filter(([it]) => String(it) !== "0").map((it) => it.join(" ")).join(" ");
+const titleOf = ({ head, investigation }) =>
+  `Patient ${personIn({ head })}${investigation === "X" ? "" : `, investigation ${investigation}`}`;
+
+// What names a recording's files: its investigation, its first instant or that of a stretch, the
+// patient's code where that is asked for, and a number where others are alike.
+function nameOf(recording, first = recording.first, hasCode = byId("codes").checked) {
+  const plain = (it) => [...hasCode ? [it.patient] : [],
+    it.investigation === "X" ? "night" : it.investigation, it.first]
+    .map((text) => text.replace(/[^A-Za-z0-9-]/g, "_")).join("_");
+  const before = now.recordings.slice(0, now.recordings.indexOf(recording));
+  const alike = before.filter((other) => plain(other) === plain(recording)).length;
+  return plain({ ...recording, first }) + (alike === 0 ? "" : `_${alike + 1}`);
 }
 
-// The instant so many seconds after another, both decimals of up to nine places.
-function after(instant, seconds) {
-  const [[day, rest = ""], [whole, more = ""]] = [instant, seconds].map((it) => it.split("."));
-  const part = Number(rest.padEnd(9, "0")) + Number(more.padEnd(9, "0"));
-  const at = Date.parse(`${day}Z`) + 1000 * (Number(whole) + Math.floor(part / 1e9));
-  const places = String(part % 1e9).padStart(9, "0").replace(/0+$/, "");
-  return new Date(at).toISOString().slice(0, 19) + (places && `.${places}`);
+// Why a recording is another one than an earlier one of the same codes.
+function differenceOf(recording) {
+  const other = now.recordings.find((it) =>
+    ["night", "patient", "investigation"].every((name) => it[name] === recording[name]));
+  const name = NAMING.find((it) => naming(other.head, it) !== naming(recording.head, it));
+  return other === recording ? "" : "There is another recording of these codes above: its " +
+    `${calledBy(name ?? "signals")} differs.`;
 }
 
-// What is missing by the lines of runs: from, to, and for how many seconds.
-function gapsOf(text) {
-  const read = linesOf(text).map((line) => ["first", "seconds", "gap"].map((it) =>
-    valueIn(line, it)));
-  return read.filter(([, , gap]) => gap).map(([first, seconds, gap], at) =>
-    [after(first, seconds), read[at + 1][0], gap]);
+// What there is of it, in a sentence.
+function sentenceOf(stretches, gaps) {
+  const times = span(stretches[0].from, stretches.at(-1).to), number = gaps.length;
+  const most = Math.max(...gaps.map(({ gap }) => gap)), longest = gaps.find((it) => it.gap == most);
+  const how = number === 0 ? `Complete ${times}` : `Recorded ${times} with ` +
+    `${several(number, "gap")}${number === 1 ? "" : ", the longest"} of ${lasting(longest.gap)}`;
+  return `${how}; whether the recorder ran before or after, these files can't tell.`;
 }
 
-const listOfGaps = (gaps) => gaps.map(([from, to, gap]) =>
-  `missing from ${from} to ${to}, ${lasting(gap)}\n`).join("");
-const spaced = (instant) => instant.replace("T", " ");
-
-function showGaps(card, gaps) {
-  if (gaps.length === 0) return;
-  const all = made("details", null, card, { open: gaps.length <= 12 });
-  made("summary", `${several(gaps.length, "gap")}: from, to and how long`, all);
-  const body = table(all, "each", "What is missing", "From", "To", "How long");
-  firstRows(gaps, all, "Save the list of gaps to see all.",
-    ([from, to, gap]) => row(body, spaced(from), spaced(to), lasting(gap)));
+// Files that may be of two nights or two people: a pause of more than six hours, or the longest one
+// where nobody has a code, has some of the files on each side.
+function showDoubt(card, recording, own, gaps) {
+  const [longest] = gaps.filter(({ gap }) => recording.patient === "X" || gap > 6 * 3600)
+    .sort((one, other) => other.gap - one.gap);
+  const isLater = (it) => startOf(it) >= longest.from.slice(0, 19);
+  if (!longest || !own.some(isLater) || own.every(isLater)) return;
+  const box = made("div", null, card, { className: "doubt" });
+  made("p", `Is this one night of one person? Between ${named(own.filter((it) => !isLater(it)))} ` +
+    `and ${named(own.filter(isLater))} is a pause of ${lasting(longest.gap)}` +
+    `${recording.patient === "X" ? ", and no file has the patient's code" : ""}.`, box);
+  button("Take them apart", buttonsIn(box), () =>
+    takeApart(own.filter(isLater), 1 + Math.max(...now.files.map(({ night }) => night))));
 }
 
-// Browsers ask once whether a page may save several files, and lose some that come too quickly.
-async function saveAll(files, nameFor) {
-  for (const [at, file] of files.entries()) {
-    save(file.blob, nameFor(file, at));
-    await new Promise((done) => setTimeout(done, 200));
+// Saves what edfruns makes of a recording, or tells why it makes nothing.
+async function saveMade(recording, call, end) {
+  const name = nameOf(recording), done = await run(call, name, recording.file);
+  if (done?.status !== 0) return done && say(sentence(inWords(done.err.replace(`${IN} `, ""))));
+  save(done.made[0]?.blob ?? done.out, `${name}${end}.edf`);
+  recording.isSaved ||= call === "split";
+}
+
+// All of it: one EDF+C file where there is no gap, else a copy for viewers and the exact recording.
+function offerExact(buttons, card, recording, isWhole) {
+  const { file } = recording, size = sizeOf(file.size), saveExact = () => {
+    save(file, `${nameOf(recording)}_exact.edf`);
+    recording.isSaved = true;
+  };
+  (isWhole ? [[`Save the night (${size})`, () => saveMade(recording, "split", "")]]
+    : [["Save for viewing (gaps are flat)", () => saveMade(recording, "fill", "_view")],
+      [`Save the exact recording (${size})`, saveExact]])
+    .forEach(([text, press]) => { button(text, buttons, press).className = "first"; });
+  if (!isWhole) hint(wordsAt("exact"), card);
+}
+
+// A file for each stretch without a gap, with the annotations of its time.
+async function saveStretches(recording, stretches) {
+  const done = await run("split", nameOf(recording), recording.file, true);
+  if (done?.status !== 0) return done && say(done.err);
+  return saveAll(done.made.map(({ blob }, at) =>
+    ({ blob, name: `${nameOf(recording, stretches[at].from)}_stretch.edf` })));
+}
+
+// What else may be saved.
+function offerMore(card, recording, stretches, gaps, picture) {
+  const box = fold("More to save", card), buttons = buttonsIn(box);
+  if (gaps.length > 0) {
+    button(`Save ${several(stretches.length, "file")}, one for each stretch`, buttons,
+      () => saveStretches(recording, stretches));
+    hint(wordsAt("viewers"), box);
   }
-  say(`${several(files.length, "file")}: see your browser's downloads.`);
-}
-
-function showViews(place, { out, made: files }, nameFor, title) {
-  const body = table(place, "each", several(files.length, "file"), "Starts", "Lasts",
-    "Then missing", "File");
-  firstRows(linesOf(out), place, wordsAt("drifts"), (line, at) => {
-    const [first, ...lasts] = ["first", "seconds", "gap"].map((it) => valueIn(line, it));
-    const [, , cell] = row(body, spaced(first), ...lasts.map(lasting), null);
-    button(`Save file ${at + 1} (${sizeOf(files[at].blob.size)})`, cell,
-      () => save(files[at].blob, nameFor(files[at], at)), title);
+  button("Save the picture", buttons, () => save(picture, `${nameOf(recording)}.svg`));
+  button("Save the picture without the patient's code", buttons, async () => {
+    const name = `${nameOf(recording, recording.first, false)}-without-code.svg`;
+    const done = await run("picture --without-code", name, recording.file);
+    if (done?.status === 0) saveText(done.out, name);
   });
-  if (files.length > 1) button("Save all of them", place, () => saveAll(files, nameFor), title);
+  hint(wordsAt("picture"), box);
 }
 
-// Viewers leave out annotations outside of their file. Where there are some, each comes to where it
-// happened, unless the person has it otherwise.
-function offerViews(card, title, given, name) {
-  const [place] = part("section", card, "h5", "Files for viewers");
-  hint(wordsAt("viewers"), place);
-  const count = linesOf(given.runs.text).length;
-  const press = button(`Make ${several(count, "EDF+C file")}`, place, () => begin(), title);
-  const choice = made("div", null, place, { hidden: true }), list = made("div", null, place);
-  const box = checkbox("Put each annotation into the file of the time when it happened", choice);
-  const why = hint(wordsAt("inside"), choice);
-  const fill = async () => {
-    const end = box.checked ? "-by-onset.edf" : ".edf";
-    const done = await run("split", name(), given.file, box.checked);
-    list.replaceChildren();
-    if (done?.status === 0) {
-      const firsts = linesOf(done.out).map((line) => valueIn(line, "first"));
-      showViews(list, done, (file, at) => name(undefined, firsts[at]) +
-        file.name.slice("run".length).replace(".edf", end), title);
-    } else if (done) made("p", `No file was made: ${done.err}`, list, { className: "fault" });
-    return done;
-  };
-  const begin = async () => {
-    const done = await fill();
-    if (!done) return;
-    const outside = sumOf(linesOf(done.out), (line) => valueIn(line, "outside"));
-    [choice.hidden, press.hidden, box.checked] = [false, true, outside > 0];
-    if (outside > 0) {
-      why.textContent = `Without it ${several(outside, "annotation")} would be outside of the ` +
-        "time of the file, where viewers show none: so it is on at first.";
-      await fill();
-    }
-    box.focus();
-  };
-  box.addEventListener("change", fill);
+// What a picture says of itself.
+const describedBy = (picture) => new DOMParser().parseFromString(
+  /<desc[^]*?<\/desc>/.exec(picture)?.[0] ?? "<desc/>", "text/xml").documentElement.textContent;
+
+function showRecording(box, recording) {
+  const [card] = part("article", box, "h3", titleOf(recording));
+  const stretches = stretchesOf(recording.runs.text), gaps = gapsIn(stretches);
+  const picture = new Blob([recording.picture], { type: "image/svg+xml" });
+  const own = now.files.filter((it) =>
+    !it.number && it.night === recording.night && isAlike(it, recording));
+  const isWhole = ({ fresh, known }) => fresh + known === Number(recording.records);
+  const copies = own.filter((it) => it.fresh === 0 || isWhole(it)), other = differenceOf(recording);
+  const apart = now.recordings.find((it) => it.night < recording.night && isAlike(it, recording));
+  if (other) made("p", other, card);
+  if (apart) {
+    button("Put them together again", buttonsIn(card), () => takeApart(own, apart.night));
+  }
+  if (!own.some(isWhole)) showDoubt(card, recording, own, gaps);
+  made("p", sentenceOf(stretches, gaps), card, { className: "sentence" });
+  made("img", null, made("div", null, card, { className: "picture" }), { src: urlOf(picture),
+    alt: `Picture of the recording. ${describedBy(recording.picture)}` });
+  const buttons = buttonsIn(card);
+  offerExact(buttons, card, recording, gaps.length === 0);
+  if (own.length > 1 && copies.length > 0) {
+    made("p", `Everything on ${named(copies)} is in this night.`, card);
+  }
+  if (gaps.length > 0) {
+    table(fold(`${several(gaps.length, "gap")}: from, to and how long`, card), "What is missing",
+      ["From", "To", "How long"], gaps, (it) => [when(it.from), when(it.to), lasting(it.gap)]);
+  }
+  offerMore(card, recording, stretches, gaps, picture);
 }

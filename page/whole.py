@@ -5,15 +5,22 @@ a refusal.
     page/whole.py MODULE.wasm VERSION >edfstore.html
     page/whole.py OTHER.html VERSION >edfstore.html     the module of another page
 
-The policy of the page names its script and its style by their sums, and lets it ask no server.
+The module is in it twice, as it is and lowered to 32-bit addresses by lower.py, both deflated. The
+policy of the page names its script and its style by their sums, and lets it ask no server.
 """
+
+from __future__ import annotations
 
 import base64
 import hashlib
+import html
 import json
 import pathlib
 import re
 import sys
+import zlib
+
+import lower
 
 HERE = pathlib.Path(__file__).parent
 DOCUMENTS = HERE.parent / "docs"
@@ -22,7 +29,7 @@ POLICY = (
     "script-src {script} 'wasm-unsafe-eval'; style-src {style}; worker-src blob:; img-src blob:"
 )
 # The parts of the page's script, in their order.
-SCRIPT = ("dom", "work", "heads", "files", "show", "views", "mend", "page")
+SCRIPT = ("dom", "words", "work", "heads", "files", "show", "views", "mend", "page")
 NUMBER = re.compile(r"^- \*\*(E\d+)\*\*(?: `[^`]*`)?: ")
 SENTENCE = re.compile(r"(?<=[.?]) (?=[A-Z`])")
 # What a sentence has that is for a terminal alone, and words that are others on the page: nobody
@@ -35,13 +42,15 @@ OWN_WORDS = (
      "Or open this page a second time, and give it this file alone"),
     ("edfmend", "“Mend it…”"),
 )
-# What the page says of a number beside that.
+# What the page says of a number in place of its sentence, and beside the points below that.
+OWN_SENTENCES = {"E4": "Its patient field is not as EDF+ has it.",
+                 "E5": "Its recording field is not as EDF+ has it."}
 OWN_POINTS = {"E8": [
     "Is it such a piece? Beside the card or good files take it out."
 ]}
 
 
-def part(name):
+def part(name: str) -> str:
     """The text of a part, which must not end the element that it stands in."""
     text = (HERE / name).read_text(encoding="utf-8")
     if "</" in text and name != "page.html":
@@ -49,7 +58,7 @@ def part(name):
     return text
 
 
-def plain(text):
+def plain(text: str) -> str:
     """A text of a document without its marks, in the words of the page."""
     sentences = [it for it in SENTENCE.split(" ".join(text.split())) if not TERMINAL.search(it)]
     text = re.sub(r"\[([^\]]*)\]\([^)]*\)", r"\1", " ".join(sentences))
@@ -59,11 +68,12 @@ def plain(text):
     return text
 
 
-def entries(text):
+def entries(text: str) -> dict[str, list[str]]:
     """Of each number of REFUSALS its paragraph and the points below it."""
     body = text[text.index("\n## Every number\n"):]
     body = body[:body.index("\n## ", 4)]
-    found, number = {}, None
+    found: dict[str, list[str]] = {}
+    number = ""
     for line in body.splitlines():
         begins = NUMBER.match(line)
         if begins:
@@ -74,37 +84,61 @@ def entries(text):
         elif number and line.startswith("  "):
             found[number][-1] += " " + line.strip()
         elif not line.startswith("  "):
-            number = None
+            number = ""
     return found
 
 
-def refusals():
+def refusals() -> str:
     """What to do after each refusal, and whether edfmend mends it."""
-    found = {}
+    found: dict[str, object] = {}
     for number, (what, *more) in entries((DOCUMENTS / "REFUSALS.md").read_text("utf-8")).items():
         mends = any(point.startswith("`edfmend`: ") for point in more)
         more = [point for point in more if not point.startswith("`edfmend`: ")]
-        if "one of three things" in what:
-            what = more.pop(0)
+        if number == "E2":
+            more = more[:1]     # the page itself names other formats
         more = [*filter(None, map(plain, more)), *OWN_POINTS.get(number, ())]
-        found[number] = {"what": plain(what), "more": more, "mends": mends}
-    if len(found) < 39:
+        found[number] = {"what": OWN_SENTENCES.get(number) or plain(what), "more": more,
+                         "mends": mends}
+    if len(found) < 38:
         sys.exit("page/whole.py: docs/REFUSALS.md lacks numbers")
     return json.dumps(found, ensure_ascii=True).replace("<", "\\u003c")
 
 
-def sum_of(text):
+def notices() -> str:
+    """The licence and the notices, as text of a page."""
+    texts = [(HERE.parent / name).read_text("utf-8") for name in ("LICENSE-MIT", "THIRD-PARTY.md")]
+    return html.escape("\n".join(texts), quote=False)
+
+
+def sum_of(text: str) -> str:
     """How a policy names a script or a style."""
     digest = hashlib.sha256(text.encode("utf-8")).digest()
     return f"'sha256-{base64.b64encode(digest).decode('ascii')}'"
 
 
-def whole(module, version):
+def packed(module: bytes) -> str:
+    """A module deflated, as text."""
+    deflate = zlib.compressobj(9, zlib.DEFLATED, -15)
+    return base64.b64encode(deflate.compress(module) + deflate.flush()).decode("ascii")
+
+
+def unpacked(page: bytes) -> bytes:
+    """The module of a page; before 2.0.0 it was not deflated."""
+    found = re.search(rb'id="module(64)?">([\w+/=]*)<', page)
+    if not found:
+        sys.exit("page/whole.py: this page has no module")
+    data = base64.b64decode(found[2])
+    return zlib.decompress(data, -15) if found[1] else data
+
+
+def whole(module: bytes, version: str) -> str:
     """The page's text."""
-    parts = {"STYLE": part("page.css"), "WORKER": part("worker.js"), "REFUSALS": refusals()}
+    parts = {"STYLE": part("page.css"), "WORKER": part("worker.js"), "REFUSALS": refusals(),
+             "NOTICES": notices()}
     parts["SCRIPT"] = "\n".join(part(f"{name}.js") for name in SCRIPT)
-    parts["MODULE"] = base64.b64encode(module).decode("ascii")
-    parts["SUM"] = hashlib.sha256(module).hexdigest()
+    for name, form in (("64", module), ("32", lower.lowered(module))):
+        parts[f"MODULE{name}"] = packed(form)
+        parts[f"SUM{name}"] = hashlib.sha256(form).hexdigest()
     parts["VERSION"] = version
     parts["POLICY"] = POLICY.format(
         script=sum_of(parts["SCRIPT"]), style=sum_of(parts["STYLE"])
@@ -115,10 +149,10 @@ def whole(module, version):
     return text
 
 
-def main():
+def main() -> None:
     module = pathlib.Path(sys.argv[1]).read_bytes()
     if sys.argv[1].endswith(".html"):
-        module = base64.b64decode(re.search(rb'id="module">([\w+/=]*)<', module)[1])
+        module = unpacked(module)
     sys.stdout.write(whole(module, sys.argv[2]))
 
 
