@@ -25,7 +25,7 @@ from checks.lib import arguments, links, measure, prose
 from checks.lib.arguments import TOP
 from checks.lib.checks import end
 
-MOST_LINES, COLUMNS, MOST_WORDS, AGAIN = 1_800, 100, 40, 8
+MOST_LINES, COLUMNS, MOST_WORDS, AGAIN = 1_520, 100, 40, 8
 
 
 @dataclass(frozen=True)
@@ -35,17 +35,18 @@ class Page:
     words: int = MOST_WORDS     # of a sentence, on average
 
 
-PAGES = (Page("README.md", 95, 20), Page("CONTRIBUTING.md", 100), Page("docs/GUIDE.md", 265, 20),
-         Page("docs/REFUSALS.md", 220), Page("docs/FORMAT.md", 170), Page("docs/GLOSSARY.md", 80),
-         Page("docs/PROMISES.md", 346, 18), Page("docs/EVIDENCE.md", 235),
-         Page("docs/ARCHITECTURE.md", 186), Page("docs/DECISIONS.md", 152))
+PAGES = (Page("README.md", 80, 20), Page("CONTRIBUTING.md", 100), Page("docs/GUIDE.md", 160, 20),
+         Page("docs/REFUSALS.md", 200), Page("docs/FORMAT.md", 168), Page("docs/GLOSSARY.md", 60),
+         Page("docs/PROMISES.md", 240, 18), Page("docs/EVIDENCE.md", 140),
+         Page("docs/ARCHITECTURE.md", 155), Page("docs/DECISIONS.md", 135),
+         Page("docs/ASSURANCE.md", 100, 20))
 # Pages that may have any number of lines
-ALSO_READ = ("examples/", "checks/", "bench/")
+ALSO_READ = ("examples/", "checks/", "bench/", "clinic/")
 # What has no names of documents, or those of earlier ones
 NOT_READ = ("crates/", "release/", "CHANGELOG.md", "checks/edits/", "checks/documents.py")
 HARMFUL = re.compile(r"\.dump \|(?! grep \\?-av '\^\[\.\]' \|)|\bchown (?!\\?-h )[\w:-]+|/tmp/\w+")
 NOTICES = "THIRD-PARTY.md"
-NAMED = re.compile(r"(?<![\w/.-])((?:docs|examples|checks|bench)/(?:\w+/)*\w+\.md)(#[\w-]+)?")
+NAMED = re.compile(r"(?<![\w/.-])((?:docs|examples|checks|bench|clinic)/(?:\w+/)*\w+\.md)(#[\w-]+)?")
 
 
 def tracked(top: Path) -> list:
@@ -179,7 +180,7 @@ WRONG = (
     ("docs/edfstore.1", ".I docs/NONE.md\n", "speaks of docs/NONE.md"),
     ("docs/edfruns.1", ".I docs/REFUSALS.md#none\n", "speaks of docs/REFUSALS.md#none"),
     ("examples/README.md", f"{'x' * (COLUMNS + 1)}\n", "columns"),
-    ("docs/GLOSSARY.md", "\n" * 500, "lines, and may have 80"),
+    ("docs/GLOSSARY.md", "\n" * 500, "lines, and may have 60"),
     ("docs/GLOSSARY.md", "\n" * 2_000, "all pages have"),
     ("docs/GUIDE.md", f"\n{LONG}", "words: This sentence goes on"),
     ("docs/GUIDE.md", f"\n{LONG}" * 200, "words a sentence"),

@@ -28,6 +28,7 @@ def is_here(name: str) -> bool:
 
 READERS = ("cc", "save2gdf", "edfbrowser", "Xvfb", "xdotool", "xwininfo", "python3-mne",
            "libedf-dev")
+BROWSERS = ("chromium", "firefox-esr", "WebKitWebDriver", "Xvfb")
 FOR_ARM64 = ("cc", "qemu-aarch64", "aarch64-linux-gnu-gcc")
 # The options that name the programs
 EDFSTORE, EDFRUNS, EDFSERVE, EDFMEND = "program", "edfruns", "edfserve", "edfmend"
@@ -59,6 +60,8 @@ CHECKS = (
           is_for_long=True),
     Check("readers.of_runs", "runs of a night read by other programs", (EDFRUNS,),
           needs=READERS, is_for_long=True),
+    Check("readers.of_filled", "filled nights read by other programs", (EDFRUNS,),
+          counts=(40, 200), needs=READERS, is_for_long=True),
     Check("readers.apneas", "apneas read where they happened", (EDFRUNS,), needs=READERS,
           is_for_long=True),
     Check("readers.pieces", "pieces and a card of EDFlib, by onset", (EDFSTORE, EDFRUNS),
@@ -89,6 +92,10 @@ CHECKS = (
           counts=(200, 2_000)),
     Check("worked", "answers worked out by hand"),
     Check("split", "lines and files of edfruns", (EDFSTORE, EDFRUNS)),
+    Check("fill", "recordings by chance, filled, cut and compared", (EDFRUNS,),
+          counts=(300, 3_000)),
+    Check("filled_store", "a filled file beside its night and its card", (EDFSTORE, EDFRUNS)),
+    Check("split_stops", "splits that are stopped", (EDFRUNS,), counts=(90, 900)),
     Check("lines.shell", "lines that a person may type", needs=("sqlite3",)),
     Check("lines.run", "exact lines, files and statuses"),
     Check("lines.terminal", "what is printed on a terminal alone",
@@ -97,14 +104,18 @@ CHECKS = (
           (EDFSTORE, EDFRUNS, EDFSERVE, EDFMEND), needs=("cc", "sqlite3")),
     Check("rot", "changes of a store's files", counts=(100, 1_000)),
     Check("witness", "exports that examples/witness.py judges", counts=(40, 1_000)),
+    Check("shown", "commands of README, GUIDE, REFUSALS", (EDFSTORE, EDFRUNS, EDFSERVE, EDFMEND)),
     Check("warned", "answers that the documents warn of", counts=(100, 1_000)),
     Check("picture", "nights by chance, drawn", (EDFRUNS,), counts=(200, 1_000)),
     Check("lines.stored", "stored runs", (EDFSTORE, EDFRUNS, EDFMEND)),
     Check("serve", "answers of edfserve to its clients, kills", (EDFSTORE, EDFSERVE),
           counts=(20, 100)),
-    Check("page", "answers of the page in two browsers", (EDFSTORE, EDFRUNS, EDFMEND),
-          counts=(2_000, 2_000), needs=("chromium", "firefox-esr", "edfstore.html"),
-          is_on_disk=True, is_for_long=True),
+    Check("page", "answers of the page in three browsers", (EDFSTORE, EDFRUNS, EDFMEND),
+          counts=(2_000, 2_000), needs=(*BROWSERS, "edfstore.html"), is_on_disk=True,
+          is_for_long=True),
+    Check("lowered", "calls of a module for 32 bits", (), needs=BROWSERS, is_for_long=True),
+    Check("clinic.run", "tests of edfclinic", (EDFSTORE, EDFRUNS, EDFSERVE, EDFMEND),
+          counts=(1, 1), needs=("unshare",), is_for_long=True),
     Check("mend.run", "files spoilt by hand, mended", (EDFSTORE, EDFMEND)),
     Check("mend.table", "files where something could be guessed", (EDFMEND,)),
     Check("mend.stops", "files that can't be mended or made", (EDFMEND,), needs=("cc",)),
