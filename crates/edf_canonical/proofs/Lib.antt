@@ -5,7 +5,6 @@ pub mod SomeFile
 pub mod Puts
 pub mod Sent
 pub mod Written
-pub mod Annotated
 pub mod Measures
 pub mod Sourced
 pub mod PutNext

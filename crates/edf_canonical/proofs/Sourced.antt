@@ -3,7 +3,6 @@ use Rattle.std.proofs.Common.{◌≡◌, ◌∙◌, ◌⊎◌, ℕ, List, [], �
 use Rattle.std.proofs.Common.{append_assoc, append-nil, inl, inr, Option, Some, None, Result}
 use Rattle.std.proofs.Common.{Ok, Err}
 use Rattle.edf_fragment.specs.Fragment.{DataRecord}
-use Rattle.edf_canonical.specs.Planned.{annotated}
 use Rattle.edf_canonical.specs.Output.{CountsOutputFault}
 use Rattle.edf_canonical.specs.Sending.{SendsAll, StopsAfter, StopsFor, CountsSendFault}
 use Rattle.edf_canonical.specs.Source.{At, Answers, Gives}
@@ -36,50 +35,49 @@ module _ {S F R E : Type 0}
       gave.2)
 
   -- what went out of them
-  module _ (from to : At S F R) (whole : Measure) (kept : List DataRecord)
-      (P Q : List DataRecord → Type 0) (then : (rs : List DataRecord) → P rs → Q rs) where
-    pub sends-then : SendsAll answers from to whole kept P → SendsAll answers from to whole kept Q
+  module _ (from to : At S F R) (whole : Measure) (P Q : List DataRecord → Type 0)
+      (then : (rs : List DataRecord) → P rs → Q rs) where
+    pub sends-then : SendsAll answers from to whole P → SendsAll answers from to whole Q
     sends-then s = record {
       records = s.records;
       mid = s.mid;
       gave = s.gave;
       end = s.end;
       measured = s.measured;
-      sound = s.sound;
-      wrote = then (annotated kept s.records) s.wrote;
+      wrote = then s.records s.wrote;
     }
 
-    pub stops-then : (fault : SendFault E) → StopsAfter answers from to whole kept P fault →
-        StopsAfter answers from to whole kept Q fault
+    pub stops-then : (fault : SendFault E) → StopsAfter answers from to whole P fault →
+        StopsAfter answers from to whole Q fault
     stops-then fault s = record {
       records = s.records;
       mid = s.mid;
       gave = s.gave;
       first = s.first;
       why = s.why;
-      prefix = then (annotated kept s.records) s.prefix;
+      prefix = then s.records s.prefix;
     }
 
   -- where the writer stopped
-  module _ (from to : At S F R) (whole : Measure) (kept : List DataRecord) (mid : At S F R)
-      (records : List DataRecord) where
-    -- the source was not asked again, or this is its answer
-    pub asked : (fault : SendFault E) → StopsFor answers from to whole kept mid records fault →
-        (to ≡ mid) ⊎ ((answer : Result (Option DataRecord) E) × Answers answers mid to answer)
-    asked (Source fault) why = inr (Err fault, why)
-    asked Unlike (inl (r, step, not)) = inr (Ok (Some r), step)
-    asked Unlike (inr (end, not)) = inr (Ok None, end)
-    asked (Output fault) (inl same) = inl same
-    asked (Output fault) (inr end) = inr (Ok None, end.0)
+  module _ (from to : At S F R) (whole : Measure) (mid : At S F R) (records : List DataRecord)
+    where
+      -- the source was not asked again, or this is its answer
+      pub asked : (fault : SendFault E) → StopsFor answers from to whole mid records fault →
+          (to ≡ mid) ⊎ ((answer : Result (Option DataRecord) E) × Answers answers mid to answer)
+      asked (Source fault) why = inr (Err fault, why)
+      asked Unlike (inl (r, step, not)) = inr (Ok (Some r), step)
+      asked Unlike (inr (end, not)) = inr (Ok None, end)
+      asked (Output fault) (inl same) = inl same
+      asked (Output fault) (inr end) = inr (Ok None, end.0)
 
-    -- what each answer keeps
-    pub keeps : {X : Type 0} (f : At S F R → X) → ((answer : Result (Option DataRecord) E) →
-        Answers answers mid to answer → f to ≡ f mid) → (fault : SendFault E) →
-        StopsFor answers from to whole kept mid records fault → f to ≡ f mid
-    keeps f each fault why = elim (asked fault why) [
-      | inl same ↦ ap f same
-      | inr (answer, is) ↦ each answer is
-    ]
+      -- what each answer keeps
+      pub keeps : {X : Type 0} (f : At S F R → X) → ((answer : Result (Option DataRecord) E) →
+          Answers answers mid to answer → f to ≡ f mid) → (fault : SendFault E) →
+          StopsFor answers from to whole mid records fault → f to ≡ f mid
+      keeps f each fault why = elim (asked fault why) [
+        | inl same ↦ ap f same
+        | inr (answer, is) ↦ each answer is
+      ]
 
 pub counts-after : {E : Type 0} (old mid new : ℕ) (fault : SendFault E) → mid ≡ old →
     CountsSendFault mid new fault → CountsSendFault old new fault

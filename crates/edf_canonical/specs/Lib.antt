@@ -1,6 +1,5 @@
 pub mod File
 pub mod Output
-pub mod Planned
 pub mod Measure
 pub mod Source
 pub mod Sending

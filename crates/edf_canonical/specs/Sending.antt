@@ -1,13 +1,9 @@
 -- A writer gets the data records of a source.
-use Rattle.std.specs.Prelude.{◌≡◌, ℕ, ◌*◌, ◌⊎◌, List, [], ◌∷◌, ◌++◌, length, slice_get, Option, Some}
-use Rattle.std.specs.Prelude.{None, Result, Ok, Err, MatchResult}
-use Rattle.std.specs.List.{AllByRecursion}
+use Rattle.std.specs.Prelude.{◌≡◌, ℕ, ◌*◌, ◌⊎◌, List, [], ◌∷◌, ◌++◌, Option, Some, None, Result, Ok}
+use Rattle.std.specs.Prelude.{Err, MatchResult}
 use Rattle.std.specs.Io.KnownBytes.{Appends}
-use Rattle.edf_header.specs.Key.{Key}
 use Rattle.edf_fragment.specs.Fragment.{DataRecord}
-use Rattle.edf_fragment.specs.Sound.{IsSoundRecord}
 use Rattle.edf_canonical.specs.File.{second_of, record_text}
-use Rattle.edf_canonical.specs.Planned.{annotated, annotated_one}
 use Rattle.edf_canonical.specs.Measure.{IsMeasured, IsWithinMeasure, MayBePrefix, records_text}
 use Rattle.edf_canonical.specs.Measure.{planned_text}
 use Rattle.edf_canonical.specs.Output.{Buffered, Writes, WritesPrefix, CountsOutputFault}
@@ -22,25 +18,22 @@ use Rattle.edf_canonical.specs.declared.measure.Measure.{Measure}
 
 module _ {S F R E : Type 0}
     (answers : S → F → R → S → F → R → Result (Option DataRecord) E → Type 0) (from to : At S F R)
-    (whole : Measure) (planned : List DataRecord) where
-  -- the source returned all, which as planned have this measure; this holds of them
+    (whole : Measure) where
+  -- the source returned all, which have this measure; this holds of them
   pub record SendsAll (Text : List DataRecord → Type 0) : Type 0 where
     pub records : List DataRecord
     pub mid : At S F R
     pub gave : Gives answers from mid records
     pub end : Answers answers mid to (Ok None)
-    pub measured : IsMeasured (annotated planned records) whole
-    -- as planned they are sound under each key under which the source's are
-    pub sound : (k : Key) → AllByRecursion (IsSoundRecord k) records →
-        AllByRecursion (IsSoundRecord k) (annotated planned records)
-    pub wrote : Text (annotated planned records)
+    pub measured : IsMeasured records whole
+    pub wrote : Text records
 
   -- it returned one that can't be among the first of those measured, or ended too early
   abbrev pub IsUnlike : At S F R → List DataRecord → Type 0
   IsUnlike mid records =
       ((r : DataRecord) × Answers answers mid to (Ok (Some r))
-      × ¬ MayBePrefix (annotated planned (records ++ r ∷ [])) whole)
-      ⊎ (Answers answers mid to (Ok None) × ¬ IsMeasured (annotated planned records) whole)
+      × ¬ MayBePrefix (records ++ r ∷ []) whole)
+      ⊎ (Answers answers mid to (Ok None) × ¬ IsMeasured records whole)
 
   -- the fault after these data records: of the source, of one that is unlike, or of the output;
   -- where the source had ended, they were all, and what was held back could not be written
@@ -48,17 +41,16 @@ module _ {S F R E : Type 0}
   StopsFor mid records (Source fault) = Answers answers mid to (Err fault)
   StopsFor mid records Unlike = IsUnlike mid records
   StopsFor mid records (Output fault) = (to ≡ mid)
-      ⊎ (Answers answers mid to (Ok None) × IsMeasured (annotated planned records) whole
-      × (fault ≡ Write))
+      ⊎ (Answers answers mid to (Ok None) × IsMeasured records whole × (fault ≡ Write))
 
   -- the source returned some, which may be the first of those measured; this holds of them
   pub record StopsAfter (Prefix : List DataRecord → Type 0) (fault : SendFault E) : Type 0 where
     pub records : List DataRecord
     pub mid : At S F R
     pub gave : Gives answers from mid records
-    pub first : MayBePrefix (annotated planned records) whole
+    pub first : MayBePrefix records whole
     pub why : StopsFor mid records fault
-    pub prefix : Prefix (annotated planned records)
+    pub prefix : Prefix records
 
 -- one more write failed where a failed write is the fault
 abbrev pub CountsSendFault : {E : Type 0} → ℕ → ℕ → SendFault E → Type 0
@@ -68,15 +60,15 @@ CountsSendFault old new (Output fault) = CountsOutputFault old new fault
 
 module _ {S F R E : Type 0}
     (answers : S → F → R → S → F → R → Result (Option DataRecord) E → Type 0) (from to : At S F R)
-    (whole : Measure) (planned : List DataRecord) where
+    (whole : Measure) where
   -- all were put, or a prefix of the first of them
   abbrev pub PutsAll : Buffered → Buffered → Result Unit (SendFault E) → Type 0
   PutsAll before after result =
       MatchResult result
-      (λ _. SendsAll answers from to whole planned
+      (λ _. SendsAll answers from to whole
       (λ rs. Writes before after (records_text whole rs) after.held)
       × (after.failures ≡ before.failures))
-      (λ fault. StopsAfter answers from to whole planned
+      (λ fault. StopsAfter answers from to whole
       (λ rs. (rest : List ℕ) × Writes before after (records_text whole rs) rest) fault
       × CountsSendFault before.failures after.failures fault)
 
@@ -86,45 +78,40 @@ module _ {S F R E : Type 0}
       Result Unit (SendFault E) → Type 0
   Sends before after failed_before failed_after header result =
       MatchResult result
-      (λ _. SendsAll answers from to whole planned
+      (λ _. SendsAll answers from to whole
       (λ rs. Appends before after (planned_text header whole rs))
       × (failed_after ≡ failed_before))
-      (λ fault. StopsAfter answers from to whole planned
+      (λ fault. StopsAfter answers from to whole
       (λ rs. WritesPrefix before after (planned_text header whole rs)) fault
       × CountsSendFault failed_before failed_after fault)
 
 -- ---- one more
 
--- the data record after these, as it is in the file of those that were measured
-abbrev pub next_text : Measure → List DataRecord → List DataRecord → DataRecord → List ℕ
-next_text whole planned records r = record_text (second_of whole.first) (2 * whole.block_samples)
-    (annotated_one (slice_get planned (length records)) r)
+-- the data record as it is in the file of those that were measured
+abbrev pub next_text : Measure → DataRecord → List ℕ
+next_text whole r = record_text (second_of whole.first) (2 * whole.block_samples) r
 
 -- one data record more was put, and with it this is measured
-pub record IsPutNext (before after : Buffered) (whole : Measure) (planned records : List DataRecord)
+pub record IsPutNext (before after : Buffered) (whole : Measure) (records : List DataRecord)
     (r : DataRecord) (m : Measure) : Type 0 where
-  pub measured : IsMeasured (annotated planned (records ++ r ∷ [])) m
+  pub measured : IsMeasured (records ++ r ∷ []) m
   pub no_more : IsWithinMeasure m whole
-  -- as planned it is sound under each key under which the source's is
-  pub sound : (k : Key) → IsSoundRecord k r →
-      IsSoundRecord k (annotated_one (slice_get planned (length records)) r)
-  pub wrote : Writes before after (next_text whole planned records r) after.held
+  pub wrote : Writes before after (next_text whole r) after.held
   pub counted : after.failures ≡ before.failures
 
 -- or a prefix of it
-pub record StopsInNext (before after : Buffered) (whole : Measure)
-    (planned records : List DataRecord) (r : DataRecord) : Type 0 where
-  pub first : MayBePrefix (annotated planned (records ++ r ∷ [])) whole
+pub record StopsInNext (before after : Buffered) (whole : Measure) (records : List DataRecord)
+    (r : DataRecord) : Type 0 where
+  pub first : MayBePrefix (records ++ r ∷ []) whole
   pub remaining : List ℕ
-  pub wrote : Writes before after (next_text whole planned records r) remaining
+  pub wrote : Writes before after (next_text whole r) remaining
 
 -- or with it they can't be among the first of those that were measured, and it was not put
-abbrev pub PutsNext : Buffered → Buffered → Measure → List DataRecord → List DataRecord →
-    DataRecord → Result (Option Measure) OutputFault → Type 0
-PutsNext before after whole planned records r (Ok (Some m)) =
-    IsPutNext before after whole planned records r m
-PutsNext before after whole planned records r (Ok None) =
-    (after ≡ before) × ¬ MayBePrefix (annotated planned (records ++ r ∷ [])) whole
-PutsNext before after whole planned records r (Err fault) =
-    StopsInNext before after whole planned records r
+abbrev pub PutsNext : Buffered → Buffered → Measure → List DataRecord → DataRecord →
+    Result (Option Measure) OutputFault → Type 0
+PutsNext before after whole records r (Ok (Some m)) = IsPutNext before after whole records r m
+PutsNext before after whole records r (Ok None) =
+    (after ≡ before) × ¬ MayBePrefix (records ++ r ∷ []) whole
+PutsNext before after whole records r (Err fault) =
+    StopsInNext before after whole records r
     × CountsOutputFault before.failures after.failures fault

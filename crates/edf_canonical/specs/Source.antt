@@ -15,7 +15,8 @@ module _ {S F R E : Type 0}
     (answers : S → F → R → S → F → R → Result (Option DataRecord) E → Type 0) where
   -- a call had this answer
   abbrev pub Answers : At S F R → At S F R → Result (Option DataRecord) E → Type 0
-  Answers from to answer = answers from.source from.file from.input to.source to.file to.input answer
+  Answers from to answer =
+      answers from.source from.file from.input to.source to.file to.input answer
 
   -- calls returned these data records, one after another
   abbrev pub Gives : At S F R → At S F R → List DataRecord → Type 0

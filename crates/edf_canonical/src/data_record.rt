@@ -1,9 +1,7 @@
 //! A data record as it is in a canonical file.
 
 ghost use Rattle.std.specs.Prelude.{◌≡◌, ◌≤◌, length};
-ghost use Rattle.edf_fragment.specs.Sound.{IsValidRecord};
 ghost use Rattle.edf_canonical.specs.File.{block_of, samples_of, filled_block, record_text};
-ghost use Rattle.edf_canonical.specs.Planned.{with_samples};
 ghost use Rattle.edf_canonical.specs.Output.{buffered, IsWrittenOrBuffered};
 
 use crate::fault::OutputFault;
@@ -18,7 +16,6 @@ pub fn samples_of(data_record: &Record, file_start: Instant) -> u32
     ensures value { result ≡ samples_of file_start data_record.now }
     ensures some { 1 ≤ result }
     ensures few { result ≤ MOST_CANONICAL_BLOCK_SAMPLES }
-    ensures valid { IsValidRecord data_record.now }
 {
     let len = block_len(data_record.start(), data_record.notes(), file_start);
     len.div_ceil(2) as u32
@@ -45,8 +42,8 @@ fn put_block<W: Output>(
     put_zeros(out, held, size - block.len())
 }
 
-/// Puts a data record as it is in a canonical file: its samples, the block of `annotated`, and then
-/// zeros, `size` bytes from the block on. Its start and annotations are those of `annotated`.
+/// Puts a data record as it is in a canonical file: its samples, its block, and then zeros, `size`
+/// bytes from the block on.
 ///
 /// # Errors
 /// `Memory` where memory ran out, `Write` where a write failed; a prefix of the data record may
@@ -55,15 +52,14 @@ pub(crate) fn put_record<W: Output>(
     out: &mut W,
     held: &mut Buffer,
     data_record: &Record,
-    annotated: &Record,
     file_start: Instant,
     size: usize,
 ) -> Result<(), OutputFault>
-    requires { length (block_of file_start annotated.now) ≤ size }
+    requires { length (block_of file_start data_record.now) ≤ size }
     ensures { IsWrittenOrBuffered (buffered W.Output out.old held.old.bytes.items)
         (buffered W.Output out.new held.new.bytes.items)
-        (record_text file_start size (with_samples annotated.now data_record.now)) result }
+        (record_text file_start size data_record.now) result }
 {
     put(out, held, data_record.samples())?;
-    put_block(out, held, annotated, file_start, size)
+    put_block(out, held, data_record, file_start, size)
 }

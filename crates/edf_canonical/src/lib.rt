@@ -12,7 +12,6 @@
 //!
 //! - [`send`] writes a file by its [`FilePlan`]: the data records that a [`Source`] returns, which
 //!   must be those of a [`Measure`]. A [`SendFault`] says why they were not written.
-//! - [`planned_or`] returns the data record whose start and annotations are written.
 //! - [`samples_of`] returns how many samples the block of a data record takes there.
 //! - [`Buffer`] holds up to 64 KiB beside a writer; [`put`] and [`flush`] write through it, and an
 //!   [`OutputFault`] says why they could not.
@@ -32,6 +31,6 @@ pub use data_record::samples_of;
 pub use fault::{OutputFault, SendFault};
 pub use measure::Measure;
 pub use output::{Buffer, flush, put};
-pub use plan::{FilePlan, planned_or};
+pub use plan::FilePlan;
 pub use sending::send;
 pub use source::Source;

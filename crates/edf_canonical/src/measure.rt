@@ -24,7 +24,6 @@ pub struct Measure {
 
 impl Measure {
     ghost use Rattle.edf_fragment.specs.Fragment.{DataRecord};
-    ghost use Rattle.edf_fragment.specs.Sound.{IsValidRecord};
     ghost use Rattle.edf_canonical.specs.Measure.{IsMeasured, IsMeasuredSoFar, HoldsBlock};
     ghost use Rattle.edf_canonical.specs.Measure.{IsWithinMeasure};
 
@@ -32,7 +31,6 @@ impl Measure {
     fn of(data_record: &Record) -> Measure
         ensures measured { IsMeasured (data_record.now ∷ []) result }
         ensures holds { HoldsBlock result data_record.now }
-        ensures valid { IsValidRecord data_record.now }
     {
         let first = data_record.start();
         Measure {
@@ -48,7 +46,6 @@ impl Measure {
             length records < MOST_RECORDS →
             IsMeasured (records ++ data_record.now ∷ []) result }
         ensures holds { HoldsBlock result data_record.now }
-        ensures valid { IsValidRecord data_record.now }
     {
         let samples = samples_of(data_record, self.first.second());
         Measure {
@@ -65,7 +62,6 @@ impl Measure {
             length records < MOST_RECORDS →
             IsMeasured (records ++ data_record.now ∷ []) result }
         ensures holds { HoldsBlock result data_record.now }
-        ensures valid { IsValidRecord data_record.now }
     {
         match before {
             Some(measure) => measure.with(data_record),

@@ -2,7 +2,6 @@
 
 ghost use Rattle.std.specs.Prelude.{List};
 ghost use Rattle.edf_fragment.specs.Fragment.{DataRecord};
-ghost use Rattle.edf_canonical.specs.Planned.{annotated};
 ghost use Rattle.edf_canonical.specs.Measure.{IsMeasuredSoFar};
 ghost use Rattle.edf_canonical.specs.Output.{buffered};
 ghost use Rattle.edf_canonical.specs.Sending.{PutsNext, PutsAll, Sends};
@@ -12,14 +11,13 @@ use crate::data_record::put_record;
 use crate::fault::{OutputFault, SendFault};
 use crate::measure::Measure;
 use crate::output::{Buffer, flush, put};
-use crate::plan::{FilePlan, planned_or};
+use crate::plan::FilePlan;
 use crate::source::Source;
 use edf_fragment::{Output, Record};
 use std::alloc::Global;
 
-/// Puts one data record more, with its planned start and annotations where it has such. Returns the
-/// measure with it, or `None`, and does not put it, where it can't be among the first of those that
-/// were measured.
+/// Puts one data record more. Returns the measure with it, or `None`, and does not put it, where it
+/// can't be among the first of those that were measured.
 fn put_next<W: Output>(
     out: &mut W,
     held: &mut Buffer,
@@ -27,30 +25,27 @@ fn put_next<W: Output>(
     so_far: Option<Measure>,
     data_record: &Record,
 ) -> Result<Option<Measure>, OutputFault>
-    ensures { (records : List DataRecord) →
-        IsMeasuredSoFar (annotated plan.now.records.now records) so_far →
+    ensures { (records : List DataRecord) → IsMeasuredSoFar records so_far →
         PutsNext (buffered W.Output out.old held.old.bytes.items)
-        (buffered W.Output out.new held.new.bytes.items) plan.now.measure plan.now.records.now
-        records data_record.now result }
+        (buffered W.Output out.new held.new.bytes.items) plan.now.measure records
+        data_record.now result }
 {
     let whole = plan.measure;
     let nth = Measure::count(&so_far);
     if nth >= whole.records as usize {
         return Ok(None);
     }
-    let annotated = planned_or(plan.records, nth, data_record);
-    let measure = Measure::after(so_far, annotated);
+    let measure = Measure::after(so_far, data_record);
     if !measure.is_within_measure(&whole) {
         return Ok(None);
     }
     let base = whole.first.second();
     let size = 2 * whole.block_samples as usize;
-    put_record(out, held, data_record, annotated, base, size)?;
+    put_record(out, held, data_record, base, size)?;
     Ok(Some(measure))
 }
 
-/// Puts all data records of a source, with their planned starts and annotations. They must be those
-/// that were measured.
+/// Puts all data records of a source. They must be those that were measured.
 fn put_all<F, R, S: Source<F, R>, W: Output>(
     source: &mut S,
     file: &mut F,
@@ -61,7 +56,7 @@ fn put_all<F, R, S: Source<F, R>, W: Output>(
 ) -> Result<(), SendFault<S::Fault>>
     requires { S.ready source.old file.old input.old }
     ensures { PutsAll S.answers (at source.old file.old input.old)
-        (at source.new file.new input.new) plan.now.measure plan.now.records.now
+        (at source.new file.new input.new) plan.now.measure
         (buffered W.Output out.old held.old.bytes.items)
         (buffered W.Output out.new held.new.bytes.items) result }
 {
@@ -90,11 +85,8 @@ fn put_all<F, R, S: Source<F, R>, W: Output>(
 }
 
 /// Writes a header, and then all data records of a source, through a buffer of 64 KiB. The writer
-/// is not flushed. One data record is in memory at a time.
-///
-/// Where the plan has an nth data record, its start and annotations are written with the samples of
-/// the source's nth. That both are the same data record is for the source to check. Planned ones
-/// after the source's last are left out. What is written must be what was measured.
+/// is not flushed. One data record is in memory at a time. The data records must be those that were
+/// measured.
 ///
 /// # Errors
 /// `Source` where the source has a fault; `Unlike` where a data record can't be among the first of
@@ -110,7 +102,7 @@ pub fn send<F, R, S: Source<F, R>, W: Output>(
 ) -> Result<(), SendFault<S::Fault>>
     requires { S.ready source.old file.old input.old }
     ensures { Sends S.answers (at source.old file.old input.old)
-        (at source.new file.new input.new) plan.now.measure plan.now.records.now
+        (at source.new file.new input.new) plan.now.measure
         (W.contents out.old) (W.contents out.new)
         (W.failures out.old) (W.failures out.new) plan.now.header.now result }
 {

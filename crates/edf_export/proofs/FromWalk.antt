@@ -1,7 +1,7 @@
 -- What a walk gave as a source of data records, and what went out of it.
-use Rattle.std.proofs.Common.{◌≡◌, ◌∙◌, ℕ, ◌+◌, List, [], ◌∷◌, ◌++◌, length, take, drop, refl, sym, ap}
-use Rattle.std.proofs.Common.{subst, arith, length-append, take-append-drop, false, inl, inr}
-use Rattle.std.proofs.Common.{Option, Some, None, Ok}
+use Rattle.std.proofs.Common.{◌≡◌, ◌∙◌, ℕ, ◌+◌, List, [], ◌∷◌, ◌++◌, length, take, drop, refl}
+use Rattle.std.proofs.Common.{sym, ap, subst, arith, length-append, take-append-drop, false, inl}
+use Rattle.std.proofs.Common.{inr, Option, Some, None, Ok}
 use Rattle.std.specs.List.{slice_get}
 use Rattle.std.proofs.lemmas.List.{take_all, take_more}
 use Rattle.std.proofs.lemmas.Option.{slice_get_within, get_or_from_slice_get}
@@ -104,7 +104,7 @@ module _ {S : Type 0} (g : Ghosts S) (from : At Walked (Records S Cursor) (Unit 
 
       -- all were given, and went out
       module _ (Text : List DataRecord → Type 0)
-          (s : SendsAll (IsSourceStep g) from to whole [] Text) where
+          (s : SendsAll (IsSourceStep g) from to whole Text) where
         so-all : HasGivenThese s.mid s.records
         so-all = all-given s.mid s.records s.gave
 
@@ -121,16 +121,16 @@ module _ {S : Type 0} (g : Ghosts S) (from : At Walked (Records S Cursor) (Unit 
       module _ (mid : At Walked (Records S Cursor) (Unit {0})) (rs : List DataRecord)
           (so : HasGivenThese mid rs) where
         stays-on : (fault : SendFault StoreFault) →
-            StopsFor (IsSourceStep g) from to whole [] mid rs fault →
+            StopsFor (IsSourceStep g) from to whole mid rs fault →
             KeepsHoldings g mid.file.store.now to.file.store.now
-        stays-on fault why = elim (asked (IsSourceStep g) from to whole [] mid rs fault why) [
+        stays-on fault why = elim (asked (IsSourceStep g) from to whole mid rs fault why) [
           | inl same ↦ subst (λ x. KeepsHoldings g mid.file.store.now x.file.store.now) (sym same)
               (stays_same g mid.file.store.now)
           | inr (answer, is) ↦ is.walk_step.stays
         ]
 
         idle : (fault : SendFault StoreFault) →
-            StopsFor (IsSourceStep g) from to whole [] mid rs fault →
+            StopsFor (IsSourceStep g) from to whole mid rs fault →
             HasCleanDisk (at g to.file.store.now) →
             IsOutsideTransactionAfterFault (at g to.file.store.now) (export_fault_of fault)
         idle (Source fault) why clean = tt
@@ -142,7 +142,7 @@ module _ {S : Type 0} (g : Ghosts S) (from : At Walked (Records S Cursor) (Unit 
             (export_fault_of (Output fault)) (end.0.walk_step.walking clean).3.idle
 
         counts : (old new : ℕ) (fault : SendFault StoreFault) →
-            StopsFor (IsSourceStep g) from to whole [] mid rs fault →
+            StopsFor (IsSourceStep g) from to whole mid rs fault →
             CountsSendFault old new fault →
             IsWritingFaultOnAnyDisk ⊥ old new (export_fault_of fault)
         counts old new (Source fault) why counted = (
@@ -156,7 +156,7 @@ module _ {S : Type 0} (g : Ghosts S) (from : At Walked (Records S Cursor) (Unit 
 
         module _ (clean : HasCleanDisk (at g to.file.store.now)) (h : Holdings) (k : Key)
             (walked : HasYielded g from.file h k 0) (measured : IsMeasured (h k) whole) where
-          unlike : StopsFor (IsSourceStep g) from to whole [] mid rs Unlike → ⊥
+          unlike : StopsFor (IsSourceStep g) from to whole mid rs Unlike → ⊥
           unlike (inl (r, step, not)) =
               let all = (one-more mid to rs r so step).first clean h k walked in
               let n : ℕ = length (rs ++ r ∷ []) in
@@ -166,7 +166,7 @@ module _ {S : Type 0} (g : Ghosts S) (from : At Walked (Records S Cursor) (Unit 
               (sym (at-end mid rs so end clean h k walked)) measured)
 
           writing : (fault : SendFault StoreFault) →
-              StopsFor (IsSourceStep g) from to whole [] mid rs fault →
+              StopsFor (IsSourceStep g) from to whole mid rs fault →
               IsWritingFault (export_fault_of fault)
           writing (Source fault) why = is_store_refusal _ _ _ fault why.walk_step.why
               (λ unclean. unclean clean) (not_failed _ so.going)
@@ -175,7 +175,7 @@ module _ {S : Type 0} (g : Ghosts S) (from : At Walked (Records S Cursor) (Unit 
           writing (Output Memory) why = tt
 
           front-of : (fault : SendFault StoreFault) →
-              StopsFor (IsSourceStep g) from to whole [] mid rs fault →
+              StopsFor (IsSourceStep g) from to whole mid rs fault →
               (before after : Option (List ℕ)) (header : List ℕ) →
               WritesPrefix before after (planned_text header whole rs) →
               WritesPrefix before after (planned_text header whole (h k))
@@ -191,14 +191,14 @@ module _ {S : Type 0} (g : Ghosts S) (from : At Walked (Records S Cursor) (Unit 
               ∙ planned_more header whole rs more) w
 
       module _ (Front : List DataRecord → Type 0) (fault : SendFault StoreFault)
-          (s : StopsAfter (IsSourceStep g) from to whole [] Front fault) where
+          (s : StopsAfter (IsSourceStep g) from to whole Front fault) where
         so-some : HasGivenThese s.mid s.records
         so-some = all-given s.mid s.records s.gave
 
         pub stopped-leaves : EndsWalk g from.file to.file
             (λ state. IsOutsideTransactionAfterFault state (export_fault_of fault))
         stopped-leaves = record {
-          same_reference = keeps (IsSourceStep g) from to whole [] s.mid s.records
+          same_reference = keeps (IsSourceStep g) from to whole s.mid s.records
               (λ x. x.file.store.ghost_name) (λ answer is. is.walk_step.same_reference) fault s.why
               ∙ so-some.same_reference;
           stays = stays_then g from.file.store.now s.mid.file.store.now to.file.store.now
@@ -212,7 +212,7 @@ module _ {S : Type 0} (g : Ghosts S) (from : At Walked (Records S Cursor) (Unit 
             counts s.mid s.records so-some old new fault s.why counted
 
       pub stopped-text : (fault : SendFault StoreFault) (before after : Option (List ℕ))
-          (header : List ℕ) → StopsAfter (IsSourceStep g) from to whole []
+          (header : List ℕ) → StopsAfter (IsSourceStep g) from to whole
           (λ rs. WritesPrefix before after (planned_text header whole rs)) fault →
           HasCleanDisk (at g to.file.store.now) → (h : Holdings) (k : Key) →
           HasYielded g from.file h k 0 → IsMeasured (h k) whole →

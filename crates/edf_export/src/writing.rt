@@ -44,7 +44,6 @@ fn send_walk<S: Alter, W: Output>(
     let file = FilePlan {
         header,
         measure: plan,
-        records: &[],
     };
     send(alloc, &mut source, walk, &mut nothing, &file, out)?;
     Ok(())

@@ -1,5 +1,5 @@
 -- What was read of a file leniently, and written.
-use Rattle.std.proofs.Common.{◌≡◌, ℕ, ◌+◌, ◌<◌, List, [], ◌++◌, length, Bool, refl, sym, ap, ◌∙◌}
+use Rattle.std.proofs.Common.{◌≡◌, ℕ, ◌+◌, ◌<◌, List, ◌++◌, length, Bool, refl, sym, ap, ◌∙◌}
 use Rattle.std.proofs.Common.{subst, append_assoc, Option, ◌≢◌, take, codes, false}
 use Rattle.std.specs.List.{flat_map}
 use Rattle.std.specs.Io.KnownBytes.{Appends, Consumes}
@@ -35,7 +35,7 @@ pub mends : {R : Type 0} (g : Ghosts R) (w : Wanted) (left : Option (List ℕ)) 
     (before after : Option (List ℕ)) → OpensLeniently w left (g.remaining input) o →
     IsLayout o.file.header → MayStart o.file.header.key m.first →
     IsCanonicalHeader header o.file.header.key m.first m.records m.block_samples →
-    SendsAll (ReadsLeniently g) (at source o.file input) (at last file rest) m []
+    SendsAll (ReadsLeniently g) (at source o.file input) (at last file rest) m
     (λ rs. Appends before after (planned_text header m rs)) →
     CountFits w file.timed (count_field o.first) m.records
     × HeaderSizeFits o.first o.signals m.records file.left_out

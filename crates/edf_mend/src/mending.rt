@@ -205,7 +205,6 @@ pub fn write_mended<R: Input, W: Output>(
     let plan = FilePlan {
         header: header.as_slice(),
         measure: *measure,
-        records: &[],
     };
     send(alloc, &mut source, &mut opened.file, input, &plan, out)?;
     check_body(alloc, wanted, &opened, measure.records)?;

@@ -32,7 +32,7 @@ abbrev pub samples_in : Option DataRecord → List ℕ
 samples_in None = []
 samples_in (Some r) = r.samples
 
-all-push : (P : DataRecord → Type 0) (rs : List DataRecord) (r : DataRecord) →
+pub all-push : (P : DataRecord → Type 0) (rs : List DataRecord) (r : DataRecord) →
     AllByRecursion P rs → P r → AllByRecursion P (rs ++ r ∷ [])
 all-push P [] r all p = (p, tt)
 all-push P (x ∷ xs) r all p = (all.0, all-push P xs r all.1 p)

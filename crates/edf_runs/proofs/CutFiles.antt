@@ -145,7 +145,7 @@ module _ {R : Type 0} {g : Ghosts R} {again : Option (List ℕ)} {cut : Cut}
       (before after : Option (List ℕ)) (len : ℕ) → IsOutline k ones cut.outline.now →
       len ≡ length header + cut.measure.records * (2 * samples_in_all
       cut.outline.now.identity.signals + 2 * cut.measure.block_samples) →
-      SendsAll (GivesSelected g) from to cut.measure []
+      SendsAll (GivesSelected g) from to cut.measure
       (λ rs. Appends before after (planned_text header cut.measure rs)) →
       IsCutWritten again (g.remaining to.input) before after cut k ones len
   all-cut k ones to before after len is len-is s =
@@ -280,7 +280,7 @@ module _ {R : Type 0} {g : Ghosts R} {again : Option (List ℕ)} {cut : Cut}
         (sym whole ∙ ap (selected from.source) same ∙ all.gives) measured
 
     not-changed : (to : At CutSource OpenFragment R) (before after : Option (List ℕ))
-        (fault : SendFault WriteFault) → StopsAfter (GivesSelected g) from to cut.measure []
+        (fault : SendFault WriteFault) → StopsAfter (GivesSelected g) from to cut.measure
         (λ rs. WritesPrefix before after (planned_text header cut.measure rs)) fault →
         send_fault fault ≢ Changed
     not-changed to before after (Source fault) s same =
@@ -295,7 +295,7 @@ module _ {R : Type 0} {g : Ghosts R} {again : Option (List ℕ)} {cut : Cut}
     not-changed to before after (Output fault) s same = out_same fault same
 
     prefix : (to : At CutSource OpenFragment R) (before after : Option (List ℕ))
-        (fault : SendFault WriteFault) → StopsAfter (GivesSelected g) from to cut.measure []
+        (fault : SendFault WriteFault) → StopsAfter (GivesSelected g) from to cut.measure
         (λ rs. WritesPrefix before after (planned_text header cut.measure rs)) fault →
         (file : List ℕ) × IsCutFile file k records cut.window.from cut.window.to
         × WritesPrefix before after file
@@ -314,7 +314,7 @@ module _ {R : Type 0} {g : Ghosts R} {again : Option (List ℕ)} {cut : Cut}
 
   -- it did not go out whole
   pub stops-cut : (to : At CutSource OpenFragment R) (before after : Option (List ℕ))
-      (fault : SendFault WriteFault) → StopsAfter (GivesSelected g) from to cut.measure []
+      (fault : SendFault WriteFault) → StopsAfter (GivesSelected g) from to cut.measure
       (λ rs. WritesPrefix before after (planned_text header cut.measure rs)) fault →
       StopsUnchanged again before after cut (send_fault fault)
   stops-cut to before after fault s bytes k ones others records known spells is joined plan = (
@@ -334,17 +334,17 @@ counts-answer g mid to (Err fault) (last, p, stops) =
 
 module _ {R : Type 0} (g : Ghosts R) (from to : At CutSource OpenFragment R) (m : Measure)
     (Text : List DataRecord → Type 0) where
-  pub all-counted : SendsAll (GivesSelected g) from to m [] Text →
+  pub all-counted : SendsAll (GivesSelected g) from to m Text →
       g.failures to.input ≡ g.failures from.input
   all-counted s = counts-answer g s.mid to (Ok None) s.end
       ∙ (all-passed g from s.mid s.records s.gave).counted
 
   pub stops-counted : (fault : SendFault WriteFault) →
-      StopsAfter (GivesSelected g) from to m [] Text fault → (writes writes' : ℕ) →
+      StopsAfter (GivesSelected g) from to m Text fault → (writes writes' : ℕ) →
       CountsSendFault writes writes' fault → CountsSending {A = Unit {0}} (g.failures from.input)
       (g.failures to.input) writes writes' (Err (send_fault fault))
   stops-counted fault s writes writes' counted =
       subst (λ n. CountsSending {A = Unit {0}} n (g.failures to.input) writes writes'
       (Err (send_fault fault))) (all-passed g from s.mid s.records s.gave).counted
-      (stop-counts (GivesSelected g) from to m [] s.mid s.records (λ x. g.failures x.input)
+      (stop-counts (GivesSelected g) from to m s.mid s.records (λ x. g.failures x.input)
       (counts-answer g s.mid to) fault s.why writes writes' counted)

@@ -144,7 +144,7 @@ module _ {R : Type 0} (g : Ghosts R) (source : FilledSource) (file : OpenFragmen
   -- what was sent
   module _ (to : At FilledSource OpenFragment R) (whole : Measure)
       (Text : List DataRecord → Type 0)
-      (s : SendsAll {E = WriteFault} (FillsNext g) (at source file input) to whole [] Text) where
+      (s : SendsAll {E = WriteFault} (FillsNext g) (at source file input) to whole Text) where
     all-filled : HasFilled g file.header file.progress (g.remaining input) source s.mid s.records
     all-filled = gives-all (FillsNext g)
         (HasFilled g file.header file.progress (g.remaining input) source)
@@ -237,7 +237,7 @@ module _ (outline : Outline) (filled : Filled) (is : IsFilling outline filled)
         IsContinuousHeader header filled.identity whole →
         ReadsHeader again (g.remaining input) file.header → file.progress ≡ initial_progress →
         file.header.key ≡ outline.identity →
-        SendsAll {E = WriteFault} (FillsNext g) (at source file input) to whole []
+        SendsAll {E = WriteFault} (FillsNext g) (at source file input) to whole
         (λ rs. Appends before after (planned_text header whole rs)) →
         IsFilledOut once again before after
     filled-sent to whole header again before after key begins is-header opened first same s =

@@ -27,7 +27,6 @@ use Rattle.edf_canonical.specs.Source.{At, at, Answers, Gives}
 use Rattle.edf_canonical.specs.declared.fault.SendFault.{SendFault}
 use Rattle.edf_canonical.specs.declared.fault.SendFault.TheVariants.{Source, Unlike, Output}
 use Rattle.edf_canonical.specs.declared.measure.Measure.{Measure}
-use Rattle.edf_canonical.proofs.PutNext.{sound-more}
 use Rattle.edf_canonical.proofs.Sourced.{gives-all, keeps}
 use Rattle.edf_runs.specs.Again.{StopsAt, ComesNext}
 use Rattle.edf_runs.specs.Read.{ReadsOn}
@@ -43,6 +42,7 @@ use Rattle.edf_runs.specs.declared.rereading.RunAgain.{RunAgain}
 use Rattle.edf_runs.specs.declared.run.Run.{Run}
 use Rattle.edf_runs.specs.declared.tally.Tally.{Tally}
 use Rattle.edf_runs.specs.declared.written.Written.{Written}
+use Rattle.edf_runs.proofs.Came.{all-push}
 use Rattle.edf_runs.proofs.Growing.{last_end}
 use Rattle.edf_runs.proofs.Next.{next_as_listed, fits_as_listed, end_as_listed, run_as_listed}
 use Rattle.edf_runs.proofs.SecondReading.{more_so_far, none_so_far}
@@ -115,7 +115,7 @@ module _ {R : Type 0} {g : Ghosts R} {l : Layout} {from : Progress} {run : Run}
           so_far = subst (λ n. ReadSoFar l from to.file.progress left (g.remaining to.input) run
               (rs ++ r ∷ []) to.source.next n) (sym a.nth) more;
           few = omega (arith, a.nth, few);
-          sound = sound-more l.key rs r so.sound step.sound;
+          sound = all-push (IsSoundRecord l.key) rs r so.sound step.sound;
           tallied = a.counts (few-tallied mid rs so) d run rs so.tallied;
           counted = reads-on.counted ∙ so.counted;
         }
@@ -144,7 +144,7 @@ module _ {R : Type 0} {g : Ghosts R} {l : Layout} {from : Progress} {run : Run}
             (written : Written) → written.bytes ≡ length header
             + run.records * (2 * samples_in_all l.key.signals + 2 * run.block_samples) →
             written.annotations ≡ to.source.tally.annotations →
-            written.outside ≡ to.source.tally.outside → SendsAll (ReadsRun g) start to whole []
+            written.outside ≡ to.source.tally.outside → SendsAll (ReadsRun g) start to whole
             (λ rs. Appends before after (planned_text header whole rs)) →
             IsRunWritten l from to.file.progress left (g.remaining to.input) before after run
             written
@@ -195,21 +195,21 @@ module _ {R : Type 0} {g : Ghosts R} {l : Layout} {from : Progress} {run : Run}
               };
             }
 
-        pub sent-counted : SendsAll (ReadsRun g) start to whole []
+        pub sent-counted : SendsAll (ReadsRun g) start to whole
             (λ rs. Appends before after (planned_text header whole rs)) → g.failures to.input
             ≡ reads
         sent-counted s = s.end.counted ∙ (all-read s.mid s.records s.gave).counted
 
-        pub sent-header : SendsAll (ReadsRun g) start to whole []
+        pub sent-header : SendsAll (ReadsRun g) start to whole
             (λ rs. Appends before after (planned_text header whole rs)) → to.file.header ≡ l
         sent-header s = s.end.header ∙ (all-read s.mid s.records s.gave).header
 
         pub stops-header : (fault : SendFault WriteFault) →
-            StopsAfter (ReadsRun g) start to whole []
+            StopsAfter (ReadsRun g) start to whole
             (λ rs. WritesPrefix before after (planned_text header whole rs)) fault →
             to.file.header ≡ l
         stops-header fault s =
-            keeps (ReadsRun g) start to whole [] s.mid s.records (λ x. x.file.header)
+            keeps (ReadsRun g) start to whole s.mid s.records (λ x. x.file.header)
             (λ answer is. is.header) fault s.why ∙ (all-read s.mid s.records s.gave).header
 
         -- the first of them were
@@ -238,7 +238,7 @@ module _ {R : Type 0} {g : Ghosts R} {l : Layout} {from : Progress} {run : Run}
           )
 
           more-at-most : (fault : SendFault WriteFault) →
-              StopsFor (ReadsRun g) start to whole [] mid rs fault →
+              StopsFor (ReadsRun g) start to whole mid rs fault →
               ReadsOneMoreAtMost l mid.file.progress to.file.progress (g.remaining mid.input)
               (g.remaining to.input) (length rs) run
           more-at-most (Source fault) why = elim why.answers [
@@ -256,7 +256,7 @@ module _ {R : Type 0} {g : Ghosts R} {l : Layout} {from : Progress} {run : Run}
               rests end.0.answers.rests.progress end.0.answers.rests.unread
 
         pub run-stops : IsRunHeader header l.key run → (fault : SendFault WriteFault) →
-            StopsAfter (ReadsRun g) start to whole []
+            StopsAfter (ReadsRun g) start to whole
             (λ rs. WritesPrefix before after (planned_text header whole rs)) fault →
             StopsInRun l from to.file.progress left (g.remaining to.input) before after run
         run-stops is-header fault s =
@@ -280,7 +280,7 @@ module _ {R : Type 0} {g : Ghosts R} {l : Layout} {from : Progress} {run : Run}
             }
 
         pub run-counted : (fault : SendFault WriteFault)
-            (s : StopsAfter (ReadsRun g) start to whole []
+            (s : StopsAfter (ReadsRun g) start to whole
             (λ rs. WritesPrefix before after (planned_text header whole rs)) fault)
             (writes writes' : ℕ) → CountsSendFault writes writes' fault →
             CountsSending {A = Unit {0}} reads (g.failures to.input) writes writes'
@@ -288,7 +288,7 @@ module _ {R : Type 0} {g : Ghosts R} {l : Layout} {from : Progress} {run : Run}
         run-counted fault s writes writes' counted =
             subst (λ n. CountsSending {A = Unit {0}} n (g.failures to.input) writes writes'
             (Err (send_fault fault))) (all-read s.mid s.records s.gave).counted
-            (stop-counts (ReadsRun g) start to whole [] s.mid s.records (λ x. g.failures x.input)
+            (stop-counts (ReadsRun g) start to whole s.mid s.records (λ x. g.failures x.input)
             (λ answer is. is.counted) fault s.why writes writes' counted)
 
         -- where the run comes next, no change is found
@@ -343,7 +343,7 @@ module _ {R : Type 0} {g : Ghosts R} {l : Layout} {from : Progress} {run : Run}
               }
 
           pub run-unchanged : (fault : SendFault WriteFault) →
-              StopsAfter (ReadsRun g) start to whole []
+              StopsAfter (ReadsRun g) start to whole
               (λ rs. WritesPrefix before after (planned_text header whole rs)) fault →
               send_fault fault ≢ Changed
           run-unchanged (Source fault) s same =

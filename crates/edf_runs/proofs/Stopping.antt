@@ -14,13 +14,12 @@ use Rattle.edf_runs.proofs.Sending.{reread_counts, out_counts}
 
 module _ {S F R : Type 0}
     (answers : S → F → R → S → F → R → Result (Option DataRecord) WriteFault → Type 0)
-    (from to : At S F R) (whole : Measure) (kept : List DataRecord) (mid : At S F R)
-    (records : List DataRecord) where
+    (from to : At S F R) (whole : Measure) (mid : At S F R) (records : List DataRecord) where
   -- how many reads and writes failed
   module _ (reads : At S F R → ℕ) (each : (answer : Result (Option DataRecord) WriteFault) →
       Answers answers mid to answer → CountsRereads (reads mid) (reads to) answer) where
     pub stop-counts : (fault : SendFault WriteFault) →
-        StopsFor answers from to whole kept mid records fault → (writes writes' : ℕ) →
+        StopsFor answers from to whole mid records fault → (writes writes' : ℕ) →
         CountsSendFault writes writes' fault →
         CountsSending {A = Unit {0}} (reads mid) (reads to) writes writes' (Err (send_fault fault))
     stop-counts (Source fault) why writes writes' counted =

@@ -136,7 +136,6 @@ pub fn write_cut<R: Input, W: Output>(
     let file = FilePlan {
         header: header.as_slice(),
         measure: *measure,
-        records: &[],
     };
     send(alloc, &mut source, &mut fragment, input, &file, out)?;
     let record_bytes = identity.ordinary_bytes() + 2 * measure.block_samples as usize;

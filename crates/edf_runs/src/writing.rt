@@ -103,7 +103,6 @@ pub fn write_run<R: Input, W: Output>(
     let file = FilePlan {
         header: header.as_slice(),
         measure,
-        records: &[],
     };
     send(alloc, &mut source, fragment, input, &file, out)?;
     Ok(Written {

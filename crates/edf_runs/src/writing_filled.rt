@@ -101,7 +101,6 @@ pub fn write_filled<'o, R: Input, W: Output>(
     let file = FilePlan {
         header: header.as_slice(),
         measure: filled.measure,
-        records: &[],
     };
     send(alloc, &mut source, &mut fragment, input, &file, out)?;
     Ok(())

@@ -9,8 +9,7 @@ invariant-records g l = record {
   put : SoPut g.S.Source.answers (at l.initial.source l.initial.file l.initial.input)
       (at l.source l.file l.input)
       (buffered g.W.Output l.initial.out l.initial.held.bytes.items)
-      (buffered g.W.Output l.out l.held.bytes.items) l.fn.plan.measure l.fn.plan.records.now
-      l.so_far;
+      (buffered g.W.Output l.out l.held.bytes.items) l.fn.plan.measure l.so_far;
 }
 
 abbrev pub decreases-records : goal.decreases-records

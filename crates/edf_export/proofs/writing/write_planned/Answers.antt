@@ -65,8 +65,10 @@ returns-clause-written g c clean h held plan =
     ) in
     let whole : c.len.result + c.args.plan.records
     * (c.ordinary_bytes.result + 2 * c.args.plan.block_samples)
-    ≡ length text + c.args.plan.records * (2 * samples_in_all k.signals + 2 * c.args.plan.block_samples) =
-    ap (λ n. n + c.args.plan.records * (c.ordinary_bytes.result + 2 * c.args.plan.block_samples)) len
+    ≡ length text
+    + c.args.plan.records * (2 * samples_in_all k.signals + 2 * c.args.plan.block_samples) =
+    ap (λ n. n
+    + c.args.plan.records * (c.ordinary_bytes.result + 2 * c.args.plan.block_samples)) len
     ∙ ap (λ n. length text + c.args.plan.records * (n + 2 * c.args.plan.block_samples))
     c.ordinary_bytes.ensures.value in
     exported _ _ k (h k) c.args.plan text _ plan is-header
