@@ -253,14 +253,15 @@ const LISTS: &[(usize, &str)] = &[
         "one.eerr: standard output refused E43 Write\nstatus 3, 0 files\n",
     ),
     (
-        60,
-        "one.edf 1 records=2 first=2002-03-02T23:59:50 seconds=2\ntent\
+        88,
+        "one.edf 1 records=2 first=2002-03-02T23:59:50 seconds=2 patient=P7 investigation=N1\ntent\
         err: standard output refused E43 Write\nstatus 3, 0 files\n",
     ),
     (
         200,
-        "one.edf 1 records=2 first=2002-03-02T23:59:50 seconds=2\n\
-        tenths.edf 1 records=4 first=2002-03-02T23:59:50 seconds=0.4\n\
+        "one.edf 1 records=2 first=2002-03-02T23:59:50 seconds=2 patient=P7 investigation=N1\n\
+        tenths.edf 1 records=4 first=2002-03-02T23:59:50 seconds=0.4 \
+        patient=P7 investigation=N1\n\
         err: none.edf refused E40 Read\nstatus 3, 0 files\n",
     ),
 ];

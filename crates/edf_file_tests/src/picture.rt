@@ -1,5 +1,5 @@
-//! Pictures, by what their texts and shapes are. Where a shape begins was worked out by hand: of the
-//! thousand columns of the axis, by the seconds that each has.
+//! Pictures, by what their texts and shapes are. Where a shape begins was worked out by hand: of
+//! the thousand columns of the axis, by the seconds that each has.
 
 use edf_picture::{Bands, Extent, Night, Note, Signal, Title, draw};
 use std::alloc::{AllocError, Global};
@@ -39,8 +39,8 @@ fn runs_of(alloc: Global, seconds: &[(u64, u64)]) -> Result<Vec<Extent>, AllocEr
     Ok(runs)
 }
 
-/// The picture of these runs, whose data records last ten seconds; the saturation is 950 tenths, but
-/// 901 in the data record after a minute, and 0 in the next.
+/// The picture of these runs, whose data records last ten seconds; the saturation is 950 tenths,
+/// but 901 in the data record after a minute, and 0 in the next.
 fn drawn(
     alloc: Global,
     patient: Option<&[u8]>,

@@ -1,6 +1,6 @@
 -- What a store in memory listed, what was written of a file, and a recording by its file.
-use Rattle.std.proofs.Common.{◌≡◌, ◌≢◌, ◌⊎◌, ℕ, List, [], ◌∷◌, length, map, Bool, true, false}
-use Rattle.std.proofs.Common.{Option, Some, None, inl, inr, refl, sym, ap, subst, if◌then◌else◌}
+use Rattle.std.proofs.Common.{◌≡◌, ◌≢◌, ◌⊎◌, ℕ, List, [], ◌∷◌, length, Bool, true, false}
+use Rattle.std.proofs.Common.{Option, Some, inl, inr, refl, sym, ap, subst, if◌then◌else◌}
 use Rattle.std.proofs.Common.{arith, ◌∙◌}
 use Rattle.std.proofs.lemmas.List.{take_all}
 use Rattle.std.specs.Io.KnownBytes.{Appends}
@@ -194,15 +194,14 @@ runs-of file k records listing is has =
 
 pub run-lines-are : (file : List ℕ) (k : Key) (records : List DataRecord) (text : List ℕ) →
     IsOnlyCanonicalFile file k records → ListsFile file text →
-    AreRunLines (duration_of k.duration) records text
+    AreRunLines k records text
 run-lines-are file k records text is lists =
     let listed = runs-of file k records lists.listing is lists.has in
     record {
       runs = lists.listing.runs.items;
       are_runs = listed.1;
-      are_lines = λ spell sp. subst (λ (q : Key). text
-          ≡ each_line spell (duration_of q.duration) lists.listing.runs.items) listed.0
-          (lists.lines spell sp);
+      are_lines = λ spell sp. subst (λ (q : Key). text ≡ each_line spell q lists.listing.runs.items)
+          listed.0 (lists.lines spell sp);
     }
 
 pub recording-is : (h : Holdings) (k : Key) (r : Recording) →

@@ -3,7 +3,7 @@ use Rattle.std.proofs.Common.{◌≡◌, ℕ, zero, suc, ◌<◌, List, [], ◌�
 use Rattle.std.proofs.Common.{refl, sym}
 use Rattle.std.proofs.Common.{Bool, true, false, ◌&&◌, if◌then◌else◌, Option, ap, ◌∙◌, arith}
 use Rattle.std.specs.Prelude.{bytes_eq}
-use Rattle.edf_cli.specs.Made.{MadeFile, begun, finished, removed}
+use Rattle.edf_cli.specs.Made.{MadeFile, begun, removed}
 use Rattle.edf_page.specs.InsideFolder.{last_held}
 
 -- one that is not whole adds nothing

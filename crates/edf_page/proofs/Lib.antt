@@ -6,4 +6,5 @@ pub mod Files
 pub mod Replacing
 pub mod LastHeld
 pub mod There
+pub mod Outcome
 pub mod Nights

@@ -1,8 +1,8 @@
 -- What comes of files is one thing, but for pictures: runs of the same data records have the same
 -- lines, and so have files with the same answers.
-use Rattle.std.proofs.Common.{◌≡◌, ◌≢◌, ℕ, ◌+◌, ◌-◌, ◌*◌, ◌≤◌, List, [], ◌∷◌, ◌++◌, map, length}
-use Rattle.std.proofs.Common.{Option, Some, None, codes, decimal, refl, sym, ap, subst, ◌∙◌, arith}
-use Rattle.std.proofs.Common.{All, take, fold, Ok, Err, inl, inr}
+use Rattle.std.proofs.Common.{◌≡◌, ◌≢◌, ℕ, ◌+◌, ◌-◌, ◌*◌, List, [], ◌∷◌, ◌++◌, map, length}
+use Rattle.std.proofs.Common.{Option, Some, codes, decimal, refl, sym, ap, subst, ◌∙◌, arith}
+use Rattle.std.proofs.Common.{All, fold, Ok, Err, inl, inr}
 use Rattle.std.specs.Prelude.{slice_get}
 use Rattle.std.specs.List.{AllZip, zip, flat_map}
 use Rattle.std.proofs.lemmas.List.{take_all}
@@ -20,7 +20,6 @@ use Rattle.edf_fragment.specs.Fragment.{DataRecord}
 use Rattle.edf_holdings.specs.Holdings.{Holdings, nothing_held}
 use Rattle.edf_holdings.specs.Reply.{Reply, Form, Conflicts, Accepted, Overlap, Differs, Full}
 use Rattle.edf_holdings.specs.Reply.{replies}
-use Rattle.edf_holdings.specs.Keys.{AreKeysOf}
 use Rattle.edf_holdings.proofs.KeyLists.{keys_are_one}
 use Rattle.edf_store.specs.Held.{StoreModel}
 use Rattle.edf_store.specs.declared.fault.StoreFault.TheVariants as store
@@ -28,26 +27,21 @@ use Rattle.edf_intake.specs.Batch.{AreSubmitted, WillParseTo}
 use Rattle.edf_intake.specs.Refusal.{Answer, reply_of}
 use Rattle.edf_intake.specs.Submitted.{IsSubmitAnswer}
 use Rattle.edf_intake.specs.declared.answer.Refusal.TheVariants as refusal
-use Rattle.edf_export.specs.Headline.{IsOnlyCanonicalFile}
 use Rattle.edf_export.proofs.Headline.{tells-one}
-use Rattle.edf_runs.specs.Runs.{StartFrom, IsListed, IsRuns, AreListed}
+use Rattle.edf_runs.specs.Runs.{StartFrom, IsListed, AreListed}
 use Rattle.edf_runs.specs.declared.run.Run.{Run}
 use Rattle.edf_runs.proofs.Parts.{one-runs}
-use Rattle.edf_cli.specs.Output.{OutputChange, Explains}
 use Rattle.edf_cli.specs.Status.{worse}
-use Rattle.edf_cli.specs.Text.{IsInstantFormat}
 use Rattle.edf_cli.specs.declared.status.Status.{Status}
 use Rattle.edf_cli.specs.declared.status.Status.TheVariants.{Done, Refused, Usage, Trouble}
 use Rattle.edf_command.specs.Lines.{accepted_line, refused_file_line, take_line, take_lines}
 use Rattle.edf_command.specs.Lines.{first_take_lines, answer_status, take_status, list_lines}
-use Rattle.edf_command.specs.Taking.{IsTaken}
-use Rattle.edfruns_command.specs.Lines.{each_line, run_front, run_lines, end_of, gap_text}
-use Rattle.edf_page.specs.Inside.{HasIn}
-use Rattle.edf_page.specs.Laws.{AreAlike, AreNightsAlike, OneNightComes, TakeWritesLines}
+use Rattle.edfruns_command.specs.Lines.{run_front, run_lines, gap_text}
+use Rattle.edfruns_command.specs.Lines.{line_end}
+use Rattle.edf_page.specs.Laws.{AreAlike, OneNightComes, TakeWritesLines}
 use Rattle.edf_page.specs.Laws.{ListWritesRuns}
 use Rattle.edf_page.specs.Night.{AreAnswered, AreTaken, AreRunLines, AreGiven, IsRecording}
-use Rattle.edf_page.specs.Night.{IsNight, held_after, lines_by}
-use Rattle.edf_page.specs.Programs.{IsText}
+use Rattle.edf_page.specs.Night.{held_after, lines_by}
 use Rattle.edf_page.specs.declared.night.Recording.{Recording}
 use Rattle.edf_page.proofs.Files.{said-whole, gets-whole, lists-file, run-lines-are}
 use Rattle.edf_page.proofs.Memory.{stays_clean}
@@ -130,23 +124,26 @@ module _ (spell : ℕ → List ℕ) (d : ℕ) where
       ∙ ap (λ (n : ℕ). text o.records o.first n (gap_text d r next)) alike.last
       ∙ ap (text o.records o.first o.last) same
 
+module _ (spell : ℕ → List ℕ) (k : Key) where
   lines : (number : ℕ) (rs os : List Run) → AllZip IsAlike rs os →
-      run_lines spell d [] number rs ≡ run_lines spell d [] number os
+      run_lines spell k [] number rs ≡ run_lines spell k [] number os
   lines number [] [] all = refl
   lines number [] (o ∷ os) all = absurd all
   lines number (r ∷ rs) [] all = absurd all
   lines number (r ∷ rs) (o ∷ os) all =
-      ap (λ (l : List ℕ). l ++ (10 ∷ run_lines spell d [] (number + 1) rs))
-      (line number r o (slice_get rs 0) (slice_get os 0) all.0 (gap r o rs os all.0 all.1))
-      ∙ ap (λ (l : List ℕ). run_front spell d number o (slice_get os 0) ++ (10 ∷ l))
+      let d = duration_of k.duration in
+      ap (λ (l : List ℕ). l ++ (line_end k ++ run_lines spell k [] (number + 1) rs))
+      (line spell d number r o (slice_get rs 0) (slice_get os 0) all.0
+      (gap spell d r o rs os all.0 all.1))
+      ∙ ap (λ (l : List ℕ). run_front spell d number o (slice_get os 0) ++ (line_end k ++ l))
       (lines (number + 1) rs os all.1)
 
-pub one-run-lines : (d : ℕ) (records : List DataRecord) (lines-of others : List ℕ) →
-    AreRunLines d records lines-of → AreRunLines d records others → lines-of ≡ others
-one-run-lines d records lines-of others one other =
+pub one-run-lines : (k : Key) (records : List DataRecord) (lines-of others : List ℕ) →
+    AreRunLines k records lines-of → AreRunLines k records others → lines-of ≡ others
+one-run-lines k records lines-of others one other =
     one.are_lines one_spelling one_spelling-is
-    ∙ lines one_spelling d 1 one.runs other.runs
-    (are-alike d records one.runs other.runs one.are_runs other.are_runs)
+    ∙ lines one_spelling k 1 one.runs other.runs
+    (are-alike (duration_of k.duration) records one.runs other.runs one.are_runs other.are_runs)
     ∙ sym (other.are_lines one_spelling one_spelling-is)
 
 -- ---- the lines of files
@@ -219,7 +216,7 @@ alike-each h (k ∷ keys) (r ∷ rs) [] p q = absurd q
 alike-each h (k ∷ keys) (r ∷ rs) (o ∷ os) p q = (
   (
     q.0.is_file.only r.file.items p.0.is_file.canonical,
-    one-run-lines (duration_of k.duration) (h k) r.runs.items o.runs.items p.0.runs q.0.runs,
+    one-run-lines k (h k) r.runs.items o.runs.items p.0.runs q.0.runs,
   ),
   alike-each h keys rs os p.1 q.1,
 )
@@ -253,8 +250,7 @@ one-night names files night other one is =
 
 pub list-writes-runs : ListWritesRuns
 list-writes-runs out err file name text lines-of k records is are from done =
-    one-run-lines (duration_of k.duration) records text lines-of
-    (run-lines-are file k records text is
+    one-run-lines k records text lines-of (run-lines-are file k records text is
     (lists-file out err file text name from.empty from.is done)) are
 
 worse-trouble : (status : Status) → worse status Trouble ≡ Trouble

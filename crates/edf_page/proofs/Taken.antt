@@ -1,5 +1,5 @@
 -- Files that were taken one after another, by their answers.
-use Rattle.std.proofs.Common.{◌≡◌, ◌≢◌, ℕ, List, [], ◌∷◌, ◌++◌, map, Option, Some, None, Ok, Err}
+use Rattle.std.proofs.Common.{◌≡◌, ℕ, List, [], ◌∷◌, ◌++◌, map, Option, Some, None, Ok, Err}
 use Rattle.std.proofs.Common.{◌+◌, refl, sym, ap, subst, ◌∙◌, length, arith}
 use Rattle.std.proofs.lemmas.List.{length_push, map_push}
 use Rattle.std.specs.List.{AllZip}

@@ -3,7 +3,6 @@ use Rattle.std.specs.Prelude.{◌≡◌, ℕ, List, map, length, codes, Option, 
 use Rattle.std.specs.List.{AllZip}
 use Rattle.sqlite_trees.specs.declared.memory.MemStore.{MemStore}
 use Rattle.sqlite.specs.Steps.{over_memory}
-use Rattle.edf_field.specs.Number.{duration_of}
 use Rattle.edf_header.specs.declared.limits.TheConstants.{MOST_RECORDS}
 use Rattle.edf_header.specs.Key.{Key}
 use Rattle.edf_fragment.specs.Parsed.{Parsed, ParsesTo}
@@ -112,7 +111,7 @@ pub record ListsFile (file text : List ℕ) : Type 0 where
   pub listing : Listing
   pub has : HasRuns (Some file) listing
   pub lines : (spell : ℕ → List ℕ) → IsInstantFormat spell →
-      text ≡ each_line spell (duration_of listing.identity.duration) listing.runs.items
+      text ≡ each_line spell listing.identity listing.runs.items
 
 pub record DrawsFile (file picture : List ℕ) : Type 0 where
   pub listing : Listing

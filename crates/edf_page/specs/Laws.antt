@@ -4,7 +4,6 @@ use Rattle.std.specs.Prelude.{◌≡◌, ◌≢◌, ℕ, List, ◌∷◌, [], Op
 use Rattle.std.specs.List.{AllZip, flat_map}
 use Rattle.sqlite_trees.specs.declared.memory.MemStore.{MemStore}
 use Rattle.sqlite.specs.Steps.{over_memory}
-use Rattle.edf_field.specs.Number.{duration_of}
 use Rattle.edf_header.specs.Key.{Key}
 use Rattle.edf_fragment.specs.Fragment.{DataRecord}
 use Rattle.edf_fragment.specs.Parsed.{Parsed, ParsesTo}
@@ -60,7 +59,7 @@ TakeWritesLines = (old new : StoreModel MemStore) (out err : OutputChange)
 abbrev pub ListWritesRuns : Type 0
 ListWritesRuns = (out err : OutputChange) (file name text lines : List ℕ) (k : Key)
     (records : List DataRecord) → IsOnlyCanonicalFile file k records →
-    AreRunLines (duration_of k.duration) records lines → IsText out text →
+    AreRunLines k records lines → IsText out text →
     IsListOut (λ _. Some file) out err (name ∷ []) Done → text ≡ lines
 
 -- why nothing is given is told as `edfstore` tells why its store can't be opened

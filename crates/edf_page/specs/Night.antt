@@ -50,11 +50,11 @@ pub record AreTaken (names : List (List ℕ)) (submissions : List Parsed)
 
 -- ---- the recordings
 
--- the lines of the runs of these data records, which last d nanoseconds, as `edfruns list` has them
-pub record AreRunLines (d : ℕ) (records : List DataRecord) (lines : List ℕ) : Type 0 where
+-- the lines of a recording's runs, each with the recording's codes, as `edfruns list` has them
+pub record AreRunLines (k : Key) (records : List DataRecord) (lines : List ℕ) : Type 0 where
   pub runs : List Run
-  pub are_runs : AreListed d records runs
-  pub are_lines : (spell : ℕ → List ℕ) → IsInstantFormat spell → lines ≡ each_line spell d runs
+  pub are_runs : AreListed (duration_of k.duration) records runs
+  pub are_lines : (spell : ℕ → List ℕ) → IsInstantFormat spell → lines ≡ each_line spell k runs
 
 -- a picture of this recording, with its codes and the times of the runs of its data records, as
 -- `edfruns picture` draws one
@@ -66,7 +66,7 @@ pub record HasPicture (k : Key) (records : List DataRecord) (picture : List ℕ)
 -- the recording of a key: the one file of what is held, its runs and its picture
 pub record IsRecording (h : Holdings) (k : Key) (r : Recording) : Type 0 where
   pub is_file : IsOnlyCanonicalFile r.file.items k (h k)
-  pub runs : AreRunLines (duration_of k.duration) (h k) r.runs.items
+  pub runs : AreRunLines k (h k) r.runs.items
   pub picture : HasPicture k (h k) r.picture.items
 
 -- each recording that is held has its line, as `edfstore list` has it, and in the same order each

@@ -1,6 +1,6 @@
 //! The programs of files, over one file or two, and in memory.
 
-ghost use Rattle.std.specs.Prelude.{◌≡◌, true, IfOk, MatchResult};
+ghost use Rattle.std.specs.Prelude.{◌≡◌, IfOk};
 ghost use Rattle.edfruns_command.specs.Run.Asked.{compare};
 ghost use Rattle.edfmend_command.specs.Run.{meaning as mend_meaning};
 ghost use Rattle.edfruns_command.specs.Run.{meaning};
@@ -29,12 +29,30 @@ pub struct Ran {
     pub files: Vec<NamedFile>,
 }
 
-/// Whether no write failed, as it does in memory where that runs out.
-fn are_whole(out: &Text, err: &Text, folder: &Folder<'_>) -> bool
-    ensures { result ≡ true → (folder.now.failed ≡ 0) × (out.now.failures ≡ 0)
-        × (err.now.failures ≡ 0) }
+/// Returns what a program did that ended so, with the files that it made.
+///
+/// # Errors
+/// Where a call or a write failed, as it does in memory where that runs out.
+fn ran_of(
+    status: Status,
+    out: Text,
+    err: Text,
+    failed: u64,
+    files: Vec<NamedFile>,
+) -> Result<Ran, AllocError>
+    ensures { IfOk result (λ ran.
+        (ran ≡ record { status = status; out = out.bytes; err = err.bytes; files = files })
+        × (failed ≡ 0) × (out.failures ≡ 0) × (err.failures ≡ 0)) }
 {
-    folder.failed == 0 && out.failures == 0 && err.failures == 0
+    if failed > 0 || out.failures > 0 || err.failures > 0 {
+        return Err(AllocError);
+    }
+    Ok(Ran {
+        status,
+        out: out.bytes,
+        err: err.bytes,
+        files,
+    })
 }
 
 /// What `edfruns` does where this is asked for, with a file. Each name that the command has of a
@@ -57,16 +75,9 @@ pub fn run_edfruns(
     let mut input = OneFile::new(alloc, file.bytes);
     let mut folder = Folder::new(alloc, file)?;
     let status = run_runs(alloc, command, &mut input, &mut folder, &mut out, &mut err);
-    if !are_whole(&out, &err, &folder) {
-        return Err(AllocError);
-    }
+    let failed = folder.failed;
     let files = folder.into_named(alloc)?;
-    Ok(Ran {
-        status,
-        out: out.bytes,
-        err: err.bytes,
-        files,
-    })
+    ran_of(status, out, err, failed, files)
 }
 
 /// What compares two files.
@@ -99,15 +110,7 @@ pub fn run_compare(alloc: Global, first: &[u8], second: &[u8]) -> Result<Ran, Al
         },
     )?;
     let status = run_runs(alloc, &command, &mut inputs, &mut none, &mut out, &mut err);
-    if !are_whole(&out, &err, &none) {
-        return Err(AllocError);
-    }
-    Ok(Ran {
-        status,
-        out: out.bytes,
-        err: err.bytes,
-        files: Vec::new(alloc),
-    })
+    ran_of(status, out, err, none.failed, Vec::new(alloc))
 }
 
 /// What a command of `edfmend` does with a file.
@@ -120,16 +123,9 @@ fn mend_of(alloc: Global, command: &MendCommand, file: &GivenFile<'_>) -> Result
     let mut input = OneFile::new(alloc, file.bytes);
     let mut folder = Folder::new(alloc, file)?;
     let status = run_mend(alloc, command, &mut input, &mut folder, &mut out, &mut err);
-    if !are_whole(&out, &err, &folder) {
-        return Err(AllocError);
-    }
+    let failed = folder.failed;
     let files = folder.into_named(alloc)?;
-    Ok(Ran {
-        status,
-        out: out.bytes,
-        err: err.bytes,
-        files,
-    })
+    ran_of(status, out, err, failed, files)
 }
 
 /// What is told where the values ask for nothing that can be done.
@@ -139,15 +135,7 @@ fn refusal_of(alloc: Global, text: String) -> Result<Ran, AllocError>
     let mut out = Text::new(alloc);
     let mut err = Text::new(alloc);
     let status = print_fault(&CommandFault::Usage(text), &mut out, &mut err);
-    if err.failures > 0 {
-        return Err(AllocError);
-    }
-    Ok(Ran {
-        status,
-        out: out.bytes,
-        err: err.bytes,
-        files: Vec::new(alloc),
-    })
+    ran_of(status, out, err, 0, Vec::new(alloc))
 }
 
 /// What `edfmend` does by these values of its words, with a file, which is IN under any name: of

@@ -7,8 +7,8 @@ use std::alloc::{AllocError, Global};
 
 /// The lines of the runs of the recording of both files.
 const RUNS: &[u8] = b"\
-1 records=1 first=2002-03-02T23:59:50 seconds=1 gap=14
-2 records=1 first=2002-03-03T00:00:05 seconds=1
+1 records=1 first=2002-03-02T23:59:50 seconds=1 gap=14 patient=P7 investigation=N1
+2 records=1 first=2002-03-03T00:00:05 seconds=1 patient=P7 investigation=N1
 ";
 
 /// The start of file P5, 2002-03-03T00:00:05, in nanoseconds from 1985.
@@ -178,7 +178,11 @@ const OF_RUNS: &[RunsRow] = &[
         3,
         &[
             (0, b"\0"),
-            (1, b"1 records=1 first=2002-03-03T00:00:05 seconds=1\n"),
+            (
+                1,
+                b"1 records=1 first=2002-03-03T00:00:05 seconds=1 \
+                    patient=P7 investigation=N1\n",
+            ),
         ],
     ),
     (3, b"one", 5, &[(0, b"\0"), (3, b"one-1.edf")]),

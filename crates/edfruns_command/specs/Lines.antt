@@ -2,6 +2,8 @@
 use Rattle.std.specs.Prelude.{ℕ, ◌+◌, ◌-◌, List, [], ◌∷◌, ◌++◌, codes, decimal, slice_get}
 use Rattle.std.specs.Prelude.{Option, Some, None}
 use Rattle.edf_time.specs.Decimal.{short}
+use Rattle.edf_field.specs.Number.{duration_of}
+use Rattle.edf_header.specs.Key.{Key, patient_code, investigation_code}
 use Rattle.edf_fragment.specs.Fault.{fragment_fault_number, fragment_fault_name}
 use Rattle.edf_fragment.specs.declared.fault.FragmentFault.{FragmentFault}
 use Rattle.edf_fragment.specs.declared.fault.FragmentFault.TheVariants as fragment
@@ -13,7 +15,7 @@ use Rattle.edf_runs.specs.declared.fault.WriteFault.{WriteFault}
 use Rattle.edf_runs.specs.declared.fault.WriteFault.TheVariants as run
 pub use Rattle.edf_cli.specs.Text.{IsInstantFormat}
 
--- ---- lines of runs, whose data records last d nanoseconds
+-- ---- lines of the runs of a file of key k, whose data records last d nanoseconds
 
 -- where the last data record of a run ends
 abbrev pub end_of : ℕ → Run → ℕ
@@ -30,15 +32,21 @@ run_front spell d number r next = decimal number ++ (codes " records="
     ++ (decimal r.records ++ (codes " first=" ++ (spell r.first
     ++ (codes " seconds=" ++ (short (end_of d r - r.first) ++ gap_text d r next))))))
 
+-- ` patient=P investigation=N`: how it ends, by the codes of the file
+abbrev pub line_end : Key → List ℕ
+line_end k = codes " patient=" ++ (patient_code k
+    ++ (codes " investigation=" ++ (investigation_code k ++ (10 ∷ []))))
+
 -- a line for each run, in time order, each after the label; the numbers count on from this one
-abbrev pub run_lines : (ℕ → List ℕ) → ℕ → List ℕ → ℕ → List Run → List ℕ
-run_lines spell d label number [] = []
-run_lines spell d label number (r ∷ rs) = label ++ (run_front spell d number r (slice_get rs 0)
-    ++ (10 ∷ run_lines spell d label (number + 1) rs))
+abbrev pub run_lines : (ℕ → List ℕ) → Key → List ℕ → ℕ → List Run → List ℕ
+run_lines spell k label number [] = []
+run_lines spell k label number (r ∷ rs) = label
+    ++ (run_front spell (duration_of k.duration) number r (slice_get rs 0)
+    ++ (line_end k ++ run_lines spell k label (number + 1) rs))
 
 -- those of a file alone
-abbrev pub each_line : (ℕ → List ℕ) → ℕ → List Run → List ℕ
-each_line spell d runs = run_lines spell d [] 1 runs
+abbrev pub each_line : (ℕ → List ℕ) → Key → List Run → List ℕ
+each_line spell k runs = run_lines spell k [] 1 runs
 
 -- ---- why something is not done
 

@@ -1,7 +1,6 @@
 -- What `list` does: what it writes, the status that it answers, and which files it opens.
 use Rattle.std.specs.Prelude.{◌≡◌, ◌⊎◌, ℕ, List, [], ◌∷◌, ◌++◌, Bool, true, false, Option}
 use Rattle.std.specs.Prelude.{nat_lt, length, codes}
-use Rattle.edf_field.specs.Number.{duration_of}
 use Rattle.edf_cli.specs.Output.{OutputChange, Gets, GetsPrefix, IsWritten}
 use Rattle.edf_cli.specs.Status.{worse}
 use Rattle.edf_cli.specs.declared.status.Status.{Status}
@@ -26,7 +25,7 @@ pub record TellsRuns (bytes : Option (List ℕ)) (label : List ℕ) (Tells : Lis
     pub listing : Listing
     pub has : HasRuns bytes listing
     pub told : (spell : ℕ → List ℕ) → IsInstantFormat spell →
-        Tells (run_lines spell (duration_of listing.identity.duration) label 1 listing.runs.items)
+        Tells (run_lines spell listing.identity label 1 listing.runs.items)
 
 module _ (out err : OutputChange) (bytes : Option (List ℕ)) (label : List ℕ) where
   -- its lines went out whole

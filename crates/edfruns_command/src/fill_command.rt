@@ -1,4 +1,4 @@
-//! `fill`: one file of a whole recording, for every viewer.
+//! `fill`: one file of a whole recording, for viewers.
 
 ghost use Rattle.std.specs.Prelude.{◌≡◌, ◌++◌, ◌∷◌, [], ℕ, List, Option, IfOk, IfErr};
 ghost use Rattle.std.specs.Prelude.{MatchResult};
@@ -30,8 +30,8 @@ use edf_time::{Instant, write_seconds};
 use std::alloc::{AllocError, Global};
 
 const FILL_MORE: &str = "\
-Writes an EDF+D file as EDF+C, which every viewer opens: one file of the whole night,
-to standard output. Each data record stands where its start belongs, to half a second;
+Writes an EDF+D file as EDF+C, which viewers open: one file of the whole night, to
+standard output. Each data record stands where its start belongs, to half a second;
 where nobody recorded all samples are flat, and an annotation 'Not recorded' says how
 long. The file is another recording, a copy for viewing: its recording field ends with
 'filled', and a store keeps it apart from the recording itself.
@@ -77,7 +77,7 @@ fn option<'a>(alloc: Global, name: &'a str, value: &'a str, help: &'a str) -> Ar
 /// The word and its values, as `clap` gets them.
 pub(crate) fn fill_words<'a>(alloc: Global) -> Result<Command<'a>, AllocError> {
     Command::new(alloc, "fill")
-        .about("Writes an EDF+D file as EDF+C, for every viewer")
+        .about("Writes an EDF+D file as EDF+C, for viewers")
         .long_about(FILL_MORE)
         .after_help(FILL_EXAMPLE)
         .arg(option(

@@ -5,7 +5,6 @@
 //!   written. [`parse`]: the words, read, and nothing else.
 //! - [`run_runs`]: one command, over what opens files (`edf_cli`'s `Inputs`) and what makes
 //!   them (`edf_cli`' `NewFiles`).
-//! - [`runs_text`]: the lines of runs that were listed.
 #![tactic(auto)]
 
 mod arguments;
@@ -27,5 +26,4 @@ mod signals;
 mod split_command;
 
 pub use arguments::{parse, read_command};
-pub use lines::runs_text;
 pub use runs_command::{RunsCommand, run_runs};

@@ -1,12 +1,12 @@
 //! The lines of runs.
 
 ghost use Rattle.std.specs.Prelude.{◌≡◌, ◌≤◌, ℕ, List, IfOk, option_map, slice_get};
-ghost use Rattle.edf_field.specs.Number.{duration_of};
-ghost use Rattle.edfruns_command.specs.Lines.{IsInstantFormat, each_line, end_of, gap_text};
+ghost use Rattle.edfruns_command.specs.Lines.{IsInstantFormat, end_of, gap_text, line_end};
 ghost use Rattle.edfruns_command.specs.Lines.{run_front, run_lines};
 
 use edf_cli::{concat, spelled};
 use edf_field::MOST_DURATION;
+use edf_header::Identity;
 use edf_runs::{Listing, Run};
 use edf_time::write_seconds;
 use std::alloc::{AllocError, Global};
@@ -52,6 +52,20 @@ pub(crate) fn line_front(
     concat(alloc, &parts)
 }
 
+/// How the line of a run ends: whose the file is, by its codes.
+pub(crate) fn line_end(alloc: Global, identity: &Identity) -> Result<Vec<u8>, AllocError>
+    ensures { IfOk result (λ r. r.items ≡ line_end identity.now) }
+{
+    let parts = [
+        b" patient=".as_slice(),
+        identity.patient_code(),
+        b" investigation=",
+        identity.investigation_code(),
+        b"\n",
+    ];
+    concat(alloc, &parts)
+}
+
 /// The run at a place, from 0, if there is one.
 pub(crate) fn run_at(runs: &[Run], at: usize) -> Option<&Run>
     ensures { option_map (λ run. run.now) result ≡ slice_get runs.now at }
@@ -66,25 +80,17 @@ pub(crate) fn list_text(
     listing: &Listing,
 ) -> Result<Vec<u8>, AllocError>
     ensures { IfOk result (λ r. (spell : ℕ → List ℕ) → IsInstantFormat spell →
-        r.items ≡ run_lines spell (duration_of listing.now.identity.duration) label.now 1
-        listing.now.runs.items) }
+        r.items ≡ run_lines spell listing.now.identity label.now 1 listing.now.runs.items) }
 {
     let duration = listing.identity.duration();
+    let end = line_end(alloc, &listing.identity)?;
     let runs = listing.runs.as_slice();
     let mut text = Vec::new(alloc);
     for at in 0..runs.len() {
         let front = line_front(alloc, duration, at + 1, &runs[at], run_at(runs, at + 1))?;
         text.extend_from_slice(label)?;
         text.extend_from_slice(front.as_slice())?;
-        text.push(b'\n')?;
+        text.extend_from_slice(end.as_slice())?;
     }
     Ok(text)
-}
-
-/// A line for each of a file's runs, in time order.
-pub fn runs_text(alloc: Global, listing: &Listing) -> Result<Vec<u8>, AllocError>
-    ensures { IfOk result (λ r. (spell : ℕ → List ℕ) → IsInstantFormat spell → r.items
-        ≡ each_line spell (duration_of listing.now.identity.duration) listing.now.runs.items) }
-{
-    list_text(alloc, &[], listing)
 }

@@ -2,7 +2,6 @@
 
 ghost use Rattle.std.specs.Prelude.{◌≡◌, ◌⊎◌, ◌++◌, ◌∷◌, [], ℕ, List, Ok, IfOk, MatchResult};
 ghost use Rattle.std.specs.Prelude.{map, replicate, string_bytes};
-ghost use Rattle.edf_field.specs.Number.{duration_of};
 ghost use Rattle.edf_cli.specs.Output.{output_change, Gets, GetsPrefix, IsWritten};
 ghost use Rattle.edfruns_command.specs.Inside.{OpensUpTo};
 ghost use Rattle.edfruns_command.specs.Lines.{IsInstantFormat, run_lines, standard_output};
@@ -25,15 +24,16 @@ use std::alloc::{AllocError, Global};
 /// What the line of a run says.
 const LIST_MORE: &str = "\
 Lists the runs of a file in time order, a line each: its number, how many data
-records it has, the start of the first, how many seconds it lasts, and, where
-another run follows, how many seconds are missing before that. Where there are
-several files, each line begins with its file's name.";
+records it has, the start of the first, how many seconds it lasts, where another
+run follows how many seconds are missing before that, and the codes of the patient
+and the investigation. Where there are several files, each line begins with its
+file's name.";
 
 const LIST_EXAMPLES: &str = "\
 Examples:
   edfruns list night.edf
-  1 records=3 first=2002-03-02T23:59:50 seconds=3 gap=7.5
-  2 records=2 first=2002-03-03T00:00:00.5 seconds=2
+  1 records=3 first=2002-03-02T23:59:50 seconds=3 gap=7.5 patient=P7 investigation=N1
+  2 records=2 first=2002-03-03T00:00:00.5 seconds=2 patient=P7 investigation=N1
   edfruns list *.edf";
 
 /// What usage calls the command.
@@ -127,9 +127,8 @@ fn text_of(
     several: bool,
     listing: &Listing,
 ) -> Result<Vec<u8>, AllocError>
-    ensures { let d = duration_of listing.now.identity.duration in IfOk result (λ r.
-        (spell : ℕ → List ℕ) → IsInstantFormat spell →
-        r.items ≡ run_lines spell d (file_label several file.now) 1 listing.now.runs.items) }
+    ensures { IfOk result (λ r. (spell : ℕ → List ℕ) → IsInstantFormat spell → r.items ≡ run_lines
+        spell listing.now.identity (file_label several file.now) 1 listing.now.runs.items) }
 {
     let label = file_label(alloc, file, several)?;
     list_text(alloc, label.as_slice(), listing)

@@ -13,7 +13,7 @@ ghost use Rattle.edfruns_command.specs.InsideSplit.{IsAtEnd, LacksFile, MakesEac
 ghost use Rattle.edfruns_command.specs.InsideSplit.{MakesRuns, StopsMaking};
 ghost use Rattle.edfruns_command.specs.Splitting.{HasFirst};
 
-use crate::lines::{line_front, run_at};
+use crate::lines::{line_end, line_front, run_at};
 use crate::refusal::STANDARD_OUTPUT;
 use edf_cli::{Inputs, NewFiles, concat};
 use edf_fragment::{FragmentFault, Input, OpenFragment, Output, Remark, send};
@@ -53,16 +53,13 @@ fn line_of(
     let front = line_front(alloc, identity.duration(), at + 1, &runs[at], next)?;
     let (annotations, outside) = (written.annotations, written.outside);
     let counts = format!(in alloc; " annotations={annotations} outside={outside}")?;
+    let end = line_end(alloc, identity)?;
     let parts = [
         name.as_bytes(),
         b" ",
         front.as_slice(),
         counts.as_bytes(),
-        b" patient=",
-        identity.patient_code(),
-        b" investigation=",
-        identity.investigation_code(),
-        b"\n",
+        end.as_slice(),
     ];
     concat(alloc, &parts)
 }

@@ -1,39 +1,22 @@
-use Rattle.std.proofs.Common.{◌≡◌, ℕ, List, Some, true, ap, refl, subst, rules}
-use Rattle.edf_cli.specs.Making.{Making}
-use Rattle.edf_cli.specs.Output.{OutputChange}
+use Rattle.std.proofs.Common.{List, ℕ, subst, sym}
+use Rattle.std.proofs.lemmas.Result.{IfOk-weaker}
 use Rattle.edfruns_command.specs.Run.{Asked, IsDone}
 use Rattle.edfruns_command.specs.Run.Asked.{compare}
-use Rattle.edf_page.specs.InsideFolder.{first_name, second_name, there_in, two_files, unforgotten}
+use Rattle.edf_page.specs.InsideFolder.{first_name, second_name, two_files}
+use Rattle.edf_page.specs.Programs.{CompareDone}
+use Rattle.edf_page.proofs.Outcome.{folder_change, from-empty, text_change}
 use Rattle.edf_page.proofs.programs.run_compare.Goals as goal
 
 pub returns : goal.returns
 returns c =
-    let folder = c.in_ok-none.none in
-    let after = c.run_runs-status.new.outputs in
+    let now = c.run_runs-status.new in
     let inputs = c.new-inputs.result in
     let status = c.run_runs-status.result in
-    let made : Making = record {
-      known = true;
-      there = there_in folder.given.name.now folder.given.bytes.now folder.names.all.items
-          folder.files;
-      before = unforgotten folder.is_forgotten folder.files;
-      failed_before = folder.failed;
-      after = unforgotten after.is_forgotten after.files;
-      failed_after = after.failed;
-    } in
-    let out : OutputChange = record {
-      before = Some c.new-out.result.bytes.items;
-      failed_before = c.new-out.result.failures;
-      after = Some c.run_runs-status.new.out.bytes.items;
-      failed_after = c.run_runs-status.new.out.failures;
-    } in
-    let err : OutputChange = record {
-      before = Some c.new-err.result.bytes.items;
-      failed_before = c.new-err.result.failures;
-      after = Some c.run_runs-status.new.err.bytes.items;
-      failed_after = c.run_runs-status.new.err.failures;
-    } in
-    record {
+    let made = folder_change c.in_ok-none.none now.outputs in
+    let out = text_change c.new-out.result now.out in
+    let err = text_change c.new-err.result now.err in
+    IfOk-weaker c.ran_of.result _ _ (λ ran is.
+    subst (CompareDone c.args.first.now c.args.second.now) (sym is.0) (record {
       made = made;
       out = out;
       err = err;
@@ -43,16 +26,8 @@ returns c =
           (compare first_name second_name) status) c.new-inputs.ensures.second
           (subst (λ (asked : Asked). IsDone (two_files inputs.first.now inputs.second.now) made out
           err asked status) c.in_ok-command.ensures c.run_runs-status.ensures.done));
-      unfailed = (search rules, search rules);
-      written = record {
-        empty = ap Some c.new-out.ensures.empty;
-        unfailed = c.new-out.ensures.counted;
-        is = refl;
-      };
-      told = record {
-        empty = ap Some c.new-err.ensures.empty;
-        unfailed = c.new-err.ensures.counted;
-        is = refl;
-      };
-      none = search rules;
-    }
+      unfailed = (is.2, is.3);
+      written = from-empty c.new-out.result now.out c.new-out.ensures.empty c.new-out.ensures.counted;
+      told = from-empty c.new-err.result now.err c.new-err.ensures.empty c.new-err.ensures.counted;
+      none = c.new-2.ensures.items;
+    })) c.ran_of.ensures

@@ -1,67 +1,32 @@
-use Rattle.std.proofs.Common.{◌≡◌, ℕ, List, Some, true, ap, refl, subst, rules}
-use Rattle.edf_cli.specs.Making.{Making}
-use Rattle.edf_cli.specs.Output.{OutputChange}
+use Rattle.std.proofs.Common.{List, ℕ, Some, subst, sym}
+use Rattle.std.proofs.lemmas.Result.{IfOk-weaker}
 use Rattle.edfruns_command.specs.Run.{IsDone, meaning}
-use Rattle.edf_page.specs.InsideFolder.{there_in, unforgotten}
-use Rattle.edf_page.specs.declared.given.GivenFile.{GivenFile}
-use Rattle.edf_page.proofs.There.{fresh-there, unforgotten-none}
+use Rattle.edf_page.specs.Programs.{RunsDone}
+use Rattle.edf_page.proofs.Outcome.{folder_change, from-empty, made-in-memory, text_change}
 use Rattle.edf_page.proofs.programs.run_edfruns.Goals as goal
 
 pub returns : goal.returns
 returns c =
     let file = c.args.file.now in
+    let asked = meaning c.args.command.now in
     let folder = c.in_ok-folder.folder in
-    let given = c.in_ok-folder.ensures.given in
-    let made : Making = record {
-      known = true;
-      there = there_in folder.given.name.now folder.given.bytes.now folder.names.all.items
-          folder.files;
-      before = unforgotten folder.is_forgotten folder.files;
-      failed_before = folder.failed;
-      after = unforgotten c.run_runs-status.new.outputs.is_forgotten
-          c.run_runs-status.new.outputs.files;
-      failed_after = c.run_runs-status.new.outputs.failed;
-    } in
-    let out : OutputChange = record {
-      before = Some c.new-out.result.bytes.items;
-      failed_before = c.new-out.result.failures;
-      after = Some c.run_runs-status.new.out.bytes.items;
-      failed_after = c.run_runs-status.new.out.failures;
-    } in
-    let err : OutputChange = record {
-      before = Some c.new-err.result.bytes.items;
-      failed_before = c.new-err.result.failures;
-      after = Some c.run_runs-status.new.err.bytes.items;
-      failed_after = c.run_runs-status.new.err.failures;
-    } in
-    record {
+    let now = c.run_runs-status.new in
+    let made = folder_change folder now.outputs in
+    let out = text_change c.new-out.result now.out in
+    let err = text_change c.new-err.result now.err in
+    IfOk-weaker c.ran_of.result _ _ (λ ran is.
+    subst (RunsDone file.name.now file.bytes.now asked) (sym is.0) (record {
       made = made;
       out = out;
       err = err;
-      done = subst (λ (b : List ℕ). IsDone (λ _. Some b) made out err
-          (meaning c.args.command.now) c.run_runs-status.result) c.new-input.ensures.bytes
-          c.run_runs-status.ensures.done;
+      done = subst (λ (b : List ℕ). IsDone (λ _. Some b) made out err asked
+          c.run_runs-status.result) c.new-input.ensures.bytes c.run_runs-status.ensures.done;
       made_by = c.run_runs-status.ensures.made;
-      files = record {
-        known = refl;
-        there = fresh-there file.name.now file.bytes.now folder.given.name.now
-            folder.given.bytes.now folder.names.all.items folder.files
-            (ap (λ (g : GivenFile). g.name.now) given) (ap (λ (g : GivenFile). g.bytes.now) given)
-            c.in_ok-folder.ensures.none c.in_ok-folder.ensures.named;
-        none = unforgotten-none folder.is_forgotten folder.files c.in_ok-folder.ensures.none;
-        unfailed = c.in_ok-folder.ensures.unfailed;
-        given_back = c.in_ok-files.ensures.given_back;
-        gone = c.in_ok-files.ensures.gone;
-      };
-      unfailed = (search rules, search rules, search rules);
-      written = record {
-        empty = ap Some c.new-out.ensures.empty;
-        unfailed = c.new-out.ensures.counted;
-        is = refl;
-      };
-      told = record {
-        empty = ap Some c.new-err.ensures.empty;
-        unfailed = c.new-err.ensures.counted;
-        is = refl;
-      };
-    }
+      files = made-in-memory file folder now.outputs c.in_ok-files.files.items
+          c.in_ok-folder.ensures.given c.in_ok-folder.ensures.named c.in_ok-folder.ensures.none
+          c.in_ok-folder.ensures.unfailed c.in_ok-files.ensures.given_back
+          c.in_ok-files.ensures.gone;
+      unfailed = (is.1, is.2, is.3);
+      written = from-empty c.new-out.result now.out c.new-out.ensures.empty c.new-out.ensures.counted;
+      told = from-empty c.new-err.result now.err c.new-err.ensures.empty c.new-err.ensures.counted;
+    })) c.ran_of.ensures
