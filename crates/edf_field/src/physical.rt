@@ -81,8 +81,8 @@ pub fn physical_values_differ(minimum: &[u8], maximum: &[u8]) -> bool
     }
 }
 
-/// Returns how far above the first of digital values the one is that stands for the value nearest to
-/// 0, where the first stands for `low`, and the last, `steps` above it, for `high`.
+/// Returns how far above the first of digital values the one is that stands for the value nearest
+/// to 0, where the first stands for `low`, and the last, `steps` above it, for `high`.
 fn nearest(low: Physical, high: Physical, steps: u32) -> u32
     requires { signed low.negative (low.unscaled * 10 ^ high.fraction_len)
         ≢ signed high.negative (high.unscaled * 10 ^ low.fraction_len) }

@@ -17,7 +17,8 @@ use Rattle.edf_fragment.proofs.Layouts.{length-joined}
 
 -- the blocks before these are cut off: the ordinary bytes before them are the samples so far, and
 -- `copied` bytes of the blocks are joined
-pub record IsCutTo (all rest : List Block) (whole samples blocks : List ℕ) (copied : ℕ) : Type 0 where
+pub record IsCutTo (all rest : List Block) (whole samples blocks : List ℕ)
+    (copied : ℕ) : Type 0 where
   pub blocks_len : length blocks ≡ length (joined (pieces all whole))
   pub apart : AreApart (length samples + copied) rest (length whole)
   pub copied_within : copied ≤ length blocks

@@ -69,8 +69,8 @@ fn column(bytes: &[u8], n: usize, i: usize, at: usize, width: usize) -> &[u8]
     &bytes[from..from + width]
 }
 
-/// Returns one of `n` signals in a row of 256 bytes, its fields read from their columns (EDF, header
-/// record).
+/// Returns one of `n` signals in a row of 256 bytes, its fields read from their columns (EDF,
+/// header record).
 pub fn signal_row(bytes: &[u8], n: usize, i: usize) -> [u8; 256]
     requires size { length bytes.now ≡ 256 * n }
     requires few { n ≤ MOST_SIGNALS }

@@ -37,8 +37,8 @@ twice = refl
 -- an overlap, other samples at the same start, a touch after and one before
 conflicts : replies 9 nothing_held (told 1 7 (100 ∷ []) ∷ told 1 7 (90 ∷ 105 ∷ []) ∷ told 1 8
     (100 ∷ []) ∷ told 1 7 (110 ∷ []) ∷ told 1 7 (90 ∷ []) ∷ [])
-    ≡ Accepted (key 1) 1 0 ∷ Conflicts (Overlap 105 100) ∷ Conflicts (Differs 100) ∷ Accepted (key 1)
-    1 0 ∷ Accepted (key 1) 1 0 ∷ []
+    ≡ Accepted (key 1) 1 0 ∷ Conflicts (Overlap 105 100) ∷ Conflicts (Differs 100)
+    ∷ Accepted (key 1) 1 0 ∷ Accepted (key 1) 1 0 ∷ []
 unfolding reply after_one same_key same_record clashes
 conflicts = refl
 

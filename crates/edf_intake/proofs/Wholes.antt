@@ -155,7 +155,8 @@ module _ {S : Type 0} (g : Ghosts S) (first made last : StoreTx S) (from mid to 
       reply_of (Err answer) ≡ Some (reply first.store.now.cap h (Fragment l.key taken.records)))
       → StopsWith g first last from to (Input answer)
   is_refused answer conflict told =
-      by (cause answer) conflict (λ clean h seen. told h (space (was_made clean) h (there.same h seen))
+      by (cause answer) conflict (λ clean h seen.
+      told h (space (was_made clean) h (there.same h seen))
       (taken.findings_are clean h (there.same h seen)).0)
     where
       by : (c : Cause) → IsOfConflict c →

@@ -105,8 +105,8 @@ fn on_blocks(fault: &TalFault) -> Row {
     match fault {
         TalFault::Tal { .. } => Instead(
             ": edfmend mends times finer than a nanosecond, and what fills a block",
-            "annotations of this data record are no lists: have its producer write them as EDF+ has \
-            them",
+            "annotations of this data record are no lists: have its producer write them as EDF+ \
+            has them",
         ),
         TalFault::Text { .. } => Instead(
             ": edfmend makes it that",

@@ -169,7 +169,8 @@ impl<W: Output> Escaping<W> {
         }
     }
 
-    /// Writes a name, of which no line feed ends a line on a terminal. Is true where it was written.
+    /// Writes a name, of which no line feed ends a line on a terminal. Is true where it was
+    /// written.
     pub(crate) fn put_name(&mut self, name: &str) -> bool {
         if self.is_terminal {
             self.put_text(name.as_bytes(), false)

@@ -18,8 +18,8 @@
 //!   [`refuse_words`] are for another.
 //! - [`Files`] opens files and standard input for a [`FileReader`]; [`PartFiles`] makes a
 //!   [`NewFile`], and writes over none.
-//! - [`Streams`] are standard output and standard error, [`Escaping`] ones, as [`standard_output`] and
-//!   [`standard_error`] are; [`refuse_terminal`] is for a command that writes a file.
+//! - [`Streams`] are standard output and standard error, [`Escaping`] ones, as [`standard_output`]
+//!   and [`standard_error`] are; [`refuse_terminal`] is for a command that writes a file.
 //! - [`Terminal`] shows a person progress and messages, and [`Clearing`] is a stream beside it.
 //!   [`print_system_error`] and [`FULL`] are causes.
 #![tactic(auto)]

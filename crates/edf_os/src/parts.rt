@@ -203,8 +203,8 @@ impl<'rt> Parts<'rt> {
     ///
     /// # Errors
     /// `AlreadyExists` where there is something of that name, which is as it was; another where it
-    /// could not be synced or named, or not all was written. What remains of it is its part, and its
-    /// name where that is left.
+    /// could not be synced or named, or not all was written. What remains of it is its part, and
+    /// its name where that is left.
     pub(crate) fn finish(&self, file: NewFile<'rt>) -> Result<(), Unnamed>
         ensures { IfOk result (λ _. file.entry.failures ≡ 0) }
     {

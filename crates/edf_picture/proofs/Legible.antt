@@ -51,7 +51,8 @@ readable-glyphs [] = All-nil IsReadable
 readable-glyphs (x ∷ xs) = All-append IsReadable (glyph x) (flat_map glyph xs) (readable-glyph x)
     (readable-glyphs xs)
 
-pub readable-all : (limit : ℕ) (characters : List ℕ) → All IsReadable (readable_text limit characters)
+pub readable-all : (limit : ℕ) (characters : List ℕ) →
+    All IsReadable (readable_text limit characters)
 readable-all limit characters = All-append IsReadable (flat_map glyph (take limit characters))
     (cut_mark limit characters) (readable-glyphs (take limit characters))
     (plain-readable (cut_mark limit characters) (plain-mark limit characters))

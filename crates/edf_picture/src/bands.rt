@@ -89,8 +89,8 @@ impl Band {
     }
 }
 
-/// Which samples of so many in a data record are during a column: from the first of these numbers to
-/// before the second. `time` is the length of the axis, how long after its start the data record
+/// Which samples of so many in a data record are during a column: from the first of these numbers
+/// to before the second. `time` is the length of the axis, how long after its start the data record
 /// is, and how long it lasts.
 fn samples_during(time: (u64, u64, u64), count: u32, column: u64) -> (u32, u32)
     requires duration { 0 < time.2 }

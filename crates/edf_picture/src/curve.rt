@@ -13,9 +13,9 @@ const BELOW: u64 = 6;
 
 /// Which heights levels have: from that at the top to that at the foot.
 ///
-/// Where the lower digital limit is farther below all others than these are apart, as that of a lost
-/// probe is, the axis is of the others, and the limit is below it. Where the physical limits are
-/// turned round, so is the axis, and nothing is below it.
+/// Where the lower digital limit is farther below all others than these are apart, as that of a
+/// lost probe is, the axis is of the others, and the limit is below it. Where the physical limits
+/// are turned round, so is the axis, and nothing is below it.
 #[derive(Clone, Copy)]
 struct Scale {
     top: u16,
@@ -67,7 +67,8 @@ impl Scale {
     }
 }
 
-/// Draws the first sixteen, says how many are not drawn, and whether one has a value below its axis.
+/// Draws the first sixteen, says how many are not drawn, and whether one has a value below its
+/// axis.
 pub(crate) fn draw_signals(
     sheet: &mut Sheet,
     night: &Night<'_>,
@@ -184,8 +185,8 @@ impl Physical {
         self.minimum.saturating_add(more)
     }
 
-    /// The physical value of a level, rounded to a hundredth of how far another is from it, or of how
-    /// far the limits are apart where it is the same; to units at the most, or to millionths.
+    /// The physical value of a level, rounded to a hundredth of how far another is from it, or of
+    /// how far the limits are apart where it is the same; to units at the most, or to millionths.
     fn text(self, alloc: Global, level: u16, other: u16) -> Result<String, AllocError> {
         let value = self.value(level);
         let apart = value.saturating_sub(self.value(other));

@@ -25,7 +25,8 @@ text{font-family:Arial,'Liberation Sans',Helvetica,Roboto,sans-serif;font-size:1
 .b{font-size:14px;font-weight:bold}.m{text-anchor:middle}.e{text-anchor:end}\
 .w{fill:#fff}.r{fill:#0072B2}.g,.p{fill:url(#edf-gap)}.v{fill:#000;fill-opacity:.1}\
 .h{fill:#fff}.k{fill:#A84300}.l{fill:#000;fill-opacity:.2}\
-.s,.q,.x,.a{stroke-width:1px;vector-effect:non-scaling-stroke}.a{stroke-width:1.7px;stroke-linecap:square}\
+.s,.q,.x,.a{stroke-width:1px;vector-effect:non-scaling-stroke}\
+.a{stroke-width:1.7px;stroke-linecap:square}\
 .s{fill:#000;stroke:#000}.q{fill:#00795B;stroke:#00795B}\
 .x{fill:#8A3C00;stroke:#8A3C00}.a{fill:none;stroke:#0072B2}\
 @media(max-width:640px){text{font-size:11px}.b{font-size:12px}.n{display:none}}\

@@ -33,8 +33,8 @@ fn count_texts<'a>(
     Ok(counts)
 }
 
-/// The lanes of the most frequent texts, of two as frequent the first by its bytes, and of the rest.
-/// A text is shown to 36 characters, or to 28 where over nine are wide.
+/// The lanes of the most frequent texts, of two as frequent the first by its bytes, and of the
+/// rest. A text is shown to 36 characters, or to 28 where over nine are wide.
 fn list_lanes<'a>(alloc: Global, notes: &[&'a Note]) -> Result<Vec<Lane<'a>>, AllocError> {
     let counts = count_texts(alloc, notes)?;
     let mut texts = Vec::new(alloc);

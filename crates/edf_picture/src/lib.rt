@@ -5,7 +5,8 @@
 //! - [`Bands`] gathers samples; [`Extent`] is a time; [`Note`] is an annotation.
 //!
 //! The axis has a thousand columns. A picture has the codes of its title and the instants of its
-//! runs by proof; gaps, which samples a column has, and their range are proved where they are found.
+//! runs by proof; gaps, which samples a column has, and their range are proved where they are
+//! found.
 #![tactic(auto)]
 
 mod axis;

@@ -2,7 +2,8 @@ use crate::extent::{COLUMNS, Extent, Night};
 use crate::sheet::{Drawn, Sheet};
 use std::alloc::{AllocError, Global};
 
-/// The names of stages: those that stand alone too, and then those that follow `Sleep stage ` alone.
+/// The names of stages: those that stand alone too, and then those that follow `Sleep stage `
+/// alone.
 const NAMES: [&str; 12] = [
     "W", "R", "N1", "N2", "N3", "1", "2", "3", "4", "N", "M", "?",
 ];
@@ -42,8 +43,8 @@ fn run_after(runs: &[Extent], at: u64) -> Option<Extent> {
     runs.get(runs.partition_point(|run| run.to <= at)).copied()
 }
 
-/// The end of a stage without a duration: the next one's onset, where no gap is before it; else half
-/// a minute later at most.
+/// The end of a stage without a duration: the next one's onset, where no gap is before it; else
+/// half a minute later at most.
 fn bare_end(runs: &[Extent], onset: u64, next: u64) -> u64 {
     match run_after(runs, onset) {
         Some(run) if run.has(onset) && next <= run.to => next,

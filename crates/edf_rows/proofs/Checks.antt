@@ -63,7 +63,8 @@ told cap trees row id k None first second key bad = λ c.
     bad_records id k (record { row = subst (Contains (recordings_in trees)) cells c; key = key })
     bad
 told cap trees row id k (Some count) first second key has = λ c.
-    let cells : row ≡ recording_cells id k = is_two trees row c ∙ (λ i. first i ∷ second i ∷ []) in (
+    let cells : row ≡ recording_cells id k =
+    is_two trees row c ∙ (λ i. first i ∷ second i ∷ []) in (
       record {
         id = id;
         key = k;

@@ -1,6 +1,8 @@
 -- The lines of bytes, and what is read of them.
-use Rattle.std.proofs.Common.{◌≡◌, ◌≢◌, ◌++◌, ◌≤◌, ◌<◌, ◌+◌, ◌-◌, ◌==◌, All, IfSome, List, [], ◌∷◌, ℕ}
-use Rattle.std.proofs.Common.{Bool, true, false, cond, length, take, drop, Option, Some, None, slice_range, position}
+use Rattle.std.proofs.Common.{◌≡◌, ◌≢◌, ◌++◌, ◌≤◌, ◌<◌, ◌+◌, ◌-◌, ◌==◌, All, IfSome, List, [], ◌∷◌}
+use Rattle.std.proofs.Common.{ℕ}
+use Rattle.std.proofs.Common.{Bool, true, false, cond, length, take, drop, Option, Some, None}
+use Rattle.std.proofs.Common.{slice_range, position}
 use Rattle.std.proofs.Common.{refl, sym, ap, ◌∙◌, arith, subst, length-take-le, option_map}
 use Rattle.std.specs.List.{slice_split, onto_first}
 use Rattle.std.specs.Io.KnownBytes.{Consumes, IsAtEnd}
@@ -37,7 +39,8 @@ pub record Parts (xs : List ℕ) : Type 0 where
   pub more : List (List ℕ)
   pub are : slice_split is_feed xs ≡ next ∷ more
 
-parts-onto : (x : ℕ) (ps qs : List (List ℕ)) (b : Bool) (next : List ℕ) (more : List (List ℕ)) → qs ≡ next ∷ more →
+parts-onto : (x : ℕ) (ps qs : List (List ℕ)) (b : Bool) (next : List ℕ) (more : List (List ℕ)) →
+    qs ≡ next ∷ more →
     (n : List ℕ) × (m : List (List ℕ)) × (cond b ([] ∷ qs) (onto_first x qs) ≡ n ∷ m)
 parts-onto x ps qs true next more e = ([], qs, refl)
 parts-onto x ps qs false next more e = (x ∷ next, more, ap (onto_first x) e)
@@ -50,10 +53,12 @@ parts (x ∷ xs) =
     record { next = q.0; more = q.1; are = q.2 }
 
 -- a line, and its line feed
-pub line-feed : (line rest : List ℕ) → Feedless line → lines_of (line ++ 10 ∷ rest) ≡ line ∷ lines_of rest
+pub line-feed : (line rest : List ℕ) → Feedless line →
+    lines_of (line ++ 10 ∷ rest) ≡ line ∷ lines_of rest
 line-feed line rest h =
     let p = parts rest in
-    ap without_empty_last (slice_split_at is_feed line 10 rest h refl ∙ ap (λ (l : List (List ℕ)). line ∷ l) p.are)
+    ap without_empty_last (slice_split_at is_feed line 10 rest h refl
+    ∙ ap (λ (l : List (List ℕ)). line ∷ l) p.are)
     ∙ ap (λ (l : List (List ℕ)). line ∷ without_empty_last l) (sym p.are)
 
 last-alone : (line : List ℕ) → 0 < length line → without_empty_last (line ∷ []) ≡ line ∷ []
@@ -62,7 +67,8 @@ last-alone (x ∷ xs) some = refl
 
 -- the last line, behind which no line feed is
 pub line-last : (line : List ℕ) → Feedless line → 0 < length line → lines_of line ≡ line ∷ []
-line-last line h some = ap without_empty_last (slice_split_none is_feed line h) ∙ last-alone line some
+line-last line h some =
+    ap without_empty_last (slice_split_none is_feed line h) ∙ last-alone line some
 
 grown-first : (x : ℕ) (next : List ℕ) (more : List (List ℕ)) →
     without_empty_last ((x ∷ next) ∷ more) ≡ (x ∷ next) ∷ drop 1 (without_empty_last (next ∷ more))
@@ -87,7 +93,8 @@ one-more x tail clear =
           ∙ ap (λ (l : List (List ℕ)). (x ∷ p.next) ∷ drop 1 (without_empty_last l)) (sym p.are),
     )
 
-one-more-of : (x : ℕ) (tail a : List ℕ) (b : List (List ℕ)) → is_feed x ≡ false → lines_of tail ≡ a ∷ b →
+one-more-of : (x : ℕ) (tail a : List ℕ) (b : List (List ℕ)) → is_feed x ≡ false →
+    lines_of tail ≡ a ∷ b →
     lines_of (x ∷ tail) ≡ (x ∷ a) ∷ b
 one-more-of x tail a b clear e =
     let p = parts tail in
@@ -100,7 +107,8 @@ pub line-front : (front tail : List ℕ) → Feedless front → 0 < length front
 line-front [] tail h some = absurd (omega arith)
 line-front (x ∷ []) tail h some = one-more x tail (All-head (λ b. (b == 10) ≡ false) x [] h)
 line-front (x ∷ y ∷ ys) tail h some =
-    let rest = line-front (y ∷ ys) tail (All-tail (λ b. (b == 10) ≡ false) x (y ∷ ys) h) (omega arith) in (
+    let rest =
+    line-front (y ∷ ys) tail (All-tail (λ b. (b == 10) ≡ false) x (y ∷ ys) h) (omega arith) in (
       rest.0,
       one-more-of x ((y ∷ ys) ++ tail) ((y ∷ ys) ++ rest.0) (drop 1 (lines_of tail))
           (All-head (λ b. (b == 10) ≡ false) x (y ∷ ys) h) rest.1,
@@ -121,9 +129,14 @@ feed-at xs at e =
     subst (λ (n : ℕ). xs ≡ take n xs ++ get_or xs n 0 ∷ drop (n + 1) xs) here split in
     record {
       within = found.0;
-      before = λ k d m. let low : k < at = omega (arith, m, length-take-le at xs (omega (arith, found.0))) in
-          let clear = fails_before_first is_feed xs k d (omega (arith, here, low)) in grind (arith, common_steps);
-      are = split2 ∙ ap (λ (b : ℕ). take at xs ++ b ∷ drop (at + 1) xs) (eqb-true (get_or xs at 0) 10 found.1);
+      before = λ k d m.
+          let low : k < at =
+          omega (arith, m, length-take-le at xs (omega (arith, found.0))) in
+          let clear = fails_before_first is_feed xs k d (omega (arith, here, low)) in
+          grind (arith, common_steps);
+      are = split2
+          ∙ ap (λ (b : ℕ). take at xs ++ b ∷ drop (at + 1) xs)
+          (eqb-true (get_or xs at 0) 10 found.1);
     }
 
 pub no-feed : (xs : List ℕ) → position is_feed xs ≡ None → Feedless xs
@@ -147,11 +160,15 @@ take-put a k n xs ys within fits =
     (ap (take n) (drop_at (take a xs) (ys ++ after) a front) ∙ take-append-le n ys after fits)
 
 -- what was gathered before, and by a read
-pub read-more : (old mid new : Option (List ℕ)) (F G H x y : List ℕ) → Consumes old mid x → G ≡ F ++ x →
+pub read-more : (old mid new : Option (List ℕ)) (F G H x y : List ℕ) → Consumes old mid x →
+    G ≡ F ++ x →
     Consumes mid new y → H ≡ G ++ y →
     (more : List ℕ) × Consumes old new more × (H ≡ F ++ more)
-read-more old mid new F G H x y c e c2 e2 =
-    (x ++ y, Consumes-trans old mid new x y c c2, e2 ∙ ap (λ (l : List ℕ). l ++ y) e ∙ append_assoc F x y)
+read-more old mid new F G H x y c e c2 e2 = (
+  x ++ y,
+  Consumes-trans old mid new x y c c2,
+  e2 ∙ ap (λ (l : List ℕ). l ++ y) e ∙ append_assoc F x y,
+)
 
 -- the lines of what is left
 abbrev pub lines_left : Option (List ℕ) → Option (List (List ℕ))
@@ -166,12 +183,14 @@ pub gives-first : (l k : Option (List ℕ)) (line F T G : List ℕ) (old new : O
     ((more : List ℕ) × Consumes old new more × (G ≡ F ++ more)) →
     IfSome new (BeginsWith G line T) → IfSome (lines_left l) (IsFirstOf line (lines_left k))
 gives-first l k line F T G None new el ek g h =
-    subst (λ (x : Option (List ℕ)). IfSome (lines_left x) (IsFirstOf line (lines_left k))) (sym el) tt
+    subst (λ (x : Option (List ℕ)). IfSome (lines_left x) (IsFirstOf line (lines_left k)))
+    (sym el) tt
 gives-first l k line F T G (Some xs) None el ek g h = absurd g.1
 gives-first l k line F T G (Some xs) (Some ys) el ek g h =
     let same : F ++ xs ≡ G ++ ys = ap (λ (p : List ℕ). F ++ p) g.1 ∙ sym (append_assoc F g.0 ys)
     ∙ ap (λ (p : List ℕ). p ++ ys) (sym g.2) in
-    subst (λ (x : Option (List ℕ)). IfSome (lines_left x) (IsFirstOf line (lines_left k))) (sym el) (
+    subst (λ (x : Option (List ℕ)). IfSome (lines_left x) (IsFirstOf line (lines_left k)))
+    (sym el) (
       h.0,
       h.1,
       ap lines_of same ∙ h.2,
@@ -185,7 +204,8 @@ slice-of a e b low =
     ap (λ (n : ℕ). drop a (take n b)) same ∙ drop-take a (e - a) b
 
 -- a line with its line feed
-pub begins-fed : (B : List ℕ) (e at : ℕ) (new : Option (List ℕ)) → position is_feed (take e B) ≡ Some at →
+pub begins-fed : (B : List ℕ) (e at : ℕ) (new : Option (List ℕ)) →
+    position is_feed (take e B) ≡ Some at →
     e ≤ length B → e ≤ 65537 →
     IfSome new (BeginsWith (take e B) (take at B) (slice_range B (at + 1) e))
 begins-fed B e at None found within most = tt
@@ -247,18 +267,21 @@ pub none-lost : (l k : Option (List ℕ)) (F T G : List ℕ) (old new : Option (
     ((more : List ℕ) × Consumes old new more × (G ≡ F ++ more)) →
     IfSome (lines_left l) (λ lines. lines_left k ≡ Some lines)
 none-lost l k F T G None new el ek et g =
-    subst (λ (x : Option (List ℕ)). IfSome (lines_left x) (λ lines. lines_left k ≡ Some lines)) (sym el) tt
+    subst (λ (x : Option (List ℕ)). IfSome (lines_left x) (λ lines. lines_left k ≡ Some lines))
+    (sym el) tt
 none-lost l k F T G (Some xs) None el ek et g = absurd g.1
 none-lost l k F T G (Some xs) (Some ys) el ek et g =
     let same : T ++ ys ≡ F ++ xs = ap (λ (p : List ℕ). p ++ ys) (et ∙ g.2) ∙ append_assoc F g.0 ys
     ∙ ap (λ (p : List ℕ). F ++ p) (sym g.1) in
-    subst (λ (x : Option (List ℕ)). IfSome (lines_left x) (λ lines. lines_left k ≡ Some lines)) (sym el)
+    subst (λ (x : Option (List ℕ)). IfSome (lines_left x) (λ lines. lines_left k ≡ Some lines))
+    (sym el)
     (ap lines_left ek ∙ ap (λ (p : List ℕ). lines_left (Some p)) same)
 
 pub slice-front : (B : List ℕ) (e : ℕ) → slice_range B 0 e ≡ take e B
 slice-front B e = let same : e - 0 ≡ e = omega arith in ap (λ (n : ℕ). take n (drop 0 B)) same
 
-pub nothing-yet : (xs : List ℕ) (known : Option (List ℕ)) → option_map (λ more. slice_range xs 0 0 ++ more) known ≡ known
+pub nothing-yet : (xs : List ℕ) (known : Option (List ℕ)) →
+    option_map (λ more. slice_range xs 0 0 ++ more) known ≡ known
 nothing-yet xs None = refl
 nothing-yet xs (Some more) = refl
 

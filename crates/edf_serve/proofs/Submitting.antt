@@ -62,7 +62,8 @@ module _ {S : Type 0} (g : Ghosts S) (old mid new : StoreModel S) where
         submitted = subst (λ (l : List InputState).
             AreSubmittedAsList g old new l (tos (all ++ (s ∷ []))) (answers (all ++ (s ∷ []))))
             (sym (map-next (λ (s : Submission). s.from) all s))
-            (subst (λ (l : List InputState). AreSubmittedAsList g old new (froms all ++ (s.from ∷ [])) l
+            (subst (λ (l : List InputState).
+            AreSubmittedAsList g old new (froms all ++ (s.from ∷ [])) l
             (answers (all ++ (s ∷ [])))) (sym (map-next (λ (s : Submission). s.to) all s))
             (subst (λ (l : List Answer). AreSubmittedAsList g old new (froms all ++ (s.from ∷ []))
             (tos all ++ (s.to ∷ [])) l) (sym (map-next (λ (s : Submission). s.answer) all s)) it));

@@ -1,6 +1,8 @@
 -- The lines of a text that a line feed ends.
-use Rattle.std.proofs.Common.{◌≡◌, ◌⊎◌, ◌∙◌, ◌++◌, ◌==◌, ◌+◌, ◌-◌, ◌<◌, ◌≤◌, List, [], ◌∷◌, ℕ, Bool, true, false, cond}
-use Rattle.std.proofs.Common.{refl, sym, ap, subst, inl, inr, append_assoc, length, take, get_or, arith}
+use Rattle.std.proofs.Common.{◌≡◌, ◌⊎◌, ◌∙◌, ◌++◌, ◌==◌, ◌+◌, ◌-◌, ◌<◌, ◌≤◌, List, [], ◌∷◌, ℕ, Bool}
+use Rattle.std.proofs.Common.{true, false, cond}
+use Rattle.std.proofs.Common.{refl, sym, ap, subst, inl, inr, append_assoc, length, take, get_or}
+use Rattle.std.proofs.Common.{arith}
 use Rattle.std.proofs.lemmas.List.{append-nil, take_all, take_more}
 use borrow.Author.Tests.{eqb-true}
 use Rattle.edf_serve.specs.Lines.{onto_lines, whole_lines}

@@ -1,6 +1,6 @@
 -- What `take NAME` does: what it opens, what it submits, and what it writes.
-use Rattle.std.specs.Prelude.{◌≡◌, ◌⊎◌, ◌↔◌, ℕ, true, List, [], ◌∷◌, ◌++◌, codes, Option, Some, None}
-use Rattle.std.specs.Prelude.{Ok, Err}
+use Rattle.std.specs.Prelude.{◌≡◌, ◌⊎◌, ◌↔◌, ℕ, true, List, [], ◌∷◌, ◌++◌, codes, Option, Some}
+use Rattle.std.specs.Prelude.{None, Ok, Err}
 use Rattle.sqlite_trees.specs.declared.store.Store.{Ghosts}
 use Rattle.edf_intake.specs.Refusal.{Answer, IsMemoryOrStoreRefusal, refusal_number}
 use Rattle.edf_intake.specs.Submitted.{IsSubmitAnswer, IsOutsideTransactionAfterSubmit}

@@ -85,12 +85,14 @@ if_ok (Err e) P Q f p = tt
 
 module _ {S : Type 0} (g : Ghosts S) (old : StoreModel S) where
   -- a call that was not refused found the connection in no transaction
-  pub idle_done : {A : Type 0} (F : Type 0) (x : A) → IsRefusedIfBusy g old (Ok x) F → ¬ IsBusy g old
+  pub idle_done : {A : Type 0} (F : Type 0) (x : A) → IsRefusedIfBusy g old (Ok x) F →
+      ¬ IsBusy g old
   idle_done {A} F x it busy =
       let clash : ◌≡◌ {A = Result A StoreFault} (Ok x) (Err (Store None)) = it.busy busy in
       absurd (cc)
 
-  pub refuses_done : {A : Type 0} (F : Type 0) (x : A) → ¬ IsBusy g old → IsRefusedIfBusy g old (Ok x) F
+  pub refuses_done : {A : Type 0} (F : Type 0) (x : A) → ¬ IsBusy g old →
+      IsRefusedIfBusy g old (Ok x) F
   refuses_done F x idle = record { busy = λ busy. absurd (idle busy); why = tt }
 
   pub refuses_cause : {A : Type 0} (F : Type 0) (error : Error) (r : Result A StoreFault) →
@@ -112,7 +114,8 @@ module _ {S : Type 0} (g : Ghosts S) (old : StoreModel S) where
 
   -- a refusal that is handed on
   pub refuses_on : {A B : Type 0} (F : Type 0) (fault : StoreFault) (r : Result B StoreFault) →
-      IsRefusedIfBusy g {X = A} old (Err fault) ⊥ → IsErrAnd r (λ e. e ≡ fault) → IsRefusedIfBusy g old r F
+      IsRefusedIfBusy g {X = A} old (Err fault) ⊥ → IsErrAnd r (λ e. e ≡ fault) →
+      IsRefusedIfBusy g old r F
   refuses_on F fault (Ok x) it is = absurd is
   refuses_on {A} {B} F fault (Err e) it is = record {
     busy = λ busy.

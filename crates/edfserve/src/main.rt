@@ -1,6 +1,6 @@
 //! The program `edfserve`: keeps a store open, and answers commands line by line. What is read,
-//! written and answered, and what becomes of the store's files, is `edf_serve`'s; here the system is
-//! handed to it.
+//! written and answered, and what becomes of the store's files, is `edf_serve`'s; here the system
+//! is handed to it.
 #![tactic(auto)]
 
 mod input;

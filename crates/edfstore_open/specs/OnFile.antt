@@ -41,9 +41,9 @@ FindsNothing (convert file) err status = ⊥
 abbrev pub Opening : (D : Type 0) → Ghosts D → Type 0
 Opening D g = Result (Held (FileStore D g)) (Error × Option (Leftover D g))
 
--- What is opened for a request where this was seen at its path: nothing, just where the request only
--- reads and there is no store; else the files there, whatever they hold, or there is a reason why
--- they are not.
+-- What is opened for a request where this was seen at its path: nothing, just where the request
+-- only reads and there is no store; else the files there, whatever they hold, or there is a reason
+-- why they are not.
 abbrev pub IsOpeningFor : {D : Type 0} {g : Ghosts D} → Image → Request → AtPath →
     Option (Opening D g) → Type 0
 IsOpeningFor start request at opening =

@@ -19,7 +19,8 @@ abbrev pub program_run : {D : Type 0} (g : Ghosts D) → Image → Command → O
 program_run g start c err Unread =
     run_of g MOST_RECORDS start c err (IsNoticed None None) Unread
 
--- where it names a path, it is run over the files there, which hold this, as was seen; else in memory
+-- where it names a path, it is run over the files there, which hold this, as was seen; else in
+-- memory
 abbrev pub IsProgramRun : {D : Type 0} (g : Ghosts D) → Image → AtPath → Command → OutputChange →
     (Unread : Type 0) → Ended D g → Type 0
 IsProgramRun {D} g start at c err Unread ended = MatchOption (store_path c.0)

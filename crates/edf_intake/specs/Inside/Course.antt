@@ -23,7 +23,8 @@ module _ {S : Type 0} (g : Ghosts S) where
   pub record MayBeNext (tx : StoreTx S) (key : Key) (r : DataRecord) (spare : ℕ)
       (course : Course) : Type 0 where
     pub sound : IsSoundRecord key r
-    -- if it may be added, the recording has fewer than the cap, and may start with it if it has none
+    -- if it may be added, the recording has fewer than the cap, and may start with it if it has
+    -- none
     pub below_cap : HasCleanDisk (at g tx.store.now) → MayAdd spare course → (h : Holdings) →
         Sees g tx.store.now h → length (h key) < tx.store.now.cap
     pub first : HasCleanDisk (at g tx.store.now) → MayAdd spare course → (h : Holdings) →

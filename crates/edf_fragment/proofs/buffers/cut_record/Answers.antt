@@ -1,6 +1,7 @@
 use Rattle.std.proofs.Common.{◌≡◌, ℕ, ◌+◌, ◌-◌, ◌≤◌, ◌<◌, List, [], ◌∷◌, ◌++◌, length, take, drop}
 use Rattle.std.proofs.Common.{arith, false, true, vec_len, vec_capacity, length-append}
-use Rattle.std.proofs.Common.{sym, ap, ◌∙◌, subst, slice_index_or, Result, Ok, Err, IsOk, is_ok, if◌then◌else◌}
+use Rattle.std.proofs.Common.{sym, ap, ◌∙◌, subst, slice_index_or, Result, Ok, Err, IsOk, is_ok}
+use Rattle.std.proofs.Common.{if◌then◌else◌}
 use Rattle.std.proofs.lemmas.List.{drop_all, drop_more}
 use Rattle.std.proofs.lemmas.Slice.{between_to_end}
 use borrow.Rule.Slice.PartMut.{same_len_mid}

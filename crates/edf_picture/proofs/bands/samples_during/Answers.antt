@@ -14,6 +14,7 @@ returns c =
     let to : c.min-2.result ≡ min (((length * count * (column + 1) - offset * count * 1000)
     + (duration * 1000 - 1)) / (duration * 1000)) count = cc in
     λ nth few. (
-      λ h. meets length offset duration count column _ _ c.requires.duration from to nth few h.0 h.1,
+      λ h. meets length offset duration count column _ _ c.requires.duration from to nth few
+          h.0 h.1,
       λ met. is-met length offset duration count column _ _ c.requires.duration from to nth few met,
     )

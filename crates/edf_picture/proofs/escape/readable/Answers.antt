@@ -1,4 +1,5 @@
-use Rattle.std.proofs.Common.{◌≡◌, ◌<◌, ◌≤◌, ℕ, List, take, ap, sym, ◌∙◌, subst, All, string_bytes, append-nil, length, chars}
+use Rattle.std.proofs.Common.{◌≡◌, ◌<◌, ◌≤◌, ℕ, List, take, ap, sym, ◌∙◌, subst, All, string_bytes}
+use Rattle.std.proofs.Common.{append-nil, length, chars}
 use Rattle.std.specs.List.{flat_map}
 use Rattle.std.proofs.lemmas.Iterator.{YieldsList-from_chars, YieldsList-from_take}
 use Rattle.std.proofs.lemmas.Iterator.Consumers.{YieldsList-end}

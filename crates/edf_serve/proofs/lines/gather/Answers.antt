@@ -33,7 +33,8 @@ returns-in-Ok-eq0-2-clause-line g c is =
     omega (arith, part, inv.1, c.loop-to-test.true) in
     subst (Begins (g.R.Input.remaining c.read.new.self) bytes) (sym c.line-in-Ok-eq0-2.ensures)
     (begins-last bytes to _
-    (subst Feedless (sym (take-kept to room kept c.read.new.buf inv.0)) (no-feed (take to kept) none))
+    (subst Feedless (sym (take-kept to room kept c.read.new.buf inv.0))
+    (no-feed (take to kept) none))
     (omega (arith, size, inv.0, inv.1)) (omega (arith, c.if-to-eq0.false))
     (omega (arith, c.loop-to-test.true))
     (c.in-Ok-eq0.ensures.bytes.1 c.in-Ok-eq0.field-0-test has_room))
@@ -56,16 +57,22 @@ returns-in-None-clause-line g c is =
 pub loop-to-preserved : goal.loop-to-preserved
 loop-to-preserved g c =
     let inv = c.loop-to.invariant in
-    let size : length (put_mid c.loop-to.to (length c.loop-to.buffer - c.loop-to.to) c.loop-to.buffer c.read.new.buf) ≡ 65537 =
+    let size : length (put_mid c.loop-to.to (length c.loop-to.buffer - c.loop-to.to)
+    c.loop-to.buffer c.read.new.buf) ≡ 65537 =
     grind (arith, common_steps) in
-    let part : length c.read.new.buf ≡ length c.loop-to.buffer - c.loop-to.to = grind (arith, common_steps) in (
+    let part : length c.read.new.buf ≡ length c.loop-to.buffer - c.loop-to.to =
+    grind (arith, common_steps) in (
       omega (arith, c.in-Ok.ensures.bound.0, size, part, inv.0, inv.1),
       size,
       read-more (g.R.Input.remaining c.args.input.now) (g.R.Input.remaining c.loop-to.input)
-          (g.R.Input.remaining c.read.new.self) (take c.args.end c.args.buffer.now) (take c.loop-to.to c.loop-to.buffer)
-          (take (c.loop-to.to + c.in-Ok.count) (put_mid c.loop-to.to (length c.loop-to.buffer - c.loop-to.to) c.loop-to.buffer c.read.new.buf))
+          (g.R.Input.remaining c.read.new.self) (take c.args.end c.args.buffer.now)
+          (take c.loop-to.to c.loop-to.buffer)
+          (take (c.loop-to.to + c.in-Ok.count)
+          (put_mid c.loop-to.to (length c.loop-to.buffer - c.loop-to.to) c.loop-to.buffer
+          c.read.new.buf))
           inv.2.0 (take c.in-Ok.count c.read.new.buf) inv.2.1 inv.2.2 c.in-Ok.ensures.bytes.0
-          (take-put c.loop-to.to (length c.loop-to.buffer - c.loop-to.to) c.in-Ok.count c.loop-to.buffer c.read.new.buf
+          (take-put c.loop-to.to (length c.loop-to.buffer - c.loop-to.to) c.in-Ok.count
+          c.loop-to.buffer c.read.new.buf
           inv.0 c.in-Ok.ensures.bound.0),
       c.in-Ok.ensures.failures ∙ inv.3,
     )

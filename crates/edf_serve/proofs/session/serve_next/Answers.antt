@@ -9,13 +9,24 @@ use Rattle.edf_serve.proofs.session.serve_next.Goals as goal
 pub returns-in-Ended : goal.returns-in-Ended
 returns-in-Ended g c = (
   None,
-  (end.Ended, refl, subst (IsNext c.args.lines.now c.next.new.self) c.in-Ended.is c.next.ensures, refl),
+  (
+    end.Ended,
+    refl,
+    subst (IsNext c.args.lines.now c.next.new.self) c.in-Ended.is c.next.ensures,
+    refl,
+  ),
 )
 
 pub returns-in-Failed : goal.returns-in-Failed
 returns-in-Failed g c = (
   None,
-  (end.Unread, refl, subst (IsNext c.args.lines.now c.next.new.self) c.in-Failed.is c.next.ensures, refl),
+  (
+    end.Unread,
+    refl,
+    subst (IsNext c.args.lines.now c.next.new.self) c.in-Failed.is
+        c.next.ensures,
+    refl,
+  ),
 )
 
 pub returns : goal.returns

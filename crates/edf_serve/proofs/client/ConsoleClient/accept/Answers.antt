@@ -24,7 +24,8 @@ returns g c =
       c.send.ensures.sent,
       subst Put (told c.args.name.now (codes " accepted new=") (decimal c.args.receipt.now.new)
           (codes " known=") (decimal c.args.receipt.now.known) (codes "status ") (decimal 0)
-          c.as_bytes.result.now c.as_slice.result.now c.as_bytes-2.result.now c.as_bytes-3.result.now
+          c.as_bytes.result.now c.as_slice.result.now c.as_bytes-2.result.now
+          c.as_bytes-3.result.now
           c.as_bytes-4.result.now c.as_bytes.ensures.value c.as_slice.ensures
           (c.as_bytes-2.ensures.value ∙ c.format-new.ensures.text)
           (c.as_bytes-3.ensures.value ∙ c.format-known.ensures.text)
