@@ -53,7 +53,7 @@ port_files() {
   [ "$1" != aarch64 ] || printf 'ports/arm64/%s\n' build host.c packages.sha256
 }
 
-# The files that the page is made from, with the script that makes it. It has texts of four
+# The files that the page is made from, with the script that makes it. It has texts of three
 # documents beside, which are no sources: bin/release puts them in as they are.
 page_files() {
   (cd "$top" && {
@@ -133,7 +133,8 @@ is_fresh() {
   is_newer "$(built "$@")" "$1" "${2:-x86_64}"
 }
 is_fresh_page() {
-  { page_files && printf 'docs/%s\n' REFUSALS.md edfmend.1; } | is_newest "$(built_page)"
+  { page_files && printf '%s\n' docs/REFUSALS.md LICENSE-MIT THIRD-PARTY.md; } |
+    is_newest "$(built_page)"
 }
 
 # Whether this line is the verdict of a program that was proved for arm64.

@@ -25,7 +25,7 @@ from checks.lib import arguments, links, measure, prose
 from checks.lib.arguments import TOP
 from checks.lib.checks import end
 
-MOST_LINES, COLUMNS, MOST_WORDS, AGAIN = 1_520, 100, 40, 8
+MOST_LINES, COLUMNS, MOST_WORDS, AGAIN = 1_500, 100, 40, 8
 
 
 @dataclass(frozen=True)
@@ -36,9 +36,9 @@ class Page:
 
 
 PAGES = (Page("README.md", 80, 20), Page("CONTRIBUTING.md", 100), Page("docs/GUIDE.md", 160, 20),
-         Page("docs/REFUSALS.md", 200), Page("docs/FORMAT.md", 168), Page("docs/GLOSSARY.md", 60),
-         Page("docs/PROMISES.md", 240, 18), Page("docs/EVIDENCE.md", 140),
-         Page("docs/ARCHITECTURE.md", 155), Page("docs/DECISIONS.md", 135),
+         Page("docs/REFUSALS.md", 200), Page("docs/FORMAT.md", 168), Page("docs/GLOSSARY.md", 54),
+         Page("docs/PROMISES.md", 226, 18), Page("docs/EVIDENCE.md", 140),
+         Page("docs/ARCHITECTURE.md", 161), Page("docs/DECISIONS.md", 112),
          Page("docs/ASSURANCE.md", 100, 20))
 # Pages that may have any number of lines
 ALSO_READ = ("examples/", "checks/", "bench/", "clinic/")
@@ -180,7 +180,7 @@ WRONG = (
     ("docs/edfstore.1", ".I docs/NONE.md\n", "speaks of docs/NONE.md"),
     ("docs/edfruns.1", ".I docs/REFUSALS.md#none\n", "speaks of docs/REFUSALS.md#none"),
     ("examples/README.md", f"{'x' * (COLUMNS + 1)}\n", "columns"),
-    ("docs/GLOSSARY.md", "\n" * 500, "lines, and may have 60"),
+    ("docs/GLOSSARY.md", "\n" * 500, "lines, and may have 54"),
     ("docs/GLOSSARY.md", "\n" * 2_000, "all pages have"),
     ("docs/GUIDE.md", f"\n{LONG}", "words: This sentence goes on"),
     ("docs/GUIDE.md", f"\n{LONG}" * 200, "words a sentence"),

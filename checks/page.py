@@ -14,8 +14,8 @@ by onset; a job that is cancelled; files that change later; files that are dropp
 contradict each other, of which one is taken first or out; faulty fields, recordings of the same
 codes, and work that is not saved; twelve pieces of plain EDF, a torn piece beside its card, two
 nights without a code, files that are no recordings, a card that is pulled out, a file that waits.
-Each state is looked at on three screens, light and dark, for pale texts and what has no room;
-`--screenshots` keeps them.
+Each state is looked at on four screens, light and dark, for pale texts and what has no room; so are
+paper, long names, the picture's letters and a screen's own colours. `--screenshots` keeps them.
 
 COUNT files by chance, 2,000 if left out; the page is the one that bin/page built of these sources,
 unless --page names another, as release/edfstore.html. Files are taken in lists: by chance, half of
@@ -29,7 +29,8 @@ Then a night of 195 MB, with its time and memory beside the programs' (MOST_TIME
 module that may have little memory: E41, and no file is offered; a trap: no file is offered, and the
 module lets no call in after it; files that are removed, cut, longer or replaced since they were
 chosen; in which of the ways of lib/sends.py the page reaches a server: none; what is too much for
-32 bits, which is told at once; and a browser without WebAssembly, which is told in a sentence.
+32 bits, which is told at once; in WebKit as much as is not too much, a card and its pieces; and a
+browser without WebAssembly, which is told in a sentence.
 
 --control gives lists to pages that answer wrongly: a script that exchanges the files of two
 recordings, which must be found, and modules with one instruction changed in a function that runs:
@@ -47,8 +48,8 @@ import zlib
 from dataclasses import dataclass, field
 from pathlib import Path
 
-from checks.lib import (arguments, measure, modules, morning, night, page_files, printed,
-                        second_thoughts, sends, technician)
+from checks.lib import (appearance, arguments, measure, modules, morning, night, page_files,
+                        printed, second_thoughts, sends, technician)
 from checks.lib.checks import Lost, compare, end
 from checks.lib.chromium import Chromium
 from checks.lib.firefox import Firefox
@@ -75,6 +76,7 @@ LONG_BODY, TRIED_BODIES = 60, 150               # bytes of a function, and how m
 ENOUGH = 16                                     # functions that run
 LONGEST = 150                                   # seconds to look for them, and to change them
 LITTLE = night.Night(records=2_000, fragments=1)        # 13 MB
+LARGEST = night.Night(records=70_000, fragments=24)     # 474 MB, of which 32 bits take two
 MODULE = r'<script type="text/plain" id="module{}">([A-Za-z0-9+/=]*)</script>\n'
 # All that the page asks edfruns for; and texts for edfmend: OUT, what each of these options has,
 # and any text for --all
@@ -339,7 +341,7 @@ def little_memory(bench: Bench, folder: Path, page: str, native: Native) -> None
             page, lambda module, pages=pages: modules.capped(module, pages)))
         if other.take(paths) == "done":
             break
-        other.offers_nothing(f"{pages} pages", "E41", "Nothing was taken.")
+        other.offers_nothing(f"{pages} pages", "E41", "Nothing was added.")
         other.shot("little memory")
         bench.count += other.count
     bench.same(f"caps at which memory runs out: {tried}", 8 <= tried < 39, True)
@@ -350,7 +352,7 @@ def traps(bench: Bench, folder: Path, page: str, paths: list) -> None:
     other = other_page(bench, folder, page.replace(
         "names.sizes, bytes, sizes,", "names.sizes, bytes + 0xf0000000n, sizes,"))
     bench.same("a trap", other.take(paths), "failed")
-    other.offers_nothing("a trap", "RuntimeError", "Nothing was taken.")
+    other.offers_nothing("a trap", "RuntimeError", "Nothing was added.")
     other.shot("a trap")
     bench.browser.open(bench.page)
     bench.same("a trap, a call after it, another module", bench.browser.value(
@@ -377,7 +379,7 @@ def changes(bench: Bench, folder: Path, native: Native) -> None:
         change(paths[1])
         bench.browser.value(LET_GO)
         if bench.wait() == "failed":
-            bench.offers_nothing(f"a file {what}", "changed.edf", "Nothing was taken.")
+            bench.offers_nothing(f"a file {what}", "changed.edf", "Nothing was added.")
             bench.shot("a file that changed")
         else:
             bench.same(f"a file that {what} was taken as it is", bench.given(),
@@ -441,6 +443,18 @@ def too_much(bench: Bench, folder: Path) -> None:
                              "950.0 MB in all")
         took = bench.browser.value("window.took")
         bench.same(f"within a second: {took:.0f} ms", took < 1000, True)
+
+
+def largest(bench: Bench, folder: Path, native: Native) -> None:
+    """A card and its pieces, which are together as much as 32 bits take."""
+    own = folder / "largest"
+    own.mkdir()
+    paths = [*LARGEST.parts(own), LARGEST.card(own / "card.edf")]
+    size = sum(path.stat().st_size for path in paths)
+    bench.same(f"{size:,} bytes", 940e6 < size <= 950e6, True)
+    bench.same("card and pieces", bench.take(paths), "done")
+    bench.same("card and pieces", bench.given(), native.given(own, paths))
+    print(f"{bench.name}: card and pieces of {size:,} bytes", flush=True)
 
 
 # Pages that answer wrongly
@@ -576,6 +590,7 @@ def in_browser(bench: Bench, given, folder: Path, native: Native, expected: dict
     technician.all_of_it(bench, hands, folder, native, big)
     second_thoughts.all_of_it(bench, hands, folder, native)
     morning.all_of_it(bench, hands, folder, native)
+    appearance.all_of_it(bench, hands, folder, native)
     lists(bench, expected)
     programs(bench, folder, native, expected["files of stories"][0])
     no_files(bench)
@@ -588,6 +603,8 @@ def in_browser(bench: Bench, given, folder: Path, native: Native, expected: dict
     unable(bench, folder)
     if not given.without_night:
         big_night(bench, folder / "night/card.edf", native, folder / "night")
+        if isinstance(bench.browser, WebKit):
+            largest(bench, folder, native)
 
 
 def main() -> None:

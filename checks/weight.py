@@ -4,9 +4,9 @@
 
 A line of the table has the most lines that a crate may have: of src (`.rt`), of specs and of proofs
 (`.antt`); the line `all` has those of all crates. `crates` is how many crates there may be,
-`python` how many lines of Python: files that end in `.py` or begin with Python's line. A file of
-src has LONGEST lines at most. A line tells each excess, and then the status is 1. Functions of more
-than ARGUMENTS arguments are counted alone.
+`python` how many lines of Python: files that end in `.py` or begin with Python's line; `javascript`
+how many the page's script has. A file of src has LONGEST lines at most. A line tells each excess,
+and then the status is 1. Functions of more than ARGUMENTS arguments are counted alone.
 
 --write prints today's lines of the crates with the room of ROOM that each gets. A change that needs
 more raises its line by hand in the same commit, with the reason behind `#`. It needs Python alone,
@@ -21,7 +21,7 @@ from pathlib import Path
 TOP = Path(__file__).resolve().parents[1]
 TABLE = TOP / "checks/weight.txt"
 PARTS = {"src": "*.rt", "specs": "*.antt", "proofs": "*.antt"}
-ALL, CRATES, PYTHON = "all", "crates", "python"
+ALL, CRATES, PYTHON, JAVASCRIPT = "all", "crates", "python", "javascript"
 ROOM, LONGEST, ARGUMENTS = 1.02, 500, 6
 NOT_OURS = {".git", "out", "__pycache__"}
 FUNCTION = re.compile(r"^ *(?:pub(?:\(\w+\))? )?(?:const )?fn \w+", re.MULTILINE)
@@ -66,7 +66,9 @@ def files_below(folder: Path) -> list[Path]:
 def today() -> Counts:
     own = crates()
     python = sum(lines_of(path) for path in files_below(TOP) if is_python(path))
-    return own | {ALL: tuple(map(sum, zip(*own.values()))), CRATES: (len(own),), PYTHON: (python,)}
+    script = sum(map(lines_of, TOP.glob("page/*.js")))
+    return own | {ALL: tuple(map(sum, zip(*own.values()))), CRATES: (len(own),),
+                  PYTHON: (python,), JAVASCRIPT: (script,)}
 
 
 def allowed() -> Counts:

@@ -35,7 +35,7 @@ has_systemd || {
 sftp=(sftp -q -b - -i r01 -o StrictHostKeyChecking=no -o UserKnownHostsFile=known r01@127.0.0.1)
 ssh=(ssh -i r01 -o StrictHostKeyChecking=no -o UserKnownHostsFile=known -o BatchMode=yes r01@127.0.0.1)
 holds 'ssh-keyscan 127.0.0.1 | grep -q ed25519'
-says "sftp puts a file" "${sftp[@]}" <<<$'put a.edf\nput b.edf b.edf.part\nrename b.edf.part b.edf'
+says "sftp puts a file" "${sftp[@]}" <<<$'put a.edf\nput b.edf b.edf.filepart\nrename b.edf.filepart b.edf'
 says "it is taken" holds '[ ! -e /srv/inbox/r01/a.edf ] && [ ! -e /srv/inbox/r01/b.edf ]'
 fails "sftp does not leave the inboxes" "${sftp[@]}" <<<'get /../etc/passwd'
 fails "sftp does not list another inbox" "${sftp[@]}" <<<'ls /r02/'

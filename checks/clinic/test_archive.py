@@ -9,7 +9,7 @@ from datetime import datetime
 
 import pytest
 
-from checks.clinic.clinic import SERVICE, Clinic, facts
+from checks.clinic.clinic import SERVICE, Clinic, facts, tree
 from checks.clinic.recordings import Recording, codes_in, records_in
 from checks.lib import disks
 
@@ -115,6 +115,9 @@ def test_forget_by_half_a_code_or_none_removes_nothing(archive: Clinic) -> None:
     for code in ("X", "", "two words"):
         archive.done("forget", code, "--yes", status=2)
     assert archive.done("verify") == "2 nights, 0 files changed\n"
+    (archive.archive()[1] / "night.json").write_text("{")       # as a disk may leave it
+    before = tree(archive.nights)
+    assert archive.done("forget", "S-9999", "--yes") == "" and tree(archive.nights) == before
 
 
 def test_forget_finds_a_card_that_lies_in_anothers_night(clinic: Clinic) -> None:
@@ -127,6 +130,110 @@ def test_forget_finds_a_card_that_lies_in_anothers_night(clinic: Clinic) -> None
     assert not second.exists() and not (first / "card-1.edf").exists()
     assert clinic.done("verify") == "1 nights, 0 files changed\n"
     assert not any(b"S-0119" in it.read_bytes()[:256] for it in clinic.nights.rglob("*.edf"))
+
+
+OTHER = MEND.later(start=datetime(2026, 11, 26, 23, 0))
+
+
+def two_patients(clinic: Clinic) -> None:
+    """Two patients of one morning: what came of the second lies with the night of the first, but
+    what it sent; and files that nobody knows whose they are."""
+    clinic.night_took({"a.edf": NIGHT.piece(), "S-0118.edf": NIGHT.piece()[:-3],
+                       "b.edf": OTHER.piece(0, 40), "S-0119.edf": OTHER.piece(40)[:-3],
+                       "junk.edf": b"no EDF"})
+    flipped = OTHER.piece(changed={3: NIGHT.samples_of(3)})
+    clinic.done("morning", "r01", "--card", clinic.card(NIGHT.piece(), "S-0118.EDF"),
+                "--card", clinic.card(flipped, "S-0119.EDF"), status=1)
+
+
+def trace(clinic: Clinic, code: str) -> list[str]:
+    """Where below the archive a code stands, in names and in bytes."""
+    return [path for path, (_, data) in tree(clinic.nights).items()
+            if code in path or code.encode() in data]
+
+
+def test_forget_of_the_first_patient_leaves_what_is_the_seconds(clinic: Clinic) -> None:
+    two_patients(clinic)
+    card = (clinic.archive()[0] / "card-2.edf").read_bytes()
+    folder, second = clinic.nights / "r01", tree(clinic.archive()[1])
+    told = [f"{folder}/2026-11-26-S-0118", *(
+        f"{folder}/2026-11-26-S-0118/{it}: it is of 2026-11-26-S-0119"
+        for it in ("card-2.edf", "pieces.edf", "refused/000004.edf"))]
+    said = clinic.done("forget", "S-0118", status=1).splitlines()
+    assert said[0] == f"has {told[0]}" and said[2:5] == [f"stays {it}" for it in told[1:]], said
+    assert said[1].startswith(f"look: {told[0]}/refused/00000") and "or of both" in said[1]
+    clinic.done("forget", "S-0118", "--yes", status=1)
+    rest = folder / "replaced/2026-11-26-rest"
+    assert (rest / "card-2.edf").read_bytes() == card
+    names = {line.split("\t")[2] for line in (rest / "answers.log").read_text().splitlines()}
+    assert names == {"b.edf", "S-0119.edf", "junk.edf"}
+    assert tree(clinic.archive()[0]) == second and trace(clinic, "S-0118") == []
+    assert clinic.done("verify") == "2 nights, 0 files changed\n"
+    assert "put away before" in clinic.done("morning", "r01", "--card",
+                                            clinic.folder / "S-0119.EDF")
+    clinic.done("forget", "S-0119", "--yes")
+    assert os.listdir(folder / "replaced") == [] and clinic.archive() == []
+
+
+def test_forget_of_the_second_patient_takes_its_names_from_the_first(clinic: Clinic) -> None:
+    two_patients(clinic)
+    kept = {path: data for path, data in tree(clinic.archive()[0]).items() if "S-0119" not in path}
+    clinic.done("forget", "S-0119", "--yes", status=1)
+    assert trace(clinic, "S-0119") == []
+    first = clinic.archive()[0]
+    gone = {"card-2.edf", "pieces.edf", "refused/000004.edf", "whose.json"}
+    now = tree(first)
+    assert set(kept) - set(now) == gone and clinic.done("verify") == "1 nights, 0 files changed\n"
+    assert [it["name"] for it in facts(first)["card"]] == ["S-0118.EDF", "forgotten"]
+    names = {line.split("\t")[2] for line in (first / "answers.log").read_text().splitlines()}
+    assert names == {"a.edf", "S-0118.edf", "junk.edf"}
+
+
+@pytest.mark.parametrize("code", ["S-0118", "S-0119"])
+def test_forget_killed_anywhere_and_called_again_leaves_the_same(clinic: Clinic, code: str) -> None:
+    two_patients(clinic)
+    clinic.done("recode", "r01/2026-11-26-S-0118", "--patient", "S-0200")
+    calls, before = clinic.folder / "calls", clinic.folder / "before"
+    calls.touch()
+    calls.chmod(0o666)
+    subprocess.run(["cp", "-a", clinic.nights, before], check=True)
+    words = ("forget", {"S-0118": "S-0200"}.get(code, code), "--yes")
+    clinic.done(*words, calls=str(calls), status=1)
+    through = tree(clinic.nights)
+    for nth in range(1, len(calls.read_text().splitlines()) + 1):
+        shutil.rmtree(clinic.nights)
+        subprocess.run(["cp", "-a", before, clinic.nights], check=True)
+        clinic.run(*words, kill=[nth, ("before", "behind")[nth % 2]])
+        assert clinic.run(*words).status in (0, 1)
+        assert not (clinic.data / "r01/forgetting.json").exists()
+        assert tree(clinic.nights) == through, calls.read_text().splitlines()[nth - 1]
+
+
+def test_recode_parts_what_lay_together(clinic: Clinic) -> None:
+    two_patients(clinic)
+    clinic.done("recode", "r01/2026-11-26-S-0118", "--patient", "S-0200")
+    assert not (clinic.nights / "r01/2026-11-26-S-0200/pieces.edf").exists()
+    said = clinic.done("forget", "S-0118", "--yes", status=1)
+    assert "r01/2026-11-26-S-0200\n" in said and "removed" not in said
+    clinic.done("recode", "r01/2026-11-26-S-0119", "--patient", "S-0300")
+    clinic.done("forget", "S-0300", "--yes", status=1)
+    assert trace(clinic, "S-0119") == []
+    clinic.done("forget", "S-0200", "--yes")
+    assert trace(clinic, "S-0") == []
+
+
+def test_forget_of_mended_files_and_of_a_recorder_that_the_config_lacks(clinic: Clinic) -> None:
+    clinic.write_config({"r01": {"mend": ["--set-patient", "S-0400"]}})
+    clinic.night_took({"a.edf": NIGHT.piece(), "cut.edf": NIGHT.piece()[:-3]})
+    clinic.done("morning", "r01", "--card", clinic.card(NIGHT.piece()), status=1)
+    clinic.make(clinic.data / "r01/gone", SERVICE, SERVICE, 0o700)      # as a kill leaves it
+    clinic.recorders = ("r02",)
+    clinic.write_config({})
+    assert clinic.done("nights", status=1).startswith("r01/2026-11-26-S-0400")
+    said = clinic.done("forget", "S-0118", "--yes", status=1)
+    assert said.count("but are of S-0400") == 1 and "removed" not in said
+    clinic.done("forget", "S-0400", "--yes")
+    assert trace(clinic, "S-0") == [] and not (clinic.data / "r01/gone").exists()
 
 
 def test_backup_copies_what_it_lacks_and_finds_what_differs(archive: Clinic) -> None:

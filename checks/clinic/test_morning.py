@@ -74,7 +74,9 @@ def test_a_card_with_a_flipped_bit(clinic: Clinic) -> None:
     assert "look: 1 files differ" in said and "keep it till" in said, "it is said again"
     wrong = {NIGHT.instant(100): bytes(flipped)}
     assert_all_is_there_but_copies(nights, NIGHT.truth(), wrong)
-    assert "differs records=1 from=2026-11-26T22:50:00" in (nights[0] / "report.txt").read_text()
+    text = (nights[0] / "report.txt").read_text()
+    assert "2026-11-26T22:50:00 to 2026-11-26T22:50:30: 1 data records differ" in text
+    assert "from 2026-11-26T22:00:00 for 28800 seconds: 960 data records, no gap" in text
 
 
 def assert_all_is_there_but_copies(nights: list[Path], truth: dict[int, bytes],

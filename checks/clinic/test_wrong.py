@@ -18,16 +18,16 @@ NO_LINK = "os.O_RDONLY | os.O_NOFOLLOW | os.O_NONBLOCK"
 WRONG: dict[str, Any] = {
     "follows a link": (
         ("files.py", NO_LINK, "os.O_RDONLY | os.O_NONBLOCK"),
-        ("inbox.py", "status = os.stat(name, dir_fd=fd, follow_symlinks=False)",
+        ("receive.py", "status = os.stat(name, dir_fd=fd, follow_symlinks=False)",
          "status = os.stat(name, dir_fd=fd)"),
         test_hostile.test_links_pipes_and_sockets_are_left_and_told),
     "looks, and then opens": (
         ("files.py", NO_LINK, "os.O_RDONLY | os.O_NONBLOCK"),
-        ("inbox.py", "if self.why_left(status) or key_of(status) != entry.key:", "if False:"),
-        ("inbox.py", "if count != entry.key[1] or key_of(os.fstat(fd)) != entry.key:", "if False:"),
+        ("receive.py", "if self.why_left(status) or key_of(status) != entry.key:", "if False:"),
+        ("receive.py", "if count != entry.key[1] or key_of(os.fstat(fd)) != entry.key:", "if False:"),
         test_hostile.test_a_name_that_is_exchanged_between_the_look_and_the_opening),
     "moves in place of copying": (
-        ("inbox.py", "            count = files.copy(fd, target, entry.key[1])[0]\n",
+        ("receive.py", "            count = files.copy(fd, target, entry.key[1])[0]\n",
          "            os.rename(os.path.join(self.config.inboxes, self.name, entry.name), target)\n"
          "            count = entry.key[1]\n"),
         test_hostile.test_a_handle_that_is_kept_changes_nothing_after_the_answer),
@@ -38,29 +38,28 @@ WRONG: dict[str, Any] = {
         ("text.py", "    return UNSAFE.sub(", "    return text or UNSAFE.sub("),
         test_hostile.test_names_are_never_part_of_a_path_or_a_line),
     "writes over a night": (
-        ("planning.py", "if it not in used)", ")"),
-        ("put_away.py", "    if files.exists(target):\n        return read_facts(target)\n", ""),
+        ("nights.py", "if it not in used)", ")"),
+        ("nights.py", "    if files.exists(target):\n        return read_facts(target)\n", ""),
         ("files.py", "    if exists(new) and os.path.isdir(old):\n", "    if not exists(old):\n"),
-        ("put_away.py", "    files.rename(new, join(place.archive, made[\"night\"]))",
+        ("nights.py", "    files.rename(new, join(place.archive, made[\"night\"]))",
          "    files.remove_tree(join(place.archive, made[\"night\"]))\n"
          "    files.rename(new, join(place.archive, made[\"night\"]))"),
         test_morning.test_a_nap_and_a_night_of_one_day_have_two_names),
     "forgets the minutes of a refused file": (
-        ("planning.py", "lacks = sum(run.end - run.first for run in runs), missing(runs, held)",
+        ("morning.py", "lacks = sum(run.end - run.first for run in runs), missing(runs, held)",
          "lacks = sum(run.end - run.first for run in runs), 0"),
         test_morning.test_a_clock_that_is_set_back_by_two_seconds),
     "takes a card twice": (
-        ("morning.py", "            if summed in known:\n                self",
-         "            if not summed:\n                self"),
+        ("morning.py", "elif summed in known:", "elif not summed:"),
         test_morning.test_a_card_twice_and_a_late_file),
     "joins two nights of code X": (
-        ("planning.py", "return gap >= recorder.pause * text.SECOND or (", "return False and ("),
+        ("morning.py", "return gap >= recorder.pause * text.SECOND or", "return False and"),
         test_morning.test_two_nights_of_code_x_are_not_joined),
     "leaves out a card that contradicts": (
-        ("planning.py", "if any(it.answer.startswith(CONFLICTS) for it in cards):", "if False:"),
+        ("morning.py", "if any(it.answer.startswith(CONFLICTS) for it in cards):", "if False:"),
         test_morning.test_a_card_with_a_flipped_bit),
     "takes a file out of the inbox before it is told": (
-        ("taking.py", "            given = programs.prepared(copied",
+        ("receive.py", "            given = programs.prepared(copied",
          "            self.inbox.remove(entry)\n            given = programs.prepared(copied"),
         test_taking.test_a_killed_receive_loses_nothing_and_takes_nothing_away),
     "removes the morning from its plan on": (
@@ -69,21 +68,24 @@ WRONG: dict[str, Any] = {
          "        files.rename(self.place.morning, self.gone)\n"),
         test_kills.test_killed_where_the_morning_ends),
     "does not tell a full disk": (
-        ("taking.py", "seen.full = str(why) if isinstance(why, Full) else \"\"",
+        ("receive.py", "seen.full = str(why) if isinstance(why, Full) else \"\"",
          "seen.full = \"\""),
-        ("status.py", "or disk_usage(config.data).free < files.PIECE and \"the disk is full\"",
+        ("status.py", "or disk_usage(config.data).free < files.PIECE and \"make room on disk\"",
          "or \"\""),
         test_disks.test_receive_on_a_full_disk_goes_on_when_there_is_room),
     "copies to a backup that is not mounted": (
         ("backup.py", "if not os.path.ismount(config.backup or \"/dev/null\"):", "if False:"),
         test_archive.test_backup_copies_what_it_lacks_and_finds_what_differs),
     "forgets by half a code": (
-        ("forget.py", 'rb"(?<![\\w-])" + re.escape(os.fsencode(code)) + rb"(?![\\w-])"',
-         "re.escape(os.fsencode(code))"),
+        ("forget.py", "programs.code_of(it) == code", "code in programs.code_of(it)"),
         test_archive.test_forget_by_half_a_code_or_none_removes_nothing),
     "leaves what a night replaced": (
-        ("forget.py", "os.path.basename(it) == name and it not in going", "False"),
+        ("forget.py", "if self.made_of[it] == folder}", "if False}"),
         test_archive.test_forget_lists_and_then_removes_all_of_a_patient),
+    "forgets what is another's": (
+        ("forget.py", "*nights.sums(folder)} - {*rest, LOG, SUMS, WHOSE}",
+         "*nights.sums(folder)} - {LOG, SUMS, WHOSE}"),
+        test_archive.test_forget_of_the_first_patient_leaves_what_is_the_seconds),
 }
 
 

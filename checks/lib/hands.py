@@ -1,5 +1,6 @@
 """What a person does with a page: keys, files that are chosen or dropped, the screen, and what a
 screen reader is told, in Chromium and in Firefox, by the browsers' own ways."""
+import base64
 import json
 import time
 from pathlib import Path
@@ -47,6 +48,7 @@ for (const type of ["dragenter", "dragover", "drop"]) {
 class Hands:
     """What all browsers have."""
     has_folders = True
+    has_colours = False     # whether a page is told of other colours than those at first
 
     def __init__(self, browser, downloads: Path):
         self.browser, self.downloads = browser, downloads
@@ -69,6 +71,10 @@ class Hands:
         self.go(role, name)
         self.press(key)
 
+    def printed(self) -> bytes:
+        """The page on paper, as a PDF; nothing where the browser's driver can't print."""
+        return b""
+
     def saved(self, name: str, seconds: float = 20) -> bytes:
         """The bytes of what was saved under this name, which goes."""
         path, until = self.downloads / name, time.monotonic() + seconds
@@ -84,6 +90,8 @@ class Hands:
 
 
 class ChromiumHands(Hands):
+    has_colours = True
+
     def begin(self) -> None:
         """Once a page is open."""
         ask, session = self.browser.ask, self.browser.session
@@ -152,8 +160,14 @@ class ChromiumHands(Hands):
     def screen(self, width: int, height: int, is_dark: bool) -> None:
         self.browser.ask("Emulation.setDeviceMetricsOverride", width=width, height=height,
                          deviceScaleFactor=1, mobile=width < 600)
-        self.browser.ask("Emulation.setEmulatedMedia", features=[
-            {"name": "prefers-color-scheme", "value": "dark" if is_dark else "light"}])
+        self.colours("prefers-color-scheme", "dark" if is_dark else "light")
+
+    def colours(self, name: str, value: str) -> None:
+        self.browser.ask("Emulation.setEmulatedMedia", features=[{"name": name, "value": value}])
+
+    def printed(self) -> bytes:
+        told = self.browser.ask("Page.printToPDF", preferCSSPageSize=True, printBackground=True)
+        return base64.b64decode(told["data"])
 
 
 class FirefoxHands(Hands):
@@ -204,6 +218,11 @@ class FirefoxHands(Hands):
     def drop(self, paths: list) -> None:
         """By an event of a script, since nothing else can drop here."""
         self.browser.do_beside(DROP.replace("PATHS", json.dumps(list(map(str, paths)))))
+
+    def printed(self) -> bytes:
+        told = self.browser.ask("browsingContext.print", context=self.browser.context,
+                                background=True, page={"width": 21.0, "height": 29.7})
+        return base64.b64decode(told["data"])
 
     def screen(self, width: int, height: int, is_dark: bool) -> None:
         """The colours are those that Firefox began with."""

@@ -1,6 +1,6 @@
 """How a page looks, by a script in it: texts without contrast, what is wider than the screen."""
 
-SIZES = {"wide": (1366, 768), "phone": (390, 844), "narrow": (320, 640)}
+SIZES = {"wide": (1280, 900), "tablet": (768, 1024), "phone": (390, 844), "narrow": (320, 640)}
 CONTRAST = 4.5          # of a text with what is behind it, as WCAG 2.2 wants it (AA)
 SCRIPT = """(() => {
   const numbers = (text) => text.match(/[\\d.]+/g).map(Number);

@@ -12,7 +12,8 @@ from .natively import written
 from .technician import CODE, LEAVES, OXIMETER, Technician
 
 MOST_ACTIONS = 8                # for 12 pieces of plain EDF
-MOST_SECONDS = 0.1              # for a file that is no recording, beside what a job takes at all
+MOST_SECONDS = 0.1              # for a file that is no recording, beside what a job takes at all,
+TRIES = 3                       # where other work delays it once or twice
 MOST_MEMORY = 50_000_000        # bytes
 VIDEO = 1 << 30                 # bytes
 NONE = {"report.pdf": (b"%PDF-1.7\n%\xe2\xe3\xcf\xd3\n" + bytes(900), "a PDF"),
@@ -54,7 +55,7 @@ def plain_pieces(it: Technician) -> None:
     it.looks("twelve pieces to be mended")
     it.paths = [it.made(f"{name} (mended)", it.mend(name, data, "--patient", "S-9")[1])
                 for name, data in pieces]
-    it.press("Take these 12")
+    it.press("Use these 12")
     actions += 5            # a choice, a button, an answer and its button, a button
     it.gives("twelve mended pieces")
     it.says("✓ 12 files in 1 recording.", "Complete from 22:00 to 22:12 on 2 Mar 2002;")
@@ -75,7 +76,7 @@ def torn(it: Technician) -> None:
     it.same("no alarm", "✕" in it.bench.words(), False)
     it.looks("a torn piece beside its card")
     it.unfold("1 torn file: nothing is missing because of that")
-    it.hands.use("button", "Take out: torn.edf")
+    it.hands.use("button", "Remove: torn.edf")
     del it.paths[1]
     it.gives("without the torn piece")
 
@@ -87,10 +88,10 @@ def two_nights(it: Technician) -> None:
         ("room1.edf", anonymous("04.11.23", "04-NOV-2023", 1)),
         ("room2.edf", anonymous("05.11.23", "05-NOV-2023", 2))])
     it.chooses("Choose files", rooms)
-    it.says("Is this one night of one person? Between room1.edf and room2.edf is a pause of 23 h, "
+    it.says("Is this one night of one person? Between room1.edf and room2.edf is a gap of 23 h, "
             "and no file has the patient's code.")
     it.looks("two nights in one recording")
-    it.press("Take them apart")
+    it.press("Separate into two recordings")
     each = [it.native.given(it.folder, [path]) for path in rooms]
     it.same("two recordings", it.bench.given(), [
         "".join(taken for taken, _, _ in each), "".join(listed for _, listed, _ in each),
@@ -100,12 +101,15 @@ def two_nights(it: Technician) -> None:
     it.press("Put them together again")
     it.paths = rooms
     it.gives("two nights together again")
-    it.press("Take them apart")
+    it.press("Separate into two recordings")
     again = written(it.folder / "again", [("again.edf", rooms[1].read_bytes())])
     it.after(lambda: (it.hands.use("button", "Add files"), it.hands.give(again)))
     it.same("a later file comes to its own night", [line.split(" ", 1)[1] for line in
             it.bench.given()[0].splitlines()], ["accepted new=60 known=0"] * 2 +
             ["accepted new=0 known=60"])
+    it.press("Put them together again")
+    it.hands.use("button", "Keep together")
+    it.same("it asks no more", it.hands.has("button", "Separate into two recordings"), False)
 
 
 def filled(it: Technician) -> None:
@@ -127,20 +131,22 @@ def no_recordings(it: Technician) -> None:
     paths = written(it.folder / "none", [(name, data) for name, (data, _) in NONE.items()])
     os.truncate(paths[-1], VIDEO)
     good = written(it.folder / "none-good", [("good.edf", page_files.seconds(3))])
-    it.open()
-    it.chooses("Choose files", good)
-    before = it.bench.browser.value("window.cost")
-    it.after(lambda: (it.hands.use("button", "Add files"), it.hands.give(paths)))
-    cost = it.bench.browser.value("window.cost")
-    more = (cost["milliseconds"] - before["milliseconds"]) / 1000
+    costs = []
+    for _ in range(TRIES):
+        it.open()
+        it.chooses("Choose files", good)
+        before = it.bench.browser.value("window.cost")
+        it.after(lambda: (it.hands.use("button", "Add files"), it.hands.give(paths)))
+        cost = it.bench.browser.value("window.cost")
+        costs.append([cost[name] - before[name] for name in ("milliseconds", "memory")])
+    more, memory = min(costs)[0] / 1000, max(bytes_ for _, bytes_ in costs)
     it.same(f"{more:.2f} s more for five files", more <= MOST_SECONDS * len(paths), True)
-    it.same(f"{cost['memory'] - before['memory']:,} bytes more",
-            cost["memory"] - before["memory"] <= MOST_MEMORY, True)
+    it.same(f"{memory:,} bytes more", memory <= MOST_MEMORY, True)
     it.says("✓ 1 file in 1 recording.", "5 other files left aside")
     it.unfold("5 other files left aside")
     it.says(*(f"{name} {what}" for name, (_, what) in NONE.items()))
     it.looks("other files left aside")
-    it.hands.use("button", "Take all 5 out")
+    it.hands.use("button", "Remove all 5")
     it.paths = good
     it.gives("without the other files")
 
@@ -157,16 +163,16 @@ def pulled_card(it: Technician) -> None:
     card.write_bytes(kept)
     it.paths.append(late)
     it.gives("a file beside a card that is pulled")
-    it.unfold("More to save")
+    it.unfold("Other files to save")
     it.hands.use("button", "Save the exact recording (2 kB)")
     it.hands.saved("N1_2002-03-02T01_00_00_exact.edf")
     it.same("it is saved", it.bench.browser.value(LEAVES), False)
     before = it.bench.given()
-    it.unfold("2 files taken")
+    it.unfold("2 files used")
     late.unlink()
     card.unlink()
-    it.same("it can't be read", it.press("Take out: card.edf"), "failed")
-    it.says("✕ Nothing was taken: what is below stays as it was.", "late.edf can't be read, or "
+    it.same("it can't be read", it.press("Remove: card.edf"), "failed")
+    it.says("✕ Nothing was added: what is below stays as it was.", "late.edf can't be read, or "
             "changed since it was chosen.")
     it.same("the result", it.bench.given(), before)
     it.same("it is saved", it.bench.browser.value(LEAVES), False)

@@ -90,10 +90,14 @@ def is_store_refused(on_error: bytes) -> bool:
 
 # Lines of recordings and runs
 
+def codes(patient: str, investigation: str) -> str:
+    """How a line of a recording or a run ends."""
+    return f"patient={patient} investigation={investigation}\n"
+
+
 def recording(place, records, first: str, patient: str, investigation: str) -> str:
     """A line of `edfstore list`."""
-    return (f"{place} records={records} first={first} "
-            f"patient={patient} investigation={investigation}\n")
+    return f"{place} records={records} first={first} {codes(patient, investigation)}"
 
 
 LISTED = re.compile(recording(r"(\d+)", r"(\d+)", r"\S+", r"\S+", r"\S+"))
@@ -106,17 +110,18 @@ def counts_listed(text: str) -> list:
     return [(int(one[1]), int(one[2])) for one in found] if all(found) else []
 
 
-def run(number: int, records: int, first: str, seconds: str, gap: str = "") -> str:
+def run(number: int, records: int, first: str, seconds: str, gap: str = "", patient: str = "P7",
+        investigation: str = "N1") -> str:
     """A line of `edfruns list`; the last run has no gap."""
     rest = f" gap={gap}" if gap else ""
-    return f"{number} records={records} first={first} seconds={seconds}{rest}\n"
+    return (f"{number} records={records} first={first} seconds={seconds}{rest} "
+            f"{codes(patient, investigation)}")
 
 
-def counted(of_run: str, annotations: int, outside: int, patient: str = "P7",
-            investigation: str = "N1") -> str:
-    """The same of a file of `edfruns split`, with its annotations and its codes."""
-    return (f"{of_run.rstrip()} annotations={annotations} outside={outside} "
-            f"patient={patient} investigation={investigation}\n")
+def counted(of_run: str, annotations: int, outside: int) -> str:
+    """The same of a file of `edfruns split`, with its annotations."""
+    front, end = of_run.split(" patient=")
+    return f"{front} annotations={annotations} outside={outside} patient={end}"
 
 
 # Other lines

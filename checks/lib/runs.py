@@ -39,7 +39,7 @@ class Run:
     def line(self) -> str:
         seconds, gap = (model.shortest(nanos).decode() for nanos in (self.length(), self.gap))
         return printed.run(self.number, len(self.records), model.instant_text(self.first()),
-                           seconds, gap if self.gap else "")
+                           seconds, gap if self.gap else "", *self.key.codes())
 
     def counts(self) -> tuple:
         """How many annotations it has, and how many of these have an onset outside of it."""
@@ -48,7 +48,7 @@ class Run:
         return len(onsets), sum(not self.first() <= onset < end for onset in onsets)
 
     def told(self) -> str:
-        return printed.counted(self.line(), *self.counts(), *self.key.codes())
+        return printed.counted(self.line(), *self.counts())
 
     def to_bytes(self) -> bytes:
         """The canonical file of its data records, but that it is marked as one without a gap."""

@@ -10,7 +10,8 @@ from .technician import GAPS, IS_OWN, JOINS, LEAVES, Technician, gaps
 
 BY_ONSET = "Sort all annotations by their times"
 DAY = "The day of its start: day, month and year as 31.12.23"
-FIRST_STAYS = "Of files that contradict each other the one that is taken first stays."
+FIRST_STAYS = ("Of files that contradict each other the one that was added first is used. Keep "
+               "this file, and the memory card.")
 # The table that is unfolded of a file that contradicts
 ROWS = """[...document.querySelectorAll("#results > section details[open] tbody tr")].map((row) =>
   [...row.cells].map((it) => it.textContent))"""
@@ -42,24 +43,24 @@ def contradictions(it: Technician) -> None:
         ("card.edf", piece(180, "22.00.00")), ("late.edf", piece(9, "22.00.30", onset=0.5))])
     piece_, faulty, card, late = paths
     it.chooses("Choose files", [piece_, faulty, card])
-    it.says("✕ card.edf It contradicts a file that was taken before it: at one time it has other "
-            "samples or annotations.", "card.edf contradicts for 1 min.", FIRST_STAYS)
+    it.says("✕ card.edf It contradicts a file that was added before it: at the same time it "
+            "has other samples or annotations.", "Without card.edf: see below.", "1 min of card.edf differs from what is used.", FIRST_STAYS)
     it.unfold("Details")
     it.says("E31 Differs start=2002-03-02T22:01:00")
     it.same("onsets do not help", it.press(BY_ONSET), "done")
     it.same("no more such button", it.hands.has("button", BY_ONSET), False)
-    it.unfold("2 files taken")
-    it.press("Take annotations as they came")
+    it.unfold("2 files used")
+    it.press("Use annotations as they came")
     it.gives("as they came")
-    it.same("it is first", it.press("Take this file first: card.edf"), "done")
+    it.same("it is first", it.press("Use this file first: card.edf"), "done")
     it.paths = [card, piece_, faulty]
     it.gives("the card first")
-    it.says("✓ 2 files in 1 recording. ✕ 1 file not taken.",
+    it.says("✓ 2 files in 1 recording. ✕ 1 file not used.",
             "Everything on card.edf and piece.edf is in this night.")
     it.looks("the card first")
     takes_out_at_once(it, faulty)
     it.chooses("Add files", [late])
-    it.says("✕ late.edf Its times contradict those of a file that was taken before it.")
+    it.says("✕ late.edf Its times contradict those of a file that was added before it.")
     it.unfold("Details")
     it.says("E30 Overlap start=2002-03-02T22:00:30.5 stored=2002-03-02T22:00:30")
     takes_out_at_once(it, late)
@@ -73,26 +74,26 @@ def takes_missing(it: Technician) -> None:
     it.chooses("Choose files", written(it.folder / "missing", [
         ("piece.edf", piece(60, "22.00.00")), ("faulty.edf", piece(60, "22.01.00", 1)),
         ("card.edf", card)]))
-    it.says("card.edf contradicts for 1 min. 1 min of it is missing here.")
+    it.says("1 min of card.edf differs from what is used. 1 min is in this file alone.")
     it.unfold("From when to when")
     it.same("from when to when", it.bench.browser.value(ROWS), [
-        ["22:00 on 2 Mar 2002", "22:01 on 2 Mar 2002", "the same"],
+        ["22:00 on 2 Mar 2002", "22:01 on 2 Mar 2002", "the same in both"],
         ["22:01 on 2 Mar 2002", "22:02 on 2 Mar 2002", "other samples or annotations"],
-        ["22:02 on 2 Mar 2002", "22:03 on 2 Mar 2002", "missing here"]])
+        ["22:02 on 2 Mar 2002", "22:03 on 2 Mar 2002", "in this file alone"]])
     it.looks("a card that contradicts")
     cut = it.native.run(it.native.edfruns, it.paths[2].parent, "cut", "card.edf",
                         "--from", "2002-03-02T22:02:00", "--to", "2002-03-02T22:03:00")
     it.paths.append(it.made("card.edf from 22:02", cut))
-    it.press("Take the missing 1 min: card.edf")
+    it.press("Add the missing 1 min: card.edf")
     it.gives("with what was missing")
-    it.says("✓ 3 files in 1 recording. ✕ 1 file not taken.", "Complete from 22:00 to 22:03",
-            "card.edf contradicts for 1 min. All else on it is here.")
+    it.says("✓ 3 files in 1 recording. ✕ 1 file not used.", "Complete from 22:00 to 22:03",
+            "1 min of card.edf differs from what is used. All else in it is used.")
 
 
 def takes_out_at_once(it: Technician, path: Path) -> None:
     """What the recording has nothing of alone goes without a job."""
     before = it.bench.browser.value("window.changes")
-    it.hands.use("button", f"Take out: {path.name}")
+    it.hands.use("button", f"Remove: {path.name}")
     it.same("no job", it.bench.browser.value("window.changes"), before)
     it.paths.remove(path)
     it.gives(f"without {path.name}")
@@ -100,12 +101,12 @@ def takes_out_at_once(it: Technician, path: Path) -> None:
 
 def takes_all_out(it: Technician, card: Path, known: Path) -> None:
     """The card, of which more is left then, and the last file after a question."""
-    it.unfold("2 files taken")
-    it.press(f"Take out: {card.name}")
+    it.unfold("2 files used")
+    it.press(f"Remove: {card.name}")
     it.paths = [known]
     it.gives("without the card")
-    it.unfold("1 file taken")
-    it.hands.use("button", f"Take out: {known.name}")
+    it.unfold("1 file used")
+    it.hands.use("button", f"Remove: {known.name}")
     it.hands.use("button", "Throw it away")
     it.same("the state", it.bench.browser.value("document.body.dataset.state"), "idle")
 
@@ -147,10 +148,10 @@ def closes(it: Technician) -> None:
     be closed."""
     it.press("Mend it: twice.edf")
     it.says("Its number of data records is wrong, or another file is behind it.",
-            "All that is there are data records of this file: take them")
+            "All that is there are data records of this file: use them")
     it.hands.use("button", "Close")
     it.press("Mend it: label.edf")
-    said = "This page can't mend it: get it again, or take it out."
+    said = "This page can't mend it: get it again, or remove it."
     it.says(said)
     it.looks("it can't be mended")
     it.hands.use("button", "Close")
@@ -175,12 +176,12 @@ def mended_or_not(it: Technician) -> None:
         it.says(said)
         mended = it.made(f"{name}.edf (mended)", it.mend(f"{name}.edf", data)[1])
         it.paths = [*(path for path in it.paths if path.stem != name), mended]
-        it.press("Take it")
+        it.press("Use it")
         it.gives(f"{name} mended")
         it.same("recordings", len(it.bench.given()[2]), nth)
     it.says("There is another recording of these codes above: its recording field differs.")
     it.looks("two recordings")
-    title = "Patient P7, born 02-MAY-1951, investigation N1"
+    title = "Patient P7, born 2 May 1951, investigation N1"
     it.starts_over(title, title)
 
 

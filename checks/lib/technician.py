@@ -233,9 +233,9 @@ def night(it: Technician) -> None:
         ("part2.edf", parts[2]), ("part1.edf", parts[1]), ("cut.edf", cut),
         ("notes.txt", b"no recording\n" * 40), ("names.edf", names_file()),
         ("part6.edf", parts[6]), ("part2.edf", parts[2])]))
-    it.says("✓ 4 files in 1 recording. ✕ 2 files not taken.",
-            "Patient S-0118, Sleeper, born 28-FEB-1979, investigation OX-7",
-            "✕ cut.edf It was cut. Get it again, or mend it: what is whole of it is taken.",
+    it.says("✓ 4 files in 1 recording. ✕ 2 files not used.",
+            "Patient S-0118, Sleeper, born 28 Feb 1979, investigation OX-7",
+            "✕ cut.edf It was cut. Get it again, or mend it: what is whole of it is used.",
             "✕ names.edf The patient's name has an “ü”, which EDF does not know.",
             "1 other file left aside")
     it.looks("refused")
@@ -256,7 +256,7 @@ def mends_cut(it: Technician, cut: bytes) -> None:
     it.saves("Save the mended file", "cut-mended.edf", front)
     it.looks("mending")
     it.paths = [*it.paths[:2], *it.paths[3:], it.made("cut.edf (mended)", front)]
-    it.same("it is taken", it.press("Take it"), "done")
+    it.same("it is taken", it.press("Use it"), "done")
     it.gives("with the mended file")
 
 
@@ -274,13 +274,13 @@ def mends_names(it: Technician) -> None:
     it.saves("Save the list of changes", "names-changes.txt", b"names.edf\n" + ledger)
     it.saves("Save the mended file", "names-mended.edf", mended)
     it.paths = [*it.paths[:3], *it.paths[4:], it.made("names.edf (mended)", mended)]
-    it.press("Take it")
+    it.press("Use it")
     it.gives("with both mended files")
 
 
 def saves_all(it: Technician) -> None:
     """The oximeter's night alone: all that may be saved of it."""
-    it.starts_over("Patient S-0118, Sleeper, born 28-FEB-1979, investigation OX-7",
+    it.starts_over("Patient S-0118, Sleeper, born 28 Feb 1979, investigation OX-7",
                    "Patient S-9, Mueller Hans, investigation N1")
     it.chooses("Choose files", written(it.folder / "saved", [
         (f"part{nth}.edf", (OXIMETER / f"part{nth}.edf").read_bytes()) for nth in (2, 1, 6)]))
@@ -291,14 +291,14 @@ def saves_all(it: Technician) -> None:
     filled = it.native.run(it.native.edfruns, it.folder, "fill", "export.edf")
     exact = f"Save the exact recording ({-(-len(export) // 1000)} kB)"
     it.says("Recorded from 22:15 on 4 Nov 2023 to 06:15 on 5 Nov 2023 with 1 gap of 4 h; whether "
-            "the recorder ran before or after, these files can't tell.")
+            "the recorder ran before or after that, these files can't tell.")
     it.saves("Save for viewing (gaps are flat)", f"{NAME}_view.edf", filled)
     it.same("it asks still", it.bench.browser.value(LEAVES), True)
     it.saves(exact, f"{NAME}_exact.edf", export)
     it.same("it is saved", it.bench.browser.value(LEAVES), False)
     it.unfold("1 gap: from, to and how long")
     it.same("gaps", it.bench.browser.value(GAPS), gaps(runs.decode()))
-    it.unfold("More to save")
+    it.unfold("Other files to save")
     it.saves("Save the picture", f"{NAME}.svg", picture)
     it.saves("Save the picture without the patient's code", f"{NAME}-without-code.svg", plain)
     saves_runs(it, "Save 2 files, one for each stretch", "OX-7")
@@ -306,7 +306,7 @@ def saves_all(it: Technician) -> None:
     it.hands.use("checkbox", "The patient's code in the names of saved files", " ")
     it.saves(exact, f"S-0118_{NAME}_exact.edf", export)
     it.hands.use("checkbox", "The patient's code in the names of saved files", " ")
-    it.unfold("3 files taken")
+    it.unfold("3 files used")
     it.saves("Save the list of files", "edfstore-answers.txt",
              "".join(it.bench.given()[:2]).encode())
     it.starts_over()
@@ -335,17 +335,17 @@ def by_onset(it: Technician) -> None:
              ("piece.edf", spread(starts[4:8], [5, 6]))]
     unsorted = written(it.folder / "spread", files)
     it.chooses("Choose files", unsorted)
-    it.says("✕ piece.edf It contradicts a file that was taken before it")
+    it.says("✕ piece.edf It contradicts a file that was added before it")
     it.looks("refused beside its pieces")
-    it.unfold("More to save")
+    it.unfold("Other files to save")
     saves_runs(it, "Save 2 files, one for each stretch", "N1")
     it.same("it is sorted", it.press("Sort all annotations by their times"), "done")
     it.paths = written(it.folder / "sorted", [(path.name, it.native.run(
         it.native.edfruns, path.parent, "canonical", "--by-onset", path.name))
         for path in unsorted])
     it.gives("by onset")
-    it.unfold("2 files taken")
-    it.press("Take annotations as they came")
+    it.unfold("2 files used")
+    it.press("Use annotations as they came")
     it.paths = unsorted
     it.gives("as they came again")
 
@@ -377,7 +377,7 @@ def changes_later(it: Technician) -> None:
     time.sleep(1.1)
     paths[1].write_bytes(good[:-50])
     it.same("a file that changed", it.after(lambda: it.bench.browser.value(LET_GO)), "failed")
-    it.bench.offers_nothing("a file that changed", "changed.edf", "Nothing was taken.")
+    it.bench.offers_nothing("a file that changed", "changed.edf", "Nothing was added.")
     it.looks("a file that changed")
     it.paths = [paths[0], paths[2]]
     it.same("the others", it.press("Go on with 2 other files"), "done")

@@ -10,6 +10,7 @@ from typing import Any
 
 TOOLS = ("edfbrowser", "Xvfb", "xdotool")
 CONVERTER = "ASCII to EDF/BDF converter"
+PATIENCE = 60       # seconds for a window
 # Places in the converter's window, which is moved to the corner of the screen
 FREQUENCY, SUBJECT, RECORDING, START = ("225", "126"), ("425", "177"), ("425", "208"), ("50", "488")
 
@@ -35,8 +36,17 @@ class Screen:
                               capture_output=True, timeout=30).stdout
 
     def window(self, name: str) -> str:
-        """The window of that name, once it is there."""
-        found = self.do("search", "--sync", "--onlyvisible", "--name", name).split()[-1]
+        """The window of that name, once it is there. Where another one ends meanwhile, xdotool
+        fails: then it is searched again."""
+        ends = time.monotonic() + PATIENCE
+        while True:
+            try:
+                found = self.do("search", "--onlyvisible", "--name", name).split()[-1]
+                break
+            except subprocess.CalledProcessError:
+                if time.monotonic() > ends:
+                    raise
+                time.sleep(0.2)
         self.do("windowfocus", "--sync", found)
         time.sleep(0.5)
         return found

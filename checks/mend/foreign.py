@@ -5,9 +5,9 @@
 The writers are BioSig's `save2gdf`, the biosig package of Octave, libxdffileio, EDFlib, and the
 converter of ASCII in EDFbrowser, which is driven in a window, as Debian has them; each that is not
 here is left out, and a line says so. A mended file is accepted by the plain model and by
-`edfstore`. It says EDF+D, and has no gaps; of a copy that says EDF+C, MNE reads the same samples as
-of the file that was mended, and EDFlib, which refuses most of those, what stands there. Debian's
-own Python (/usr/bin/python3) has MNE.
+`edfstore`. It says EDF+D, and has no gaps; of a copy that says EDF+C, MNE reads the same samples
+and annotations as of the file that was mended, and EDFlib, which refuses most of those, what stands
+there. Debian's own Python (/usr/bin/python3) has MNE.
 """
 import shutil
 import subprocess
@@ -67,12 +67,13 @@ WRITERS: tuple[tuple[str, Callable[[Path], Path], Callable[[], bool]], ...] = (
     ("EDFbrowser", by_edfbrowser, lambda: all(map(shutil.which, TOOLS))))
 
 
-def mne_samples(path: Path) -> list[Any]:
-    """What MNE reads of each ordinary signal, in volts or as the file has it."""
+def by_mne(path: Path) -> tuple[list[Any], list[tuple[float, float, str]]]:
+    """What MNE reads of each ordinary signal, in volts or as the file has it, and annotations."""
     with warnings.catch_warnings():
         warnings.simplefilter("ignore")
         raw = mne.io.read_raw_edf(path, preload=True, verbose="error")
-    return [raw.get_data(picks=[name])[0] for name in raw.ch_names]
+    return ([raw.get_data(picks=[name])[0] for name in raw.ch_names],
+            [(note["onset"], note["duration"], note["description"]) for note in raw.annotations])
 
 
 def edflib_samples(dump: Path, path: Path, folder: Path) -> bytes:
@@ -112,9 +113,10 @@ def look(checks: Checks, given: Namespace, name: str, path: Path, dump: Path, fo
     checks.same(f"{name}: edfstore takes it", taken.status, 0)
     shown = folder / f"{name} shown.edf"
     shown.write_bytes(by_hand.field(made, by_hand.RESERVED, "EDF+C"))
-    before, after = mne_samples(path), mne_samples(shown)
+    (before, notes), (after, notes_after) = by_mne(path), by_mne(shown)
     checks.same(f"{name}: MNE's signals", len(after), len(before))
     checks.same(f"{name}: MNE's samples", all(map(numpy.array_equal, before, after)), True)
+    checks.same(f"{name}: MNE's annotations", notes_after, notes)
     checks.same(f"{name}: EDFlib's samples", edflib_samples(dump, shown, folder)
                 == as_integers(data), True)
 

@@ -15,7 +15,6 @@ cc, and so Debian's own python3.
 """
 from collections import Counter
 from dataclasses import dataclass
-from itertools import takewhile
 from pathlib import Path
 
 from checks.lib import arguments, gapped, measure, model, runs
@@ -102,18 +101,11 @@ def same_notes(run: runs.Run, expected: list, notes: list, shift: float) -> Part
                 lambda late: (counted(expected, 0.0) & counted(notes, shift - late)).total())
 
 
-def cut_to_latin(text: str) -> str:
-    """What EDFbrowser's export has of a text: nothing from the first character on that is not
-    Latin-1."""
-    return "".join(takewhile(lambda letter: ord(letter) < 256, text))
-
-
-def found_in(run: runs.Run, content: reading.Content, is_latin: bool) -> Found:
+def found_in(run: runs.Run, content: reading.Content) -> Found:
     begin, within, outside = run.first(), [], []
     for onset, duration, text in (note for record in run.records for note in record.notes):
         is_within = begin <= onset and onset + (duration or 0) <= begin + run.length()
-        kept = cut_to_latin(text.decode()) if is_latin else text.decode()
-        note = (seconds(onset - begin), seconds(duration or 0), kept)
+        note = (seconds(onset - begin), seconds(duration or 0), text.decode())
         (within if is_within else outside).append(note)
     shift = content.start - seconds(begin)
     return Found(same_samples(run, content), same_times(run, content),
@@ -146,7 +138,7 @@ def lines_of(name: str, read, pairs: list) -> tuple:
                           "", "", ""))
             failed += 1
             continue
-        found = found_in(run, content, name.startswith("EDFbrowser"))
+        found = found_in(run, content)
         lines.append((name, run.number, "yes", found.samples, found.times, found.within, found.over,
                       found.outside))
         failed += not found.is_good(run)

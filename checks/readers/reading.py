@@ -46,7 +46,7 @@ def written_by(*words, **options) -> str:
     ran = measure.ran(*words, **options)
     if ran.status:
         raise ValueError(ran.err.decode().strip() or f"status {ran.status}")
-    return ran.out.decode()
+    return ran.out.decode(errors="replace")     # BioSig writes on behind a transducer's 80 bytes
 
 
 def by_mne(path: Path, samples: tuple) -> Content:
