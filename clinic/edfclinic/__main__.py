@@ -6,14 +6,7 @@ import sys
 from collections.abc import Callable
 from typing import Any
 
-from . import config, nights, status, text, user
-from .backup import backup
-from .faults import TROUBLE, Look, Trouble, Wrong
-from .forget import forget
-from .morning import Morning
-from .receive import receive, receive_all
-from .recode import recode
-from .text import say
+from . import backup, config, forget, morning, nights, place, receive, recode, status, text
 
 HELP = """In the morning, with the memory card in this computer:
   sudo edfclinic morning r01 --card /media/CARD/NIGHT.EDF
@@ -21,7 +14,6 @@ Of two files or two cards of r01: --card FILE --card FILE. It says what became o
 "look:" asks something: answer it by the report, or ask the engineer, who set edfclinic up.
 "edfclinic:" says what went wrong: mend it, and call again. Calling twice does no harm.
 Nights lie in /srv/nights. Exit status: 0 done, 1 look, 2 wrong words, 3 trouble."""
-NIGHT = "RECORDER/NAME"
 FLAG, RECORDER, CODE = {"action": "store_true"}, {"metavar": "RECORDER"}, {"metavar": "CODE"}
 CARD = {"action": "append", "default": [], "metavar": "FILE", "help": "a file of the card"}
 # Of each command what it does, and its words as argparse has them.
@@ -32,9 +24,10 @@ COMMANDS: dict[str, tuple[str, dict[str, dict[str, Any]]]] = {
     "morning": ("put the night away", {"recorder": RECORDER, "--card": CARD}),
     "nights": ("list the archive", {"--json": FLAG}),
     "recode": ("make a night anew under another patient's code", {
-        "night": {"metavar": NIGHT}, "--patient": {"required": True, **CODE}}),
+        "night": {"metavar": "RECORDER/NAME"}, "--patient": {"required": True, **CODE}}),
     "forget": ("list all of a patient; --yes removes it", {"code": CODE, "--yes": FLAG}),
-    "verify": ("say which files changed since", {"night": {"nargs": "*", "metavar": NIGHT}}),
+    "verify": ("say which files changed since", {
+        "night": {"nargs": "*", "metavar": "RECORDER/NAME"}}),
     "backup": ("copy the nights that the backup lacks", {}),
     "help": ("print this, or more of a command", {"of": {"nargs": "?", "metavar": "COMMAND"}})}
 
@@ -57,19 +50,19 @@ def run(given: argparse.Namespace) -> int:
         words().parse_args([*filter(None, [given.of]), "--help"])
     read = config.read(given.config, os.geteuid() == 0)
     if given.command == "receive" and bool(given.recorder) == given.all:
-        raise Wrong("receive wants a RECORDER, or --all")
+        raise text.Wrong("receive wants a RECORDER, or --all")
     if getattr(given, "recorder", None):
         read.recorder(given.recorder)
-    cards = user.open_cards(getattr(given, "card", []))
-    user.become(read)
+    cards = place.open_cards(getattr(given, "card", []))
+    place.become(read)
     does: dict[str, Callable[[], int]] = {
-        "receive": lambda: receive_all(read) if given.all else receive(read, given.recorder),
+        "receive": lambda: receive.receive(read, given.recorder),
         "status": lambda: status.status(read, given.json, given.html, given.tell),
-        "morning": lambda: Morning(read, given.recorder, cards).run(),
+        "morning": lambda: morning.Morning(read, given.recorder, cards).run(),
         "nights": lambda: nights.nights(read, given.json),
-        "recode": lambda: recode(read, given.night, given.patient),
-        "forget": lambda: forget(read, given.code, given.yes),
-        "verify": lambda: nights.verify(read, given.night), "backup": lambda: backup(read)}
+        "recode": lambda: recode.recode(read, given.night, given.patient),
+        "forget": lambda: forget.forget(read, given.code, given.yes),
+        "verify": lambda: nights.verify(read, given.night), "backup": lambda: backup.backup(read)}
     return does[given.command]()
 
 
@@ -79,9 +72,9 @@ def main() -> int:
             stream.reconfigure(errors="backslashreplace")
     try:
         return run(words().parse_args())
-    except (Look, Wrong, Trouble, OSError, KeyError) as why:
-        say(f"edfclinic: {text.why(why)}")
-        return getattr(why, "status", TROUBLE)
+    except (text.Wrong, text.Trouble, OSError, KeyError) as why:
+        text.say(f"edfclinic: {text.why(why)}")
+        return getattr(why, "status", text.TROUBLE)
 
 
 if __name__ == "__main__":

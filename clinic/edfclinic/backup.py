@@ -1,12 +1,12 @@
 """backup: copies the nights that the backup lacks, and compares all that are there."""
 import os
 
-from . import files, put_away, text
+from . import files, text
 from .config import Config
-from .faults import DONE, LOOK, Trouble
 from .files import join
-from .nights import differing
+from .nights import differing, folders
 from .place import Place, places
+from .text import DONE, LOOK, Trouble
 
 
 def keep(place: Place, folder: str, root: str) -> list[str]:
@@ -35,13 +35,14 @@ def backup(config: Config) -> int:
     try:
         if not os.path.ismount(config.backup or "/dev/null"):
             raise Trouble(f"the backup {config.backup!r} is not mounted; nothing was copied")
-        wrong = [said for place in places(config) for folder in put_away.folders(place)
+        wrong = [said for place in places(config) for folder in folders(place)
                  for said in keep(place, folder, join(config.backup, place.name))]
         print("".join(f"{said}\n" for said in wrong), end="")
         failed = f"{len(wrong)} files of the backup differ" if wrong else ""
         return LOOK if wrong else DONE
     except (Trouble, OSError) as why:
-        failed = text.why(why)
-        raise Trouble(failed) from None
+        # Kept, and told to everybody, without the name of a file, which has the patient's code.
+        failed = why.strerror or "trouble" if isinstance(why, OSError) else text.why(why)
+        raise Trouble(text.why(why)) from None
     finally:
         files.replace(join(config.data, "backup.json"), files.as_json({"failed": failed}))

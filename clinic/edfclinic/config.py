@@ -5,7 +5,7 @@ import tomllib
 from dataclasses import dataclass, fields
 from typing import Any
 
-from .faults import Wrong
+from .text import Wrong
 
 DEFAULT = "/etc/edfclinic.toml"
 SIZES = {"B": 1, "kB": 10**3, "MB": 10**6, "GB": 10**9, "TB": 10**12}

@@ -9,7 +9,7 @@ from collections.abc import Iterator
 from contextlib import contextmanager, suppress
 from typing import Any
 
-from .faults import Trouble
+from .text import Trouble
 
 PIECE = 1 << 20
 ZEROS = bytes(PIECE)
@@ -57,16 +57,12 @@ def put(fd: int, data: bytes) -> None:
         left = left[os.write(fd, left):]
 
 
-def write_new(path: str, data: bytes) -> None:
-    with opened(path, MADE) as fd:
-        put(fd, data)
-        os.fsync(fd)
-
-
 def replace(path: str, data: bytes) -> None:
     new = join(os.path.dirname(path), f".{os.path.basename(path)}.new")
     remove(new)
-    write_new(new, data)
+    with opened(new, MADE) as fd:
+        put(fd, data)
+        os.fsync(fd)
     rename(new, path)
 
 
@@ -154,11 +150,11 @@ def names(path: str) -> list[str]:
     return sorted(os.listdir(path)) if exists(path) else []
 
 
-def lock(path: str, seconds: float) -> int | None:
+def lock(path: str, seconds: float, kind: int = fcntl.LOCK_EX) -> int | None:
     fd, end = os.open(path, LOCKED, 0o600), time.monotonic() + seconds
     while True:
         try:
-            fcntl.flock(fd, fcntl.LOCK_EX | fcntl.LOCK_NB)
+            fcntl.flock(fd, kind | fcntl.LOCK_NB)
             return fd
         except BlockingIOError:
             if time.monotonic() >= end:
@@ -168,11 +164,7 @@ def lock(path: str, seconds: float) -> int | None:
 
 
 def is_locked(path: str) -> bool:
-    try:
-        with opened(path) as fd:
-            fcntl.flock(fd, fcntl.LOCK_SH | fcntl.LOCK_NB)
-            return False
-    except BlockingIOError:
-        return True
-    except FileNotFoundError:
-        return False
+    held = lock(path, 0.0, fcntl.LOCK_SH) if exists(path) else -1
+    if held is not None and held >= 0:
+        os.close(held)
+    return held is None

@@ -1,67 +1,141 @@
-"""forget: lists what a patient has, and removes it. Tonight and an unfinished morning stay."""
+"""forget: lists what a patient has, and removes it. What is another's, or may be, and what tonight
+has stays, and is told. A kill leaves what the next call finds again."""
+import hashlib
 import os
-import re
 
-from . import files, programs, put_away
+from . import files, nights, programs
 from .config import Config
-from .faults import DONE, LOOK
 from .files import join
-from .nights import check_code
-from .place import Place, places
-from .text import spell
+from .nights import FACTS, REPORT, SUMS, WHOSE, check_code, free_name
+from .place import LOG, Place, places, read_log
+from .text import DONE, LOOK, Trouble, say, spell
 
-HEAD, GONE = 256, ".gone-"
-
-
-def files_of(folder: str, code: str) -> list[str]:
-    """Those of the patient; a file is read whole only where the code is a word of its head."""
-    found, word = [], re.compile(rb"(?<![\w-])" + re.escape(os.fsencode(code)) + rb"(?![\w-])")
-    for path in [join(folder, name) for name in files.below(folder) if name.endswith(".edf")]:
-        with files.opened(path) as fd:
-            is_likely = word.search(os.pread(fd, HEAD, 0))
-        runs = programs.outline(path) if is_likely else []
-        if runs is None or any(run.patient == spell(code) for run in runs):
-            found.append(path)
-    return found
+BEYOND = "not looked at: inboxes, cards, the config, the journal (names of files), other copies"
+Whose = dict[str, list[str]]
 
 
-def of_recorder(place: Place, roots: list[str], code: str, is_meant: bool) -> int:
-    for above in [join(root, name) for root in roots for name in ("", "replaced")]:
-        for name in files.names(above):
-            if name.startswith((GONE, ".new")):     # what a kill left, also of a backup
-                files.remove_tree(join(above, name))
-    folders = [it for root in roots for it in put_away.folders(place, True, root)]
-    going = [it for it in folders if put_away.read_facts(it).get("patient") == spell(code)]
-    for folder in going:
-        name = (files.read(join(folder, put_away.REPLACES)) or "").strip()
-        going += [it for it in folders if os.path.basename(it) == name and it not in going]
-    others = [(path, it) for it in folders if it not in going for path in files_of(it, code)]
-    staying = [*files_of(place.tonight, code), *files_of(place.morning, code)]
-    for path in [*going, *(path for path, _ in others)]:
-        print(spell(f"{'removed' if is_meant else 'has'} {path}"))
-    for folder in going if is_meant else ():
-        # Under a name that the next call clears: a kill leaves no half of a night.
-        gone = join(os.path.dirname(folder), GONE + os.path.basename(folder))
-        files.rename(folder, gone)
-        files.remove_tree(gone)
-    for path, folder in others if is_meant else ():
-        name = os.path.relpath(path, folder)
-        lines = [f"{it}\n" for it in put_away.sums(folder) if it[66:] != name]
-        files.replace(join(folder, put_away.SUMS), "".join(lines).encode())
-        files.remove(path)
-    for path in staying:
-        print(spell(f"stays until its morning: {path}"))
-    return len(staying)
+def files_of(folder: str, code: str, mend: tuple[str, ...] = ()) -> list[str]:
+    """Those with the code in their head, or that get it."""
+    paths = [join(folder, name) for name in files.below(folder) if name.endswith(".edf")]
+    return [it for it in paths if programs.code_of(it) == code or code in mend]
+
+
+def strip(folder: str, doomed: set[str], whose: Whose) -> None:
+    """Removes these files and their names. Till WHOSE, the last, is written a call goes on here."""
+    numbers, lines = {os.path.basename(it) for it in doomed}, read_log(join(folder, LOG))
+    stay = [it for it in lines if it.file not in numbers]
+    for name in doomed - {FACTS}:
+        files.remove(join(folder, name))
+    made, last = dict[str, bytes](), {WHOSE: files.as_json(whose)} if whose else {}
+    if FACTS not in doomed and (facts := nights.read_facts(folder)):
+        gone = {it[2:] for it in lines} - {it[2:] for it in stay}
+        lost = [it for it in facts["refused"] if (it["name"], it["answer"]) in gone]
+        lost += [it for nth, it in enumerate(facts["card"], 1) if f"card-{nth}.edf" in doomed]
+        for it in lost:
+            it["name"] = nights.FORGOTTEN
+        made = {FACTS: files.as_json(facts), REPORT: nights.report(folder, facts).encode()}
+    made |= {LOG: "".join("\t".join(it) + "\n" for it in stay).encode()} if lines else {}
+    sums = {it: of for it, of in nights.sums(folder).items() if it not in doomed | {WHOSE}}
+    sums |= {it: hashlib.sha256(data).hexdigest() for it, data in (made | last).items()}
+    made[SUMS] = "".join(f"{sums[it]}  {it}\n" for it in sorted(sums)).encode()
+    for name, data in (made | last).items():
+        files.replace(join(folder, name), data)
+    for name in ({WHOSE} - last.keys()) | ({FACTS} & doomed):
+        files.remove(join(folder, name))
+
+
+def rest_of(folder: str) -> str:
+    """A name without the code for what stays of a night."""
+    above, night = os.path.split(folder)
+    replaced = join(above.removesuffix("/replaced"), "replaced")
+    name = free_name(night[:10], "rest", {*files.names(replaced)})
+    return folder if night[10:].startswith("-rest") else join(replaced, name)
+
+
+class Forgetting:
+    """Of one recorder: what the patient has in archive and backup."""
+
+    def __init__(self, place: Place, roots: list[str], code: str, is_meant: bool):
+        self.code, self.is_meant, self.lines = spell(code), is_meant, set[str]()
+        for above in [join(root, name) for root in roots for name in ("", "replaced")]:
+            files.remove_tree(join(above, ".new"))      # what a kill left, also of a backup
+        files.remove_tree(join(place.root, "gone"))
+        self.facts = {it: nights.read_facts(it) for root in roots
+                      for it in nights.folders(place, True, root)}
+        later = {files.read(join(it, nights.REPLACES)): it for it in self.facts}
+        self.night = {it: of.get("night", os.path.basename(it)) for it, of in self.facts.items()}
+        self.made_of = {it: later.get(f"{night}\n", "") for it, night in self.night.items()}
+        # What a call that was killed had found is found again by its names.
+        self.begun = join(place.root, "forgetting.json")
+        before = files.from_json(self.begun) or [code]
+        if before[0] != code:
+            raise Trouble(f"call edfclinic forget {before[0]} --yes again: it was not finished")
+        self.gone = {f"patient {self.code}", *before[1:]}
+        self.going = [it for it, of in self.facts.items() if self.night[it] in self.gone
+                      or of.get("patient") == self.code and not self.made_of[it]]
+        for folder in self.going:       # and those that it was made of, when it was recoded
+            self.going += {it for it in self.facts if self.made_of[it] == folder} - {*self.going}
+        self.gone |= {self.night[it] for it in self.going}
+
+    def visit(self, folder: str, is_going: bool) -> None:
+        """Parts what is the patient's from what stays, tells both, and if it is meant does it."""
+        whose: Whose = files.from_json(join(folder, WHOSE)) or {}
+        rest = {it: [night for night in whose[it] if night not in self.gone] for it in whose}
+        there = [it for it in whose if files.exists(join(folder, it))]
+        doomed, to = {it for it in rest if not rest[it]}, folder
+        if is_going:
+            doomed |= {*files.below(folder), *nights.sums(folder)} - {*rest, LOG, SUMS, WHOSE}
+            to = rest_of(folder)
+        at, does = (to, "removed") if self.is_meant else (folder, "has")
+        heads = {*files_of(folder, self.code)} - {join(folder, it) for it in there}
+        if is_going:
+            self.lines.add(f"{does} {folder}")
+        elif heads:
+            of = self.made_of[folder] or self.facts[folder].get("patient", "nobody known")
+            self.lines.add(f"look: {folder} stays: files in it have this code, but are of {of}")
+        for name in there:
+            path, of = join(at, name), " or ".join(rest[name])
+            if not of and not is_going:
+                self.lines.add(f"{does} {path}")
+            elif of and rest[name] != whose[name]:
+                self.lines.add(f"look: {path} stays: it is of this patient, of {of}, or of both")
+            elif of and is_going:
+                self.lines.add(f"stays {path}: it is of {of}")
+        if self.is_meant and (is_going or rest != whose or {*files.below(folder)} <= {SUMS, LOG}):
+            self.part(folder, to, doomed, {it: rest[it] for it in rest if rest[it]})
+
+    def part(self, folder: str, to: str, doomed: set[str], stay: Whose) -> None:
+        files.make_folder(os.path.dirname(to))
+        if to != folder:
+            files.rename(folder, to)
+        own = [os.path.basename(to)]
+        strip(to, doomed, {it: stay[it] for it in stay if stay[it] != own})
+        # Where no file stays the log does, for the names of others.
+        if {*files.below(to)} <= {SUMS, LOG} and not read_log(join(to, LOG)):
+            files.remove_tree(to)
 
 
 def forget(config: Config, code: str, is_meant: bool) -> int:
     check_code(code)
-    left, is_missing = 0, bool(config.backup) and not os.path.ismount(config.backup)
-    for place in places(config):
-        held = place.lock_nights()
-        backups = [join(config.backup, place.name)] if config.backup and not is_missing else []
-        left += of_recorder(place, [place.archive, *backups], code, is_meant)
-        os.close(held)
+    is_missing, said = bool(config.backup) and not os.path.ismount(config.backup), list[str]()
+    roots = [config.nights] if is_missing or not config.backup else [config.nights, config.backup]
+    for place in places(config, config.data, *roots[1:]):
+        mend = getattr(config.recorders.get(place.name), "mend", None) or ()
+        with open(place.lock_nights()):
+            of = Forgetting(place, [join(it, place.name) for it in roots], code, is_meant)
+            if is_meant:
+                files.replace(of.begun, files.as_json([code, *sorted(of.gone)]))
+            for folder in sorted(of.facts, key=lambda it: os.path.basename(it)[10:15] != "-rest"):
+                of.visit(folder, folder in of.going)
+            if is_meant:
+                files.remove(of.begun)
+            of.lines |= {f"stays until its morning: {it}"
+                         for folder in (place.tonight, place.morning)
+                         for it in files_of(folder, of.code, mend)}
+        said += sorted(of.lines)
+        print("".join(f"{spell(it)}\n" for it in sorted(of.lines)), end="")
+    say(BEYOND if said else f"nothing has exactly the code {code}")
     if is_missing:
-        print(f"{config.backup} is not mounted: what it has stays")
-    return LOOK if left or is_missing else DONE
+        print(f"{config.backup} is not mounted: what it has stays; mount it, and call again")
+    is_look = any(it.startswith(("look: ", "stays until ")) for it in said)
+    return LOOK if is_look or is_missing else DONE

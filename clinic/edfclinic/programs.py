@@ -9,37 +9,26 @@ import subprocess
 import tempfile
 import time
 from contextlib import nullcontext, suppress
-from subprocess import DEVNULL, PIPE
 from typing import IO, NamedTuple
 
 from . import files, text
 from .config import Recorder
-from .faults import Trouble
+from .text import Trouble
 
 SECONDS, BYTES_A_SECOND = 120, 500_000      # that a program has for a file
 MEMORY, WIDENED, MOST_RUNS = 4 << 30, 1 << 30, 500_000  # the last of a file, and of a night
 TOO_MANY = f"refused: it has more than {MOST_RUNS:,} gaps"
-SAID, ENDLESS = 1 << 26, 1_000              # bytes that one says; the status of one that says more
-HUGE = (0, 1, ENDLESS, -signal.SIGXFSZ)
+SAID, HUGE = 1 << 26, (0, 1, -signal.SIGXFSZ)       # bytes that one says; where it writes too many
 Room = tuple[int, int]                      # bytes of a file that it writes, and of memory
-ANY_ROOM, OF_PICTURE = (1 << 62, MEMORY), (1 << 26, 1 << 30)
 C_LIBRARY, PR_SET_PDEATHSIG = ctypes.CDLL(None), 1
 RUN = re.compile(r"\d+ records=\d+ first=(\S+) seconds=([\d.]+)(?: .*)?")
 HELD = re.compile(r"(\d+) records=\d+ first=\S+ patient=(\S*) investigation=(\S*)")
 OF_THE_FILE = re.compile(r"refused(?::| E[123]?\d\b)")
 
 
-class Ran(NamedTuple):
-    status: int
-    out: bytes
-    err: bytes
-
-    def why(self) -> str:
-        return "; ".join(text.spell_lines(self.err)[-2:]) or f"status {self.status}"
-
-
+Ran = NamedTuple("Ran", [("status", int), ("out", bytes), ("err", bytes), ("why", str)])
 # A stretch without a gap, in nanoseconds.
-Run = NamedTuple("Run", [("first", int), ("end", int), ("patient", str)])
+Run = NamedTuple("Run", [("first", int), ("end", int)])
 Held = NamedTuple("Held", [("place", int), ("patient", str), ("investigation", str)])
 
 
@@ -47,60 +36,47 @@ def limit(path: str) -> float:
     return SECONDS + os.stat(path).st_size / BYTES_A_SECOND
 
 
-def room_of(*paths: str) -> Room:
-    """Of a file that is made of these: one long text widens each data record of it."""
-    return max(WIDENED, 4 * sum(os.stat(path).st_size for path in paths)), MEMORY
+def room_of(path: str) -> Room:
+    """Of a file that is made of this one: one long text widens each data record of it."""
+    return max(WIDENED, 4 * os.stat(path).st_size), MEMORY
 
 
-def begin(words: list[str], folder: str, given: int, out: int, err: IO[bytes],
-          room: Room = ANY_ROOM) -> subprocess.Popen[bytes]:
+def begin(words: list[str], folder: str, out: int, err: IO[bytes], room: Room,
+          given: int = subprocess.DEVNULL) -> subprocess.Popen[bytes]:
     def limited() -> None:
-        # It ends with the process that began it.
-        C_LIBRARY.prctl(PR_SET_PDEATHSIG, signal.SIGKILL)
+        C_LIBRARY.prctl(PR_SET_PDEATHSIG, signal.SIGKILL)   # it ends with the one that began it
         for kind, value in zip((resource.RLIMIT_FSIZE, resource.RLIMIT_AS), room):
             own = resource.getrlimit(kind)[1]
             value = value if own == resource.RLIM_INFINITY else min(value, own)
             resource.setrlimit(kind, (value, value))
-    try:
-        return subprocess.Popen(words, cwd=folder, stdin=given, stdout=out, stderr=err,
-                                env={**os.environ, "EDFSTORE_CAUSES": "1"}, preexec_fn=limited)
-    except (FileNotFoundError, PermissionError) as why:
-        raise Trouble(f"{words[0]} can't be run: {why.strerror}") from None
+    return subprocess.Popen(words, cwd=folder, stdin=given, stdout=out, stderr=err,
+                            env={**os.environ, "EDFSTORE_CAUSES": "1"}, preexec_fn=limited)
 
 
-def piece(out: IO[bytes], end: float) -> bytes:
-    """What it wrote; nothing at its end, or where the time is over."""
-    ready = select.select([out], [], [], max(0, end - time.monotonic()))[0]
-    return os.read(out.fileno(), 1 << 16) if ready else b""
-
-
-def ended(child: subprocess.Popen[bytes], seconds: float) -> tuple[bytes, int]:
-    written, end = bytearray(), time.monotonic() + seconds
-    with child.stdout or nullcontext() as out:
-        while out and len(written) <= SAID and (it := piece(out, end)):
-            written += it
-        with suppress(subprocess.TimeoutExpired):
-            child.wait(0 if len(written) > SAID else max(0, end - time.monotonic()))
-        child.kill()
-    return bytes(written), ENDLESS if len(written) > SAID else child.wait()
+def ended(child: subprocess.Popen[bytes], seconds: float) -> int:
+    with suppress(subprocess.TimeoutExpired):
+        child.wait(seconds)
+    child.kill()
+    return child.wait()
 
 
 def run(words: list[str], folder: str, of: str, fits: tuple[int, ...] = (), out: str = "",
-        room: Room = ANY_ROOM) -> Ran:
+        room: Room | None = None) -> Ran:
     """Runs a program to its end, in the time for the file `of`; `out` is the file that it writes.
     Where `fits` has some, any other status is trouble."""
-    with tempfile.TemporaryFile() as err:
-        with files.opened(files.join(folder, out), files.MADE) if out else nullcontext(PIPE) as fd:
-            written, status = ended(begin(words, folder, DEVNULL, fd, err, room), limit(of))
-            if out:
-                os.fsync(fd)
-        said = os.pread(err.fileno(), 1 << 20, 0)
-    if status < 0:
-        said += f"\n{words[0]} {words[1]} was ended: {signal.strsignal(-status)}".encode()
-    ran = Ran(status, written, said)
+    room = room or (room_of(of) if out else (SAID, MEMORY))
+    with tempfile.TemporaryFile() as err, tempfile.TemporaryFile() as said, \
+            (files.opened(files.join(folder, out), files.MADE) if out
+             else nullcontext(said.fileno())) as fd:
+        status = ended(begin(words, folder, fd, err, room), limit(of))
+        if out:
+            os.fsync(fd)
+        told, why = os.pread(said.fileno(), SAID, 0), os.pread(err.fileno(), 1 << 20, 0)
+    lines = text.spell_lines(why)[-2:] or [f"status {status}"]
+    lines += [f"it was ended: {signal.strsignal(-status)}"] if status < 0 else []
     if fits and status not in fits:
-        raise Trouble(f"{' '.join(words[:2])}: {ran.why()}")
-    return ran
+        raise Trouble(f"{' '.join(words[:2])}: {'; '.join(lines)}")
+    return Ran(status, told, why, "; ".join(lines))
 
 
 def accepted(answer: str) -> bool:
@@ -111,20 +87,25 @@ def is_trouble(answer: str) -> bool:
     return not accepted(answer) and not OF_THE_FILE.match(answer)
 
 
+def code_of(path: str) -> str:
+    """The patient's, as the head of a file of EDF has it; nothing where it is none."""
+    with files.opened(path) as fd:
+        head = os.pread(fd, 88, 0)
+    return text.spell(os.fsdecode(head[8:].split(b" ")[0])) if head[:8] == b"0       " else ""
+
+
 def outline(path: str) -> list[Run] | None:
     """The runs of a file, by time, of more than MOST_RUNS the first; none where it is refused."""
     (folder, name), runs = os.path.split(path), []
-    ran = run(["edfruns", "list", f"./{name}"], folder, path, (0, 1, ENDLESS))
+    ran = run(["edfruns", "list", f"./{name}"], folder, path, HUGE)
     if ran.status == 1:
         return None
-    with files.opened(path) as fd:      # EDF+ it is, whose patient field begins with the code
-        code = text.spell(os.fsdecode(os.pread(fd, 80, 8).split(b" ")[0]))
     for line in os.fsdecode(ran.out).split("\n")[:-1][:MOST_RUNS + 1]:
         found = RUN.fullmatch(line)
         if not found:
             raise Trouble("edfruns list: a line that nobody knows")
         first = text.instant(found[1])
-        runs.append(Run(first, first + text.nanoseconds(found[2]), code))
+        runs.append(Run(first, first + text.nanoseconds(found[2])))
     return runs
 
 
@@ -141,7 +122,7 @@ def prepared(path: str, folder: str, recorder: Recorder) -> str:
             taken = target
     if recorder.by_onset:
         words, name = ["edfruns", "canonical", "--by-onset", taken], f"{stem}.onset.edf"
-        ran = run(words, folder, path, HUGE, name, room_of(path))
+        ran = run(words, folder, path, HUGE, name)
         taken = files.join(folder, name) if ran.status == 0 else taken
     return taken
 
@@ -150,12 +131,11 @@ class Session:
     def __init__(self, folder: str, store: str):
         self.folder, self.rest = folder, b""
         self.err: IO[bytes] = tempfile.TemporaryFile()
-        self.child = begin(["edfserve", "--from", ".", store], folder, PIPE, PIPE, self.err)
+        pipe, room = subprocess.PIPE, (1 << 62, MEMORY)
+        self.child = begin(["edfserve", "--from", ".", store], folder, pipe, self.err, room, pipe)
 
     def why(self) -> str:
-        fd = self.err.fileno()
-        written = os.pread(fd, 4096, max(0, os.fstat(fd).st_size - 4096))
-        return "; ".join(text.spell_lines(written)[-2:])
+        return "; ".join(text.spell_lines(os.pread(self.err.fileno(), 1 << 20, 0))[-2:])
 
     def take(self, path: str) -> str:
         name = os.path.relpath(path, self.folder)
@@ -183,20 +163,21 @@ class Session:
     def line(self, end: float) -> str:
         assert self.child.stdout
         while b"\n" not in self.rest:
-            it = piece(self.child.stdout, end)
+            ready = select.select([self.child.stdout], [], [], max(0, end - time.monotonic()))[0]
+            it = os.read(self.child.stdout.fileno(), 1 << 16) if ready else b""
             if not it:
                 self.child.kill()
-                is_late = time.monotonic() >= end
-                raise Trouble("edfserve: " + ("no answer" if is_late else self.why() or "it ended"))
+                raise Trouble(f"edfserve: {self.why() or 'it ended' if ready else 'no answer'}")
             self.rest += it
         line, _, self.rest = self.rest.partition(b"\n")
         return text.spell(os.fsdecode(line))
 
     def close(self) -> None:
-        assert self.child.stdin
+        assert self.child.stdin and self.child.stdout
         with suppress(BrokenPipeError):
             self.child.stdin.close()
-        status, why = ended(self.child, SECONDS)[1], self.why()
+        status, why = ended(self.child, SECONDS), self.why()
+        self.child.stdout.close()
         self.err.close()
         if status not in (0, 1):
             raise Trouble(f"edfserve: {why or f'status {status}'}")

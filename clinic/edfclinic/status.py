@@ -1,6 +1,6 @@
 """status: how each recorder is, from what `receive` wrote. It opens no store and no inbox."""
-import html
 import os
+import re
 import subprocess
 import time
 from shutil import disk_usage
@@ -8,13 +8,13 @@ from typing import Any
 
 from . import files, text
 from .config import Config
-from .faults import DONE, LOOK, Trouble
 from .place import Place
+from .text import DONE, LOOK, Trouble
 
 UNTOLD, ALARM_SECONDS = 300, 60     # after which nothing is known, or an alarm is ended
-LISTS = ("refused", "waiting", "left")
+LISTS, ACCEPTED = ("refused", "waiting", "left"), re.compile(r" accepted new=(\d+) known=(\d+)$")
 HEAD = """<!doctype html><html lang="en"><meta charset="utf-8"><meta http-equiv="refresh"
-content="60"><title>Recorders</title><style>td,th{padding:.3em 1em;text-align:left}</style>"""
+content="60"><title>Recorders</title>"""
 
 
 def state_of(config: Config, place: Place, told: dict[str, Any]) -> tuple[str, str]:
@@ -28,7 +28,7 @@ def state_of(config: Config, place: Place, told: dict[str, Any]) -> tuple[str, s
     if not told or abs(age) > UNTOLD:       # also where the host's clock was set back
         return "unknown", f"nothing was told for 5 minutes: systemctl restart {unit}"
     if told["inbox"] or told["trouble"]:
-        return "unknown", f"{told['inbox'] or told['trouble']}; it is tried again"
+        return "unknown", f"{told['inbox'] or told['trouble']}; if it lasts, ask the engineer"
     silence = told["silence"] + age if told["last"] else 0
     if silence > config.silent and is_watched:
         return "silent", f"no file came for {silence / 60:.0f} minutes: look at the recorder"
@@ -38,15 +38,13 @@ def state_of(config: Config, place: Place, told: dict[str, Any]) -> tuple[str, s
 def recorder(config: Config, place: Place) -> dict[str, Any]:
     told = files.from_json(place.told) or {}
     state, why = state_of(config, place, told)
-    full = told.get("full") or disk_usage(config.data).free < files.PIECE and "the disk is full"
-    full = full and f"{full}: make room; it goes on by itself"
+    full = told.get("full") or disk_usage(config.data).free < files.PIECE and "make room on disk"
     is_unfinished = files.exists(place.morning) and not files.is_locked(place.changing)
     count, unsolved = told.get("left_count", 0), told.get("unsolved", 0)
-    again = "the card may have them, give it to morning"
-    call = f"it is unfinished: call edfclinic morning {place.name} again"
-    causes = [(state, why), ("refused", unsolved and f"{unsolved} of its files: {again}"),
-              ("left", count and f"{count} in its inbox: its uploader must remove them"),
-              ("full", full), ("morning", is_unfinished and call)]
+    causes = [(state, why), ("full", full and f"{full}; it goes on by itself"),
+              ("morning", is_unfinished and f"call edfclinic morning {place.name} again"),
+              ("refused", unsolved and f"{unsolved} of its files: give its card to morning"),
+              ("left", count and f"{count} in its inbox: its uploader must remove them")]
     numbers = ("accepted", "refused_minutes", "gap_minutes", *(f"{it}_count" for it in LISTS))
     return {"state": state, "last": told.get("last"), "causes": [it for it in causes if it[1]],
             **{it: told.get(it, []) for it in LISTS}, **{it: told.get(it, 0) for it in numbers}}
@@ -59,9 +57,9 @@ def status(config: Config, is_json: bool, is_html: bool, is_telling: bool) -> in
     if free < config.free_space:
         causes += [(None, "free_space", f"{free / 1e9:.1f} GB are free: make room")]
     if config.backup:
-        failed = (files.from_json(os.path.join(config.data, "backup.json")) or {}).get("failed")
-        failed = failed if os.path.ismount(config.backup) else f"{config.backup} is not mounted"
-        causes += [(None, "backup", f"{failed}; then call edfclinic backup")] if failed else []
+        why = (files.from_json(os.path.join(config.data, "backup.json")) or {}).get("failed")
+        why = why if os.path.ismount(config.backup) else f"{config.backup} is not mounted"
+        causes += [(None, "backup", f"{why}: mend that, then call edfclinic backup")] if why else []
     told = [dict(zip(("recorder", "cause", "text"), it)) for it in causes]
     found: dict[str, Any] = {"free_bytes": free, "recorders": recorders, "causes": told}
     print(files.as_json(found).decode() if is_json else "\n".join(lines(found)))
@@ -82,22 +80,20 @@ def lines(found: dict[str, Any]) -> list[str]:
         counts = ", ".join(f"{it[f'{kind}_count']} {kind}" for kind in LISTS) + " alone"
         said.append(f"{name} {it['state']}: {it['accepted']} accepted, {counts}, "
                     f"{it['gap_minutes']} minutes of gaps")
-        said += [f"  last: {it['last']['name']} {it['last']['answer']}"] if it["last"] else []
+        last = f"  last: {it['last']['name']} {it['last']['answer']}" if it["last"] else ""
+        said += [ACCEPTED.sub(r": accepted, \1 data records new, \2 known", last)] * bool(last)
         said += [f"  {kind}: {of['name']} {of['answer']}" for kind in LISTS for of in it[kind]]
     said += [f"look: {cause(it)}" for it in found["causes"]]
     return said + [f"{found['free_bytes'] / 1e9:.1f} GB are free"]
 
 
 def page(found: dict[str, Any]) -> str:
-    rows = [("recorder", "state", "accepted", "refused", "minutes of gaps", "last file", "look")]
-    for name, it in [*found["recorders"].items(), (None, {})]:
-        own = [other["cause"] for other in found["causes"] if other["recorder"] == name]
-        rows.append((name or "all", it.get("state", ""), it.get("accepted", ""),
-                     it.get("refused_count", ""), it.get("gap_minutes", ""),
-                     (it.get("last") or {}).get("at", ""), ", ".join(own)))
-    cells = ["<td>".join(html.escape(str(cell)) for cell in row) for row in rows]
-    return f"{HEAD}<h1>Recorders, {text.now()}</h1><table><tr><td>{'<tr><td>'.join(cells)}" \
-        f"</table><p>{found['free_bytes'] / 1e9:.1f} GB are free.\n"
+    rows = [f"<b>{name} {it['state']}</b>: {it['accepted']} accepted, {it['refused_count']} refused"
+            f", {it['gap_minutes']} minutes of gaps, last file {(it['last'] or {}).get('at', '')}"
+            for name, it in found["recorders"].items()]
+    rows += [f"look: {it['recorder'] or 'all'} {it['cause']}" for it in found["causes"]]
+    return f"{HEAD}<h1>Recorders, {text.now()}</h1><p>{'<p>'.join(rows)}" \
+        f"<p>{found['free_bytes'] / 1e9:.1f} GB are free.\n"
 
 
 def tell(config: Config, causes: list[dict[str, str | None]]) -> None:

@@ -1,4 +1,4 @@
-"""How names, instants and amounts are written and read."""
+"""How names, instants, amounts and faults are written and read."""
 import errno
 import os
 import re
@@ -6,13 +6,27 @@ import sys
 from datetime import datetime, timedelta, timezone
 
 FULL = (errno.ENOSPC, errno.EDQUOT)
-SECOND = 10**9
-MINUTE, HOUR = 60 * SECOND, 3600 * SECOND
+SECOND, MINUTE, HOUR = 10**9, 60 * 10**9, 3600 * 10**9
 EPOCH = datetime(1970, 1, 1)
 # Control bytes, the backslash, marks that turn the direction, separators, and what is no UTF-8.
 UNSAFE = re.compile("[\x00-\x1f\x7f-\x9f\\\\\u061c\u200e\u200f\u2028-\u202e\u2066-\u2069"
                     "\ud800-\udfff]")
 AT = "%Y-%m-%dT%H:%M:%SZ"
+DONE, LOOK, WRONG, TROUBLE = 0, 1, 2, 3     # what a command ends with
+
+
+class Trouble(Exception):
+    """A disk, a store, a lock or a program that failed; calling again may do."""
+    status = TROUBLE
+
+
+class Full(Trouble):
+    """A disk, or tonight, that has no room."""
+
+
+class Wrong(Exception):
+    """Words, a code, a config or a user that nothing can be done with."""
+    status = WRONG
 
 
 def spell(text: str) -> str:
