@@ -48,5 +48,6 @@ function personIn({ head }) {
   const [code, , born = "X", ...names] = field(head, "patient").split(" ");
   const name = names.join(" ").replace(/_/g, " ") || "X";
   return (code === "X" ? "without a code" : code) + (name === "X" ? "" : `, ${name}`) +
-    (born === "X" ? "" : `, born ${born}`);
+    (born === "X" ? "" : `, born ${born.replace(/^0/, "").replace(/-(.)(.*)-/,
+      (_, first, rest) => ` ${first}${rest.toLowerCase()} `)}`);
 }

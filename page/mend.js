@@ -26,7 +26,7 @@ async function showMended(box, title, good) {
     { className: isOwn ? "bad" : "" });
   if (lacks) hint(wordsAt("no-annotations"), box);
   const buttons = buttonsIn(box), gone = good.map(({ file }) => file);
-  button(good.length === 1 ? "Take it" : `Take these ${counted(good.length)}`, buttons, () =>
+  button(good.length === 1 ? "Use it" : `Use these ${counted(good.length)}`, buttons, () =>
     take(good.map(({ file: { own, path, night }, blob }, nth) => ({ own: `${own} (mended)`,
       path: `${path} (mended)`, night, blob, head: heads[nth] })), { gone }), title)
     .className = "first";

@@ -104,7 +104,7 @@ async function take(files, how = {}) {
       callAll(now.files);
       if (fault === CANCELLED) {
         const left = waiting.splice(0).length;
-        return say(`Cancelled.${left > 0 ? ` ${several(left, "waiting file")} not taken.` : ""}`);
+        return say(`Cancelled.${left > 0 ? ` ${several(left, "waiting file")} not added.` : ""}`);
       }
       head = showFault(files, how, fault);
       return "failed";
@@ -116,14 +116,12 @@ async function take(files, how = {}) {
 // Says why nothing came of files; those that are not the cause may be taken.
 function showFault(files, how, { message, file = null }) {
   const [box, head] = part("section", byId("fault"), "h2", now.files.length === 0
-    ? "✕ Nothing was taken." : "✕ Nothing was taken: what is below stays as it was.");
+    ? "✕ Nothing was added." : "✕ Nothing was added: what is below stays as it was.");
   byId("fault").replaceChildren(box);
   made("p", message, box, { className: "bad" });
   const others = files.filter((it) => it !== file);
-  if (file && others.length > 0) {
-    button(`Go on with ${several(others.length, "other file")}`, buttonsIn(box),
-      () => take(others, how));
-  }
+  if (file && others.length > 0) button(`Go on with ${several(others.length, "other file")}`,
+    buttonsIn(box), () => take(others, how));
   return head;
 }
 
@@ -131,7 +129,7 @@ function showFault(files, how, { message, file = null }) {
 function add(blobs) {
   if (isBusy) {
     waiting.push(...blobs);
-    return say(`${several(waiting.length, "file")} will be taken when this is done.`);
+    return say(`${several(waiting.length, "file")} will be added when this is done.`);
   }
   const files = blobs.map((blob) => ({ blob, own: blob.name,
     path: blob.path ?? (blob.webkitRelativePath || blob.name) }));
@@ -162,8 +160,7 @@ async function takeCuts({ name, blob, own, night }, stretches) {
     path: `${own} from ${files[nth].from}`, night, blob: out })));
 }
 
-const takeFirst = (file) =>
-  take([file, ...now.files.filter((it) => it !== file)], { isAnew: true });
+const takeFirst = (it) => take([it, ...now.files.filter((one) => one !== it)], { isAnew: true });
 const sortAll = (isSorted) => take(now.files, { isAnew: true, isSorted });
 
 // Files are taken as another night, or with those of that one.

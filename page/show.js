@@ -1,8 +1,7 @@
 // What came of files: each recording with its picture first; then what was refused, by its cause.
 
 const REFUSALS = JSON.parse(byId("refusals").textContent);
-const whatIs = (file) =>
-  isFilled(file) ? "a copy for viewing; drop the exact one" : kindOf(file.head);
+const whatIs = (it) => isFilled(it) ? "a copy for viewing; drop the exact one" : kindOf(it.head);
 const isAside = (file) => whatIs(file) !== null && !(whatIs(file) === UNKNOWN &&
   /\.edf$/i.test(file.name));
 
@@ -33,8 +32,7 @@ function causeOf({ number, place, head }) {
   return wordsAt(`cause-${number}`) ?? sentence(REFUSALS[number].what);
 }
 
-const outOf = (file) => button("Take out", document.createDocumentFragment(),
-  () => takeOut([file]), file.name);
+const outOf = (file) => button("Remove", new DocumentFragment(), () => takeOut([file]), file.name);
 
 // What is folded of refused files: each with its number and place, and the fields that it is of.
 function showDetails(box, files) {
@@ -53,9 +51,9 @@ function showCompared(box, file) {
   const lasts = (some) => lasting(String(Number((field(file.head, "duration") *
     some.reduce((sum, { records }) => sum + Number(records), 0)).toFixed(6))));
   if (each.length === 0) return;
-  made("p", `${file.name} contradicts for ${lasts(of("differs", "overlaps"))}. ` +
-    (fresh.length > 0 ? `${lasts(fresh)} of it is missing here.` : "All else on it is here."), box);
-  if (fresh.length > 0) button(`Take the missing ${lasts(fresh)}`, buttonsIn(box),
+  made("p", `${lasts(of("differs", "overlaps"))} of ${file.name} differs from what is used. ` +
+    (fresh.length > 0 ? `${lasts(fresh)} is in this file alone.` : "All else in it is used."), box);
+  if (fresh.length > 0) button(`Add the missing ${lasts(fresh)}`, buttonsIn(box),
     () => takeCuts(file, fresh), file.name);
   table(fold("From when to when", box), "What is here of this file", ["From", "To", "What"], each,
     (it) => [when(it.from), when(it.to), wordsAt(`has-${it.word}`)]);
@@ -73,11 +71,11 @@ function showGroup(place, cause, files) {
   }
   const contradicts = /^E3[01]/.test(first.number);
   if (contradicts) hint(wordsAt("first-stays"), box);
-  if (contradicts && isOne) button("Take this file first", buttons, () => takeFirst(first), of);
+  if (contradicts && isOne) button("Use this file first", buttons, () => takeFirst(first), of);
   if (first.number === "E31" && !now.isSorted) {
     button("Sort all annotations by their times", buttons, () => sortAll(true));
   }
-  button(isOne ? "Take out" : `Take all ${counted(files.length)} out`, buttons,
+  button(isOne ? "Remove" : `Remove all ${counted(files.length)}`, buttons,
     () => takeOut(files), of);
   if (contradicts) files.forEach((it) => showCompared(box, it));
   showDetails(fold("Details", box), files);
@@ -86,7 +84,7 @@ function showGroup(place, cause, files) {
 function showRefused(box, refused) {
   const groups = new Map();
   refused.forEach((it) => groups.set(causeOf(it), [...groups.get(causeOf(it)) ?? [], it]));
-  const [place] = part("section", box, "h3", "Files that were not taken");
+  const [place] = part("section", box, "h3", "Files that are not used");
   groups.forEach((files, cause) => showGroup(place, cause, files));
 }
 
@@ -97,12 +95,12 @@ function showAside(box, files, title, why, isOpen) {
   table(all, "These files change nothing", ["File", "What it is", ""], files,
     (it) => [it.name, why(it), outOf(it)]);
   if (files.length > 1) {
-    button(`Take all ${counted(files.length)} out`, buttonsIn(all), () => takeOut(files));
+    button(`Remove all ${counted(files.length)}`, buttonsIn(all), () => takeOut(files));
   }
 }
 
 function showFiles(box, taken) {
-  const all = fold(`${several(taken.length, "file")} taken`, box);
+  const all = fold(`${several(taken.length, "file")} used`, box);
   table(all, wordsAt("accepted"), ["File", "Starts", "New", "Known", ""], taken, (it) =>
     [it.name, when(startOf(it)), counted(it.fresh), counted(it.known), outOf(it)]);
   now.outside.forEach((line) => hint(
@@ -110,7 +108,7 @@ function showFiles(box, taken) {
   const buttons = buttonsIn(all);
   button("Save the list of files", buttons,
     () => saveText(window.answer.taken + window.answer.listed, "edfstore-answers.txt"));
-  if (now.isSorted) button("Take annotations as they came", buttons, () => sortAll(false));
+  if (now.isSorted) button("Use annotations as they came", buttons, () => sortAll(false));
 }
 
 // Shows what the page has, and gives the heading above it.
@@ -128,10 +126,10 @@ function show() {
   const mark = (some, text, className) => some.length > 0 &&
     made("span", text.replace("#", several(some.length, "file")), head, { className });
   mark(taken, `✓ # in ${several(recordings.length, "recording")}. `, "good");
-  mark(refused, "✕ # not taken.", "bad");
+  mark(refused, "✕ # not used.", "bad");
   if (taken.length + refused.length === 0) head.append("There is no recording in these files.");
   box.append(Object.assign(head, { tabIndex: -1 }));
-  recordings.forEach((it) => showRecording(box, it));
+  recordings.forEach((it) => showRecording(box, it, refused));
   if (refused.length > 0) showRefused(box, refused);
   showAside(box, torn, `${several(torn.length, "torn file")}: nothing is missing because of that`,
     () => "a torn copy", false);

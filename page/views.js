@@ -29,22 +29,28 @@ function sentenceOf(stretches, gaps) {
   const most = Math.max(...gaps.map(({ gap }) => gap)), longest = gaps.find((it) => it.gap == most);
   const how = number === 0 ? `Complete ${times}` : `Recorded ${times} with ` +
     `${several(number, "gap")}${number === 1 ? "" : ", the longest"} of ${lasting(longest.gap)}`;
-  return `${how}; whether the recorder ran before or after, these files can't tell.`;
+  return `${how}; whether the recorder ran before or after that, these files can't tell.`;
 }
 
-// Files that may be of two nights or two people: a pause of more than six hours, or the longest one
+// Files that may be of two nights or two people: a gap of more than six hours, or the longest one
 // where nobody has a code, has some of the files on each side.
 function showDoubt(card, recording, own, gaps) {
-  const [longest] = gaps.filter(({ gap }) => recording.patient === "X" || gap > 6 * 3600)
+  const isBare = recording.patient === "X", number = Math.max(...now.files.map((it) => it.night));
+  const [longest] = gaps.filter(({ gap }) => isBare || gap > 6 * 3600)
     .sort((one, other) => other.gap - one.gap);
-  const isLater = (it) => startOf(it) >= longest.from.slice(0, 19);
-  if (!longest || !own.some(isLater) || own.every(isLater)) return;
+  const [before, later] = [false, true].map((is) =>
+    own.filter((it) => startOf(it) >= longest?.from.slice(0, 19) === is));
+  if (before.length * later.length === 0 || own.every(({ isOne }) => isOne)) return;
+  const more = isBare ? ", and no file has the patient's code" : "";
   const box = made("div", null, card, { className: "doubt" });
-  made("p", `Is this one night of one person? Between ${named(own.filter((it) => !isLater(it)))} ` +
-    `and ${named(own.filter(isLater))} is a pause of ${lasting(longest.gap)}` +
-    `${recording.patient === "X" ? ", and no file has the patient's code" : ""}.`, box);
-  button("Take them apart", buttonsIn(box), () =>
-    takeApart(own.filter(isLater), 1 + Math.max(...now.files.map(({ night }) => night))));
+  made("p", `Is this one night of one person? Between ${named(before)} and ${named(later)} is a ` +
+    `gap of ${lasting(longest.gap)}${more}.`, box);
+  const buttons = buttonsIn(box);
+  button("Separate into two recordings", buttons, () => takeApart(later, number + 1));
+  button("Keep together", buttons, () => {
+    own.forEach((it) => { it.isOne = true; });
+    show().focus();
+  });
 }
 
 // Saves what edfruns makes of a recording, or tells why it makes nothing.
@@ -78,7 +84,7 @@ async function saveStretches(recording, stretches) {
 
 // What else may be saved.
 function offerMore(card, recording, stretches, gaps, picture) {
-  const box = fold("More to save", card), buttons = buttonsIn(box);
+  const box = fold("Other files to save", card), buttons = buttonsIn(box);
   if (gaps.length > 0) {
     button(`Save ${several(stretches.length, "file")}, one for each stretch`, buttons,
       () => saveStretches(recording, stretches));
@@ -97,7 +103,7 @@ function offerMore(card, recording, stretches, gaps, picture) {
 const describedBy = (picture) => new DOMParser().parseFromString(
   /<desc[^]*?<\/desc>/.exec(picture)?.[0] ?? "<desc/>", "text/xml").documentElement.textContent;
 
-function showRecording(box, recording) {
+function showRecording(box, recording, refused) {
   const [card] = part("article", box, "h3", titleOf(recording));
   const stretches = stretchesOf(recording.runs.text), gaps = gapsIn(stretches);
   const picture = new Blob([recording.picture], { type: "image/svg+xml" });
@@ -107,15 +113,14 @@ function showRecording(box, recording) {
   const copies = own.filter((it) => it.fresh === 0 || isWhole(it)), other = differenceOf(recording);
   const apart = now.recordings.find((it) => it.night < recording.night && isAlike(it, recording));
   if (other) made("p", other, card);
-  if (apart) {
-    button("Put them together again", buttonsIn(card), () => takeApart(own, apart.night));
-  }
+  if (apart) button("Put them together again", buttonsIn(card), () => takeApart(own, apart.night));
   if (!own.some(isWhole)) showDoubt(card, recording, own, gaps);
   made("p", sentenceOf(stretches, gaps), card, { className: "sentence" });
   made("img", null, made("div", null, card, { className: "picture" }), { src: urlOf(picture),
     alt: `Picture of the recording. ${describedBy(recording.picture)}` });
   const buttons = buttonsIn(card);
   offerExact(buttons, card, recording, gaps.length === 0);
+  if (refused.length > 0) made("p", `Without ${named(refused)}: see below.`, card);
   if (own.length > 1 && copies.length > 0) {
     made("p", `Everything on ${named(copies)} is in this night.`, card);
   }

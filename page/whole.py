@@ -46,7 +46,7 @@ OWN_WORDS = (
 OWN_SENTENCES = {"E4": "Its patient field is not as EDF+ has it.",
                  "E5": "Its recording field is not as EDF+ has it."}
 OWN_POINTS = {"E8": [
-    "Is it such a piece? Beside the card or good files take it out."
+    "Is it such a piece? Beside the card or good files remove it."
 ]}
 
 
