@@ -57,7 +57,15 @@ kill "$forwarding" 2>/dev/null
 useradd -m -G edfstaff tech
 as_tech() { runuser -u tech -- "$@"; }
 fails "staff is no root" as_tech sudo -n id
-says "staff may ask" as_tech sudo -n edfclinic nights
+says "sudo reads its lines" visudo -c
+for words in nights "nights --json" "status --html" help; do
+  as_tech sudo -n edfclinic $words >out 2>&1
+  says "staff may call $words" [ $? -lt 2 ]
+done
+for words in "forget S-0118" "recode r01/a --patient b" verify backup "receive r01" "nightsforget S-0118"; do
+  says "staff may not call $words" bash -c "runuser -u tech -- sudo -n edfclinic $words 2>&1 | grep -q 'password is required'"
+done
+says "it tells its version" [ "$(edfclinic --version)" = "edfclinic $(dpkg-query -W -f '${Version}' edfclinic)" ]
 fails "staff may name no config" as_tech sudo -n edfclinic --config /tried/other.toml nights
 fails "nor behind the command" as_tech sudo -n edfclinic nights --config /tried/other.toml
 fails "staff calls no other program" as_tech edfclinic nights

@@ -108,6 +108,25 @@ def test_forget_lists_and_then_removes_all_of_a_patient(archive: Clinic) -> None
     assert os.listdir(folder / "replaced") == []
 
 
+@pytest.mark.parametrize("is_gone", [False, True])
+def test_forget_leaves_a_new_night_of_the_code_that_a_recoded_one_had(
+        clinic: Clinic, is_gone: bool) -> None:
+    """Also where somebody removed the old night by hand, so that its name seems to be free."""
+    clinic.done("morning", "r01", "--card", clinic.card(NIGHT.piece(0, 40)))
+    clinic.done("recode", f"r01/{NAME}", "--patient", "S-0301")
+    old = clinic.nights / "r01/replaced" / NAME
+    said = clinic.done("forget", "S-0118", "--yes", status=1)
+    assert "removed" not in said and old.exists()
+    if is_gone:
+        shutil.rmtree(old)
+    clinic.done("morning", "r01", "--card", clinic.card(NIGHT.piece(), "new.edf"))
+    new = clinic.nights / "r01" / f"{NAME}.2"
+    before = tree(new)
+    clinic.done("forget", "S-0301", "--yes")
+    assert before and tree(new) == before and clinic.archive() == [new]
+    assert not old.exists()
+
+
 def test_forget_by_half_a_code_or_none_removes_nothing(archive: Clinic) -> None:
     """Also no file of the first patient that was refused, in whose head the code is a word."""
     for code in ("S-9999", "S-01", "0118", "118", "S-011"):
@@ -316,6 +335,11 @@ def test_states_and_causes(clinic: Clinic) -> None:
     path.write_text(json.dumps({**told, "told": "2026-01-01T00:00:00Z"}))
     assert clinic.status()["recorders"]["r01"]["state"] == "unknown"
     os.close(lock)
+    clinic.make(clinic.data / "r01/morning", SERVICE, SERVICE, 0o700)
+    cause = [it["text"] for it in clinic.status()["causes"] if it["cause"] == "morning"]
+    assert cause == ["call edfclinic morning r01 again, "
+                     "with the same --card FILE if a card was given"]
+    assert clinic.done("--version") == "edfclinic of a clone\n"
 
 
 def test_an_alarm_tells_each_cause_once(clinic: Clinic) -> None:

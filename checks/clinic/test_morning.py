@@ -30,7 +30,10 @@ def test_a_night_and_its_card(clinic: Clinic) -> None:
     del files["part05.edf"]
     clinic.night_took(files)
     said = clinic.done("morning", "r01", "--card", clinic.card(NIGHT.piece(), "card0.edf"))
-    assert "card0.edf, here card-1.edf: all of it is put away; the card may be erased" in said
+    assert said.splitlines()[1:] == [
+        "  card card0.edf, here card-1.edf: all of it is put away; "
+        "it may be erased if the paper agrees",
+        "  nothing that came is missing: compare begin, end and gaps with the paper"]
     nights = clinic.archive()
     assert [it.name for it in nights] == [NAME]
     assert {it.name for it in nights[0].iterdir()} == ALWAYS | {
@@ -166,6 +169,8 @@ def test_a_card_twice_and_a_late_file(clinic: Clinic) -> None:
     nights = put_away(clinic, {"late.edf": NIGHT.piece(480, 560)}, NIGHT.piece())
     assert [it.name for it in nights] == [NAME, f"{NAME}.2"]
     assert json.dumps(facts(nights[0])) == before
+    report = (nights[1] / "report.txt").read_text().splitlines()
+    assert report[1].startswith(f"{NAME} is there too") and report[2] == "no card is in it"
     assert len(starts(nights[1])) == 80, "a card that a night has was joined again"
 
 

@@ -82,6 +82,9 @@ WRONG: dict[str, Any] = {
     "leaves what a night replaced": (
         ("forget.py", "if self.made_of[it] == folder}", "if False}"),
         test_archive.test_forget_lists_and_then_removes_all_of_a_patient),
+    "gives a name again that another night tells of": (
+        ("nights.py", "    return told.union(", "    return set[str]().union("),
+        test_archive.test_forget_leaves_a_new_night_of_the_code_that_a_recoded_one_had),
     "forgets what is another's": (
         ("forget.py", "*nights.sums(folder)} - {*rest, LOG, SUMS, WHOSE}",
          "*nights.sums(folder)} - {LOG, SUMS, WHOSE}"),
@@ -106,7 +109,7 @@ def test_a_wrong_edfclinic_is_found(what: str, scratch: Path, programs: Path) ->
     *changes, test = WRONG[what]
     recorders = ("r01", "r02") if inspect.getmodule(test) is test_hostile else ("r01",)
     clinic = Clinic(scratch, programs, wrong_source(scratch, changes), recorders)
-    given = {"clinic": clinic, "is_long": False}
+    given = {"clinic": clinic, "is_long": False, "is_gone": True}
     disk = None
     try:
         if "archive" in inspect.signature(test).parameters:

@@ -6,7 +6,7 @@ import sys
 from collections.abc import Callable
 from typing import Any
 
-from . import backup, config, forget, morning, nights, place, receive, recode, status, text
+from . import VERSION, backup, config, forget, morning, nights, place, receive, recode, status, text
 
 HELP = """In the morning, with the memory card in this computer:
   sudo edfclinic morning r01 --card /media/CARD/NIGHT.EDF
@@ -14,20 +14,20 @@ Of two files or two cards of r01: --card FILE --card FILE. It says what became o
 "look:" asks something: answer it by the report, or ask the engineer, who set edfclinic up.
 "edfclinic:" says what went wrong: mend it, and call again. Calling twice does no harm.
 Nights lie in /srv/nights. Exit status: 0 done, 1 look, 2 wrong words, 3 trouble."""
-FLAG, RECORDER, CODE = {"action": "store_true"}, {"metavar": "RECORDER"}, {"metavar": "CODE"}
+FLAG: dict[str, Any] = {"action": "store_true"}
+RECORDER, NIGHT, CODE = ({"metavar": it} for it in ("RECORDER", "RECORDER/NAME", "CODE"))
 CARD = {"action": "append", "default": [], "metavar": "FILE", "help": "a file of the card"}
 # Of each command what it does, and its words as argparse has them.
 COMMANDS: dict[str, tuple[str, dict[str, dict[str, Any]]]] = {
-    "receive": ("take what recorders send, without an end; --all: of each", {
-        "recorder": {"nargs": "?", **RECORDER}, "--all": FLAG}),
+    "receive": ("take what recorders send, without an end; --all: of each",
+                {"recorder": {"nargs": "?", **RECORDER}, "--all": FLAG}),
     "status": ("how each recorder is", {"--json": FLAG, "--html": FLAG, "--tell": FLAG}),
     "morning": ("put the night away", {"recorder": RECORDER, "--card": CARD}),
     "nights": ("list the archive", {"--json": FLAG}),
-    "recode": ("make a night anew under another patient's code", {
-        "night": {"metavar": "RECORDER/NAME"}, "--patient": {"required": True, **CODE}}),
+    "recode": ("make a night anew under another patient's code",
+               {"night": NIGHT, "--patient": {"required": True, **CODE}}),
     "forget": ("list all of a patient; --yes removes it", {"code": CODE, "--yes": FLAG}),
-    "verify": ("say which files changed since", {
-        "night": {"nargs": "*", "metavar": "RECORDER/NAME"}}),
+    "verify": ("say which files changed since", {"night": {"nargs": "*", **NIGHT}}),
     "backup": ("copy the nights that the backup lacks", {}),
     "help": ("print this, or more of a command", {"of": {"nargs": "?", "metavar": "COMMAND"}})}
 
@@ -37,6 +37,7 @@ def words() -> argparse.ArgumentParser:
                                      formatter_class=argparse.RawDescriptionHelpFormatter)
     parser.add_argument("--config", default=config.DEFAULT, metavar="FILE",
                         help=f"for root alone, in place of {config.DEFAULT}")
+    parser.add_argument("--version", action="version", version=f"edfclinic {VERSION}")
     every = parser.add_subparsers(dest="command", required=True, metavar="COMMAND")
     for name, (does, given) in COMMANDS.items():
         command = every.add_parser(name, help=does, description=does, allow_abbrev=False)

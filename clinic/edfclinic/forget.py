@@ -108,8 +108,7 @@ class Forgetting:
         files.make_folder(os.path.dirname(to))
         if to != folder:
             files.rename(folder, to)
-        own = [os.path.basename(to)]
-        strip(to, doomed, {it: stay[it] for it in stay if stay[it] != own})
+        strip(to, doomed, {it: stay[it] for it in stay if stay[it] != [os.path.basename(to)]})
         # Where no file stays the log does, for the names of others.
         if {*files.below(to)} <= {SUMS, LOG} and not read_log(join(to, LOG)):
             files.remove_tree(to)
@@ -129,9 +128,8 @@ def forget(config: Config, code: str, is_meant: bool) -> int:
                 of.visit(folder, folder in of.going)
             if is_meant:
                 files.remove(of.begun)
-            of.lines |= {f"stays until its morning: {it}"
-                         for folder in (place.tonight, place.morning)
-                         for it in files_of(folder, of.code, mend)}
+            of.lines |= {f"stays until its morning: {it}" for root in (place.tonight, place.morning)
+                         for it in files_of(root, of.code, mend)}
         said += sorted(of.lines)
         print("".join(f"{spell(it)}\n" for it in sorted(of.lines)), end="")
     say(BEYOND if said else f"nothing has exactly the code {code}")

@@ -86,9 +86,8 @@ class Planning:
         if parts:
             self.give_out(parts, taken, cards, pieces, log)
         files.sync_tree(self.work)
-        return {"nights": [{"files": it.files, "facts": it.facts, "whose": it.whose}
-                           for it in parts],
-                "cards": [f"card {it.name} was {it.answer}" for it in cards]}
+        return {"cards": [f"card {it.name} was {it.answer}" for it in cards], "nights": [
+            {"files": it.files, "facts": it.facts, "whose": it.whose} for it in parts]}
 
     def known(self, folder: str, log: dict[str, Line]) -> list[File]:
         found, work = [], join(self.work, folder)
@@ -155,7 +154,7 @@ class Planning:
 
     def give_out(self, parts: list[Part], taken: list[File], cards: list[File],
                  pieces: list[File], log: list[Line]) -> None:
-        used = {*files.names(self.place.archive), *files.names(self.place.replaced)}
+        used = nights.used_names(self.place)
         for part in parts:
             runs, lists = part.runs, ("card", "refused", "differs", "look")
             evening = runs[0].first // text.MINUTE - self.recorder.ends
@@ -287,10 +286,8 @@ class Morning:
 
     def stage(self, cards: Sums) -> bool:
         tonight, morning = self.place.tonight, self.place.morning
-        if files.exists(morning):
-            return True
-        if not cards and not files.names(join(tonight, TAKEN)):
-            return False
+        if files.exists(morning) or not cards and not files.names(join(tonight, TAKEN)):
+            return files.exists(morning)
         with self.place.taken_session(WAIT):
             if files.exists(tonight):
                 files.rename(tonight, morning)
@@ -301,8 +298,8 @@ class Morning:
     def copy_cards(self, cards: Sums) -> None:
         folder = join(self.place.morning, CARDS)
         files.make_folder(folder)
-        there = [it for it in files.names(folder) if it.endswith(".edf")]
-        known = {files.sum_of_file(join(folder, it)) for it in there}
+        there = [join(folder, it) for it in files.names(folder) if it.endswith(".edf")]
+        known = {*map(files.sum_of_file, there)}
         for card, summed in cards:
             if summed in known:
                 continue

@@ -29,6 +29,14 @@ def free_name(day: str, code: str, used: set[str]) -> str:
     return name
 
 
+def used_names(place: Place) -> set[str]:
+    """Also those of nights that somebody removed by hand, while others still tell of them."""
+    whose = [files.from_json(join(it, WHOSE)) or {} for it in folders(place)]
+    told = {night for it in whose for of in it.values() for night in of}
+    told |= {(files.read(join(it, REPLACES)) or "").strip() for it in folders(place)}
+    return told.union(files.names(place.archive), files.names(place.replaced))
+
+
 @contextmanager
 def new_folder(place: Place) -> Iterator[str]:
     path = join(place.archive, ".new")
@@ -96,13 +104,17 @@ def report(folder: str, facts: dict[str, Any]) -> str:
 
 
 def told(facts: dict[str, Any]) -> list[str]:
-    kept = "keep it till each look is answered" if facts["look"] else "the card may be erased"
-    cards = [f"{it['name']}, here card-{nth}.edf: all of it is put away; {kept}"
+    kept = "keep it till each look is answered" if facts["look"] else \
+        "it may be erased if the paper agrees"
+    cards = [f"card {it['name']}, here card-{nth}.edf: all of it is put away; {kept}"
              if programs.accepted(it["answer"]) else
-             f"{it['name']}, here card-{nth}.edf, was {it['answer']}: nothing of it is put away"
+             f"card {it['name']}, here card-{nth}.edf, was {it['answer']}: none of it is put away"
              for nth, it in enumerate(facts["card"], 1) if it["name"] != FORGOTTEN]
-    looks = [f"look: {it}" for it in facts["look"]] or ["nobody need look"]
-    return [line(facts), *(f"card {it}" for it in cards), *looks]
+    looks = [f"look: {it}" for it in facts["look"]] or [
+        "nothing that came is missing: compare begin, end and gaps with the paper"]
+    base, _, is_later = facts["night"].partition(".")
+    before = f"{base} is there too: of the same night, use what agrees with the paper, keep both"
+    return [line(facts), *[before] * bool(is_later), *(cards or ["no card is in it"]), *looks]
 
 
 def line(facts: dict[str, Any]) -> str:

@@ -24,8 +24,6 @@ C_LIBRARY, PR_SET_PDEATHSIG = ctypes.CDLL(None), 1
 RUN = re.compile(r"\d+ records=\d+ first=(\S+) seconds=([\d.]+)(?: .*)?")
 HELD = re.compile(r"(\d+) records=\d+ first=\S+ patient=(\S*) investigation=(\S*)")
 OF_THE_FILE = re.compile(r"refused(?::| E[123]?\d\b)")
-
-
 Ran = NamedTuple("Ran", [("status", int), ("out", bytes), ("err", bytes), ("why", str)])
 # A stretch without a gap, in nanoseconds.
 Run = NamedTuple("Run", [("first", int), ("end", int)])

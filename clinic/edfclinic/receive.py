@@ -27,14 +27,12 @@ MOST_FILES, MOST_RECORDINGS = 50_000, 100       # of a night
 AGAIN, TURN = 10.0, 5.0         # seconds to another try of a file, and to another listing
 PUT_OFF = "it is tried again: "
 TICK, TELL, RESTART = 2.0, 60.0, 5.0    # seconds from a listing, a telling, a start to the next
+# A file as it was when it was listed, and why it is left alone, or nothing.
+Entry = NamedTuple("Entry", [("name", str), ("key", Key), ("has_hole", bool), ("left", str)])
 
 
 class Later(Exception):
     """A file that is in use, changed, or gone; with a reason one that is left alone."""
-
-
-# A file as it was when it was listed, and why it is left alone, or nothing.
-Entry = NamedTuple("Entry", [("name", str), ("key", Key), ("has_hole", bool), ("left", str)])
 
 
 def key_of(status: os.stat_result) -> Key:
@@ -122,10 +120,6 @@ def gaps(runs: list[programs.Run], pause: float) -> int:
     return lacks
 
 
-def length(runs: list[programs.Run]) -> float:
-    return text.minutes(sum(run.end - run.first for run in runs))
-
-
 class Taking:
     def __init__(self, config: Config, recorder: Recorder, place: Place):
         self.config, self.recorder, self.place = config, recorder, place
@@ -154,7 +148,8 @@ class Taking:
         self.silent_since = time.monotonic() - (
             text.seconds_since(self.lines[-1].at) if self.lines else 0)
         self.runs = [run for name in taken for run in self.again(TAKEN, name)]
-        self.refused_minutes = {name: length(self.again(REFUSED, name)) for name in refused}
+        self.refused_minutes = {name: text.minutes(sum(it.end - it.first for it in self.again(
+            REFUSED, name))) for name in refused}
         self.gap = gaps(self.runs, self.recorder.pause)
 
     def again(self, folder: str, name: str) -> list[programs.Run]:
@@ -245,7 +240,7 @@ class Taking:
             self.gap = gaps(self.runs, self.recorder.pause)
         else:
             self.kept += 1
-            self.refused_minutes[name] = length(runs)
+            self.refused_minutes[name] = text.minutes(sum(it.end - it.first for it in runs))
         text.say(f"{self.place.name}: {self.lines[-1].name} {answer}")
         self.silent_since, self.seen[entry.name].is_kept = time.monotonic(), True
         self.inbox.remove(entry)
@@ -350,11 +345,9 @@ class Receive:
 
 
 def receive(config: Config, name: str | None) -> int:
-    return Receive(config, config.recorder(name)).run() if name else receive_all(config)
-
-
-def receive_all(config: Config) -> int:
-    """A process a recorder, begun again where it ends, until a signal; daemons end with this."""
+    """Of all a process a recorder, begun again where it ends; daemons end with this."""
+    if name:
+        return Receive(config, config.recorder(name)).run()
     ended = until_signalled()
     running: dict[str, Process] = {}
     begin = {name: 0.0 for name in config.recorders}

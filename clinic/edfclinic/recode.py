@@ -4,7 +4,7 @@ from typing import Any
 from . import files, nights, programs
 from .config import Config
 from .files import join
-from .nights import NIGHT, PIECES, check_code, find, free_name
+from .nights import NIGHT, PIECES, check_code, find, free_name, used_names
 from .place import check
 from .text import DONE, Trouble, Wrong, spell
 
@@ -30,10 +30,9 @@ def recode(config: Config, night: str, code: str) -> int:
                     raise Wrong(f"{name}: {ran.why}")
         wanted = files.sum_of_file(join(new, NIGHT))
         there = [it for it in nights.folders(place, False) if nights.sums(it).get(NIGHT) == wanted]
-        used = {*files.names(place.archive), *files.names(place.replaced)}
-        look = [it for it in before["look"] if not it.startswith(nights.NONE)]
-        told = {**before, "patient": spell(code), "night": free_name(name[:10], spell(code), used),
-                "card": [], "refused": [], "differs": [], "look": look}
+        told = {**before, "patient": spell(code), "card": [], "refused": [], "differs": [],
+                "look": [it for it in before["look"] if not it.startswith(nights.NONE)],
+                "night": free_name(name[:10], spell(code), used_names(place))}
         files.replace(join(new, nights.REPLACES), f"{name}\n".encode())
         made = nights.read_facts(there[0]) if there else nights.finish(place, new, told)
     files.remove_tree(new)

@@ -39,10 +39,11 @@ def recorder(config: Config, place: Place) -> dict[str, Any]:
     told = files.from_json(place.told) or {}
     state, why = state_of(config, place, told)
     full = told.get("full") or disk_usage(config.data).free < files.PIECE and "make room on disk"
-    is_unfinished = files.exists(place.morning) and not files.is_locked(place.changing)
+    is_begun = files.exists(place.morning) and not files.is_locked(place.changing)
     count, unsolved = told.get("left_count", 0), told.get("unsolved", 0)
     causes = [(state, why), ("full", full and f"{full}; it goes on by itself"),
-              ("morning", is_unfinished and f"call edfclinic morning {place.name} again"),
+              ("morning", is_begun and f"call edfclinic morning {place.name} again, with the "
+                           "same --card FILE if a card was given"),
               ("refused", unsolved and f"{unsolved} of its files: give its card to morning"),
               ("left", count and f"{count} in its inbox: its uploader must remove them")]
     numbers = ("accepted", "refused_minutes", "gap_minutes", *(f"{it}_count" for it in LISTS))
