@@ -47,6 +47,7 @@ import time
 import zlib
 from dataclasses import dataclass, field
 from pathlib import Path
+from typing import Any
 
 from checks.lib import (appearance, arguments, measure, modules, morning, night, page_files,
                         printed, second_thoughts, sends, technician)
@@ -59,13 +60,13 @@ from checks.lib.webkit import WebKit
 from checks.lib.webkit_hands import WebKitHands
 
 # The kinds of browsers; those with a 32 take the lowered module, as WebKit has no other
-BROWSERS = {"chromium": Chromium, "chromium-32": Chromium, "firefox": Firefox,
-            "firefox-32": Firefox, "webkit": WebKit}
+BROWSERS: dict[str, Any] = {"chromium": Chromium, "chromium-32": Chromium, "firefox": Firefox,
+                            "firefox-32": Firefox, "webkit": WebKit}
 HANDS = {Chromium: ChromiumHands, Firefox: FirefoxHands, WebKit: WebKitHands}
 # The same browsers without WebAssembly
-OFF = {Chromium: lambda folder: Chromium(folder, "--js-flags=--jitless"),
-       Firefox: lambda folder: Firefox(folder, javascript_options_wasm=False),
-       WebKit: lambda folder: WebKit(folder, JSC_useWasm="0")}
+OFF: dict[Any, Any] = {Chromium: lambda folder: Chromium(folder, "--js-flags=--jitless"),
+                       Firefox: lambda folder: Firefox(folder, javascript_options_wasm=False),
+                       WebKit: lambda folder: WebKit(folder, JSC_useWasm="0")}
 MOST_TIMES = {Chromium: 3, Firefox: 6, WebKit: 6}       # of the programs' time
 MOST_MEMORY = 1_400_000_000                     # bytes, of the module
 LATER = {f"files by chance, {nth}" for nth in range(3, 99)}     # of these no second half comes
@@ -167,11 +168,11 @@ TIMED = """document.getElementById("files").addEventListener("change", () => {
 # The page
 
 def module_of(page: str, form: int = 64) -> bytes:
-    packed = base64.b64decode(re.search(MODULE.format(form), page)[1])
+    packed = base64.b64decode(re.findall(MODULE.format(form), page)[0])
     return zlib.decompress(packed, -15)
 
 
-def with_module(page: str, change) -> str:
+def with_module(page: str, change: Any) -> str:
     """The page with other modules."""
     for form in (64, 32):
         found = re.search(MODULE.format(form), page)
@@ -190,41 +191,41 @@ def of_32_bits(page: str) -> str:
 @dataclass
 class Bench:
     """A browser with a page, and how much was compared."""
-    browser: object
+    browser: Any
     name: str
     page: Path
-    shots: Path = None
+    shots: Path | None = None
     count: int = 0
-    shown: set = field(default_factory=set)
+    shown: set[str] = field(default_factory=set)
     form: int = 64          # of the module that the page has
 
-    def same(self, what: str, got, expected) -> None:
+    def same(self, what: str, got: Any, expected: Any) -> None:
         self.count += 1
         compare(f"{self.name}: {what}", got, expected)
 
     def wait(self) -> str:
         until = time.monotonic() + SECONDS
         while True:
-            state = self.browser.value("document.body.dataset.state")
+            state = str(self.browser.value("document.body.dataset.state"))
             if state in ("done", "failed"):
                 return state
             if time.monotonic() > until:
                 raise Lost(f"{self.name}: the page is {state} after {SECONDS} s")
             time.sleep(0.02)
 
-    def take(self, paths: list) -> str:
+    def take(self, paths: list[Any]) -> str:
         """Opens the page anew, and gives it the files."""
         self.browser.open(self.page)
         self.same("at first", self.browser.value("document.body.dataset.state"), "idle")
         self.browser.choose(paths)
         return self.wait()
 
-    def given(self):
+    def given(self) -> Any:
         return self.browser.value(GIVEN)
 
     def words(self) -> str:
-        return self.browser.value("document.getElementById('fault').innerText + "
-                                  "document.getElementById('results').innerText")
+        return str(self.browser.value("document.getElementById('fault').innerText + "
+                                      "document.getElementById('results').innerText"))
 
     def offers_nothing(self, what: str, *parts: str) -> None:
         """The page failed, says these parts of a sentence, and has nothing to save."""
@@ -243,7 +244,7 @@ class Bench:
 
 # What is tried
 
-def lists(bench: Bench, expected: dict) -> None:
+def lists(bench: Bench, expected: dict[str, Any]) -> None:
     """Each list of files."""
     for what, (paths, given) in expected.items():
         state = bench.take(paths)
@@ -256,7 +257,7 @@ def lists(bench: Bench, expected: dict) -> None:
                              if not url.startswith(("file:", "blob:"))], [])
 
 
-def in_two_halves(bench: Bench, what: str, paths: list, given) -> None:
+def in_two_halves(bench: Bench, what: str, paths: list[Any], given: Any) -> None:
     """Files that come later give the same as all of them at once."""
     half = len(paths) // 2
     bench.take(paths[:half])
@@ -269,7 +270,7 @@ def in_two_halves(bench: Bench, what: str, paths: list, given) -> None:
     bench.same(f"{what}, in two halves", bench.given(), given)
 
 
-def words_of(call) -> list:
+def words_of(call: Any) -> list[Any]:
     """The same call as words of the program."""
     if isinstance(call, str):
         return [*call.split(), "in.edf", *["run"] * (call == "split")]
@@ -277,7 +278,7 @@ def words_of(call) -> list:
     return ["in.edf", call[0] or "--dry-run", *sum(given, []), *["--all"] * bool(call[6])]
 
 
-def does(native: Native, folder: Path, call) -> list:
+def does(native: Native, folder: Path, call: Any) -> list[Any]:
     """What a program does with in.edf of this folder, which stays there alone."""
     program = native.edfruns if isinstance(call, str) else native.edfmend
     ran = measure.ran(program, *words_of(call), folder=folder)
@@ -290,7 +291,7 @@ def does(native: Native, folder: Path, call) -> list:
     return [ran.status, sum_of(ran.out) if is_file else out, err, made]
 
 
-def programs(bench: Bench, folder: Path, native: Native, paths: list) -> None:
+def programs(bench: Bench, folder: Path, native: Native, paths: list[Any]) -> None:
     """What edfruns and edfmend do with each of these files."""
     own, calls = folder / f"programs-{bench.name}", (*RUNS, *VALUES)
     own.mkdir()
@@ -348,7 +349,7 @@ def little_memory(bench: Bench, folder: Path, page: str, native: Native) -> None
     bench.same("with enough memory", other.given(), native.given(own, paths))
 
 
-def traps(bench: Bench, folder: Path, page: str, paths: list) -> None:
+def traps(bench: Bench, folder: Path, page: str, paths: list[Any]) -> None:
     other = other_page(bench, folder, page.replace(
         "names.sizes, bytes, sizes,", "names.sizes, bytes + 0xf0000000n, sizes,"))
     bench.same("a trap", other.take(paths), "failed")
@@ -364,10 +365,11 @@ def changes(bench: Bench, folder: Path, native: Native) -> None:
     """Files that are no more what they were when they were chosen. What is read whole of a file
     that was replaced may be taken, and then it is what is there."""
     good = page_files.seconds(400)
-    done = {"is removed": lambda path: path.unlink(),
-            "is cut": lambda path: path.write_bytes(good[:-5_000]),
-            "is longer": lambda path: path.write_bytes(good + good),
-            "is replaced": lambda path: path.write_bytes(good[:-4] + b"\1\2\3\4")}
+    done: dict[str, Any] = {
+        "is removed": lambda path: path.unlink(),
+        "is cut": lambda path: path.write_bytes(good[:-5_000]),
+        "is longer": lambda path: path.write_bytes(good + good),
+        "is replaced": lambda path: path.write_bytes(good[:-4] + b"\1\2\3\4")}
     for nth, (what, change) in enumerate(done.items()):
         own = folder / f"changes-{bench.name}-{nth}"
         paths = written(own, [("first.edf", page_files.seconds(3)), ("changed.edf", good)])
@@ -459,7 +461,7 @@ def largest(bench: Bench, folder: Path, native: Native) -> None:
 
 # Pages that answer wrongly
 
-def takes_otherwise(bench: Bench, what: str, paths: list, given) -> bool:
+def takes_otherwise(bench: Bench, what: str, paths: list[Any], given: Any) -> bool:
     """Whether the page that is open gives another answer than this, or none soon."""
     bench.browser.value(ANEW)
     bench.browser.choose(paths)
@@ -470,27 +472,27 @@ def takes_otherwise(bench: Bench, what: str, paths: list, given) -> bool:
             return True
         time.sleep(0.02)
     bench.count += 1
-    return bench.given() != given
+    return bool(bench.given() != given)
 
 
-def is_found(bench: Bench, expected: dict) -> bool:
+def is_found(bench: Bench, expected: dict[str, Any]) -> bool:
     return any(takes_otherwise(bench, what, *list_of) for what, list_of in expected.items())
 
 
-def with_bytes(bench: Bench, changes: list) -> None:
+def with_bytes(bench: Bench, changes: list[Any]) -> None:
     """Has the page that is open take its module with these bytes at these places."""
     bench.browser.value(CHANGED.replace("CHANGES", json.dumps(changes))
                         .replace("MODULE", f'"module{bench.form}"'))
 
 
-def runs(bench: Bench, expected: dict, module: bytes, function: tuple) -> bool:
+def runs(bench: Bench, expected: dict[str, Any], module: bytes, function: tuple[Any, ...]) -> bool:
     """Whether a call of the module comes to this function, which is made to trap."""
     changes = modules.trap_in(module, function)
     with_bytes(bench, changes)
     return bool(changes) and is_found(bench, expected)
 
 
-def is_felt(bench: Bench, expected: dict, module: bytes, function: tuple) -> bool:
+def is_felt(bench: Bench, expected: Any, module: bytes, function: tuple[Any, ...]) -> bool:
     """Whether one of some instructions of this function is found where it is changed. Not each of
     them is run, and one may do the same as the other."""
     places = modules.places_in(module, function)
@@ -501,7 +503,7 @@ def is_felt(bench: Bench, expected: dict, module: bytes, function: tuple) -> boo
     return False
 
 
-def control(bench: Bench, folder: Path, page: str, expected: dict) -> None:
+def control(bench: Bench, folder: Path, page: str, expected: dict[str, Any]) -> None:
     swapped = page.replace("file: blobOf(file)", "file: blobOf(rest[rest.length - 3 - at])")
     bench.same("a script that exchanges files is another", swapped != page, True)
     bench.browser.open(other_page(bench, folder, swapped).page)
@@ -511,7 +513,7 @@ def control(bench: Bench, folder: Path, page: str, expected: dict) -> None:
     module = module_of(page)
     bodies = [it for it in modules.bodies(module) if it[1] - it[0] > LONG_BODY]
     step = max(1, len(bodies) // TRIED_BODIES)
-    running, tried, until = [], 0, time.monotonic() + LONGEST
+    running, tried, until = list[Any](), 0, time.monotonic() + LONGEST
     for function in bodies[::step]:
         if len(running) < ENOUGH and time.monotonic() < until:
             tried += 1
@@ -547,7 +549,7 @@ def built_page() -> Path:
     return Path(built.out.decode().strip())
 
 
-def expectations(folder: Path, native: Native, given) -> dict:
+def expectations(folder: Path, native: Native, given: Any) -> dict[str, Any]:
     """The lists of files, and what the programs give of each; for a control those that are soon
     taken."""
     expected, numbers, files = {}, set(), 0
@@ -565,7 +567,7 @@ def expectations(folder: Path, native: Native, given) -> dict:
     return expected
 
 
-def sendable(native: Native, expected: dict) -> dict:
+def sendable(native: Native, expected: dict[str, Any]) -> dict[str, Any]:
     """The lists without the files whose names WebKit's driver can't send."""
     found = {}
     for what, (paths, given) in expected.items():
@@ -576,7 +578,7 @@ def sendable(native: Native, expected: dict) -> dict:
     return found
 
 
-def in_browser(bench: Bench, given, folder: Path, native: Native, expected: dict) -> None:
+def in_browser(bench: Bench, given: Any, folder: Path, native: Native, expected: Any) -> None:
     page = bench.page.read_text()
     bench.browser.open(bench.page)
     bench.same("the module", bench.browser.value("MODULE"), f"module{bench.form}")

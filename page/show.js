@@ -52,7 +52,7 @@ function showCompared(box, file) {
     some.reduce((sum, { records }) => sum + Number(records), 0)).toFixed(6))));
   if (each.length === 0) return;
   made("p", `${lasts(of("differs", "overlaps"))} of ${file.name} differs from what is used. ` +
-    (fresh.length > 0 ? `${lasts(fresh)} is in this file alone.` : "All else in it is used."), box);
+    (fresh.length > 0 ? `Another ${lasts(fresh)} is in it alone.` : "All else in it is used."), box);
   if (fresh.length > 0) button(`Add the missing ${lasts(fresh)}`, buttonsIn(box),
     () => takeCuts(file, fresh), file.name);
   table(fold("From when to when", box), "What is here of this file", ["From", "To", "What"], each,

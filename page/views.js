@@ -27,9 +27,9 @@ function differenceOf(recording) {
 function sentenceOf(stretches, gaps) {
   const times = span(stretches[0].from, stretches.at(-1).to), number = gaps.length;
   const most = Math.max(...gaps.map(({ gap }) => gap)), longest = gaps.find((it) => it.gap == most);
-  const how = number === 0 ? `Complete ${times}` : `Recorded ${times} with ` +
+  const how = number === 0 ? `No gap ${times}` : `Recorded ${times} with ` +
     `${several(number, "gap")}${number === 1 ? "" : ", the longest"} of ${lasting(longest.gap)}`;
-  return `${how}; whether the recorder ran before or after that, these files can't tell.`;
+  return `${how}. These files can't show whether the recorder also ran before or after.`;
 }
 
 // Files that may be of two nights or two people: a gap of more than six hours, or the longest one

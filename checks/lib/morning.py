@@ -58,7 +58,7 @@ def plain_pieces(it: Technician) -> None:
     it.press("Use these 12")
     actions += 5            # a choice, a button, an answer and its button, a button
     it.gives("twelve mended pieces")
-    it.says("✓ 12 files in 1 recording.", "Complete from 22:00 to 22:12 on 2 Mar 2002;")
+    it.says("✓ 12 files in 1 recording.", "No gap from 22:00 to 22:12 on 2 Mar 2002.")
     it.same(f"{actions} actions", actions <= MOST_ACTIONS, True)
     it.looks("twelve pieces, mended")
 

@@ -44,7 +44,8 @@ def contradictions(it: Technician) -> None:
     piece_, faulty, card, late = paths
     it.chooses("Choose files", [piece_, faulty, card])
     it.says("✕ card.edf It contradicts a file that was added before it: at the same time it "
-            "has other samples or annotations.", "Without card.edf: see below.", "1 min of card.edf differs from what is used.", FIRST_STAYS)
+            "has other samples or annotations.", "Without card.edf: see below.",
+            "1 min of card.edf differs from what is used.", FIRST_STAYS)
     it.unfold("Details")
     it.says("E31 Differs start=2002-03-02T22:01:00")
     it.same("onsets do not help", it.press(BY_ONSET), "done")
@@ -74,7 +75,7 @@ def takes_missing(it: Technician) -> None:
     it.chooses("Choose files", written(it.folder / "missing", [
         ("piece.edf", piece(60, "22.00.00")), ("faulty.edf", piece(60, "22.01.00", 1)),
         ("card.edf", card)]))
-    it.says("1 min of card.edf differs from what is used. 1 min is in this file alone.")
+    it.says("1 min of card.edf differs from what is used. Another 1 min is in it alone.")
     it.unfold("From when to when")
     it.same("from when to when", it.bench.browser.value(ROWS), [
         ["22:00 on 2 Mar 2002", "22:01 on 2 Mar 2002", "the same in both"],
@@ -86,7 +87,7 @@ def takes_missing(it: Technician) -> None:
     it.paths.append(it.made("card.edf from 22:02", cut))
     it.press("Add the missing 1 min: card.edf")
     it.gives("with what was missing")
-    it.says("✓ 3 files in 1 recording. ✕ 1 file not used.", "Complete from 22:00 to 22:03",
+    it.says("✓ 3 files in 1 recording. ✕ 1 file not used.", "No gap from 22:00 to 22:03",
             "1 min of card.edf differs from what is used. All else in it is used.")
 
 

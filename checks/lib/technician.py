@@ -290,8 +290,8 @@ def saves_all(it: Technician) -> None:
     plain = it.native.run(it.native.edfruns, it.folder, "picture", "--without-code", "export.edf")
     filled = it.native.run(it.native.edfruns, it.folder, "fill", "export.edf")
     exact = f"Save the exact recording ({-(-len(export) // 1000)} kB)"
-    it.says("Recorded from 22:15 on 4 Nov 2023 to 06:15 on 5 Nov 2023 with 1 gap of 4 h; whether "
-            "the recorder ran before or after that, these files can't tell.")
+    it.says("Recorded from 22:15 on 4 Nov 2023 to 06:15 on 5 Nov 2023 with 1 gap of 4 h. These "
+            "files can't show whether the recorder also ran before or after.")
     it.saves("Save for viewing (gaps are flat)", f"{NAME}_view.edf", filled)
     it.same("it asks still", it.bench.browser.value(LEAVES), True)
     it.saves(exact, f"{NAME}_exact.edf", export)
@@ -401,7 +401,7 @@ def drops(it: Technician) -> None:
              ["part1.edf", "part2.edf", *inside, "part1.edf"])
 
 
-def all_of_it(bench, hands, folder: Path, native, big: Path = None) -> None:
+def all_of_it(bench, hands, folder: Path, native, big: Path | None = None) -> None:
     it = Technician(bench, hands, folder, native)
     it.folder.mkdir()
     first_look(it)
