@@ -77,7 +77,7 @@ def is_mostly(told: str, count: int) -> bool:
 
 def stopped(program: measure.Program, way: signal.Signals, after: int, wait: float) -> int:
     """Stops it by a signal after so many lines; how many files there are then."""
-    child = program.started("split", "../night.edf", "night", stdout=subprocess.PIPE,
+    child = program.started("split", "../night.edf", "night", stdout=subprocess.PIPE, bufsize=0,
                             preexec_fn=lambda: signal.signal(signal.SIGINT, signal.SIG_DFL))
     assert child.stdout
     told = b"".join(child.stdout.readline() for _ in range(after))

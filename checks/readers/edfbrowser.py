@@ -51,6 +51,7 @@ class Browser:
     def __init__(self, folder: Path, patience: float = PATIENCE):
         self.patience, self.folder = patience, folder / "edfbrowser"
         self.children: list[subprocess.Popen[bytes]] = []
+        self.has_durations = False      # the box stays as it was clicked
         self.folder.mkdir()
         self.begin()
         try:
@@ -168,8 +169,9 @@ class Browser:
             self.waited(f"the window {title}", lambda: self.windows(title))
             time.sleep(1)
             window = self.windows(title)[0]
-            if title == "Export annotations":
+            if title == "Export annotations" and not self.has_durations:
                 self._did(window, "mousemove", "--window", window, *DURATIONS, "click", "1")
+                self.has_durations = True
             self.pressed(window, "Return")
         self.waited("the end of the tool", lambda: not self.windows("Export annotations"))
 
