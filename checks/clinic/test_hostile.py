@@ -376,7 +376,7 @@ def test_a_night_whose_view_or_picture_would_be_huge(clinic: Clinic) -> None:
 
 def test_more_gaps_recordings_or_files_than_a_night_has(clinic: Clinic) -> None:
     """What would fill the memory of the morning, or the archive with nights, is not taken."""
-    limits = {"programs.MOST_RUNS": 15, "programs.SAID": 1_000, "receive.MOST_RECORDINGS": 3,
+    limits = {"programs.MOST_RUNS": 15, "programs.SAID": 1_500, "receive.MOST_RECORDINGS": 3,
               "receive.MOST_FILES": 6}
     child = clinic.receive(set=limits)
     clinic.put("gaps.edf", NIGHT.piece(without=range(1, 40, 2)))

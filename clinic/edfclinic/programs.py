@@ -18,7 +18,7 @@ from .text import Trouble
 SECONDS, BYTES_A_SECOND = 120, 500_000      # that a program has for a file
 MEMORY, WIDENED, MOST_RUNS = 4 << 30, 1 << 30, 500_000  # the last of a file, and of a night
 TOO_MANY = f"refused: it has more than {MOST_RUNS:,} gaps"
-SAID, HUGE = 1 << 26, (0, 1, -signal.SIGXFSZ)       # bytes that one says; where it writes too many
+SAID, HUGE = 1 << 28, (0, 1, -signal.SIGXFSZ)       # bytes that one says; where it writes too many
 Room = tuple[int, int]                      # bytes of a file that it writes, and of memory
 C_LIBRARY, PR_SET_PDEATHSIG = ctypes.CDLL(None), 1
 RUN = re.compile(r"\d+ records=\d+ first=(\S+) seconds=([\d.]+)(?: .*)?")
