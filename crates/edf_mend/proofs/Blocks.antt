@@ -10,7 +10,7 @@ use Rattle.std.proofs.lemmas.List.{take-append-drop, length-take-le, nil_from_le
 use Rattle.edf_tal.specs.Tal.{IsText}
 use Rattle.std.proofs.lemmas.List.Elements.{All-drop}
 use Rattle.std.proofs.lemmas.Grind.{common_steps, flat_map-append}
-use Rattle.edf_mend.specs.Body.{TimeReadsAs, TimesReadAs, Token, IsToken, tokens_bytes, PartReadsAs}
+use Rattle.edf_mend.specs.Body.{TimeReadsAs, TimesReadAs, Token, tokens_bytes, PartReadsAs}
 use Rattle.edf_mend.specs.Body.{TokensReadAs, BlockReadsAs, changes_of_tokens}
 use Rattle.edf_mend.specs.Changes.{FieldChange, changed}
 
@@ -58,15 +58,20 @@ times-read old onset duration first second before mid then after is x y a b c = 
 
 -- one more
 pub read-more : (from mid to : Bool) (olds news : List Token) (old new : Token) →
-    TokensReadAs from olds news mid → IsToken old → PartReadsAs mid old.text new.text →
-    new.stop ≡ old.stop → to ≡ (old.stop == 0) →
+    TokensReadAs from olds news mid → IsText old.text → (old.stop ≡ 0) ⊎ (old.stop ≡ 20) →
+    PartReadsAs mid old.text new.text → new.stop ≡ old.stop → to ≡ (old.stop == 0) →
     TokensReadAs from (olds ++ old ∷ []) (news ++ new ∷ []) to
-read-more from mid to [] [] old new are is read stop after =
-    (is, subst (λ (b : Bool). PartReadsAs b old.text new.text) are read, stop, after)
-read-more from mid to [] (n ∷ ns) old new are is read stop after = absurd are
-read-more from mid to (o ∷ os) [] old new are is read stop after = absurd are
-read-more from mid to (o ∷ os) (n ∷ ns) old new are is read stop after =
-    (are.0, are.1, are.2, read-more (o.stop == 0) mid to os ns old new are.3 is read stop after)
+read-more from mid to [] [] old new are is ends read stop after =
+    (is, ends, subst (λ (b : Bool). PartReadsAs b old.text new.text) are read, stop, after)
+read-more from mid to [] (n ∷ ns) old new are is ends read stop after = absurd are
+read-more from mid to (o ∷ os) [] old new are is ends read stop after = absurd are
+read-more from mid to (o ∷ os) (n ∷ ns) old new are is ends read stop after = (
+  are.0,
+  are.1,
+  are.2,
+  are.3,
+  read-more (o.stop == 0) mid to os ns old new are.4 is ends read stop after,
+)
 
 -- what differs of one more
 changes-more : (nth at : ℕ) (from to : Bool) (olds news : List Token) (old new : Token) →
@@ -82,7 +87,7 @@ changes-more nth at from to (o ∷ os) (n ∷ ns) old new are =
     let here = changed 256 nth at o.text n.text in
     let next = at + length o.text + 1 in
     ap (λ (l : List FieldChange). here ++ l)
-    (changes-more nth next (o.stop == 0) to os ns old new are.3)
+    (changes-more nth next (o.stop == 0) to os ns old new are.4)
     ∙ sym (append_assoc here (changes_of_tokens nth next os ns)
     (changed 256 nth (next + length (tokens_bytes os)) old.text new.text))
     ∙ ap (λ k. (here ++ changes_of_tokens nth next os ns) ++ changed 256 nth k old.text new.text)
@@ -135,7 +140,7 @@ token-read nth at end here all rest before after text more new mid then stop fro
           ∙ (let e = flat_map-append one so.news (token ∷ []) in
           rw e (grind (arith, common_steps)));
       are = read-more true from to so.olds so.news old token so.are
-          (is-text, is-stop) read refl to-is;
+          is-text is-stop read refl to-is;
       told_is = told-is
           ∙ ap (λ (l : List FieldChange). l ++ changed 256 nth here text new) so.told_is
           ∙ append_assoc former (changes_of_tokens nth at so.olds so.news)

@@ -174,7 +174,6 @@ module _ (nth : ℕ) (l : Layout) (layout : IsLayout l) (bytes joined sizes : Li
       ∙ ap (split_by_sizes (map length are.read)) (joined-is ∙ are.joined) ∙ cut-joined are.read in
       subst (λ (x : DataRecord). TimedRecordReadsAs l place nth bytes x good.changes.items)
       (sym is) (record {
-        len = len;
         samples = are.samples;
         read = are.read;
         each = are.each;

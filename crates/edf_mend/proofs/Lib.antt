@@ -1,4 +1,3 @@
-pub mod LetterRows
 pub mod Blocks
 pub mod GoodRecords
 pub mod Sent

@@ -1,6 +1,6 @@
 -- Fields that differ are listed.
-use Rattle.std.proofs.Common.{◌≡◌, ℕ, zero, suc, ◌+◌, ◌*◌, ◌<◌, List, [], ◌∷◌, arith, refl, sym}
-use Rattle.std.proofs.Common.{subst, inl, inr, Bool, true, false}
+use Rattle.std.proofs.Common.{◌≡◌, ℕ, zero, suc, ◌+◌, ◌*◌, ◌<◌, List, [], ◌∷◌, ◌++◌, arith, refl}
+use Rattle.std.proofs.Common.{sym, subst, inl, inr, Bool, true, false}
 use Rattle.std.specs.Prelude.{if◌then◌else◌, Contains}
 use Rattle.std.specs.List.{flat_map}
 use Rattle.std.specs.Str.{bytes_eq}
@@ -11,7 +11,7 @@ use Rattle.edf_field.specs.Number.{field}
 use Rattle.edf_header.specs.Fields.{fields}
 use Rattle.edf_header.specs.Signal.{row_at}
 use Rattle.edf_mend.specs.Changes.{FieldChange, changed, fixed_fields, changes_of_fixed}
-use Rattle.edf_mend.specs.Changes.{changes_of_row, changes_of_signals, changes_of_header}
+use Rattle.edf_mend.specs.Changes.{changes_of_row, changes_of_signals}
 use Rattle.edf_mend.specs.Laws.{IsListed}
 
 pub in-flat : {X Y : Type 0} (f : X → List Y) (xs : List X) (x : X) (y : Y) → Contains xs x →
@@ -69,15 +69,16 @@ in-signals n old count new (suc k) i y lt there = elim (less i k) [
 ]
 
 module _ (n : ℕ) (first second : List ℕ) (count : ℕ) (strict signals : List ℕ) where
+  abbrev pub all_changes : List FieldChange
+  all_changes = changes_of_fixed first strict ++ changes_of_signals n second count signals n
+
   pub listed-fixed : (f : ℕ × ℕ) → Contains fixed_fields f →
-      IsListed (changes_of_header n first second count strict signals) f.0 0 f.0
-      (field first f.0 f.1) (field strict f.0 f.1)
+      IsListed all_changes f.0 0 f.0 (field first f.0 f.1) (field strict f.0 f.1)
   listed-fixed f there differ = Contains-append_left (changes_of_fixed first strict) _ _
       (in-fixed first strict f there differ)
 
   pub listed-signals : (i : ℕ) (f : ℕ × ℕ) → i < n → Contains fields f →
-      IsListed (changes_of_header n first second count strict signals) f.0 (i + 1)
-      (256 + n * f.0 + i * f.1) (field (row_at second n i) f.0 f.1)
+      IsListed all_changes f.0 (i + 1) (256 + n * f.0 + i * f.1) (field (row_at second n i) f.0 f.1)
       (field (row_at signals count i) f.0 f.1)
   listed-signals i f lt there differ = Contains-append_right (changes_of_fixed first strict) _ _
       (in-signals n second count signals n i _ lt

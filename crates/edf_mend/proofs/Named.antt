@@ -1,14 +1,14 @@
 -- Who is named: in a file for which no code was given; by a code that was given.
-use Rattle.std.proofs.Common.{◌≡◌, ℕ, List, [], ◌∷◌, ◌++◌, ◌⊎◌, inl, inr, ap, ◌∙◌, subst, Bool}
+use Rattle.std.proofs.Common.{◌≡◌, ℕ, List, ◌⊎◌, inl, inr, ap, ◌∙◌, subst, Bool}
 use Rattle.edf_field.specs.Text.{subfields}
 use Rattle.edf_header.specs.Fields.{patient_field, recording_field}
 use Rattle.edf_header.specs.Header.{HeaderRecord, layout_of}
 use Rattle.edf_header.specs.Key.{patient_code}
 use Rattle.edf_field.proofs.Recordings.{one-after}
 use Rattle.edf_mend.specs.Texts.{spaced, first_subfield, IsNoCode}
-use Rattle.edf_mend.specs.Identification.{KeepsName, KeepsPatient, code_of, codes_of, mark}
+use Rattle.edf_mend.specs.Identification.{KeepsName, KeepsPatient, code_of, HasCodes}
 use Rattle.edf_mend.specs.Header.{KeepsHeader}
-use Rattle.edf_mend.specs.Laws.{HasCodes, NamesRecording}
+use Rattle.edf_mend.specs.Laws.{NamesRecording}
 use Rattle.edf_mend.specs.declared.wanted.Wanted.{Wanted}
 use Rattle.edf_mend.specs.declared.wanted.Who.{Who}
 use Rattle.edf_mend.specs.declared.wanted.Who.TheVariants.{AsNamed, Given, Replaced, Hidden}
@@ -42,13 +42,8 @@ module _ (w : Wanted) (first second : List ℕ) (timed : Bool) (h : HeaderRecord
         absurd (some (subst (λ (c : List ℕ). IsNoCode c)
         (ap first_subfield x.is_fixed.patient) none))
     | inr s ↦
-        let after = (one-after _ _ _ _ _ s.recording.is_startdate
-        x.is_fixed.recording.is_startdate).1 in
-        let own = codes_of (recording_field first) in (
-          s.dated,
-          subst (λ (l : List ℕ). (subfields l ≡ own) ⊎ (subfields l ≡ own ++ mark ∷ []))
-              after s.same,
-        )
+        subst (λ (l : List ℕ). HasCodes (recording_field first) (subfields l))
+        (one-after _ _ _ _ _ s.recording.is_startdate x.is_fixed.recording.is_startdate).1 s.same
   ]
 
   pub names-recording : NamesRecording first (layout_of h).key

@@ -1,40 +1,8 @@
--- Subfields that name somebody, or that have a date.
-use Rattle.std.proofs.Common.{◌≡◌, ℕ, ◌<◌, List, [], ◌∷◌, ◌++◌, length, All, arith, sym, ap, ◌∙◌}
-use Rattle.std.proofs.Common.{subst, append_assoc, append-nil}
-use Rattle.edf_time.specs.Civil.{IsVisible}
-use Rattle.edf_field.specs.Text.{IsSex, IsBirthdate}
-use Rattle.edf_mend.specs.Texts.{capitals, joined_by}
-use Rattle.edf_mend.specs.Identification.{AreNamed, AreDated}
-
--- ---- who
-
-pub few-name-none : (parts : List (List ℕ)) → length parts < 3 → ¬ AreNamed parts
-few-name-none [] lt is = is
-few-name-none (a ∷ []) lt is = is
-few-name-none (a ∷ b ∷ []) lt is = is
-few-name-none (a ∷ b ∷ c ∷ more) lt is = absurd (omega (arith, lt))
-
-four : (parts : List (List ℕ)) (a b c : List ℕ) (rest more : List (List ℕ)) →
-    parts ≡ a ∷ b ∷ c ∷ rest → rest ≡ more → parts ≡ a ∷ b ∷ c ∷ more
-four parts a b c rest more is same = is ∙ ap (λ (l : List (List ℕ)). a ∷ b ∷ c ∷ l) same
-
-pub three-name-none : (parts : List (List ℕ)) (a b c : List ℕ) (rest : List (List ℕ)) →
-    parts ≡ a ∷ b ∷ c ∷ rest → rest ≡ [] → ¬ AreNamed parts
-three-name-none parts a b c rest is none named =
-    subst AreNamed (four parts a b c rest [] is none) named
-
--- four name somebody just where these hold
-pub named-parts : (parts : List (List ℕ)) (a b c name : List ℕ) (rest more : List (List ℕ)) →
-    parts ≡ a ∷ b ∷ c ∷ rest → rest ≡ name ∷ more → AreNamed parts →
-    All IsVisible a × IsSex (capitals b) × IsBirthdate (capitals c)
-named-parts parts a b c name rest more is some named =
-    subst AreNamed (four parts a b c rest (name ∷ more) is some) named
-
-pub parts-named : (parts : List (List ℕ)) (a b c name : List ℕ) (rest more : List (List ℕ)) →
-    parts ≡ a ∷ b ∷ c ∷ rest → rest ≡ name ∷ more →
-    All IsVisible a × IsSex (capitals b) × IsBirthdate (capitals c) → AreNamed parts
-parts-named parts a b c name rest more is some all =
-    subst AreNamed (sym (four parts a b c rest (name ∷ more) is some)) all
+-- Subfields: a date, and parts that are joined.
+use Rattle.std.proofs.Common.{◌≡◌, ℕ, List, [], ◌∷◌, ◌++◌, sym, ap, ◌∙◌, subst, append_assoc}
+use Rattle.std.proofs.Common.{append-nil}
+use Rattle.edf_mend.specs.Texts.{joined_by}
+use Rattle.edf_mend.specs.Identification.{AreDated}
 
 -- ---- a date
 

@@ -112,7 +112,7 @@ read-samples true l place nth bytes r changes layout len is =
       arith,
       ap (λ (x : List ℕ). length x) is.samples,
       layout.parts,
-      ordinary-len l bytes layout is.len,
+      ordinary-len l bytes layout len,
     )
 read-samples false l place nth bytes r changes layout len is =
     omega (arith, ap (λ (x : List ℕ). length x) is.0.0, len)

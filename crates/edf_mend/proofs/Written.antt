@@ -16,8 +16,9 @@ use Rattle.edf_canonical.specs.Sending.{SendsAll}
 use Rattle.edf_canonical.specs.Source.{at}
 use Rattle.edf_canonical.specs.declared.measure.Measure.{Measure}
 use Rattle.edf_canonical.proofs.MeasuredFiles.{file_of}
-use Rattle.edf_mend.specs.Body.{record_size, RecordsReadAs, CountFits, HeaderSizeFits, MayLeaveOut}
-use Rattle.edf_mend.specs.Changes.{FieldChange, changes_of_count, changes_of_header}
+use Rattle.edf_mend.specs.Body.{record_size, RecordsReadAs, CountFits, HeaderSizeFits}
+use Rattle.edf_mend.specs.Changes.{FieldChange, changes_of_count, changes_of_fixed}
+use Rattle.edf_mend.specs.Changes.{changes_of_signals}
 use Rattle.edf_mend.specs.Mends.{MendsTo, ListsHeader}
 use Rattle.edf_mend.specs.Inside.{OpensLeniently, ReadsLeniently}
 use Rattle.edf_mend.specs.declared.opening.Opened.{Opened}
@@ -39,7 +40,7 @@ pub mends : {R : Type 0} (g : Ghosts R) (w : Wanted) (left : Option (List ℕ)) 
     (λ rs. Appends before after (planned_text header m rs)) →
     CountFits w file.timed (count_field o.first) m.records
     × HeaderSizeFits o.first o.signals m.records file.left_out
-    × MayLeaveOut w file.timed file.left_out →
+    × (file.timed ≡ false → w.all ≡ false → file.left_out ≡ 0) →
     (changes : List FieldChange) →
     changes ≡ file.changes.items ++ changes_of_count o.first m.records →
     MendsTo w left (g.remaining rest) before after changes file.left_out
@@ -106,7 +107,8 @@ mends g w left input rest o source last file m header before after opens layout 
             sized = subst (λ (n : ℕ). HeaderSizeFits o.first n (length sent.records) file.left_out)
                 (sym opens.number) (subst (λ (n : ℕ). HeaderSizeFits o.first o.signals n
                 file.left_out) count checked.1);
-            behind = subst (λ (t : Bool). MayLeaveOut w t file.left_out) timed checked.2;
+            behind = subst (λ (t : Bool). t ≡ false → w.all ≡ false → file.left_out ≡ 0) timed
+                checked.2;
           };
         };
       };
@@ -122,7 +124,7 @@ pub keeps-header : (w : Wanted) (first second : List ℕ) (n count : ℕ) (timed
     (recording_field strict)
     → (h : HeaderRecord) × AreSignals signals h × (h.fixed ≡ fixed) × (l ≡ layout_of h) →
     (changes : List FieldChange) →
-    changes ≡ changes_of_header n first second count strict signals →
+    changes ≡ changes_of_fixed first strict ++ changes_of_signals n second count signals n →
     (h : HeaderRecord) × (x : KeepsHeader w first second timed h) × (x.n ≡ n)
     × ListsHeader x changes × (l ≡ layout_of h)
 keeps-header w first second n count timed strict signals text fixed l len number gaps is counts
@@ -147,7 +149,8 @@ keeps-header w first second n count timed strict signals text fixed l len number
         are_signals = are;
       },
       refl,
-      lists ∙ ap (λ (k : ℕ). changes_of_header n first second k strict signals) e,
+      lists ∙ ap (λ (k : ℕ). changes_of_fixed first strict
+          ++ changes_of_signals n second k signals n) e,
       layout,
     )
 

@@ -50,9 +50,6 @@ pub record Token : Type 0 where
 abbrev pub tokens_bytes : List Token → List ℕ
 tokens_bytes tokens = flat_map (λ t. t.text ++ t.stop ∷ []) tokens
 
-abbrev pub IsToken : Token → Type 0
-IsToken t = IsText t.text × ((t.stop ≡ 0) ⊎ (t.stop ≡ 20))
-
 abbrev pub PartReadsAs : Bool → List ℕ → List ℕ → Type 0
 PartReadsAs true old new = TimesReadAs old new
 PartReadsAs false old new = TextReadsAs old new
@@ -61,8 +58,8 @@ PartReadsAs false old new = TextReadsAs old new
 abbrev pub TokensReadAs : Bool → List Token → List Token → Bool → Type 0
 TokensReadAs from [] [] to = to ≡ from
 TokensReadAs from (old ∷ olds) (new ∷ news) to =
-    IsToken old × PartReadsAs from old.text new.text × (new.stop ≡ old.stop)
-    × TokensReadAs (old.stop == 0) olds news to
+    IsText old.text × ((old.stop ≡ 0) ⊎ (old.stop ≡ 20)) × PartReadsAs from old.text new.text
+    × (new.stop ≡ old.stop) × TokensReadAs (old.stop == 0) olds news to
 TokensReadAs from olds news to = ⊥
 
 -- What differs of tokens, which begin at this byte of a data record.
@@ -101,7 +98,6 @@ record_size timed l = if timed then l.record_bytes else 2 * samples_in_all l.key
 -- what a strict reading gets from its blocks.
 pub record TimedRecordReadsAs (l : Layout) (place : Place) (nth : ℕ) (bytes : List ℕ)
     (r : DataRecord) (changes : List FieldChange) : Type 0 where
-  pub len : length bytes ≡ l.record_bytes
   pub samples : r.samples ≡ ordinary_bytes l bytes
   pub read : List (List ℕ)
   pub each : BlocksReadAs nth l.blocks (blocks l bytes) read changes
@@ -123,7 +119,6 @@ RecordReadsAs true l place nth bytes r changes = TimedRecordReadsAs l place nth 
 RecordReadsAs false l place nth bytes r changes =
     PlainRecordReadsAs l place bytes r × (changes ≡ [])
 
--- They come one after another.
 abbrev pub RecordsReadAs : Bool → Layout → Place → ℕ → List (List ℕ) → List DataRecord →
     List FieldChange → Type 0
 RecordsReadAs timed l place nth [] [] changes = changes ≡ []
@@ -153,11 +148,8 @@ HeaderSizeFits fixed n records left_out =
     IsNumber (numeral (header_bytes_field fixed)) (256 + 256 * n)
     ⊎ (IsNumber (numeral (count_field fixed)) records × (left_out ≡ 0))
 
--- Where nothing says when a data record starts, no byte is left out, but a person says so.
-abbrev pub MayLeaveOut : Wanted → Bool → ℕ → Type 0
-MayLeaveOut w timed left_out = timed ≡ false → w.all ≡ false → left_out ≡ 0
-
 -- The bytes behind the header are whole data records, and less than one more, which is left out.
+-- Where nothing says when a data record starts, no byte is, but a person says so.
 pub record BodyReadsAs (w : Wanted) (timed : Bool) (fixed : List ℕ) (n : ℕ) (l : Layout)
     (body : List ℕ) (records : List DataRecord) (left_out : ℕ) : Type 0 where
   pub pieces : List (List ℕ)
@@ -169,4 +161,4 @@ pub record BodyReadsAs (w : Wanted) (timed : Bool) (fixed : List ℕ) (n : ℕ) 
   pub each : RecordsReadAs timed l First 1 pieces records changes
   pub count : CountFits w timed (count_field fixed) (length records)
   pub sized : HeaderSizeFits fixed n (length records) left_out
-  pub behind : MayLeaveOut w timed left_out
+  pub behind : timed ≡ false → w.all ≡ false → left_out ≡ 0

@@ -35,15 +35,10 @@ abbrev pub changes_of_row : ℕ → ℕ → List ℕ → List ℕ → List Field
 changes_of_row n i old new = flat_map (λ f. changed f.0 (i + 1) (256 + n * f.0 + i * f.1)
     (field old f.0 f.1) (field new f.0 f.1)) fields
 
--- Those of the first so many signals.
 abbrev pub changes_of_signals : ℕ → List ℕ → ℕ → List ℕ → ℕ → List FieldChange
 changes_of_signals n old count new zero = []
 changes_of_signals n old count new (suc i) = changes_of_signals n old count new i
     ++ changes_of_row n i (row_at old n i) (row_at new count i)
-
-abbrev pub changes_of_header : ℕ → List ℕ → List ℕ → ℕ → List ℕ → List ℕ → List FieldChange
-changes_of_header n first second count strict signals =
-    changes_of_fixed first strict ++ changes_of_signals n second count signals n
 
 -- The number of data records, as the canonical file has it.
 abbrev pub changes_of_count : List ℕ → ℕ → List FieldChange

@@ -1,12 +1,13 @@
 -- The header of a file, and its good form, which a strict reading reads.
 use Rattle.std.specs.Prelude.{◌≡◌, ◌⊎◌, ℕ, List, ◌∷◌, ◌++◌, take, drop, slice_index, Option, Some}
-use Rattle.std.specs.Prelude.{None, ℤ, false, ◌≤◌, ◌<◌, length, ◌≢◌, ◌+◌, ◌*◌, codes, Bool, true}
+use Rattle.std.specs.Prelude.{None, ℤ, false, ◌≤◌, ◌<◌, length, ◌≢◌, ◌+◌, ◌*◌, codes, Bool, IsTrue}
+use Rattle.std.specs.Prelude.{nat_eq, if◌then◌else◌}
 use Rattle.std.specs.Char.{is_ascii_digit}
 use Rattle.edf_time.specs.Civil.{IsTimeText, IsIdDate, IsDateText, AreStartdates}
 use Rattle.edf_mend.specs.Texts.{unfilled, spaced, fitted, numeral, first_subfield, IsNoCode}
 use Rattle.edf_mend.specs.Identification.{HasDate, date_of, mark, KeepsPatient, KeepsRecording}
 use Rattle.edf_mend.specs.Identification.{StaysBehindDate}
-use Rattle.std.specs.List.{AllByRecursion}
+use Rattle.std.specs.List.{AllByRecursion, ends_with}
 use Rattle.edf_field.specs.Number.{field, IsNumber}
 use Rattle.edf_header.specs.Fields.{fields, patient_field, recording_field, duration_field}
 use Rattle.edf_header.specs.Fields.{version_field, startdate_field, starttime_field, reserved_field}
@@ -37,7 +38,6 @@ KeepsTime (Some time) old new = (new ≡ time) × HasNoTime old
 abbrev pub HasDay : List ℕ → ℤ → Type 0
 HasDay recording day = HasDate recording × IsIdDate (date_of recording) day
 
--- A date is the day of the recording field.
 abbrev pub AgreesWithDay : List ℕ → List ℕ → Type 0
 AgreesWithDay recording date = (day : ℤ) × HasDay recording day
     × ((days : ℕ) × AreStartdates date (Some day) days)
@@ -54,13 +54,12 @@ KeepsDate None recording old new = (new ≡ old)
     ⊎ (AreParted old × (new ≡ dotted old) × AgreesWithDay recording new)
 KeepsDate (Some date) recording old new = (new ≡ date) × HasNoStartdate recording old
 
--- Fields stay byte for byte, but for zeros that fill them.
-abbrev pub StaysFields : List (ℕ × ℕ) → List ℕ → List ℕ → Type 0
-StaysFields fs old new =
-    AllByRecursion (λ f. field new f.0 f.1 ≡ spaced (field old f.0 f.1)) fs
+-- A field stays byte for byte, but for zeros that fill it.
+abbrev pub StaysField : List ℕ → List ℕ → ℕ × ℕ → Type 0
+StaysField old new f = field new f.0 f.1 ≡ spaced (field old f.0 f.1)
 
 abbrev pub StaysRow : List ℕ → List ℕ → Type 0
-StaysRow old new = IsLabelled new ⊎ StaysFields fields old new
+StaysRow old new = IsLabelled new ⊎ AllByRecursion (StaysField old new) fields
 
 -- What names a recording is what the file says, and its start is, too.
 pub record StaysAll (w : Wanted) (n : ℕ) (first second text : List ℕ) (count : ℕ)
@@ -74,7 +73,7 @@ pub record StaysAll (w : Wanted) (n : ℕ) (first second text : List ℕ) (count
 
 -- The text ends with the mark.
 abbrev pub SaysMended : List ℕ → Type 0
-SaysMended text = (prefix : List ℕ) × (text ≡ prefix ++ (32 ∷ mark))
+SaysMended text = IsTrue (ends_with nat_eq text (32 ∷ mark))
 
 -- The field has a text and the mark, whole.
 abbrev pub IsMarked : List ℕ → List ℕ → Type 0
@@ -110,14 +109,10 @@ pub record KeepsRow (timed : Bool) (old new : List ℕ) : Type 0 where
   pub stays_silent : timed ≡ false → ¬ SpeaksOfAnnotations (label_field new)
 
 -- There are as many as there were; or an annotations signal more, where there was none.
-abbrev pub AreAsMany : Bool → ℕ → ℕ → Type 0
-AreAsMany true n count = count ≡ n
-AreAsMany false n count = count ≡ n + 1
-
 pub record KeepsSignals (timed : Bool) (n : ℕ) (old : List ℕ) (count : ℕ) (new : List ℕ) :
     Type 0 where
   pub len : length old ≡ 256 * n
-  pub many : AreAsMany timed n count
+  pub many : count ≡ (if timed then n else n + 1)
   pub each : (i : ℕ) → i < n → KeepsRow timed (row_at old n i) (row_at new count i)
 
 -- The two headers go together, field for field. A file that says that it has gaps has annotations

@@ -1,11 +1,11 @@
 -- The patient that a file names, and the recording that it is of.
-use Rattle.std.specs.Prelude.{◌≡◌, ◌⊎◌, ◌==◌, ℕ, ◌≤◌, List, ◌∷◌, ◌++◌, length, drop, All, codes}
-use Rattle.std.specs.Prelude.{if◌then◌else◌, ◌-◌, [], take, slice_index_or, Option, ℤ, pos}
-use Rattle.std.specs.Prelude.{replicate}
+use Rattle.std.specs.Prelude.{◌≡◌, ◌⊎◌, ◌==◌, ℕ, ◌≤◌, List, ◌∷◌, ◌++◌, length, drop, All, codes, []}
+use Rattle.std.specs.Prelude.{if◌then◌else◌, ◌-◌, take, slice_index_or, Option, ℤ, pos, replicate}
 use Rattle.edf_time.specs.Civil.{IsVisible, IsIdDate, IsDateText}
-use Rattle.edf_field.specs.Text.{subfields, IsPrintable, IsPatient, IsSex, IsBirthdate, IsRecording}
-use Rattle.edf_mend.specs.Texts.{spaced, fitted, capitals, first_subfield, joined_by, IsNoCode}
-use Rattle.edf_mend.specs.Texts.{unfilled, IsDateOrX, spelling}
+use Rattle.edf_field.specs.Text.{subfields, IsPrintable, IsPatient, IsBirthdate, IsRecording}
+use Rattle.edf_mend.specs.Texts.{spaced, fitted, first_subfield, joined_by, IsNoCode, unfilled}
+use Rattle.edf_mend.specs.Texts.{spelling}
+use Rattle.std.specs.Str.{str_to_ascii_uppercase as capitals}
 use Rattle.edf_mend.specs.declared.wanted.Who.{Who}
 use Rattle.edf_mend.specs.declared.wanted.Who.TheVariants.{AsNamed, Given, Replaced, Hidden}
 use Rattle.std.specs.List.{flat_map}
@@ -14,18 +14,12 @@ use Rattle.std.specs.List.{flat_map}
 abbrev pub IsPlain : List ℕ → Type 0
 IsPlain field = All IsPrintable (spaced field) × IsPatient (spaced field)
 
--- The field has this code.
 abbrev pub code_of : List ℕ → List ℕ
 code_of field = first_subfield (spaced field)
 
--- Subfields name somebody, once sex and birthdate are in capitals and the name is in ASCII.
-abbrev pub AreNamed : List (List ℕ) → Type 0
-AreNamed (code ∷ sex ∷ birthdate ∷ name ∷ more) =
-    All IsVisible code × IsSex (capitals sex) × IsBirthdate (capitals birthdate)
-AreNamed parts = ⊥
-
+-- The field names somebody, once sex and birthdate are in capitals and the name is in ASCII.
 abbrev pub IsNamed : List ℕ → Type 0
-IsNamed field = AreNamed (subfields (spaced field))
+IsNamed field = All IsVisible (code_of field) × IsPatient (capitals (spaced field))
 
 -- The names of such a field are in ASCII, or X where these are blanks alone.
 abbrev pub names_text : List (List ℕ) → List ℕ
@@ -72,9 +66,6 @@ GetsCode code old new = (first_subfield new ≡ code) × StandsBehindCode code o
 abbrev pub KeepsCode : List ℕ → List ℕ → List ℕ → Type 0
 KeepsCode code old new = (code_of old ≡ code) × KeepsName old new
 
-abbrev pub IsNamedBy : List ℕ → List ℕ → Type 0
-IsNamedBy code old = IsNamed old × (code_of old ≡ code)
-
 -- A code stands in place of all that the field says.
 abbrev pub IsCodeAlone : List ℕ → List ℕ → Type 0
 IsCodeAlone code new = (first_subfield new ≡ code) × (new ≡ fitted 80 (code ++ codes " X X X"))
@@ -85,7 +76,7 @@ KeepsPatient AsNamed old new = KeepsName old new
 KeepsPatient (Given code) old new = KeepsCode code old new
     ⊎ (GetsCode code old new × (IsNamed old → IsNoCode (code_of old)))
 KeepsPatient (Replaced code) old new = KeepsCode code old new
-    ⊎ (GetsCode code old new × (¬ IsNamedBy code old))
+    ⊎ (GetsCode code old new × ¬ (IsNamed old × (code_of old ≡ code)))
 KeepsPatient (Hidden code) old new = IsCodeAlone code new
 
 -- The field is a recording identification as it stands, but for zeros that fill it.
@@ -96,7 +87,7 @@ IsPlainRecording field = All IsPrintable (spaced field)
 -- Subfields are the word, a date and codes, in any letters.
 abbrev pub AreDated : List (List ℕ) → Type 0
 AreDated (word ∷ date ∷ after) =
-    (capitals word ≡ codes "STARTDATE") × IsDateOrX (capitals date)
+    (capitals word ≡ codes "STARTDATE") × IsBirthdate (capitals date)
 AreDated parts = ⊥
 
 abbrev pub HasDate : List ℕ → Type 0
@@ -110,15 +101,12 @@ abbrev pub codes_of : List ℕ → List (List ℕ)
 codes_of field = drop 2 (subfields (spaced field))
 
 -- Of such a field come its date, its codes in ASCII, and X for each that it lacks then.
-abbrev pub spelled_codes : List ℕ → List ℕ
-spelled_codes old = spelling (joined_by 32 (codes_of old))
-
 abbrev pub lacking_codes : List (List ℕ) → List ℕ
 lacking_codes after = flat_map (λ x. x) (replicate (3 - length after) (codes " X"))
 
 abbrev pub IsRedated : List ℕ → List ℕ → Type 0
-IsRedated old text = HasDate old × (text ≡ codes "Startdate " ++ (date_of old
-    ++ (spelled_codes old ++ lacking_codes (subfields (spelled_codes old)))))
+IsRedated old text = let spelled = spelling (joined_by 32 (codes_of old)) in HasDate old
+    × (text ≡ codes "Startdate " ++ (date_of old ++ (spelled ++ lacking_codes (subfields spelled))))
 
 -- The startdate says its year, and this is its day.
 abbrev pub IsDateOf : List ℕ → List ℕ → Type 0
@@ -138,24 +126,24 @@ pub record IsDateAlone (startdate old text : List ℕ) : Type 0 where
       ⊎ ((¬ HasDate old) × IsDateOf startdate date)
   pub text_is : text ≡ codes "Startdate " ++ (date ++ codes " X X X")
 
-abbrev pub KeepsShown : List ℕ → List ℕ → List ℕ → Type 0
-KeepsShown startdate old text = (IsPlainRecording old × (text ≡ unfilled old))
-    ⊎ ((¬ IsPlainRecording old) × (IsRedated old text ⊎ StandsBehind startdate old text))
-
 -- The good form of a file has this startdate, and this text, without the mark, in its recording
 -- field.
 abbrev pub KeepsRecording : Who → List ℕ → List ℕ → List ℕ → Type 0
 KeepsRecording (Hidden code) startdate old text = IsDateAlone startdate old text
-KeepsRecording who startdate old text = KeepsShown startdate old text
+KeepsRecording who startdate old text = (IsPlainRecording old × (text ≡ unfilled old))
+    ⊎ ((¬ IsPlainRecording old) × (IsRedated old text ⊎ StandsBehind startdate old text))
 
--- Where nobody is named, the field has a date of its own, and the same codes behind it but for the
--- mark.
 abbrev pub mark : List ℕ
 mark = codes "mended"
 
+-- The field has a date of its own, and behind it these codes, but for the mark.
+abbrev pub HasCodes : List ℕ → List (List ℕ) → Type 0
+HasCodes field codes = HasDate field
+    × ((codes ≡ codes_of field) ⊎ (codes ≡ codes_of field ++ mark ∷ []))
+
+-- Where nobody is named, these codes stay.
 pub record StaysBehindDate (old new : List ℕ) : Type 0 where
-  pub dated : HasDate old
   pub day : Option ℤ
   pub after : List ℕ
   pub recording : IsRecording new day after
-  pub same : (subfields after ≡ codes_of old) ⊎ (subfields after ≡ codes_of old ++ mark ∷ [])
+  pub same : HasCodes old (subfields after)

@@ -1,6 +1,6 @@
 -- Words of private contracts.
-use Rattle.std.specs.Prelude.{◌≡◌, ℕ, ◌+◌, ◌<◌, List, ◌++◌, length, map, Option, Some, None, Result}
-use Rattle.std.specs.Prelude.{Ok, Err}
+use Rattle.std.specs.Prelude.{◌≡◌, ℕ, ◌+◌, ◌<◌, List, ◌++◌, length, map, Option, Result, IfOk}
+use Rattle.std.specs.Prelude.{MatchOption}
 use Rattle.std.specs.List.{flat_map}
 use Rattle.std.specs.Io.KnownBytes.{Consumes, IsAtEnd}
 use Rattle.edf_header.specs.Header.{Layout, HeaderRecord, layout_of}
@@ -20,12 +20,10 @@ use Rattle.edf_mend.specs.declared.reading.LenientSource.{LenientSource}
 use Rattle.edf_mend.specs.declared.record.GoodRecord.{GoodRecord}
 use Rattle.edf_mend.specs.declared.wanted.Wanted.{Wanted}
 
--- These are the fields of the good form of a fixed part.
 abbrev pub IsGoodFixed : Wanted → List ℕ → GoodFixed → Type 0
 IsGoodFixed w first good =
     KeepsFields w first good.patient good.text.items good.date good.time good.duration.items
 
--- A header was read.
 pub record OpensLeniently (w : Wanted) (input remaining : Option (List ℕ)) (o : Opened) : Type 0
   where
     pub second : List ℕ
@@ -68,16 +66,12 @@ pub record ReadsEnd (old new : LenientFile) (input remaining : Option (List ℕ)
   pub left_out : new.left_out ≡ length tail
   pub changes : new.changes.items ≡ old.changes.items
 
-abbrev pub IsLenientAnswer : LenientFile → LenientFile → Option (List ℕ) → Option (List ℕ) →
-    Result (Option DataRecord) MendFault → Type 0
-IsLenientAnswer old new input remaining (Ok (Some r)) = ReadsRecord old new input remaining r
-IsLenientAnswer old new input remaining (Ok None) = ReadsEnd old new input remaining
-IsLenientAnswer old new input remaining (Err fault) = Unit {0}
-
 module _ {R : Type 0} (g : Ghosts R) where
   pub record ReadsLeniently (from : LenientSource) (old : LenientFile) (input : R)
       (to : LenientSource) (new : LenientFile) (remaining : R)
       (answer : Result (Option DataRecord) MendFault) : Type 0 where
     pub header : new.header ≡ old.header
     pub timed : new.timed ≡ old.timed
-    pub answers : IsLenientAnswer old new (g.remaining input) (g.remaining remaining) answer
+    pub answers : IfOk answer (λ found. MatchOption found
+        (ReadsEnd old new (g.remaining input) (g.remaining remaining))
+        (ReadsRecord old new (g.remaining input) (g.remaining remaining)))

@@ -13,8 +13,7 @@ use Rattle.edf_header.specs.Header.{Layout, layout_of}
 use Rattle.edf_tal.specs.declared.place.Place.{Place}
 use Rattle.edf_fragment.specs.Fragment.{DataRecord}
 use Rattle.edf_mend.specs.Texts.{spaced, fitted, IsNoCode}
-use Rattle.edf_mend.specs.Identification.{code_of, IsCodeAlone, HasDate, codes_of, IsDateAlone}
-use Rattle.edf_mend.specs.Identification.{mark}
+use Rattle.edf_mend.specs.Identification.{code_of, IsCodeAlone, HasCodes, IsDateAlone}
 use Rattle.edf_mend.specs.Signal.{SpeaksOfAnnotations}
 use Rattle.edf_mend.specs.Header.{IsMarked, AreParted, dotted, HasDay}
 use Rattle.edf_mend.specs.Changes.{FieldChange, fixed_fields, changes_of_count}
@@ -22,11 +21,6 @@ use Rattle.edf_mend.specs.Body.{record_size, RecordReadsAs}
 use Rattle.edf_mend.specs.Mends.{Mends, ListsHeader}
 use Rattle.edf_mend.specs.declared.wanted.Wanted.{Wanted}
 use Rattle.edf_mend.specs.declared.wanted.Who.TheVariants.{AsNamed, Given, Replaced, Hidden}
-
--- The field has a date of its own, and behind it these codes, but for the mark.
-abbrev pub HasCodes : List ℕ → List (List ℕ) → Type 0
-HasCodes field codes = HasDate field
-    × ((codes ≡ codes_of field) ⊎ (codes ≡ codes_of field ++ mark ∷ []))
 
 -- A fixed part has the patient's code of a recording; where that is none, it has the patient field
 -- as it stands, and the codes.

@@ -8,11 +8,11 @@ use Rattle.edf_fragment.specs.Fragment.{DataRecord}
 use Rattle.edf_canonical.specs.File.{IsCanonicalFile}
 use Rattle.edf_mend.specs.Header.{KeepsHeader}
 use Rattle.edf_mend.specs.Body.{BodyReadsAs}
-use Rattle.edf_mend.specs.Changes.{FieldChange, changes_of_header, changes_of_count}
+use Rattle.edf_mend.specs.Changes.{FieldChange, changes_of_fixed, changes_of_signals}
+use Rattle.edf_mend.specs.Changes.{changes_of_count}
 use Rattle.edf_mend.specs.declared.wanted.Wanted.{Wanted}
 use Rattle.edf_mend.specs.declared.wanted.Who.TheVariants.{AsNamed}
 
--- A person says nothing of the file.
 pub record AsksNothing (w : Wanted) : Type 0 where
   pub who : w.who ≡ AsNamed
   pub startdate : w.startdate ≡ None
@@ -35,8 +35,8 @@ pub record Mends (w : Wanted) (file : List ℕ) (key : Key) (records : List Data
 -- The changes are all fields of the header that differ in the good form.
 abbrev pub ListsHeader : {w : Wanted} {first second : List ℕ} {timed : Bool} {h : HeaderRecord} →
     KeepsHeader w first second timed h → List FieldChange → Type 0
-ListsHeader {w} {first} {second} {timed} {h} x changes = changes
-    ≡ changes_of_header x.n first second h.fixed.signal_count x.strict x.strict_signals
+ListsHeader {w} {first} {second} {timed} {h} x changes = changes ≡ changes_of_fixed first x.strict
+    ++ changes_of_signals x.n second h.fixed.signal_count x.strict_signals x.n
 
 -- The file becomes the canonical file of what is read of it. What differs in the header is listed,
 -- what differs in annotations, and the count.

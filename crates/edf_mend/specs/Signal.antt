@@ -36,13 +36,10 @@ IsMoved false size places len = places + size ≡ len + 99
 
 -- A comma parts no thousands, which it might with one to three digits before it, other than 0
 -- alone, and three behind it.
-abbrev pub HasClearComma : List ℕ → Type 0
-HasClearComma text = (slice_index (after_digits text) 0 ≢ 44)
-    ⊎ ((length (part (after_digits text)) ≢ 3)
-    ⊎ ((length (digits text) ≡ 0) ⊎ ((4 ≤ length (digits text)) ⊎ (digits text ≡ codes "0"))))
-
 abbrev pub IsClear : List ℕ → Type 0
-IsClear field = HasClearComma (unsigned (numeral_text field))
+IsClear field = let text = unsigned (numeral_text field) in
+    (slice_index (after_digits text) 0 ≢ 44) ⊎ ((length (part (after_digits text)) ≢ 3)
+    ⊎ ((length (digits text) ≡ 0) ⊎ ((4 ≤ length (digits text)) ⊎ (digits text ≡ codes "0"))))
 
 -- The text spells a number: that of its digits times ten 99 times, divided by ten so many times.
 pub record IsDecimal (text : List ℕ) (negative : Bool) (n places : ℕ) : Type 0 where
@@ -57,7 +54,6 @@ pub record IsDecimal (text : List ℕ) (negative : Bool) (n places : ℕ) : Type
 abbrev pub IsMultiple : ℕ → ℕ → ℕ → ℕ → Type 0
 IsMultiple n from m to = (more : ℕ) × (to ≡ from + more) × (n * 10 ^ more ≡ m)
 
--- Two fields spell one number.
 pub record IsOneNumber (a b : List ℕ) : Type 0 where
   pub minus : Bool
   pub other : Bool
@@ -86,20 +82,17 @@ KeepsLetters rows old new = (All IsPrintable (spaced old) × (new ≡ spaced old
 abbrev pub KeepsText : ℕ → ℕ → List ℕ → List ℕ → Type 0
 KeepsText at width old new = KeepsLetters text_rows (field old at width) (field new at width)
 
-abbrev pub dimension_field : List ℕ → List ℕ
-dimension_field row = field row 96 8
-
 -- Nothing is measured: the physical limits are the digital ones, without a dimension.
 pub record IsUnmeasured (row : List ℕ) : Type 0 where
   pub low : physical_minimum_field row ≡ digital_minimum_field row
   pub high : physical_maximum_field row ≡ digital_maximum_field row
-  pub dimension : dimension_field row ≡ spaces 8
+  pub dimension : field row 96 8 ≡ spaces 8
 
 -- Two limits stay the same numbers; or, where they clearly were one number, nothing is measured.
 abbrev pub KeepsLimits : List ℕ → List ℕ → List ℕ → List ℕ → Type 0
 KeepsLimits low high old new =
     (KeepsNumber low (physical_minimum_field new) × KeepsNumber high (physical_maximum_field new)
-    × KeepsLetters dimension_rows (dimension_field old) (dimension_field new))
+    × KeepsLetters dimension_rows (field old 96 8) (field new 96 8))
     ⊎ (IsClear low × IsClear high × IsOneNumber low high × IsUnmeasured new)
 
 -- The line from digital to physical values stays: both ends of it, maybe in the other order.
@@ -112,7 +105,6 @@ KeepsLine old new =
     × (digital_maximum_field new ≡ numeral (digital_minimum_field old))
     × KeepsLimits (physical_maximum_field old) (physical_minimum_field old) old new)
 
--- An ordinary signal.
 pub record KeepsOrdinary (old new : List ℕ) : Type 0 where
   pub label : KeepsText 0 16 old new
   pub transducer : KeepsText 16 80 old new
@@ -127,12 +119,10 @@ pub record KeepsSignal (old new : List ℕ) : Type 0 where
       ⊎ ((¬ IsLabelled new) × KeepsOrdinary old new)
 
 -- A label speaks of annotations: its letters, in small ones, have the word in them.
-abbrev pub small_letters : List ℕ → List ℕ
-small_letters label = filter is_ascii_lowercase (str_to_ascii_lowercase label)
-
 abbrev pub has_word : List ℕ → Bool
 has_word [] = false
 has_word (b ∷ more) = starts_with nat_eq (b ∷ more) (codes "annotation") || has_word more
 
 abbrev pub SpeaksOfAnnotations : List ℕ → Type 0
-SpeaksOfAnnotations label = IsTrue (has_word (small_letters label))
+SpeaksOfAnnotations label =
+    IsTrue (has_word (filter is_ascii_lowercase (str_to_ascii_lowercase label)))

@@ -1,19 +1,15 @@
 -- Texts of fields, as a lenient reading takes them, and what ASCII has in place of other letters.
-use Rattle.std.specs.Prelude.{ℕ, ◌-◌, ◌==◌, ◌||◌, List, [], ◌∷◌, ◌++◌, length, take, drop}
-use Rattle.std.specs.Prelude.{slice_index_or, ◌≡◌, ◌⊎◌, ℤ, codes, ◌≤◌, All, ◌&&◌, nat_le}
-use Rattle.std.specs.Prelude.{if◌then◌else◌}
+use Rattle.std.specs.Prelude.{ℕ, ◌-◌, ◌==◌, ◌||◌, List, [], ◌∷◌, ◌++◌, length, take, drop, codes}
+use Rattle.std.specs.Prelude.{slice_index_or, ◌≡◌, ◌⊎◌, ◌≤◌, All, ◌&&◌, nat_le, if◌then◌else◌}
 use Rattle.std.specs.List.{suffix_len, prefix_len, flat_map}
-use Rattle.std.specs.Str.{str_to_ascii_uppercase, chars, is_utf8}
-use Rattle.edf_time.specs.Civil.{IsIdDate, IsVisible}
+use Rattle.std.specs.Str.{chars, is_utf8}
+use Rattle.edf_time.specs.Civil.{IsVisible}
 use Rattle.edf_field.specs.Text.{spaces, subfields}
 use Rattle.std.specs.Borrow.{Bor}
 
 -- Zeros and spaces at the end of a text fill its field.
-abbrev pub fill_len : List ℕ → ℕ
-fill_len text = suffix_len (λ b. (b == 0) || (b == 32)) text
-
 abbrev pub unfilled : List ℕ → List ℕ
-unfilled text = take (length text - fill_len text) text
+unfilled text = take (length text - suffix_len (λ b. (b == 0) || (b == 32)) text) text
 
 -- A text stands in a field of this width: it is cut where it is longer, and filled with spaces.
 abbrev pub fitted : ℕ → List ℕ → List ℕ
@@ -30,9 +26,6 @@ numeral_text text = drop (prefix_len (λ b. b == 32) (unfilled text)) (unfilled 
 abbrev pub numeral : List ℕ → List ℕ
 numeral text = fitted (length text) (numeral_text text)
 
-abbrev pub capitals : List ℕ → List ℕ
-capitals text = str_to_ascii_uppercase text
-
 abbrev pub first_subfield : List ℕ → List ℕ
 first_subfield text = slice_index_or (subfields text) 0 []
 
@@ -40,11 +33,6 @@ first_subfield text = slice_index_or (subfields text) 0 []
 abbrev pub joined_by : ℕ → List (List ℕ) → List ℕ
 joined_by b parts = flat_map (λ part. b ∷ part) parts
 
--- A subfield is a date, or X.
-abbrev pub IsDateOrX : List ℕ → Type 0
-IsDateOrX date = (date ≡ codes "X") ⊎ ((day : ℤ) × IsIdDate date day)
-
--- A subfield stands for no code.
 abbrev pub IsNoCode : List ℕ → Type 0
 IsNoCode code = (code ≡ codes "X") ⊎ (code ≡ codes "x")
 
@@ -92,13 +80,10 @@ by_rows (r ∷ rs) c = if nat_le r.0 c && nat_le c r.1 then r.2 else by_rows rs 
 abbrev pub letters : List (ℕ × ℕ × List ℕ) → ℕ → List ℕ
 letters rows c = if nat_le 32 c && nat_le c 126 then c ∷ [] else by_rows rows c
 
--- The text has the characters of its UTF-8 or, where it is none, each byte as Latin-1 has it.
-abbrev pub characters : List ℕ → List ℕ
-characters text = if is_utf8 text then chars text else text
-
--- ASCII spells the text so, in any length.
+-- ASCII spells the text so, in any length: the characters of its UTF-8 or, where it is none, each
+-- byte as Latin-1 has it.
 abbrev pub spelled_by : List (ℕ × ℕ × List ℕ) → List ℕ → List ℕ
-spelled_by rows text = flat_map (letters rows) (characters text)
+spelled_by rows text = flat_map (letters rows) (if is_utf8 text then chars text else text)
 
 abbrev pub spelling : List ℕ → List ℕ
 spelling text = spelled_by text_rows text

@@ -4,7 +4,7 @@ ghost use Rattle.std.specs.Prelude.{◌≡◌, ◌<◌, ◌≤◌, ◌++◌, OnO
 ghost use Rattle.edf_mend.specs.Texts.{fitted};
 ghost use Rattle.edf_header.specs.declared.limits.TheConstants.{MOST_SIGNALS};
 ghost use Rattle.edf_mend.specs.Changes.{changed, changes_of_fixed, changes_of_row};
-ghost use Rattle.edf_mend.specs.Changes.{changes_of_signals, changes_of_header};
+ghost use Rattle.edf_mend.specs.Changes.{changes_of_signals};
 
 use crate::columns::{Headers, ROW, field_at, offset_of};
 use crate::texts::fit;
@@ -157,9 +157,9 @@ pub(crate) fn changes_of_header(
     alloc: Global,
     headers: &Headers<'_>,
 ) -> Result<Vec<Change>, AllocError>
-    ensures { IfOk result (λ v. v.items ≡ changes_of_header headers.now.n headers.now.first.now
-        headers.now.second.now headers.now.count headers.now.strict.now
-        headers.now.strict_signals.now) }
+    ensures { IfOk result (λ v. v.items ≡ changes_of_fixed headers.now.first.now
+        headers.now.strict.now ++ changes_of_signals headers.now.n headers.now.second.now
+        headers.now.count headers.now.strict_signals.now headers.now.n) }
 {
     let mut out = Vec::new(alloc);
     push_fixed(alloc, &mut out, headers.first, headers.strict)?;

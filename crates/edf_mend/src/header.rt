@@ -1,27 +1,27 @@
 //! The good form of a header: it is proposed, read strictly, and checked against the header.
 
 ghost use Rattle.std.specs.Prelude.{◌≡◌, ◌≢◌, ◌⊎◌, ◌+◌, ◌*◌, ◌≤◌, length, take, codes, IsTrue};
-ghost use Rattle.std.specs.Prelude.{IfOk, OnOk, false};
+ghost use Rattle.std.specs.Prelude.{IfOk, OnOk, false, if◌then◌else◌};
 ghost use Rattle.edf_header.specs.Fields.{version_field, patient_field, recording_field};
 ghost use Rattle.edf_header.specs.Fields.{startdate_field, starttime_field, duration_field};
 ghost use Rattle.edf_header.specs.Fields.{reserved_field};
 ghost use Rattle.edf_header.specs.declared.limits.TheConstants.{MOST_SIGNALS};
 ghost use Rattle.edf_mend.specs.Texts.{spaced, first_subfield, IsNoCode};
 ghost use Rattle.edf_mend.specs.Identification.{StaysBehindDate};
-ghost use Rattle.edf_mend.specs.Header.{KeepsFixed, KeepsRow, AreAsMany, KeepsSignals};
+ghost use Rattle.edf_mend.specs.Header.{KeepsFixed, KeepsRow, KeepsSignals};
 ghost use Rattle.edf_mend.specs.Inside.{IsGoodFixed};
 ghost use Rattle.edf_mend.specs.declared.wanted.Who.TheVariants.{AsNamed};
 
 use crate::columns::{Headers, columns};
 use crate::fault::MendFault;
-use crate::patient::{good_patient, is_no_code};
+use crate::patient::good_patient;
 use crate::recording::{good_recording, stays_behind_date};
 use crate::signal::{
     annotations_row, eight, good_signal, is_labelled, keeps_signal, speaks_of_annotations,
     was_labelled,
 };
 use crate::start::{good_date, good_time};
-use crate::texts::{first_subfield, is_same, numeral, put, spaced};
+use crate::texts::{first_subfield, is_no_code, is_same, numeral, put, spaced};
 use crate::wanted::{Wanted, Who};
 use edf_header::{HeaderFault, read_fixed, signal_row};
 use std::alloc::{AllocError, Global};
@@ -149,7 +149,7 @@ fn keeps_row(
 
 /// Is true where there are as many signals, or one more.
 fn are_as_many(timed: bool, n: usize, count: usize) -> bool
-    ensures { IsTrue result → AreAsMany timed n count }
+    ensures { IsTrue result → count ≡ (if timed then n else n + 1) }
 {
     if timed {
         count == n

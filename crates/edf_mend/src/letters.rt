@@ -1,9 +1,8 @@
 //! Letters that ASCII lacks: what it has in their place in texts, and in physical dimensions.
 
-ghost use Rattle.std.specs.Prelude.{◌≡◌, ◌++◌, IfOk, OnOk, map};
-ghost use Rattle.std.specs.Str.{chars};
-ghost use Rattle.edf_mend.specs.Texts.{by_rows, letters, letter_row, characters, spelled_by};
-ghost use Rattle.edf_mend.specs.Texts.{spelling};
+ghost use Rattle.std.specs.Prelude.{◌≡◌, ◌++◌, IfOk, OnOk, map, if◌then◌else◌};
+ghost use Rattle.std.specs.Str.{chars, is_utf8};
+ghost use Rattle.edf_mend.specs.Texts.{by_rows, letters, letter_row, spelled_by, spelling};
 
 use std::alloc::{AllocError, Global};
 use std::str;
@@ -74,10 +73,12 @@ pub(crate) const DIMENSION_ROWS: [(u32, u32, &[u8]); 9] = [
 fn by_rows(rows: &[(u32, u32, &'static [u8])], code: u32) -> &'static [u8]
     ensures { result.now ≡ by_rows (map letter_row rows.now) code }
 {
-    for row in rows {
+    let mut left = rows;
+    while let [row, rest @ ..] = left {
         if row.0 <= code && code <= row.1 {
             return row.2;
         }
+        left = rest;
     }
     b"?".as_slice()
 }
@@ -115,7 +116,7 @@ fn codes_of_bytes(alloc: Global, text: &[u8]) -> Result<Vec<u32>, AllocError>
 /// Returns the codes of the characters of a text: those of its UTF-8 or, where it is none, its
 /// bytes.
 fn characters(alloc: Global, text: &[u8]) -> Result<Vec<u32>, AllocError>
-    ensures { IfOk result (λ r. r.items ≡ characters text.now) }
+    ensures { IfOk result (λ r. r.items ≡ (if is_utf8 text.now then chars text.now else text.now)) }
 {
     match str::from_utf8(text) {
         Ok(letters) => codes_of(alloc, letters),

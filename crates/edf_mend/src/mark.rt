@@ -4,8 +4,8 @@ ghost use Rattle.std.specs.Prelude.{◌≡◌, ◌↔◌, ◌<◌, ℕ, IsTrue, 
 ghost use Rattle.edf_header.specs.Signal.{row_at};
 ghost use Rattle.edf_header.specs.Fields.{fields, recording_field};
 ghost use Rattle.edf_mend.specs.Texts.{spaced};
-ghost use Rattle.edf_mend.specs.Header.{StaysFields, StaysRow, StaysAll, SaysMended, IsMarked};
-ghost use Rattle.edf_mend.specs.Header.{IsMarkedRight};
+ghost use Rattle.edf_mend.specs.Header.{StaysField, StaysRow, StaysAll, IsMarked, IsMarkedRight};
+ghost use Rattle.std.specs.List.{AllByRecursion};
 
 use crate::columns::{Headers, ROW, field_at};
 use crate::fault::MendFault;
@@ -24,7 +24,8 @@ fn is_spaced(alloc: Global, old: &[u8], new: &[u8]) -> Result<bool, AllocError>
 
 /// Is true where all fields of a signal stay.
 fn stays_fields(alloc: Global, old: &[u8; 256], new: &[u8; 256]) -> Result<bool, AllocError>
-    ensures { IfOk result (λ ok. IsTrue ok ↔ StaysFields fields old.now new.now) }
+    ensures { IfOk result
+        (λ ok. IsTrue ok ↔ AllByRecursion (StaysField old.now new.now) fields) }
 {
     for (at, width) in &ROW {
         let was = field_at(old, *at, *width);
@@ -86,22 +87,11 @@ pub(crate) fn stays_all(
     Ok(stay_rows(alloc, headers)?)
 }
 
-/// Is true where a text ends with the mark.
-fn says_mended(text: &[u8]) -> bool
-    ensures { IsTrue result ↔ SaysMended text.now }
-{
-    if text.len() < 7 {
-        return false;
-    }
-    let (_, end) = text.split_at(text.len() - 7);
-    is_same(end, b" mended".as_slice())
-}
-
 /// Returns the field of a text and the mark.
 pub(crate) fn marked(alloc: Global, text: &[u8]) -> Result<[u8; 80], MendFault>
     ensures { IfOk result (IsMarked text.now) }
 {
-    if says_mended(text) {
+    if text.ends_with(b" mended".as_slice()) {
         if text.len() > 80 {
             return Err(MendFault::NoRoom);
         }

@@ -1,10 +1,10 @@
 //! The canonical file of what is read of a file leniently, by two readings.
 
-ghost use Rattle.std.specs.Prelude.{IfOk, OnOk, IsTrue};
+ghost use Rattle.std.specs.Prelude.{◌≡◌, IfOk, OnOk, IsTrue, false};
 ghost use Rattle.edf_header.specs.Fields.{count_field};
 ghost use Rattle.edf_header.specs.Canonical.{IsCanonicalHeader};
 ghost use Rattle.edf_header.specs.Key.{MayStart};
-ghost use Rattle.edf_mend.specs.Body.{IsUncounted, CountFits, HeaderSizeFits, MayLeaveOut};
+ghost use Rattle.edf_mend.specs.Body.{IsUncounted, CountFits, HeaderSizeFits};
 ghost use Rattle.edf_mend.specs.Mends.{MendsTo};
 
 use crate::changes::{Change, push_count};
@@ -74,7 +74,7 @@ fn header_size_fits(
 
 /// Is true where so many bytes may be left out.
 fn may_leave_out(wanted: &Wanted, timed: bool, left_out: usize) -> bool
-    ensures { IsTrue result → MayLeaveOut wanted.now timed left_out }
+    ensures { IsTrue result → timed ≡ false → wanted.now.all ≡ false → left_out ≡ 0 }
 {
     timed || wanted.all || left_out == 0
 }
@@ -89,7 +89,7 @@ fn check_body(
     ensures { OnOk result
         (CountFits wanted.now opened.now.file.timed (count_field opened.now.first) records
         × HeaderSizeFits opened.now.first opened.now.signals records opened.now.file.left_out
-        × MayLeaveOut wanted.now opened.now.file.timed opened.now.file.left_out) }
+        × (opened.now.file.timed ≡ false → wanted.now.all ≡ false → opened.now.file.left_out ≡ 0)) }
 {
     let (timed, left_out) = (opened.file.timed, opened.file.left_out);
     if !count_fits(alloc, wanted, timed, &opened.first, records)? {

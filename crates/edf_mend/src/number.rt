@@ -3,8 +3,8 @@
 ghost use Rattle.std.specs.Prelude.{◌≡◌, ◌↔◌, ◌≤◌, ◌+◌, ◌++◌, length, IsTrue, IfOk, IfSome};
 ghost use Rattle.edf_field.specs.Number.{IsNumber, IsPhysical};
 ghost use Rattle.edf_mend.specs.Texts.{numeral, numeral_text};
-ghost use Rattle.edf_mend.specs.Signal.{part, after_part, IsExponent, IsMoved, HasClearComma};
-ghost use Rattle.edf_mend.specs.Signal.{IsClear, IsDecimal, IsMultiple, IsOneNumber, KeepsNumber};
+ghost use Rattle.edf_mend.specs.Signal.{part, after_part, IsExponent, IsMoved, IsClear, IsDecimal};
+ghost use Rattle.edf_mend.specs.Signal.{IsMultiple, IsOneNumber, KeepsNumber};
 
 use crate::texts::{fit, numeral, numeral_text};
 use edf_field::{physical_values_differ, read_whole, split_digits, without_sign};
@@ -71,23 +71,16 @@ fn joined(alloc: Global, front: &[u8], back: &[u8]) -> Result<Option<u32>, Alloc
     Ok(read_whole(text.as_slice()))
 }
 
-/// Is true where a comma parts no thousands.
-fn has_clear_comma(text: &[u8]) -> bool
-    ensures { IsTrue result → HasClearComma text.now }
+/// Is true where the number of a field has no comma that might part thousands.
+pub(crate) fn is_clear(field: &[u8]) -> bool
+    ensures { IsTrue result → IsClear field.now }
 {
-    let (whole, rest) = split_digits(text);
+    let (whole, rest) = split_digits(without_sign(numeral_text(field)));
     if !rest.starts_with(b",".as_slice()) {
         return true;
     }
     let (part, _) = split_part(rest);
     part.len() != 3 || whole.is_empty() || whole.len() >= 4 || whole == b"0".as_slice()
-}
-
-/// Is true where the number of a field has no comma that might part thousands.
-pub(crate) fn is_clear(field: &[u8]) -> bool
-    ensures { IsTrue result → IsClear field.now }
-{
-    has_clear_comma(without_sign(numeral_text(field)))
 }
 
 /// Returns the number that a field spells.
@@ -228,10 +221,16 @@ fn spelled_number(alloc: Global, found: Decimal) -> Result<Option<[u8; 8]>, Allo
     Ok(None)
 }
 
+/// Returns a field of eight bytes with its number at the left.
+pub(crate) fn number_at(field: &[u8]) -> [u8; 8] {
+    let mut made = [b' '; 8];
+    fit(&mut made, numeral_text(field));
+    made
+}
+
 /// Returns the good form of a limit, if it has one: it is checked where it is used.
 pub(crate) fn good_limit(alloc: Global, old: &[u8; 8]) -> Result<Option<[u8; 8]>, AllocError> {
-    let mut field = [b' '; 8];
-    fit(&mut field, numeral_text(old));
+    let field = number_at(old);
     if is_physical(&field) {
         return Ok(Some(field));
     }

@@ -1,30 +1,23 @@
 //! The patient that a file names: nobody is guessed.
 
 ghost use Rattle.std.specs.Prelude.{◌≡◌, ◌↔◌, ◌∷◌, ◌++◌, [], ◌<◌, IsTrue, IfOk, OnOk, IfSome};
-ghost use Rattle.std.specs.Prelude.{codes, length, MatchOption};
-ghost use Rattle.edf_field.specs.Text.{subfields, IsSex};
+ghost use Rattle.std.specs.Prelude.{codes, length};
+ghost use Rattle.edf_field.specs.Text.{subfields};
 ghost use Rattle.edf_mend.specs.Texts.{fitted, spaced, IsNoCode};
-ghost use Rattle.edf_mend.specs.Identification.{IsPlain, AreNamed, IsNamed, IsRespelled, KeepsName};
-ghost use Rattle.edf_mend.specs.Identification.{GetsCode, IsCodeAlone, KeepsPatient, code_of};
-ghost use Rattle.edf_mend.specs.Identification.{IsNamedBy, names_text, one_subfield, StaysNamed};
-ghost use Rattle.edf_mend.specs.Identification.{KeepsCode, StandsBehindCode};
+ghost use Rattle.edf_mend.specs.Identification.{IsPlain, IsNamed, IsRespelled, KeepsName, GetsCode};
+ghost use Rattle.edf_mend.specs.Identification.{IsCodeAlone, KeepsPatient, code_of, names_text};
+ghost use Rattle.edf_mend.specs.Identification.{one_subfield, StaysNamed, KeepsCode};
+ghost use Rattle.edf_mend.specs.Identification.{StandsBehindCode};
 
 use crate::fault::MendFault;
 use crate::letters::spelling;
 use crate::texts::{
-    first_subfield, fitted_80, in_capitals, is_date_or_x, is_printable, joined_by, push_part,
-    spaced, unfilled,
+    are_visible, first_subfield, fitted_80, in_capitals, is_no_code, is_printable, joined_by,
+    push_part, spaced, unfilled,
 };
-use crate::wanted::{Who, are_visible};
+use crate::wanted::Who;
 use edf_field::{is_patient, next_subfield};
 use std::alloc::{AllocError, Global};
-
-/// Is true where a subfield stands for no code.
-pub(crate) fn is_no_code(code: &[u8]) -> bool
-    ensures { IsTrue result ↔ IsNoCode code.now }
-{
-    code == b"X".as_slice() || code == b"x".as_slice()
-}
 
 /// Is true where a field is a patient identification as it stands, but for zeros that fill it.
 fn is_plain(alloc: Global, field: &[u8]) -> Result<bool, AllocError>
@@ -36,7 +29,7 @@ fn is_plain(alloc: Global, field: &[u8]) -> Result<bool, AllocError>
 
 /// Returns the first three subfields of a text, and what follows them.
 fn three_of(text: &[u8]) -> Option<(&[u8], &[u8], &[u8], &[u8])>
-    ensures { MatchOption result (length (subfields text.now) < 3) (λ found. subfields text.now
+    ensures { IfSome result (λ found. subfields text.now
         ≡ found.0.now ∷ found.1.now ∷ found.2.now ∷ subfields found.3.now) }
 {
     let (first, rest) = next_subfield(text)?;
@@ -45,40 +38,13 @@ fn three_of(text: &[u8]) -> Option<(&[u8], &[u8], &[u8], &[u8])>
     Some((first, second, third, rest))
 }
 
-/// Is true where a subfield is a sex.
-fn is_sex(text: &[u8]) -> bool
-    ensures { IsTrue result ↔ IsSex text.now }
-{
-    text == b"F".as_slice() || text == b"M".as_slice() || text == b"X".as_slice()
-}
-
-/// Is true where the subfields of a text name somebody.
-fn are_named(alloc: Global, text: &[u8]) -> Result<bool, AllocError>
-    ensures { IfOk result (λ r. IsTrue r ↔ AreNamed (subfields text.now)) }
-{
-    let Some((code, sex, birthdate, rest)) = three_of(text) else {
-        return Ok(false);
-    };
-    let Some(_) = next_subfield(rest) else {
-        return Ok(false);
-    };
-    if !are_visible(code) {
-        return Ok(false);
-    }
-    let sex = in_capitals(alloc, sex)?;
-    if !is_sex(sex.as_slice()) {
-        return Ok(false);
-    }
-    let birthdate = in_capitals(alloc, birthdate)?;
-    Ok(is_date_or_x(birthdate.as_slice()))
-}
-
 /// Is true where a field names somebody.
 fn is_named(alloc: Global, field: &[u8]) -> Result<bool, AllocError>
     ensures { IfOk result (λ r. IsTrue r ↔ IsNamed field.now) }
 {
     let text = spaced(alloc, field)?;
-    are_named(alloc, text.as_slice())
+    let capitals = in_capitals(alloc, text.as_slice())?;
+    Ok(are_visible(first_subfield(text.as_slice())) && is_patient(capitals.as_slice()))
 }
 
 /// Returns three subfields, and what follows them.
@@ -255,7 +221,7 @@ fn check_unused(alloc: Global, old: &[u8]) -> Result<(), MendFault>
 
 /// Refuses a code of a field that names somebody by it.
 fn check_other(alloc: Global, code: &[u8], old: &[u8]) -> Result<(), MendFault>
-    ensures { OnOk result (¬ IsNamedBy code.now old.now) }
+    ensures { OnOk result (¬ (IsNamed old.now × (code_of old.now ≡ code.now))) }
 {
     let own = code_of(alloc, old)?;
     if own.as_slice() != code {

@@ -3,10 +3,11 @@
 ghost use Rattle.std.specs.Prelude.{◌≡◌, ◌⊎◌, ◌↔◌, ◌-◌, ◌∷◌, ◌++◌, [], length, IsTrue, IfOk};
 ghost use Rattle.std.specs.Prelude.{MatchOption, codes, slice_index_or, drop};
 ghost use Rattle.edf_field.specs.Text.{subfields};
-ghost use Rattle.edf_mend.specs.Texts.{unfilled, spaced, capitals, joined_by, spelling};
+ghost use Rattle.edf_mend.specs.Texts.{unfilled, spaced, joined_by, spelling};
 ghost use Rattle.edf_mend.specs.Identification.{IsPlainRecording, AreDated, HasDate, IsRedated};
 ghost use Rattle.edf_mend.specs.Identification.{lacking_codes, IsDateOf, StandsBehind, IsDateAlone};
-ghost use Rattle.edf_mend.specs.Identification.{KeepsShown, KeepsRecording, StaysBehindDate, mark};
+ghost use Rattle.edf_mend.specs.Identification.{KeepsRecording, StaysBehindDate, mark};
+ghost use Rattle.edf_mend.specs.declared.wanted.Who.TheVariants.{AsNamed};
 
 use crate::fault::MendFault;
 use crate::letters::spelling;
@@ -16,11 +17,6 @@ use edf_field::{RecordingFault, next_subfield, read_recording};
 use edf_header::HeaderFault;
 use edf_time::{id_date_text, start_of};
 use std::alloc::{AllocError, Global};
-
-/// Returns the fault of a recording field.
-fn recording_fault() -> MendFault {
-    MendFault::from(HeaderFault::Recording(RecordingFault::NoStartdate))
-}
 
 /// Is true where a field is a recording identification as it stands, but for zeros that fill it.
 fn is_plain_recording(alloc: Global, field: &[u8]) -> Result<bool, AllocError>
@@ -117,7 +113,7 @@ fn day_text(date: &[u8; 8]) -> Result<[u8; 11], MendFault>
 {
     match start_of(date, b"00.00.00", None) {
         Ok(start) => Ok(id_date_text(start)),
-        Err(_) => Err(recording_fault()),
+        Err(_) => Err(MendFault::from(HeaderFault::Recording(RecordingFault::NoStartdate))),
     }
 }
 
@@ -157,7 +153,7 @@ fn date_alone(alloc: Global, old: &[u8], date: &[u8; 8]) -> Result<Vec<u8>, Mend
 /// Returns the text of a field that is shown.
 fn shown(alloc: Global, old: &[u8], date: &[u8; 8]) -> Result<Vec<u8>, MendFault>
     requires { length old.now ≡ 80 }
-    ensures { IfOk result (λ text. KeepsShown date.now old.now text.items) }
+    ensures { IfOk result (λ text. KeepsRecording AsNamed date.now old.now text.items) }
 {
     if is_plain_recording(alloc, old)? {
         return Ok(Vec::from_slice(alloc, unfilled(old))?);

@@ -1,17 +1,20 @@
 //! A signal of a file, and its good form: it is proposed, and then checked.
 
 ghost use Rattle.std.specs.Prelude.{◌≡◌, ◌+◌, ◌↔◌, ◌≤◌, length, map, IsTrue, IfOk, IfSome, codes};
+ghost use Rattle.std.specs.Prelude.{filter};
+ghost use Rattle.std.specs.Char.{is_ascii_lowercase};
+ghost use Rattle.std.specs.Str.{str_to_ascii_lowercase};
 ghost use Rattle.edf_mend.specs.Signal.{IsClear, IsOneNumber, KeepsLetters, IsUnmeasured};
 ghost use Rattle.edf_mend.specs.Signal.{KeepsLimits, KeepsLine, KeepsOrdinary, KeepsSignal};
-ghost use Rattle.edf_mend.specs.Signal.{small_letters, has_word, SpeaksOfAnnotations};
+ghost use Rattle.edf_mend.specs.Signal.{has_word, SpeaksOfAnnotations};
 ghost use Rattle.edf_header.specs.Fields.{label_field};
 ghost use Rattle.edf_header.specs.Signal.{IsLabelled, has_label};
 ghost use Rattle.edf_mend.specs.Texts.{spaced, letter_row};
 
 use crate::fault::MendFault;
 use crate::letters::{DIMENSION_ROWS, TEXT_ROWS, spelled_by};
-use crate::number::{good_limit, is_clear, is_numeral, is_one_number, keeps_number};
-use crate::texts::{fit, fitted_as, is_printable, numeral_text, put, spaced, unfilled};
+use crate::number::{good_limit, is_clear, is_numeral, is_one_number, keeps_number, number_at};
+use crate::texts::{fitted_as, is_printable, put, spaced, unfilled};
 use edf_field::read_signed;
 use edf_header::HeaderFault;
 use std::alloc::{AllocError, Global};
@@ -195,7 +198,8 @@ pub(crate) fn keeps_signal(
 
 /// Returns the letters of a label, in small ones.
 fn small_letters(alloc: Global, label: &[u8]) -> Result<Vec<u8>, AllocError>
-    ensures { IfOk result (λ r. r.items ≡ small_letters label.now) }
+    ensures { IfOk result
+        (λ r. r.items ≡ filter is_ascii_lowercase (str_to_ascii_lowercase label.now)) }
 {
     label
         .iter()
@@ -240,22 +244,12 @@ pub(crate) fn annotations_row(samples: &[u8]) -> [u8; 256] {
     row
 }
 
-/// Returns a field of eight bytes with its number at the left.
-fn number_at(field: &[u8]) -> [u8; 8] {
-    let mut made = [b' '; 8];
-    fit(&mut made, numeral_text(field));
-    made
-}
+/// Two limits: the lower digital one, or what it stands for, and the upper one.
+type Limits = ([u8; 8], [u8; 8]);
 
-/// The digital and the physical limits of a signal: the second digital one is the greater.
-#[derive(Clone, Copy)]
-struct Limits {
-    digital: ([u8; 8], [u8; 8]),
-    physical: ([u8; 8], [u8; 8]),
-}
-
-/// Returns the limits of a signal, swapped where its digital ones fall.
-fn limits_of(old: &[u8; 256], nth: u32) -> Result<Limits, MendFault> {
+/// Returns the digital limits of a signal and the physical ones, swapped where the digital ones
+/// fall.
+fn limits_of(old: &[u8; 256], nth: u32) -> Result<(Limits, Limits), MendFault> {
     let first = number_at(&old[120..128]);
     let last = number_at(&old[128..136]);
     let (Some(from), Some(to)) = (read_signed(&first), read_signed(&last)) else {
@@ -264,15 +258,9 @@ fn limits_of(old: &[u8; 256], nth: u32) -> Result<Limits, MendFault> {
     let low = eight(&old[104..112]);
     let high = eight(&old[112..120]);
     if from <= to {
-        return Ok(Limits {
-            digital: (first, last),
-            physical: (low, high),
-        });
+        return Ok(((first, last), (low, high)));
     }
-    Ok(Limits {
-        digital: (last, first),
-        physical: (high, low),
-    })
+    Ok(((last, first), (high, low)))
 }
 
 /// Returns a field of eight bytes.
@@ -300,20 +288,20 @@ fn put_line(
     old: &[u8; 256],
     nth: u32,
 ) -> Result<(), MendFault> {
-    let limits = limits_of(old, nth)?;
-    put(row, 120, 8, &limits.digital.0);
-    put(row, 128, 8, &limits.digital.1);
-    if are_one(alloc, &limits.physical.0, &limits.physical.1)? {
-        put(row, 104, 8, &limits.digital.0);
-        put(row, 112, 8, &limits.digital.1);
+    let ((from, to), (low, high)) = limits_of(old, nth)?;
+    put(row, 120, 8, &from);
+    put(row, 128, 8, &to);
+    if are_one(alloc, &low, &high)? {
+        put(row, 104, 8, &from);
+        put(row, 112, 8, &to);
         return Ok(());
     }
     let Some(dimension) = good_text(alloc, &DIMENSION_ROWS, &old[96..104])? else {
         return Err(MendFault::Text { signal: nth });
     };
     put(row, 96, 8, dimension.as_slice());
-    put(row, 104, 8, &limit_of(alloc, &limits.physical.0, nth)?);
-    put(row, 112, 8, &limit_of(alloc, &limits.physical.1, nth)?);
+    put(row, 104, 8, &limit_of(alloc, &low, nth)?);
+    put(row, 112, 8, &limit_of(alloc, &high, nth)?);
     Ok(())
 }
 

@@ -31,20 +31,14 @@ fn are_parted(field: &[u8; 8]) -> bool
 fn is_no_time(text: &[u8; 8]) -> bool
     ensures { IsTrue result → (seconds : ℕ) → ¬ IsTimeText text.now seconds }
 {
-    match start_of(b"01.01.85", text, None) {
-        Err(StartFault::Time) => true,
-        _ => false,
-    }
+    matches!(start_of(b"01.01.85", text, None), Err(StartFault::Time))
 }
 
 /// Is true where a text is no date of the years 1985 to 2084.
 fn is_no_date(text: &[u8; 8]) -> bool
     ensures { IsTrue result → (days : ℕ) → ¬ IsDateText text.now days }
 {
-    match start_of(text, b"00.00.00", None) {
-        Err(StartFault::Date) => true,
-        _ => false,
-    }
+    matches!(start_of(text, b"00.00.00", None), Err(StartFault::Date))
 }
 
 /// Is true where a file has no starttime.

@@ -2,11 +2,13 @@
 
 ghost use Rattle.std.specs.Prelude.{◌≡◌, ◌+◌, ◌-◌, ◌↔◌, ◌==◌, ◌||◌, ◌++◌, ◌∷◌, ◌<◌, ◌≤◌, ℕ, length};
 ghost use Rattle.std.specs.Prelude.{IfOk, OnOk, IsTrue, All, MatchOption};
+ghost use Rattle.std.specs.List.{suffix_len};
 ghost use Rattle.std.specs.Str.{str_to_ascii_uppercase};
 ghost use Rattle.edf_field.specs.Number.{IsNumber};
-ghost use Rattle.edf_field.specs.Text.{IsPrintable, subfields};
-ghost use Rattle.edf_mend.specs.Texts.{fill_len, unfilled, spaced, fitted, numeral, numeral_text};
-ghost use Rattle.edf_mend.specs.Texts.{first_subfield, joined_by, IsDateOrX};
+ghost use Rattle.edf_field.specs.Text.{IsPrintable, IsBirthdate, subfields};
+ghost use Rattle.edf_time.specs.Civil.{IsVisible};
+ghost use Rattle.edf_mend.specs.Texts.{unfilled, spaced, fitted, numeral, numeral_text};
+ghost use Rattle.edf_mend.specs.Texts.{first_subfield, joined_by, IsNoCode};
 
 use edf_field::{next_subfield, read_whole, spaces_len};
 use edf_time::id_date;
@@ -21,7 +23,7 @@ fn is_fill(b: u8) -> bool
 
 /// Returns the number of bytes before the zeros and spaces that fill a text.
 fn filled_len(text: &[u8]) -> usize
-    ensures { result ≡ length text.now - fill_len text.now }
+    ensures { result ≡ length text.now - suffix_len (λ b. (b == 0) || (b == 32)) text.now }
 {
     let mut end = text.len();
     while end > 0 && is_fill(text[end - 1]) {
@@ -119,9 +121,23 @@ pub(crate) fn is_printable(text: &[u8]) -> bool
     text.iter().all(|b| 32 <= *b && *b <= 126)
 }
 
+/// Is true where each byte is printable and no space.
+pub(crate) fn are_visible(text: &[u8]) -> bool
+    ensures { IsTrue result ↔ All IsVisible text.now }
+{
+    text.iter().all(|b| 33 <= *b && *b <= 126)
+}
+
+/// Is true where a subfield stands for no code.
+pub(crate) fn is_no_code(code: &[u8]) -> bool
+    ensures { IsTrue result ↔ IsNoCode code.now }
+{
+    matches!(code, [b'X' | b'x'])
+}
+
 /// Is true where a text is a date, or X.
 pub(crate) fn is_date_or_x(text: &[u8]) -> bool
-    ensures { IsTrue result ↔ IsDateOrX text.now }
+    ensures { IsTrue result ↔ IsBirthdate text.now }
 {
     text == b"X".as_slice() || id_date(text).is_some()
 }

@@ -1,8 +1,6 @@
 //! What a person says of a file.
 
-ghost use Rattle.std.specs.Prelude.{◌↔◌, IsTrue, All};
-ghost use Rattle.edf_time.specs.Civil.{IsVisible};
-
+use crate::texts::{are_visible, is_no_code};
 use std::alloc::{AllocError, Global};
 use std::marker::Model;
 
@@ -35,7 +33,7 @@ impl Code {
         if text.is_empty() || text.len() > 60 {
             return Ok(None);
         }
-        if text == b"X".as_slice() || text == b"x".as_slice() {
+        if is_no_code(text) {
             return Ok(None);
         }
         if !are_visible(text) {
@@ -52,13 +50,6 @@ impl Code {
     {
         self.text.as_slice()
     }
-}
-
-/// Is true where each byte is printable and no space.
-pub(crate) fn are_visible(text: &[u8]) -> bool
-    ensures { IsTrue result ↔ All IsVisible text.now }
-{
-    text.iter().all(|b| 33 <= *b && *b <= 126)
 }
 
 /// The patient of a file.
@@ -98,9 +89,6 @@ impl Wanted {
         if self.all || self.startdate.is_some() || self.starttime.is_some() {
             return false;
         }
-        match self.who {
-            Who::AsNamed => true,
-            _ => false,
-        }
+        matches!(self.who, Who::AsNamed)
     }
 }

@@ -1,6 +1,6 @@
 use Rattle.std.proofs.Common.{List, ℕ, [], ap, ◌∙◌, subst, slice_index_or}
 use Rattle.edf_field.specs.Text.{subfields}
-use Rattle.edf_mend.specs.Texts.{capitals}
+use Rattle.std.specs.Str.{str_to_ascii_uppercase as capitals}
 use Rattle.edf_mend.specs.Identification.{AreDated}
 use Rattle.edf_mend.proofs.Starts.{day-of-date}
 use Rattle.edf_mend.proofs.start.day_in.Goals as goal
