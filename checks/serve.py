@@ -249,6 +249,14 @@ def refused_store(checks: Checks, given) -> None:
     checks.same("nothing was made", checks.names(), before)
 
 
+def gone(checks: Checks, given) -> None:
+    checks.begin("an option that earlier versions had")
+    ran = measure.ran(given.edfserve, "--to", "out", "s.db", given=b"list\n", folder=checks.folder)
+    why = "--to is gone: a session writes no files, but 'edfstore export' does once it has ended"
+    checks.compare("edfserve --to", ran, "", printed.usage(why, "edfserve [OPTIONS] <STORE>"), 2)
+    checks.same("the files", checks.names(), [])
+
+
 def held_store(checks: Checks, given) -> None:
     """A store that another session has: it is waited for, two seconds at most."""
     checks.begin("a store that another session has")
@@ -354,6 +362,7 @@ def main() -> None:
         stops_reading(checks, given)
         lengths(checks, given)
         refused_store(checks, given)
+        gone(checks, given)
         held_store(checks, given)
         lost.run(checks, given)
         failing.run(checks, given)

@@ -13,7 +13,7 @@ import random
 from dataclasses import dataclass
 from pathlib import Path
 
-from checks.lib import arguments, edf, faults, gapped, measure, model, printed, runs
+from checks.lib import arguments, edf, faults, gapped, measure, model, printed, run_stories, runs
 from checks.lib.by_hand import COUNT, DURATION, field, unknown
 from checks.lib.checks import Checks
 
@@ -248,13 +248,10 @@ def words_that_ask_for_nothing(programs: Programs) -> None:
                   ("canonical", "--by-onset", "-"), ("picture", "-"), ("split", "a.edf"),
                   ("frob", "a.edf"),
                   ("list", "-x"), ("list", "--by-onset", "a.edf"),
-                  ("canonical", "--by-onset=yes", "a.edf"),
-                  # words that earlier versions had
-                  ("write", "a.edf", "1"), ("split", "--by-onset", "a.edf", "part"),
-                  ("split", "--tolerance", "1", "a.edf", "part"),
-                  ("split", "--shift", "1", "a.edf", "part"), ("list", "--tolerance", "1", "a.edf"),
-                  ("picture", "--tolerance", "1", "a.edf")):
+                  ("canonical", "--by-onset=yes", "a.edf")):
         checks.run(*words, given=FILES["R9"], err=None, status=2)
+    for line, why in run_stories.GONE:
+        checks.run(*line.split(), err=printed.usage(why, "edfruns <COMMAND>"), status=2)
     checks.same("the files", checks.names(), ["a.edf"])
 
 

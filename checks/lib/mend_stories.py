@@ -360,6 +360,10 @@ def good_files(script: MendScript) -> None:
     script.writes(f"{given} --dry-run", SINGLE[4][3])
     script.writes(f"{given} {there}", error=printed.is_there(there), status=1)
     script.has(there, there)
+    script.title("an option that earlier versions had, and what to do instead")
+    why = "--as is gone: all is read that can be, and --all takes what '--as count' took"
+    script.writes(f"--as count {given} made.edf", status=2,
+                  error=printed.usage(why, "edfmend [OPTIONS] <IN> [OUT]"))
     script.title("what is no EDF is refused, and asked for no code")
     script.refuses_form("archive", b"PK\x03\x04".ljust(512), faults.unprintable(2))
     script.refuses_form("letter", b"Dear reader, ".ljust(512), faults.version())

@@ -137,6 +137,11 @@ def no_recording(place) -> str:
     return f"no recording at place {place}\n"
 
 
+def usage(why: str, words: str) -> str:
+    """What is said of words that ask for nothing."""
+    return f"error: {why}\n\nUsage: {words}\n\nFor more information, try '--help'.\n"
+
+
 def is_there(name: str) -> str:
     """What `edfruns split` prints of a file that it would write over."""
     return f"{name} is there already; nothing was written\n"

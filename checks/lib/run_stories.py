@@ -254,8 +254,7 @@ class RunScript(stories.OverFiles):
 
     def misspelled(self, words: str, why: str, usage: str) -> None:
         """Words that ask for nothing."""
-        self.writes(words, error=f"error: {why}\n\nUsage: edfruns {usage}\n\n"
-                    "For more information, try '--help'.\n", status=2)
+        self.writes(words, error=printed.usage(why, f"edfruns {usage}"), status=2)
 
     def listed(self, name: str, *lines) -> None:
         self.writes(f"list {name}", *lines)
@@ -421,6 +420,15 @@ NO_INSTANTS = ("2002-03-02", "2002-03-02T23", "2002-03-02T23:5", "2002-03-02T24:
                "1984-12-31T23:59", "2185-01-01T00:00", "+2002-03-02T23:59")
 
 
+NO_WRITE = "'write' is gone: 'edfruns split FILE PREFIX' writes each run to a file"
+NO_SHIFT = "--tolerance and --shift are gone: 'edfruns fill FILE' makes one file, also where a " \
+    "clock drifts"
+NO_ONSET = "--by-onset is of 'edfruns canonical' alone: split the file that it writes"
+GONE = (("write one.edf 1", NO_WRITE), ("help write", NO_WRITE),
+        ("list --tolerance 1 one.edf", NO_SHIFT), ("split --shift=1 one.edf gone", NO_SHIFT),
+        ("split --by-onset one.edf gone", NO_ONSET))
+
+
 def misspelled(script: RunScript) -> None:
     script.title("words that ask for nothing")
     twice = "FILE is read twice, which standard input can't be: write it to a file first"
@@ -439,6 +447,9 @@ def misspelled(script: RunScript) -> None:
                       "file first", "compare <FILE> <OTHER>")
     script.misspelled("list one.edf -", "FILE can't be standard input: write it to a file first",
                       "list <FILE>...")
+    script.title("words that earlier versions had, and what to do instead")
+    for words, why in GONE:
+        script.misspelled(words, why, "<COMMAND>")
 
 
 def play(script: stories.Script) -> None:

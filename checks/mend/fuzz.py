@@ -90,7 +90,8 @@ class Case:
         for seed in self.seeds:
             if data:
                 data = spoilt(random.Random(seed), data)
-        return data + self.behind
+        # Behind a file that was cut to nothing the other patient's would be the file itself.
+        return data and data + self.behind
 
 
 def another(rng: random.Random) -> bytes:

@@ -1,6 +1,7 @@
 //! Readers by name.
 
-ghost use Rattle.std.specs.Prelude.{◌≡◌, ◌++◌, ◌∷◌, [], ℕ, List, Option, IfOk, MatchResult};
+ghost use Rattle.std.specs.Prelude.{◌≡◌, ◌++◌, ◌∷◌, [], ℕ, List, length, Option, IfOk, IfSome};
+ghost use Rattle.std.specs.Prelude.{MatchResult};
 
 use edf_fragment::Input;
 use std::alloc::{AllocError, Global};
@@ -15,6 +16,14 @@ pub trait Inputs {
 
     // The names whose readers were opened, in turn.
     ghost opened: { Self → List (List ℕ) };
+
+    /// Returns how many bytes the name stands for, where that is known before they are read.
+    fn length(&self, _name: &str) -> Option<u64>
+        ensures { IfSome result
+            (λ n. IfSome (bytes self.now _name.now) (λ known. length known ≡ n)) }
+    {
+        None
+    }
 
     /// Opens a reader of just the bytes that the name stands for. If that is nothing, its first
     /// read fails.

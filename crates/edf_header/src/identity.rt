@@ -87,9 +87,12 @@ impl Model for Identity {
     ghost invariant = { λ i. IsIdentity i.bytes.items i.duration i.ordinary_bytes };
 }
 
-/// Writes the mark of the Startdate subfield, what follows that subfield, and the spaces that fill
-/// the part.
-fn push_mark(out: &mut Vec<u8>, dated: bool, after: &[u8]) -> Result<(), AllocError>
+/// Adds to an identity's bytes the mark of its Startdate subfield, what follows that subfield, and
+/// the spaces that fill the part (EDF+, the local recording identification).
+///
+/// # Errors
+/// Where memory ran out.
+pub fn push_dated(out: &mut Vec<u8>, dated: bool, after: &[u8]) -> Result<(), AllocError>
     ensures { OnOk result (out.new.items ≡ out.old.items ++ dated_bytes dated after.now) }
 {
     if dated {
@@ -110,7 +113,7 @@ fn bytes_from(alloc: Global, fixed: &Fixed, signals: &Columns<'_>) -> Result<Vec
 {
     let mut bytes = Vec::with_capacity(alloc, KEY_SIGNALS)?;
     bytes.extend_from_slice(fixed.patient())?;
-    push_mark(&mut bytes, fixed.dated(), fixed.after())?;
+    push_dated(&mut bytes, fixed.dated(), fixed.after())?;
     bytes.extend_from_slice(fixed.duration())?;
     push_ordinary(&mut bytes, signals)?;
     Ok(bytes)

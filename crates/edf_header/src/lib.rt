@@ -49,7 +49,7 @@ pub use fault::HeaderFault;
 pub use fixed::{Fixed, read_fixed};
 pub use format::{Format, format_of};
 pub use header::{Block, Header};
-pub use identity::{Identity, IdentityFault};
+pub use identity::{Identity, IdentityFault, push_dated};
 pub use limits::{
     MOST_BLOCK_BYTES, MOST_BLOCK_SAMPLES, MOST_ORDINARY_SIGNALS, MOST_RECORD_BYTES, MOST_RECORDS,
     MOST_SIGNALS,

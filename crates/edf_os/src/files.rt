@@ -198,6 +198,19 @@ impl<'rt> Inputs for Files<'rt> {
 
     ghost opened = { λ files. map string_bytes files.names.items };
 
+    /// Tells it of regular files, where these alone are opened.
+    fn length(&self, name: &str) -> Option<u64> {
+        if !self.is_regular {
+            return None;
+        }
+        let found = fs::metadata(self.rt, name).ok()?;
+        if found.is_file() {
+            Some(found.len())
+        } else {
+            None
+        }
+    }
+
     fn open(&mut self, alloc: Global, name: &str) -> Result<Counted<FileReader<'rt>>, AllocError> {
         let state = if !self.is_regular && name == "-" {
             FileState::Stream(self.stream(alloc)?)

@@ -67,3 +67,5 @@ pub mod Reopened
 pub mod SameMeasure
 pub mod CanonicalFiles
 pub mod RunCounts
+pub mod Counted
+mod Outlined

@@ -4,14 +4,14 @@ ghost use Rattle.std.specs.Prelude.{◌≡◌, ◌-◌, ◌/◌, ◌≤◌, ◌+
 ghost use Rattle.std.specs.Prelude.{length, map, take, slice_get, if◌then◌else◌};
 ghost use Rattle.edf_time.specs.Decimal.{short};
 ghost use Rattle.edf_field.specs.Text.{padded_to};
-ghost use Rattle.edf_header.specs.Key.{dated_bytes, key_bytes};
+ghost use Rattle.edf_header.specs.Key.{key_bytes};
 ghost use Rattle.edf_header.specs.Signal.{rows_of, samples};
 ghost use Rattle.edf_runs.specs.Filled.{IsFilledKey, IsMarked};
 ghost use Rattle.edf_runs.specs.Inside.Renaming.{divided_row, divided_rows, filled_key};
 
 use crate::division::Division;
-use edf_header::Identity;
 use edf_header::laws::identity_is_key;
+use edf_header::{Identity, push_dated};
 use edf_time::write_seconds;
 use std::alloc::{AllocError, Global};
 
@@ -122,22 +122,6 @@ fn push_duration(
     push_padded(out, text.as_slice())
 }
 
-/// Adds the mark of the Startdate subfield, what follows that subfield, and spaces to the end of
-/// the field.
-fn push_recording(out: &mut Vec<u8>, dated: bool, after: &[u8]) -> Result<(), AllocError>
-    ensures { OnOk result (out.new.items ≡ out.old.items ++ dated_bytes dated after.now) }
-{
-    if dated {
-        out.push(b'D')?;
-        out.extend_from_slice(after)?;
-        out.extend_from_slice(b"          ".as_slice())?;
-    } else {
-        out.push(b'X')?;
-        out.extend_from_slice(after)?;
-    }
-    Ok(())
-}
-
 /// Returns what follows the Startdate subfield, in the bytes of an identity.
 fn after_startdate<'b>(identity: &Identity, bytes: &'b [u8]) -> &'b [u8]
     requires { bytes.now ≡ key_bytes identity.now }
@@ -166,7 +150,7 @@ fn filled_bytes(
     let bytes = identity.to_bytes(alloc)?;
     let bytes = bytes.as_slice();
     let mut new = Vec::from_slice(alloc, &bytes[0..80])?;
-    push_recording(&mut new, identity.dated(), after)?;
+    push_dated(&mut new, identity.dated(), after)?;
     push_duration(alloc, &mut new, &bytes[150..158], division)?;
     push_rows(
         alloc,

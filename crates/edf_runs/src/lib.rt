@@ -71,7 +71,7 @@ pub use filled::{FillCounts, FillLimits, Filled};
 pub use filling::fill;
 pub use onsets::by_onset;
 pub use outline::Outline;
-pub use outlining::read_outline;
+pub use outlining::{read_outline, read_outline_of};
 pub use outside::count_outside;
 pub use reading::reopen_listed;
 pub use run::Run;

@@ -1,15 +1,17 @@
 //! An outline of a file is read, with the samples of one data record in memory.
 
-ghost use Rattle.std.specs.Prelude.{◌≡◌, ◌++◌, ◌∷◌, [], ℕ, List, MatchResult, OnOk};
+ghost use Rattle.std.specs.Prelude.{◌≡◌, ◌++◌, ◌∷◌, [], ℕ, List, Option, MatchOption, MatchResult};
+ghost use Rattle.std.specs.Prelude.{OnOk, true};
 ghost use Rattle.edf_fragment.specs.Fragment.{DataRecord};
-ghost use Rattle.edf_fragment.specs.Reading.{CountsReadFailures, initial_progress};
+ghost use Rattle.edf_fragment.specs.Reading.{CountsReadFailures, ReadsHeader, initial_progress};
 ghost use Rattle.edf_fragment.specs.Whole.{FailsAfterRecords, ReadsFragmentFault};
 ghost use Rattle.edf_fragment.specs.Inside.Steps.{ReadsRecords};
-ghost use Rattle.edf_runs.specs.Outline.{AreSpans, ReadsOutline};
+ghost use Rattle.edf_runs.specs.Outline.{AreSpans, IsMiscounted, ReadsOutline};
 
 use crate::outline::{Outline, Spans};
 use crate::spots::copy_notes;
 use edf_fragment::{FragmentFault, Input, OpenFragment, Record};
+use edf_header::Header;
 use edf_header::laws::header_is_layout;
 use std::alloc::{AllocError, Global};
 
@@ -74,4 +76,45 @@ pub fn read_outline<R: Input>(alloc: Global, input: &mut R) -> Result<Outline, F
         identity: fragment.into_header().into_identity(),
         spans,
     })
+}
+
+/// Is true where the header counts other data records than an input of these bytes has.
+fn is_miscounted(header: &Header, bytes: Option<u64>) -> bool
+    ensures { result ≡ true → (input remaining : Option (List ℕ)) →
+        ReadsHeader input remaining header.now → IsMiscounted bytes input remaining }
+{
+    let (Some(count), Some(bytes)) = (header.count(), bytes) else {
+        return false;
+    };
+    let signals = header.identity().signals() + header.blocks().len();
+    let expected = 256 * (1 + signals as u64) + u64::from(count) * header.record_bytes() as u64;
+    bytes != expected
+}
+
+/// Reads a file as [read_outline] does. Where the number of its bytes is known, and the header
+/// counts other data records than these have, it returns `None` and reads no byte more.
+///
+/// # Errors
+/// Those of [read_outline].
+pub fn read_outline_of<R: Input>(
+    alloc: Global,
+    input: &mut R,
+    bytes: Option<u64>,
+) -> Result<Option<Outline>, FragmentFault>
+    ensures answer { MatchResult result
+        (λ found. MatchOption found
+        (IsMiscounted bytes (R.remaining input.old) (R.remaining input.new))
+        (ReadsOutline (R.remaining input.old) (R.remaining input.new)))
+        (ReadsFragmentFault (R.remaining input.old) (R.remaining input.new)) }
+    ensures counted { CountsReadFailures (R.failures input.old) (R.failures input.new) result }
+{
+    let mut fragment = OpenFragment::read(alloc, input)?;
+    if is_miscounted(fragment.header(), bytes) {
+        return Ok(None);
+    }
+    let spans = read_spans(alloc, &mut fragment, input)?;
+    Ok(Some(Outline {
+        identity: fragment.into_header().into_identity(),
+        spans,
+    }))
 }

@@ -1,7 +1,7 @@
 //! The words after the program's name, read by `clap`. Lines of help are broken where they stand,
 //! since nothing else breaks them.
 
-use clap::{Arg, ArgMatches, Command};
+use clap::{Arg, ArgMatches, Command, Error};
 use edf_cli::{CommandFault, VERSION, fault_by, refuse_value};
 use std::alloc::{AllocError, Global};
 
@@ -42,6 +42,13 @@ const NAME: &str = "edfserve";
 /// Why an empty folder is refused.
 const NO_FOLDER: &str = "a FOLDER has a name; the present one is '.'";
 
+/// How `clap` refuses `--to`, which earlier versions had.
+const UNKNOWN_TO: &str = "error: unexpected argument '--to' found\n";
+
+/// What to do in its place.
+const NO_TO: &str = "\
+--to is gone: a session writes no files, but 'edfstore export' does once it has ended";
+
 /// What the words ask for.
 #[derive(Drop)]
 pub struct ServeWords {
@@ -79,12 +86,23 @@ fn folder_in(alloc: Global, values: &ArgMatches<'_>) -> Result<Option<String>, C
     }
 }
 
+/// Why words are refused that `clap` does not take.
+fn refuse_words(alloc: Global, error: &Error) -> Result<CommandFault, AllocError> {
+    let fault = fault_by(alloc, error);
+    if let CommandFault::Usage(text) = &fault
+        && text.as_str().starts_with(UNKNOWN_TO)
+    {
+        return refuse_value(alloc, edfserve_words(alloc)?, NAME, NO_TO);
+    }
+    Ok(fault)
+}
+
 /// What words other than the word for help ask for.
 fn read_words(alloc: Global, words: &[String]) -> Result<ServeWords, CommandFault> {
     let mut command = edfserve_words(alloc)?;
     let values = match command.try_get_matches_from_mut(words) {
         Ok(values) => values,
-        Err(error) => return Err(fault_by(alloc, &error)),
+        Err(error) => return Err(refuse_words(alloc, &error)?),
     };
     Ok(ServeWords {
         store: String::from_str(alloc, values.get_str("STORE").unwrap_or(""))?,

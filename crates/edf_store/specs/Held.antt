@@ -40,15 +40,15 @@ pub record IsSoundStore (cap : ℕ) (s : State) : Type 0 where
       × RepresentCommitted cap s.committed.trees h
 
 -- what is committed beside our two tables is as it was, where the connection is still open after
--- the call; so it is after a crash in the call
+-- the call; so it is after a crash that follows the call
 pub record KeepsOtherTables (old new : State) : Type 0 where
   pub was_open : HasCleanDisk new → IsTrue new.is_open → IsTrue old.is_open
   pub others : HasCleanDisk new → IsTrue new.is_open → KeepsOthers old.committed new.committed
   pub crash : Survives old new (λ rows. IsTrue old.is_open
       × KeepsTrees old.committed.schema old.committed.trees rows)
 
--- after a call the holdings, and what is beside them, are as they were; a crash in it does nothing
--- that a crash before it could not do
+-- after a call the holdings, and what is beside them, are as they were; a crash after it leaves
+-- nothing that a crash before it could not leave
 pub record KeepsHoldings {S : Type 0} (g : Ghosts S) (old new : StoreModel S) : Type 0 where
   pub cap : new.cap ≡ old.cap
   pub holdings : (h : Holdings) → Holds g old h → Holds g new h

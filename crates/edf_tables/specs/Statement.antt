@@ -48,6 +48,6 @@ module _ {S : Type 0} (g : Ghosts S) where
   abbrev pub KeepsCommittedOnErr : {X E : Type 0} → Held S → Held S → Result X E → Type 0
   KeepsCommittedOnErr old new result = ChangesOnErr old new result KeepsCommit
 
-  -- a crash in the call does nothing that a crash before it could not do
+  -- a crash after the call leaves nothing that a crash before it could not leave
   abbrev pub IsCrashSafe : Held S → Held S → Type 0
   IsCrashSafe old new = Survives (state g old) (state g new) (λ _. ⊥)

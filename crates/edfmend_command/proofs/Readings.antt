@@ -1,8 +1,8 @@
 -- What two readings find of the same bytes.
 use Rattle.std.proofs.Common.{◌≡◌, ◌≢◌, ◌⊎◌, ℕ, List, [], Option, Some, None}
-use Rattle.std.proofs.Common.{inl, inr, refl, ◌++◌, ◌∷◌, Bool, true, false, not}
+use Rattle.std.proofs.Common.{inl, inr, refl, sym, ap, ◌∙◌, subst, length, ◌++◌, ◌∷◌, Bool, true, false, not}
 use Rattle.std.specs.Bool.{MatchBool}
-use Rattle.std.specs.Prelude.{IfSome, IfOk, IfErr, Result, Ok, Err, MatchResult}
+use Rattle.std.specs.Prelude.{IfSome, IfOk, IfErr, Result, Ok, Err, MatchOption, MatchResult}
 use Rattle.std.proofs.KnownBytes.{Consumes-whole}
 use Rattle.edf_fragment.proofs.Fragments.{fragment_of_all}
 use Rattle.edf_fragment.proofs.OneFragment.{spelled-no-fault}
@@ -11,15 +11,17 @@ use Rattle.edf_fragment.specs.Whole.{ReadsFragmentFault}
 use Rattle.edf_fragment.specs.declared.fault.FragmentFault.{FragmentFault}
 use Rattle.edf_canonical.proofs.Files.{its-own}
 use Rattle.edf_runs.specs.Canonical.{IsCanonicalWritten, IsCanonicalUnwritten}
+use Rattle.edf_runs.specs.Outline.{IsMiscounted, ReadsOutline}
 use Rattle.edf_runs.specs.declared.fault.WriteFault.{WriteFault}
 use Rattle.edf_runs.specs.declared.outline.Outline.{Outline}
+use Rattle.edf_runs.proofs.Counted.{no-file}
 use Rattle.edf_runs.proofs.Noted.{joined-self}
 use Rattle.edf_runs.proofs.SameRead.{same-is-read}
 use Rattle.edf_mend.specs.Mends.{MendsTo, AsksNothing}
 use Rattle.edf_mend.specs.declared.fault.MendFault.{MendFault}
 use Rattle.edf_mend.specs.declared.mending.Mended.{Mended}
 use Rattle.edf_mend.specs.declared.wanted.Wanted.{Wanted}
-use Rattle.edfmend_command.specs.Inside.{PlansGood, MendsAs}
+use Rattle.edfmend_command.specs.Inside.{PlansGood, PlansStrictly, MendsAs}
 use Rattle.edf_cli.specs.Made.{MadeFile, removed, not_removed}
 use Rattle.edfmend_command.specs.Run.{IsGood, IsToMend, IsNotMended, IsTrouble, LeavesPart}
 use Rattle.edf_fragment.specs.declared.fault.FragmentFault.TheVariants as fragment
@@ -43,6 +45,18 @@ no-good (Some file) rest (fragment.Tal nth fault) x read memory =
     λ good. spelled-no-fault file good.0 good.1 (fragment.Tal nth fault) good.2 x.first
 no-good (Some file) rest fragment.Trailing x read memory =
     λ good. spelled-no-fault file good.0 good.1 fragment.Trailing good.2 x.first
+
+pub planned : (left rest : Option (List ℕ)) (bytes : Option ℕ) (found : Option Outline) →
+    IfSome bytes (λ n. IfSome left (λ file. length file ≡ n)) →
+    MatchOption found (IsMiscounted bytes left rest) (ReadsOutline left rest) →
+    PlansStrictly left found
+planned left rest bytes (Some outline) told x = (rest, x)
+planned None rest bytes None told x = tt
+planned (Some file) rest bytes None told x = λ good.
+    let size : length file ≡ x.size =
+    subst (λ (b : Option ℕ). IfSome b (λ n. length file ≡ n)) x.is_known told in
+    no-file bytes (Some file) rest x
+    (x.is_known ∙ ap (λ (n : ℕ). Some n) (sym size)) good.0 good.1 good.2
 
 pub asked-or-bad : (bytes : Option (List ℕ)) (w : Wanted) →
     IfSome bytes (λ file. ¬ IsGood file) → IsToMend bytes w

@@ -12,7 +12,7 @@ ghost use Rattle.edfmend_command.specs.Words.{Values, AreCodes, IsDateWord, IsTi
 ghost use Rattle.edfmend_command.specs.Words.{Mean, MeanNothing, IsNothing};
 
 use crate::mend_command::MendCommand;
-use clap::{Arg, ArgAction, ArgMatches, Command};
+use clap::{Arg, ArgAction, ArgMatches, Command, Error};
 use edf_cli::{CommandFault, Status, VERSION, fault_by, print_fault, refuse_value};
 use edf_fragment::Output;
 use edf_mend::{Code, Wanted, Who};
@@ -62,6 +62,12 @@ const NO_DATE: &str = "--startdate is a day, as 24.12.26";
 
 /// Why a starttime is refused.
 const NO_TIME: &str = "--starttime is a time of day, as 22.30.00";
+
+/// How `clap` refuses `--as`, which earlier versions had.
+const UNKNOWN_AS: &str = "error: unexpected argument '--as' found\n";
+
+/// What to do in its place.
+const NO_AS: &str = "--as is gone: all is read that can be, and --all takes what '--as count' took";
 
 /// Returns an option with a value.
 fn option<'a>(alloc: Global, name: &'a str, value: &'a str, help: &'a str) -> Arg<'a> {
@@ -274,6 +280,17 @@ pub fn command_of(alloc: Global, values: &MendValues<'_>) -> Result<MendCommand,
     })
 }
 
+/// Returns why words are refused that `clap` does not take.
+fn refuse_words(alloc: Global, error: &Error) -> Result<CommandFault, AllocError> {
+    let fault = fault_by(alloc, error);
+    if let CommandFault::Usage(text) = &fault
+        && text.as_str().starts_with(UNKNOWN_AS)
+    {
+        return refuse(alloc, NO_AS);
+    }
+    Ok(fault)
+}
+
 /// Returns what words other than the one for help ask for.
 fn read_words(alloc: Global, words: &[String]) -> Result<MendCommand, CommandFault>
     ensures { IfOk result (λ command. (values : Values) × Mean values (meaning command)) }
@@ -281,7 +298,7 @@ fn read_words(alloc: Global, words: &[String]) -> Result<MendCommand, CommandFau
     let mut command = edfmend_words(alloc)?;
     match command.try_get_matches_from_mut(words) {
         Ok(matches) => command_of(alloc, &found_in(&matches)),
-        Err(error) => Err(fault_by(alloc, &error)),
+        Err(error) => Err(refuse_words(alloc, &error)?),
     }
 }
 

@@ -10,7 +10,7 @@ use edf_canonical::Measure;
 use edf_cli::Inputs;
 use edf_fragment::{FragmentFault, Input, Output};
 use edf_mend::{MendFault, Mended, Wanted, measure, write_mended};
-use edf_runs::{Outline, WriteFault, read_outline, write_canonical};
+use edf_runs::{Outline, WriteFault, read_outline_of, write_canonical};
 use std::alloc::Global;
 
 /// What a first reading found.
@@ -37,7 +37,8 @@ impl Plan {
     }
 }
 
-/// Returns the outline of a good file; `None` where it is none.
+/// Returns the outline of a good file; `None` where it is none. A file whose length does not fit
+/// its header's count is not read to the end.
 fn plan_strictly<I: Inputs>(
     alloc: Global,
     file: &str,
@@ -51,11 +52,12 @@ fn plan_strictly<I: Inputs>(
         (λ _. OpensUpTo (I.opened inputs.old) (I.opened inputs.new) file.now 1) }
     ensures same { (name : List ℕ) → I.bytes inputs.new name ≡ I.bytes inputs.old name }
 {
+    let bytes = inputs.length(file);
     let Ok(mut reader) = inputs.open(alloc, file) else {
         return Err(MendFault::Memory);
     };
-    match read_outline(alloc, &mut reader) {
-        Ok(outline) => Ok(Some(outline)),
+    match read_outline_of(alloc, &mut reader, bytes) {
+        Ok(found) => Ok(found),
         Err(FragmentFault::Read) => Err(MendFault::Read),
         Err(FragmentFault::Memory) => Err(MendFault::Memory),
         Err(_) => Ok(None),

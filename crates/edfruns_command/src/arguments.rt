@@ -9,7 +9,7 @@ use crate::list_command::{list_words, read_list};
 use crate::picture_command::{picture_words, read_picture};
 use crate::runs_command::RunsCommand;
 use crate::split_command::{read_split, split_words};
-use clap::{Arg, ArgMatches, Command};
+use clap::{Arg, ArgMatches, Command, Error};
 use edf_cli::{CommandFault, Status, VERSION, fault_by, print_fault, refuse_value};
 use edf_fragment::Output;
 use std::alloc::{AllocError, Global};
@@ -42,6 +42,24 @@ a command is wanted: list, split, fill, cut, compare, canonical or picture";
 /// Why `-` is refused where a file is read twice.
 const READ_TWICE: &str = "\
 FILE is read twice, which standard input can't be: write it to a file first";
+
+/// What to do in the place of `--shift` and `--tolerance`.
+const NO_SHIFT: &str = "\
+--tolerance and --shift are gone: 'edfruns fill FILE' makes one file, also where a clock drifts";
+
+/// How `clap` refuses words that earlier versions had, and what to do in their place.
+const GONE: [(&str, &str); 4] = [
+    (
+        "error: unrecognized subcommand 'write'\n",
+        "'write' is gone: 'edfruns split FILE PREFIX' writes each run to a file",
+    ),
+    ("error: unexpected argument '--tolerance' found\n", NO_SHIFT),
+    ("error: unexpected argument '--shift' found\n", NO_SHIFT),
+    (
+        "error: unexpected argument '--by-onset' found\n",
+        "--by-onset is of 'edfruns canonical' alone: split the file that it writes",
+    ),
+];
 
 /// A value that must be given.
 pub(crate) fn required_value<'a>(alloc: Global, name: &'a str, text: &'a str) -> Arg<'a> {
@@ -98,6 +116,19 @@ fn refuse_no_command(alloc: Global) -> Result<CommandFault, AllocError> {
     refuse_value(alloc, edfruns_words(alloc)?, "edfruns", NO_COMMAND)
 }
 
+/// Why words are refused that `clap` does not take.
+fn refuse_words(alloc: Global, error: &Error) -> Result<CommandFault, AllocError> {
+    let fault = fault_by(alloc, error);
+    if let CommandFault::Usage(text) = &fault {
+        for (refused, instead) in GONE {
+            if text.as_str().starts_with(refused) {
+                return refuse_value(alloc, edfruns_words(alloc)?, "edfruns", instead);
+            }
+        }
+    }
+    Ok(fault)
+}
+
 /// What `clap` found, as a command.
 fn command_in(alloc: Global, matches: &ArgMatches<'_>) -> Result<RunsCommand, CommandFault> {
     let Some((word, values)) = matches.subcommand() else {
@@ -130,7 +161,7 @@ pub fn parse(alloc: Global, words: &[String]) -> Result<RunsCommand, CommandFaul
     let mut command = edfruns_words(alloc)?;
     match command.try_get_matches_from_mut(words) {
         Ok(matches) => command_in(alloc, &matches),
-        Err(error) => Err(fault_by(alloc, &error)),
+        Err(error) => Err(refuse_words(alloc, &error)?),
     }
 }
 

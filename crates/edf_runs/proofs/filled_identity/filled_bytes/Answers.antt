@@ -34,9 +34,9 @@ returns c =
     ∙ ap (λ (l : List (List ℕ)). c.push_duration.new.out.items ++ divided_rows v.parts l)
     c.signal_rows.ensures
     ∙ ap (λ (l : List ℕ). l ++ rows) c.in_ok-push_duration.ensures
-    ∙ ap (λ (l : List ℕ). (c.push_recording.new.out.items ++ lasts l) ++ rows)
+    ∙ ap (λ (l : List ℕ). (c.push_dated.new.out.items ++ lasts l) ++ rows)
     (duration-in k bytes is same)
-    ∙ ap (λ (l : List ℕ). (l ++ lasts k.duration) ++ rows) c.in_ok-push_recording.ensures
+    ∙ ap (λ (l : List ℕ). (l ++ lasts k.duration) ++ rows) c.in_ok-push_dated.ensures
     ∙ ap (λ (b : Bool). ((c.in_ok-new.new.items ++ dated_bytes b c.args.after.now)
     ++ lasts k.duration) ++ rows) c.dated.ensures
     ∙ ap (λ (l : List ℕ). ((l ++ marked) ++ lasts k.duration) ++ rows)

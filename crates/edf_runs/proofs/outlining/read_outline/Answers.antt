@@ -1,8 +1,8 @@
 use Rattle.std.proofs.Common.{◌≡◌, ◌∙◌, ap, rules}
 use Rattle.std.proofs.lemmas.Result.{err_from_is_err_and}
 use Rattle.edf_header.specs.Header.{Layout}
-use Rattle.edf_fragment.proofs.Fragments.{open_refused, fragment_read, records_refused}
-use Rattle.edf_fragment.proofs.Sound.{spelled-sound, spelled-some, spelled-few, spelled-begins}
+use Rattle.edf_fragment.proofs.Fragments.{open_refused, records_refused}
+use Rattle.edf_runs.proofs.Outlined.{outlined}
 use Rattle.edf_runs.proofs.outlining.read_outline.Goals as goal
 
 pub returns-in_err-fragment-clause-answer : goal.returns-in_err-fragment-clause-answer
@@ -21,17 +21,5 @@ returns-clause-answer g c =
     let l = c.in_ok-fragment.fragment.header in
     let answer = c.in_ok-spans.ensures.answer in
     let header : c.into_header.result ≡ l = c.into_header.ensures ∙ c.in_ok-spans.ensures.header in
-    let read = fragment_read _ _ _ l _ c.in_ok-fragment.ensures.step.0 answer.1 in
-    record {
-      layout = l;
-      records = answer.0;
-      read = read;
-      is_outline = record {
-        sound = spelled-sound read.bytes l.key answer.0 read.is_file;
-        some = spelled-some read.bytes l.key answer.0 read.is_file;
-        few = spelled-few read.bytes l.key answer.0 read.is_file;
-        begins = spelled-begins read.bytes l.key answer.0 read.is_file;
-        identity = c.into_identity.ensures ∙ ap (λ (x : Layout). x.key) header;
-        spans = answer.2;
-      };
-    }
+    outlined _ _ _ l answer.0 _ c.in_ok-fragment.ensures.step.0 answer.1
+    (c.into_identity.ensures ∙ ap (λ (x : Layout). x.key) header) answer.2

@@ -1,15 +1,18 @@
-use Rattle.std.proofs.Common.{rules, List, ℕ, Option, subst}
+use Rattle.std.proofs.Common.{rules, ◌≡◌, List, ℕ, length, Option, subst}
 use Rattle.std.specs.Prelude.{IfSome}
 use Rattle.edf_cli.proofs.Opened.{opened-once}
-use Rattle.edfmend_command.specs.Inside.{PlansGood}
+use Rattle.edfmend_command.specs.Inside.{PlansStrictly}
 use Rattle.edfmend_command.specs.Run.{IsGood}
-use Rattle.edfmend_command.proofs.Readings.{no-good}
+use Rattle.edfmend_command.proofs.Readings.{no-good, planned}
 use Rattle.edfmend_command.proofs.planning.plan_strictly.Goals as goal
 
-pub returns-in-Ok-read_outline-clause-plan : goal.returns-in-Ok-read_outline-clause-plan
-returns-in-Ok-read_outline-clause-plan g c =
-    subst (λ (b : Option (List ℕ)). PlansGood b c.in-Ok-read_outline.outline)
-    c.in-Ok.ensures.reader (_, c.in-Ok-read_outline.ensures.answer)
+pub returns-in-Ok-read_outline_of-clause-plan : goal.returns-in-Ok-read_outline_of-clause-plan
+returns-in-Ok-read_outline_of-clause-plan g c =
+    let found = c.in-Ok-read_outline_of.found in
+    subst (λ (b : Option (List ℕ)). IfSome c.length-bytes.result
+    (λ n. IfSome b (λ file. length file ≡ n)) → PlansStrictly b found) c.in-Ok.ensures.reader
+    (λ told. planned _ _ c.length-bytes.result found told c.in-Ok-read_outline_of.ensures.answer)
+    c.length-bytes.ensures
 
 pub returns-in-Err-Memory-clause-opened : goal.returns-in-Err-Memory-clause-opened
 returns-in-Err-Memory-clause-opened g c =
